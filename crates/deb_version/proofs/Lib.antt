@@ -1,0 +1,10 @@
+pub mod Runs
+pub mod Steps
+pub mod FirstFault
+pub mod Epochs
+pub mod Numbers
+pub mod Blocks
+pub mod FirstBlock
+pub mod Front
+pub mod Shared
+pub mod Places

@@ -1,0 +1,101 @@
+//! Version texts of Debian packages and their order (Debian Policy 5.6.12).
+#![tactic(auto)]
+
+ghost use Rattle.std.specs.Prelude.{◌≡◌, ◌++◌, ◌∷◌, List, ℕ, map, pos, IfOk, IfErr, unwrap_or};
+ghost use Rattle.std.specs.Str.Parse.{digits_value};
+ghost use Rattle.deb_version.specs.Key.{key, weight, IsFirstBlock};
+ghost use Rattle.deb_version.specs.Text.{IsVersion, version_fault};
+ghost use Rattle.std.specs.Cmp.{IsTotalOrder};
+ghost use Rattle.deb_version.specs.Order.{version_cmp};
+
+mod faults;
+mod lent;
+mod parts;
+mod split;
+#[cfg(test)]
+mod tests;
+
+pub use faults::{CompareFault, NoMemory, VersionFault};
+pub use lent::compare_texts;
+use split::{Split, order_split, split_text};
+use std::alloc::Global;
+use std::cmp::Ordering;
+use std::marker::Model;
+
+/// A version, `[epoch:]upstream[-revision]` (Debian Policy 5.6.12). Contracts see its text, a list of bytes.
+#[derive(Drop)]
+pub struct Version {
+    text: String,
+    split: Split,
+}
+
+impl Model for Version {
+    ghost use Rattle.std.specs.Prelude.{List, ℕ};
+    ghost use Rattle.std.specs.String.{string_bytes};
+    ghost use Rattle.deb_version.specs.Text.{IsVersion};
+    ghost use Rattle.deb_version.specs.Split.{IsSplit};
+
+    ghost Value = { List ℕ };
+
+    ghost view = { λ v. string_bytes v.text };
+
+    ghost invariant = { λ v. IsVersion (string_bytes v.text) × IsSplit (string_bytes v.text) v.split.epoch v.split.start v.split.upstream_len };
+}
+
+impl Version {
+    /// The version that a text of 1 to 256 bytes states. A text that is none is refused for its first
+    /// fault, in the order in which `VersionFault` names them.
+    pub fn parse(alloc: Global, text: &str) -> Result<Version, VersionFault>
+        // What is read is a version, and keeps its text.
+        ensures version { IfOk result (λ v. IsVersion text.now × (v ≡ text.now)) }
+        // The fault is the text's first, or NoMemory where it has none.
+        ensures fault { IfErr result (λ e. e ≡ unwrap_or (version_fault text.now) VersionFault.NoMemory) }
+    {
+        let split = split_text(text.as_bytes())?;
+        let text = String::from_str(alloc, text).map_err(|_| VersionFault::NoMemory)?;
+        Ok(Version { text, split })
+    }
+
+    /// The order of two versions (Debian Policy 5.6.12), which takes no memory. It is no `Ord`, since
+    /// texts of the same version may differ, as `1.0` and `0:1.00-0` do.
+    pub fn order(&self, other: &Version) -> Ordering
+        ensures { result ≡ version_cmp self.now other.now }
+    {
+        order_split(
+            self.text.as_bytes(),
+            self.split,
+            other.text.as_bytes(),
+            other.split,
+        )
+    }
+
+    /// The text that was parsed, byte for byte.
+    pub fn text(&self) -> &str
+        ensures text { result.now ≡ self.now }
+        ensures version { IsVersion self.now }
+    {
+        self.text.as_str()
+    }
+
+    /// A version with the same text.
+    pub fn copy(&self, alloc: Global) -> Result<Version, NoMemory>
+        ensures { IfOk result (λ v. v ≡ self.now) }
+    {
+        let text = String::from_str(alloc, self.text())?;
+        Ok(Version {
+            text,
+            split: self.split,
+        })
+    }
+}
+
+/// The order is total, and texts of the same version compare alike.
+pub fn order_is_total()
+    ensures { IsTotalOrder version_cmp }
+{}
+
+/// The key of a part is that of its first block and then that of the rest, where a block is a run of
+/// non-digits and then a run of digits, each the longest.
+pub fn key_is_by_blocks()
+    ensures { (text digits rest : List ℕ) → IsFirstBlock text digits rest → key (text ++ digits ++ rest) ≡ map weight text ++ (pos 0 ∷ pos (digits_value 10 digits) ∷ key rest) }
+{}
