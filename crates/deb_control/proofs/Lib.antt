@@ -1,0 +1,12 @@
+pub mod Trim
+pub mod Split
+pub mod Lines
+pub mod Cuts
+pub mod Ends
+pub mod Each
+pub mod WellFormedLemmas
+pub mod Fronts
+pub mod VersionChars
+pub mod SpellingLemmas
+pub mod SourceLemmas
+pub mod RefusalLemmas

@@ -1,0 +1,120 @@
+-- The binary package that a paragraph describes (Debian Policy 5.3; its fields 5.6.1, 5.6.7, 5.6.8, 5.6.12, 7.2 and 7.5).
+use Rattle.std.specs.Prelude.{ℕ, Bool, false, ◌&&◌, nat_le, if◌then◌else◌, List, [], ◌∷◌, ◌++◌, length, drop, codes, Option, Some, None, unwrap_or, Result, Ok, Err, ⊤, ◌≡◌}
+use Rattle.std.specs.List.{list_all, position_or_len, before_first}
+use Rattle.deb_control.specs.Text.{is_white}
+use Rattle.deb_control.specs.Paragraphs.{Field, value_of}
+use Rattle.deb_control.specs.Relations.{◌>>=◌, is_package_name, is_version, is_lower_or_digit, is_qualifier_char, skip_white, after_char, ends_name, version_in, clauses_in, provisions_in}
+use Rattle.deb_control.specs.declared.fault.RelationFault.{RelationFault}
+use Rattle.deb_control.specs.declared.fault.RelationFault.TheVariants as relation
+use Rattle.deb_control.specs.declared.fault.BinaryField.{BinaryField}
+use Rattle.deb_control.specs.declared.fault.BinaryField.TheVariants.{Package, Version, Architecture, Source, PreDepends, Depends, Provides}
+use Rattle.deb_control.specs.declared.fault.BinaryFault.{BinaryFault}
+use Rattle.deb_control.specs.declared.fault.BinaryFault.TheVariants.{MissingField, BadName, BadVersion, BadRelation, NoMemory}
+use Rattle.deb_control.specs.declared.binary.Binary.{Binary}
+
+-- the name of a field
+abbrev pub field_name : BinaryField → List ℕ
+field_name Package = codes "Package"
+field_name Version = codes "Version"
+field_name Architecture = codes "Architecture"
+field_name Source = codes "Source"
+field_name PreDepends = codes "Pre-Depends"
+field_name Depends = codes "Depends"
+field_name Provides = codes "Provides"
+
+-- a value that must be there
+abbrev pub present : Option (List ℕ) → BinaryField → Result (List ℕ) BinaryFault
+present None field = Err (MissingField field)
+present (Some value) field = Ok value
+
+-- the value of a field that must be there
+abbrev pub required : List Field → BinaryField → Result (List ℕ) BinaryFault
+required paragraph field = present (value_of paragraph (field_name field)) field
+
+-- the value of a field that may be absent
+abbrev pub optional : List Field → BinaryField → List ℕ
+optional paragraph field = unwrap_or (value_of paragraph (field_name field)) []
+
+-- a value that passes a test, or this fault
+abbrev pub checked : Bool → List ℕ → BinaryFault → Result (List ℕ) BinaryFault
+checked passes value fault = if passes then Ok value else Err fault
+
+-- a fault in a field
+abbrev pub fault_of : BinaryField → RelationFault → BinaryFault
+fault_of field relation.BadName = BadName field
+fault_of field relation.BadVersion = BadVersion field
+fault_of field relation.BadRelation = BadRelation field
+fault_of field relation.NoMemory = NoMemory
+
+-- what a field's value says, its fault with the field
+abbrev pub of_field : {A : Type 0} → BinaryField → Result A RelationFault → Result A BinaryFault
+of_field field (Ok value) = Ok value
+of_field field (Err e) = Err (fault_of field e)
+
+-- an architecture's word: 1 to 32 lower case letters, digits and `-`, a letter or digit in front (Debian Policy 5.6.8; the limit is this project's)
+unfoldable pub is_architecture : List ℕ → Bool
+is_architecture [] = false
+is_architecture (c ∷ cs) = is_lower_or_digit c && list_all is_qualifier_char cs && nat_le (length cs) 31
+
+-- the version of a source, behind `(`, which there must be
+abbrev pub source_version : Option (List ℕ) → Result (List ℕ) RelationFault
+source_version None = Err relation.BadRelation
+source_version (Some inside) = version_in inside
+
+-- a source of this name, and what follows it
+abbrev pub after_source : List ℕ → List ℕ → List ℕ → Result (List ℕ × List ℕ) RelationFault
+after_source version name rest =
+    if is_package_name name then
+    (if list_all is_white rest then Ok (name, version)
+    else (source_version (after_char 40 (skip_white rest)) >>= λ v. Ok (name, v)))
+    else Err relation.BadName
+
+-- A source: a name, and perhaps a version in parentheses, with white before each part (Debian Policy 5.6.1).
+-- Without a version there it is the binary's.
+unfoldable pub source_in : List ℕ → List ℕ → Result (List ℕ × List ℕ) RelationFault
+source_in version text = let t = skip_white text in after_source version (before_first ends_name t) (drop (position_or_len ends_name t) t)
+
+-- the source's name and version; without a field the package's name and version are the source's
+abbrev pub source_of : Option (List ℕ) → List ℕ → List ℕ → Result (List ℕ × List ℕ) RelationFault
+source_of None name version = Ok (name, version)
+source_of (Some text) name version = source_in version text
+
+-- The binary of a paragraph, or its first fault: missing fields come first, then the fields in this order.
+unfoldable pub binary_of : List Field → Result Binary BinaryFault
+binary_of p = do
+  name ← required p Package
+  version ← required p Version
+  architecture ← required p Architecture
+  _ ← checked (is_package_name name) name (BadName Package)
+  _ ← checked (is_version version) version (BadVersion Version)
+  _ ← checked (is_architecture architecture) architecture (BadName Architecture)
+  source ← of_field Source (source_of (value_of p (field_name Source)) name version)
+  before ← of_field PreDepends (clauses_in (optional p PreDepends))
+  depends ← of_field Depends (clauses_in (optional p Depends))
+  provides ← of_field Provides (provisions_in (optional p Provides))
+  Ok (record {
+    name = name;
+    version = version;
+    architecture = architecture;
+    source = source.0;
+    source_version = source.1;
+    clauses = before ++ depends;
+    provides = provides;
+  })
+
+-- a call that failed for want of memory may do so at any paragraph, and else the paragraph says that fault
+abbrev pub Fails : {Y : Type 0} → BinaryFault → Result Y BinaryFault → Type 0
+Fails NoMemory said = ⊤
+Fails (MissingField f) said = said ≡ Err (MissingField f)
+Fails (BadName f) said = said ≡ Err (BadName f)
+Fails (BadVersion f) said = said ≡ Err (BadVersion f)
+Fails (BadRelation f) said = said ≡ Err (BadRelation f)
+
+-- what a call answers, seen by this view, is what the paragraph says, unless memory ran out
+abbrev pub GivesBy : {X Y : Type 0} → (X → Y) → Result X BinaryFault → Result Y BinaryFault → Type 0
+GivesBy view (Ok value) said = said ≡ Ok (view value)
+GivesBy view (Err e) said = Fails e said
+
+-- what a call answers is what the paragraph says, unless memory ran out
+abbrev pub Gives : {Y : Type 0} → Result Y BinaryFault → Result Y BinaryFault → Type 0
+Gives r said = GivesBy (λ value. value) r said

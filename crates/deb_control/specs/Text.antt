@@ -1,0 +1,40 @@
+-- Bytes and lines of control data (Debian Policy 5.1).
+use Rattle.std.specs.Prelude.{ℕ, ◌-◌, Bool, false, not, ◌&&◌, ◌||◌, ◌==◌, List, [], ◌∷◌, length, take, drop}
+use Rattle.std.specs.List.{list_all, slice_split, prefix_len, suffix_len}
+
+-- a blank is a space, a tab or a carriage return, so that lines may end by CR LF too
+abbrev pub is_blank : ℕ → Bool
+is_blank c = c == 32 || c == 9 || c == 13
+
+-- white is a blank or a line feed
+abbrev pub is_white : ℕ → Bool
+is_white c = is_blank c || c == 10
+
+-- a line feed, which ends a line
+abbrev pub is_line_feed : ℕ → Bool
+is_line_feed c = c == 10
+
+-- a colon, which ends a field's name
+abbrev pub is_colon : ℕ → Bool
+is_colon c = c == 58
+
+-- a text without the white at its end
+abbrev pub trim_end_white : List ℕ → List ℕ
+trim_end_white text = take (length text - suffix_len is_white text) text
+
+-- a text without the white at its two ends
+unfoldable pub trim_white : List ℕ → List ℕ
+trim_white text = trim_end_white (drop (prefix_len is_white text) text)
+
+-- the lines of a text: what stands between its line feeds
+unfoldable pub lines : List ℕ → List (List ℕ)
+lines text = slice_split is_line_feed text
+
+-- a line that separates paragraphs: it is empty or of blanks alone (Debian Policy 5.1)
+unfoldable pub is_blank_line : List ℕ → Bool
+is_blank_line line = list_all is_blank line
+
+-- a line that continues the field above it: it begins with a space or a tab, and isn't of blanks alone (Debian Policy 5.1)
+unfoldable pub continues : List ℕ → Bool
+continues [] = false
+continues (c ∷ cs) = (c == 32 || c == 9) && not (is_blank_line (c ∷ cs))

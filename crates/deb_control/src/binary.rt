@@ -1,0 +1,228 @@
+//! Binary packages (Debian Policy 5.3).
+
+ghost use Rattle.std.specs.Prelude.{◌≡◌, ◌++◌, true, IfOk, Ok};
+ghost use Rattle.std.specs.List.{list_all};
+ghost use Rattle.deb_control.specs.Paragraphs.{value_of};
+ghost use Rattle.deb_control.specs.Relations.{Gives as GivesPart, is_qualifier_char, is_version, clauses_in, provisions_in};
+ghost use Rattle.deb_control.specs.Binary.{Gives, GivesBy, field_name, required, optional, of_field, is_architecture, source_in, source_of, binary_of};
+ghost use Rattle.deb_control.specs.declared.fault.BinaryField.TheVariants.{Source, Provides};
+
+use crate::fault::{BinaryFault, BinaryField, RelationFault};
+use crate::grammar::{
+    is_lower_or_digit, is_package_name, is_qualifier_char, parse_version, read_version, split_name,
+};
+use crate::owned::Text;
+use crate::paragraphs::Paragraph;
+use crate::relation::{Clause, Clauses, Provisions};
+use crate::text::{is_all_white, skip_white, strip_char};
+use deb_version::{NoMemory, Version};
+use std::alloc::{AllocError, Global};
+
+/// A binary package: what it is called, where it runs, what it was built from, what it needs and what it provides
+/// (Debian Policy 5.3).
+#[derive(Drop)]
+pub struct Binary {
+    pub name: Text,
+    pub version: Version,
+    pub architecture: Text,
+    pub source: Text,
+    pub source_version: Version,
+
+    /// Those of Pre-Depends, then those of Depends (Debian Policy 7.2).
+    pub clauses: Clauses,
+    pub provides: Provisions,
+}
+
+impl BinaryField {
+    /// The field's name as it is written in control data.
+    pub fn name(self) -> &'static str
+        ensures { result.now ≡ field_name self }
+    {
+        match self {
+            BinaryField::Package => "Package",
+            BinaryField::Version => "Version",
+            BinaryField::Architecture => "Architecture",
+            BinaryField::Source => "Source",
+            BinaryField::PreDepends => "Pre-Depends",
+            BinaryField::Depends => "Depends",
+            BinaryField::Provides => "Provides",
+        }
+    }
+}
+
+impl Binary {
+    /// The binary that a paragraph describes, or its first fault: a missing field, or else the first bad field in the
+    /// order of `BinaryField`. Without a field `Source` the package's name and version are the source's, and without a
+    /// version there its version is (Debian Policy 5.6.1).
+    #[tactic(auto, unfolding(crate::specs::Binary::binary_of))]
+    pub fn parse(alloc: Global, paragraph: &Paragraph<'_>) -> Result<Binary, BinaryFault>
+        ensures { Gives result (binary_of paragraph.now) }
+    {
+        let package = required(paragraph, BinaryField::Package)?;
+        let version_text = required(paragraph, BinaryField::Version)?;
+        let architecture = required(paragraph, BinaryField::Architecture)?;
+        if !is_package_name(package.as_bytes()) {
+            return Err(BinaryFault::BadName(BinaryField::Package));
+        }
+        let version = in_field(BinaryField::Version, parse_version(alloc, version_text))?;
+        if !is_architecture(architecture.as_bytes()) {
+            return Err(BinaryFault::BadName(BinaryField::Architecture));
+        }
+        let (source, source_version) = read_source(alloc, paragraph, package, version_text)?;
+        let before = read_clauses(alloc, paragraph, BinaryField::PreDepends)?;
+        let depends = read_clauses(alloc, paragraph, BinaryField::Depends)?;
+        let provides = read_provisions(alloc, paragraph)?;
+        Ok(Binary {
+            name: Text::from_str(alloc, package)?,
+            version,
+            architecture: Text::from_str(alloc, architecture)?,
+            source,
+            source_version,
+            clauses: joined(before, depends)?,
+            provides,
+        })
+    }
+
+    /// An equal binary.
+    pub fn copy(&self, alloc: Global) -> Result<Binary, NoMemory>
+        ensures { IfOk result (λ b. b ≡ self.now) }
+    {
+        Ok(Binary {
+            name: self.name.copy(alloc)?,
+            version: self.version.copy(alloc)?,
+            architecture: self.architecture.copy(alloc)?,
+            source: self.source.copy(alloc)?,
+            source_version: self.source_version.copy(alloc)?,
+            clauses: self.clauses.copy(alloc)?,
+            provides: self.provides.copy(alloc)?,
+        })
+    }
+}
+
+/// The value of a field that must be there.
+fn required<'a>(paragraph: &Paragraph<'a>, field: BinaryField) -> Result<&'a str, BinaryFault>
+    ensures { GivesBy (λ x. x.now) result (required paragraph.now field) }
+{
+    match paragraph.field(field.name()) {
+        Some(value) => Ok(value),
+        None => Err(BinaryFault::MissingField(field)),
+    }
+}
+
+/// The value of a field that may be absent.
+fn optional<'a>(paragraph: &Paragraph<'a>, field: BinaryField) -> &'a str
+    ensures { result.now ≡ optional paragraph.now field }
+{
+    match paragraph.field(field.name()) {
+        Some(value) => value,
+        None => "",
+    }
+}
+
+/// A fault of a field.
+fn in_field<T>(field: BinaryField, outcome: Result<T, RelationFault>) -> Result<T, BinaryFault>
+    ensures { result ≡ of_field field outcome }
+{
+    match outcome {
+        Ok(value) => Ok(value),
+        Err(RelationFault::BadName) => Err(BinaryFault::BadName(field)),
+        Err(RelationFault::BadVersion) => Err(BinaryFault::BadVersion(field)),
+        Err(RelationFault::BadRelation) => Err(BinaryFault::BadRelation(field)),
+        Err(RelationFault::NoMemory) => Err(BinaryFault::NoMemory),
+    }
+}
+
+/// Whether a text is an architecture's word.
+#[tactic(auto, unfolding(crate::specs::Binary::is_architecture))]
+fn is_architecture(word: &[u8]) -> bool
+    ensures { result ≡ is_architecture word.now }
+{
+    match word {
+        [first, rest @ ..] => is_lower_or_digit(*first)
+            && are_qualifier_chars(rest)
+            && rest.len() <= 31,
+        [] => false,
+    }
+}
+
+fn are_qualifier_chars(chars: &[u8]) -> bool
+    ensures { result ≡ list_all is_qualifier_char chars.now }
+{
+    chars.iter().all(|c| is_qualifier_char(*c))
+}
+
+/// The name and the version of the source.
+fn read_source(
+    alloc: Global,
+    paragraph: &Paragraph<'_>,
+    name: &str,
+    version: &str,
+) -> Result<(Text, Version), BinaryFault>
+    requires { is_version version.now ≡ true }
+    ensures { Gives result (of_field Source (source_of (value_of paragraph.now (field_name Source)) name.now version.now)) }
+{
+    match paragraph.field(BinaryField::Source.name()) {
+        Some(text) => in_field(BinaryField::Source, source_in(alloc, version, text)),
+        None => in_field(BinaryField::Source, source_with(alloc, name, version)),
+    }
+}
+
+/// A name, and perhaps a version in parentheses.
+#[tactic(auto, unfolding(crate::specs::Binary::source_in))]
+fn source_in(alloc: Global, version: &str, text: &str) -> Result<(Text, Version), RelationFault>
+    requires { is_version version.now ≡ true }
+    ensures { GivesPart result (source_in version.now text.now) }
+{
+    let (name, rest) = split_name(skip_white(text));
+    if !is_package_name(name.as_bytes()) {
+        return Err(RelationFault::BadName);
+    }
+    if is_all_white(rest.as_bytes()) {
+        return source_with(alloc, name, version);
+    }
+    let Some(inside) = strip_char(skip_white(rest), b'(') else {
+        return Err(RelationFault::BadRelation);
+    };
+    let version = read_version(alloc, inside)?;
+    Ok((Text::from_str(alloc, name)?, version))
+}
+
+/// A name and a version.
+fn source_with(alloc: Global, name: &str, version: &str) -> Result<(Text, Version), RelationFault>
+    requires { is_version version.now ≡ true }
+    ensures { GivesPart result (Ok (name.now, version.now)) }
+{
+    let version = parse_version(alloc, version)?;
+    Ok((Text::from_str(alloc, name)?, version))
+}
+
+/// The clauses of a field.
+fn read_clauses(
+    alloc: Global,
+    paragraph: &Paragraph<'_>,
+    field: BinaryField,
+) -> Result<Clauses, BinaryFault>
+    ensures { Gives result (of_field field (clauses_in (optional paragraph.now field))) }
+{
+    in_field(field, Clauses::parse(alloc, optional(paragraph, field)))
+}
+
+/// The provisions.
+fn read_provisions(alloc: Global, paragraph: &Paragraph<'_>) -> Result<Provisions, BinaryFault>
+    ensures { Gives result (of_field Provides (provisions_in (optional paragraph.now Provides))) }
+{
+    in_field(
+        BinaryField::Provides,
+        Provisions::parse(alloc, optional(paragraph, BinaryField::Provides)),
+    )
+}
+
+/// Clauses, and then more.
+fn joined(before: Clauses, after: Clauses) -> Result<Clauses, AllocError>
+    ensures { IfOk result (λ c. c ≡ before ++ after) }
+{
+    let mut all = before.into_vec();
+    let mut more = after.into_vec();
+    all.append(&mut more)?;
+    Ok(Clauses::new(all))
+}

@@ -1,0 +1,302 @@
+//! Reads clauses and provisions (Debian Policy 7.1, 7.2, 7.5).
+
+ghost use Rattle.std.specs.Prelude.{◌≡◌, ◌<◌, ◌≤◌, ◌==◌, ◌⊎◌, ℕ, true, false, length, take, drop, map, IfOk, MatchResult, Ok, Err};
+ghost use Rattle.std.specs.List.{list_all, slice_split, position, position_or_len, before_first, prefix_len};
+ghost use Rattle.std.specs.Option.{option_map, option_copied};
+ghost use Rattle.deb_control.specs.Relations.{Gives, GivesBy, is_package_name, is_lower_or_digit, is_package_char, is_version, ends_name, ends_version, is_qualifier_char, after_qualifier, less_sign, greater_sign, sign_in, version_in, relation_in, alternative_in, clause_in, clauses_in, provision_in, provisions_in};
+ghost use Rattle.deb_control.specs.declared.fault.RelationFault.TheVariants.{BadVersion, NoMemory as OutOfMemory};
+
+use crate::fault::RelationFault;
+use crate::owned::Text;
+use crate::relation::{Alternative, Clause, Clauses, Op, Provision, Provisions, Relation, Signs};
+use crate::text::{is_all_white, is_white, skip_white, strip_char};
+use deb_version::{Version, VersionFault};
+use std::alloc::{AllocError, Global};
+
+impl Clauses {
+    /// The clauses of a text, as the value of a field `Depends`, or its first fault from the left. An item of white alone
+    /// between two commas is skipped, and the qualifier of a name, as `:any`, is left out.
+    #[tactic(auto, unfolding(crate::specs::Relations::clauses_in))]
+    pub fn parse(alloc: Global, text: &str) -> Result<Clauses, RelationFault>
+        ensures { Gives result (clauses_in text.now) }
+    {
+        let items = parts(alloc, text, ',')?;
+        let mut clauses = Vec::new(alloc);
+        'items: for item in &items {
+            if !is_all_white(item.as_bytes()) {
+                clauses.push(read_clause(alloc, item)?)?;
+            }
+        }
+        Ok(Clauses::new(clauses))
+    }
+}
+
+impl Provisions {
+    /// The provisions of a text, as the value of a field `Provides`, or its first fault from the left. No `|` may stand
+    /// there, and no sign but `=`.
+    #[tactic(auto, unfolding(crate::specs::Relations::provisions_in))]
+    pub fn parse(alloc: Global, text: &str) -> Result<Provisions, RelationFault>
+        ensures { Gives result (provisions_in text.now) }
+    {
+        let items = parts(alloc, text, ',')?;
+        let mut provisions = Vec::new(alloc);
+        'items: for item in &items {
+            if !is_all_white(item.as_bytes()) {
+                provisions.push(read_provision(alloc, item)?)?;
+            }
+        }
+        Ok(Provisions::new(provisions))
+    }
+}
+
+/// The parts of a text between a character.
+fn parts<'a>(alloc: Global, text: &'a str, separator: char) -> Result<Vec<&'a str>, AllocError>
+    requires { separator < 128 }
+    ensures { IfOk result (λ v. map (λ x. x.now) v.items ≡ slice_split (λ c. c == separator) text.now) }
+{
+    text.split(separator).collect(alloc)
+}
+
+/// The alternatives of a clause.
+#[tactic(auto, unfolding(crate::specs::Relations::clause_in))]
+fn read_clause(alloc: Global, item: &str) -> Result<Clause, RelationFault>
+    ensures { Gives result (clause_in item.now) }
+{
+    let parts = parts(alloc, item, '|')?;
+    let mut alternatives = Vec::new(alloc);
+    'parts: for part in &parts {
+        alternatives.push(read_alternative(alloc, Signs::Any, part)?)?;
+    }
+    Ok(Clause::new(alternatives))
+}
+
+/// A name, perhaps a qualifier, and perhaps the version that is provided.
+#[tactic(auto, unfolding(crate::specs::Relations::provision_in))]
+fn read_provision(alloc: Global, item: &str) -> Result<Provision, RelationFault>
+    ensures { Gives result (provision_in item.now) }
+{
+    let Alternative { name, relation } = read_alternative(alloc, Signs::EqualAlone, item)?;
+    let version = match relation {
+        Some(Relation { op: _, version }) => Some(version),
+        None => None,
+    };
+    Ok(Provision { name, version })
+}
+
+/// A name, perhaps a qualifier, and perhaps a relation.
+#[tactic(auto, unfolding(crate::specs::Relations::alternative_in))]
+fn read_alternative(alloc: Global, signs: Signs, text: &str) -> Result<Alternative, RelationFault>
+    ensures { Gives result (alternative_in signs text.now) }
+{
+    let (name, rest) = split_name(skip_white(text));
+    if !is_package_name(name.as_bytes()) {
+        return Err(RelationFault::BadName);
+    }
+    let rest = skip_qualifier(rest)?;
+    let relation = read_relation(alloc, signs, rest)?;
+    let name = Text::from_str(alloc, name)?;
+    Ok(Alternative { name, relation })
+}
+
+/// The end, or a relation in parentheses.
+#[tactic(auto, unfolding(crate::specs::Relations::relation_in))]
+fn read_relation(alloc: Global, signs: Signs, rest: &str) -> Result<Option<Relation>, RelationFault>
+    ensures { Gives result (relation_in signs rest.now) }
+{
+    if is_all_white(rest.as_bytes()) {
+        return Ok(None);
+    }
+    let Some(inside) = strip_char(skip_white(rest), b'(') else {
+        return Err(RelationFault::BadRelation);
+    };
+    let Some((op, rest)) = read_sign(skip_white(inside)) else {
+        return Err(RelationFault::BadRelation);
+    };
+    if !signs.allows(op) {
+        return Err(RelationFault::BadRelation);
+    }
+    let version = read_version(alloc, rest)?;
+    Ok(Some(Relation { op, version }))
+}
+
+/// A version and `)`, which ends the text.
+#[tactic(auto, unfolding(crate::specs::Relations::version_in))]
+pub fn read_version(alloc: Global, text: &str) -> Result<Version, RelationFault>
+    ensures { Gives result (version_in text.now) }
+{
+    let (version, rest) = split_version(skip_white(text));
+    let version = parse_version(alloc, version)?;
+    match strip_char(skip_white(rest), b')') {
+        Some(end) if is_all_white(end.as_bytes()) => Ok(version),
+        _ => Err(RelationFault::BadRelation),
+    }
+}
+
+/// The version that a text is.
+#[tactic(auto, unfolding(crate::specs::Relations::is_version))]
+pub fn parse_version(alloc: Global, text: &str) -> Result<Version, RelationFault>
+    ensures { MatchResult result
+        (λ v. (is_version text.now ≡ true) × (v ≡ text.now))
+        (λ e. (e ≡ OutOfMemory) ⊎ ((e ≡ BadVersion) × (is_version text.now ≡ false))) }
+{
+    match Version::parse(alloc, text) {
+        Ok(version) => Ok(version),
+        Err(VersionFault::NoMemory) => Err(RelationFault::NoMemory),
+        Err(_) => Err(RelationFault::BadVersion),
+    }
+}
+
+/// What follows a qualifier, if there is one.
+#[tactic(auto, unfolding(crate::specs::Relations::after_qualifier))]
+fn skip_qualifier(text: &str) -> Result<&str, RelationFault>
+    ensures { GivesBy (λ x. x.now) result (after_qualifier text.now) }
+{
+    let Some(rest) = strip_char(text, b':') else {
+        return Ok(text);
+    };
+    let len = qualifier_len(rest.as_bytes());
+    if len == 0 {
+        return Err(RelationFault::BadRelation);
+    }
+    Ok(rest.split_at(len).1)
+}
+
+/// How many characters of a qualifier stand in front.
+fn qualifier_len(bytes: &[u8]) -> usize
+    ensures { result ≡ prefix_len is_qualifier_char bytes.now }
+{
+    for (i, c) in bytes.iter().enumerate() {
+        if !is_qualifier_char(*c) {
+            return i;
+        }
+    }
+    bytes.len()
+}
+
+/// The sign of a relation, and what follows it.
+#[tactic(auto, unfolding(crate::specs::Relations::sign_in))]
+fn read_sign(text: &str) -> Option<(Op, &str)>
+    ensures { option_map (λ x. (x.0, x.1.now)) result ≡ sign_in text.now }
+{
+    if let Some(rest) = strip_char(text, b'<') {
+        return Some(read_less(rest));
+    }
+    if let Some(rest) = strip_char(text, b'=') {
+        return Some((Op::Equal, rest));
+    }
+    if let Some(rest) = strip_char(text, b'>') {
+        return Some(read_greater(rest));
+    }
+    None
+}
+
+/// The sign that begins with `<`, of which that is already read, and what follows it.
+fn read_less(text: &str) -> (Op, &str)
+    ensures { (result.0, result.1.now) ≡ less_sign text.now }
+{
+    if let Some(rest) = strip_char(text, b'<') {
+        return (Op::Below, rest);
+    }
+    if let Some(rest) = strip_char(text, b'=') {
+        return (Op::AtMost, rest);
+    }
+    (Op::AtMost, text)
+}
+
+/// The sign that begins with `>`, of which that is already read, and what follows it.
+fn read_greater(text: &str) -> (Op, &str)
+    ensures { (result.0, result.1.now) ≡ greater_sign text.now }
+{
+    if let Some(rest) = strip_char(text, b'>') {
+        return (Op::Above, rest);
+    }
+    if let Some(rest) = strip_char(text, b'=') {
+        return (Op::AtLeast, rest);
+    }
+    (Op::AtLeast, text)
+}
+
+/// A name in front, and what follows it.
+pub fn split_name(text: &str) -> (&str, &str)
+    ensures name { result.0.now ≡ before_first ends_name text.now }
+    ensures rest { result.1.now ≡ drop (position_or_len ends_name text.now) text.now }
+{
+    match name_end(text.as_bytes()) {
+        Some(end) => text.split_at(end),
+        None => (text, ""),
+    }
+}
+
+/// A version in front, and what follows it.
+fn split_version(text: &str) -> (&str, &str)
+    ensures version { result.0.now ≡ before_first ends_version text.now }
+    ensures rest { result.1.now ≡ drop (position_or_len ends_version text.now) text.now }
+{
+    match version_end(text.as_bytes()) {
+        Some(end) => text.split_at(end),
+        None => (text, ""),
+    }
+}
+
+fn name_end(bytes: &[u8]) -> Option<usize>
+    ensures { result ≡ position ends_name bytes.now }
+{
+    bytes.iter().position(|c| ends_name(*c))
+}
+
+fn version_end(bytes: &[u8]) -> Option<usize>
+    ensures { result ≡ position ends_version bytes.now }
+{
+    bytes.iter().position(|c| ends_version(*c))
+}
+
+fn ends_name(c: u8) -> bool
+    ensures { result ≡ ends_name c }
+{
+    is_white(c) || c == b':' || c == b'(' || c == b'[' || c == b'<'
+}
+
+fn ends_version(c: u8) -> bool
+    ensures { result ≡ ends_version c }
+{
+    is_white(c) || c == b')'
+}
+
+/// Whether a text is a package name (Debian Policy 5.6.1, 5.6.7).
+#[tactic(auto, unfolding(crate::specs::Relations::is_package_name))]
+pub fn is_package_name(name: &[u8]) -> bool
+    ensures { result ≡ is_package_name name.now }
+{
+    match name {
+        [first, rest @ ..] => is_lower_or_digit(*first)
+            && are_package_chars(rest)
+            && !rest.is_empty(),
+        [] => false,
+    }
+}
+
+fn are_package_chars(chars: &[u8]) -> bool
+    ensures { result ≡ list_all is_package_char chars.now }
+{
+    chars.iter().all(|c| is_package_char(*c))
+}
+
+fn is_package_char(c: u8) -> bool
+    ensures { result ≡ is_package_char c }
+{
+    is_lower_or_digit(c) || c == b'+' || c == b'-' || c == b'.'
+}
+
+/// A lower case ASCII letter or a digit.
+pub fn is_lower_or_digit(c: u8) -> bool
+    ensures { result ≡ is_lower_or_digit c }
+{
+    b'a' <= c && c <= b'z' || b'0' <= c && c <= b'9'
+}
+
+/// A character of a name's qualifier or of an architecture's word.
+pub fn is_qualifier_char(c: u8) -> bool
+    ensures { result ≡ is_qualifier_char c }
+{
+    is_lower_or_digit(c) || c == b'-'
+}

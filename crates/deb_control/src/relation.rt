@@ -1,0 +1,297 @@
+//! Relations between packages (Debian Policy 7).
+
+ghost use Rattle.std.specs.Prelude.{◌≡◌, IfOk};
+ghost use Rattle.std.specs.Option.{option_map};
+ghost use Rattle.deb_control.specs.Relations.{holds, allows};
+
+use crate::owned::Text;
+use deb_version::{NoMemory, Version};
+use std::alloc::{AllocError, Global};
+use std::cmp::Ordering;
+use std::marker::Model;
+
+/// How a version is compared with the one that a relation states (Debian Policy 7.1).
+#[derive(Clone, Copy, Debug, PartialEq, Eq)]
+pub enum Op {
+    /// `<<`
+    Below,
+
+    /// `<=`, and the old sign `<`
+    AtMost,
+
+    /// `=`
+    Equal,
+
+    /// `>=`, and the old sign `>`
+    AtLeast,
+
+    /// `>>`
+    Above,
+}
+
+/// Which signs may stand: any in a dependency, `=` alone in a provision (Debian Policy 7.5).
+#[derive(Clone, Copy, Debug, PartialEq, Eq)]
+pub enum Signs {
+    Any,
+    EqualAlone,
+}
+
+impl Signs {
+    /// Whether the sign of this comparison may stand.
+    pub fn allows(self, op: Op) -> bool
+        ensures { result ≡ allows self op }
+    {
+        match self {
+            Signs::Any => true,
+            Signs::EqualAlone => matches!(op, Op::Equal),
+        }
+    }
+}
+
+/// A relation to a version, as `(>= 1.2)` (Debian Policy 7.1).
+#[derive(Drop)]
+pub struct Relation {
+    pub op: Op,
+    pub version: Version,
+}
+
+impl Relation {
+    /// Whether a version is in the relation, by the order of versions (Debian Policy 5.6.12). It takes no memory.
+    #[tactic(auto, unfolding(crate::specs::Relations::holds))]
+    pub fn holds(&self, version: &Version) -> bool
+        ensures { result ≡ holds self.now version.now }
+    {
+        let order = version.order(&self.version);
+        match self.op {
+            Op::Below => order.is_lt(),
+            Op::AtMost => order.is_le(),
+            Op::Equal => order.is_eq(),
+            Op::AtLeast => order.is_ge(),
+            Op::Above => order.is_gt(),
+        }
+    }
+
+    /// An equal relation.
+    pub fn copy(&self, alloc: Global) -> Result<Relation, NoMemory>
+        ensures { IfOk result (λ r. r ≡ self.now) }
+    {
+        let version = self.version.copy(alloc)?;
+        Ok(Relation {
+            op: self.op,
+            version,
+        })
+    }
+}
+
+/// One way to meet a clause: a package, perhaps of certain versions (Debian Policy 7.1).
+#[derive(Drop)]
+pub struct Alternative {
+    pub name: Text,
+    pub relation: Option<Relation>,
+}
+
+impl Alternative {
+    /// An equal alternative.
+    pub fn copy(&self, alloc: Global) -> Result<Alternative, NoMemory>
+        ensures { IfOk result (λ a. a ≡ self.now) }
+    {
+        let name = self.name.copy(alloc)?;
+        let relation = match &self.relation {
+            Some(relation) => Some(relation.copy(alloc)?),
+            None => None,
+        };
+        Ok(Alternative { name, relation })
+    }
+}
+
+/// A package that another one provides, perhaps in a certain version (Debian Policy 7.5).
+#[derive(Drop)]
+pub struct Provision {
+    pub name: Text,
+    pub version: Option<Version>,
+}
+
+impl Provision {
+    /// An equal provision.
+    pub fn copy(&self, alloc: Global) -> Result<Provision, NoMemory>
+        ensures { IfOk result (λ p. p ≡ self.now) }
+    {
+        let name = self.name.copy(alloc)?;
+        let version = match &self.version {
+            Some(version) => Some(version.copy(alloc)?),
+            None => None,
+        };
+        Ok(Provision { name, version })
+    }
+}
+
+/// Alternatives, of which one is to be met (Debian Policy 7.1). Contracts see the list of them.
+#[derive(Drop)]
+pub struct Clause {
+    alternatives: Vec<Alternative>,
+}
+
+impl Model for Clause {
+    ghost use Rattle.std.specs.Prelude.{List};
+    ghost use Rattle.deb_control.specs.declared.relation.Alternative.{Alternative};
+
+    ghost Value = { List Alternative };
+
+    ghost view = { λ a. a.alternatives.items };
+}
+
+impl Clause {
+    /// The clause of these alternatives. It takes no memory.
+    pub fn new(alternatives: Vec<Alternative>) -> Clause
+        ensures { result ≡ alternatives.items }
+    {
+        Clause { alternatives }
+    }
+
+    /// The alternatives, in the order in which they are written.
+    pub fn as_slice(&self) -> &[Alternative]
+        ensures { result.now ≡ self.now }
+    {
+        self.alternatives.as_slice()
+    }
+
+    /// The alternatives as a vector. It takes no memory.
+    pub fn into_vec(self) -> Vec<Alternative>
+        ensures { result.items ≡ self }
+    {
+        self.alternatives
+    }
+
+    /// An equal clause.
+    pub fn copy(&self, alloc: Global) -> Result<Clause, NoMemory>
+        ensures { IfOk result (λ c. c ≡ self.now) }
+    {
+        let alternatives = copy_alternatives(alloc, &self.alternatives)?;
+        Ok(Clause { alternatives })
+    }
+}
+
+fn copy_alternatives(
+    alloc: Global,
+    alternatives: &[Alternative],
+) -> Result<Vec<Alternative>, NoMemory>
+    ensures { IfOk result (λ v. v.items ≡ alternatives.now) }
+{
+    let mut copies = Vec::new(alloc);
+    'each: for alternative in alternatives {
+        copies.push(alternative.copy(alloc)?)?;
+    }
+    Ok(copies)
+}
+
+/// Clauses, each of which is to be met (Debian Policy 7.1, 7.2). Contracts see the list of them.
+#[derive(Drop)]
+pub struct Clauses {
+    clauses: Vec<Clause>,
+}
+
+impl Model for Clauses {
+    ghost use Rattle.std.specs.Prelude.{List};
+    ghost use Rattle.deb_control.specs.declared.relation.Alternative.{Alternative};
+
+    ghost Value = { List (List Alternative) };
+
+    ghost view = { λ a. a.clauses.items };
+}
+
+impl Clauses {
+    /// These clauses. It takes no memory.
+    pub fn new(clauses: Vec<Clause>) -> Clauses
+        ensures { result ≡ clauses.items }
+    {
+        Clauses { clauses }
+    }
+
+    /// The clauses, in the order in which they are written.
+    pub fn as_slice(&self) -> &[Clause]
+        ensures { result.now ≡ self.now }
+    {
+        self.clauses.as_slice()
+    }
+
+    /// The clauses as a vector. It takes no memory.
+    pub fn into_vec(self) -> Vec<Clause>
+        ensures { result.items ≡ self }
+    {
+        self.clauses
+    }
+
+    /// Equal clauses.
+    pub fn copy(&self, alloc: Global) -> Result<Clauses, NoMemory>
+        ensures { IfOk result (λ c. c ≡ self.now) }
+    {
+        let clauses = copy_clauses(alloc, &self.clauses)?;
+        Ok(Clauses { clauses })
+    }
+}
+
+fn copy_clauses(alloc: Global, clauses: &[Clause]) -> Result<Vec<Clause>, NoMemory>
+    ensures { IfOk result (λ v. v.items ≡ clauses.now) }
+{
+    let mut copies = Vec::new(alloc);
+    'each: for clause in clauses {
+        copies.push(clause.copy(alloc)?)?;
+    }
+    Ok(copies)
+}
+
+/// What a package provides (Debian Policy 7.5). Contracts see the list of provisions.
+#[derive(Drop)]
+pub struct Provisions {
+    provisions: Vec<Provision>,
+}
+
+impl Model for Provisions {
+    ghost use Rattle.std.specs.Prelude.{List};
+    ghost use Rattle.deb_control.specs.declared.relation.Provision.{Provision};
+
+    ghost Value = { List Provision };
+
+    ghost view = { λ a. a.provisions.items };
+}
+
+impl Provisions {
+    /// These provisions. It takes no memory.
+    pub fn new(provisions: Vec<Provision>) -> Provisions
+        ensures { result ≡ provisions.items }
+    {
+        Provisions { provisions }
+    }
+
+    /// The provisions, in the order in which they are written.
+    pub fn as_slice(&self) -> &[Provision]
+        ensures { result.now ≡ self.now }
+    {
+        self.provisions.as_slice()
+    }
+
+    /// The provisions as a vector. It takes no memory.
+    pub fn into_vec(self) -> Vec<Provision>
+        ensures { result.items ≡ self }
+    {
+        self.provisions
+    }
+
+    /// Equal provisions.
+    pub fn copy(&self, alloc: Global) -> Result<Provisions, NoMemory>
+        ensures { IfOk result (λ c. c ≡ self.now) }
+    {
+        let provisions = copy_provisions(alloc, &self.provisions)?;
+        Ok(Provisions { provisions })
+    }
+}
+
+fn copy_provisions(alloc: Global, provisions: &[Provision]) -> Result<Vec<Provision>, NoMemory>
+    ensures { IfOk result (λ v. v.items ≡ provisions.now) }
+{
+    let mut copies = Vec::new(alloc);
+    'each: for provision in provisions {
+        copies.push(provision.copy(alloc)?)?;
+    }
+    Ok(copies)
+}
