@@ -1,0 +1,11 @@
+pub mod Places
+pub mod Sweeping
+pub mod Counting
+pub mod Claiming
+pub mod Working
+pub mod Indexing
+pub mod Finding
+pub mod Lists
+pub mod Looking
+pub mod Answering
+pub mod Choosing

@@ -1,0 +1,9 @@
+pub mod Satisfies
+pub mod Closed
+pub mod Installable
+pub mod Rows
+pub mod Claims
+pub mod Work
+pub mod Index
+pub mod Ground
+pub mod Progress
