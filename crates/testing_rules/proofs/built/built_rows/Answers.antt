@@ -1,0 +1,26 @@
+use Rattle.std.proofs.Common.{sym, ap, ◌∙◌, ◌++◌, arith, ◌<◌, length, take}
+use Rattle.std.specs.List.{enumerate_from, flat_map}
+use Rattle.testing_rules.specs.Unstable.{built_on}
+use Rattle.testing_rules.proofs.BuiltRows.{built-more, built-last}
+use Rattle.testing_rules.proofs.built.built_rows.Goals as goal
+
+pub loop-place-preserved : goal.loop-place-preserved
+loop-place-preserved c =
+    let builds = c.args.builds.now in
+    let archs = c.args.archs.now in
+    let k = c.loop-place.place in
+    let below : k < length archs = omega arith in
+    let so_far = flat_map (built_on builds) (take k (enumerate_from 0 archs)) in
+    c.in_ok-push_built_on.ensures
+    ∙ ap (λ xs. xs ++ built_on builds (k, c.name.result.now)) c.loop-place.invariant
+    ∙ ap (λ t. so_far ++ built_on builds (k, t)) c.name.ensures
+    ∙ sym (built-more builds archs k below (omega arith))
+
+pub returns : goal.returns
+returns c =
+    let builds = c.args.builds.now in
+    let archs = c.args.archs.now in
+    let k = c.loop-place.place in
+    c.in_ok-push_built_on-2.ensures
+    ∙ ap (λ xs. xs ++ built_on builds _) c.loop-place.invariant
+    ∙ built-last builds archs _ k (omega arith)

@@ -1,0 +1,15 @@
+use Rattle.std.proofs.Common.{sym, ap, ◌∙◌, subst}
+use Rattle.testing_rules.specs.Suite.{Suite}
+use Rattle.testing_rules.specs.Unstable.{built_rows}
+use Rattle.testing_rules.specs.Updates.{Outcome}
+use Rattle.testing_rules.specs.Watched.{AllWatchedWork}
+use Rattle.testing_rules.proofs.Stays.{update-keeps}
+use Rattle.testing_rules.proofs.migration.migrate.Goals as goal
+
+pub returns-clause-watched : goal.returns-clause-watched
+returns-clause-watched c = λ h.
+    let archs = c.args.archs.now in
+    let facts = c.args.facts.now in
+    let after = c.into_parts-decisions.ensures.testing ∙ ap (λ (o : Outcome). o.suite) c.in_ok-turns.ensures in
+    subst (λ (t : Suite). AllWatchedWork archs t.rows) (sym after)
+    (update-keeps archs facts.sources (built_rows archs facts.rows) facts.hints facts.unhints c.as_slice.result.now c.args.testing.now h)

@@ -1,0 +1,217 @@
+//! Groups that easy hints ask for.
+
+ghost use Rattle.std.specs.Prelude.{◌≡◌, ◌∷◌, [], ◌++◌, ◌&&◌, not, IfOk, OnOk, option_copied, map, filter, find};
+ghost use Rattle.std.specs.Str.{bytes_eq};
+ghost use Rattle.testing_rules.specs.Words as words;
+ghost use Rattle.testing_rules.specs.Moves.{group_sources};
+ghost use Rattle.testing_rules.specs.Unstable as unstable_words;
+ghost use Rattle.testing_rules.specs.Updates as rules;
+ghost use Rattle.testing_rules.specs.Updates.{then_do, in_turn};
+ghost use Rattle.testing_rules.specs.LentItems.{items_of, as_moved};
+
+use crate::archs::Archs;
+use crate::excuse::Excuse;
+use crate::facts::{HintIn, UnhintIn, UploadIn};
+use crate::item::{Hint, HintItem};
+use crate::moves::{Unstable, move_group, source_in};
+use crate::offender::offender_of;
+use crate::select::is_same_version;
+use crate::suite::Testing;
+use crate::turns::{Turns, entry_of, is_standing};
+use crate::update::{Decision, Moved, MovedItems};
+use deb_control::Text;
+use deb_version::{NoMemory, Version};
+use std::alloc::Global;
+
+/// No reason keeps the source out.
+pub fn has_no_reason(excuse: &Excuse) -> bool
+    ensures { result ≡ words.is_empty excuse.now.reasons }
+{
+    excuse.reasons.as_slice().is_empty()
+}
+
+/// The excuse is the source's, and makes it a candidate at the version.
+fn allows(excuse: &Excuse, name: &str, version: &Version) -> bool
+    ensures { result ≡ (bytes_eq excuse.now.source name.now && words.is_empty excuse.now.reasons && words.is_same_version excuse.now.unstable version.now) }
+{
+    excuse.source.as_str() == name
+        && has_no_reason(excuse)
+        && is_same_version(&excuse.unstable, version)
+}
+
+/// The source is a candidate at the version.
+pub fn is_candidate(excuses: &[Excuse], name: &str, version: &Version) -> bool
+    ensures { result ≡ rules.is_candidate excuses.now name.now version.now }
+{
+    excuses.iter().any(|excuse| allows(excuse, name, version))
+}
+
+/// Testing has the source at the version.
+pub fn is_in_testing(testing: &Testing, name: &str, version: &Version) -> bool
+    ensures { result ≡ rules.is_in_testing testing.now name.now version.now }
+{
+    match entry_of(testing.sources(), name) {
+        Some(entry) => is_same_version(version, &entry.version),
+        None => false,
+    }
+}
+
+/// The items that testing doesn't have yet.
+fn items_left<'a>(
+    alloc: Global,
+    testing: &Testing,
+    items: &'a [HintItem],
+) -> Result<Vec<&'a HintItem>, NoMemory>
+    ensures { IfOk result (λ left. items_of left.items ≡ filter (λ i. not (rules.is_in_testing testing.now i.name i.version)) items.now) }
+{
+    let mut left = Vec::new(alloc);
+    for item in items {
+        if !is_in_testing(testing, item.name.as_str(), &item.version) {
+            left.push(item)?;
+        }
+    }
+    Ok(left)
+}
+
+/// The first item that is no candidate.
+fn first_other<'a>(excuses: &[Excuse], items: &[&'a HintItem]) -> Option<&'a HintItem>
+    ensures { option_copied result ≡ find (λ j. not (rules.is_candidate excuses.now j.name j.version)) (items_of items.now) }
+{
+    for item in items {
+        if !is_candidate(excuses, item.name.as_str(), &item.version) {
+            return Some(*item);
+        }
+    }
+    None
+}
+
+/// The names of the items.
+fn names_of(alloc: Global, items: &[&HintItem]) -> Result<Vec<Text>, NoMemory>
+    ensures { IfOk result (λ names. names.items ≡ map (λ j. j.name) (items_of items.now)) }
+{
+    let mut names = Vec::new(alloc);
+    for item in items {
+        names.push(item.name.copy(alloc)?)?;
+    }
+    Ok(names)
+}
+
+/// A source as it moved.
+fn as_moved(alloc: Global, upload: &UploadIn) -> Result<Moved, NoMemory>
+    ensures { IfOk result (λ m. m ≡ as_moved upload.now) }
+{
+    let name = upload.source.copy(alloc)?;
+    let version = upload.version.copy(alloc)?;
+    Ok(Moved { name, version })
+}
+
+fn push_moved(alloc: Global, items: &mut Vec<Moved>, upload: &UploadIn) -> Result<(), NoMemory>
+    ensures { OnOk result (items.new.items ≡ items.old.items ++ as_moved upload.now ∷ []) }
+{
+    items.push(as_moved(alloc, upload)?)?;
+    Ok(())
+}
+
+/// The sources of a group as they moved.
+fn moved_items(alloc: Global, sources: &[UploadIn], group: &[Text]) -> Result<Vec<Moved>, NoMemory>
+    ensures { IfOk result (λ items. items.items ≡ map as_moved (group_sources sources.now group.now)) }
+{
+    let mut items = Vec::new(alloc);
+    for name in group {
+        if let Some(upload) = source_in(sources, name.as_str()) {
+            push_moved(alloc, &mut items, upload)?;
+        }
+    }
+    Ok(items)
+}
+
+impl Turns {
+    /// A group moves as one, where nothing breaks.
+    fn move_as_one(
+        &mut self,
+        alloc: Global,
+        archs: &Archs,
+        unstable: Unstable,
+        hint: u32,
+        group: &[Text],
+    ) -> Result<(), NoMemory>
+        ensures { OnOk result (self.new ≡ then_do self.old (rules.move_as_one archs.now unstable.entry.sources.now unstable.entry.rows.now hint group.now)) }
+    {
+        let testing = move_group(alloc, unstable, group, self.testing())?;
+        match offender_of(alloc, archs, self.testing().rows(), testing.rows(), group)? {
+            None => {
+                let items = MovedItems::new(moved_items(alloc, unstable.sources, group)?);
+                self.accept(Decision::EasyDone { hint, items }, testing)
+            }
+            Some(offender) => self.refuse(Decision::EasyRefused { hint, offender }),
+        }
+    }
+
+    /// A group moves, where its items are candidates.
+    fn move_items(
+        &mut self,
+        alloc: Global,
+        archs: &Archs,
+        unstable: Unstable,
+        excuses: &[Excuse],
+        hint: u32,
+        items: &[&HintItem],
+    ) -> Result<(), NoMemory>
+        ensures { OnOk result (self.new ≡ then_do self.old (rules.move_items archs.now unstable.entry.sources.now unstable.entry.rows.now excuses.now hint (items_of items.now))) }
+    {
+        if items.is_empty() {
+            return Ok(());
+        }
+        if let Some(item) = first_other(excuses, items) {
+            let name = item.name.copy(alloc)?;
+            let version = item.version.copy(alloc)?;
+            return self.refuse(Decision::EasyNotCandidate {
+                hint,
+                name,
+                version,
+            });
+        }
+        let group = names_of(alloc, items)?;
+        self.move_as_one(alloc, archs, unstable, hint, &group)
+    }
+
+    /// The group that a hint asks for, if it is one of those.
+    fn move_easy(
+        &mut self,
+        alloc: Global,
+        archs: &Archs,
+        unstable: Unstable,
+        excuses: &[Excuse],
+        hint: &HintIn,
+    ) -> Result<(), NoMemory>
+        ensures { OnOk result (self.new ≡ then_do self.old (rules.move_easy archs.now unstable.entry.sources.now unstable.entry.rows.now excuses.now hint.now)) }
+    {
+        match &hint.hint {
+            Hint::Easy(items) => {
+                let left = items_left(alloc, self.testing(), items.as_slice())?;
+                self.move_items(alloc, archs, unstable, excuses, hint.number, &left)
+            }
+            _ => Ok(()),
+        }
+    }
+
+    /// The groups that the standing hints ask for.
+    pub fn groups(
+        &mut self,
+        alloc: Global,
+        archs: &Archs,
+        unstable: Unstable,
+        excuses: &[Excuse],
+        hints: &[HintIn],
+        unhints: &[UnhintIn],
+    ) -> Result<(), NoMemory>
+        ensures { OnOk result (self.new ≡ then_do self.old (in_turn (rules.move_easy archs.now unstable.entry.sources.now unstable.entry.rows.now excuses.now) (filter (unstable_words.is_standing unhints.now) hints.now))) }
+    {
+        for hint in hints {
+            if is_standing(unhints, hint) {
+                self.move_easy(alloc, archs, unstable, excuses, hint)?;
+            }
+        }
+        Ok(())
+    }
+}

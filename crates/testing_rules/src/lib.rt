@@ -1,0 +1,34 @@
+//! The promotion rules: which sources may move from unstable to testing, and how they move.
+#![tactic(auto)]
+
+mod archs;
+mod built;
+mod days;
+mod entry;
+mod excuse;
+mod excusing;
+mod facts;
+mod groups;
+mod item;
+pub mod laws;
+mod migration;
+mod moves;
+mod offender;
+mod reasons;
+mod report;
+mod select;
+mod singles;
+mod suite;
+mod taken;
+mod turns;
+mod update;
+
+pub use archs::{ALL, Archs};
+pub use excuse::{Excuse, Excuses, Reason, Reasons};
+pub use excusing::excuses;
+pub use facts::{BugIn, BuildIn, Delays, DelaysIn, DropIn, Facts, HintIn, UnhintIn, UploadIn};
+pub use item::{Binaries, Hint, HintItem, HintItems, Item, Names, Severity, Urgency};
+pub use migration::migrate;
+pub use report::{excuses_text, testing_text, update_text};
+pub use suite::{RowIn, SourceIn, Testing};
+pub use update::{Decision, Moved, MovedItems, Offender, Update};

@@ -1,0 +1,225 @@
+//! The testing suite.
+
+ghost use Rattle.std.specs.Prelude.{◌≡◌, [], IfOk, OnOk, OnErr};
+ghost use Rattle.testing_rules.specs.Moves as moves;
+ghost use Rattle.testing_rules.specs.InOrder.{AreByName, AreByKey};
+ghost use Rattle.testing_rules.specs.Places.{IsPlaceFor};
+
+use deb_control::{Binary, Text};
+use deb_version::{NoMemory, Version};
+use std::alloc::{AllocError, Global};
+use std::cmp::Ordering;
+use std::marker::Model;
+
+/// A source in testing, and the message that gave it.
+#[derive(Drop)]
+pub struct SourceIn {
+    pub name: Text,
+    pub version: Version,
+    pub sender: u32,
+    pub number: u32,
+}
+
+/// A binary in testing or unstable, and the paragraph that gave it. `arch` is the place of its
+/// architecture in the setup, or 16 for `all`; the first binary of a build has the place 1.
+#[derive(Drop)]
+pub struct RowIn {
+    pub arch: u32,
+    pub binary: Binary,
+    pub sender: u32,
+    pub number: u32,
+    pub place: u32,
+}
+
+/// The sources by name, and the rows by architecture and name.
+#[derive(Drop)]
+pub struct Testing {
+    sources: Vec<SourceIn>,
+    rows: Vec<RowIn>,
+}
+
+impl Model for Testing {
+    ghost use Rattle.testing_rules.specs.Suite.{Suite};
+    ghost use Rattle.testing_rules.specs.InOrder.{IsInOrder};
+
+    ghost Value = { Suite };
+
+    ghost view = { λ a. record { sources = a.sources.items; rows = a.rows.items } };
+
+    ghost invariant = { λ a. IsInOrder a.sources.items a.rows.items };
+}
+
+impl SourceIn {
+    /// An equal value.
+    pub fn copy(&self, alloc: Global) -> Result<SourceIn, NoMemory>
+        ensures { IfOk result (λ s. s ≡ self.now) }
+    {
+        let name = self.name.copy(alloc)?;
+        let version = self.version.copy(alloc)?;
+        Ok(SourceIn {
+            name,
+            version,
+            sender: self.sender,
+            number: self.number,
+        })
+    }
+}
+
+impl RowIn {
+    /// An equal value.
+    pub fn copy(&self, alloc: Global) -> Result<RowIn, NoMemory>
+        ensures { IfOk result (λ r. r ≡ self.now) }
+    {
+        let binary = self.binary.copy(alloc)?;
+        Ok(RowIn {
+            arch: self.arch,
+            binary,
+            sender: self.sender,
+            number: self.number,
+            place: self.place,
+        })
+    }
+}
+
+/// Where a source belongs: at the entry of its name, or before the first one above it.
+fn place_of_source(sources: &[SourceIn], source: &SourceIn) -> Result<usize, usize>
+    ensures { IsPlaceFor sources.now source.now (moves.put_source source.now sources.now) result }
+{
+    for (i, other) in sources.iter().enumerate() {
+        match source.name.as_str().cmp(other.name.as_str()) {
+            Ordering::Less => return Err(i),
+            Ordering::Equal => return Ok(i),
+            Ordering::Greater => {}
+        }
+    }
+    Err(sources.len())
+}
+
+/// The order of rows, by architecture and name.
+fn order_rows(row: &RowIn, other: &RowIn) -> Ordering
+    ensures { result ≡ moves.row_cmp (moves.row_key row.now) (moves.row_key other.now) }
+{
+    let names = row.binary.name.as_str().cmp(other.binary.name.as_str());
+    row.arch.cmp(&other.arch).then(names)
+}
+
+/// Where a row belongs: at the entry of its key, or before the first one above it.
+fn place_of_row(rows: &[RowIn], row: &RowIn) -> Result<usize, usize>
+    ensures { IsPlaceFor rows.now row.now (moves.put_row row.now rows.now) result }
+{
+    for (i, other) in rows.iter().enumerate() {
+        match order_rows(row, other) {
+            Ordering::Less => return Err(i),
+            Ordering::Equal => return Ok(i),
+            Ordering::Greater => {}
+        }
+    }
+    Err(rows.len())
+}
+
+/// Puts a source under its name.
+pub fn put_source(sources: &mut Vec<SourceIn>, source: SourceIn) -> Result<(), AllocError>
+    ensures ok { OnOk result (sources.new.items ≡ moves.put_source source sources.old.items) }
+    ensures err { OnErr result (sources.new.items ≡ sources.old.items) }
+{
+    match place_of_source(sources, &source) {
+        Ok(place) => sources[place] = source,
+        Err(place) => sources.insert(place, source)?,
+    }
+    Ok(())
+}
+
+/// Puts a row under its key.
+pub fn put_row(rows: &mut Vec<RowIn>, row: RowIn) -> Result<(), AllocError>
+    ensures ok { OnOk result (rows.new.items ≡ moves.put_row row rows.old.items) }
+    ensures err { OnErr result (rows.new.items ≡ rows.old.items) }
+{
+    match place_of_row(rows, &row) {
+        Ok(place) => rows[place] = row,
+        Err(place) => rows.insert(place, row)?,
+    }
+    Ok(())
+}
+
+pub fn copy_sources(alloc: Global, sources: &[SourceIn]) -> Result<Vec<SourceIn>, NoMemory>
+    ensures { IfOk result (λ copies. copies.items ≡ sources.now) }
+{
+    let mut copies = Vec::new(alloc);
+    for source in sources {
+        copies.push(source.copy(alloc)?)?;
+    }
+    Ok(copies)
+}
+
+fn copy_rows(alloc: Global, rows: &[RowIn]) -> Result<Vec<RowIn>, NoMemory>
+    ensures { IfOk result (λ copies. copies.items ≡ rows.now) }
+{
+    let mut copies = Vec::new(alloc);
+    for row in rows {
+        copies.push(row.copy(alloc)?)?;
+    }
+    Ok(copies)
+}
+
+impl Testing {
+    /// The suite of these entries, which are in order.
+    pub(crate) fn of(sources: Vec<SourceIn>, rows: Vec<RowIn>) -> Testing
+        requires sources { AreByName sources.items }
+        requires rows { AreByKey rows.items }
+        ensures { result ≡ record { sources = sources.items; rows = rows.items } }
+    {
+        Testing { sources, rows }
+    }
+
+    /// The empty suite.
+    pub fn new(alloc: Global) -> Testing
+        ensures { result ≡ record { sources = []; rows = [] } }
+    {
+        Testing {
+            sources: Vec::new(alloc),
+            rows: Vec::new(alloc),
+        }
+    }
+
+    /// The sources in byte order of their names, each name once.
+    pub fn sources(&self) -> &[SourceIn]
+        ensures entries { result.now ≡ self.now.sources }
+        ensures ordered { AreByName result.now }
+    {
+        self.sources.as_slice()
+    }
+
+    /// The rows by place of the architecture, with `all` last, and then in byte order of their
+    /// names, each pair once.
+    pub fn rows(&self) -> &[RowIn]
+        ensures entries { result.now ≡ self.now.rows }
+        ensures ordered { AreByKey result.now }
+    {
+        self.rows.as_slice()
+    }
+
+    /// Puts a source under its name, and the rest stays.
+    pub fn set_source(&mut self, source: SourceIn) -> Result<(), NoMemory>
+        ensures ok { OnOk result (self.new ≡ record { sources = moves.put_source source self.old.sources; rows = self.old.rows }) }
+        ensures err { OnErr result (self.new ≡ self.old) }
+    {
+        Ok(put_source(&mut self.sources, source)?)
+    }
+
+    /// Puts a row under its architecture and name, and the rest stays.
+    pub fn set_row(&mut self, row: RowIn) -> Result<(), NoMemory>
+        ensures ok { OnOk result (self.new ≡ record { sources = self.old.sources; rows = moves.put_row row self.old.rows }) }
+        ensures err { OnErr result (self.new ≡ self.old) }
+    {
+        Ok(put_row(&mut self.rows, row)?)
+    }
+
+    /// An equal suite.
+    pub fn copy(&self, alloc: Global) -> Result<Testing, NoMemory>
+        ensures { IfOk result (λ t. t ≡ self.now) }
+    {
+        let sources = copy_sources(alloc, &self.sources)?;
+        let rows = copy_rows(alloc, &self.rows)?;
+        Ok(Testing { sources, rows })
+    }
+}
