@@ -1,0 +1,21 @@
+use Rattle.std.proofs.Common.{refl, arith}
+use Rattle.std.proofs.lemmas.Result.{err_from_is_err_and}
+use Rattle.office_mail.proofs.BagFacts.{body_none, body_stops, body_without_memory}
+use Rattle.office_mail.proofs.bag.Bag.body.Goals as goal
+
+pub loop-i-init : goal.loop-i-init
+loop-i-init g c = record {
+  body = rw c.new-message.ensures.items (body_none c.args.self.now);
+  clean = refl;
+  goes_on = record { failures = omega arith; reads = omega arith; calls = omega arith; room = omega arith; ended = refl };
+}
+
+pub returns-in_err-byte-clause-fault : goal.returns-in_err-byte-clause-fault
+returns-in_err-byte-clause-fault g c =
+    let p = err_from_is_err_and c.from_residual.result c.from_residual.ensures.1 in
+    rw (p.1, p.2) (body_stops c.args.self.now c.loop-i.self c.next_byte.new.self c.loop-i._i c.args.length c.loop-i.message.items c.in_err-byte.field-0.0 c.loop-i.invariant.body (omega arith) c.in_err-byte.ensures.fault)
+
+pub returns-in_err-hand_out-clause-fault : goal.returns-in_err-hand_out-clause-fault
+returns-in_err-hand_out-clause-fault g c =
+    let p = err_from_is_err_and c.from_residual-in_err-hand_out.result c.from_residual-in_err-hand_out.ensures.1 in
+    rw (p.1, p.2, c.in_err-hand_out.ensures.fault) (body_without_memory c.args.self.now c.loop-i.self c.next_byte.new.self c.loop-i._i c.args.length c.in-Some.byte c.loop-i.message.items c.loop-i.invariant.body (rw c.in-Some.is at c.in_ok-byte.ensures.byte) c.in_ok-byte.ensures.waits)

@@ -1,0 +1,24 @@
+use Rattle.std.proofs.Common.{refl, arith}
+use Rattle.std.proofs.lemmas.Result.{err_from_is_err_and}
+use Rattle.office_mail.specs.Line.{spelled}
+use Rattle.office_mail.proofs.BagFacts.{bad_line, line_ends, line_fails, line_missing, length-spelled}
+use Rattle.office_mail.proofs.bag.Bag.header.Goals as goal
+
+pub returns-in_err-byte-clause-fault : goal.returns-in_err-byte-clause-fault
+returns-in_err-byte-clause-fault g c =
+    let line = c.loop-byte.line in
+    let p = err_from_is_err_and c.from_residual.result c.from_residual.ensures.1 in
+    rw (p.1, p.2) (line_fails c.args.self.now c.loop-byte.self c.next_byte.new.self (spelled line.place line.value) c.in_err-byte.field-0.0
+    c.loop-byte.invariant.line (line_missing line.place line.value line.line) (λ e. c.in_err-byte.ensures.untruncated (rw e refl)) c.in_err-byte.ensures.fault)
+
+pub returns-in-Bad-clause-fault : goal.returns-in-Bad-clause-fault
+returns-in-Bad-clause-fault g c =
+    let line = c.loop-byte.line in
+    bad_line c.args.self.now c.loop-byte.self c.next_byte.new.self (spelled line.place line.value) c.in-Some.byte
+    c.loop-byte.invariant.line (rw c.in-Some.is at c.in_ok-byte.ensures.byte) c.in_ok-byte.ensures.waits (line_missing line.place line.value line.line) (rw c.in-Bad.is at c.with.ensures)
+
+pub returns-in-None-2-clause-fault : goal.returns-in-None-2-clause-fault
+returns-in-None-2-clause-fault g c =
+    let line = c.loop-byte.line in
+    line_ends c.args.self.now c.loop-byte.self c.next_byte.new.self (spelled line.place line.value)
+    c.loop-byte.invariant.line (omega (arith, length-spelled line.place line.value line.line)) (line_missing line.place line.value line.line) (c.in_ok-byte.ensures.end (rw c.in-None.is refl))

@@ -1,0 +1,14 @@
+use Rattle.std.proofs.lemmas.Result.{err_from_is_err_and}
+use Rattle.office_mail.proofs.BagFacts.{message_stops, whole_message}
+use Rattle.office_mail.proofs.bag.Bag.message.Goals as goal
+
+pub returns-in_err-body-clause-fault : goal.returns-in_err-body-clause-fault
+returns-in_err-body-clause-fault g c =
+    let line = rw c.in-Some.is at c.in_ok-length.ensures.line in
+    let p = err_from_is_err_and c.from_residual-in_err-body.result c.from_residual-in_err-body.ensures.1 in
+    rw (p.1, p.2) (message_stops c.args.self.now c.header.new.self c.body.new.self c.in-Some.length c.in_err-body.field-0.0 line.0 line.1 c.in_err-body.ensures.fault)
+
+pub returns-clause-message : goal.returns-clause-message
+returns-clause-message g c =
+    let line = rw c.in-Some.is at c.in_ok-length.ensures.line in
+    whole_message c.args.self.now c.header.new.self c.body.new.self c.in-Some.length c.in_ok-body.field-0.items line.0 line.1 c.in_ok-body.ensures.whole

@@ -1,0 +1,52 @@
+-- Covers: the last number of each sender that a run sees.
+use Rattle.std.specs.Prelude.{ℕ, Bool, not, ◌&&◌, if◌then◌else◌, List, [], ◌∷◌, map, Result, Ok, Err}
+use Rattle.std.specs.List.{list_any}
+use Rattle.std.specs.Str.{bytes_eq}
+use Rattle.deb_control.specs.Relations.{◌>>=◌, items}
+use Rattle.office_mail.specs.declared.field.Field.TheVariants as field
+use Rattle.office_mail.specs.declared.setup.Sender.{Sender}
+use Rattle.office_mail.specs.declared.setup.Role.TheVariants.{Runs}
+use Rattle.office_mail.specs.declared.message.MailFault.{MailFault}
+use Rattle.office_mail.specs.declared.message.MailFault.TheVariants.{BadValue}
+use Rattle.office_mail.specs.Lists.{Lists}
+use Rattle.office_mail.specs.Setup.{same_role}
+use Rattle.office_mail.specs.Steps.{needs, given, each_of}
+use Rattle.office_mail.specs.Values.{number_in, words}
+use Rattle.testing_rules.specs.Distinct.{is_distinct}
+
+abbrev pub BadCovers : MailFault
+BadCovers = BadValue field.Covers
+
+-- a sender that an item may name: one of the setup, but not that of runs
+abbrev pub is_named : List ℕ → Sender → Bool
+is_named name sender = bytes_eq sender.name name && not (same_role Runs sender.role)
+
+abbrev pub may_cover : Lists → List ℕ → Bool
+may_cover setup name = list_any (is_named name) setup.senders
+
+-- an item is two words, a sender's name and a number
+abbrev pub cover_of_words : Lists → List (List ℕ) → Result (List ℕ × ℕ) MailFault
+cover_of_words setup (name ∷ number ∷ []) = do
+  _ ← needs (may_cover setup name) BadCovers
+  n ← given (number_in 0 999_999_999 number) BadCovers
+  Ok (name, n)
+cover_of_words setup ws = Err BadCovers
+
+unfoldable pub cover_in : Lists → List ℕ → Result (List ℕ × ℕ) MailFault
+cover_in setup item = cover_of_words setup (words item)
+
+-- the number that is stated for a name, 0 where none is
+abbrev pub number_for : List ℕ → List (List ℕ × ℕ) → ℕ
+number_for name [] = 0
+number_for name (c ∷ cs) = if bytes_eq c.0 name then c.1 else number_for name cs
+
+-- one number for each sender of the setup, in order
+unfoldable pub numbers_by_sender : Lists → List (List ℕ × ℕ) → List ℕ
+numbers_by_sender setup stated = map (λ (sender : Sender). number_for sender.name stated) setup.senders
+
+-- What a text covers: items separated by commas, of which an item of white alone is skipped. No sender stands twice.
+unfoldable pub covers_in : Lists → List ℕ → Result (List ℕ) MailFault
+covers_in setup text = do
+  stated ← each_of (cover_in setup) (items text)
+  _ ← needs (is_distinct (map (λ (c : List ℕ × ℕ). c.0) stated)) BadCovers
+  Ok (numbers_by_sender setup stated)

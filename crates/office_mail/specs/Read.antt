@@ -1,0 +1,217 @@
+-- Messages: what a text says, or the first reason why it is no message.
+use Rattle.std.specs.Prelude.{ℕ, ◌+◌, Bool, true, ◌||◌, nat_le, if◌then◌else◌, List, [], ◌∷◌, length, codes, Option, Some, None, Result, Ok, Err}
+use Rattle.std.specs.List.{list_all, list_any}
+use Rattle.std.specs.Str.{bytes_eq}
+use Rattle.deb_control.specs.Paragraphs.{reading}
+use Rattle.deb_control.specs.Relations.{◌>>=◌}
+use Rattle.deb_control.specs.Binary.{binary_of}
+use Rattle.deb_control.specs.declared.binary.Binary.{Binary}
+use Rattle.deb_control.specs.declared.fault.BinaryField.{BinaryField}
+use Rattle.deb_control.specs.declared.fault.BinaryField.TheVariants as binary
+use Rattle.deb_control.specs.declared.fault.BinaryFault.{BinaryFault}
+use Rattle.deb_control.specs.declared.fault.BinaryFault.TheVariants as binary_fault
+use Rattle.testing_rules.specs.declared.item.Item.{Item}
+use Rattle.testing_rules.specs.declared.item.Item.TheVariants as item
+use Rattle.office_mail.specs.declared.field.Field.{Field}
+use Rattle.office_mail.specs.declared.field.Field.TheVariants as field
+use Rattle.office_mail.specs.declared.kind.Kind.{Kind}
+use Rattle.office_mail.specs.declared.kind.Kind.TheVariants as kind
+use Rattle.office_mail.specs.declared.message.Body.{Body}
+use Rattle.office_mail.specs.declared.message.Body.TheVariants.{Run, Item as Saying}
+use Rattle.office_mail.specs.declared.message.RunOrder.{RunOrder}
+use Rattle.office_mail.specs.declared.message.Message.{Message}
+use Rattle.office_mail.specs.declared.message.MailFault.{MailFault}
+use Rattle.office_mail.specs.declared.message.MailFault.TheVariants.{TooLong, BadParagraph, MissingField, UnknownSender, BadNumber, UnknownKind, WrongRole, TooManyParagraphs, UnknownArchitecture, BadValue, NoMemory}
+use Rattle.office_mail.specs.declared.setup.Sender.{Sender}
+use Rattle.office_mail.specs.declared.setup.Role.{Role}
+use Rattle.office_mail.specs.Lists.{Lists}
+use Rattle.office_mail.specs.Steps.{Paragraph, needs, given, each_of, whole, first_of, rest_of}
+use Rattle.office_mail.specs.Values.{number_in, days_in, day_in, package_in, version_in, urgency_in, severity_in}
+use Rattle.office_mail.specs.Fields.{text_of, required, has_fields, value_in, value_if_there}
+use Rattle.office_mail.specs.Kinds.{kind_named, may_send, fields_needed, binary_fields_needed}
+use Rattle.office_mail.specs.Hints.{hint_in}
+use Rattle.office_mail.specs.Covers.{covers_in}
+
+-- What messages of each kind say. Each field is read in the order of the lines, and the first bad one is the fault.
+
+unfoldable pub upload_of : Paragraph → Result Item MailFault
+upload_of p = do
+  source ← value_in package_in p field.Source
+  version ← value_in version_in p field.Version
+  urgency ← value_in urgency_in p field.Urgency
+  day ← value_in day_in p field.Day
+  Ok (item.Upload source version urgency day)
+
+-- the architecture is known to be listed or `all`
+unfoldable pub drop_of : Paragraph → Result Item MailFault
+drop_of p = do
+  name ← value_in package_in p field.Package
+  arch ← required p field.Architecture
+  version ← value_in version_in p field.Version
+  Ok (item.Dropped name arch version)
+
+abbrev pub binary_field : BinaryField → Field
+binary_field binary.Package = field.Package
+binary_field binary.Version = field.Version
+binary_field binary.Architecture = field.Architecture
+binary_field binary.Source = field.Source
+binary_field binary.PreDepends = field.PreDepends
+binary_field binary.Depends = field.Depends
+binary_field binary.Provides = field.Provides
+
+abbrev pub fault_of_binary : BinaryFault → MailFault
+fault_of_binary (binary_fault.MissingField f) = MissingField (binary_field f)
+fault_of_binary (binary_fault.BadName f) = BadValue (binary_field f)
+fault_of_binary (binary_fault.BadVersion f) = BadValue (binary_field f)
+fault_of_binary (binary_fault.BadRelation f) = BadValue (binary_field f)
+fault_of_binary binary_fault.NoMemory = NoMemory
+
+abbrev pub of_binary : Result Binary BinaryFault → Result Binary MailFault
+of_binary (Ok b) = Ok b
+of_binary (Err e) = Err (fault_of_binary e)
+
+-- a binary package, as control data describes it (Debian Policy 5.3)
+unfoldable pub binary_in : Paragraph → Result Binary MailFault
+binary_in p = of_binary (binary_of p)
+
+unfoldable pub build_of : List Paragraph → Result Item MailFault
+build_of ps = each_of binary_in ps >>= λ binaries. Ok (item.Build binaries)
+
+unfoldable pub bug_of : Paragraph → Result Item MailFault
+bug_of p = do
+  bug ← value_in (number_in 1 999_999_999) p field.Bug
+  source ← value_in package_in p field.Source
+  severity ← value_in severity_in p field.Severity
+  found ← value_if_there version_in p field.Found
+  fixed ← value_if_there version_in p field.Fixed
+  Ok (item.Bug bug source severity found fixed)
+
+unfoldable pub hint_of : Paragraph → Result Item MailFault
+hint_of p = required p field.Hint >>= λ text. hint_in text >>= λ hint. Ok (item.Hint hint)
+
+unfoldable pub unhint_of : Paragraph → Result Item MailFault
+unhint_of p = value_in (number_in 1 999_999_999) p field.Cancels >>= λ number. Ok (item.Unhint number)
+
+-- the days of each urgency; emergency and critical are one
+unfoldable pub delays_of : Paragraph → Result Item MailFault
+delays_of p = do
+  low ← value_in days_in p field.Low
+  medium ← value_in days_in p field.Medium
+  high ← value_in days_in p field.High
+  critical ← value_in days_in p field.Critical
+  Ok (item.Delays low medium high critical)
+
+unfoldable pub order_of : Lists → Paragraph → Result RunOrder MailFault
+order_of setup p = do
+  day ← value_in day_in p field.Day
+  text ← required p field.Covers
+  covers ← covers_in setup text
+  Ok (record { day = day; covers = covers })
+
+abbrev pub said : Result Item MailFault → Result Body MailFault
+said r = r >>= λ i. Ok (Saying i)
+
+unfoldable pub body_of : Lists → Kind → Paragraph → List Paragraph → Result Body MailFault
+body_of setup kind.Upload first rest = said (upload_of first)
+body_of setup kind.Drop first rest = said (drop_of first)
+body_of setup kind.Build first rest = said (build_of rest)
+body_of setup kind.Bug first rest = said (bug_of first)
+body_of setup kind.Hint first rest = said (hint_of first)
+body_of setup kind.Unhint first rest = said (unhint_of first)
+body_of setup kind.Delays first rest = said (delays_of first)
+body_of setup kind.Run first rest = order_of setup first >>= λ order. Ok (Run order)
+body_of setup kind.Nothing first rest = Ok (Saying item.Nothing)
+
+-- The checks before that.
+
+-- the first field that one of these paragraphs lacks is a fault
+unfoldable pub all_have : List Field → List Paragraph → Result Bool MailFault
+all_have fields [] = Ok true
+all_have fields (p ∷ ps) = has_fields fields p >>= λ yes. all_have fields ps
+
+-- a build has a paragraph for each binary, and one at least
+abbrev pub has_binaries : List Paragraph → Result Bool MailFault
+has_binaries [] = Err (MissingField field.Package)
+has_binaries (p ∷ ps) = all_have binary_fields_needed (p ∷ ps)
+
+-- the fields of a kind are there; a kind that is none has no fields
+unfoldable pub has_fields_of : Option Kind → Paragraph → List Paragraph → Result Bool MailFault
+has_fields_of None first rest = Ok true
+has_fields_of (Some kind.Upload) first rest = has_fields (fields_needed kind.Upload) first
+has_fields_of (Some kind.Drop) first rest = has_fields (fields_needed kind.Drop) first
+has_fields_of (Some kind.Build) first rest = has_binaries rest
+has_fields_of (Some kind.Bug) first rest = has_fields (fields_needed kind.Bug) first
+has_fields_of (Some kind.Hint) first rest = has_fields (fields_needed kind.Hint) first
+has_fields_of (Some kind.Unhint) first rest = has_fields (fields_needed kind.Unhint) first
+has_fields_of (Some kind.Delays) first rest = has_fields (fields_needed kind.Delays) first
+has_fields_of (Some kind.Run) first rest = has_fields (fields_needed kind.Run) first
+has_fields_of (Some kind.Nothing) first rest = has_fields (fields_needed kind.Nothing) first
+
+-- the sender of a name, and its place in the setup
+abbrev pub sender_from : ℕ → List ℕ → List Sender → Option (ℕ × Role)
+sender_from place name [] = None
+sender_from place name (s ∷ ss) = if bytes_eq s.name name then Some (place, s.role) else sender_from (place + 1) name ss
+
+unfoldable pub sender_named : Lists → List ℕ → Option (ℕ × Role)
+sender_named setup name = sender_from 0 name setup.senders
+
+-- 63 paragraphs may follow the first in a build, and none in any other kind
+abbrev pub most_paragraphs : Kind → ℕ
+most_paragraphs kind.Upload = 0
+most_paragraphs kind.Drop = 0
+most_paragraphs kind.Build = 63
+most_paragraphs kind.Bug = 0
+most_paragraphs kind.Hint = 0
+most_paragraphs kind.Unhint = 0
+most_paragraphs kind.Delays = 0
+most_paragraphs kind.Run = 0
+most_paragraphs kind.Nothing = 0
+
+-- an architecture that is listed, or `all`
+abbrev pub is_arch : List (List ℕ) → List ℕ → Bool
+is_arch archs name = bytes_eq name (codes "all") || list_any (bytes_eq name) archs
+
+abbrev pub is_arch_if_there : List (List ℕ) → Option (List ℕ) → Bool
+is_arch_if_there archs None = true
+is_arch_if_there archs (Some name) = is_arch archs name
+
+unfoldable pub knows_arch : Lists → Paragraph → Bool
+knows_arch setup p = is_arch_if_there setup.archs (text_of p field.Architecture)
+
+unfoldable pub knows_archs : Lists → Kind → Paragraph → List Paragraph → Bool
+knows_archs setup kind.Drop first rest = knows_arch setup first
+knows_archs setup kind.Build first rest = list_all (knows_arch setup) rest
+knows_archs setup kind.Upload first rest = true
+knows_archs setup kind.Bug first rest = true
+knows_archs setup kind.Hint first rest = true
+knows_archs setup kind.Unhint first rest = true
+knows_archs setup kind.Delays first rest = true
+knows_archs setup kind.Run first rest = true
+knows_archs setup kind.Nothing first rest = true
+
+-- what the paragraphs say under the sender, the number and the kind that the first of them states
+unfoldable pub message_of : Lists → List ℕ → List ℕ → Option Kind → Paragraph → List Paragraph → Result Message MailFault
+message_of setup from number stated first rest = do
+  sender ← given (sender_named setup from) UnknownSender
+  n ← given (number_in 1 999_999_999 number) BadNumber
+  kind ← given stated UnknownKind
+  _ ← needs (may_send sender.1 kind) WrongRole
+  _ ← needs (nat_le (length rest) (most_paragraphs kind)) TooManyParagraphs
+  _ ← needs (knows_archs setup kind first rest) UnknownArchitecture
+  body ← body_of setup kind first rest
+  Ok (record { sender = sender.0; number = n; body = body })
+
+unfoldable pub paragraphs_say : Lists → Paragraph → List Paragraph → Result Message MailFault
+paragraphs_say setup first rest = do
+  from ← required first field.From
+  number ← required first field.Number
+  kind ← required first field.Kind
+  _ ← has_fields_of (kind_named kind) first rest
+  message_of setup from number (kind_named kind) first rest
+
+-- the message that a text is, or the first refusal
+unfoldable pub read : Lists → List ℕ → Result Message MailFault
+read setup text = do
+  _ ← needs (nat_le (length text) 65_536) TooLong
+  paragraphs ← whole (reading text) BadParagraph
+  paragraphs_say setup (first_of paragraphs) (rest_of paragraphs)

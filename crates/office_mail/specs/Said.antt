@@ -1,0 +1,45 @@
+-- What each message keeps: its sender has the role that its kind needs, and the architectures that it names are known.
+use Rattle.std.specs.Prelude.{◌≡◌, ℕ, Bool, true, List, Some}
+use Rattle.std.specs.List.{list_all}
+use Rattle.deb_control.specs.declared.binary.Binary.{Binary}
+use Rattle.testing_rules.specs.declared.item.Item.TheVariants as item
+use Rattle.office_mail.specs.declared.kind.Kind.{Kind}
+use Rattle.office_mail.specs.declared.kind.Kind.TheVariants as kind
+use Rattle.office_mail.specs.declared.message.Body.{Body}
+use Rattle.office_mail.specs.declared.message.Body.TheVariants.{Run, Item as Saying}
+use Rattle.office_mail.specs.declared.message.Message.{Message}
+use Rattle.office_mail.specs.declared.setup.Role.{Role}
+use Rattle.office_mail.specs.Kinds.{role_needed}
+use Rattle.office_mail.specs.Lists.{Lists}
+use Rattle.office_mail.specs.Read.{is_arch}
+use Rattle.office_mail.specs.Setup.{count_of, place_of_role}
+
+-- the kind of what is said
+abbrev pub kind_of : Body → Kind
+kind_of (Saying (item.Upload source version urgency day)) = kind.Upload
+kind_of (Saying (item.Dropped name arch version)) = kind.Drop
+kind_of (Saying (item.Build binaries)) = kind.Build
+kind_of (Saying (item.Bug bug source severity found fixed)) = kind.Bug
+kind_of (Saying (item.Hint hint)) = kind.Hint
+kind_of (Saying (item.Unhint number)) = kind.Unhint
+kind_of (Saying (item.Delays low medium high critical)) = kind.Delays
+kind_of (Saying item.Nothing) = kind.Nothing
+kind_of (Run order) = kind.Run
+
+-- each architecture that is named is listed, or `all`
+abbrev pub knows_named : List (List ℕ) → Body → Bool
+knows_named archs (Saying (item.Upload source version urgency day)) = true
+knows_named archs (Saying (item.Dropped name arch version)) = is_arch archs arch
+knows_named archs (Saying (item.Build binaries)) = list_all (λ (b : Binary). is_arch archs b.architecture) binaries
+knows_named archs (Saying (item.Bug bug source severity found fixed)) = true
+knows_named archs (Saying (item.Hint hint)) = true
+knows_named archs (Saying (item.Unhint number)) = true
+knows_named archs (Saying (item.Delays low medium high critical)) = true
+knows_named archs (Saying item.Nothing) = true
+knows_named archs (Run order) = true
+
+-- A message keeps to the setup: where one sender alone has the role that its kind needs, it is from that sender,
+-- and it names no architecture that is neither listed nor `all`.
+pub record KeepsTo (setup : Lists) (message : Message) : Type 0 where
+  pub sender : (role : Role) → role_needed (kind_of message.body) ≡ Some role → count_of role setup.senders ≡ 1 → message.sender ≡ place_of_role role setup.senders
+  pub archs : knows_named setup.archs message.body ≡ true

@@ -1,0 +1,69 @@
+-- What a call on a bag took of the bytes, where they are known, and how it stopped.
+use Rattle.std.specs.Prelude.{◌≡◌, ℕ, ◌+◌, ◌<◌, ◌≤◌, ◌⊎◌, Option, Some, None, List, length, true, false}
+use Rattle.std.specs.Io.KnownBytes.{Consumes, IsAtEnd}
+use Rattle.office_mail.specs.Bag.{HasHeader, EndsSo, framed, handed}
+use Rattle.office_mail.specs.Counts.{HasRisen}
+use Rattle.office_mail.specs.Reading.{Reading}
+use Rattle.office_mail.specs.declared.bag.BagFault.{BagFault}
+use Rattle.office_mail.specs.declared.bag.BagFault.TheVariants.{BadHeader, Truncated, ReadFault, NoMemory}
+
+-- a message stood next, and all but its surplus is handed out
+pub record TakesMessage (before after : Reading) (message : List ℕ) : Type 0 where
+  pub whole : List ℕ
+  pub announced : HasHeader whole
+  pub same : message ≡ handed whole
+  pub took : Consumes before.left after.left (framed whole)
+
+-- the counts go on, each read is one call at most, and the bag is as open as before
+pub record GoesOn (before after : Reading) : Type 0 where
+  pub failures : before.failures ≤ after.failures
+  pub reads : before.reads ≤ after.reads
+  pub calls : after.calls + before.reads ≤ before.calls + after.reads
+  pub room : after.room ≤ before.room
+  pub ended : after.ended ≡ before.ended
+
+-- the next n bytes are a message, and all but its surplus is handed out
+pub record TakesBody (before after : Reading) (n : ℕ) (message : List ℕ) : Type 0 where
+  pub whole : List ℕ
+  pub size : length whole ≡ n
+  pub same : message ≡ handed whole
+  pub took : Consumes before.left after.left whole
+
+-- some bytes came that wait to be handed out
+pub record Waits (now : Reading) : Type 0 where
+  pub bytes : List ℕ
+  pub came : Consumes now.left now.unread bytes
+
+-- where the end of the input is the bag's end, it has been met
+abbrev pub MeetsEnd : Option BagFault → Reading → Type 0
+MeetsEnd None now = (now.met_end ≡ true) × IsAtEnd now.unread
+MeetsEnd (Some BadHeader) now = Unit {0}
+MeetsEnd (Some Truncated) now = (now.met_end ≡ true) × IsAtEnd now.unread
+MeetsEnd (Some ReadFault) now = Unit {0}
+MeetsEnd (Some NoMemory) now = Unit {0}
+
+-- the bag ends so behind what was handed out: `rest` is all else that came
+pub record Stops (before after : Reading) (end : Option BagFault) : Type 0 where
+  pub rest : List ℕ
+  pub came : Consumes before.left after.unread rest
+  pub ends : EndsSo end rest
+  pub met : MeetsEnd end after
+
+-- fewer than n bytes came; want of memory may come at any place
+abbrev pub IsShort : BagFault → ℕ → List ℕ → Type 0
+IsShort BadHeader n rest = ⊥
+IsShort Truncated n rest = length rest < n
+IsShort ReadFault n rest = length rest < n
+IsShort NoMemory n rest = Unit {0}
+
+-- the next n bytes don't come
+pub record BreaksOff (before after : Reading) (n : ℕ) (fault : BagFault) : Type 0 where
+  pub rest : List ℕ
+  pub came : Consumes before.left after.unread rest
+  pub short : IsShort fault n rest
+  pub met : MeetsEnd (Some fault) after
+
+-- a read failed, or 1,000,000 reads were made and none met the end
+abbrev pub ReadFails : Reading → Reading → Type 0
+ReadFails before after =
+    HasRisen before.failures after.failures ⊎ ((after.reads ≡ 1_000_000) × (after.met_end ≡ false))

@@ -1,0 +1,34 @@
+//! Small types that contracts see as lists.
+ghost use Rattle.std.specs.Prelude.{◌≡◌};
+
+use std::marker::Model;
+
+/// Numbers, seen as a list.
+#[derive(Drop)]
+pub struct Numbers {
+    numbers: Vec<u32>,
+}
+
+impl Model for Numbers {
+    ghost use Rattle.std.specs.Prelude.{List, ℕ};
+
+    ghost Value = { List ℕ };
+
+    ghost view = { λ a. a.numbers.items };
+}
+
+impl Numbers {
+    /// These numbers. It takes no memory.
+    pub fn of(numbers: Vec<u32>) -> Numbers
+        ensures { result ≡ numbers.items }
+    {
+        Numbers { numbers }
+    }
+
+    /// The numbers, in order.
+    pub fn as_slice(&self) -> &[u32]
+        ensures { result.now ≡ self.now }
+    {
+        self.numbers.as_slice()
+    }
+}
