@@ -1,0 +1,12 @@
+pub mod PlainFacts
+pub mod DeliverFacts
+pub mod DigitFacts
+pub mod FinishFacts
+pub mod OfficeFacts
+pub mod ReadyCount
+pub mod ReplayFacts
+pub mod WrittenFacts
+pub mod EndFacts
+pub mod CourseFacts
+pub mod WalkFacts
+pub mod RunFacts

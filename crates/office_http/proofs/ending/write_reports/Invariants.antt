@@ -1,0 +1,13 @@
+use Rattle.std.proofs.Common.{◌≡◌, ◌-◌, ◌≤◌}
+use Rattle.office_http.specs.Ending.{WritesReports}
+use Rattle.office_http.proofs.ending.write_reports.Given as goal
+
+abbrev pub invariant-loop-done : goal.invariant-loop-done
+invariant-loop-done g l = record {
+  so_far : WritesReports l.fn.office l.before l.done (g.W.Sink.written l.fn.writer) (g.W.Sink.written l.writer) l.lost;
+  within : l.done ≤ l.finished;
+  failures : g.W.Sink.failures l.writer ≡ g.W.Sink.failures l.fn.writer;
+}
+
+abbrev pub decreases-loop-done : goal.decreases-loop-done
+decreases-loop-done g l = l.finished - l.done

@@ -1,0 +1,75 @@
+-- What delivering the messages of a bag does.
+use Rattle.std.specs.Prelude.{◌≡◌, ℕ, ◌≤◌, Bool, List, [], ◌∷◌, ◌++◌, map, flat_map, Option}
+use Rattle.std.specs.List.{AllByRecursion}
+use Rattle.std.specs.Io.KnownBytes.{Appends, Consumes}
+use Rattle.office_mail.specs.declared.bag.BagFault.{BagFault}
+use Rattle.office_mail.specs.Bag.{IsBag, framed, handed, HasHeader}
+use Rattle.office_mail.specs.Reading.{Reading}
+use Rattle.office_mail.specs.Taken.{MeetsEnd}
+use Rattle.office_mail.specs.Kept.{kept_from}
+use Rattle.office_mail.specs.Runs.{IsReady}
+use Rattle.office_http.specs.declared.replies.Delivery.{Delivery}
+use Rattle.office_http.specs.declared.replies.Mark.{Mark}
+use Rattle.office_http.specs.Standing.{State}
+use Rattle.office_http.specs.State.{answer_to}
+use Rattle.office_http.specs.Written.{AppendsFront}
+use Rattle.office_http.specs.Replies.{if_taken, not_lost, any_lost, reply_line, reply_by, reply_lines}
+use Rattle.office_http.specs.Losses.{NotByStore, NoStoreDeliveries}
+
+-- The deliveries are the messages that came of a bag, up to this end. Where its bytes are known, they
+-- are what came, and then what the reader has still to give.
+pub record CameFrom (start now : Reading) (deliveries : List Delivery) (end : Option BagFault) : Type 0 where
+  pub came : List ℕ
+  pub messages : List (List ℕ)
+  pub took : Consumes start.left now.unread came
+  pub bag : IsBag came messages end
+  pub met : MeetsEnd end now
+  pub same : map (λ d. d.text) deliveries ≡ map handed messages
+
+-- the deliveries are the next messages of a bag
+pub record CameFirst (start now : Reading) (deliveries : List Delivery) : Type 0 where
+  pub messages : List (List ℕ)
+  pub each : AllByRecursion HasHeader messages
+  pub took : Consumes start.left now.left (flat_map framed messages)
+  pub same : map (λ d. d.text) deliveries ≡ map handed messages
+
+-- The office after deliveries and settles: what was kept, and what came without the losses; the runs
+-- that were finished, and maybe more; and each of them is ready.
+pub record KeepsMail (before after : State) (deliveries : List Delivery) : Type 0 where
+  pub setup : after.setup ≡ before.setup
+  pub kept : after.kept ≡ kept_from before.setup before.kept (not_lost deliveries)
+  pub grows : before.finished ≤ after.finished
+  pub ready : IsReady before.setup before.kept before.finished → IsReady after.setup after.kept after.finished
+
+-- the next messages of a bag are delivered and answered; and whether one was lost
+pub record Delivers (before after : State) (start now : Reading) (old new : Option (List ℕ)) (lost : Bool) : Type 0 where
+  pub deliveries : List Delivery
+  pub came : CameFirst start now deliveries
+  pub keeps : KeepsMail before after deliveries
+  pub written : Appends old new (reply_lines before.setup before.kept deliveries)
+  pub losses : lost ≡ any_lost deliveries
+  pub no_store : NoStoreDeliveries deliveries
+
+-- all messages of a bag are, up to its end
+pub record DeliversAll (before after : State) (start now : Reading) (old new : Option (List ℕ)) (end : Option BagFault) (lost : Bool) : Type 0 where
+  pub deliveries : List Delivery
+  pub came : CameFrom start now deliveries end
+  pub keeps : KeepsMail before after deliveries
+  pub written : Appends old new (reply_lines before.setup before.kept deliveries)
+  pub losses : lost ≡ any_lost deliveries
+  pub no_store : NoStoreDeliveries deliveries
+
+-- the next messages are delivered, and of the lines that answer them a front is written
+pub record DeliversFront (before after : State) (start now : Reading) (old new : Option (List ℕ)) : Type 0 where
+  pub deliveries : List Delivery
+  pub came : CameFirst start now deliveries
+  pub keeps : KeepsMail before after deliveries
+  pub written : AppendsFront old new (reply_lines before.setup before.kept deliveries)
+  pub no_store : NoStoreDeliveries deliveries
+
+-- one text was delivered, and of the line that answers it a front was written
+pub record DeliversOneFront (before after : State) (text : List ℕ) (old new : Option (List ℕ)) : Type 0 where
+  pub mark : Mark
+  pub kept : after.kept ≡ kept_from before.setup before.kept (if_taken mark text [])
+  pub written : AppendsFront old new (reply_line before.setup (reply_by mark (answer_to before.setup before.kept text)))
+  pub no_store : NotByStore mark

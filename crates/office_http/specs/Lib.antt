@@ -1,0 +1,15 @@
+pub mod Code
+pub mod Content
+pub mod Delivered
+pub mod Ending
+pub mod Losses
+pub mod Mail
+pub mod Outcome
+pub mod Output
+pub mod Ready
+pub mod Replay
+pub mod Replies
+pub mod Standing
+pub mod State
+pub mod Walk
+pub mod Written

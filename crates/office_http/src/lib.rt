@@ -1,0 +1,21 @@
+//! The office: it keeps mail on the sources of unstable, finishes runs of the migration to testing
+//! (Debian Developer's Reference 5.13) as their mail is there, and replays bags of mail.
+#![tactic(auto)]
+
+mod ending;
+mod faults;
+mod mail_text;
+mod office;
+mod plain;
+mod replays;
+mod replies;
+mod rules;
+
+pub use faults::{DeliverFault, Held, Progress, StoreFault};
+pub use mail_text::MailText;
+pub use office::Office;
+pub use replays::{Replayed, replay, replay_bag, replay_status};
+pub use replies::{Delivery, Mark, WriteFault};
+
+#[cfg(test)]
+mod tests;

@@ -1,0 +1,214 @@
+//! Replays of bags of mail.
+ghost use Rattle.std.specs.Prelude.{◌≡◌, ◌≤◌, ◌+◌, ◌⊎◌, [], false, Some, IfOk, OnOk, OnErr, IfErr};
+ghost use Rattle.std.specs.Io.KnownBytes.{Appends};
+ghost use Rattle.office_mail.specs.Counts.{HasRisen};
+ghost use Rattle.office_mail.specs.Kept.{kept_from};
+ghost use Rattle.office_mail.specs.Reading.{Reading};
+ghost use Rattle.office_mail.specs.Runs.{IsReady};
+ghost use Rattle.office_mail.specs.Taken.{ReadFails};
+ghost use Rattle.office_http.specs.Delivered.{DeliversAll, DeliversFront, DeliversOneFront};
+ghost use Rattle.office_http.specs.Losses.{is_short, NotByStore};
+ghost use Rattle.office_http.specs.Replay.{Replays, ReplaysAll, ReplaysFront, StopsEarly, StopsReplay, IsFresh, status_of};
+ghost use Rattle.office_http.specs.State.{answer_to};
+ghost use Rattle.office_http.specs.Replies.{reply_line, reply_by, mark_of, if_taken};
+
+use crate::ending::{either, write_bag, write_end, write_refusal};
+use crate::faults::{DeliverFault, Held};
+use crate::office::Office;
+use crate::replies::{Mark, WriteFault, write_reply};
+use office_mail::{Bag, BagFault, Feed, MailFault, Sink};
+
+/// What an answer says of a delivery.
+fn mark_of(reply: &Result<Held, DeliverFault>) -> Mark
+    ensures { result ≡ mark_of reply.now }
+{
+    match reply {
+        Err(DeliverFault::Mail(MailFault::NoMemory)) => Mark::LostForMemory,
+        Err(DeliverFault::Store) => Mark::LostForStore,
+        _ => Mark::Taken,
+    }
+}
+
+/// Delivers a text, writes the line that answers it, and settles where it is held.
+pub(crate) fn deliver_one<W: Sink>(
+    office: &mut Office,
+    text: &[u8],
+    writer: &mut W,
+) -> Result<Mark, WriteFault>
+    ensures kept { IfOk result (λ mark. office.new.kept ≡ kept_from office.old.setup office.old.kept (if_taken mark text.now [])) }
+    ensures setup { office.new.setup ≡ office.old.setup }
+    ensures grows { office.old.finished ≤ office.new.finished }
+    ensures written { IfOk result (λ mark. Appends (W.written writer.old) (W.written writer.new)
+        (reply_line office.old.setup (reply_by mark (answer_to office.old.setup office.old.kept text.now)))) }
+    // What a writer that fails leaves: the text may be kept, and a front of the line was written.
+    ensures front { OnErr result (DeliversOneFront office.old office.new text.now (W.written writer.old) (W.written writer.new)) }
+    ensures cause { OnErr result (HasRisen (W.failures writer.old) (W.failures writer.new)) }
+    ensures clean { OnOk result (W.failures writer.new ≡ W.failures writer.old) }
+    ensures no_store { IfOk result (λ mark. NotByStore mark) }
+    ensures ready { IsReady office.old.setup office.old.kept office.old.finished → IsReady office.new.setup office.new.kept office.new.finished }
+{
+    let reply = office.deliver(text);
+    write_reply(office.setup(), &reply, writer)?;
+    if reply.is_ok() {
+        let _ = office.settle();
+    }
+    Ok(mark_of(&reply))
+}
+
+/// How a bag ended, and whether a delivery was lost.
+#[derive(Clone, Copy, Debug, PartialEq, Eq)]
+pub(crate) struct Delivered {
+    pub(crate) end: Option<BagFault>,
+    pub(crate) lost: bool,
+}
+
+/// Delivers the messages of a bag in turn, up to its end.
+pub(crate) fn deliver_all<R: Feed, W: Sink>(
+    office: &mut Office,
+    bag: &mut Bag<R>,
+    writer: &mut W,
+) -> Result<Delivered, WriteFault>
+    requires { bag.old.ended ≡ false }
+    ensures all { IfOk result (λ delivered. DeliversAll office.old office.new bag.old bag.new (W.written writer.old) (W.written writer.new) delivered.end delivered.lost) }
+    ensures front { OnErr result (DeliversFront office.old office.new bag.old bag.new (W.written writer.old) (W.written writer.new)) }
+
+    // A read failed exactly where the bag is refused for it, but for the last of the reads.
+    ensures read_cause { IfOk result (λ delivered. delivered.end ≡ Some BagFault.ReadFault → ReadFails bag.old bag.new) }
+    ensures read_clean { IfOk result (λ delivered. (delivered.end ≡ Some BagFault.ReadFault) ⊎ (bag.new.failures ≡ bag.old.failures)) }
+    ensures reads { bag.new.reads ≤ 1_000_000 }
+    ensures calls { bag.new.calls + bag.old.reads ≤ bag.old.calls + bag.new.reads }
+
+    ensures cause { OnErr result (HasRisen (W.failures writer.old) (W.failures writer.new)) }
+    ensures clean { OnOk result (W.failures writer.new ≡ W.failures writer.old) }
+{
+    let mut lost = false;
+    loop {
+        match bag.next() {
+            Ok(Some(text)) => {
+                let mark = deliver_one(office, &text, writer)?;
+                lost = lost || mark.is_lost();
+            }
+            Ok(None) => return Ok(Delivered { end: None, lost }),
+            Err(fault) => {
+                let end = Some(fault);
+                return Ok(Delivered { end, lost });
+            }
+        }
+    }
+}
+
+/// What a replay came to: why the bag was refused, and whether anything was lost for want of memory
+/// or by the store.
+#[derive(Clone, Copy, Debug, PartialEq, Eq)]
+pub struct Replayed {
+    pub bag: Option<BagFault>,
+    pub lost: bool,
+}
+
+/// Delivers the messages that a reader gives as a bag, settles, and writes the answers, the status,
+/// the reports of the runs that it finished, and testing. It fails only where the writer failed or
+/// took no byte. What becomes of the reader is said by [`replay_bag`].
+pub fn replay<R: Feed + Drop, W: Sink>(
+    office: &mut Office,
+    reader: R,
+    writer: &mut W,
+) -> Result<Replayed, WriteFault>
+    ensures ok { IfOk result (λ replayed. (start : Reading) × (now : Reading) × IsFresh (R.left reader) start
+        × Replays office.old office.new start now (W.written writer.old) (W.written writer.new) replayed) }
+    ensures err { OnErr result ((start : Reading) × (now : Reading) × IsFresh (R.left reader) start
+        × StopsReplay office.old office.new start now (W.written writer.old) (W.written writer.new)) }
+    ensures cause { OnErr result (HasRisen (W.failures writer.old) (W.failures writer.new)) }
+    ensures clean { OnOk result (W.failures writer.new ≡ W.failures writer.old) }
+{
+    let mut bag = Bag::new(office.alloc(), reader);
+    replay_bag(office, &mut bag, writer)
+}
+
+/// Delivers the messages of a bag that hasn't ended, settles, and writes the answers, the status, the
+/// reports of the runs that it finished, and testing. It fails only where the writer failed or took no
+/// byte; what was delivered before stays.
+pub fn replay_bag<R: Feed, W: Sink>(
+    office: &mut Office,
+    bag: &mut Bag<R>,
+    writer: &mut W,
+) -> Result<Replayed, WriteFault>
+    requires { bag.old.ended ≡ false }
+    ensures ok { IfOk result (λ replayed. Replays office.old office.new bag.old bag.new (W.written writer.old) (W.written writer.new) replayed) }
+    ensures err { OnErr result (StopsReplay office.old office.new bag.old bag.new (W.written writer.old) (W.written writer.new)) }
+
+    // A read failed exactly where the bag is refused for it, but for the last of the reads.
+    ensures read_cause { IfOk result (λ replayed. replayed.bag ≡ Some BagFault.ReadFault → ReadFails bag.old bag.new) }
+    ensures read_clean { IfOk result (λ replayed. (replayed.bag ≡ Some BagFault.ReadFault) ⊎ (bag.new.failures ≡ bag.old.failures)) }
+
+    // At most 1,000,000 reads are made, of at most 8,192 bytes each.
+    ensures reads { bag.old.reads ≤ 1_000_000 → bag.new.reads ≤ 1_000_000 }
+    ensures calls { bag.new.calls + bag.old.reads ≤ bag.old.calls + bag.new.reads }
+
+    ensures cause { OnErr result (HasRisen (W.failures writer.old) (W.failures writer.new)) }
+    ensures clean { OnOk result (W.failures writer.new ≡ W.failures writer.old) }
+{
+    match office.finished() {
+        Ok(before) => replay_from(office, before, bag, writer),
+        Err(fault) => {
+            write_refusal(fault, writer)?;
+            Ok(Replayed {
+                bag: None,
+                lost: true,
+            })
+        }
+    }
+}
+
+/// The same, where this count of runs is finished.
+fn replay_from<R: Feed, W: Sink>(
+    office: &mut Office,
+    before: u32,
+    bag: &mut Bag<R>,
+    writer: &mut W,
+) -> Result<Replayed, WriteFault>
+    requires open { bag.old.ended ≡ false }
+    requires before { before ≡ office.old.finished }
+    requires ready { IsReady office.old.setup office.old.kept office.old.finished }
+    ensures ok { IfOk result (λ replayed. ReplaysAll office.old office.new bag.old bag.new (W.written writer.old) (W.written writer.new) replayed) }
+    ensures err { OnErr result (StopsEarly office.old office.new bag.old bag.new (W.written writer.old) (W.written writer.new)
+        ⊎ ReplaysFront office.old office.new bag.old bag.new (W.written writer.old) (W.written writer.new)) }
+    ensures read_cause { IfOk result (λ replayed. replayed.bag ≡ Some BagFault.ReadFault → ReadFails bag.old bag.new) }
+    ensures read_clean { IfOk result (λ replayed. (replayed.bag ≡ Some BagFault.ReadFault) ⊎ (bag.new.failures ≡ bag.old.failures)) }
+    ensures reads { bag.new.reads ≤ 1_000_000 }
+    ensures calls { bag.new.calls + bag.old.reads ≤ bag.old.calls + bag.new.reads }
+    ensures cause { OnErr result (HasRisen (W.failures writer.old) (W.failures writer.new)) }
+    ensures clean { OnOk result (W.failures writer.new ≡ W.failures writer.old) }
+{
+    let delivered = deliver_all(office, bag, writer)?;
+    let settled = office.settle().is_ok();
+    write_bag(delivered.end, writer)?;
+    let missing = write_end(office, before, writer)?;
+    let bag_lost = either(delivered.lost, is_short(delivered.end));
+    Ok(Replayed {
+        bag: delivered.end,
+        lost: either(either(bag_lost, !settled), missing),
+    })
+}
+
+/// Whether a bag ended for want of memory.
+fn is_short(end: Option<BagFault>) -> bool
+    ensures { result ≡ is_short end }
+{
+    match end {
+        Some(BagFault::NoMemory) => true,
+        _ => false,
+    }
+}
+
+/// The exit status of a replay: 4 where its output failed or anything was lost, else 3 where the bag
+/// was refused, else 0.
+pub fn replay_status(replayed: &Result<Replayed, WriteFault>) -> u8
+    ensures { result ≡ status_of replayed.now }
+{
+    match replayed {
+        Err(_) => 4,
+        Ok(replayed) if replayed.lost => 4,
+        Ok(replayed) if replayed.bag.is_some() => 3,
+        Ok(_) => 0,
+    }
+}
