@@ -9,3 +9,10 @@ pub mod Lists
 pub mod Looking
 pub mod Answering
 pub mod Choosing
+pub mod Members
+pub mod Restarting
+pub mod Settled
+pub mod Marking
+pub mod Reviving
+pub mod Needing
+pub mod Standing

@@ -39,13 +39,13 @@ grown_in lists k c p d h some = elim (cases_eq p k) [
 ]
 
 -- what is marked after one mark is gone
-still_marked : (marks : List Bool) (o p : ℕ) → o < length marks → marked (set marks o false) p ≡ true → (p ≡ o → ⊥) × (marked marks p ≡ true)
+pub still_marked : (marks : List Bool) (o p : ℕ) → o < length marks → marked (set marks o false) p ≡ true → (p ≡ o → ⊥) × (marked marks p ≡ true)
 still_marked marks o p h on =
     let differs : p ≡ o → ⊥ = (λ e. let at = ap (λ q. get_or (set marks o false) q false) e ∙ get_or-set_same marks o false false h in false≢true (sym at ∙ on)) in
     (differs, sym (get_or-set_other marks o p false false differs) ∙ on)
 
 -- one row has one value
-same_row : (rows : List Binary) (p k : ℕ) (r row : Binary) → p ≡ k → slice_get rows p ≡ Some r → slice_get rows k ≡ Some row → row ≡ r
+pub same_row : (rows : List Binary) (p k : ℕ) (r row : Binary) → p ≡ k → slice_get rows p ≡ Some r → slice_get rows k ≡ Some row → row ≡ r
 same_row rows p k r row e a b = same_Some row r (sym b ∙ sym (ap (slice_get rows) e) ∙ a)
 
 module _ (rows : List Binary) (w : Work) (c : ℕ) (todo : List ℕ) (k : ℕ) (row : Binary) (looks : ℕ) (sound : IsSound rows w (c ∷ todo)) (at : slice_get rows k ≡ Some row) (here : marked w.marks k ≡ true) (does : meets row (clause rows c) ≡ true) where

@@ -7,3 +7,8 @@ pub mod Work
 pub mod Index
 pub mod Ground
 pub mod Progress
+pub mod Among
+pub mod Tracked
+pub mod Needers
+pub mod Settling
+pub mod Suite

@@ -3,23 +3,34 @@
 //! `installable` answers for each row, and `installable_counted` counts its steps too. Each clause rests on one row of
 //! the set that meets it, and is looked at again only where that row is taken out. The sweeps, which are plainer and
 //! slower, are for the tests.
+//!
+//! A `Suite` holds rows of which some are there, and tries changes of these: what a trial costs depends on what the
+//! change touches, and not on the size of the suite.
 #![tactic(auto)]
 
+mod change;
 mod claims;
 mod counted;
 mod find;
 mod index;
 pub mod laws;
+mod marks;
+mod needers;
 mod satisfies;
+mod settle;
 mod state;
+mod suite;
 #[cfg(test)]
 mod sweeps;
 #[cfg(test)]
 mod tests;
+#[cfg(test)]
+mod trials;
 mod work;
 
 pub use counted::{Counted, installable, installable_counted};
 use deb_control::Binary;
+pub use suite::Suite;
 
 /// A row of testing: a binary package on an architecture.
 #[derive(Clone, Copy)]

@@ -19,7 +19,7 @@ fn binary(alloc: Global, text: &str) -> Result<Binary, Fail> {
 }
 
 // A row for each package.
-fn rows_of<'a>(alloc: Global, binaries: &'a [Binary]) -> Result<Vec<Row<'a>>, Fail> {
+pub fn rows_of<'a>(alloc: Global, binaries: &'a [Binary]) -> Result<Vec<Row<'a>>, Fail> {
     let mut rows = Vec::new(alloc);
     for binary in binaries {
         rows.push(Row { binary })?;
@@ -112,7 +112,7 @@ fn chains(rt: HostRuntime) -> Result<(), Fail> {
 }
 
 // A row whose needs and provisions are read off the bits of a number.
-fn drawn_row(alloc: Global, place: u64, bits: u64) -> Result<Binary, Fail> {
+pub fn drawn_row(alloc: Global, place: u64, bits: u64) -> Result<Binary, Fail> {
     let first = bits >> 34 & 3;
     let second = bits >> 37 & 3;
     let third = bits >> 40 & 3;

@@ -1,0 +1,34 @@
+use Rattle.std.specs.Prelude.{◌≡◌, ℕ, Bool, true, false, ◌⊎◌, List, length, Vec, Contains}
+use Rattle.std.specs.BTreeMap.{BTreeMap}
+use Rattle.std.specs.Borrow.{Bor}
+use Rattle.std.specs.declared.alloc.Global.{Global}
+use Rattle.deb_control.specs.declared.binary.Binary.{Binary}
+use Rattle.testing_install.specs.Among.{IsGreatestAmong}
+use Rattle.testing_install.specs.Closed.{marked}
+use Rattle.testing_install.specs.Needers.{IsGraph}
+use Rattle.testing_install.specs.Tracked.{Tracked}
+
+-- rows that may be in a suite, and which of them are there
+pub record Standing : Type 0 where
+  pub rows : List Binary
+  pub there : List Bool
+
+-- there is a mark for each row, and the installable rows are the greatest closed set of those that are there
+pub record IsRight (rows : List Binary) (there installable : List Bool) : Type 0 where
+  pub there_len : length there ≡ length rows
+  pub installable_len : length installable ≡ length rows
+  pub greatest : IsGreatestAmong rows (marked there) (marked installable)
+
+-- after a change the suite is right again; the lost rows are there and not installable, and each such row is among them
+-- that was installable before the change or wasn't there
+pub record IsChanged (rows : List Binary) (old_there old_installable there installable : List Bool) (lost : List ℕ) : Type 0 where
+  pub right : IsRight rows there installable
+  pub all : (k : ℕ) → marked there k ≡ true → marked installable k ≡ false → (marked old_installable k ≡ true) ⊎ (marked old_there k ≡ false) → Contains lost k
+  pub broken : (k : ℕ) → Contains lost k → (marked there k ≡ true) × (marked installable k ≡ false)
+
+-- the suite is right, and nothing is left to be kept or undone
+pub record IsSuite (rows : List Binary) (bearers needers : BTreeMap (Bor (List ℕ)) (Vec ℕ Global)) (there installable : Tracked) : Type 0 where
+  pub graph : IsGraph rows bearers needers
+  pub right : IsRight rows there.current installable.current
+  pub there_kept : there.kept ≡ there.current
+  pub installable_kept : installable.kept ≡ installable.current

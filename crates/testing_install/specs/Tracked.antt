@@ -1,0 +1,20 @@
+use Rattle.std.specs.Prelude.{◌≡◌, ℕ, ◌<◌, Bool, ◌⊎◌, false, List, length, Contains, slice_index_or}
+
+-- the places of a set as it is, and as it was when it was last kept
+pub record Tracked : Type 0 where
+  pub current : List Bool
+  pub kept : List Bool
+
+-- as the set was when it was last kept
+abbrev pub undone : Tracked → Tracked
+undone t = record { current = t.kept; kept = t.kept }
+
+-- as the set is, from now on the one to come back to
+abbrev pub confirmed : Tracked → Tracked
+confirmed t = record { current = t.current; kept = t.current }
+
+-- the two lists differ at the touched places alone, which are places of both
+pub record IsTracked (current kept : List Bool) (touched : List ℕ) : Type 0 where
+  pub long : length current ≡ length kept
+  pub touched_in : (k : ℕ) → Contains touched k → k < length current
+  pub same : (k : ℕ) → (slice_index_or current k false ≡ slice_index_or kept k false) ⊎ Contains touched k

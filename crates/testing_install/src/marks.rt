@@ -1,0 +1,110 @@
+ghost use Rattle.std.specs.Prelude.{◌≡◌, ℕ, ◌<◌, false, length, replicate, OnOk, OnErr, IfOk, slice_set, slice_index_or};
+ghost use Rattle.testing_install.specs.Among.{with_all};
+ghost use Rattle.testing_install.specs.Closed.{marked};
+ghost use Rattle.testing_install.specs.Tracked.{Tracked, undone, confirmed};
+ghost use Rattle.std.specs.List.{All};
+
+use deb_version::NoMemory;
+use std::alloc::Global;
+use std::marker::Model;
+
+/// A set of rows by their places: as it is, and as it was when it was last kept.
+#[derive(Drop)]
+pub struct Marks {
+    current: Vec<bool>,
+    kept: Vec<bool>,
+    touched: Vec<usize>,
+}
+
+impl Model for Marks {
+    ghost use Rattle.testing_install.specs.Tracked.{Tracked, IsTracked};
+
+    ghost Value = { Tracked };
+
+    ghost view = { λ m. record { current = m.current.items; kept = m.kept.items } };
+
+    ghost invariant = { λ m. IsTracked m.current.items m.kept.items m.touched.items };
+}
+
+impl Marks {
+    /// No row is marked.
+    pub fn none(alloc: Global, rows: usize) -> Result<Marks, NoMemory>
+        ensures { IfOk result (λ m. m ≡ record { current = replicate rows false; kept = replicate rows false }) }
+    {
+        let current = vec![in alloc; false; rows]?;
+        let kept = vec![in alloc; false; rows]?;
+        Ok(Marks {
+            current,
+            kept,
+            touched: Vec::new(alloc),
+        })
+    }
+
+    /// The marks as they are.
+    pub fn current(&self) -> &[bool]
+        ensures { result.now ≡ self.now.current }
+    {
+        self.current.as_slice()
+    }
+
+    /// Whether the row at the place is marked.
+    pub fn is_marked(&self, place: usize) -> bool
+        ensures { result ≡ marked self.now.current place }
+    {
+        match self.current.get(place) {
+            Some(mark) => *mark,
+            None => false,
+        }
+    }
+
+    /// Whether the row at the place was marked when the marks were last kept.
+    pub fn was_marked(&self, place: usize) -> bool
+        ensures { result ≡ marked self.now.kept place }
+    {
+        match self.kept.get(place) {
+            Some(mark) => *mark,
+            None => false,
+        }
+    }
+
+    /// Marks the row at the place, or takes its mark.
+    pub fn set(&mut self, place: usize, mark: bool) -> Result<(), NoMemory>
+        requires { place < length self.old.current }
+        ensures ok { OnOk result (self.new ≡ record { current = slice_set self.old.current place mark; kept = self.old.kept }) }
+        ensures err { OnErr result (self.new ≡ self.old) }
+    {
+        self.touched.push(place)?;
+        self.current[place] = mark;
+        Ok(())
+    }
+
+    /// Goes back to the marks that were last kept.
+    pub fn undo(&mut self)
+        ensures { self.new ≡ undone self.old }
+    {
+        while let Some(place) = self.touched.pop() {
+            self.current[place] = self.kept[place];
+        }
+    }
+
+    /// Keeps the marks as they are.
+    pub fn keep(&mut self)
+        ensures { self.new ≡ confirmed self.old }
+    {
+        while let Some(place) = self.touched.pop() {
+            self.kept[place] = self.current[place];
+        }
+    }
+}
+
+/// Marks the rows at the places, or takes their marks.
+pub fn set_all(marks: &mut Marks, places: &[usize], mark: bool) -> Result<(), NoMemory>
+    requires { All (λ k. k < length marks.old.current) places.now }
+    ensures kept { marks.new.kept ≡ marks.old.kept }
+    ensures set { OnOk result (marks.new.current ≡ with_all mark places.now marks.old.current) }
+{
+    for place in places {
+        marks.set(*place, mark)?;
+    }
+    Ok(())
+}

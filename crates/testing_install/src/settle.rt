@@ -1,0 +1,179 @@
+//! The greatest closed set of the rows that are there, from marks of which it is a part.
+
+ghost use Rattle.std.specs.Prelude.{◌≡◌, ℕ, ◌+◌, ◌<◌, Bool, true, false, List, [], ◌∷◌, ◌++◌, length, Option, None, OnOk, slice_set};
+ghost use Rattle.std.specs.List.{All, count_by};
+ghost use Rattle.std.specs.Option.{option_copied};
+ghost use Rattle.testing_install.specs.Closed.{IsMet, marked};
+ghost use Rattle.testing_install.specs.Needers.{IsGraph};
+ghost use Rattle.testing_install.specs.Rows.{binaries};
+ghost use Rattle.testing_install.specs.Settling.{suspects, IsSized, IsSettling};
+
+use crate::Row;
+use crate::find::find;
+use crate::marks::Marks;
+use crate::needers::needers_on;
+use crate::satisfies::meets;
+use deb_control::{Binary, Clause};
+use deb_version::NoMemory;
+use std::alloc::Global;
+use std::collections::BTreeMap;
+
+/// Rows, and by name who bears it and who needs it.
+#[derive(Drop)]
+pub struct Graph<'a> {
+    pub rows: Vec<Row<'a>>,
+    pub bearers: BTreeMap<&'a str, Vec<usize>>,
+    pub needers: BTreeMap<&'a str, Vec<usize>>,
+}
+
+/// Rows that are no longer marked.
+#[derive(Drop)]
+pub struct Falls {
+    /// Those that wait for their turn.
+    pub waiting: Vec<usize>,
+    /// Those that a look took the mark from.
+    pub fallen: Vec<usize>,
+}
+
+// The clause is to be looked at where the row is lost, or where no lost row is given.
+fn is_suspect(lost: Option<&Binary>, clause: &Clause) -> bool
+    ensures { result ≡ suspects (option_copied lost.entry) clause.now }
+{
+    match lost {
+        None => true,
+        Some(row) => meets(row, clause),
+    }
+}
+
+// Some marked row meets the clause.
+fn is_met(graph: &Graph, marks: &[bool], clause: &Clause) -> bool
+    requires graph { IsGraph (binaries graph.now.rows.items) graph.now.bearers graph.now.needers }
+    requires marks { length marks.now ≡ length graph.now.rows.items }
+    ensures yes { result ≡ true → IsMet (binaries graph.now.rows.items) (marked marks.now) clause.now }
+    ensures no { result ≡ false → IsMet (binaries graph.now.rows.items) (marked marks.now) clause.now → ⊥ }
+{
+    match find(&graph.rows, marks, &graph.bearers, clause, None) {
+        Some(_) => true,
+        None => false,
+    }
+}
+
+// The clause isn't suspect, or is met.
+fn is_sure(graph: &Graph, marks: &[bool], clause: &Clause, lost: Option<&Binary>) -> bool
+    requires graph { IsGraph (binaries graph.now.rows.items) graph.now.bearers graph.now.needers }
+    requires marks { length marks.now ≡ length graph.now.rows.items }
+    ensures yes { result ≡ true → suspects (option_copied lost.entry) clause.now ≡ true → IsMet (binaries graph.now.rows.items) (marked marks.now) clause.now }
+    ensures no { result ≡ false → IsMet (binaries graph.now.rows.items) (marked marks.now) clause.now → ⊥ }
+{
+    if !is_suspect(lost, clause) {
+        return true;
+    }
+    is_met(graph, marks, clause)
+}
+
+// Each suspect clause of the package is met.
+fn is_upheld(graph: &Graph, marks: &[bool], binary: &Binary, lost: Option<&Binary>) -> bool
+    requires graph { IsGraph (binaries graph.now.rows.items) graph.now.bearers graph.now.needers }
+    requires marks { length marks.now ≡ length graph.now.rows.items }
+    ensures yes { result ≡ true → All (λ clause. suspects (option_copied lost.entry) clause ≡ true → IsMet (binaries graph.now.rows.items) (marked marks.now) clause) binary.now.clauses }
+    ensures no { result ≡ false → All (IsMet (binaries graph.now.rows.items) (marked marks.now)) binary.now.clauses → ⊥ }
+{
+    for clause in binary.clauses.as_slice() {
+        if !is_sure(graph, marks, clause, lost) {
+            return false;
+        }
+    }
+    true
+}
+
+// The row at the place loses its mark, and waits for its turn.
+fn fall(marks: &mut Marks, falls: &mut Falls, place: usize) -> Result<(), NoMemory>
+    requires { place < length marks.old.current }
+    ensures kept { marks.new.kept ≡ marks.old.kept }
+    ensures marks { OnOk result (marks.new.current ≡ slice_set marks.old.current place false) }
+    ensures waiting { OnOk result (falls.new.waiting.items ≡ falls.old.waiting.items ++ place ∷ []) }
+    ensures fallen { OnOk result (falls.new.fallen.items ≡ falls.old.fallen.items ++ place ∷ []) }
+{
+    marks.set(place, false)?;
+    falls.waiting.push(place)?;
+    falls.fallen.push(place)?;
+    Ok(())
+}
+
+// Looks at the suspect clauses of the row at the place: it loses its mark where one isn't met.
+fn look(
+    graph: &Graph,
+    marks: &mut Marks,
+    falls: &mut Falls,
+    place: usize,
+    lost: Option<&Binary>,
+) -> Result<(), NoMemory>
+    requires graph { IsGraph (binaries graph.now.rows.items) graph.now.bearers graph.now.needers }
+    requires place { place < length graph.now.rows.items }
+    requires sized { IsSized (binaries graph.now.rows.items) marks.old.current falls.old.waiting.items }
+    ensures kept { marks.new.kept ≡ marks.old.kept }
+    ensures sized { OnOk result (IsSized (binaries graph.now.rows.items) marks.new.current falls.new.waiting.items) }
+    ensures measure { OnOk result (length falls.new.waiting.items + count_by (λ b. b) marks.new.current
+        ≡ length falls.old.waiting.items + count_by (λ b. b) marks.old.current) }
+    ensures step { OnOk result ((there : ℕ → Bool) (first : List Bool) (todo : List ℕ)
+        → IsSettling (binaries graph.now.rows.items) there first marks.old.current falls.old.waiting.items falls.old.fallen.items (place ∷ todo) (option_copied lost.entry)
+        → IsSettling (binaries graph.now.rows.items) there first marks.new.current falls.new.waiting.items falls.new.fallen.items todo (option_copied lost.entry)) }
+{
+    if !marks.current()[place] {
+        return Ok(());
+    }
+    if is_upheld(graph, marks.current(), graph.rows[place].binary, lost) {
+        return Ok(());
+    }
+    fall(marks, falls, place)?;
+    Ok(())
+}
+
+/// Looks at the suspect clauses of the rows at the places.
+pub fn look_at(
+    graph: &Graph,
+    marks: &mut Marks,
+    falls: &mut Falls,
+    places: &[usize],
+    lost: Option<&Binary>,
+) -> Result<(), NoMemory>
+    requires graph { IsGraph (binaries graph.now.rows.items) graph.now.bearers graph.now.needers }
+    requires places { All (λ k. k < length graph.now.rows.items) places.now }
+    requires sized { IsSized (binaries graph.now.rows.items) marks.old.current falls.old.waiting.items }
+    ensures kept { marks.new.kept ≡ marks.old.kept }
+    ensures sized { OnOk result (IsSized (binaries graph.now.rows.items) marks.new.current falls.new.waiting.items) }
+    ensures measure { OnOk result (length falls.new.waiting.items + count_by (λ b. b) marks.new.current
+        ≡ length falls.old.waiting.items + count_by (λ b. b) marks.old.current) }
+    ensures step { OnOk result ((there : ℕ → Bool) (first : List Bool)
+        → IsSettling (binaries graph.now.rows.items) there first marks.old.current falls.old.waiting.items falls.old.fallen.items places.now (option_copied lost.entry)
+        → IsSettling (binaries graph.now.rows.items) there first marks.new.current falls.new.waiting.items falls.new.fallen.items [] (option_copied lost.entry)) }
+{
+    for place in places {
+        look(graph, marks, falls, *place, lost)?;
+    }
+    Ok(())
+}
+
+/// Gives each waiting row its turn, until none waits: the rows that may have needed it are looked at.
+pub fn take_turns(
+    alloc: Global,
+    graph: &Graph,
+    marks: &mut Marks,
+    falls: &mut Falls,
+) -> Result<(), NoMemory>
+    requires graph { IsGraph (binaries graph.now.rows.items) graph.now.bearers graph.now.needers }
+    requires sized { IsSized (binaries graph.now.rows.items) marks.old.current falls.old.waiting.items }
+    ensures kept { marks.new.kept ≡ marks.old.kept }
+    ensures empty { OnOk result (falls.new.waiting.items ≡ []) }
+    ensures sized { OnOk result (IsSized (binaries graph.now.rows.items) marks.new.current falls.new.waiting.items) }
+    ensures step { OnOk result ((there : ℕ → Bool) (first : List Bool)
+        → IsSettling (binaries graph.now.rows.items) there first marks.old.current falls.old.waiting.items falls.old.fallen.items [] None
+        → IsSettling (binaries graph.now.rows.items) there first marks.new.current falls.new.waiting.items falls.new.fallen.items [] None) }
+{
+    while let Some(place) = falls.waiting.pop() {
+        let row = graph.rows[place].binary;
+        let needers = needers_on(alloc, &graph.needers, row)?;
+        look_at(graph, marks, falls, &needers, Some(row))?;
+    }
+    Ok(())
+}

@@ -1,0 +1,146 @@
+ghost use Rattle.std.specs.Prelude.{◌≡◌, ℕ, ◌<◌, ◌↔◌, Bool, true, false, length, replicate, IfOk, OnOk, OnErr, Contains};
+ghost use Rattle.std.specs.List.{All};
+ghost use Rattle.testing_install.specs.Among.{IsInstallableAmong, IsLost, after_change};
+ghost use Rattle.testing_install.specs.Closed.{marked};
+ghost use Rattle.testing_install.specs.Rows.{binaries};
+
+use crate::Row;
+use crate::change::{change, lost_by};
+use crate::index::index_of;
+use crate::marks::Marks;
+use crate::needers::needers_of;
+use crate::settle::Graph;
+use deb_version::NoMemory;
+use std::alloc::Global;
+use std::marker::Model;
+
+/// The rows of one architecture that may be in a suite, which of them are there, and which of these are installable
+/// among those that are there (Debian Policy 7.1, 7.2 and 7.5).
+///
+/// The rows are given once and named by their places; a change says which leave and which come. It costs what it
+/// touches: the rows that leave or come, those with a clause that names one of these, and so on from each row whose
+/// answer changes; not the size of the suite.
+#[derive(Drop)]
+pub struct Suite<'a> {
+    graph: Graph<'a>,
+    there: Marks,
+    installable: Marks,
+}
+
+impl<'a> Model for Suite<'a> {
+    ghost use Rattle.testing_install.specs.Rows.{binaries};
+    ghost use Rattle.testing_install.specs.Suite.{Standing, IsSuite};
+
+    ghost Value = { Standing };
+
+    ghost view = { λ s. record { rows = binaries s.graph.rows.items; there = s.there.current } };
+
+    ghost invariant = { λ s. IsSuite (binaries s.graph.rows.items) s.graph.bearers s.graph.needers s.there s.installable };
+}
+
+impl<'a> Suite<'a> {
+    /// A suite in which none of the rows is there yet. The one error is want of memory.
+    pub fn new(alloc: Global, rows: Vec<Row<'a>>) -> Result<Suite<'a>, NoMemory>
+        ensures rows { IfOk result (λ s. s.rows ≡ binaries rows.entry.items) }
+        ensures there { IfOk result (λ s. s.there ≡ replicate (length rows.entry.items) false) }
+    {
+        let there = Marks::none(alloc, rows.len())?;
+        let installable = Marks::none(alloc, rows.len())?;
+        let bearers = index_of(alloc, &rows)?;
+        let needers = needers_of(alloc, &rows)?;
+        let graph = Graph {
+            rows,
+            bearers,
+            needers,
+        };
+        Ok(Suite {
+            graph,
+            there,
+            installable,
+        })
+    }
+
+    /// How many rows may be there.
+    pub fn len(&self) -> usize
+        ensures { result ≡ length self.now.rows }
+    {
+        self.graph.rows.len()
+    }
+
+    /// Whether the row at the place is there.
+    pub fn is_there(&self, place: usize) -> bool
+        ensures { result ≡ marked self.now.there place }
+    {
+        self.there.is_marked(place)
+    }
+
+    /// Whether the row at the place is installable: some closed set of rows that are there holds it.
+    pub fn is_installable(&self, place: usize) -> bool
+        ensures { (result ≡ true) ↔ IsInstallableAmong self.now.rows (marked self.now.there) place }
+    {
+        self.installable.is_marked(place)
+    }
+
+    /// The rows that would be lost if some rows left and then some came, by their places: those that would be there
+    /// and not be installable, though they are now, or aren't there now. The suite stays as it is. The one error is
+    /// want of memory.
+    pub fn trial(
+        &mut self,
+        alloc: Global,
+        leaving: &[usize],
+        coming: &[usize],
+    ) -> Result<Vec<usize>, NoMemory>
+        requires leaving { All (λ k. k < length self.old.rows) leaving.now }
+        requires coming { All (λ k. k < length self.old.rows) coming.now }
+        ensures same { self.new ≡ self.old }
+        ensures lost { IfOk result (λ lost. (k : ℕ) → Contains lost.items k
+            ↔ IsLost self.old.rows (marked self.old.there) (marked (after_change leaving.now coming.now self.old.there)) k) }
+    {
+        let lost = lost_by(
+            alloc,
+            &self.graph,
+            &mut self.there,
+            &mut self.installable,
+            leaving,
+            coming,
+        );
+        self.there.undo();
+        self.installable.undo();
+        lost
+    }
+
+    /// Some rows leave, and then some come. On an error, which is want of memory, the suite stays as it is.
+    pub fn change(
+        &mut self,
+        alloc: Global,
+        leaving: &[usize],
+        coming: &[usize],
+    ) -> Result<(), NoMemory>
+        requires leaving { All (λ k. k < length self.old.rows) leaving.now }
+        requires coming { All (λ k. k < length self.old.rows) coming.now }
+        ensures rows { self.new.rows ≡ self.old.rows }
+        ensures there { OnOk result (self.new.there ≡ after_change leaving.now coming.now self.old.there) }
+        ensures err { OnErr result (self.new ≡ self.old) }
+    {
+        match change(
+            alloc,
+            &self.graph,
+            &mut self.there,
+            &mut self.installable,
+            leaving,
+            coming,
+        ) {
+            Ok(lost) => {
+                drop(lost);
+                self.there.keep();
+                self.installable.keep();
+                Ok(())
+            }
+            Err(fault) => {
+                self.there.undo();
+                self.installable.undo();
+                Err(fault)
+            }
+        }
+    }
+}
