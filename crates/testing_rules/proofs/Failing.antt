@@ -35,7 +35,7 @@ with_answers-end rows marks k h =
     ]
 
 module _ {A : Type 0} {cmp : Text → Text → Ordering} (o : IsTotalOrder cmp) (test : A → Bool) (name : A → Text) where
-  one_more : (b : Bool) (xs : List A) (x : A) → test x ≡ b
+  pub one_more : (b : Bool) (xs : List A) (x : A) → test x ≡ b
       → least cmp (map name (filter test (xs ++ x ∷ []))) ≡ cond b (Some (first_of_two cmp (least cmp (map name (filter test xs))) (name x))) (least cmp (map name (filter test xs)))
   one_more true xs x e = rw (filter-append test xs (x ∷ []), e, map-append) (least-push o (map name (filter test xs)) (name x))
   one_more false xs x e = rw (filter-append test xs (x ∷ []), e, append-nil) refl

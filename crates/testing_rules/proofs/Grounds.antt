@@ -3,34 +3,20 @@ use Rattle.std.specs.Prelude.{ℕ, List, [], ◌∷◌, Option, map, filter, nat
 use Rattle.std.proofs.Common.{◌≡◌, refl, ap, ◌∙◌}
 use Rattle.jiff.specs.declared.civil.dates.Date.{Date}
 use Rattle.testing_rules.specs.declared.facts.UploadIn.{UploadIn}
-use Rattle.testing_rules.specs.declared.facts.BugIn.{BugIn}
-use Rattle.testing_rules.specs.declared.facts.HintIn.{HintIn}
-use Rattle.testing_rules.specs.declared.facts.Delays.{Delays}
-use Rattle.testing_rules.specs.declared.suite.RowIn.{RowIn}
 use Rattle.testing_rules.specs.declared.excuse.Excuse.{Excuse}
 use Rattle.testing_rules.specs.Words.{Text}
 use Rattle.testing_rules.specs.Suite.{Suite}
 use Rattle.testing_rules.specs.FactLists.{FactLists}
 use Rattle.testing_rules.specs.Covered.{Covered}
 use Rattle.testing_rules.specs.StandsFor.{StandsFor}
-use Rattle.testing_rules.specs.Unstable.{place_numbers, built_rows, is_standing, unstable_sources}
-use Rattle.testing_rules.specs.Excuses.{Ground, excuse_on, excuses_on, excuses_of, ground_of, days_of, hinted_days, delays_in_force, age_of, reasons_of, testing_version, is_news}
+use Rattle.testing_rules.specs.BySource.{ground_from}
+use Rattle.testing_rules.specs.Unstable.{place_numbers, unstable_sources}
+use Rattle.testing_rules.specs.Excuses.{Ground, excuse_on, excuses_on, excuses_of, ground_of, days_of, hinted_days, age_of, reasons_of, testing_version, is_news}
 use Rattle.testing_rules.proofs.Urgent.{urgent-same}
 
-map-same : {A B : Type 0} (f g : A → B) → ((x : A) → f x ≡ g x) → (xs : List A) → map f xs ≡ map g xs
+pub map-same : {A B : Type 0} (f g : A → B) → ((x : A) → f x ≡ g x) → (xs : List A) → map f xs ≡ map g xs
 map-same f g h [] = refl
 map-same f g h (x ∷ xs) = rw (h x, map-same f g h xs) refl
-
--- the ground that facts give
-abbrev pub ground_from : List Text → FactLists → Date → Ground
-ground_from archs f date = record {
-  rows = built_rows archs f.rows;
-  bugs = f.bugs;
-  hints = filter (is_standing f.unhints) f.hints;
-  uploads = f.uploads;
-  delays = delays_in_force f.delays;
-  date = date;
-}
 
 -- an excuse with these days needed
 abbrev needing : List ℕ → Ground → Option Text → UploadIn → ℕ → Excuse
@@ -64,10 +50,3 @@ module _ (archs : List Text) (f : FactLists) (s : Covered) (t : Suite) (date : D
       ap (λ g. excuses_on (place_numbers archs) g t f.sources) same_ground
       ∙ ap (λ us. excuses_on (place_numbers archs) with_own t us) h.sources
       ∙ map-same _ _ same_excuse (filter (λ u. is_news (testing_version t u.source) u.version) (unstable_sources s))
-
-  -- the same, for lists that are given one by one
-  pub excuses-by_parts : (rows : List RowIn) (bugs : List BugIn) (hints : List HintIn) (uploads : List UploadIn) (delays : Delays) (sources : List UploadIn)
-      → rows ≡ built_rows archs f.rows → bugs ≡ f.bugs → hints ≡ filter (is_standing f.unhints) f.hints → uploads ≡ f.uploads
-      → delays ≡ delays_in_force f.delays → sources ≡ f.sources
-      → excuses_on (place_numbers archs) (record { rows = rows; bugs = bugs; hints = hints; uploads = uploads; delays = delays; date = date }) t sources ≡ excuses_of archs s t date
-  excuses-by_parts rows bugs hints uploads delays sources er eb eh eu ed es = rw (er, eb, eh, eu, ed, es) same-excuses

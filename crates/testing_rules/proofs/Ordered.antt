@@ -51,7 +51,7 @@ module _ {A K : Type 0} (key : A → K) (cmp : K → K → Ordering) where
     sorted-kept_at true x xs p h = (all-kept (λ k. cmp (key x) k ≡ Less) xs p, h)
     sorted-kept_at false x xs p h = h
 
-    sorted-kept : (xs : List A) → IsStrictlySortedBy cmp (map key xs) → IsStrictlySortedBy cmp (map key (filter test xs))
+    pub sorted-kept : (xs : List A) → IsStrictlySortedBy cmp (map key xs) → IsStrictlySortedBy cmp (map key (filter test xs))
     unfolding IsStrictlySortedBy
     sorted-kept [] h = tt
     sorted-kept (x ∷ xs) h = sorted-kept_at (test x) x xs h.0 (sorted-kept xs h.1)

@@ -8,13 +8,18 @@ use Rattle.testing_rules.specs.declared.facts.BuildIn.{BuildIn}
 use Rattle.testing_rules.specs.declared.facts.DropIn.{DropIn}
 use Rattle.testing_rules.specs.Words.{Text}
 use Rattle.testing_rules.specs.Covered.{Covered, uploads_in, builds_in, drops_in}
-use Rattle.testing_rules.specs.Unstable.{upload_order, unstable_source, build_order, unstable_row, is_build_of, is_above_drops, drop_order, is_drop_of, greatest_drop}
+use Rattle.testing_rules.specs.Moves.{source_in}
+use Rattle.testing_rules.specs.Unstable.{upload_order, unstable_source, unstable_sources, build_order, unstable_row, is_build_of, is_above_drops, drop_order, is_drop_of, greatest_drop}
 
 -- no upload of the name comes before the unstable source: none is of a greater version, and none of the same version has a smaller sender and number
 abbrev pub UnstableSourceIsFirst : Type 0
 UnstableSourceIsFirst =
     (s : Covered) (name : Text) (u : UploadIn) → unstable_source s name ≡ Some u
     → AllByRecursion (λ v. is_lt (upload_order v u) ≡ false) (filter (λ v. bytes_eq v.source name) (uploads_in s))
+
+-- among unstable's sources the one of a name is the unstable source of that name
+abbrev pub UnstableSourceIsFound : Type 0
+UnstableSourceIsFound = (s : Covered) (name : Text) → source_in (unstable_sources s) name ≡ unstable_source s name
 
 -- no build of the architecture and name above every drop comes before the unstable row
 abbrev pub UnstableRowIsFirst : Type 0

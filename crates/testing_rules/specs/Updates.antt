@@ -3,7 +3,7 @@ use Rattle.std.specs.Prelude.{◌≡◌, ℕ, zero, suc, Bool, true, false, ◌&
 use Rattle.std.specs.List.{filter_map, flat_map, list_any, before_first, after_first}
 use Rattle.std.specs.Option.{option_map_or, option_to_list, is_none}
 use Rattle.std.specs.Str.{bytes_eq}
-use Rattle.testing_rules.specs.declared.item.Hint.TheVariants.{Easy, Remove}
+use Rattle.testing_rules.specs.declared.item.Hint.TheVariants.{Block, Unblock, Easy, AgeDays, Remove, BlockAll}
 use Rattle.testing_rules.specs.declared.item.HintItem.{HintItem}
 use Rattle.testing_rules.specs.declared.facts.HintIn.{HintIn}
 use Rattle.testing_rules.specs.declared.facts.UnhintIn.{UnhintIn}
@@ -50,7 +50,14 @@ is_in_testing t name v = option_map_or (is_same_version v) (testing_version t na
 
 -- the items of the standing remove hints, by number and then in the hint's order
 abbrev pub removals_of : HintIn → List (ℕ × HintItem)
-removals_of h = elim h.hint [ Remove items ↦ map (λ i. (h.number, i)) items | _ ↦ [] ]
+removals_of h = elim h.hint [
+  | Block _ ↦ []
+  | Unblock _ ↦ []
+  | Easy _ ↦ []
+  | AgeDays _ _ ↦ []
+  | Remove items ↦ map (λ i. (h.number, i)) items
+  | BlockAll ↦ []
+]
 
 -- testing's version v of a source leaves, where nothing breaks
 abbrev pub remove_version : List Text → ℕ → Text → Text → Suite → Outcome
@@ -97,8 +104,12 @@ move_items archs sources rows excuses number (i ∷ is) t =
 abbrev pub move_easy : List Text → List UploadIn → List RowIn → List Excuse → HintIn → Suite → Outcome
 move_easy archs sources rows excuses h t =
     elim h.hint [
+      | Block _ ↦ nothing t
+      | Unblock _ ↦ nothing t
       | Easy items ↦ move_items archs sources rows excuses h.number (filter (λ i. not (is_in_testing t i.name i.version)) items) t
-      | _ ↦ nothing t
+      | AgeDays _ _ ↦ nothing t
+      | Remove _ ↦ nothing t
+      | BlockAll ↦ nothing t
     ]
 
 -- Single moves.

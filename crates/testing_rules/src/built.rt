@@ -1,6 +1,7 @@
 //! Builds as rows of a suite.
 
 ghost use Rattle.std.specs.Prelude.{◌≡◌, ◌++◌, OnOk, IfOk};
+ghost use Rattle.testing_rules.specs.Boxed.{unboxed};
 ghost use Rattle.testing_rules.specs.Unstable as unstable;
 
 use crate::archs::{ALL, Archs};
@@ -26,11 +27,11 @@ fn row_at(alloc: Global, arch: u32, build: &BuildIn) -> Result<RowIn, NoMemory>
 fn push_built_on(
     alloc: Global,
     rows: &mut Vec<RowIn>,
-    builds: &[BuildIn],
+    builds: &[Box<BuildIn>],
     place: u32,
     arch: &str,
 ) -> Result<(), NoMemory>
-    ensures { OnOk result (rows.new.items ≡ rows.old.items ++ unstable.built_on builds.now (place, arch.now)) }
+    ensures { OnOk result (rows.new.items ≡ rows.old.items ++ unstable.built_on (unboxed builds.now) (place, arch.now)) }
 {
     for build in builds {
         if build.binary.architecture.as_str() == arch {
@@ -41,8 +42,12 @@ fn push_built_on(
 }
 
 /// Builds as rows, by place of the architecture.
-pub fn built_rows(alloc: Global, archs: &Archs, builds: &[BuildIn]) -> Result<Vec<RowIn>, NoMemory>
-    ensures { IfOk result (λ rows. rows.items ≡ unstable.built_rows archs.now builds.now) }
+pub fn built_rows(
+    alloc: Global,
+    archs: &Archs,
+    builds: &[Box<BuildIn>],
+) -> Result<Vec<RowIn>, NoMemory>
+    ensures { IfOk result (λ rows. rows.items ≡ unstable.built_rows archs.now (unboxed builds.now)) }
 {
     let mut rows = Vec::new(alloc);
     for place in 0..archs.len() {

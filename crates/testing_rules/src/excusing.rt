@@ -1,59 +1,53 @@
 //! The excuses of a run.
 
-ghost use Rattle.std.specs.Prelude.{◌≡◌, IfOk, filter, option_copied};
+ghost use Rattle.std.specs.Prelude.{◌≡◌, IfOk, filter, length, option_copied};
+ghost use Rattle.std.specs.List.Sorted.{IsBinarySearchResult, IsSearchInRange};
+ghost use Rattle.testing_rules.specs.Boxed.{unboxed};
+ghost use Rattle.testing_rules.specs.BySource.{excuses_by, ground_at, ground_from, part_of};
 ghost use Rattle.testing_rules.specs.Covered.{Covered};
 ghost use Rattle.testing_rules.specs.StandsFor.{StandsFor};
 ghost use Rattle.testing_rules.specs.Excuses as rules;
 ghost use Rattle.testing_rules.specs.Unstable as unstable;
 ghost use Rattle.testing_rules.specs.Unstable.{place_numbers};
+ghost use Rattle.testing_rules.specs.Words.{Text, text_cmp};
 
 use crate::archs::Archs;
 use crate::built::built_rows;
+use crate::by_source::{
+    Found, Grouped, bugs_by_source, found_of, rows_by_source, uploads_by_source,
+};
 use crate::days::{age_of, days_needed, delays_in_force, is_news};
 use crate::excuse::{Excuse, Excuses};
-use crate::facts::{BugIn, Delays, Facts, HintIn, UnhintIn, UploadIn};
+use crate::facts::{Facts, HintIn, UnhintIn, UploadIn};
 use crate::item::copy_version;
 use crate::reasons::{Known, reasons_of};
-use crate::suite::{RowIn, Testing};
-use crate::turns::{entry_of, is_standing};
+use crate::suite::{SourceIn, Testing};
+use crate::turns::is_standing;
 use deb_version::{NoMemory, Version};
 use jiff::civil::Date;
 use std::alloc::Global;
-use std::marker::Model;
+use std::cmp::Ordering;
 
-/// What the excuses of a run are made from, beside testing.
-#[derive(Drop)]
-struct Found<'a> {
-    rows: &'a [RowIn],
-    bugs: &'a [BugIn],
-    hints: &'a [HintIn],
-    uploads: &'a [UploadIn],
-    delays: Delays,
-    date: Date,
-}
-
-impl<'a> Model for Found<'a> {
-    ghost use Rattle.testing_rules.specs.Excuses.{Ground};
-
-    ghost Value = { Ground };
-
-    ghost view = { λ f. record {
-      rows = f.rows.now;
-      bugs = f.bugs.now;
-      hints = f.hints.now;
-      uploads = f.uploads.now;
-      delays = f.delays;
-      date = f.date;
-    } };
+/// Where testing has the source, or else where it belongs.
+fn place_of(sources: &[SourceIn], name: &str) -> Result<usize, usize>
+    ensures bound { IsSearchInRange result (length sources.now) }
+    ensures found { IsBinarySearchResult (λ s. text_cmp s.name name.now) sources.now result }
+{
+    sources.binary_search_by(
+        |source: &SourceIn| -> Ordering
+            ensures { result ≡ text_cmp source.now.name name.entry.now }
+        { source.name.as_str().cmp(name) },
+    )
 }
 
 /// The source's version in testing.
 fn testing_version<'a>(testing: &'a Testing, name: &str) -> Option<&'a Version>
     ensures { option_copied result ≡ rules.testing_version testing.now name.now }
 {
-    match entry_of(testing.sources(), name) {
-        Some(entry) => Some(&entry.version),
-        None => None,
+    let sources = testing.sources();
+    match place_of(sources, name) {
+        Ok(place) => Some(&sources[place].version),
+        Err(_) => None,
     }
 }
 
@@ -102,20 +96,36 @@ fn excuse_on(
 fn excuses_on(
     alloc: Global,
     archs: &Archs,
-    found: &Found,
+    grouped: &Grouped,
     testing: &Testing,
-    sources: &[UploadIn],
+    sources: &[Box<UploadIn>],
 ) -> Result<Vec<Excuse>, NoMemory>
-    ensures { IfOk result (λ es. es.items ≡ rules.excuses_on (place_numbers archs.now) found.now testing.now sources.now) }
+    ensures { IfOk result (λ es. es.items ≡ excuses_by (place_numbers archs.now) (ground_at grouped.now) testing.now (unboxed sources.now)) }
 {
     let mut excuses = Vec::new(alloc);
     'sources: for upload in sources {
         let version = testing_version(testing, upload.source.as_str());
         if is_news(version, &upload.version) {
-            excuses.push(excuse_on(alloc, archs, found, version, upload)?)?;
+            let found = found_of(grouped, upload.source.as_str());
+            excuses.push(excuse_on(alloc, archs, &found, version, upload)?)?;
         }
     }
     Ok(excuses)
+}
+
+/// What the facts give to each source.
+fn group_facts(alloc: Global, archs: &Archs, facts: &Facts, date: Date) -> Result<Grouped, NoMemory>
+    ensures { IfOk result (λ g. (name : Text) → ground_at g name ≡ part_of (ground_from archs.now facts.now date) name) }
+{
+    let rows = built_rows(alloc, archs, facts.rows())?;
+    Ok(Grouped {
+        rows: rows_by_source(alloc, rows)?,
+        bugs: bugs_by_source(alloc, facts.bugs())?,
+        hints: standing(alloc, facts.hints(), facts.unhints())?,
+        uploads: uploads_by_source(alloc, facts.uploads())?,
+        delays: delays_in_force(facts.delays()),
+        date,
+    })
 }
 
 /// The excuses of a run, whose date is given, over the messages that the facts stand for.
@@ -128,16 +138,7 @@ pub fn excuses(
 ) -> Result<Excuses, NoMemory>
     ensures { IfOk result (λ es. (s : Covered) → StandsFor facts.now s testing.now → es ≡ rules.excuses_of archs.now s testing.now date) }
 {
-    let rows = built_rows(alloc, archs, facts.rows())?;
-    let hints = standing(alloc, facts.hints(), facts.unhints())?;
-    let found = Found {
-        rows: &rows,
-        bugs: facts.bugs(),
-        hints: &hints,
-        uploads: facts.uploads(),
-        delays: delays_in_force(facts.delays()),
-        date,
-    };
-    let excuses = excuses_on(alloc, archs, &found, testing, facts.sources())?;
+    let grouped = group_facts(alloc, archs, facts, date)?;
+    let excuses = excuses_on(alloc, archs, &grouped, testing, facts.sources())?;
     Ok(Excuses::of(excuses))
 }

@@ -1,17 +1,19 @@
 //! Facts: what a run has to know of the covered messages.
 
 ghost use Rattle.std.specs.Prelude.{◌≡◌, ◌∷◌, ◌++◌, [], Some, Contains, IfOk, OnOk, OnErr};
+ghost use Rattle.testing_rules.specs.Boxed.{unboxed};
 ghost use Rattle.testing_rules.specs.Covered.{Covered, CoveredItem, upload_of};
 ghost use Rattle.testing_rules.specs.Entries.{with_entry};
 ghost use Rattle.testing_rules.specs.StandsFor.{StandsFor};
 ghost use Rattle.testing_rules.specs.Suite.{Suite};
-ghost use Rattle.testing_rules.specs.Taken.{with_upload, with_drop, with_greatest, with_builds, stands_beside};
+ghost use Rattle.testing_rules.specs.Taken.{with_upload, with_drop, with_greatest, with_builds, with_bug, stands_beside};
 ghost use Rattle.testing_rules.specs.declared.facts.UploadIn.{UploadIn as AnUpload};
 
 use crate::entry::{Entry, entry_of};
-use crate::item::{Hint, Item, Severity, Urgency};
+use crate::item::{Hint, Item, Severity, Urgency, copy_version};
 use crate::taken::{
-    later_delays, put_bug, put_builds, put_drop, put_hint, put_unhint, put_upload, take_rows,
+    boxed_builds, later_delays, put_bug, put_builds, put_drop, put_hint, put_unhint, put_upload,
+    take_rows,
 };
 use deb_control::{Binary, Text};
 use deb_version::{NoMemory, Version};
@@ -98,9 +100,9 @@ pub struct DelaysIn {
 #[derive(Drop)]
 pub struct Facts {
     alloc: Global,
-    sources: Vec<UploadIn>,
+    sources: Vec<Box<UploadIn>>,
     uploads: Vec<UploadIn>,
-    rows: Vec<BuildIn>,
+    rows: Vec<Box<BuildIn>>,
     drops: Vec<DropIn>,
     bugs: Vec<BugIn>,
     hints: Vec<HintIn>,
@@ -109,20 +111,24 @@ pub struct Facts {
 }
 
 impl Model for Facts {
+    ghost use Rattle.testing_rules.specs.Boxed.{unboxed};
     ghost use Rattle.testing_rules.specs.FactLists.{FactLists};
+    ghost use Rattle.testing_rules.specs.FactOrder.{IsFactOrder};
 
     ghost Value = { FactLists };
 
     ghost view = { λ a. record {
-      sources = a.sources.items;
+      sources = unboxed a.sources.items;
       uploads = a.uploads.items;
-      rows = a.rows.items;
+      rows = unboxed a.rows.items;
       drops = a.drops.items;
       bugs = a.bugs.items;
       hints = a.hints.items;
       unhints = a.unhints.items;
       delays = a.delays;
     } };
+
+    ghost invariant = { λ a. IsFactOrder (unboxed a.sources.items) (unboxed a.rows.items) a.drops.items a.bugs.items };
 }
 
 impl Facts {
@@ -146,8 +152,8 @@ impl Facts {
     }
 
     /// Unstable's sources, by name.
-    pub(crate) fn sources(&self) -> &[UploadIn]
-        ensures { result.now ≡ self.now.sources }
+    pub(crate) fn sources(&self) -> &[Box<UploadIn>]
+        ensures { unboxed result.now ≡ self.now.sources }
     {
         self.sources.as_slice()
     }
@@ -160,8 +166,8 @@ impl Facts {
     }
 
     /// Unstable's rows, by architecture and name.
-    pub(crate) fn rows(&self) -> &[BuildIn]
-        ensures { result.now ≡ self.now.rows }
+    pub(crate) fn rows(&self) -> &[Box<BuildIn>]
+        ensures { unboxed result.now ≡ self.now.rows }
     {
         self.rows.as_slice()
     }
@@ -217,7 +223,7 @@ impl Facts {
             Entry::Upload(upload) => self.take_upload(upload),
             Entry::Dropped(drop) => self.take_drop(drop),
             Entry::Build(builds) => self.take_builds(builds.into_vec()),
-            Entry::Bug(bug) => put_bug(&mut self.bugs, bug),
+            Entry::Bug(bug) => self.take_bug(bug),
             Entry::Hint(hint) => put_hint(&mut self.hints, hint),
             Entry::Unhint(unhint) => put_unhint(&mut self.unhints, unhint),
             Entry::Delays(delays) => {
@@ -234,8 +240,9 @@ impl Facts {
         ensures err { OnErr result (self.new ≡ self.old) }
     {
         let kept = upload.copy(self.alloc)?;
+        let boxed = Box::new(self.alloc, upload)?;
         self.uploads.push(kept)?;
-        if put_upload(&mut self.sources, upload).is_err() {
+        if put_upload(&mut self.sources, boxed).is_err() {
             self.uploads.pop();
             return Err(NoMemory);
         }
@@ -253,13 +260,23 @@ impl Facts {
         Ok(())
     }
 
+    /// A message on a bug joins the states of the bugs.
+    fn take_bug(&mut self, bug: BugIn) -> Result<(), NoMemory>
+        ensures ok { OnOk result (self.new ≡ record self.old { bugs = with_bug bug self.old.bugs }) }
+        ensures err { OnErr result (self.new ≡ self.old) }
+    {
+        put_bug(&mut self.bugs, bug)?;
+        Ok(())
+    }
+
     /// The builds of one message join the rows, each where it stands beside the drops.
     fn take_builds(&mut self, builds: Vec<BuildIn>) -> Result<(), NoMemory>
         ensures ok { OnOk result (self.new ≡ record self.old { rows = with_builds (stands_beside self.old.drops) builds.items self.old.rows }) }
         ensures err { OnErr result (self.new ≡ self.old) }
     {
-        self.rows.reserve(builds.len())?;
-        put_builds(&mut self.rows, &self.drops, builds);
+        let boxed = boxed_builds(self.alloc, builds)?;
+        self.rows.reserve(boxed.len())?;
+        put_builds(&mut self.rows, &self.drops, boxed);
         Ok(())
     }
 }
@@ -292,6 +309,23 @@ impl HintIn {
     }
 }
 
+impl BugIn {
+    /// An equal message on a bug.
+    pub fn copy(&self, alloc: Global) -> Result<BugIn, NoMemory>
+        ensures { IfOk result (λ b. b ≡ self.now) }
+    {
+        Ok(BugIn {
+            bug: self.bug,
+            source: self.source.copy(alloc)?,
+            severity: self.severity,
+            found: copy_version(alloc, self.found.as_ref())?,
+            fixed: copy_version(alloc, self.fixed.as_ref())?,
+            sender: self.sender,
+            number: self.number,
+        })
+    }
+}
+
 impl UploadIn {
     /// An equal upload.
     pub fn copy(&self, alloc: Global) -> Result<UploadIn, NoMemory>
@@ -306,4 +340,18 @@ impl UploadIn {
             number: self.number,
         })
     }
+}
+
+/// Equal uploads, in order.
+pub(crate) fn copy_uploads(
+    alloc: Global,
+    uploads: &[Box<UploadIn>],
+) -> Result<Vec<UploadIn>, NoMemory>
+    ensures { IfOk result (λ copies. copies.items ≡ unboxed uploads.now) }
+{
+    let mut copies = Vec::new(alloc);
+    for upload in uploads {
+        copies.push(upload.copy(alloc)?)?;
+    }
+    Ok(copies)
 }

@@ -6,18 +6,17 @@ ghost use Rattle.testing_rules.specs.Words as words;
 ghost use Rattle.testing_rules.specs.Moves.{group_sources};
 ghost use Rattle.testing_rules.specs.Unstable as unstable_words;
 ghost use Rattle.testing_rules.specs.Updates as rules;
-ghost use Rattle.testing_rules.specs.Updates.{then_do, in_turn};
+ghost use Rattle.testing_rules.specs.Runs.{go_on};
+ghost use Rattle.testing_rules.specs.Updates.{in_turn};
 ghost use Rattle.testing_rules.specs.LentItems.{items_of, as_moved};
 
-use crate::archs::Archs;
 use crate::excuse::Excuse;
 use crate::facts::{HintIn, UnhintIn, UploadIn};
 use crate::item::{Hint, HintItem};
-use crate::moves::{Unstable, move_group, source_in};
-use crate::offender::offender_of;
+use crate::live::LiveTesting;
+use crate::moves::source_in;
 use crate::select::is_same_version;
-use crate::suite::Testing;
-use crate::turns::{Turns, entry_of, is_standing};
+use crate::turns::{Turns, is_standing};
 use crate::update::{Decision, Moved, MovedItems};
 use deb_control::Text;
 use deb_version::{NoMemory, Version};
@@ -47,11 +46,11 @@ pub fn is_candidate(excuses: &[Excuse], name: &str, version: &Version) -> bool
 }
 
 /// Testing has the source at the version.
-pub fn is_in_testing(testing: &Testing, name: &str, version: &Version) -> bool
-    ensures { result ≡ rules.is_in_testing testing.now name.now version.now }
+pub fn is_in_testing(testing: &LiveTesting, name: &str, version: &Version) -> bool
+    ensures { result ≡ rules.is_in_testing testing.now.suite name.now version.now }
 {
-    match entry_of(testing.sources(), name) {
-        Some(entry) => is_same_version(version, &entry.version),
+    match testing.version_of(name) {
+        Some(there) => is_same_version(version, there),
         None => false,
     }
 }
@@ -59,10 +58,10 @@ pub fn is_in_testing(testing: &Testing, name: &str, version: &Version) -> bool
 /// The items that testing doesn't have yet.
 fn items_left<'a>(
     alloc: Global,
-    testing: &Testing,
+    testing: &LiveTesting,
     items: &'a [HintItem],
 ) -> Result<Vec<&'a HintItem>, NoMemory>
-    ensures { IfOk result (λ left. items_of left.items ≡ filter (λ i. not (rules.is_in_testing testing.now i.name i.version)) items.now) }
+    ensures { IfOk result (λ left. items_of left.items ≡ filter (λ i. not (rules.is_in_testing testing.now.suite i.name i.version)) items.now) }
 {
     let mut left = Vec::new(alloc);
     for item in items {
@@ -125,23 +124,16 @@ fn moved_items(alloc: Global, sources: &[UploadIn], group: &[Text]) -> Result<Ve
     Ok(items)
 }
 
-impl Turns {
+impl<'a> Turns<'a> {
     /// A group moves as one, where nothing breaks.
-    fn move_as_one(
-        &mut self,
-        alloc: Global,
-        archs: &Archs,
-        unstable: Unstable,
-        hint: u32,
-        group: &[Text],
-    ) -> Result<(), NoMemory>
-        ensures { OnOk result (self.new ≡ then_do self.old (rules.move_as_one archs.now unstable.entry.sources.now unstable.entry.rows.now hint group.now)) }
+    fn move_as_one(&mut self, alloc: Global, hint: u32, group: &[Text]) -> Result<(), NoMemory>
+        ensures { OnOk result (self.new ≡ go_on self.old (λ b. rules.move_as_one b.archs b.sources b.rows hint group.now)) }
     {
-        let testing = move_group(alloc, unstable, group, self.testing())?;
-        match offender_of(alloc, archs, self.testing().rows(), testing.rows(), group)? {
+        match self.broken_by_move(alloc, group)? {
             None => {
-                let items = MovedItems::new(moved_items(alloc, unstable.sources, group)?);
-                self.accept(Decision::EasyDone { hint, items }, testing)
+                let sources = self.testing().unstable_sources();
+                let items = MovedItems::new(moved_items(alloc, sources, group)?);
+                self.accept(alloc, Decision::EasyDone { hint, items }, group)
             }
             Some(offender) => self.refuse(Decision::EasyRefused { hint, offender }),
         }
@@ -151,13 +143,11 @@ impl Turns {
     fn move_items(
         &mut self,
         alloc: Global,
-        archs: &Archs,
-        unstable: Unstable,
         excuses: &[Excuse],
         hint: u32,
         items: &[&HintItem],
     ) -> Result<(), NoMemory>
-        ensures { OnOk result (self.new ≡ then_do self.old (rules.move_items archs.now unstable.entry.sources.now unstable.entry.rows.now excuses.now hint (items_of items.now))) }
+        ensures { OnOk result (self.new ≡ go_on self.old (λ b. rules.move_items b.archs b.sources b.rows excuses.now hint (items_of items.now))) }
     {
         if items.is_empty() {
             return Ok(());
@@ -172,26 +162,28 @@ impl Turns {
             });
         }
         let group = names_of(alloc, items)?;
-        self.move_as_one(alloc, archs, unstable, hint, &group)
+        self.move_as_one(alloc, hint, &group)
     }
 
     /// The group that a hint asks for, if it is one of those.
     fn move_easy(
         &mut self,
         alloc: Global,
-        archs: &Archs,
-        unstable: Unstable,
         excuses: &[Excuse],
         hint: &HintIn,
     ) -> Result<(), NoMemory>
-        ensures { OnOk result (self.new ≡ then_do self.old (rules.move_easy archs.now unstable.entry.sources.now unstable.entry.rows.now excuses.now hint.now)) }
+        ensures { OnOk result (self.new ≡ go_on self.old (λ b. rules.move_easy b.archs b.sources b.rows excuses.now hint.now)) }
     {
         match &hint.hint {
             Hint::Easy(items) => {
                 let left = items_left(alloc, self.testing(), items.as_slice())?;
-                self.move_items(alloc, archs, unstable, excuses, hint.number, &left)
+                self.move_items(alloc, excuses, hint.number, &left)
             }
-            _ => Ok(()),
+            Hint::Block(_)
+            | Hint::Unblock(_)
+            | Hint::AgeDays(_, _)
+            | Hint::Remove(_)
+            | Hint::BlockAll => Ok(()),
         }
     }
 
@@ -199,17 +191,15 @@ impl Turns {
     pub fn groups(
         &mut self,
         alloc: Global,
-        archs: &Archs,
-        unstable: Unstable,
         excuses: &[Excuse],
         hints: &[HintIn],
         unhints: &[UnhintIn],
     ) -> Result<(), NoMemory>
-        ensures { OnOk result (self.new ≡ then_do self.old (in_turn (rules.move_easy archs.now unstable.entry.sources.now unstable.entry.rows.now excuses.now) (filter (unstable_words.is_standing unhints.now) hints.now))) }
+        ensures { OnOk result (self.new ≡ go_on self.old (λ b. in_turn (rules.move_easy b.archs b.sources b.rows excuses.now) (filter (unstable_words.is_standing unhints.now) hints.now))) }
     {
         for hint in hints {
             if is_standing(unhints, hint) {
-                self.move_easy(alloc, archs, unstable, excuses, hint)?;
+                self.move_easy(alloc, excuses, hint)?;
             }
         }
         Ok(())

@@ -1,6 +1,6 @@
 //! Laws of the rules, which no call needs.
 
-ghost use Rattle.testing_rules.specs.Laws.{UnstableSourceIsFirst, UnstableRowIsFirst, GreatestDropIsFirst};
+ghost use Rattle.testing_rules.specs.Laws.{UnstableSourceIsFirst, UnstableSourceIsFound, UnstableRowIsFirst, GreatestDropIsFirst};
 ghost use Rattle.testing_rules.specs.SameMessages.{FactsStandForSets};
 ghost use Rattle.testing_rules.specs.TakenLaws.{UploadPutsOne, BuildPutsItsOwn, DropTakesOne, DropPutsOne, BugPutsOne, GreatestDropsDecide};
 ghost use Rattle.testing_rules.specs.Watched.{WatchedRowsStay};
@@ -8,6 +8,11 @@ ghost use Rattle.testing_rules.specs.Watched.{WatchedRowsStay};
 /// The unstable source of a name is its first upload.
 pub fn unstable_source_is_first()
     ensures { UnstableSourceIsFirst }
+{}
+
+/// Among unstable's sources the one of a name is the unstable source of that name.
+pub fn unstable_source_is_found()
+    ensures { UnstableSourceIsFound }
 {}
 
 /// The unstable row of an architecture and a name is the first build that stands.

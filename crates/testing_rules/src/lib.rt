@@ -3,6 +3,8 @@
 
 mod archs;
 mod built;
+mod by_source;
+mod change;
 mod days;
 mod entry;
 mod excuse;
@@ -11,15 +13,18 @@ mod facts;
 mod groups;
 mod item;
 pub mod laws;
+mod live;
 mod migration;
 mod moves;
 mod offender;
+mod pool;
 mod reasons;
 mod report;
 mod select;
 mod singles;
 mod suite;
 mod taken;
+mod trial;
 mod turns;
 mod update;
 

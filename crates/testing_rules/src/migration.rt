@@ -11,11 +11,12 @@ ghost use Rattle.testing_rules.specs.Watched.{AllWatchedWork};
 use crate::archs::Archs;
 use crate::built::built_rows;
 use crate::excuse::{Excuse, Excuses};
-use crate::facts::Facts;
+use crate::facts::{Facts, copy_uploads};
+use crate::live::LiveTesting;
 use crate::moves::Unstable;
 use crate::suite::Testing;
 use crate::turns::Turns;
-use crate::update::Update;
+use crate::update::{Decision, Update};
 use deb_version::NoMemory;
 use jiff::civil::Date;
 use std::alloc::Global;
@@ -27,27 +28,21 @@ fn all_turns(
     facts: &Facts,
     excuses: &[Excuse],
     testing: &Testing,
-) -> Result<Turns, NoMemory>
-    ensures { IfOk result (λ o. o ≡ update_by archs.now facts.now.sources (unstable_words.built_rows archs.now facts.now.rows) facts.now.hints facts.now.unhints excuses.now testing.now) }
+) -> Result<(Vec<Decision>, Testing), NoMemory>
+    ensures { IfOk result (λ o. record { decisions = o.0.items; suite = o.1 } ≡ update_by archs.now facts.now.sources (unstable_words.built_rows archs.now facts.now.rows) facts.now.hints facts.now.unhints excuses.now testing.now) }
 {
     let rows = built_rows(alloc, archs, facts.rows())?;
+    let sources = copy_uploads(alloc, facts.sources())?;
     let unstable = Unstable {
-        sources: facts.sources(),
+        sources: &sources,
         rows: &rows,
     };
-    let mut turns = Turns::new(alloc, testing.copy(alloc)?);
-    turns.removals(alloc, archs, facts.hints(), facts.unhints())?;
-    turns.groups(
-        alloc,
-        archs,
-        unstable,
-        excuses,
-        facts.hints(),
-        facts.unhints(),
-    )?;
-    turns.move_singles(alloc, archs, unstable, excuses)?;
-    turns.waits(alloc, archs, unstable, excuses)?;
-    Ok(turns)
+    let mut turns = Turns::new(alloc, LiveTesting::new(alloc, archs, unstable, testing)?);
+    turns.removals(alloc, facts.hints(), facts.unhints())?;
+    turns.groups(alloc, excuses, facts.hints(), facts.unhints())?;
+    turns.move_singles(alloc, excuses)?;
+    turns.waits(alloc, excuses)?;
+    Ok(turns.into_parts())
 }
 
 /// What a run decides by these excuses: removals, groups, single moves, and the candidates that
@@ -65,8 +60,7 @@ pub fn migrate(
     ensures watched { AllWatchedWork archs.now testing.old.rows → AllWatchedWork archs.now testing.new.rows }
     ensures err { OnErr result (testing.new ≡ testing.old) }
 {
-    let turns = all_turns(alloc, archs, facts, excuses.as_slice(), testing)?;
-    let (decisions, after) = turns.into_parts();
+    let (decisions, after) = all_turns(alloc, archs, facts, excuses.as_slice(), testing)?;
     *testing = after;
     Ok(Update::of(decisions))
 }

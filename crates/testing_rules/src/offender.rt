@@ -26,20 +26,20 @@ pub fn is_row_of(group: &[Text], row: &RowIn) -> bool
 }
 
 /// The row is the architecture's own, or one of `all`.
-fn is_row_on(arch: u32, row: &RowIn) -> bool
+pub fn is_row_on(arch: u32, row: &RowIn) -> bool
     ensures { result ≡ moves.is_row_on arch row.now }
 {
     row.arch == arch || row.arch == ALL
 }
 
 /// The row is watched on the architecture.
-fn is_watched_on(arch: u32, row: &RowIn) -> bool
+pub fn is_watched_on(arch: u32, row: &RowIn) -> bool
     ensures { result ≡ moves.is_watched_on arch row.now }
 {
     row.arch == arch || (row.arch == ALL && arch == 0)
 }
 
-fn is_same_key(row: &RowIn, other: &RowIn) -> bool
+pub fn is_same_key(row: &RowIn, other: &RowIn) -> bool
     ensures { result ≡ moves.is_same_key row.now other.now }
 {
     row.arch == other.arch && row.binary.name.as_str() == other.binary.name.as_str()
@@ -74,7 +74,7 @@ fn fails_on(arch: u32, group: &[Text], before: &[Judged], judged: Judged) -> boo
 }
 
 /// The first of two names in byte order, the old one where they are equal.
-fn first_of_two<'a>(first: Option<&'a str>, name: &'a str) -> &'a str
+pub fn first_of_two<'a>(first: Option<&'a str>, name: &'a str) -> &'a str
     ensures { result.now ≡ first_of_two text_cmp (option_copied first.entry) name.now }
 {
     match first {

@@ -87,23 +87,6 @@ pub fn unhint_order(unhint: &UnhintIn, other: &UnhintIn) -> Ordering
     unhint.number.cmp(&other.number).then(senders)
 }
 
-/// Builds by architecture and name.
-pub fn order_pairs(build: &BuildIn, other: &BuildIn) -> Ordering
-    ensures { result ≡ unstable.pair_order (unstable.pair_of build.now) (unstable.pair_of other.now) }
-{
-    let names = build.binary.name.as_str().cmp(other.binary.name.as_str());
-    let arch = other.binary.architecture.as_str();
-    build.binary.architecture.as_str().cmp(arch).then(names)
-}
-
-/// Drops by architecture and name.
-pub fn order_drop_pairs(drop: &DropIn, other: &DropIn) -> Ordering
-    ensures { result ≡ unstable.pair_order (unstable.drop_pair drop.now) (unstable.drop_pair other.now) }
-{
-    let names = drop.name.as_str().cmp(other.name.as_str());
-    drop.arch.as_str().cmp(other.arch.as_str()).then(names)
-}
-
 /// The row names the source of the upload.
 pub fn is_of_source(upload: &UploadIn, row: &RowIn) -> bool
     ensures { result ≡ unstable.is_of_source upload.now row.now }

@@ -1,61 +1,22 @@
 //! Single moves: candidates that move alone, one after the other, and those that wait.
 
-ghost use Rattle.std.specs.Prelude.{◌≡◌, ◌∷◌, ◌++◌, ◌+◌, ◌<◌, [], IfOk, OnOk, true, if◌then◌else◌, take, drop, vec_len};
+ghost use Rattle.std.specs.Prelude.{◌≡◌, ◌++◌, ◌+◌, ◌<◌, IfOk, OnOk, true, false, if◌then◌else◌, take, drop, vec_len};
 ghost use Rattle.testing_rules.specs.LentItems.{lent_excuses};
+ghost use Rattle.testing_rules.specs.Runs.{go_on};
 ghost use Rattle.testing_rules.specs.Updates as rules;
-ghost use Rattle.testing_rules.specs.Updates.{then_do};
 
-use crate::archs::Archs;
 use crate::excuse::Excuse;
 use crate::groups::{has_no_reason, is_in_testing};
-use crate::moves::{Unstable, move_group};
-use crate::offender::offender_of;
-use crate::suite::Testing;
+use crate::live::LiveTesting;
 use crate::turns::Turns;
 use crate::update::{Decision, Offender};
-use deb_control::Text;
 use deb_version::NoMemory;
 use std::alloc::Global;
-
-/// The group of one source.
-fn alone(alloc: Global, excuse: &Excuse) -> Result<Vec<Text>, NoMemory>
-    ensures { IfOk result (λ group. group.items ≡ excuse.now.source ∷ []) }
-{
-    let mut group = Vec::new(alloc);
-    group.push(excuse.source.copy(alloc)?)?;
-    Ok(group)
-}
-
-/// Testing after the candidate has moved alone.
-pub fn moved_alone(
-    alloc: Global,
-    unstable: Unstable,
-    testing: &Testing,
-    excuse: &Excuse,
-) -> Result<Testing, NoMemory>
-    ensures { IfOk result (λ t. t ≡ rules.moved_alone unstable.entry.sources.now unstable.entry.rows.now testing.now excuse.now) }
-{
-    let group = alone(alloc, excuse)?;
-    move_group(alloc, unstable, &group, testing)
-}
-
-/// What the move of the candidate, which leaves the new testing, would break.
-pub fn offender_alone(
-    alloc: Global,
-    archs: &Archs,
-    testing: &Testing,
-    moved: &Testing,
-    excuse: &Excuse,
-) -> Result<Option<Offender>, NoMemory>
-    ensures { IfOk result (λ o. o ≡ rules.broken_alone archs.now testing.now moved.now excuse.now) }
-{
-    let group = alone(alloc, excuse)?;
-    offender_of(alloc, archs, testing.rows(), moved.rows(), &group)
-}
+use std::slice;
 
 /// The excuse makes its source a candidate, which hasn't moved.
-fn is_remaining(testing: &Testing, excuse: &Excuse) -> bool
-    ensures { result ≡ rules.is_remaining testing.now excuse.now }
+fn is_remaining(testing: &LiveTesting, excuse: &Excuse) -> bool
+    ensures { result ≡ rules.is_remaining testing.now.suite excuse.now }
 {
     has_no_reason(excuse) && !is_in_testing(testing, excuse.source.as_str(), &excuse.unstable)
 }
@@ -63,10 +24,10 @@ fn is_remaining(testing: &Testing, excuse: &Excuse) -> bool
 /// The candidates that haven't moved, by name.
 fn remaining<'a>(
     alloc: Global,
-    testing: &Testing,
+    testing: &LiveTesting,
     excuses: &'a [Excuse],
 ) -> Result<Vec<&'a Excuse>, NoMemory>
-    ensures { IfOk result (λ es. lent_excuses es.items ≡ rules.remaining excuses.now testing.now) }
+    ensures { IfOk result (λ es. lent_excuses es.items ≡ rules.remaining excuses.now testing.now.suite) }
 {
     let mut candidates = Vec::new(alloc);
     for excuse in excuses {
@@ -109,24 +70,30 @@ fn waiting(alloc: Global, excuse: &Excuse, offender: Offender) -> Result<Decisio
     })
 }
 
-impl Turns {
+impl<'a> Turns<'a> {
+    /// Moves the candidate, where that breaks nothing, and says whether it moved.
+    fn move_alone(&mut self, alloc: Global, excuse: &Excuse) -> Result<bool, NoMemory>
+        ensures moved { result ≡ Ok true → rules.is_allowed_alone self.old.basis.archs self.old.basis.sources self.old.basis.rows self.old.outcome.suite excuse.now ≡ true }
+        ensures after { result ≡ Ok true → self.new ≡ go_on self.old (λ b t. rules.decide (rules.accepted excuse.now) (rules.moved_alone b.sources b.rows t excuse.now)) }
+        ensures stays { result ≡ Ok false → rules.is_allowed_alone self.old.basis.archs self.old.basis.sources self.old.basis.rows self.old.outcome.suite excuse.now ≡ false }
+        ensures same { result ≡ Ok false → self.new ≡ self.old }
+    {
+        let group = slice::from_ref(&excuse.source);
+        if self.broken_by_move(alloc, group)?.is_some() {
+            return Ok(false);
+        }
+        self.accept(alloc, accepted(alloc, excuse)?, group)?;
+        Ok(true)
+    }
+
     /// Moves the first candidate of the circle that may move alone, and says whether there was one.
-    fn move_next(
-        &mut self,
-        alloc: Global,
-        archs: &Archs,
-        unstable: Unstable,
-        circle: &mut Vec<&Excuse>,
-    ) -> Result<bool, NoMemory>
+    fn move_next(&mut self, alloc: Global, circle: &mut Vec<&Excuse>) -> Result<bool, NoMemory>
         ensures fewer { result ≡ Ok true → vec_len circle.new < vec_len circle.old }
-        ensures moves { IfOk result (λ moved. then_do self.old (rules.move_circle archs.now unstable.entry.sources.now unstable.entry.rows.now (lent_excuses circle.old.items))
-            ≡ (if moved then then_do self.new (rules.move_circle archs.now unstable.entry.sources.now unstable.entry.rows.now (lent_excuses circle.new.items)) else self.new)) }
+        ensures moves { IfOk result (λ moved. go_on self.old (λ b. rules.move_circle b.archs b.sources b.rows (lent_excuses circle.old.items))
+            ≡ (if moved then go_on self.new (λ b. rules.move_circle b.archs b.sources b.rows (lent_excuses circle.new.items)) else self.new)) }
     {
         for place in 0..circle.len() {
-            let excuse = circle[place];
-            let moved = moved_alone(alloc, unstable, self.testing(), excuse)?;
-            if offender_alone(alloc, archs, self.testing(), &moved, excuse)?.is_none() {
-                self.accept(accepted(alloc, excuse)?, moved)?;
+            if self.move_alone(alloc, circle[place])? {
                 go_on_behind(circle, place);
                 return Ok(true);
             }
@@ -135,50 +102,31 @@ impl Turns {
     }
 
     /// The single moves, until no candidate may move alone.
-    pub fn move_singles(
-        &mut self,
-        alloc: Global,
-        archs: &Archs,
-        unstable: Unstable,
-        excuses: &[Excuse],
-    ) -> Result<(), NoMemory>
-        ensures { OnOk result (self.new ≡ then_do self.old (rules.move_singles archs.now unstable.entry.sources.now unstable.entry.rows.now excuses.now)) }
+    pub fn move_singles(&mut self, alloc: Global, excuses: &[Excuse]) -> Result<(), NoMemory>
+        ensures { OnOk result (self.new ≡ go_on self.old (λ b. rules.move_singles b.archs b.sources b.rows excuses.now)) }
     {
         let mut circle = remaining(alloc, self.testing(), excuses)?;
-        'moves: while self.move_next(alloc, archs, unstable, &mut circle)? {}
+        'moves: while self.move_next(alloc, &mut circle)? {}
         Ok(())
     }
 
     /// A candidate waits, where its move would break something.
-    fn wait(
-        &mut self,
-        alloc: Global,
-        archs: &Archs,
-        unstable: Unstable,
-        excuse: &Excuse,
-    ) -> Result<(), NoMemory>
-        ensures { OnOk result (self.new ≡ then_do self.old (rules.wait archs.now unstable.entry.sources.now unstable.entry.rows.now excuse.now)) }
+    fn wait(&mut self, alloc: Global, excuse: &Excuse) -> Result<(), NoMemory>
+        ensures { OnOk result (self.new ≡ go_on self.old (λ b. rules.wait b.archs b.sources b.rows excuse.now)) }
     {
-        let moved = moved_alone(alloc, unstable, self.testing(), excuse)?;
-        match offender_alone(alloc, archs, self.testing(), &moved, excuse)? {
+        match self.broken_by_move(alloc, slice::from_ref(&excuse.source))? {
             Some(offender) => self.refuse(waiting(alloc, excuse, offender)?),
             None => Ok(()),
         }
     }
 
     /// The candidates that remain wait.
-    pub fn waits(
-        &mut self,
-        alloc: Global,
-        archs: &Archs,
-        unstable: Unstable,
-        excuses: &[Excuse],
-    ) -> Result<(), NoMemory>
-        ensures { OnOk result (self.new ≡ then_do self.old (rules.wait_all archs.now unstable.entry.sources.now unstable.entry.rows.now excuses.now)) }
+    pub fn waits(&mut self, alloc: Global, excuses: &[Excuse]) -> Result<(), NoMemory>
+        ensures { OnOk result (self.new ≡ go_on self.old (λ b. rules.wait_all b.archs b.sources b.rows excuses.now)) }
     {
         let candidates = remaining(alloc, self.testing(), excuses)?;
         for excuse in &candidates {
-            self.wait(alloc, archs, unstable, excuse)?;
+            self.wait(alloc, excuse)?;
         }
         Ok(())
     }

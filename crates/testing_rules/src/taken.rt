@@ -1,17 +1,22 @@
 //! One more message, in the lists of facts.
 
-ghost use Rattle.std.specs.Prelude.{◌≡◌, ◌<◌, ◌≤◌, ◌+◌, OnOk, OnErr, vec_len, vec_capacity};
-ghost use Rattle.std.specs.List.{list_all};
+ghost use Rattle.std.specs.Prelude.{◌≡◌, ◌<◌, ◌≤◌, ◌+◌, OnOk, OnErr, IfOk, length, vec_len, vec_capacity};
+ghost use Rattle.std.specs.Ordering.{nat_cmp};
+ghost use Rattle.std.specs.List.Sorted.{IsBinarySearchResult, IsSearchInRange};
+ghost use Rattle.testing_rules.specs.Boxed.{unboxed};
+ghost use Rattle.testing_rules.specs.FactOrder.{AreBySource, AreByPair, AreDropsByPair, AreByNumber};
+ghost use Rattle.testing_rules.specs.Unstable.{pair_order, pair_of, drop_pair};
 ghost use Rattle.testing_rules.specs.Slots.{IsSlotFor};
 ghost use Rattle.testing_rules.specs.Taken as taken;
 ghost use Rattle.testing_rules.specs.Words.{text_cmp};
 
 use crate::facts::{BugIn, BuildIn, DelaysIn, DropIn, HintIn, UnhintIn, UploadIn};
 use crate::select::{
-    bug_order, build_order, delays_order, drop_order, hint_order, is_above, order_drop_pairs,
-    order_pairs, unhint_order, upload_order,
+    bug_order, build_order, delays_order, drop_order, hint_order, is_above, unhint_order,
+    upload_order,
 };
 use deb_version::NoMemory;
+use std::alloc::Global;
 use std::cmp::Ordering;
 
 /// Where a list takes an element: over the one at a place, before it, or nowhere.
@@ -22,28 +27,39 @@ pub enum Slot {
     Nowhere,
 }
 
-/// Where the list takes the upload.
-fn slot_of_upload(sources: &[UploadIn], upload: &UploadIn) -> Slot
-    ensures { IsSlotFor sources.now upload.now (taken.with_upload upload.now sources.now) result }
+/// Where the sources have the name, or else where it belongs.
+fn place_of_name(sources: &[Box<UploadIn>], name: &str) -> Result<usize, usize>
+    ensures bound { IsSearchInRange result (length (unboxed sources.now)) }
+    ensures found { IsBinarySearchResult (λ u. text_cmp u.source name.now) (unboxed sources.now) result }
 {
-    for (i, other) in sources.iter().enumerate() {
-        match upload.source.as_str().cmp(other.source.as_str()) {
-            Ordering::Less => return Slot::Before(i),
-            Ordering::Equal => {
-                if upload_order(other, upload).is_lt() {
-                    return Slot::Nowhere;
-                }
-                return Slot::Over(i);
+    sources.binary_search_by(
+        |upload: &Box<UploadIn>| -> Ordering
+            ensures { result ≡ text_cmp upload.now.value.source name.entry.now }
+        { upload.source.as_str().cmp(name) },
+    )
+}
+
+/// Where the list takes the upload.
+fn slot_of_upload(sources: &[Box<UploadIn>], upload: &UploadIn) -> Slot
+    requires { AreBySource (unboxed sources.now) }
+    ensures { IsSlotFor (unboxed sources.now) upload.now (taken.with_upload upload.now (unboxed sources.now)) result }
+{
+    match place_of_name(sources, upload.source.as_str()) {
+        Ok(i) => {
+            let other = &sources[i];
+            if upload_order(other, upload).is_lt() {
+                return Slot::Nowhere;
             }
-            Ordering::Greater => {}
+            Slot::Over(i)
         }
+        Err(i) => Slot::Before(i),
     }
-    Slot::Before(sources.len())
 }
 
 /// An upload joins unstable's sources, where its own has none before it.
-pub fn put_upload(sources: &mut Vec<UploadIn>, upload: UploadIn) -> Result<(), NoMemory>
-    ensures ok { OnOk result (sources.new.items ≡ taken.with_upload upload sources.old.items) }
+pub fn put_upload(sources: &mut Vec<Box<UploadIn>>, upload: Box<UploadIn>) -> Result<(), NoMemory>
+    requires { AreBySource (unboxed sources.old.items) }
+    ensures ok { OnOk result (unboxed sources.new.items ≡ taken.with_upload upload.value (unboxed sources.old.items)) }
     ensures err { OnErr result (sources.new.items ≡ sources.old.items) }
 {
     match slot_of_upload(sources, &upload) {
@@ -54,27 +70,46 @@ pub fn put_upload(sources: &mut Vec<UploadIn>, upload: UploadIn) -> Result<(), N
     Ok(())
 }
 
+/// The order of a drop's architecture and name beside these.
+fn order_drop(drop: &DropIn, arch: &str, name: &str) -> Ordering
+    ensures { result ≡ pair_order (drop_pair drop.now) (arch.now, name.now) }
+{
+    let names = drop.name.as_str().cmp(name);
+    drop.arch.as_str().cmp(arch).then(names)
+}
+
+/// Where the drops have the architecture and the name, or else where these belong.
+fn place_of_drop(drops: &[DropIn], arch: &str, name: &str) -> Result<usize, usize>
+    ensures bound { IsSearchInRange result (length drops.now) }
+    ensures found { IsBinarySearchResult (λ d. pair_order (drop_pair d) (arch.now, name.now)) drops.now result }
+{
+    drops.binary_search_by(
+        |drop: &DropIn| -> Ordering
+            ensures { result ≡ pair_order (drop_pair drop.now) (arch.entry.now, name.entry.now) }
+        { order_drop(drop, arch, name) },
+    )
+}
+
 /// Where the list takes the drop.
 fn slot_of_drop(drops: &[DropIn], drop: &DropIn) -> Slot
+    requires { AreDropsByPair drops.now }
     ensures { IsSlotFor drops.now drop.now (taken.with_greatest drop.now drops.now) result }
 {
-    for (i, other) in drops.iter().enumerate() {
-        match order_drop_pairs(drop, other) {
-            Ordering::Less => return Slot::Before(i),
-            Ordering::Equal => {
-                if drop_order(other, drop).is_lt() {
-                    return Slot::Nowhere;
-                }
-                return Slot::Over(i);
+    match place_of_drop(drops, drop.arch.as_str(), drop.name.as_str()) {
+        Ok(i) => {
+            let other = &drops[i];
+            if drop_order(other, drop).is_lt() {
+                return Slot::Nowhere;
             }
-            Ordering::Greater => {}
+            Slot::Over(i)
         }
+        Err(i) => Slot::Before(i),
     }
-    Slot::Before(drops.len())
 }
 
 /// A drop joins the greatest ones, where its architecture and name have none before it.
 pub fn put_drop(drops: &mut Vec<DropIn>, drop: DropIn) -> Result<(), NoMemory>
+    requires { AreDropsByPair drops.old.items }
     ensures ok { OnOk result (drops.new.items ≡ taken.with_greatest drop drops.old.items) }
     ensures err { OnErr result (drops.new.items ≡ drops.old.items) }
 {
@@ -86,27 +121,38 @@ pub fn put_drop(drops: &mut Vec<DropIn>, drop: DropIn) -> Result<(), NoMemory>
     Ok(())
 }
 
+/// Where the bugs have the number, or else where it belongs.
+fn place_of_bug(bugs: &[BugIn], bug: u32) -> Result<usize, usize>
+    ensures bound { IsSearchInRange result (length bugs.now) }
+    ensures found { IsBinarySearchResult (λ b. nat_cmp b.bug bug) bugs.now result }
+{
+    bugs.binary_search_by(
+        |other: &BugIn| -> Ordering
+            ensures { result ≡ nat_cmp other.now.bug bug }
+        { other.bug.cmp(&bug) },
+    )
+}
+
 /// Where the list takes the bug.
 fn slot_of_bug(bugs: &[BugIn], bug: &BugIn) -> Slot
+    requires { AreByNumber bugs.now }
     ensures { IsSlotFor bugs.now bug.now (taken.with_bug bug.now bugs.now) result }
 {
-    for (i, other) in bugs.iter().enumerate() {
-        match bug.bug.cmp(&other.bug) {
-            Ordering::Less => return Slot::Before(i),
-            Ordering::Equal => {
-                if bug_order(other, bug).is_lt() {
-                    return Slot::Nowhere;
-                }
-                return Slot::Over(i);
+    match place_of_bug(bugs, bug.bug) {
+        Ok(i) => {
+            let other = &bugs[i];
+            if bug_order(other, bug).is_lt() {
+                return Slot::Nowhere;
             }
-            Ordering::Greater => {}
+            Slot::Over(i)
         }
+        Err(i) => Slot::Before(i),
     }
-    Slot::Before(bugs.len())
 }
 
 /// A message on a bug joins the states, where the bug has none after it.
 pub fn put_bug(bugs: &mut Vec<BugIn>, bug: BugIn) -> Result<(), NoMemory>
+    requires { AreByNumber bugs.old.items }
     ensures ok { OnOk result (bugs.new.items ≡ taken.with_bug bug bugs.old.items) }
     ensures err { OnErr result (bugs.new.items ≡ bugs.old.items) }
 {
@@ -118,29 +164,49 @@ pub fn put_bug(bugs: &mut Vec<BugIn>, bug: BugIn) -> Result<(), NoMemory>
     Ok(())
 }
 
-/// Where the list takes the build.
-fn slot_of_build(rows: &[BuildIn], build: &BuildIn) -> Slot
-    ensures { IsSlotFor rows.now build.now (taken.with_build build.now rows.now) result }
+/// The order of a build's architecture and name beside these.
+fn order_pair(build: &BuildIn, arch: &str, name: &str) -> Ordering
+    ensures { result ≡ pair_order (pair_of build.now) (arch.now, name.now) }
 {
-    for (i, other) in rows.iter().enumerate() {
-        match order_pairs(build, other) {
-            Ordering::Less => return Slot::Before(i),
-            Ordering::Equal => {
-                if build_order(other, build).is_lt() {
-                    return Slot::Nowhere;
-                }
-                return Slot::Over(i);
+    let names = build.binary.name.as_str().cmp(name);
+    build.binary.architecture.as_str().cmp(arch).then(names)
+}
+
+/// Where the rows have the architecture and the name, or else where these belong.
+fn place_of_pair(rows: &[Box<BuildIn>], arch: &str, name: &str) -> Result<usize, usize>
+    ensures bound { IsSearchInRange result (length (unboxed rows.now)) }
+    ensures found { IsBinarySearchResult (λ b. pair_order (pair_of b) (arch.now, name.now)) (unboxed rows.now) result }
+{
+    rows.binary_search_by(
+        |build: &Box<BuildIn>| -> Ordering
+            ensures { result ≡ pair_order (pair_of build.now.value) (arch.entry.now, name.entry.now) }
+        { order_pair(build, arch, name) },
+    )
+}
+
+/// Where the list takes the build.
+fn slot_of_build(rows: &[Box<BuildIn>], build: &BuildIn) -> Slot
+    requires { AreByPair (unboxed rows.now) }
+    ensures { IsSlotFor (unboxed rows.now) build.now (taken.with_build build.now (unboxed rows.now)) result }
+{
+    let binary = &build.binary;
+    match place_of_pair(rows, binary.architecture.as_str(), binary.name.as_str()) {
+        Ok(i) => {
+            let other = &rows[i];
+            if build_order(other, build).is_lt() {
+                return Slot::Nowhere;
             }
-            Ordering::Greater => {}
+            Slot::Over(i)
         }
+        Err(i) => Slot::Before(i),
     }
-    Slot::Before(rows.len())
 }
 
 /// A build joins the rows, where its own has none before it. There is room for it.
-fn put_build(rows: &mut Vec<BuildIn>, build: BuildIn)
-    requires { vec_len rows.old < vec_capacity rows.old }
-    ensures items { rows.new.items ≡ taken.with_build build rows.old.items }
+fn put_build(rows: &mut Vec<Box<BuildIn>>, build: Box<BuildIn>)
+    requires order { AreByPair (unboxed rows.old.items) }
+    requires room { vec_len rows.old < vec_capacity rows.old }
+    ensures items { unboxed rows.new.items ≡ taken.with_build build.value (unboxed rows.old.items) }
     ensures len { vec_len rows.new ≤ vec_len rows.old + 1 }
     ensures capacity { vec_capacity rows.old ≤ vec_capacity rows.new }
 {
@@ -164,15 +230,33 @@ fn outlives(drop: &DropIn, build: &BuildIn) -> bool
 
 /// The build stands beside all of the drops.
 fn stands_beside(drops: &[DropIn], build: &BuildIn) -> bool
+    requires { AreDropsByPair drops.now }
     ensures { result ≡ taken.stands_beside drops.now build.now }
 {
-    drops.iter().all(|drop| outlives(drop, build))
+    let binary = &build.binary;
+    match place_of_drop(drops, binary.architecture.as_str(), binary.name.as_str()) {
+        Ok(i) => outlives(&drops[i], build),
+        Err(_) => true,
+    }
+}
+
+/// The builds in boxes.
+pub fn boxed_builds(alloc: Global, builds: Vec<BuildIn>) -> Result<Vec<Box<BuildIn>>, NoMemory>
+    ensures { IfOk result (λ boxes. unboxed boxes.items ≡ builds.items) }
+{
+    let mut boxes = Vec::new(alloc);
+    for build in builds {
+        boxes.push(Box::new(alloc, build)?)?;
+    }
+    Ok(boxes)
 }
 
 /// The builds of one message join the rows, each where it stands. There is room for them.
-pub fn put_builds(rows: &mut Vec<BuildIn>, drops: &[DropIn], builds: Vec<BuildIn>)
-    requires { vec_len rows.old + vec_len builds ≤ vec_capacity rows.old }
-    ensures { rows.new.items ≡ taken.with_builds (taken.stands_beside drops.now) builds.items rows.old.items }
+pub fn put_builds(rows: &mut Vec<Box<BuildIn>>, drops: &[DropIn], builds: Vec<Box<BuildIn>>)
+    requires order { AreByPair (unboxed rows.old.items) }
+    requires drops { AreDropsByPair drops.now }
+    requires room { vec_len rows.old + vec_len builds ≤ vec_capacity rows.old }
+    ensures { unboxed rows.new.items ≡ taken.with_builds (taken.stands_beside drops.now) (unboxed builds.items) (unboxed rows.old.items) }
 {
     let mut left = builds;
     'builds: while let Some(build) = left.pop() {
@@ -182,11 +266,16 @@ pub fn put_builds(rows: &mut Vec<BuildIn>, drops: &[DropIn], builds: Vec<BuildIn
     }
 }
 
-/// The rows lose those that the drop takes.
-pub fn take_rows(rows: &mut Vec<BuildIn>, drop: &DropIn)
-    ensures { rows.new.items ≡ taken.with_drop drop.now rows.old.items }
+/// The rows lose the one that the drop takes, if there is one.
+pub fn take_rows(rows: &mut Vec<Box<BuildIn>>, drop: &DropIn)
+    requires { AreByPair (unboxed rows.old.items) }
+    ensures { unboxed rows.new.items ≡ taken.with_drop drop.now (unboxed rows.old.items) }
 {
-    rows.retain(|build| outlives(drop, build));
+    if let Ok(i) = place_of_pair(rows, drop.arch.as_str(), drop.name.as_str()) {
+        if !outlives(drop, &rows[i]) {
+            rows.remove(i);
+        }
+    }
 }
 
 /// Where the list takes the hint.

@@ -1,20 +1,18 @@
 //! Decisions at their turns, each against testing as it then is.
 
-ghost use Rattle.std.specs.Prelude.{◌≡◌, ◌==◌, [], OnOk, option_copied, map, filter};
+ghost use Rattle.std.specs.Prelude.{◌≡◌, ◌==◌, [], OnOk, IfOk, map, filter};
 ghost use Rattle.std.specs.List.{flat_map, list_any};
+ghost use Rattle.testing_rules.specs.Runs.{go_on, moment_of, decide_move, broken_by_move};
 ghost use Rattle.testing_rules.specs.Unstable as unstable;
 ghost use Rattle.testing_rules.specs.Updates as rules;
-ghost use Rattle.testing_rules.specs.Updates.{then_do, decide, in_turn};
-ghost use Rattle.testing_rules.specs.Excuses as excuses;
+ghost use Rattle.testing_rules.specs.Updates.{decide, in_turn};
 
-use crate::archs::Archs;
 use crate::facts::{HintIn, UnhintIn};
 use crate::item::{Hint, HintItem};
-use crate::moves::remove_source;
-use crate::offender::offender_of;
+use crate::live::LiveTesting;
 use crate::select::is_same_version;
-use crate::suite::{SourceIn, Testing};
-use crate::update::Decision;
+use crate::suite::Testing;
+use crate::update::{Decision, Offender};
 use deb_control::Text;
 use deb_version::{NoMemory, Version};
 use std::alloc::Global;
@@ -22,24 +20,20 @@ use std::marker::Model;
 
 /// The decisions so far, and the testing that they leave.
 #[derive(Drop)]
-pub struct Turns {
+pub struct Turns<'a> {
     decisions: Vec<Decision>,
-    testing: Testing,
+    testing: LiveTesting<'a>,
 }
 
-impl Model for Turns {
-    ghost use Rattle.testing_rules.specs.Updates.{Outcome};
+impl<'a> Model for Turns<'a> {
+    ghost use Rattle.testing_rules.specs.Runs.{Run};
 
-    ghost Value = { Outcome };
+    ghost Value = { Run };
 
-    ghost view = { λ a. record { decisions = a.decisions.items; suite = a.testing } };
-}
-
-/// The source's entry in testing.
-pub fn entry_of<'a>(sources: &'a [SourceIn], name: &str) -> Option<&'a SourceIn>
-    ensures { option_copied result ≡ excuses.entry_of sources.now name.now }
-{
-    sources.iter().find(|source| source.name.as_str() == name)
+    ghost view = { λ a. record {
+      basis = a.testing.basis;
+      outcome = record { decisions = a.decisions.items; suite = a.testing.suite };
+    } };
 }
 
 /// Some unhint names the number.
@@ -56,10 +50,10 @@ pub fn is_standing(unhints: &[UnhintIn], hint: &HintIn) -> bool
     !is_cancelled(unhints, hint.number)
 }
 
-impl Turns {
+impl<'a> Turns<'a> {
     /// No decision yet.
-    pub fn new(alloc: Global, testing: Testing) -> Turns
-        ensures { result ≡ record { decisions = []; suite = testing } }
+    pub fn new(alloc: Global, testing: LiveTesting<'a>) -> Turns<'a>
+        ensures { result ≡ record { basis = testing.entry.basis; outcome = record { decisions = []; suite = testing.entry.suite } } }
     {
         Turns {
             decisions: Vec::new(alloc),
@@ -68,32 +62,49 @@ impl Turns {
     }
 
     /// The testing so far.
-    pub fn testing(&self) -> &Testing
-        ensures { result.now ≡ self.now.suite }
+    pub fn testing(&self) -> &LiveTesting<'a>
+        ensures { result.now ≡ moment_of self.now }
     {
         &self.testing
     }
 
     /// The decisions, and the testing that they leave.
     pub fn into_parts(self) -> (Vec<Decision>, Testing)
-        ensures decisions { result.0.items ≡ self.decisions }
-        ensures testing { result.1 ≡ self.suite }
+        ensures decisions { result.0.items ≡ self.entry.outcome.decisions }
+        ensures testing { result.1 ≡ self.entry.outcome.suite }
     {
-        (self.decisions, self.testing)
+        (self.decisions, self.testing.into_testing())
+    }
+
+    /// What the move of a group would break.
+    pub fn broken_by_move(
+        &mut self,
+        alloc: Global,
+        group: &[Text],
+    ) -> Result<Option<Offender>, NoMemory>
+        ensures same { self.new ≡ self.old }
+        ensures offender { IfOk result (λ o. o ≡ broken_by_move group.now (moment_of self.old)) }
+    {
+        self.testing.broken_by_move(alloc, group)
     }
 
     /// One decision that leaves testing as it is.
     pub fn refuse(&mut self, decision: Decision) -> Result<(), NoMemory>
-        ensures { OnOk result (self.new ≡ then_do self.old (decide decision)) }
+        ensures { OnOk result (self.new ≡ go_on self.old (λ _. decide decision)) }
     {
         Ok(self.decisions.push(decision)?)
     }
 
-    /// One decision, after which testing is as given.
-    pub fn accept(&mut self, decision: Decision, testing: Testing) -> Result<(), NoMemory>
-        ensures { OnOk result (self.new ≡ then_do self.old (λ _. decide decision testing)) }
+    /// One decision by which a group moves.
+    pub fn accept(
+        &mut self,
+        alloc: Global,
+        decision: Decision,
+        group: &[Text],
+    ) -> Result<(), NoMemory>
+        ensures { OnOk result (self.new ≡ go_on self.old (decide_move decision group.now)) }
     {
-        self.testing = testing;
+        self.testing.move_group(alloc, group)?;
         Ok(self.decisions.push(decision)?)
     }
 
@@ -101,27 +112,27 @@ impl Turns {
     fn remove_version(
         &mut self,
         alloc: Global,
-        archs: &Archs,
         hint: u32,
         name: &Text,
         version: Version,
     ) -> Result<(), NoMemory>
-        ensures { OnOk result (self.new ≡ then_do self.old (rules.remove_version archs.now hint name.now version)) }
+        ensures { OnOk result (self.new ≡ go_on self.old (λ b. rules.remove_version b.archs hint name.now version)) }
     {
-        let testing = remove_source(alloc, name.as_str(), &self.testing)?;
-        let name = name.copy(alloc)?;
-        match offender_of(alloc, archs, self.testing.rows(), testing.rows(), &[])? {
-            None => self.accept(
-                Decision::RemoveDone {
+        let offender = self.testing.broken_by_removal(alloc, name.as_str())?;
+        let copy = name.copy(alloc)?;
+        match offender {
+            None => {
+                self.testing.remove(alloc, name.as_str())?;
+                let decision = Decision::RemoveDone {
                     hint,
-                    name,
+                    name: copy,
                     version,
-                },
-                testing,
-            ),
+                };
+                Ok(self.decisions.push(decision)?)
+            }
             Some(offender) => self.refuse(Decision::RemoveRefused {
                 hint,
-                name,
+                name: copy,
                 version,
                 offender,
             }),
@@ -129,47 +140,37 @@ impl Turns {
     }
 
     /// A removal, where testing has the source at its version.
-    fn remove_item(
-        &mut self,
-        alloc: Global,
-        archs: &Archs,
-        hint: u32,
-        item: &HintItem,
-    ) -> Result<(), NoMemory>
-        ensures { OnOk result (self.new ≡ then_do self.old (rules.remove_item archs.now (hint, item.now))) }
+    fn remove_item(&mut self, alloc: Global, hint: u32, item: &HintItem) -> Result<(), NoMemory>
+        ensures { OnOk result (self.new ≡ go_on self.old (λ b. rules.remove_item b.archs (hint, item.now))) }
     {
-        let version = match entry_of(self.testing.sources(), item.name.as_str()) {
-            Some(entry) if is_same_version(&entry.version, &item.version) => {
-                entry.version.copy(alloc)?
-            }
+        let version = match self.testing.version_of(item.name.as_str()) {
+            Some(version) if is_same_version(version, &item.version) => version.copy(alloc)?,
             _ => return Ok(()),
         };
-        self.remove_version(alloc, archs, hint, &item.name, version)
+        self.remove_version(alloc, hint, &item.name, version)
     }
 
     /// The removals of one hint.
-    fn remove_items(
-        &mut self,
-        alloc: Global,
-        archs: &Archs,
-        hint: u32,
-        items: &[HintItem],
-    ) -> Result<(), NoMemory>
-        ensures { OnOk result (self.new ≡ then_do self.old (in_turn (rules.remove_item archs.now) (map (λ i. (hint, i)) items.now))) }
+    fn remove_items(&mut self, alloc: Global, hint: u32, items: &[HintItem]) -> Result<(), NoMemory>
+        ensures { OnOk result (self.new ≡ go_on self.old (λ b. in_turn (rules.remove_item b.archs) (map (λ i. (hint, i)) items.now))) }
     {
         for item in items {
-            self.remove_item(alloc, archs, hint, item)?;
+            self.remove_item(alloc, hint, item)?;
         }
         Ok(())
     }
 
     /// The removals that a hint asks for, if it is one of those.
-    fn remove_hint(&mut self, alloc: Global, archs: &Archs, hint: &HintIn) -> Result<(), NoMemory>
-        ensures { OnOk result (self.new ≡ then_do self.old (in_turn (rules.remove_item archs.now) (rules.removals_of hint.now))) }
+    fn remove_hint(&mut self, alloc: Global, hint: &HintIn) -> Result<(), NoMemory>
+        ensures { OnOk result (self.new ≡ go_on self.old (λ b. in_turn (rules.remove_item b.archs) (rules.removals_of hint.now))) }
     {
         match &hint.hint {
-            Hint::Remove(items) => self.remove_items(alloc, archs, hint.number, items.as_slice()),
-            _ => Ok(()),
+            Hint::Remove(items) => self.remove_items(alloc, hint.number, items.as_slice()),
+            Hint::Block(_)
+            | Hint::Unblock(_)
+            | Hint::Easy(_)
+            | Hint::AgeDays(_, _)
+            | Hint::BlockAll => Ok(()),
         }
     }
 
@@ -177,15 +178,14 @@ impl Turns {
     pub fn removals(
         &mut self,
         alloc: Global,
-        archs: &Archs,
         hints: &[HintIn],
         unhints: &[UnhintIn],
     ) -> Result<(), NoMemory>
-        ensures { OnOk result (self.new ≡ then_do self.old (in_turn (rules.remove_item archs.now) (flat_map rules.removals_of (filter (unstable.is_standing unhints.now) hints.now)))) }
+        ensures { OnOk result (self.new ≡ go_on self.old (λ b. in_turn (rules.remove_item b.archs) (flat_map rules.removals_of (filter (unstable.is_standing unhints.now) hints.now)))) }
     {
         for hint in hints {
             if is_standing(unhints, hint) {
-                self.remove_hint(alloc, archs, hint)?;
+                self.remove_hint(alloc, hint)?;
             }
         }
         Ok(())

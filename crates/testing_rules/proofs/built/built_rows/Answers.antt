@@ -1,12 +1,13 @@
 use Rattle.std.proofs.Common.{sym, ap, ◌∙◌, ◌++◌, arith, ◌<◌, length, take}
 use Rattle.std.specs.List.{enumerate_from, flat_map}
+use Rattle.testing_rules.specs.Boxed.{unboxed}
 use Rattle.testing_rules.specs.Unstable.{built_on}
 use Rattle.testing_rules.proofs.BuiltRows.{built-more, built-last}
 use Rattle.testing_rules.proofs.built.built_rows.Goals as goal
 
 pub loop-place-preserved : goal.loop-place-preserved
 loop-place-preserved c =
-    let builds = c.args.builds.now in
+    let builds = unboxed c.args.builds.now in
     let archs = c.args.archs.now in
     let k = c.loop-place.place in
     let below : k < length archs = omega arith in
@@ -18,7 +19,7 @@ loop-place-preserved c =
 
 pub returns : goal.returns
 returns c =
-    let builds = c.args.builds.now in
+    let builds = unboxed c.args.builds.now in
     let archs = c.args.archs.now in
     let k = c.loop-place.place in
     c.in_ok-push_built_on-2.ensures

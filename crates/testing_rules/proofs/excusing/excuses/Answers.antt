@@ -1,19 +1,21 @@
-use Rattle.std.proofs.Common.{ap, ◌∙◌, filter}
-use Rattle.testing_rules.specs.Unstable.{built_rows, is_standing}
-use Rattle.testing_rules.specs.Excuses.{delays_in_force}
-use Rattle.testing_rules.proofs.Grounds.{excuses-by_parts}
+use Rattle.std.proofs.Common.{ap, ◌∙◌}
+use Rattle.testing_rules.specs.Boxed.{unboxed}
+use Rattle.testing_rules.specs.Unstable.{place_numbers}
+use Rattle.testing_rules.specs.Excuses.{excuses_on}
+use Rattle.testing_rules.specs.BySource.{ground_at, ground_from}
+use Rattle.testing_rules.proofs.OwnPart.{excuses-by_parts}
+use Rattle.testing_rules.proofs.Grounds.{same-excuses}
 use Rattle.testing_rules.proofs.excusing.excuses.Goals as goal
 
 pub returns : goal.returns
 returns c = λ s h.
     let archs = c.args.archs.now in
     let f = c.args.facts.now in
+    let t = c.args.testing.now in
+    let places = place_numbers archs in
+    let g = ground_from archs f c.args.date in
     c.of.ensures
     ∙ c.in_ok-excuses.ensures
-    ∙ excuses-by_parts archs f s c.args.testing.now c.args.date h _ _ _ _ _ _
-    (c.deref.ensures.value ∙ c.in_ok-rows.ensures ∙ ap (built_rows archs) c.rows.ensures)
-    c.bugs.ensures
-    (c.deref-2.ensures.value ∙ c.in_ok-hints.ensures ∙ ap (λ us. filter (is_standing us) c.hints.result.now) c.unhints.ensures ∙ ap (filter (is_standing f.unhints)) c.hints.ensures)
-    c.uploads.ensures
-    (c.delays_in_force.ensures ∙ ap delays_in_force c.delays.ensures)
-    c.sources.ensures
+    ∙ excuses-by_parts places g (ground_at c.in_ok-grouped.grouped) c.in_ok-grouped.ensures t (unboxed c.sources.result.now)
+    ∙ ap (excuses_on places g t) c.sources.ensures
+    ∙ same-excuses archs f s t c.args.date h

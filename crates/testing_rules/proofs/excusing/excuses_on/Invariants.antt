@@ -1,8 +1,9 @@
 use Rattle.std.proofs.Common.{◌≡◌, take}
+use Rattle.testing_rules.specs.Boxed.{unboxed}
 use Rattle.testing_rules.specs.Unstable.{place_numbers}
-use Rattle.testing_rules.specs.Excuses.{excuses_on}
+use Rattle.testing_rules.specs.BySource.{excuses_by, ground_at}
 use Rattle.testing_rules.proofs.excusing.excuses_on.Given as goal
 
 -- those so far
 abbrev pub invariant-sources : goal.invariant-sources
-invariant-sources l = l.excuses.items ≡ excuses_on (place_numbers l.archs) l.found l.testing (take l.upload-index l.sources)
+invariant-sources l = l.excuses.items ≡ excuses_by (place_numbers l.archs) (ground_at l.grouped) l.testing (unboxed (take l.upload-index l.sources))

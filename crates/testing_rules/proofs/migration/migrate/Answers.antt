@@ -10,6 +10,6 @@ pub returns-clause-watched : goal.returns-clause-watched
 returns-clause-watched c = λ h.
     let archs = c.args.archs.now in
     let facts = c.args.facts.now in
-    let after = c.into_parts-decisions.ensures.testing ∙ ap (λ (o : Outcome). o.suite) c.in_ok-turns.ensures in
+    let after = ap (λ (o : Outcome). o.suite) c.in_ok-decisions.ensures in
     subst (λ (t : Suite). AllWatchedWork archs t.rows) (sym after)
     (update-keeps archs facts.sources (built_rows archs facts.rows) facts.hints facts.unhints c.as_slice.result.now c.args.testing.now h)

@@ -5,4 +5,4 @@ use Rattle.testing_rules.proofs.singles.remaining.Given as goal
 
 -- those so far
 abbrev pub invariant-loop-excuse : goal.invariant-loop-excuse
-invariant-loop-excuse l = lent_excuses l.candidates.items ≡ filter (is_remaining l.testing) (take l.excuse-index l.excuses)
+invariant-loop-excuse l = lent_excuses l.candidates.items ≡ filter (is_remaining l.testing.suite) (take l.excuse-index l.excuses)

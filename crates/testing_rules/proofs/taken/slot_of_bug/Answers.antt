@@ -1,22 +1,38 @@
-use Rattle.std.proofs.Common.{◌≡◌, arith, ◌∙◌, sym, ap, ◌<◌, length, false}
+use Rattle.std.proofs.Common.{◌≡◌, ◌∙◌, sym, ap, get_or, false, true}
 use Rattle.std.specs.Ordering.{is_lt}
 use Rattle.std.specs.declared.cmp.Ordering.TheVariants.{Equal}
 use Rattle.std.specs.Ordering.{nat_cmp}
+use Rattle.std.proofs.lemmas.Cmp.{nat_cmp_total}
 use Rattle.testing_rules.specs.Unstable.{bug_order}
 use Rattle.testing_rules.specs.declared.facts.BugIn.{BugIn}
-use Rattle.testing_rules.proofs.SlotFacts.{slot-over}
+use Rattle.testing_rules.proofs.KeyOrder.{searchable}
+use Rattle.testing_rules.proofs.KeySlots.{found-over, found-nowhere, found-before}
 use Rattle.testing_rules.proofs.taken.slot_of_bug.Goals as goal
 
-pub returns-in-Equal : goal.returns-in-Equal
-returns-in-Equal c =
+pub returns-then-is_lt : goal.returns-then-is_lt
+returns-then-is_lt c =
     let x = c.args.bug.now in
     let xs = c.args.bugs.now in
-    let i = c.loop-i.i in
-    let d = c.index-bugs-i.result in
-    let below : i < length xs = omega arith in
-    let tied : nat_cmp x.bug d.bug ≡ Equal = cc in
-    let behind : is_lt (bug_order d x) ≡ false = cc in (
-      below,
-      slot-over (λ (b : BugIn). b.bug) nat_cmp bug_order x xs i d below c.loop-i.invariant
-          (ap (λ (y : BugIn). nat_cmp x.bug y.bug) (sym c.index-bugs-i.is) ∙ tied) (ap (λ (y : BugIn). is_lt (bug_order y x)) (sym c.index-bugs-i.is) ∙ behind),
-    )
+    let i = c.in-Ok.i in
+    let other = c.index-bugs-i.result in
+    let level : nat_cmp (get_or xs i other).bug x.bug ≡ Equal = c.in-Ok.ensures.found other in
+    let ranked : is_lt (bug_order (get_or xs i other) x) ≡ true = ap (λ (y : BugIn). is_lt (bug_order y x)) (sym c.index-bugs-i.is) ∙ sym (ap is_lt c.bug_order.ensures) ∙ sym c.is_lt.ensures ∙ c.if-is_lt.true in
+    found-nowhere (λ (b : BugIn). b.bug) nat_cmp_total bug_order x xs i other c.requires c.in-Ok.ensures.bound level ranked
+
+pub returns-else-is_lt : goal.returns-else-is_lt
+returns-else-is_lt c =
+    let x = c.args.bug.now in
+    let xs = c.args.bugs.now in
+    let i = c.in-Ok.i in
+    let other = c.index-bugs-i.result in
+    let level : nat_cmp (get_or xs i other).bug x.bug ≡ Equal = c.in-Ok.ensures.found other in
+    let ranked : is_lt (bug_order (get_or xs i other) x) ≡ false = ap (λ (y : BugIn). is_lt (bug_order y x)) (sym c.index-bugs-i.is) ∙ sym (ap is_lt c.bug_order.ensures) ∙ sym c.is_lt.ensures ∙ c.if-is_lt.false in
+    found-over (λ (b : BugIn). b.bug) nat_cmp_total bug_order x xs i other c.requires c.in-Ok.ensures.bound level ranked
+
+pub returns-in-Err : goal.returns-in-Err
+returns-in-Err c =
+    let x = c.args.bug.now in
+    let xs = c.args.bugs.now in
+    let i = c.in-Err.i in
+    let parts = c.in-Err.ensures.found (searchable (λ (b : BugIn). b.bug) nat_cmp_total xs c.requires x.bug) in
+    found-before (λ (b : BugIn). b.bug) nat_cmp_total bug_order x xs i c.in-Err.ensures.bound parts

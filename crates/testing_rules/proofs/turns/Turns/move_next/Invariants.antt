@@ -1,13 +1,13 @@
 use Rattle.std.proofs.Common.{◌≡◌, ◌+◌, drop}
 use Rattle.std.specs.List.{position_or_len}
 use Rattle.testing_rules.specs.LentItems.{lent_excuses}
-use Rattle.testing_rules.specs.Updates.{is_allowed_alone}
+use Rattle.testing_rules.proofs.Runs.{allowed_in}
 use Rattle.testing_rules.proofs.turns.Turns.move_next.Given as goal
 
 -- none so far may move
 abbrev pub invariant-loop-place : goal.invariant-loop-place
 invariant-loop-place l =
-    let allowed = is_allowed_alone l.archs l.unstable.sources.now l.unstable.rows.now l.fn.self.suite in
+    let allowed = allowed_in l.fn.self in
     let es = lent_excuses l.fn.circle.items in
     record {
       same : l.self ≡ l.fn.self;

@@ -1,0 +1,187 @@
+//! Which rows come by a move, and which leave.
+
+ghost use Rattle.std.specs.Prelude.{◌≡◌, ◌++◌, ◌<◌, length, filter, OnOk, IfOk};
+ghost use Rattle.std.specs.List.{All};
+ghost use Rattle.testing_rules.specs.Changes.{comes_at, stands_of, stands_for, gives_way_to, AreThose, IsMoveOf};
+ghost use Rattle.testing_rules.specs.Moves.{group_sources};
+
+use crate::facts::UploadIn;
+use crate::moves::source_in;
+use crate::offender::is_same_key;
+use crate::pool::Pool;
+use crate::select::is_current;
+use crate::suite::RowIn;
+use deb_control::Text;
+use deb_version::NoMemory;
+use std::alloc::Global;
+
+/// The row at the place is one of unstable's, and current for the upload.
+fn comes_at(pool: &Pool, first: usize, upload: &UploadIn, place: usize) -> bool
+    requires { place < length pool.now }
+    ensures { result ≡ comes_at pool.now first upload.now place }
+{
+    first <= place && is_current(upload, pool.row(place))
+}
+
+/// The row at the place stands and names the source.
+fn stands_of(pool: &Pool, stands: &[bool], name: &str, place: usize) -> bool
+    requires places { place < length pool.now }
+    requires flags { length stands.now ≡ length pool.now }
+    ensures { result ≡ stands_of pool.now stands.now name.now place }
+{
+    stands[place] && pool.row(place).binary.source.as_str() == name
+}
+
+/// The row at the place stands and has the key of the other.
+fn stands_for(pool: &Pool, stands: &[bool], other: &RowIn, place: usize) -> bool
+    requires places { place < length pool.now }
+    requires flags { length stands.now ≡ length pool.now }
+    ensures { result ≡ stands_for pool.now stands.now other.now place }
+{
+    stands[place] && is_same_key(other, pool.row(place))
+}
+
+/// Those of the places whose rows come for the upload.
+fn push_coming(
+    coming: &mut Vec<usize>,
+    pool: &Pool,
+    first: usize,
+    upload: &UploadIn,
+    places: &[usize],
+) -> Result<(), NoMemory>
+    requires { All (λ k. k < length pool.now) places.now }
+    ensures { OnOk result (coming.new.items ≡ coming.old.items ++ filter (comes_at pool.now first upload.now) places.now) }
+{
+    for place in places {
+        if comes_at(pool, first, upload, *place) {
+            coming.push(*place)?;
+        }
+    }
+    Ok(())
+}
+
+/// The places of the rows that come: unstable's rows, which begin at the first place, that are current for a source of
+/// the group.
+fn coming_of(
+    alloc: Global,
+    pool: &Pool,
+    first: usize,
+    sources: &[UploadIn],
+    group: &[Text],
+) -> Result<Vec<usize>, NoMemory>
+    ensures { IfOk result (λ coming. AreThose (comes_at pool.now first) (group_sources sources.now group.now) coming.items) }
+{
+    let mut coming = Vec::new(alloc);
+    for name in group {
+        if let Some(upload) = source_in(sources, name.as_str()) {
+            let places = pool.of_source(upload.source.as_str());
+            push_coming(&mut coming, pool, first, upload, places)?;
+        }
+    }
+    Ok(coming)
+}
+
+/// Those of the places whose rows stand and name the source.
+fn push_standing(
+    leaving: &mut Vec<usize>,
+    pool: &Pool,
+    stands: &[bool],
+    name: &str,
+    places: &[usize],
+) -> Result<(), NoMemory>
+    requires places { All (λ k. k < length pool.now) places.now }
+    requires flags { length stands.now ≡ length pool.now }
+    ensures { OnOk result (leaving.new.items ≡ leaving.old.items ++ filter (stands_of pool.now stands.now name.now) places.now) }
+{
+    for place in places {
+        if stands_of(pool, stands, name, *place) {
+            leaving.push(*place)?;
+        }
+    }
+    Ok(())
+}
+
+/// The places of the standing rows of the group's sources.
+fn standing_of_group(
+    alloc: Global,
+    pool: &Pool,
+    stands: &[bool],
+    group: &[Text],
+) -> Result<Vec<usize>, NoMemory>
+    requires { length stands.now ≡ length pool.now }
+    ensures { IfOk result (λ leaving. AreThose (stands_of pool.now stands.now) group.now leaving.items) }
+{
+    let mut leaving = Vec::new(alloc);
+    for name in group {
+        let places = pool.of_source(name.as_str());
+        push_standing(&mut leaving, pool, stands, name.as_str(), places)?;
+    }
+    Ok(leaving)
+}
+
+/// Those of the places whose rows stand and have the key of the other.
+fn push_giving_way(
+    leaving: &mut Vec<usize>,
+    pool: &Pool,
+    stands: &[bool],
+    other: &RowIn,
+    places: &[usize],
+) -> Result<(), NoMemory>
+    requires places { All (λ k. k < length pool.now) places.now }
+    requires flags { length stands.now ≡ length pool.now }
+    ensures { OnOk result (leaving.new.items ≡ leaving.old.items ++ filter (stands_for pool.now stands.now other.now) places.now) }
+{
+    for place in places {
+        if stands_for(pool, stands, other, *place) {
+            leaving.push(*place)?;
+        }
+    }
+    Ok(())
+}
+
+/// The places of the standing rows that give way to those that come: they have their key.
+fn giving_way(
+    alloc: Global,
+    pool: &Pool,
+    stands: &[bool],
+    coming: &[usize],
+) -> Result<Vec<usize>, NoMemory>
+    requires places { All (λ k. k < length pool.now) coming.now }
+    requires flags { length stands.now ≡ length pool.now }
+    ensures { IfOk result (λ leaving. AreThose (gives_way_to pool.now stands.now) coming.now leaving.items) }
+{
+    let mut leaving = Vec::new(alloc);
+    for place in coming {
+        let row = pool.row(*place);
+        let places = pool.of_name(row.binary.name.as_str());
+        push_giving_way(&mut leaving, pool, stands, row, places)?;
+    }
+    Ok(leaving)
+}
+
+/// Places of rows that leave, and of rows that come then.
+#[derive(Drop)]
+pub struct Change {
+    pub leaving: Vec<usize>,
+    pub coming: Vec<usize>,
+}
+
+/// The rows that come by a move of the group, and those that leave: the standing rows of its sources, and those of the
+/// key of one that comes. Unstable's rows begin at the first place.
+pub fn change_by_move(
+    alloc: Global,
+    pool: &Pool,
+    stands: &[bool],
+    first: usize,
+    sources: &[UploadIn],
+    group: &[Text],
+) -> Result<Change, NoMemory>
+    requires { length stands.now ≡ length pool.now }
+    ensures { IfOk result (λ change. IsMoveOf pool.now stands.now first sources.now group.now change.leaving.items change.coming.items) }
+{
+    let coming = coming_of(alloc, pool, first, sources, group)?;
+    let mut leaving = standing_of_group(alloc, pool, stands, group)?;
+    let giving_way = giving_way(alloc, pool, stands, &coming)?;
+    leaving.extend_from_slice(&giving_way)?;
+    Ok(Change { leaving, coming })
+}
