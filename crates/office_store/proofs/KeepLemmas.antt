@@ -1,0 +1,86 @@
+-- What INSERT makes of the mail.
+use Rattle.std.proofs.Common.{◌≡◌, ◌≢◌, ℕ, pos, List, [], ◌∷◌, false, Some, None, Ok, Err, Result, OnOk, refl, sym, ap, subst, ◌∙◌, arith, nat_eq}
+use Rattle.std.proofs.lemmas.Bool.Decides.{nat_tests}
+use Rattle.std.specs.FinMap.{get, insert}
+use Rattle.sqlite.specs.declared.types.Value.TheVariants.{Null, Int, Blob}
+use Rattle.sqlite.specs.Order.{Row}
+use Rattle.sqlite.specs.Tree.{Trees, put_row}
+use Rattle.sqlite.specs.Term.{Term, lit, col}
+use Rattle.sqlite.specs.Cast.{cast_row}
+use Rattle.sqlite.specs.Rowids.TheVariants.{Chosen}
+use Rattle.sqlite.specs.Edit.{with_rowid, IsNoIndex}
+use Rattle.sqlite.specs.Source.TheVariants.{Values}
+use Rattle.sqlite.specs.Command.TheVariants.{Insert}
+use Rattle.sqlite.specs.Does.{Does}
+use Rattle.sqlite.specs.Listing.{understood}
+use Rattle.sqlite.specs.State.{State, Executes, Writes, mode_of}
+use Rattle.sqlite.proofs.Callers.{runs_as, statement_of}
+use Rattle.sqlite.specs.Table.{Table}
+use Rattle.office_store.specs.Layout.{office_schema, mail}
+use Rattle.office_store.specs.Texts.{keep_text}
+use Rattle.office_store.specs.Tables.{Rows, letter_in, kept_rows, AddsLetter}
+use Rattle.office_store.proofs.Compiled.{keep_is, keep_plain}
+use Rattle.office_store.proofs.WriteLemmas.{Inserted, inserts_one, cast_null, cast_int}
+use Rattle.office_store.proofs.LetterFacts.{letter_of_parts, kept_put}
+
+abbrev pub keep_terms : List Term
+keep_terms = lit Null ∷ col 0 0 ∷ col 0 1 ∷ col 0 2 ∷ []
+
+abbrev pub letter_source : ℕ → ℕ → List ℕ → Row
+letter_source sender number text = Null ∷ Int (pos sender) ∷ Int (pos number) ∷ Blob text ∷ []
+
+-- the table of mail, where it stands in the schema
+abbrev pub mail_table : Table
+mail_table = record mail { tree = 1 }
+
+abbrev pub letter : List Row → ℕ → ℕ → List ℕ → Row
+letter rows sender number text = with_rowid Chosen rows (cast_row mail_table (letter_source sender number text))
+
+letter_says : (rows : List Row) (sender number : ℕ) (text : List ℕ) → letter_in (letter rows sender number text) ≡ Some ((sender, number), text)
+letter_says rows sender number text = letter_of_parts (letter rows sender number text) sender number text (rw cast_null (cast_int (pos sender))) (rw cast_null (cast_int (pos number))) (rw cast_null refl)
+
+pub apart : (a b : ℕ) → nat_eq a b ≡ false → a ≢ b
+apart a b is e = grind (arith, nat_tests)
+
+pub unindexed : (t : ℕ) → nat_eq 2 t ≡ false → nat_eq 5 t ≡ false → nat_eq 7 t ≡ false → IsNoIndex office_schema t
+unindexed t a b c = (apart 2 t a, (apart 5 t b, (apart 7 t c, tt)))
+
+-- the rows of a database, table by table
+pub five : (a b c d e v w x y z : List Row) → a ≡ v → b ≡ w → c ≡ x → d ≡ y → e ≡ z → ◌≡◌ {A = Rows} (record { office = a; mail = b; runs = c; sources = d; rows = e }) (record { office = v; mail = w; runs = x; sources = y; rows = z })
+five a b c d e v w x y z p q r s t = λ i. record { office = p i; mail = q i; runs = r i; sources = s i; rows = t i }
+
+adds : (db next : Trees) (sender number : ℕ) (text : List ℕ) → Inserted office_schema mail_table db next (letter (db 1) sender number text) → AddsLetter db next sender number text
+adds db next sender number text it = record {
+  row = letter (db 1) sender number text;
+  says = letter_says (db 1) sender number text;
+  free = it.free;
+  put = five (next 0) (next 1) (next 3) (next 4) (next 6) (db 0) (put_row (letter (db 1) sender number text) (db 1)) (db 3) (db 4) (db 6)
+      (it.others 0 (apart 0 1 refl) (unindexed 0 refl refl refl))
+      it.rows
+      (it.others 3 (apart 3 1 refl) (unindexed 3 refl refl refl))
+      (it.others 4 (apart 4 1 refl) (unindexed 4 refl refl refl))
+      (it.others 6 (apart 6 1 refl) (unindexed 6 refl refl refl));
+}
+
+pub keeps : (sender number : ℕ) (text : List ℕ) (old new : State) (count : ℕ) → old.now.schema ≡ office_schema → Executes keep_text (Int (pos sender) ∷ Int (pos number) ∷ Blob text ∷ []) old new (Ok count)
+    → (new.now.schema ≡ office_schema) × AddsLetter old.now.trees new.now.trees sender number text
+keeps sender number text old new count has h =
+    let params = Int (pos sender) ∷ Int (pos number) ∷ Blob text ∷ [] in
+    let command = Insert 1 (Values keep_terms 4) in
+    let run : Writes old new None command (statement_of keep_text (understood office_schema keep_text)) params count = runs_as keep_text params old new office_schema has command keep_is keep_plain count h in
+    let done = subst (λ s. Does old.step_limit (mode_of old) params (record old.now { schema = s }) (statement_of keep_text (understood office_schema keep_text)) None command (Ok (run.tally, new.now))) has run.changed in
+    let made = inserts_one office_schema 1 mail_table old.step_limit (mode_of old) params (statement_of keep_text (understood office_schema keep_text)) old.now.trees keep_terms 4 (letter_source sender number text) run.tally new.now refl refl refl done in
+    (made.0, adds old.now.trees new.now.trees sender number text made.1)
+
+-- a text that was added under a free number stands there
+pub inserted : (db next : Trees) (sender number : ℕ) (text : List ℕ) → AddsLetter db next sender number text → get (kept_rows (db 1)) (sender, number) ≡ None
+    → kept_rows (next 1) ≡ insert (kept_rows (db 1)) (sender, number) text
+inserted db next sender number text it free = ap (λ (r : Rows). kept_rows r.mail) it.put ∙ kept_put it.row (sender, number) text (db 1) it.says it.free free
+
+pub inserted_on : {T E : Type 0} (result given : Result T E) (db next : Trees) (sender number : ℕ) (text : List ℕ) → result ≡ given → OnOk given (AddsLetter db next sender number text) → get (kept_rows (db 1)) (sender, number) ≡ None
+    → OnOk result (kept_rows (next 1) ≡ insert (kept_rows (db 1)) (sender, number) text)
+inserted_on {T} {E} result given db next sender number text same h free = subst (λ r. OnOk r (kept_rows (next 1) ≡ insert (kept_rows (db 1)) (sender, number) text)) (sym same) (go given h)
+  where
+    go : (r : Result T E) → OnOk r (AddsLetter db next sender number text) → OnOk r (kept_rows (next 1) ≡ insert (kept_rows (db 1)) (sender, number) text)
+    go (Ok v) it = inserted db next sender number text it free
+    go (Err e) it = tt

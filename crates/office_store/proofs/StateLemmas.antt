@@ -1,0 +1,90 @@
+-- What a statement leaves of a connection that is ours.
+use Rattle.std.proofs.Common.{◌≡◌, ◌⊎◌, inl, inr, ℕ, List, Some, None, Ok, Err, Result, IsTrue, sym, ap, subst, ◌∙◌, arith}
+use Rattle.std.proofs.Common.{◌≤◌, IfOk, IfErr}
+use Rattle.sqlite_trees.specs.View.{doubt}
+use Rattle.sqlite.specs.Order.{Row}
+use Rattle.sqlite.specs.declared.error.Error.{Error}
+use Rattle.sqlite.specs.Effect.{Database}
+use Rattle.sqlite.specs.Listing.{understood}
+use Rattle.sqlite_resolve.specs.declared.compiled.Compiled.{Compiled}
+use Rattle.sqlite.specs.State.{State, HasCleanDisk, IsUnchanged, IsRolledBack, IsNotRun, RunsCommand, FailsToShow, FailsToQuery, ShowsRows, Shown}
+use Rattle.sqlite.specs.Clock.{timed}
+use Rattle.sqlite.proofs.Callers.{IsPlain}
+use Rattle.office_store.specs.Layout.{office_schema}
+use Rattle.office_store.specs.Tables.{IsTrusted, IsOurs, Same}
+
+-- the database stands as it was, or as the last commit left it
+abbrev pub Stays : State → State → Type 0
+Stays old new = IsUnchanged old new ⊎ IsRolledBack old new
+
+pub not_run_stays : (old new : State) (sql : List ℕ) (params : Row) (e : Error) → IsNotRun old new sql params e → Stays old new
+unfolding IsNotRun
+not_run_stays old new sql params e (inl h) = inl h.1
+not_run_stays old new sql params e (inr h) = inr h.3
+
+pub refused_stays : (old new : State) (sql : List ℕ) (c : Compiled) (params : Row) (e : Error) → RunsCommand old new sql c params (Err e) → Stays old new
+refused_stays old new sql c params e (inl h) = inl h.1
+refused_stays old new sql c params e (inr h) = inr h.3
+
+unshown_stays : (old new : State) (sql : List ℕ) (c : Compiled) (params : Row) (e : Error) (r : _) → FailsToShow old new sql c params e r → Stays old new
+unshown_stays old new sql c params e None h = inl h.3
+unshown_stays old new sql c params e (Some what) h = refused_stays old new sql c params e h
+
+pub query_stays : (old new : State) (sql : List ℕ) (params : Row) (e : Error) → FailsToQuery sql params old new e → Stays old new
+unfolding FailsToQuery
+query_stays old new sql params e (inl h) = not_run_stays old new sql params e h
+query_stays old new sql params e (inr h) = unshown_stays old new sql h.0 _ e h.0.returning h.2
+
+shown_open : (old new : State) (sql : List ℕ) (c : Compiled) (params : Row) (rows : List Row) (r : _) → ShowsRows old new sql c params rows r → IsTrue old.is_open
+shown_open old new sql c params rows None h = h.3.0.was_open
+shown_open old new sql c params rows (Some what) h = h.1.shown.was_open
+
+pub shown_was_open : (old new : State) (sql : List ℕ) (params : Row) (rows : List Row) → Shown sql params old new rows → IsTrue old.is_open
+unfolding Shown
+shown_was_open old new sql params rows h = shown_open old new sql h.0 _ rows h.0.returning h.2
+
+pub shown_unchanged : (old new : State) (sql : List ℕ) (params : Row) (rows : List Row) → old.now.schema ≡ office_schema → IsPlain (understood office_schema sql) → Shown sql params old new rows → IsUnchanged old new
+unfolding Shown
+shown_unchanged old new sql params rows has plain h =
+    let known = sym h.1.is ∙ ap (λ s. understood s sql) has in
+    let bare = subst IsPlain (sym known) plain in
+    (subst (ShowsRows old new sql h.0 (timed params h.0.formats h.1.now) rows) bare.0 h.2).3
+
+pub stays_open : (old new : State) → IsTrue new.is_open → Stays old new → IsTrue old.is_open
+stays_open old new now (inl h) = h.0.was_open
+stays_open old new now (inr h) = h.was_open now
+
+pub stays_same : (old new : State) → IsTrue new.is_open → IsOurs old → Stays old new → Same old new
+stays_same old new now ours (inl h) = record {
+  ours = record { schema = ap (λ (d : Database). d.schema) h.0.now_is ∙ ours.schema; settled = h.0.now_is ∙ ours.settled ∙ sym h.0.committed_is; autocommit = h.0.mode ∙ ours.autocommit };
+  now = h.0.now_is;
+}
+stays_same old new now ours (inr h) =
+    let undone = h.undone now in
+    let same : new.now ≡ old.now = undone.0 ∙ sym ours.settled in
+    record { ours = record { schema = ap (λ (d : Database). d.schema) same ∙ ours.schema; settled = undone.0 ∙ sym undone.1; autocommit = h.autocommit }; now = same }
+
+-- what `query_all` says of a call
+pub record Asked {R : Type 0} (items : R → List Row) (sql : List ℕ) (params : Row) (old new : State) (result : Result R Error) : Type 0 where
+  pub clean : doubt old.is_clean ≤ doubt new.is_clean
+  pub ok : HasCleanDisk new → IfOk result (λ rows. Shown sql params old new (items rows))
+  pub err : HasCleanDisk new → IfErr result (FailsToQuery sql params old new)
+
+module _ {R : Type 0} (items : R → List Row) (sql : List ℕ) (params : Row) (old new : State) where
+  open_before : (result : Result R Error) → IsTrue new.is_open → IfOk result (λ rows. Shown sql params old new (items rows)) → IfErr result (FailsToQuery sql params old new) → IsTrue old.is_open
+  open_before (Ok rows) now ok err = shown_was_open old new sql params (items rows) ok
+  open_before (Err e) now ok err = stays_open old new now (query_stays old new sql params e err)
+
+  pub asked_before : (result : Result R Error) → Asked items sql params old new result → IsTrusted new → IsTrusted old
+  asked_before result asked trusted = (omega (arith, asked.clean, trusted.0), open_before result trusted.1 (asked.ok trusted.0) (asked.err trusted.0))
+
+  same_after : (result : Result R Error) → IsTrue new.is_open → IsOurs old → IsPlain (understood office_schema sql) → IfOk result (λ rows. Shown sql params old new (items rows)) → IfErr result (FailsToQuery sql params old new) → Same old new
+  same_after (Ok rows) now ours plain ok err = stays_same old new now ours (inl (shown_unchanged old new sql params (items rows) ours.schema plain ok))
+  same_after (Err e) now ours plain ok err = stays_same old new now ours (query_stays old new sql params e err)
+
+  pub asked_same : (result : Result R Error) → Asked items sql params old new result → IsPlain (understood office_schema sql) → IsOurs old → IsTrusted new → Same old new
+  asked_same result asked plain ours trusted = same_after result trusted.1 ours plain (asked.ok trusted.0) (asked.err trusted.0)
+
+  pub asked_rows : (P : List Row → Type 0) (result : Result R Error) → Asked items sql params old new result → IsTrusted new → ((rows : List Row) → Shown sql params old new rows → P rows) → IfOk result (λ rows. P (items rows))
+  asked_rows P (Ok rows) asked trusted gives = gives (items rows) (asked.ok trusted.0)
+  asked_rows P (Err e) asked trusted gives = tt

@@ -1,0 +1,29 @@
+-- What a finished run makes of the tables.
+use Rattle.std.specs.Prelude.{◌≡◌, ℕ, map, Some, None}
+use Rattle.std.specs.FinMap.{get, insert, from_entries}
+use Rattle.sqlite.specs.Tree.{Trees}
+use Rattle.office_store.specs.declared.values.Finished.{Finished}
+use Rattle.office_store.specs.declared.values.Said.{Said}
+use Rattle.office_store.specs.Content.{reports_in}
+use Rattle.office_store.specs.Tables.{said_in, run_map}
+use Rattle.office_store.specs.Entries.{source_map, source_entry, entry_map, row_entry}
+
+-- the office says so many runs instead, and else the same
+abbrev pub with_count : ℕ → Said → Said
+with_count run said = record { schema = said.schema; setup = said.setup; finished = run }
+
+-- The run is finished with its reports, which it hadn't before, beside the earlier ones; the tables of testing have
+-- exactly the new entries; the office says this; and the mail stands.
+pub record WritesRun (db next : Trees) (run : ℕ) (done : Finished) (said : Said) : Type 0 where
+  pub reported : run_map (next 3) ≡ insert (run_map (db 3)) run (reports_in done)
+  pub new : get (run_map (db 3)) run ≡ None
+  pub sources : source_map (next 4) ≡ from_entries (map source_entry done.testing.sources)
+  pub rows : entry_map (next 6) ≡ from_entries (map row_entry done.testing.rows)
+  pub says : said_in (next 0) ≡ Some said
+  pub mail : next 1 ≡ db 1
+
+-- the same, where the office says what it said but for the count
+pub record FinishesRun (db next : Trees) (run : ℕ) (done : Finished) : Type 0 where
+  pub said : Said
+  pub said_is : said_in (db 0) ≡ Some said
+  pub writes : WritesRun db next run done (with_count run said)

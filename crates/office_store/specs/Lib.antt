@@ -1,0 +1,10 @@
+pub mod Content
+pub mod Keeping
+pub mod Given
+pub mod Shelf
+pub mod Layout
+pub mod Texts
+pub mod Tables
+pub mod Entries
+pub mod Finishing
+pub mod Creating

@@ -1,0 +1,214 @@
+-- The tables of an office, and what they say.
+use Rattle.std.specs.Ordering.{is_eq, nat_cmp}
+use Rattle.std.specs.Prelude.{◌≡◌, ◌≤◌, ◌&&◌, Bool, length, filter, filter_map, ℕ, pos, negsuc, List, [], ◌∷◌, Option, Some, None, IsTrue, false}
+use Rattle.std.specs.FinMap.{FinMap, find, get, insert, from_entries}
+use Rattle.office_store.specs.declared.values.Reports.{Reports}
+use Rattle.office_store.specs.declared.values.Said.{Said}
+use Rattle.sqlite_rules.specs.Lists.{Has}
+use Rattle.sqlite_rules.specs.Edit.{is_taken}
+use Rattle.sqlite.specs.Order.{Row, column, value_cmp}
+use Rattle.sqlite.specs.Tree.{Trees, put_row}
+use Rattle.sqlite.specs.State.{State, HasCleanDisk}
+use Rattle.sqlite.specs.declared.types.Value.{Value}
+use Rattle.sqlite.specs.declared.types.Value.TheVariants.{Null, Int, Real, Text, Blob}
+use Rattle.office_mail.specs.Kept.{Kept, Place}
+use Rattle.office_store.specs.Layout.{office_schema}
+
+-- Nobody else writes the tables, the disk returns what was written, and no fault of the disk has shut the connection.
+abbrev pub IsTrusted : State → Type 0
+IsTrusted s = HasCleanDisk s × IsTrue s.is_open
+
+-- between calls: the five tables and no others, no transaction, and nothing that isn't committed
+pub record IsOurs (s : State) : Type 0 where
+  pub schema : s.now.schema ≡ office_schema
+  pub settled : s.now ≡ s.committed
+  pub autocommit : s.in_transaction ≡ false
+
+-- a call has left the tables as they were
+pub record Same (old new : State) : Type 0 where
+  pub ours : IsOurs new
+  pub now : new.now ≡ old.now
+
+-- the five tables, in a transaction that is under way
+pub record IsInside (s : State) : Type 0 where
+  pub schema : s.now.schema ≡ office_schema
+  pub begun : IsTrue s.in_transaction
+
+-- a step within a transaction went well: it is still under way, and nothing was committed
+pub record WentOn (old new : State) : Type 0 where
+  pub inside : IsInside new
+  pub committed : new.committed ≡ old.committed
+
+-- the rows of each table, without their indexes
+pub record Rows : Type 0 where
+  pub office : List Row
+  pub mail : List Row
+  pub runs : List Row
+  pub sources : List Row
+  pub rows : List Row
+
+-- where the tables stand
+abbrev pub rows_in : Trees → Rows
+rows_in db = record { office = db 0; mail = db 1; runs = db 3; sources = db 4; rows = db 6 }
+
+-- ---- what values say
+
+-- a number from 0
+abbrev pub number_in : Value → Option ℕ
+number_in Null = None
+number_in (Int (pos n)) = Some n
+number_in (Int (negsuc n)) = None
+number_in (Real x) = None
+number_in (Text text) = None
+number_in (Blob bytes) = None
+
+-- bytes
+abbrev pub bytes_in : Value → Option (List ℕ)
+bytes_in Null = None
+bytes_in (Int n) = None
+bytes_in (Real x) = None
+bytes_in (Text text) = None
+bytes_in (Blob bytes) = Some bytes
+
+-- ---- mail
+
+abbrev pub letter_by : Option ℕ → Option ℕ → Option (List ℕ) → Option (Place × List ℕ)
+letter_by None number text = None
+letter_by (Some sender) None text = None
+letter_by (Some sender) (Some number) None = None
+letter_by (Some sender) (Some number) (Some text) = Some ((sender, number), text)
+
+-- what a row of mail says: its sender's place and its number, and its text
+unfoldable pub letter_in : Row → Option (Place × List ℕ)
+letter_in row = letter_by (number_in (column row 1)) (number_in (column row 2)) (bytes_in (column row 3))
+
+-- the mail that the rows keep
+abbrev pub kept_rows : List Row → Kept
+kept_rows rows = from_entries (filter_map letter_in rows)
+
+-- the row compares equal, as SQL's = does, to this place and number
+abbrev pub is_at : ℕ → ℕ → Row → Bool
+is_at sender number row = is_eq (value_cmp (column row 1) (Int (pos sender))) && is_eq (value_cmp (column row 2) (Int (pos number)))
+
+-- what is shown of a row of mail: its sender's place, its number and its text
+abbrev pub letter_columns : Row → Row
+letter_columns row = column row 1 ∷ column row 2 ∷ column row 3 ∷ []
+
+-- what a look-up makes of the rows that it is shown: the text of the only one, or none
+abbrev pub IsOnly : ℕ → ℕ → Option (List ℕ) → List Row → Type 0
+IsOnly sender number None rows = rows ≡ []
+IsOnly sender number (Some text) rows =
+    (row : Row) × (rows ≡ row ∷ []) × (column row 0 ≡ Int (pos sender)) × (column row 1 ≡ Int (pos number)) × (column row 2 ≡ Blob text)
+
+-- every row of mail has a sender's place, a number and a text
+abbrev pub AreLetters : List Row → Type 0
+AreLetters rows = (row : Row) → Has rows row → (entry : Place × List ℕ) × (letter_in row ≡ Some entry)
+
+-- no two rows of mail have one sender and one number
+abbrev pub AreApart : List Row → Type 0
+AreApart rows = (sender number : ℕ) → length (filter (is_at sender number) rows) ≤ 1
+
+-- the mail isn't as an office keeps it
+abbrev pub IsCrowded : List Row → Type 0
+IsCrowded rows = AreLetters rows → AreApart rows → ⊥
+
+-- one row was put into the mail, with a rowid of its own, and the other tables stand
+pub record AddsLetter (db next : Trees) (sender number : ℕ) (text : List ℕ) : Type 0 where
+  pub row : Row
+  pub says : letter_in row ≡ Some ((sender, number), text)
+  pub free : is_taken (db 1) row ≡ false
+  pub put : rows_in next ≡ record { office = db 0; mail = put_row row (db 1); runs = db 3; sources = db 4; rows = db 6 }
+
+-- ---- what the office says of itself
+
+-- characters
+abbrev pub text_in : Value → Option (List ℕ)
+text_in Null = None
+text_in (Int n) = None
+text_in (Real x) = None
+text_in (Text text) = Some text
+text_in (Blob bytes) = None
+
+abbrev pub office_by : Option ℕ → Option ℕ → Option (List ℕ) → Option ℕ → Option (ℕ × Said)
+office_by None schema setup finished = None
+office_by (Some id) None setup finished = None
+office_by (Some id) (Some schema) None finished = None
+office_by (Some id) (Some schema) (Some setup) None = None
+office_by (Some id) (Some schema) (Some setup) (Some finished) = Some (id, record { schema = schema; setup = setup; finished = finished })
+
+-- what a row of the office says under its id
+unfoldable pub office_in : Row → Option (ℕ × Said)
+office_in row = office_by (number_in (column row 0)) (number_in (column row 2)) (text_in (column row 3)) (number_in (column row 4))
+
+-- what the office says of itself: what its row says, whose id is 1
+abbrev pub said_in : List Row → Option Said
+said_in rows = find nat_cmp 1 (filter_map office_in rows)
+
+-- what is shown of a row of the office: all but its copy of the rowid
+abbrev pub office_columns : Row → Row
+office_columns row = column row 0 ∷ column row 2 ∷ column row 3 ∷ column row 4 ∷ []
+
+-- what is made of the rows that are shown: what the only one says
+abbrev pub IsOnlyOffice : Said → List Row → Type 0
+IsOnlyOffice said rows =
+    (row : Row) × (rows ≡ row ∷ []) × (column row 0 ≡ Int (pos 1)) × (column row 1 ≡ Int (pos said.schema)) × (column row 2 ≡ Text said.setup) × (column row 3 ≡ Int (pos said.finished))
+
+-- ---- the reports of runs
+
+abbrev pub run_by : Option ℕ → Option (List ℕ) → Option (List ℕ) → Option (ℕ × Reports)
+run_by None excuses updates = None
+run_by (Some number) None updates = None
+run_by (Some number) (Some excuses) None = None
+run_by (Some number) (Some excuses) (Some updates) = Some (number, record { excuses = excuses; updates = updates })
+
+-- what a row of a finished run says: its number, and its two reports
+unfoldable pub run_in : Row → Option (ℕ × Reports)
+run_in row = run_by (number_in (column row 0)) (text_in (column row 2)) (text_in (column row 3))
+
+-- the reports that the rows keep, by the runs' numbers
+abbrev pub run_map : List Row → FinMap nat_cmp Reports
+run_map rows = from_entries (filter_map run_in rows)
+
+-- the row compares equal, as SQL's = does, to this run's number
+abbrev pub is_run : ℕ → Row → Bool
+is_run run row = is_eq (value_cmp (column row 0) (Int (pos run)))
+
+-- what is shown of a finished run: its number, and its two reports
+abbrev pub run_columns : Row → Row
+run_columns row = column row 0 ∷ column row 2 ∷ column row 3 ∷ []
+
+-- what a look-up makes of the rows that it is shown: the reports of the only one, or none
+abbrev pub IsOnlyRun : ℕ → Option Reports → List Row → Type 0
+IsOnlyRun run None rows = rows ≡ []
+IsOnlyRun run (Some reports) rows =
+    (row : Row) × (rows ≡ row ∷ []) × (column row 0 ≡ Int (pos run)) × (column row 1 ≡ Text reports.excuses) × (column row 2 ≡ Text reports.updates)
+
+-- ---- what the steps of a finished run make of the tables
+
+-- one run's row was put in, with its number as its rowid, and the other tables stand
+pub record AddsRun (db next : Trees) (number : ℕ) (reports : Reports) : Type 0 where
+  pub row : Row
+  pub says : run_in row ≡ Some (number, reports)
+  pub free : is_taken (db 3) row ≡ false
+  pub put : rows_in next ≡ record { office = db 0; mail = db 1; runs = put_row row (db 3); sources = db 4; rows = db 6 }
+
+-- the office says nothing any more, and the other tables stand
+pub record Silences (db next : Trees) : Type 0 where
+  pub none : filter_map office_in (next 0) ≡ []
+  pub rest : rows_in next ≡ record { office = next 0; mail = db 1; runs = db 3; sources = db 4; rows = db 6 }
+
+-- a row of the office was put in, with a rowid of its own, and the other tables stand
+pub record SaysMore (db next : Trees) (said : Said) : Type 0 where
+  pub row : Row
+  pub says : office_in row ≡ Some (1, said)
+  pub free : is_taken (db 0) row ≡ false
+  pub put : rows_in next ≡ record { office = put_row row (db 0); mail = db 1; runs = db 3; sources = db 4; rows = db 6 }
+
+-- a run is in the tables: its reports stand beside the earlier ones, the office says this, and mail and testing stand
+pub record RecordsRun (db next : Trees) (number : ℕ) (reports : Reports) (said : Said) : Type 0 where
+  pub reported : run_map (next 3) ≡ insert (run_map (db 3)) number reports
+  pub new : get (run_map (db 3)) number ≡ None
+  pub says : said_in (next 0) ≡ Some said
+  pub mail : next 1 ≡ db 1
+  pub sources : next 4 ≡ db 4
+  pub rows : next 6 ≡ db 6

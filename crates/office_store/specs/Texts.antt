@@ -1,0 +1,52 @@
+-- The statements of the office's store.
+use Rattle.std.specs.Prelude.{codes, List, ℕ}
+
+abbrev pub find_text : List ℕ
+find_text = codes "SELECT sender, number, body FROM mail WHERE sender = ?1 AND number = ?2"
+
+abbrev pub keep_text : List ℕ
+keep_text = codes "INSERT INTO mail (sender, number, body) VALUES (?1, ?2, ?3)"
+
+abbrev pub office_text : List ℕ
+office_text = codes "SELECT id, schema, setup, finished FROM office"
+
+abbrev pub reports_text : List ℕ
+reports_text = codes "SELECT number, excuses, updates FROM run WHERE number = ?1"
+
+abbrev pub add_run_text : List ℕ
+add_run_text = codes "INSERT INTO run (number, excuses, updates) VALUES (?1, ?2, ?3)"
+
+abbrev pub clear_office_text : List ℕ
+clear_office_text = codes "DELETE FROM office"
+
+abbrev pub add_office_text : List ℕ
+add_office_text = codes "INSERT INTO office (id, schema, setup, finished) VALUES (1, ?1, ?2, ?3)"
+
+abbrev pub clear_sources_text : List ℕ
+clear_sources_text = codes "DELETE FROM testing_source"
+
+abbrev pub add_source_text : List ℕ
+add_source_text = codes "INSERT INTO testing_source (name, sender, number) VALUES (?1, ?2, ?3)"
+
+abbrev pub clear_rows_text : List ℕ
+clear_rows_text = codes "DELETE FROM testing_row"
+
+abbrev pub add_row_text : List ℕ
+add_row_text = codes "INSERT INTO testing_row (arch, name, sender, number, place) VALUES (?1, ?2, ?3, ?4, ?5)"
+
+-- ---- the definitions of the tables
+
+abbrev pub create_office_text : List ℕ
+create_office_text = codes "CREATE TABLE office (id INTEGER PRIMARY KEY, schema INTEGER NOT NULL, setup TEXT NOT NULL, finished INTEGER NOT NULL) STRICT"
+
+abbrev pub create_mail_text : List ℕ
+create_mail_text = codes "CREATE TABLE mail (sender INTEGER NOT NULL, number INTEGER NOT NULL, body BLOB NOT NULL, PRIMARY KEY (sender, number)) STRICT"
+
+abbrev pub create_run_text : List ℕ
+create_run_text = codes "CREATE TABLE run (number INTEGER PRIMARY KEY, excuses TEXT NOT NULL, updates TEXT NOT NULL) STRICT"
+
+abbrev pub create_testing_source_text : List ℕ
+create_testing_source_text = codes "CREATE TABLE testing_source (name TEXT NOT NULL PRIMARY KEY, sender INTEGER NOT NULL, number INTEGER NOT NULL, FOREIGN KEY (sender, number) REFERENCES mail (sender, number)) STRICT"
+
+abbrev pub create_testing_row_text : List ℕ
+create_testing_row_text = codes "CREATE TABLE testing_row (arch INTEGER NOT NULL, name TEXT NOT NULL, sender INTEGER NOT NULL, number INTEGER NOT NULL, place INTEGER NOT NULL, PRIMARY KEY (arch, name), FOREIGN KEY (sender, number) REFERENCES mail (sender, number)) STRICT"

@@ -1,0 +1,72 @@
+//! A finished run, in one transaction over the tables.
+ghost use Rattle.std.specs.Prelude.{◌≡◌, Some, OnOk, OnErr};
+ghost use Rattle.sqlite.specs.Held.{state};
+ghost use Rattle.office_store.specs.Tables.{IsTrusted, IsOurs, IsInside, WentOn, said_in};
+ghost use Rattle.office_store.specs.Finishing.{WritesRun, FinishesRun, with_count};
+
+use crate::faults::{Cause, KeepFault};
+use crate::runs::{record_run, said};
+use crate::testing::{set_rows, set_sources};
+use crate::values::{Finished, Said};
+use sqlite::{Alter, Connection, Error, Transaction};
+
+/// The steps of a finished run, a table at a time.
+fn write_run<S: Alter>(
+    tx: &mut Transaction<'_, S>,
+    run: u32,
+    done: &Finished,
+    said: &Said,
+) -> Result<usize, Error>
+    requires inside { IsTrusted (state S.Store tx.old.conn.now) → IsInside (state S.Store tx.old.conn.now) }
+    ensures same_reference { tx.new.conn.ghost_name ≡ tx.old.conn.ghost_name }
+    ensures before { IsTrusted (state S.Store tx.new.conn.now) → IsTrusted (state S.Store tx.old.conn.now) }
+    ensures on { IsTrusted (state S.Store tx.new.conn.now) → OnOk result (WentOn (state S.Store tx.old.conn.now) (state S.Store tx.new.conn.now)) }
+    ensures done { IsTrusted (state S.Store tx.new.conn.now) → OnOk result (WritesRun (state S.Store tx.old.conn.now).now.trees (state S.Store tx.new.conn.now).now.trees run done.now (with_count run said.now)) }
+    ensures err { IsTrusted (state S.Store tx.new.conn.now) → OnErr result ((state S.Store tx.new.conn.now).committed ≡ (state S.Store tx.old.conn.now).committed) }
+{
+    set_sources(tx, done.testing.sources())?;
+    set_rows(tx, done.testing.rows())?;
+    let excuses = done.excuses.as_str();
+    let updates = done.updates.as_str();
+    let setup = said.setup.as_str();
+    let added = record_run(tx, run, excuses, updates, said.schema, setup)?;
+    Ok(added)
+}
+
+/// The steps as one transaction.
+fn commit_run<S: Alter>(
+    conn: &mut Connection<S>,
+    run: u32,
+    done: &Finished,
+    said: &Said,
+) -> Result<(), KeepFault>
+    requires ours { IsTrusted (state S.Store conn.old) → IsOurs (state S.Store conn.old) }
+    ensures before { IsTrusted (state S.Store conn.new) → IsTrusted (state S.Store conn.old) }
+    ensures ours { IsTrusted (state S.Store conn.new) → IsOurs (state S.Store conn.new) }
+    ensures done { IsTrusted (state S.Store conn.new) → OnOk result (WritesRun (state S.Store conn.old).now.trees (state S.Store conn.new).now.trees run done.now (with_count run said.now)) }
+    ensures err { IsTrusted (state S.Store conn.new) → OnErr result ((state S.Store conn.new).now ≡ (state S.Store conn.old).now) }
+{
+    if !conn.is_autocommit() {
+        return Err(KeepFault::Store(Cause::Sqlite(Error::InvalidQuery)));
+    }
+    let mut tx = conn.transaction();
+    let _written = write_run(&mut tx, run, done, said)?;
+    tx.commit()?;
+    Ok(())
+}
+
+/// Makes a run finished: all its tables, or none.
+pub(crate) fn finish<S: Alter>(
+    conn: &mut Connection<S>,
+    run: u32,
+    done: &Finished,
+) -> Result<(), KeepFault>
+    requires ours { IsTrusted (state S.Store conn.old) → IsOurs (state S.Store conn.old) }
+    ensures before { IsTrusted (state S.Store conn.new) → IsTrusted (state S.Store conn.old) }
+    ensures ours { IsTrusted (state S.Store conn.new) → IsOurs (state S.Store conn.new) }
+    ensures done { IsTrusted (state S.Store conn.new) → OnOk result (FinishesRun (state S.Store conn.old).now.trees (state S.Store conn.new).now.trees run done.now) }
+    ensures err { IsTrusted (state S.Store conn.new) → OnErr result ((state S.Store conn.new).now ≡ (state S.Store conn.old).now) }
+{
+    let said = said(conn)?;
+    commit_run(conn, run, done, &said)
+}

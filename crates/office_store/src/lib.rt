@@ -1,0 +1,23 @@
+//! The office's store: its kept mail, the reports of its finished runs and its testing suite, behind one trait that
+//! says what each call makes of them.
+#![tactic(auto)]
+
+mod faults;
+mod finishing;
+mod keeping;
+mod mail;
+mod memory;
+mod on_sqlite;
+mod runs;
+mod schema;
+mod testing;
+mod values;
+
+pub use faults::{Cause, KeepFault};
+pub use keeping::{Keeper, keep_if_free};
+pub use memory::Plain;
+pub use on_sqlite::Tables;
+pub use values::{Finished, Letter, MailText, Reports};
+
+#[cfg(test)]
+mod tests;

@@ -1,0 +1,192 @@
+//! A keeper in memory.
+ghost use Rattle.std.specs.Prelude.{◌≡◌, ◌++◌, [], ⊤, IfOk, IfErr, OnOk};
+ghost use Rattle.std.specs.List.{cons_option};
+ghost use Rattle.std.specs.FinMap.{get};
+ghost use Rattle.std.specs.Option.{option_copied};
+ghost use Rattle.office_store.specs.Content.{letter_at, letters_within, item_from_one};
+ghost use Rattle.office_store.specs.Shelf.{text_at, kept_in, content_of};
+
+use crate::faults::KeepFault;
+use crate::keeping::Keeper;
+use crate::values::{Finished, Letter, MailText, Reports};
+use deb_control::NoMemory;
+use office_mail::Setup;
+use std::alloc::Global;
+use std::marker::Model;
+use testing_rules::Testing;
+
+/// A kept text.
+#[derive(Drop)]
+pub struct Mail {
+    pub sender: u32,
+    pub number: u32,
+    pub text: MailText,
+}
+
+/// Kept mail, reports and testing in vectors. It fails for want of memory alone.
+#[derive(Drop)]
+pub struct Plain {
+    alloc: Global,
+    setup: Setup,
+    mail: Vec<Mail>,
+    runs: Vec<Reports>,
+    testing: Testing,
+}
+
+impl Model for Plain {
+    ghost use Rattle.office_store.specs.Shelf.{Shelf, IsShelf};
+
+    ghost Value = { Shelf };
+
+    ghost view = { λ a. record { setup = a.setup; mail = a.mail.items; runs = a.runs.items; testing = a.testing } };
+
+    ghost invariant = { λ a. IsShelf a.setup a.runs.items a.testing };
+}
+
+impl Plain {
+    /// A keeper for this setup, with no mail and no run.
+    pub fn new(alloc: Global, setup: &Setup) -> Result<Plain, NoMemory>
+        ensures { IfOk result (λ plain. plain ≡ record { setup = setup.now; mail = []; runs = []; testing = record { sources = []; rows = [] } }) }
+    {
+        Ok(Plain {
+            alloc,
+            setup: setup.copy(alloc)?,
+            mail: Vec::new(alloc),
+            runs: Vec::new(alloc),
+            testing: Testing::new(alloc),
+        })
+    }
+}
+
+/// The text at a place, or none.
+fn find_text<'a>(mail: &'a [Mail], sender: u32, number: u32) -> Option<&'a MailText>
+    ensures { option_copied result ≡ text_at (sender, number) mail.now }
+{
+    for m in mail {
+        if m.sender == sender && m.number == number {
+            return Some(&m.text);
+        }
+    }
+    None
+}
+
+/// A copy of the text at a place, or none.
+fn copy_text(
+    alloc: Global,
+    mail: &[Mail],
+    sender: u32,
+    number: u32,
+) -> Result<Option<MailText>, KeepFault>
+    ensures found { IfOk result (λ text. text ≡ get (kept_in mail.now) (sender, number)) }
+    ensures no_store { IfErr result (λ fault. fault ≡ KeepFault.NoMemory) }
+{
+    match find_text(mail, sender, number) {
+        None => Ok(None),
+        Some(text) => Ok(Some(MailText::copy_of(alloc, text.as_slice())?)),
+    }
+}
+
+/// The letter under a number comes in, where there is one.
+fn push_letter(
+    alloc: Global,
+    letters: &mut Vec<Letter>,
+    mail: &[Mail],
+    sender: u32,
+    number: u32,
+) -> Result<(), KeepFault>
+    ensures pushed { OnOk result (letters.new.items ≡ letters.old.items ++ cons_option (letter_at (kept_in mail.now) sender number) []) }
+    ensures no_store { IfErr result (λ fault. fault ≡ KeepFault.NoMemory) }
+{
+    if let Some(text) = copy_text(alloc, mail, sender, number)? {
+        letters.push(Letter { number, text })?;
+    }
+    Ok(())
+}
+
+/// The letters of a sender from one number to another, by number.
+#[tactic(auto, unfolding(crate::specs::Content::letters_within))]
+fn letters_of(
+    alloc: Global,
+    mail: &[Mail],
+    sender: u32,
+    from: u32,
+    to: u32,
+) -> Result<Vec<Letter>, KeepFault>
+    ensures loaded { IfOk result (λ letters. letters.items ≡ letters_within (kept_in mail.now) sender from to) }
+    ensures no_store { IfErr result (λ fault. fault ≡ KeepFault.NoMemory) }
+{
+    let mut letters = Vec::new(alloc);
+    let end = to as u64 + 1;
+    'numbers: for number in from as u64..end {
+        push_letter(alloc, &mut letters, mail, sender, number as u32)?;
+    }
+    Ok(letters)
+}
+
+/// The reports of a run counted from 1, or none.
+fn reports_of(runs: &[Reports], run: u32) -> Option<&Reports>
+    ensures { option_copied result ≡ item_from_one run runs.now }
+{
+    if run == 0 {
+        return None;
+    }
+    runs.get(run as usize - 1)
+}
+
+impl Keeper for Plain {
+    ghost is_clean = { λ _. ⊤ };
+
+    ghost is_trusted = { λ _. ⊤ };
+
+    ghost setup = { λ shelf. shelf.setup };
+
+    ghost content = { content_of };
+
+    ghost is_legible = { λ _. ⊤ };
+
+    // It never refuses, so by the clauses on this count it never answers that the store failed.
+    ghost refusals = { λ _. 0 };
+
+    ghost disk_faults = { λ _. 0 };
+
+    fn find(&mut self, sender: u32, number: u32) -> Result<Option<MailText>, KeepFault> {
+        copy_text(self.alloc, &self.mail, sender, number)
+    }
+
+    fn keep(&mut self, sender: u32, number: u32, text: &[u8]) -> Result<(), KeepFault> {
+        let text = MailText::copy_of(self.alloc, text)?;
+        self.mail.push(Mail {
+            sender,
+            number,
+            text,
+        })?;
+        Ok(())
+    }
+
+    fn finished(&mut self) -> Result<u32, KeepFault> {
+        Ok(self.runs.len() as u32)
+    }
+
+    fn load(&mut self, sender: u32, from: u32, to: u32) -> Result<Vec<Letter>, KeepFault> {
+        letters_of(self.alloc, &self.mail, sender, from, to)
+    }
+
+    fn finish(&mut self, _run: u32, done: &Finished) -> Result<(), KeepFault> {
+        let reports = done.reports(self.alloc)?;
+        let testing = done.testing.copy(self.alloc)?;
+        self.runs.push(reports)?;
+        self.testing = testing;
+        Ok(())
+    }
+
+    fn reports(&mut self, run: u32) -> Result<Option<Reports>, KeepFault> {
+        match reports_of(&self.runs, run) {
+            None => Ok(None),
+            Some(reports) => Ok(Some(reports.copy(self.alloc)?)),
+        }
+    }
+
+    fn testing(&mut self) -> Result<Testing, KeepFault> {
+        Ok(self.testing.copy(self.alloc)?)
+    }
+}
