@@ -1,5 +1,5 @@
 -- One run more.
-use Rattle.std.proofs.Common.{◌≡◌, ◌⊎◌, ⊎_elim, ℕ, zero, suc, ◌+◌, ◌<◌, ◌≤◌, Bool, true, false, cond, if◌then◌else◌, nat_le, ◌&&◌, List, [], ◌∷◌, ◌++◌, length, take, slice_get, Option, Some, None, IsSome, sym, ap, subst, ◌∙◌, refl, arith, rules}
+use Rattle.std.proofs.Common.{◌≡◌, ⊎_elim, ℕ, zero, suc, ◌+◌, ◌<◌, ◌≤◌, Bool, true, if◌then◌else◌, nat_le, ◌&&◌, List, [], ◌∷◌, ◌++◌, length, slice_get, Option, Some, None, IsSome, sym, ap, subst, ◌∙◌, refl, arith}
 use Rattle.std.proofs.lemmas.Bool.{cases_lt, le-leb, lt-leb}
 use Rattle.std.proofs.lemmas.List.{length-append}
 use Rattle.std.proofs.lemmas.Option.{slice_get_past}
@@ -7,19 +7,16 @@ use Rattle.std.specs.FinMap.{get}
 use Rattle.jiff.specs.declared.civil.dates.Date.{Date}
 use Rattle.office_mail.specs.declared.message.RunOrder.{RunOrder}
 use Rattle.office_mail.specs.Lists.{Lists}
-use Rattle.office_mail.specs.Kept.{Kept, Place, IsPlace}
-use Rattle.office_mail.specs.Runs.{order_at, orders_to, latest_day, IsReady, IsReadyCount}
+use Rattle.office_mail.specs.Kept.{Kept}
+use Rattle.office_mail.specs.Runs.{orders_to, latest_day, IsReady, IsReadyCount}
 use Rattle.office_mail.proofs.RunFacts.{IsReady-before}
 use Rattle.office_http.specs.declared.plain.Reports.{Reports}
 use Rattle.office_http.specs.Content.{Content}
 use Rattle.office_http.specs.Mail.{item_from_one}
-use Rattle.office_http.specs.Standing.{State}
 use Rattle.office_http.specs.State.{IsOffice, AreOwnTexts, reports_at}
-use Rattle.office_http.specs.Ready.{FirstOrders}
 use Rattle.testing_rules.specs.Watched.{AllWatchedWork}
 use Rattle.office_http.specs.declared.rules.Outcome.{Outcome}
 use Rattle.office_http.specs.Outcome.{Testing, covered_items, outcome, outcome_on, outcome_of, reports_of, reports_to, testing_after}
-use Rattle.office_http.proofs.ReadyCount.{take-orders_to}
 
 pub IsReady-down : (setup : Lists) (kept : Kept) (n m : ℕ) → m ≤ n → IsReady setup kept n → IsReady setup kept m
 IsReady-down setup kept zero m le ready = let none : m ≡ 0 = omega arith in rw none ready
@@ -32,23 +29,21 @@ outcome_of-suc : (setup : Lists) (kept : Kept) (n : ℕ) → outcome_of setup ke
 unfolding outcome_of
 outcome_of-suc setup kept n = refl
 
--- the next run has an order
-pub next_order : (setup : Lists) (kept : Kept) (orders : List RunOrder) (n : ℕ) → FirstOrders setup kept orders → IsReady setup kept (n + 1) → n + 1 ≤ length orders
-next_order setup kept orders n first ready = ⊎_elim
-    (λ (lt : length orders < n + 1). absurd (cc (subst IsSome first.gap (ready.orders (length orders + 1) (omega arith) (omega arith)))))
-    (λ (le : n + 1 ≤ length orders). le)
-    (cases_lt (length orders) (n + 1))
-
-pub orders_are : (setup : Lists) (kept : Kept) (orders : List RunOrder) (n : ℕ) → FirstOrders setup kept orders → IsReady setup kept (n + 1) → take (n + 1) orders ≡ orders_to setup kept (n + 1)
-orders_are setup kept orders n first ready =
-    ap (λ (os : List RunOrder). take (n + 1) os) first.same
-    ∙ take-orders_to setup kept (n + 1) (length orders) (next_order setup kept orders n first ready) first.each
+-- a ready run that none follows is the last
+pub ready_count : (setup : Lists) (kept : Kept) (n : ℕ) → IsReady setup kept n → (IsReady setup kept (n + 1) → ⊥) → IsReadyCount setup kept n
+ready_count setup kept n ready none = record {
+  holds = ready;
+  none_above = λ m above. ⊎_elim
+      (λ (lt : n < m). absurd (none (IsReady-down setup kept m (n + 1) (omega arith) above)))
+      (λ (le : m ≤ n). le)
+      (cases_lt n m);
+}
 
 -- the next run by the rules, on the day of its orders
-pub outcome_is : (setup : Lists) (kept : Kept) (orders : List RunOrder) (n : ℕ) (date : Date) → FirstOrders setup kept orders → IsReady setup kept (n + 1) → Some date ≡ latest_day (take (n + 1) orders) → outcome setup (n + 1) date (covered_items setup kept (n + 1)) (testing_after setup kept n) ≡ outcome_of setup kept (n + 1)
-outcome_is setup kept orders n date first ready is =
+pub outcome_is : (setup : Lists) (kept : Kept) (orders : List RunOrder) (n : ℕ) (date : Date) → orders ≡ orders_to setup kept (n + 1) → Some date ≡ latest_day orders → outcome setup (n + 1) date (covered_items setup kept (n + 1)) (testing_after setup kept n) ≡ outcome_of setup kept (n + 1)
+outcome_is setup kept orders n date are is =
     let one : n + 1 ≡ suc n = omega arith in
-    let day : Some date ≡ latest_day (orders_to setup kept (n + 1)) = is ∙ ap latest_day (orders_are setup kept orders n first ready) in
+    let day : Some date ≡ latest_day (orders_to setup kept (n + 1)) = is ∙ ap latest_day are in
     ap (λ (d : Option Date). outcome_on setup (n + 1) d (covered_items setup kept (n + 1)) (testing_after setup kept n)) day
     ∙ ap (λ (k : ℕ). outcome_on setup k (latest_day (orders_to setup kept k)) (covered_items setup kept k) (testing_after setup kept n)) one
     ∙ sym (outcome_of-suc setup kept n)

@@ -4,9 +4,15 @@ pub mod DigitFacts
 pub mod FinishFacts
 pub mod OfficeFacts
 pub mod ReadyCount
+pub mod CountFacts
 pub mod ReplayFacts
 pub mod WrittenFacts
 pub mod EndFacts
 pub mod CourseFacts
 pub mod WalkFacts
 pub mod RunFacts
+pub mod FramingFacts
+pub mod HeadFacts
+pub mod ServeFacts
+pub mod LengthFacts
+pub mod RequestFacts

@@ -1,7 +1,7 @@
 -- A run by the rules.
-use Rattle.std.proofs.Common.{◌≡◌, ℕ, ◌+◌, List, [], ◌∷◌, length, take, max, slice_index, Option, Some, sym, ap, subst, ◌∙◌, refl, arith}
+use Rattle.std.proofs.Common.{◌≡◌, ℕ, ◌+◌, List, [], ◌∷◌, length, max, slice_index, Some, ap, subst, ◌∙◌, refl, arith}
 use Rattle.office_mail.specs.declared.message.RunOrder.{RunOrder}
-use Rattle.office_mail.specs.Runs.{cover_of, cover, latest_day, IsReady}
+use Rattle.office_mail.specs.Runs.{cover_of, cover, latest_day, orders_to}
 use Rattle.jiff.specs.declared.civil.dates.Date.{Date}
 use Rattle.testing_rules.specs.declared.excuse.Excuse.{Excuse}
 use Rattle.testing_rules.specs.declared.update.Decision.{Decision}
@@ -19,7 +19,7 @@ use Rattle.office_http.specs.State.{IsOffice}
 use Rattle.office_http.specs.Walk.{said_within}
 use Rattle.office_http.specs.Outcome.{Testing, covered_items, outcome, outcome_of, reported}
 use Rattle.office_http.proofs.WalkFacts.{stands_for_covered}
-use Rattle.office_http.proofs.FinishFacts.{orders_are, outcome_is}
+use Rattle.office_http.proofs.FinishFacts.{outcome_is}
 
 -- what is written and left by the excuses and the decisions is the run's outcome
 pub reported_is : (setup : Lists) (run : ℕ) (date : Date) (s : Covered) (t new : Suite) (es : List Excuse) (ds : List Decision) → es ≡ excuses_of setup.archs s t date → IsUpdate setup.archs s es t ds new → reported setup run date es (record { decisions = ds; suite = new }) ≡ outcome setup run date s t
@@ -42,14 +42,14 @@ pub max_of_three : (a b n : ℕ) → max (max a b) n ≡ max a (max b n)
 max_of_three a b n = omega arith
 
 -- a run over the facts of its covered mail is the office's next run
-pub next_run : (setup : Lists) (plain : Content) (orders : List RunOrder) (run : ℕ) (date : Date) (facts : FactLists) (testing : Testing) (left : Outcome) → IsOffice setup plain testing → FirstOrders setup plain.kept orders → IsReady setup plain.kept (length plain.reports + 1) → run ≡ length plain.reports + 1 → Some date ≡ latest_day (take run orders) → ((t : Suite) → StandsFor facts (said_within setup plain.kept (cover_of (take run orders)) (length setup.senders)) t) → ((s : Covered) → StandsFor facts s testing → left ≡ outcome setup run date s testing) → left ≡ outcome_of setup plain.kept (length plain.reports + 1)
-next_run setup plain orders run date facts testing left office first ready same is stands made =
+pub next_run : (setup : Lists) (plain : Content) (orders : List RunOrder) (run : ℕ) (date : Date) (facts : FactLists) (testing : Testing) (left : Outcome) → IsOffice setup plain testing → FirstOrders setup plain.kept orders → length orders ≡ length plain.reports + 1 → run ≡ length plain.reports + 1 → Some date ≡ latest_day orders → ((t : Suite) → StandsFor facts (said_within setup plain.kept (cover_of orders) (length setup.senders)) t) → ((s : Covered) → StandsFor facts s testing → left ≡ outcome setup run date s testing) → left ≡ outcome_of setup plain.kept (length plain.reports + 1)
+next_run setup plain orders run date facts testing left office first size same is stands made =
     let kept = plain.kept in
     let n = length plain.reports in
+    let are : orders ≡ orders_to setup kept (n + 1) = first.same ∙ ap (orders_to setup kept) size in
     let given : StandsFor facts (said_within setup kept (cover setup kept (n + 1)) (length setup.senders)) testing =
-    subst (λ (os : List RunOrder). StandsFor facts (said_within setup kept (cover_of os) (length setup.senders)) testing)
-    (ap (λ (r : ℕ). take r orders) same ∙ orders_are setup kept orders n first ready) (stands testing) in
+    subst (λ (os : List RunOrder). StandsFor facts (said_within setup kept (cover_of os) (length setup.senders)) testing) are (stands testing) in
     made (covered_items setup kept (n + 1)) (stands_for_covered setup kept (n + 1) facts testing office.places given)
     ∙ ap (λ (r : ℕ). outcome setup r date (covered_items setup kept (n + 1)) testing) same
     ∙ ap (λ (t : Testing). outcome setup (n + 1) date (covered_items setup kept (n + 1)) t) office.testing_is
-    ∙ outcome_is setup kept orders n date first ready (is ∙ ap (λ (r : ℕ). latest_day (take r orders)) same)
+    ∙ outcome_is setup kept orders n date are is

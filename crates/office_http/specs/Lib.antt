@@ -1,3 +1,4 @@
+pub mod Asked
 pub mod Code
 pub mod Content
 pub mod Delivered
@@ -9,6 +10,10 @@ pub mod Output
 pub mod Ready
 pub mod Replay
 pub mod Replies
+pub mod Reply
+pub mod Request
+pub mod Routes
+pub mod Serve
 pub mod Standing
 pub mod State
 pub mod Walk

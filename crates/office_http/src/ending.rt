@@ -71,8 +71,8 @@ fn write_status<W: Sink>(
 {
     match status {
         Ok(progress) => {
-            let ready = Digits::of(progress.ready);
-            let finished = Digits::of(progress.finished);
+            let ready = Digits::of(u64::from(progress.ready));
+            let finished = Digits::of(u64::from(progress.finished));
             let parts = [
                 b"ready ".as_slice(),
                 ready.as_slice(),

@@ -4,18 +4,25 @@
 
 mod ending;
 mod faults;
+mod head;
 mod mail_text;
 mod office;
+mod orders;
 mod plain;
 mod replays;
 mod replies;
+mod reply;
+mod request;
+mod routes;
 mod rules;
+mod serve;
 
 pub use faults::{DeliverFault, Held, Progress, StoreFault};
 pub use mail_text::MailText;
 pub use office::Office;
 pub use replays::{Replayed, replay, replay_bag, replay_status};
 pub use replies::{Delivery, Mark, WriteFault};
+pub use serve::{ServeFault, Served, serve_one};
 
 #[cfg(test)]
 mod tests;

@@ -1,38 +1,40 @@
 //! The office: what it takes, finishes and reports.
-ghost use Rattle.std.specs.Prelude.{◌≡◌, ◌⊎◌, ◌≤◌, ◌<◌, ◌+◌, ◌++◌, ℕ, [], ◌∷◌, IfOk, IfErr, OnOk, OnErr, IfSome, IsSome, None, Some, Ok, Err, length, take, slice_index};
-ghost use Rattle.std.specs.FinMap.{get, empty};
-ghost use Rattle.office_mail.specs.Kept.{kept_from};
-ghost use Rattle.office_mail.specs.Runs.{order_at, order_in_body, IsReady, IsReadyCount};
+ghost use Rattle.std.specs.Prelude.{◌≡◌, ◌⊎◌, ◌≤◌, ◌<◌, ◌+◌, ◌++◌, ℕ, [], ◌∷◌, IfOk, IfErr, OnOk, OnErr, IfSome, IsSome, IsTrue, None, Some, Ok, Err, ◌↔◌, if◌then◌else◌, length};
+ghost use Rattle.std.specs.FinMap.{get, insert, empty};
+ghost use Rattle.office_mail.specs.Kept.{kept_from, place_of, IsPlace};
+ghost use Rattle.office_mail.specs.Read.{read};
+ghost use Rattle.office_mail.specs.Runs.{IsReady, IsReadyCount};
 ghost use Rattle.std.specs.Option.{option_map};
 ghost use Rattle.office_mail.specs.Runs.{cover_of};
-ghost use Rattle.office_http.specs.Outcome.{testing_after, testing_text, item_in_answer};
+ghost use Rattle.office_http.specs.Outcome.{outcome_of, testing_after, testing_text};
 ghost use Rattle.office_http.specs.Walk.{said_at, said_by, said_within};
 ghost use Rattle.testing_rules.specs.Covered.{Covered};
 ghost use Rattle.testing_rules.specs.StandsFor.{StandsFor};
 ghost use Rattle.testing_rules.specs.Suite.{Suite};
 ghost use Rattle.testing_rules.specs.Watched.{AllWatchedWork};
 ghost use Rattle.office_http.specs.State.{answer_to, AnswersDelivery, AreOwnTexts, reports_at};
-ghost use Rattle.office_http.specs.Ready.{FirstOrders, IsUnbroken, AreUnbroken};
+ghost use Rattle.office_http.specs.Ready.{FirstOrders};
 
 use crate::faults::{DeliverFault, Held, Progress, StoreFault};
+use crate::orders::{is_within, make_room, order, read_next};
 use crate::plain::Plain;
-use crate::rules::{cover_of, run_rules, take_body};
+use crate::rules::{Outcome, cover_of, run_rules, take_body};
 use deb_control::{NoMemory, Text};
-use office_mail::{Body, MailFault, Message, RunOrder, Setup, latest_day, read_message, ready};
+use office_mail::{MailFault, Message, RunOrder, Setup, latest_day, read_message};
 use std::alloc::Global;
 use std::marker::Model;
 use testing_rules::{Facts, Testing};
 
-/// The greatest number of a message.
-const GREATEST: u32 = 999_999_999;
-
-/// An office: its setup, its mail and its runs.
+/// An office: its setup, its mail and its runs. Beside the mail stand for each sender up to where its
+/// numbers are unbroken, and the run orders that were read.
 #[derive(Drop)]
 pub struct Office {
     alloc: Global,
     setup: Setup,
     plain: Plain,
     testing: Testing,
+    unbroken: Vec<u32>,
+    orders: Vec<RunOrder>,
 }
 
 impl Model for Office {
@@ -40,6 +42,7 @@ impl Model for Office {
     ghost use Rattle.office_http.specs.Standing.{State};
     ghost use Rattle.office_http.specs.Code.{coded_state};
     ghost use Rattle.office_http.specs.State.{IsOffice};
+    ghost use Rattle.office_http.specs.Ready.{IsCounted};
 
     ghost Value = { State };
 
@@ -47,7 +50,7 @@ impl Model for Office {
 
     ghost view = { λ a. record { setup = a.setup; kept = a.plain.kept; finished = length a.plain.reports } };
 
-    ghost invariant = { λ a. IsOffice a.setup a.plain a.testing };
+    ghost invariant = { λ a. IsOffice a.setup a.plain a.testing × IsCounted a.setup a.plain a.unbroken.items a.orders.items };
 }
 
 impl Office {
@@ -62,6 +65,8 @@ impl Office {
             setup,
             plain: Plain::new(alloc),
             testing: Testing::new(alloc),
+            unbroken: Vec::new(alloc),
+            orders: Vec::new(alloc),
         }
     }
 
@@ -111,19 +116,39 @@ impl Office {
             number: message.number,
         };
         match self.plain.find(held.sender, held.number) {
-            Err(_) => Err(DeliverFault::Mail(MailFault::NoMemory)),
-            Ok(Some(kept)) => {
+            Some(kept) => {
                 if kept.as_slice() == text {
                     Ok(held)
                 } else {
                     Err(DeliverFault::OtherText)
                 }
             }
-            Ok(None) => match self.plain.keep(held.sender, held.number, text) {
+            None => match self.keep(&message, text) {
                 Ok(()) => Ok(held),
                 Err(_) => Err(DeliverFault::Mail(MailFault::NoMemory)),
             },
         }
+    }
+
+    /// Keeps a message at its place, which is free, and counts its sender's numbers on.
+    fn keep(&mut self, message: &Message, text: &[u8]) -> Result<(), StoreFault>
+        requires read { read self.old.setup text.now ≡ Ok message.now }
+        requires place { IsPlace self.old.setup (place_of message.now) }
+        requires free { get self.old.kept (place_of message.now) ≡ None }
+        ensures kept { OnOk result (self.new.kept ≡ insert self.old.kept (place_of message.now) text.now) }
+        ensures finished { self.new.finished ≡ self.old.finished }
+        ensures setup { self.new.setup ≡ self.old.setup }
+        ensures err { OnErr result (self.new ≡ self.old) }
+        ensures no_store { IfErr result (λ fault. fault ≡ StoreFault.NoMemory) }
+    {
+        make_room(&mut self.unbroken, message.sender)?;
+        self.plain.keep(message.sender, message.number, text)?;
+        let sender = message.sender as usize;
+        let count = self
+            .plain
+            .unbroken_from(message.sender, self.unbroken[sender]);
+        self.unbroken[sender] = count;
+        Ok(())
     }
 
     /// How many runs are ready, and how many are finished. It fails for want of memory alone.
@@ -132,11 +157,35 @@ impl Office {
         ensures finished { IfOk result (λ progress. progress.finished ≡ self.now.finished) }
         ensures no_store { IfErr result (λ fault. fault ≡ StoreFault.NoMemory) }
     {
-        let orders = self.orders()?;
         Ok(Progress {
-            ready: ready(&orders, &self.unbroken()?),
+            ready: self.ready_count()?,
             finished: self.plain.finished(),
         })
+    }
+
+    /// The greatest ready run, or 0: from the last finished one on, each order is read.
+    fn ready_count(&self) -> Result<u32, StoreFault>
+        ensures ready { IfOk result (λ count. IsReadyCount self.now.setup self.now.kept count) }
+        ensures no_store { IfErr result (λ fault. fault ≡ StoreFault.NoMemory) }
+    {
+        let mut count = self.plain.finished();
+        'runs: while self.is_ready_after(count)? {
+            count += 1;
+        }
+        Ok(count)
+    }
+
+    /// Whether the run behind a ready one is ready too.
+    fn is_ready_after(&self, run: u32) -> Result<bool, StoreFault>
+        requires before { IsReady self.now.setup self.now.kept run }
+        requires below { run ≤ 999_999_999 }
+        ensures ready { IfOk result (λ ready. IsTrue ready ↔ IsReady self.now.setup self.now.kept (run + 1)) }
+        ensures no_store { IfErr result (λ fault. fault ≡ StoreFault.NoMemory) }
+    {
+        match order(self.alloc, &self.setup, &self.plain, run + 1)? {
+            Some(order) => Ok(is_within(&order, &self.unbroken)),
+            None => Ok(false),
+        }
     }
 
     /// Finishes the runs that are ready, in order. `Ok` means that none is left. It fails for want of
@@ -154,37 +203,55 @@ impl Office {
         ensures only_ready { IsReady self.old.setup self.old.kept self.new.finished }
         ensures no_store { IfErr result (λ fault. fault ≡ StoreFault.NoMemory) }
     {
-        let orders = self.orders()?;
-        let count = ready(&orders, &self.unbroken()?);
-        while self.plain.finished() < count {
-            self.finish(&orders)?;
+        'runs: loop {
+            let finished = self.plain.finished();
+            if !self.finish_next()? {
+                return Ok(Progress {
+                    ready: finished,
+                    finished,
+                });
+            }
         }
-        Ok(Progress {
-            ready: count,
-            finished: count,
-        })
     }
 
-    /// Finishes the next run, which is ready.
-    fn finish(&mut self, orders: &[RunOrder]) -> Result<(), StoreFault>
-        requires first { FirstOrders self.old.setup self.old.kept orders.now }
-        requires ready { IsReady self.old.setup self.old.kept (self.old.finished + 1) }
+    /// Finishes the next run where it is ready, and says whether it was.
+    fn finish_next(&mut self) -> Result<bool, StoreFault>
+        ensures ready { IfOk result (λ ready. IsTrue ready ↔ IsReady self.old.setup self.old.kept (self.old.finished + 1)) }
+        ensures finished { IfOk result (λ ready. self.new.finished ≡ (if ready then self.old.finished + 1 else self.old.finished)) }
         ensures setup { self.new.setup ≡ self.old.setup }
         ensures kept { self.new.kept ≡ self.old.kept }
-        ensures finished { OnOk result (self.new.finished ≡ self.old.finished + 1) }
         ensures err { OnErr result (self.new ≡ self.old) }
         ensures no_store { IfErr result (λ fault. fault ≡ StoreFault.NoMemory) }
     {
+        read_next(self.alloc, &self.setup, &self.plain, &mut self.orders)?;
+        let finished = self.plain.finished() as usize;
+        if self.orders.len() <= finished {
+            return Ok(false);
+        }
+        if !is_within(&self.orders[finished], &self.unbroken) {
+            return Ok(false);
+        }
+        let left = self.next_outcome(&self.orders)?;
+        self.plain.finish(left.reports)?;
+        self.testing = left.testing;
+        Ok(true)
+    }
+
+    /// The outcome of the next run, of which and of those before it these are the orders.
+    fn next_outcome(&self, orders: &[RunOrder]) -> Result<Outcome, StoreFault>
+        requires first { FirstOrders self.now.setup self.now.kept orders.now }
+        requires next { length orders.now ≡ self.now.finished + 1 }
+        ensures outcome { IfOk result (λ left. left ≡ outcome_of self.now.setup self.now.kept (self.now.finished + 1)) }
+        ensures watched { IfOk result (λ left. AllWatchedWork self.now.setup.archs left.testing.rows) }
+        ensures no_store { IfErr result (λ fault. fault ≡ StoreFault.NoMemory) }
+    {
         let run = self.plain.finished() + 1;
-        let orders = &orders[..run as usize];
         let Some(date) = latest_day(orders) else {
             unreachable!()
         };
         let facts = self.facts(orders)?;
         let left = run_rules(self.alloc, &self.setup, run, date, &facts, &self.testing)?;
-        self.plain.finish(left.reports)?;
-        self.testing = left.testing;
-        Ok(())
+        Ok(left)
     }
 
     /// The facts of the messages that these orders cover.
@@ -216,7 +283,7 @@ impl Office {
         ensures taken { OnOk result ((s : Covered) (t : Suite) → StandsFor facts.old s t → StandsFor facts.new (said_at self.now.setup self.now.kept (sender, number) ++ s) t) }
         ensures no_store { IfErr result (λ fault. fault ≡ StoreFault.NoMemory) }
     {
-        let Some(text) = self.plain.find(sender, number)? else {
+        let Some(text) = self.plain.find(sender, number) else {
             return Ok(());
         };
         match read_message(self.alloc, &self.setup, text.as_slice()) {
@@ -259,61 +326,6 @@ impl Office {
             Some(reports) => Ok(Some(reports.updates.copy(self.alloc)?)),
         }
     }
-
-    /// Run order k, or none.
-    fn order(&self, number: u32) -> Result<Option<RunOrder>, StoreFault>
-        ensures order { IfOk result (λ order. order ≡ order_at self.now.setup self.now.kept number) }
-        ensures no_store { IfErr result (λ fault. fault ≡ StoreFault.NoMemory) }
-    {
-        let Some(text) = self.plain.find(self.setup.runs(), number)? else {
-            return Ok(None);
-        };
-        match read_message(self.alloc, &self.setup, text.as_slice()) {
-            Ok(message) => Ok(order_in(message)),
-            Err(fault) => no_order(fault),
-        }
-    }
-
-    /// Run orders 1, 2, .. up to the first that isn't kept.
-    fn orders(&self) -> Result<Vec<RunOrder>, StoreFault>
-        ensures orders { IfOk result (λ orders. FirstOrders self.now.setup self.now.kept orders.items) }
-        ensures no_store { IfErr result (λ fault. fault ≡ StoreFault.NoMemory) }
-    {
-        let mut orders = Vec::new(self.alloc);
-        for number in 1..=GREATEST {
-            let Some(order) = self.order(number)? else {
-                return Ok(orders);
-            };
-            orders.push(order)?;
-        }
-        Ok(orders)
-    }
-
-    /// For each sender how many of its numbers are kept without a gap.
-    fn unbroken(&self) -> Result<Vec<u32>, StoreFault>
-        ensures unbroken { IfOk result (λ unbroken. AreUnbroken self.now.setup self.now.kept unbroken.items) }
-        ensures no_store { IfErr result (λ fault. fault ≡ StoreFault.NoMemory) }
-    {
-        let mut unbroken = Vec::new(self.alloc);
-        for place in 0..self.setup.senders().len() {
-            unbroken.push(self.unbroken_of(place as u32)?)?;
-        }
-        Ok(unbroken)
-    }
-
-    fn unbroken_of(&self, sender: u32) -> Result<u32, StoreFault>
-        ensures count { IfOk result (λ n. IsUnbroken self.now.kept sender n) }
-        ensures no_store { IfErr result (λ fault. fault ≡ StoreFault.NoMemory) }
-    {
-        let mut count = 0;
-        for number in 1..=GREATEST {
-            if self.plain.find(sender, number)?.is_none() {
-                return Ok(count);
-            }
-            count = number;
-        }
-        Ok(count)
-    }
 }
 
 /// The text of testing after a number of runs.
@@ -338,26 +350,5 @@ fn no_message(fault: MailFault) -> Result<(), StoreFault>
     match fault {
         MailFault::NoMemory => Err(StoreFault::NoMemory),
         _ => Ok(()),
-    }
-}
-
-/// What a refused text is: no order, but for want of memory.
-fn no_order(fault: MailFault) -> Result<Option<RunOrder>, StoreFault>
-    ensures none { IfOk result (λ order. (order ≡ None) × (fault ≡ MailFault.NoMemory → ⊥)) }
-    ensures no_store { IfErr result (λ fault. fault ≡ StoreFault.NoMemory) }
-{
-    match fault {
-        MailFault::NoMemory => Err(StoreFault::NoMemory),
-        _ => Ok(None),
-    }
-}
-
-/// The run order that a message is, or none.
-fn order_in(message: Message) -> Option<RunOrder>
-    ensures { result ≡ order_in_body message.body }
-{
-    match message.body {
-        Body::Run(order) => Some(order),
-        Body::Item(_) => None,
     }
 }

@@ -1,14 +1,18 @@
 //! A keeper in memory.
-ghost use Rattle.std.specs.Prelude.{◌≡◌, ◌+◌, ◌<◌, ◌≤◌, ◌++◌, ◌∷◌, [], None, Some, IfOk, IfErr, OnOk, OnErr, length, slice_get, slice_index_or, ◌-◌, nat_lt, if◌then◌else◌};
+ghost use Rattle.std.specs.Prelude.{◌≡◌, ℕ, ◌+◌, ◌<◌, ◌≤◌, ◌++◌, ◌∷◌, [], None, Some, IsSome, IfOk, IfErr, OnOk, OnErr, length, slice_get, slice_index_or, ◌-◌, nat_lt, if◌then◌else◌};
 ghost use Rattle.std.specs.Option.{option_copied};
 ghost use Rattle.std.specs.FinMap.{get, insert, empty};
-ghost use Rattle.office_http.specs.Mail.{text_at, item_from_one};
+ghost use Rattle.office_http.specs.Mail.{item_from_one};
 
 use crate::faults::StoreFault;
 use crate::mail_text::MailText;
 use deb_control::Text;
 use std::alloc::Global;
+use std::collections::BTreeMap;
 use std::marker::Model;
+
+/// The greatest number of a message.
+pub const GREATEST: u32 = 999_999_999;
 
 /// The two reports of a finished run.
 #[derive(Drop)]
@@ -17,19 +21,11 @@ pub struct Reports {
     pub updates: Text,
 }
 
-/// A kept text.
-#[derive(Drop)]
-pub struct Mail {
-    pub sender: u32,
-    pub number: u32,
-    pub text: MailText,
-}
-
-/// Kept mail and reports, in vectors.
+/// Kept mail by sender and number, and the reports of each run.
 #[derive(Drop)]
 pub struct Plain {
     alloc: Global,
-    mail: Vec<Mail>,
+    mail: BTreeMap<(u32, u32), MailText>,
     runs: Vec<Reports>,
 }
 
@@ -43,7 +39,7 @@ impl Model for Plain {
 
     ghost coded = { coded_content };
 
-    ghost view = { λ a. record { kept = kept_in a.mail.items; reports = a.runs.items } };
+    ghost view = { λ a. record { kept = kept_in a.mail.entries; reports = a.runs.items } };
 
     ghost invariant = { λ a. length a.runs.items ≤ 999_999_999 };
 }
@@ -56,20 +52,34 @@ impl Plain {
     {
         Plain {
             alloc,
-            mail: Vec::new(alloc),
+            mail: BTreeMap::new(alloc),
             runs: Vec::new(alloc),
         }
     }
 
     /// The kept text, or none.
-    pub fn find(&self, sender: u32, number: u32) -> Result<Option<MailText>, StoreFault>
-        ensures found { IfOk result (λ text. text ≡ get self.now.kept (sender, number)) }
-        ensures no_store { IfErr result (λ fault. fault ≡ StoreFault.NoMemory) }
+    pub fn find(&self, sender: u32, number: u32) -> Option<&MailText>
+        ensures { option_copied result ≡ get self.now.kept (sender, number) }
     {
-        match find_text(&self.mail, sender, number) {
-            None => Ok(None),
-            Some(text) => Ok(Some(MailText::copy_of(self.alloc, text.as_slice())?)),
+        self.mail.get(&(sender, number))
+    }
+
+    /// Up to where a sender's numbers are kept without a gap, counted on from `count`: it reads one
+    /// number more than it counts.
+    pub fn unbroken_from(&self, sender: u32, count: u32) -> u32
+        requires { count ≤ 999_999_999 }
+        ensures grows { count ≤ result }
+        ensures each { (j : ℕ) → count < j → j ≤ result → IsSome (get self.now.kept (sender, j)) }
+        ensures gap { result < 999_999_999 → get self.now.kept (sender, result + 1) ≡ None }
+    {
+        let mut reached = count;
+        'numbers: for number in count + 1..=GREATEST {
+            if self.find(sender, number).is_none() {
+                return reached;
+            }
+            reached = number;
         }
+        reached
     }
 
     /// Keeps a text at a place that is free.
@@ -81,17 +91,14 @@ impl Plain {
         ensures no_store { IfErr result (λ fault. fault ≡ StoreFault.NoMemory) }
     {
         let text = MailText::copy_of(self.alloc, text)?;
-        self.mail.push(Mail {
-            sender,
-            number,
-            text,
-        })?;
+        self.mail.insert((sender, number), text)?;
         Ok(())
     }
 
     /// How many runs are finished.
     pub fn finished(&self) -> u32
-        ensures { result ≡ length self.now.reports }
+        ensures count { result ≡ length self.now.reports }
+        ensures bound { result ≤ 999_999_999 }
     {
         self.runs.len() as u32
     }
@@ -117,15 +124,4 @@ impl Plain {
         self.runs.push(reports)?;
         Ok(())
     }
-}
-
-fn find_text<'a>(mail: &'a [Mail], sender: u32, number: u32) -> Option<&'a MailText>
-    ensures { option_copied result ≡ text_at (sender, number) mail.now }
-{
-    for m in mail {
-        if m.sender == sender && m.number == number {
-            return Some(&m.text);
-        }
-    }
-    None
 }

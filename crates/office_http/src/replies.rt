@@ -73,7 +73,7 @@ pub(crate) fn write_parts<W: Sink>(writer: &mut W, parts: &[&[u8]]) -> Result<()
 /// The decimal digits of a number.
 #[derive(Drop)]
 pub(crate) struct Digits {
-    bytes: [u8; 10],
+    bytes: [u8; 20],
     start: usize,
 }
 
@@ -84,15 +84,15 @@ impl Model for Digits {
 
     ghost view = { λ d. drop d.start d.bytes };
 
-    ghost invariant = { λ d. (d.start ≤ 10) × (length d.bytes ≡ 10) };
+    ghost invariant = { λ d. (d.start ≤ 20) × (length d.bytes ≡ 20) };
 }
 
 impl Digits {
-    pub(crate) fn of(number: u32) -> Digits
+    pub(crate) fn of(number: u64) -> Digits
         ensures { result ≡ decimal number }
     {
-        let mut bytes = [0u8; 10];
-        let mut start = 9;
+        let mut bytes = [0u8; 20];
+        let mut start = 19;
         let mut rest = number;
         while rest >= 10 {
             bytes[start] = b'0' + (rest % 10) as u8;
@@ -108,11 +108,20 @@ impl Digits {
     {
         &self.bytes[self.start..]
     }
+
+    /// How many they are.
+    pub(crate) fn len(&self) -> usize
+        ensures same { result ≡ length self.now }
+        ensures few { result ≤ 20 }
+    {
+        20 - self.start
+    }
 }
 
 /// The words of a refusal, in two parts.
-fn fault_words(fault: DeliverFault) -> (&'static str, &'static str)
-    ensures { result.0.now ++ result.1.now ≡ fault_words fault }
+pub(crate) fn fault_words(fault: DeliverFault) -> (&'static str, &'static str)
+    ensures words { result.0.now ++ result.1.now ≡ fault_words fault }
+    ensures short { length result.0.now < 20 }
 {
     match fault {
         DeliverFault::Mail(MailFault::TooLong) => ("TooLong", ""),
@@ -146,7 +155,7 @@ pub(crate) fn write_reply<W: Sink>(
 {
     match reply {
         Ok(held) => {
-            let digits = Digits::of(held.number);
+            let digits = Digits::of(u64::from(held.number));
             let name = setup.senders()[held.sender as usize]
                 .name
                 .as_str()

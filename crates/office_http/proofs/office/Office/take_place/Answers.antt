@@ -1,10 +1,9 @@
-use Rattle.std.proofs.Common.{◌≡◌, ⊎_elim, ℕ, List, [], ◌++◌, Some, None, Ok, Err, Result, sym, ap, subst, ◌∙◌, refl, option_to_list}
+use Rattle.std.proofs.Common.{◌≡◌, ⊎_elim, [], ◌++◌, Some, Ok, Err, option_copied, sym, ap, subst, ◌∙◌, option_to_list}
 use Rattle.std.proofs.lemmas.Result.{on_ok_weaker}
 use Rattle.std.specs.FinMap.{get}
 use Rattle.testing_rules.specs.Covered.{Covered}
 use Rattle.testing_rules.specs.StandsFor.{StandsFor}
 use Rattle.office_mail.specs.Kept.{Place}
-use Rattle.office_mail.specs.declared.message.MailFault.{MailFault}
 use Rattle.office_mail.specs.declared.message.MailFault.TheVariants.{NoMemory}
 use Rattle.office_http.specs.Standing.{State}
 use Rattle.office_http.specs.Outcome.{item_in_body}
@@ -18,28 +17,28 @@ returns-in_default-clause-taken c =
     let p : Place = (c.args.sender, c.args.number) in
     let nothing : said_at c.args.self.now.setup c.args.self.now.kept p ≡ [] =
     subst (λ (st : State). said_at st.setup st.kept p ≡ []) c.self.view_is
-    (said_at-none c.self.inside.setup c.self.inside.plain.kept p (sym c.in_ok-text.ensures.found ∙ c.in_default.is)) in
+    (said_at-none c.self.inside.setup c.self.inside.plain.kept p (sym c.find.ensures ∙ ap option_copied c.in_default.is)) in
     λ s t h. subst (λ (l : Covered). StandsFor c.args.facts.now (l ++ s) t) (sym nothing) h
 
-pub returns-in-Ok-clause-taken : goal.returns-in-Ok-clause-taken
-returns-in-Ok-clause-taken c =
+pub returns-in_ok-take_body-in-Ok-clause-taken : goal.returns-in_ok-take_body-in-Ok-clause-taken
+returns-in_ok-take_body-in-Ok-clause-taken c =
     let p : Place = (c.args.sender, c.args.number) in
     let setup = c.self.inside.setup in
     let kept = c.self.inside.plain.kept in
     let text = c.as_slice.result.now in
-    let found : get kept p ≡ Some text = sym c.in_ok-text.ensures.found ∙ c.in-Some.is ∙ ap Some (sym c.as_slice.ensures) in
+    let found : get kept p ≡ Some text = sym c.in-Some.ensures ∙ ap Some (sym c.as_slice.ensures) in
     let own : said_at c.args.self.now.setup c.args.self.now.kept p ≡ option_to_list (item_in_body p c.in-Ok.message.body) =
     subst (λ (st : State). said_at st.setup st.kept p ≡ option_to_list (item_in_body p c.in-Ok.message.body)) c.self.view_is
     (said_at-some setup kept p text (Ok c.in-Ok.message) found (ok_read setup text c.in-Ok.message c.in-Ok.ensures.exact)) in
     λ s t h. subst (λ (l : Covered). StandsFor c.take_body.new.facts (l ++ s) t) (sym own) (c.in_ok-take_body-in-Ok.ensures s t h)
 
-pub returns-clause-taken : goal.returns-clause-taken
-returns-clause-taken c =
+pub returns-in-Err-clause-taken : goal.returns-in-Err-clause-taken
+returns-in-Err-clause-taken c =
     let p : Place = (c.args.sender, c.args.number) in
     let setup = c.self.inside.setup in
     let kept = c.self.inside.plain.kept in
     let text = c.as_slice.result.now in
-    let found : get kept p ≡ Some text = sym c.in_ok-text.ensures.found ∙ c.in-Some.is ∙ ap Some (sym c.as_slice.ensures) in
+    let found : get kept p ≡ Some text = sym c.in-Some.ensures ∙ ap Some (sym c.as_slice.ensures) in
     on_ok_weaker c.no_message.result
     (λ (other : c.in-Err.fault ≡ NoMemory → ⊥).
     let nothing : said_at c.args.self.now.setup c.args.self.now.kept p ≡ [] =

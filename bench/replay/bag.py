@@ -1,0 +1,105 @@
+#!/usr/bin/env python3
+"""Writes a bag of mail of an archive's shape, the same at each call.
+
+usage: bag.py SHAPE SOURCES > BAG
+
+Each source is uploaded and built once: 1.9 binaries on amd64, each with some four clauses of
+Depends on binaries of the sources before it, a few of them far more often than the rest.
+
+mail        the uploads and builds, source by source, and no run
+waiting     the same behind a run order that waits for one message more than there are
+backwards   as waiting, the last message of each sender first
+idle        as many messages that say nothing, and three runs over all of them
+runs        with three runs: one over all sources, and two over 500 newer uploads each
+"""
+import random
+import sys
+
+NEWER = 500
+
+
+def binaries_of(draw, source):
+    """The binaries of a source: 1.9 on average."""
+    return [f"b{source}-{place}" for place in range(draw.choice((1, 1, 1, 1, 1, 2, 2, 2, 3, 5)))]
+
+
+def clauses(draw, earlier):
+    """What a binary depends on: the first binaries are wanted most."""
+    wanted = []
+    for _ in range(draw.choice((0, 1, 2, 3, 4, 5, 6, 7, 8, 8))):
+        if earlier:
+            name = earlier[int(len(earlier) * draw.random() ** 4)]
+            wanted.append(name + draw.choice(("", "", " (>= 1.0)")))
+    return ", ".join(wanted)
+
+
+def upload(number, source, version, day):
+    return (f"From: ftp\nNumber: {number}\nKind: upload\nSource: s{source}\n"
+            f"Version: {version}\nUrgency: medium\nDay: {day}\n")
+
+
+def build(number, source, version, rows):
+    text = f"From: bd\nNumber: {number}\nKind: build\n"
+    for name, depends in rows:
+        text += (f"\nPackage: {name}\nVersion: {version}\nArchitecture: amd64\n"
+                 f"Source: s{source}\n" + (f"Depends: {depends}\n" if depends else ""))
+    return text
+
+
+def nothing(sender, number):
+    return f"From: {sender}\nNumber: {number}\nKind: none\nNote: {'as long as most texts of uploads and builds ' * 3}and no more\n"
+
+
+def order(number, day, covered):
+    return f"From: clock\nNumber: {number}\nKind: run\nDay: {day}\nCovers: ftp {covered}, bd {covered}\n"
+
+
+def first_mail(draw, sources):
+    """Each source's upload and build, and its rows."""
+    earlier, texts, rows_of = [], [], []
+    for source in range(1, sources + 1):
+        rows = [(name, clauses(draw, earlier)) for name in binaries_of(draw, source)]
+        earlier += [name for name, _ in rows]
+        rows_of.append(rows)
+        texts.append((upload(source, source, "1.0-1", "2025-03-01"), build(source, source, "1.0-1", rows)))
+    return texts, rows_of
+
+
+def idle(sources):
+    texts = [nothing(sender, number) for number in range(1, sources + 1) for sender in ("ftp", "bd")]
+    return texts + [order(run, f"2025-03-{10 * run}", sources) for run in (1, 2, 3)]
+
+
+def bag(shape, sources):
+    if shape == "idle":
+        return idle(sources)
+    draw = random.Random(9)
+    pairs, rows_of = first_mail(draw, sources)
+    texts = [text for pair in pairs for text in pair]
+    waiting = order(1, "2025-03-10", sources + 1)
+    if shape == "mail":
+        return texts
+    if shape == "waiting":
+        return [waiting] + texts
+    if shape == "backwards":
+        return [waiting] + texts[::-1]
+    texts.append(order(1, "2025-03-10", sources))
+    number = sources
+    for run, day, version in ((2, "2025-03-20", "1.1-1"), (3, "2025-03-30", "1.2-1")):
+        for source in draw.sample(range(1, sources + 1), min(NEWER, sources)):
+            number += 1
+            texts.append(upload(number, source, version, f"2025-03-{10 * run - 9}"))
+            texts.append(build(number, source, version, rows_of[source - 1]))
+        texts.append(order(run, day, number))
+    return texts
+
+
+def main():
+    shape, sources = sys.argv[1], int(sys.argv[2])
+    if shape not in ("mail", "waiting", "backwards", "idle", "runs"):
+        sys.exit(__doc__)
+    for text in bag(shape, sources):
+        sys.stdout.write(f"mail {len(text)}\n{text}")
+
+
+main()

@@ -1,0 +1,387 @@
+-- What a connection comes to.
+use Rattle.std.proofs.Common.{◌≡◌, inl, inr, ⊎_elim, ℕ, ◌+◌, ◌-◌, ◌≤◌, ◌<◌, Bool, true, false, cond, nat_le, List, [], ◌∷◌, ◌++◌, length, take, drop, Option, Some, None, Result, Ok, Err, IfOk, IfErr, IfSome, OnOk, OnErr, is_ok, refl, sym, ap, subst, ◌∙◌, arith, append_assoc}
+use Rattle.std.specs.Option.{option_map}
+use Rattle.std.specs.Io.KnownBytes.{Appends, Consumes}
+use Rattle.std.proofs.KnownBytes.{Appends-nil, Appends-trans, Consumes-nil, Consumes-trans}
+use Rattle.std.proofs.lemmas.Bool.Decides.{nat_tests}
+use Rattle.std.proofs.lemmas.List.{drop-append-le, length-drop}
+use Rattle.httparse.specs.Grammar.{RequestHead, print_request}
+use Rattle.httparse.specs.Spans.{IsRequestAt}
+use Rattle.httparse.specs.declared.spans.HeaderSpan.{HeaderSpan}
+use Rattle.httparse.specs.declared.spans.RequestSpans.{RequestSpans}
+use Rattle.office_mail.specs.declared.message.MailFault.TheVariants as mail
+use Rattle.office_mail.specs.Kept.{Kept, kept_from}
+use Rattle.office_mail.specs.Lists.{Lists}
+use Rattle.office_mail.specs.Runs.{IsReady, IsReadyCount}
+use Rattle.office_mail.proofs.KeptFacts.{kept_from-nil}
+use Rattle.office_http.specs.declared.faults.DeliverFault.{DeliverFault}
+use Rattle.office_http.specs.declared.faults.DeliverFault.TheVariants.{Mail, OtherText, Store}
+use Rattle.office_http.specs.declared.faults.Held.{Held}
+use Rattle.office_http.specs.declared.faults.Progress.{Progress}
+use Rattle.office_http.specs.declared.faults.StoreFault.{StoreFault}
+use Rattle.office_http.specs.declared.faults.StoreFault.TheVariants as fault
+use Rattle.office_http.specs.declared.replies.Mark.{Mark}
+use Rattle.office_http.specs.declared.replies.Mark.TheVariants.{Taken, LostForMemory, LostForStore}
+use Rattle.office_http.specs.declared.reply.Refusal.{Refusal}
+use Rattle.office_http.specs.declared.reply.Refusal.TheVariants as refusal
+use Rattle.office_http.specs.declared.reply.Answer.{Answer}
+use Rattle.office_http.specs.declared.reply.Answer.TheVariants.{Refused, Status, Told}
+use Rattle.office_http.specs.declared.request.Errand.{Errand}
+use Rattle.office_http.specs.declared.request.Errand.TheVariants.{Deliver, Settle}
+use Rattle.office_http.specs.declared.request.Page.{Page}
+use Rattle.office_http.specs.declared.request.Page.TheVariants as page
+use Rattle.office_http.specs.declared.request.Posted.{Posted}
+use Rattle.office_http.specs.declared.request.Asked.{Asked}
+use Rattle.office_http.specs.declared.request.Asked.TheVariants as asks
+use Rattle.office_http.specs.declared.serve.ServeFault.{ServeFault}
+use Rattle.office_http.specs.declared.serve.ServeFault.TheVariants.{Read, Write}
+use Rattle.office_http.specs.declared.serve.Served.{Served}
+use Rattle.office_http.specs.Asked.{asked_of, is_head_method}
+use Rattle.office_http.specs.Losses.{NotStore, NotByStore}
+use Rattle.office_http.specs.Outcome.{testing_text, testing_after}
+use Rattle.office_http.specs.Replies.{reply_by, mark_of, if_taken}
+use Rattle.office_http.specs.Reply.{refused, reply_in, reply_bytes, HasPlace}
+use Rattle.office_http.specs.Request.{BeginsWith, IsHeadAt}
+use Rattle.office_http.specs.Standing.{State}
+use Rattle.office_http.specs.State.{answer_to, reports_at, AnswersDelivery}
+use Rattle.office_http.specs.Written.{AppendsFront}
+use Rattle.office_http.specs.Serve.{status_answer, text_answer, report_answer, delivery_answer, by_fault, posted_body, post_answer, answer_of, post_counts, waits_of, continued, kept_by, settles, Does, Tells, Runs, Answers, Exchange, IsUnread, IsServed, Replied, RepliedFront, Serves, StopsServe, ServesHead, ServesFront, StopsRequest}
+use Rattle.office_http.proofs.ReplayFacts.{reply_by-mark, not_by_store, kept_after, ready_after}
+use Rattle.office_http.proofs.WrittenFacts.{front_after}
+
+-- pages
+pub told_status : (s : State) (r : Result Progress StoreFault) → IfOk r (λ p. IsReadyCount s.setup s.kept p.ready) → IfOk r (λ p. p.finished ≡ s.finished) → IfErr r (λ f. f ≡ fault.NoMemory) → Tells s page.Status (status_answer r)
+told_status s (Ok p) counted finished err = record { fault = None; no_store = tt; ready = p.ready; counts = λ e h. counted; answer_is = ap (λ (n : ℕ). Status (record { ready = p.ready; finished = n })) finished; place = tt }
+told_status s (Err fault.NoMemory) counted finished err = record { fault = Some fault.NoMemory; no_store = tt; ready = 0; counts = λ e. absurd (cc (e)); answer_is = refl; place = tt }
+told_status s (Err fault.Store) counted finished err = absurd (cc (err))
+
+pub told_testing : (s : State) (r : Result (List ℕ) StoreFault) → IfOk r (λ t. t ≡ testing_text s.setup s.finished (testing_after s.setup s.kept s.finished)) → IfErr r (λ f. f ≡ fault.NoMemory) → Tells s page.Testing (text_answer r)
+told_testing s (Ok t) is err = record { fault = None; no_store = tt; ready = 0; counts = λ e h. absurd (cc (h)); answer_is = ap Told is; place = tt }
+told_testing s (Err fault.NoMemory) is err = record { fault = Some fault.NoMemory; no_store = tt; ready = 0; counts = λ e. absurd (cc (e)); answer_is = refl; place = tt }
+told_testing s (Err fault.Store) is err = absurd (cc (err))
+
+place_report : (setup : Lists) (o : Option (List ℕ)) → HasPlace setup (report_answer (Ok o))
+place_report setup None = tt
+place_report setup (Some t) = tt
+
+pub told_excuses : (s : State) (run : ℕ) (r : Result (Option (List ℕ)) StoreFault) → IfOk r (λ t. t ≡ option_map (λ reports. reports.excuses) (reports_at s run)) → IfErr r (λ f. f ≡ fault.NoMemory) → Tells s (page.Excuses run) (report_answer r)
+told_excuses s run (Ok t) is err = record { fault = None; no_store = tt; ready = 0; counts = λ e h. absurd (cc (h)); answer_is = ap (λ (o : Option (List ℕ)). report_answer (Ok o)) is; place = place_report s.setup t }
+told_excuses s run (Err fault.NoMemory) is err = record { fault = Some fault.NoMemory; no_store = tt; ready = 0; counts = λ e. absurd (cc (e)); answer_is = refl; place = tt }
+told_excuses s run (Err fault.Store) is err = absurd (cc (err))
+
+pub told_update : (s : State) (run : ℕ) (r : Result (Option (List ℕ)) StoreFault) → IfOk r (λ t. t ≡ option_map (λ reports. reports.updates) (reports_at s run)) → IfErr r (λ f. f ≡ fault.NoMemory) → Tells s (page.Update run) (report_answer r)
+told_update s run (Ok t) is err = record { fault = None; no_store = tt; ready = 0; counts = λ e h. absurd (cc (h)); answer_is = ap (λ (o : Option (List ℕ)). report_answer (Ok o)) is; place = place_report s.setup t }
+told_update s run (Err fault.NoMemory) is err = record { fault = Some fault.NoMemory; no_store = tt; ready = 0; counts = λ e. absurd (cc (e)); answer_is = refl; place = tt }
+told_update s run (Err fault.Store) is err = absurd (cc (err))
+
+-- a delivery
+lost_of : Mark → Option StoreFault
+lost_of Taken = None
+lost_of LostForMemory = Some fault.NoMemory
+lost_of LostForStore = Some fault.Store
+
+no_store_of : (m : Mark) → NotByStore m → NotStore (lost_of m)
+unfolding lost_of
+no_store_of Taken h = tt
+no_store_of LostForMemory h = tt
+no_store_of LostForStore h = absurd h
+
+answered : (m : Mark) (r due : Result Held DeliverFault) → r ≡ reply_by m due → delivery_answer r ≡ by_fault (lost_of m) (delivery_answer due)
+unfolding lost_of
+answered Taken r due e = ap delivery_answer e
+answered LostForMemory r due e = ap delivery_answer e
+answered LostForStore r due e = ap delivery_answer e
+
+kept_is : (s : State) (text : List ℕ) (m : Mark) → kept_from s.setup s.kept (if_taken m text []) ≡ kept_by s Deliver text (lost_of m)
+unfolding lost_of
+kept_is s text Taken = refl
+kept_is s text LostForMemory = kept_from-nil s.setup s.kept
+kept_is s text LostForStore = kept_from-nil s.setup s.kept
+
+settles_is : (s : State) (text : List ℕ) (m : Mark) (r : Result Held DeliverFault) → r ≡ reply_by m (answer_to s.setup s.kept text) → settles s Deliver text (lost_of m) ≡ is_ok r
+unfolding lost_of
+settles_is s text Taken r e = sym (ap is_ok e)
+settles_is s text LostForMemory r e = sym (ap is_ok e)
+settles_is s text LostForStore r e = sym (ap is_ok e)
+
+place_delivery : (setup : Lists) (r : Result Held DeliverFault) → IfOk r (λ held. held.sender < length setup.senders) → HasPlace setup (delivery_answer r)
+place_delivery setup (Ok held) h = h
+place_delivery setup (Err OtherText) h = tt
+place_delivery setup (Err Store) h = tt
+place_delivery setup (Err (Mail mail.NoMemory)) h = tt
+place_delivery setup (Err (Mail mail.TooLong)) h = tt
+place_delivery setup (Err (Mail mail.BadParagraph)) h = tt
+place_delivery setup (Err (Mail (mail.MissingField f))) h = tt
+place_delivery setup (Err (Mail mail.UnknownSender)) h = tt
+place_delivery setup (Err (Mail mail.BadNumber)) h = tt
+place_delivery setup (Err (Mail mail.UnknownKind)) h = tt
+place_delivery setup (Err (Mail mail.WrongRole)) h = tt
+place_delivery setup (Err (Mail mail.TooManyParagraphs)) h = tt
+place_delivery setup (Err (Mail mail.UnknownArchitecture)) h = tt
+place_delivery setup (Err (Mail (mail.BadValue f))) h = tt
+
+-- what follows a delivery: a settle where it is held
+pub record Follows (mid after : State) (r : Result Held DeliverFault) : Type 0 where
+  pub setup : after.setup ≡ mid.setup
+  pub kept : after.kept ≡ mid.kept
+  pub grows : mid.finished ≤ after.finished
+  pub still : is_ok r ≡ false → after.finished ≡ mid.finished
+  pub only_ready : IsReady mid.setup mid.kept mid.finished → IsReady mid.setup mid.kept after.finished
+
+-- a delivery, and what it leaves
+pub record Leaves (before mid : State) (text : List ℕ) (r : Result Held DeliverFault) : Type 0 where
+  pub answer : AnswersDelivery r (answer_to before.setup before.kept text)
+  pub kept : OnOk r (mid.kept ≡ kept_from before.setup before.kept (text ∷ []))
+  pub finished : mid.finished ≡ before.finished
+  pub setup : mid.setup ≡ before.setup
+  pub err : OnErr r (mid.kept ≡ before.kept)
+  pub place : IfOk r (λ held. held.sender < length before.setup.senders)
+  pub no_store : r ≡ Err Store → ⊥
+
+ready_moved : (a b : State) (n : ℕ) → b.setup ≡ a.setup → b.kept ≡ a.kept → IsReady a.setup a.kept n → IsReady b.setup b.kept n
+ready_moved a b n s k h = subst (λ (l : Lists). IsReady l b.kept n) (sym s) (subst (λ (m : Kept). IsReady a.setup m n) (sym k) h)
+
+pub delivered : (before mid after : State) (text : List ℕ) (r : Result Held DeliverFault) → Leaves before mid text r → Follows mid after r → Runs before after Deliver text (delivery_answer r)
+delivered before mid after text r l f =
+    let m : Mark = mark_of r in
+    let by : r ≡ reply_by m (answer_to before.setup before.kept text) = reply_by-mark r (answer_to before.setup before.kept text) l.answer in
+    record {
+      fault = lost_of m;
+      no_store = no_store_of m (not_by_store r l.no_store);
+      ready = 0;
+      counts = λ e h. absurd (cc (h));
+      answer_is = answered m r (answer_to before.setup before.kept text) by;
+      moves = record {
+        setup = f.setup ∙ l.setup;
+        kept = f.kept ∙ kept_after before.setup before.kept mid.kept text r l.answer l.kept l.err ∙ kept_is before text m;
+        grows = omega (arith, f.grows, l.finished);
+        still = λ h. f.still (sym (settles_is before text m r by) ∙ h) ∙ l.finished;
+        settled = λ h. absurd (cc (h));
+        only_ready = λ h. ready_moved mid after after.finished f.setup f.kept (f.only_ready (subst (λ n. IsReady mid.setup mid.kept n) (sym l.finished)
+            (subst (λ (s : Lists). IsReady s mid.kept before.finished) (sym l.setup) (ready_after before.setup before.kept mid.kept text before.finished r l.kept l.err h))));
+      };
+      place = place_delivery before.setup r l.place;
+    }
+
+-- a settle
+pub settled : (before after : State) (text : List ℕ) (r : Result Progress StoreFault) → IfOk r (λ p. IsReadyCount before.setup before.kept p.ready) → IfOk r (λ p. (p.finished ≡ p.ready) × (after.finished ≡ p.ready)) → after.setup ≡ before.setup → after.kept ≡ before.kept → before.finished ≤ after.finished → IsReady before.setup before.kept after.finished → IfErr r (λ f. f ≡ fault.NoMemory) → Runs before after Settle text (status_answer r)
+settled before after text (Ok p) counted fin s k g o err = record {
+  fault = None;
+  no_store = tt;
+  ready = p.ready;
+  counts = λ e h. counted;
+  answer_is = ap (λ (n : ℕ). Status (record { ready = p.ready; finished = n })) fin.0;
+  moves = record { setup = s; kept = k; grows = g; still = λ h. absurd (cc (h)); settled = λ h e. fin.1; only_ready = λ h. ready_moved before after after.finished s k o };
+  place = tt;
+}
+settled before after text (Err fault.NoMemory) counted fin s k g o err = record {
+  fault = Some fault.NoMemory;
+  no_store = tt;
+  ready = 0;
+  counts = λ e. absurd (cc (e));
+  answer_is = refl;
+  moves = record { setup = s; kept = k; grows = g; still = λ h. absurd (cc (h)); settled = λ h e. absurd (cc (e)); only_ready = λ h. ready_moved before after after.finished s k o };
+  place = tt;
+}
+settled before after text (Err fault.Store) counted fin s k g o err = absurd (cc (err))
+
+-- where a fault was met before anything was done
+does_nothing : (s : State) (o : Option (Errand × List ℕ)) (f : StoreFault) (ready : ℕ) → Does s s o (Some f) ready
+does_nothing s None f ready = refl
+does_nothing s (Some (Deliver, body)) f ready = record { setup = refl; kept = refl; grows = omega arith; still = λ h. refl; settled = λ h e. absurd (cc (e)); only_ready = λ h. h }
+does_nothing s (Some (Settle, body)) f ready = record { setup = refl; kept = refl; grows = omega arith; still = λ h. refl; settled = λ h e. absurd (cc (e)); only_ready = λ h. h }
+
+pub short_answers : (s : State) (l0 l1 w0 w1 : Option (List ℕ)) (front : List ℕ) (asked : Asked) (more : List ℕ) (goes_on : Bool) → Consumes l0 l1 more → Appends w0 w1 (continued goes_on) → (goes_on ≡ true → waits_of asked ≡ true) → Answers s s l0 l1 w0 w1 front asked (Refused refusal.NoMemory)
+short_answers s l0 l1 w0 w1 front asked more goes_on took wrote waited = record {
+  more = more;
+  took = took;
+  fault = Some fault.NoMemory;
+  no_store = tt;
+  ready = 0;
+  whole = λ e. absurd (cc (e));
+  counts = λ e. absurd (cc (e));
+  answer_is = refl;
+  does = does_nothing s (posted_body asked (front ++ more)) fault.NoMemory 0;
+  goes_on = goes_on;
+  wrote = wrote;
+  went = λ e. absurd (cc (e));
+  waited = waited;
+  place = tt;
+}
+
+pub refused_answers : (s : State) (l w : Option (List ℕ)) (front : List ℕ) (r : Refusal) (due : Asked) → asks.Refused r ≡ due → Answers s s l l w w front due (Refused r)
+refused_answers s l w front r due e = subst (λ (a : Asked). Answers s s l l w w front a (Refused r)) e (record {
+  more = [];
+  took = Consumes-nil l;
+  fault = None;
+  no_store = tt;
+  ready = 0;
+  whole = λ e. tt;
+  counts = λ e h. absurd (cc (h));
+  answer_is = refl;
+  does = refl;
+  goes_on = false;
+  wrote = Appends-nil w;
+  went = λ e. refl;
+  waited = λ h. absurd (cc (h));
+  place = tt;
+})
+
+pub told_answers : (s : State) (l w : Option (List ℕ)) (front : List ℕ) (p : Page) (answer : Answer) (due : Asked) → asks.Tell p ≡ due → Tells s p answer → Answers s s l l w w front due answer
+told_answers s l w front p answer due e t = subst (λ (a : Asked). Answers s s l l w w front a answer) e (record {
+  more = [];
+  took = Consumes-nil l;
+  fault = t.fault;
+  no_store = t.no_store;
+  ready = t.ready;
+  whole = λ e. tt;
+  counts = t.counts;
+  answer_is = t.answer_is;
+  does = refl;
+  goes_on = false;
+  wrote = Appends-nil w;
+  went = λ e. refl;
+  waited = λ h. absurd (cc (h));
+  place = t.place;
+})
+
+at_most : (n m : ℕ) → n ≤ m → nat_le n m ≡ true
+at_most n m h = grind (arith, nat_tests)
+
+some_post : Errand → List ℕ → Option (Errand × List ℕ)
+some_post errand body = Some (errand, body)
+
+body_is : (p : Posted) (rest body : List ℕ) → p.length ≤ length rest → body ≡ take p.length rest → posted_body (asks.Post p) rest ≡ some_post p.errand body
+unfolding some_post
+body_is p rest body long is =
+    ap (λ b. option_map (λ (body : List ℕ). (p.errand, body)) (cond b (Some (take p.length rest)) None)) (at_most p.length (length rest) long)
+    ∙ ap (some_post p.errand) (sym is)
+
+-- a POST whose body came
+pub whole_answers : (before after : State) (l0 l1 w0 w1 : Option (List ℕ)) (front : List ℕ) (p : Posted) (answer : Answer) (more body : List ℕ) → Consumes l0 l1 more → p.length ≤ length (front ++ more) → Runs before after p.errand body answer → body ≡ take p.length (front ++ more) → Appends w0 w1 (continued p.waits) → Answers before after l0 l1 w0 w1 front (asks.Post p) answer
+unfolding some_post
+whole_answers before after l0 l1 w0 w1 front p answer more body took long r body_same wrote =
+    let is : posted_body (asks.Post p) (front ++ more) ≡ some_post p.errand body = body_is p (front ++ more) body long body_same in
+    record {
+      more = more;
+      took = took;
+      fault = r.fault;
+      no_store = r.no_store;
+      ready = r.ready;
+      whole = λ e. inl long;
+      counts = λ e h. r.counts e (sym (ap post_counts is) ∙ h);
+      answer_is = r.answer_is ∙ ap (λ (o : Option (Errand × List ℕ)). by_fault r.fault (post_answer before r.ready o)) (sym is);
+      does = subst (λ (o : Option (Errand × List ℕ)). Does before after o r.fault r.ready) (sym is) r.moves;
+      goes_on = p.waits;
+      wrote = wrote;
+      went = λ e. refl;
+      waited = λ h. h;
+      place = r.place;
+    }
+
+-- the bytes after the head, and the body in front of them
+pub post_body : (seen seen' taken : List ℕ) (start size : ℕ) → seen' ≡ seen ++ taken → start ≤ length seen → start + size ≤ length seen' → (size ≤ length (drop start seen ++ taken)) × (take (start + size - start) (drop start seen') ≡ take size (drop start seen ++ taken))
+post_body seen seen' taken start size is h long =
+    let e : drop start seen' ≡ drop start seen ++ taken = ap (drop start) is ∙ drop-append-le start seen taken h in
+    let size_is : start + size - start ≡ size = omega arith in
+    (omega (arith, ap length e, length-drop start seen', long), ap (λ n. take n (drop start seen')) size_is ∙ ap (take size) e)
+
+does_setup : (before after : State) (o : Option (Errand × List ℕ)) (f : Option StoreFault) (ready : ℕ) → Does before after o f ready → after.setup ≡ before.setup
+does_setup before after None f ready d = ap (λ (s : State). s.setup) d
+does_setup before after (Some post) f ready d = d.setup
+
+pub answers_setup : (before after : State) (l0 l1 w0 w1 : Option (List ℕ)) (front : List ℕ) (asked : Asked) (answer : Answer) → Answers before after l0 l1 w0 w1 front asked answer → after.setup ≡ before.setup
+answers_setup before after l0 l1 w0 w1 front asked answer a = does_setup before after (posted_body asked (front ++ a.more)) a.fault a.ready a.does
+
+-- a head, and what came after it
+begins_so : (seen more : List ℕ) (headers : List HeaderSpan) (spans : RequestSpans) (h : IsHeadAt seen headers spans) → BeginsWith (seen ++ more) h.head (drop spans.len seen ++ more)
+begins_so seen more headers spans h = record {
+  reads = (h.parts.reads.0, ap (λ (l : List ℕ). l ++ more) h.parts.reads.1 ∙ append_assoc (print_request h.head) (drop spans.len seen) more);
+  short = omega (arith, h.parts.len, h.within.section.len_fits, h.short);
+  few = h.few;
+}
+
+pub exchanged : (before after : State) (l0 l1 w0 w1 : Option (List ℕ)) (seen : List ℕ) (headers : List HeaderSpan) (spans : RequestSpans) (answer : Answer) (is_head : Bool) (h : IsHeadAt seen headers spans) (a : Answers before after l0 l1 w0 w1 (drop spans.len seen) (asked_of h.head) answer) → is_head ≡ is_head_method h.head → Exchange before after l1 (seen ++ a.more) (continued a.goes_on ++ reply_bytes (reply_in before.setup answer) is_head) (reply_in before.setup answer).code
+exchanged before after l0 l1 w0 w1 seen headers spans answer is_head h a e = record {
+  head = h.head;
+  rest = drop spans.len seen ++ a.more;
+  begins = begins_so seen a.more headers spans h;
+  fault = a.fault;
+  no_store = a.no_store;
+  ready = a.ready;
+  whole = a.whole;
+  counts = a.counts;
+  does = a.does;
+  goes_on = a.goes_on;
+  went = a.went;
+  waited = a.waited;
+  bytes_are = ap (λ (r : Answer). continued a.goes_on ++ reply_bytes (reply_in before.setup r) is_head) a.answer_is
+      ∙ ap (λ (b : Bool). continued a.goes_on ++ reply_bytes (reply_in before.setup (by_fault a.fault (answer_of before a.ready (asked_of h.head) (drop spans.len seen ++ a.more)))) b) e;
+  code_is = ap (λ (r : Answer). (reply_in before.setup r).code) a.answer_is;
+}
+
+pub served_head : (before after : State) (l0 l1 w0 w1 w2 : Option (List ℕ)) (seen : List ℕ) (headers : List HeaderSpan) (spans : RequestSpans) (setup : Lists) (answer : Answer) (is_head : Bool) (code : ℕ) (h : IsHeadAt seen headers spans) → Answers before after l0 l1 w0 w1 (drop spans.len seen) (asked_of h.head) answer → is_head ≡ is_head_method h.head → setup ≡ before.setup → code ≡ (reply_in setup answer).code → Appends w1 w2 (reply_bytes (reply_in setup answer) is_head) → ServesHead before after l0 l1 w0 w2 seen code
+served_head before after l0 l1 w0 w1 w2 seen headers spans setup answer is_head code h a e s c wrote = record {
+  more = a.more;
+  took = a.took;
+  bytes = continued a.goes_on ++ reply_bytes (reply_in before.setup answer) is_head;
+  exchange = subst (λ n. Exchange before after l1 (seen ++ a.more) (continued a.goes_on ++ reply_bytes (reply_in before.setup answer) is_head) n)
+      (sym (c ∙ ap (λ (l : Lists). (reply_in l answer).code) s)) (exchanged before after l0 l1 w0 w1 seen headers spans answer is_head h a e);
+  wrote = Appends-trans w0 w1 w2 (continued a.goes_on) (reply_bytes (reply_in before.setup answer) is_head) a.wrote
+      (subst (λ (l : Lists). Appends w1 w2 (reply_bytes (reply_in l answer) is_head)) s wrote);
+}
+
+pub served_front : (before after : State) (l0 l1 w0 w1 w2 : Option (List ℕ)) (seen : List ℕ) (headers : List HeaderSpan) (spans : RequestSpans) (setup : Lists) (answer : Answer) (is_head : Bool) (h : IsHeadAt seen headers spans) → Answers before after l0 l1 w0 w1 (drop spans.len seen) (asked_of h.head) answer → is_head ≡ is_head_method h.head → setup ≡ before.setup → AppendsFront w1 w2 (reply_bytes (reply_in setup answer) is_head) → ServesFront before after l0 l1 w0 w2 seen
+served_front before after l0 l1 w0 w1 w2 seen headers spans setup answer is_head h a e s wrote = record {
+  more = a.more;
+  took = a.took;
+  bytes = continued a.goes_on ++ reply_bytes (reply_in before.setup answer) is_head;
+  code = (reply_in before.setup answer).code;
+  exchange = exchanged before after l0 l1 w0 w1 seen headers spans answer is_head h a e;
+  wrote = front_after w0 w1 w2 (continued a.goes_on) (reply_bytes (reply_in before.setup answer) is_head) a.wrote
+      (subst (λ (l : Lists). AppendsFront w1 w2 (reply_bytes (reply_in l answer) is_head)) s wrote);
+}
+
+-- the whole connection
+pub replied_head : (before after : State) (l0 l1 l2 w0 w1 : Option (List ℕ)) (seen input : List ℕ) (code : ℕ) → Consumes l0 l1 input → input ≡ seen → ServesHead before after l1 l2 w0 w1 seen code → Replied before after l0 l2 w0 w1 code
+replied_head before after l0 l1 l2 w0 w1 seen input code took same s = record {
+  input = seen ++ s.more;
+  took = Consumes-trans l0 l1 l2 seen s.more (subst (Consumes l0 l1) same took) s.took;
+  bytes = s.bytes;
+  served = inl s.exchange;
+  wrote = s.wrote;
+}
+
+replied_front : (before after : State) (l0 l1 l2 w0 w1 : Option (List ℕ)) (seen input : List ℕ) → Consumes l0 l1 input → input ≡ seen → ServesFront before after l1 l2 w0 w1 seen → RepliedFront before after l0 l2 w0 w1
+replied_front before after l0 l1 l2 w0 w1 seen input took same s = record {
+  input = seen ++ s.more;
+  took = Consumes-trans l0 l1 l2 seen s.more (subst (Consumes l0 l1) same took) s.took;
+  bytes = s.bytes;
+  code = s.code;
+  served = inl s.exchange;
+  wrote = s.wrote;
+}
+
+pub stopped_head : (before after : State) (l0 l1 l2 w0 w1 : Option (List ℕ)) (seen input : List ℕ) (f : ServeFault) → Consumes l0 l1 input → input ≡ seen → StopsRequest before after l1 l2 w0 w1 seen f → StopsServe before after l0 l2 w0 w1 f
+stopped_head before after l0 l1 l2 w0 w1 seen input Read took same s = s
+stopped_head before after l0 l1 l2 w0 w1 seen input Write took same s = ⊎_elim (λ stop. inl stop) (λ front. inr (replied_front before after l0 l1 l2 w0 w1 seen input took same front)) s
+
+-- what is no request
+unread : (s : State) (left : Option (List ℕ)) (input : List ℕ) (r : Refusal) → IsUnread left input r → IsServed s s left input (reply_bytes (refused r) false) (refused r).code
+unread s left input r cause = inr (record { refusal = r; cause = cause; same = refl; bytes_are = refl; code_is = refl })
+
+unread_at : (s : State) (l0 l1 w0 w1 : Option (List ℕ)) (input : List ℕ) (r : Refusal) (code : Option ℕ) → Consumes l0 l1 input → IsUnread l1 input r → code ≡ Some (refused r).code → Appends w0 w1 (reply_bytes (refused r) false) → Serves s s l0 l1 w0 w1 code
+unread_at s l0 l1 w0 w1 input r code took cause e wrote = subst (λ (o : Option ℕ). Serves s s l0 l1 w0 w1 o) (sym e) (record { input = input; took = took; bytes = reply_bytes (refused r) false; served = unread s l1 input r cause; wrote = wrote })
+
+pub unread_ok : (s : State) (l0 l1 w0 w1 : Option (List ℕ)) (input : List ℕ) (r : Refusal) (result : Result Served ServeFault) → Consumes l0 l1 input → IsUnread l1 input r → IfOk result (λ served. served.code ≡ Some (refused r).code) → OnOk result (Appends w0 w1 (reply_bytes (refused r) false)) → IfOk result (λ served. Serves s s l0 l1 w0 w1 served.code)
+unread_ok s l0 l1 w0 w1 input r (Ok served) took cause code wrote = unread_at s l0 l1 w0 w1 input r served.code took cause code wrote
+unread_ok s l0 l1 w0 w1 input r (Err f) took cause code wrote = tt
+
+pub unread_err : (s : State) (l0 l1 w0 w1 : Option (List ℕ)) (input : List ℕ) (r : Refusal) (result : Result Served ServeFault) → Consumes l0 l1 input → IsUnread l1 input r → IfErr result (λ f. (f ≡ Write) × AppendsFront w0 w1 (reply_bytes (refused r) false)) → IfErr result (λ f. StopsServe s s l0 l1 w0 w1 f)
+unread_err s l0 l1 w0 w1 input r (Ok served) took cause h = tt
+unread_err s l0 l1 w0 w1 input r (Err f) took cause h = subst (λ (f : ServeFault). StopsServe s s l0 l1 w0 w1 f) (sym h.0) (inr (record { input = input; took = took; bytes = reply_bytes (refused r) false; code = (refused r).code; served = unread s l1 input r cause; wrote = h.1 }))
+
+-- what is asked, where it was read
+pub asked_due : (o : Option Asked) (seen : List ℕ) (headers : List HeaderSpan) (spans : RequestSpans) (head : RequestHead) → IfSome o (λ a. (h : RequestHead) → IsRequestAt seen headers spans h → a ≡ asked_of h) → IsRequestAt seen headers spans head → IfSome o (λ a. a ≡ asked_of head)
+asked_due None seen headers spans head f h = tt
+asked_due (Some a) seen headers spans head f h = f head h

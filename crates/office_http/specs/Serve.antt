@@ -1,0 +1,308 @@
+-- What one connection comes to: the reply as a function of the request, of the office's state and of the faults that were met.
+use Rattle.std.specs.Prelude.{◌≡◌, ⊤, ◌⊎◌, ◌≤◌, ◌<◌, ℕ, Bool, true, false, List, [], ◌∷◌, ◌++◌, length, take, nat_le, if◌then◌else◌, Option, Some, None, Result, Ok, Err, is_ok}
+use Rattle.std.specs.Option.{option_map}
+use Rattle.std.specs.Io.KnownBytes.{Appends, Consumes, IsAtEnd}
+use Rattle.httparse.specs.Grammar.{RequestHead, HasNoRequest, NeverHasRequest}
+use Rattle.httparse.specs.Spans.{RequestExceeds, RequestOverflows}
+use Rattle.office_mail.specs.declared.message.MailFault.TheVariants as mail
+use Rattle.office_mail.specs.Kept.{Kept, kept_from}
+use Rattle.office_mail.specs.Runs.{IsReady, IsReadyCount}
+use Rattle.office_http.specs.declared.faults.DeliverFault.{DeliverFault}
+use Rattle.office_http.specs.declared.faults.DeliverFault.TheVariants.{Mail, OtherText, Store}
+use Rattle.office_http.specs.declared.faults.Held.{Held}
+use Rattle.office_http.specs.declared.faults.Progress.{Progress}
+use Rattle.office_http.specs.declared.faults.StoreFault.{StoreFault}
+use Rattle.office_http.specs.declared.faults.StoreFault.TheVariants as fault
+use Rattle.office_http.specs.declared.reply.Refusal.{Refusal}
+use Rattle.office_http.specs.declared.reply.Refusal.TheVariants as refusal
+use Rattle.office_http.specs.declared.reply.Answer.{Answer}
+use Rattle.office_http.specs.declared.reply.Answer.TheVariants.{Refused, Delivered, Status, Told}
+use Rattle.office_http.specs.declared.request.Errand.{Errand}
+use Rattle.office_http.specs.declared.request.Errand.TheVariants.{Deliver, Settle}
+use Rattle.office_http.specs.declared.request.Page.{Page}
+use Rattle.office_http.specs.declared.request.Page.TheVariants as page
+use Rattle.office_http.specs.declared.request.Asked.{Asked}
+use Rattle.office_http.specs.declared.request.Asked.TheVariants as asks
+use Rattle.office_http.specs.declared.serve.ServeFault.{ServeFault}
+use Rattle.office_http.specs.declared.serve.ServeFault.TheVariants.{Read, Write}
+use Rattle.office_http.specs.Asked.{asked_of, is_head_method}
+use Rattle.office_http.specs.Losses.{NotStore}
+use Rattle.office_http.specs.Outcome.{testing_text, testing_after}
+use Rattle.office_http.specs.Reply.{refused, reply_in, reply_bytes, continue_bytes, HasPlace}
+use Rattle.office_http.specs.Request.{BeginsWith, field_room, head_room}
+use Rattle.office_http.specs.Standing.{State}
+use Rattle.office_http.specs.State.{answer_to, reports_at}
+use Rattle.office_http.specs.Written.{AppendsFront}
+
+-- how a fault of memory or of the store is told
+abbrev pub refusal_for : StoreFault → Refusal
+refusal_for fault.NoMemory = refusal.NoMemory
+refusal_for fault.Store = refusal.Store
+
+-- the answers of the office's calls
+abbrev pub status_answer : Result Progress StoreFault → Answer
+status_answer (Ok progress) = Status progress
+status_answer (Err f) = Refused (refusal_for f)
+
+abbrev pub text_answer : Result (List ℕ) StoreFault → Answer
+text_answer (Ok text) = Told text
+text_answer (Err f) = Refused (refusal_for f)
+
+abbrev pub report_answer : Result (Option (List ℕ)) StoreFault → Answer
+report_answer (Ok (Some text)) = Told text
+report_answer (Ok None) = Refused refusal.NoRun
+report_answer (Err f) = Refused (refusal_for f)
+
+abbrev pub delivery_answer : Result Held DeliverFault → Answer
+delivery_answer (Ok held) = Delivered (Ok held)
+delivery_answer (Err OtherText) = Delivered (Err OtherText)
+delivery_answer (Err Store) = Refused refusal.Store
+delivery_answer (Err (Mail mail.NoMemory)) = Refused refusal.NoMemory
+delivery_answer (Err (Mail mail.TooLong)) = Delivered (Err (Mail mail.TooLong))
+delivery_answer (Err (Mail mail.BadParagraph)) = Delivered (Err (Mail mail.BadParagraph))
+delivery_answer (Err (Mail (mail.MissingField field))) = Delivered (Err (Mail (mail.MissingField field)))
+delivery_answer (Err (Mail mail.UnknownSender)) = Delivered (Err (Mail mail.UnknownSender))
+delivery_answer (Err (Mail mail.BadNumber)) = Delivered (Err (Mail mail.BadNumber))
+delivery_answer (Err (Mail mail.UnknownKind)) = Delivered (Err (Mail mail.UnknownKind))
+delivery_answer (Err (Mail mail.WrongRole)) = Delivered (Err (Mail mail.WrongRole))
+delivery_answer (Err (Mail mail.TooManyParagraphs)) = Delivered (Err (Mail mail.TooManyParagraphs))
+delivery_answer (Err (Mail mail.UnknownArchitecture)) = Delivered (Err (Mail mail.UnknownArchitecture))
+delivery_answer (Err (Mail (mail.BadValue field))) = Delivered (Err (Mail (mail.BadValue field)))
+
+-- the answer where this fault was met, or none
+abbrev pub by_fault : Option StoreFault → Answer → Answer
+by_fault None due = due
+by_fault (Some f) due = Refused (refusal_for f)
+
+-- the text that a page tells, where this many runs are ready
+abbrev pub page_answer : State → ℕ → Page → Answer
+page_answer s ready page.Status = Status (record { ready = ready; finished = s.finished })
+page_answer s ready page.Testing = Told (testing_text s.setup s.finished (testing_after s.setup s.kept s.finished))
+page_answer s ready (page.Excuses run) = report_answer (Ok (option_map (λ reports. reports.excuses) (reports_at s run)))
+page_answer s ready (page.Update run) = report_answer (Ok (option_map (λ reports. reports.updates) (reports_at s run)))
+
+-- the answer to a POST with this body: what is due to the delivery, or the status after the settle
+abbrev pub errand_answer : State → ℕ → Errand → List ℕ → Answer
+errand_answer s ready Deliver body = delivery_answer (answer_to s.setup s.kept body)
+errand_answer s ready Settle body = Status (record { ready = ready; finished = ready })
+
+-- the body that a request has, of the bytes after its head; none where they are too few
+abbrev pub body_of : ℕ → List ℕ → Option (List ℕ)
+body_of size rest = if nat_le size (length rest) then Some (take size rest) else None
+
+abbrev pub posted_body : Asked → List ℕ → Option (Errand × List ℕ)
+posted_body (asks.Post p) rest = option_map (λ (body : List ℕ). (p.errand, body)) (body_of p.length rest)
+posted_body (asks.Tell page) rest = None
+posted_body (asks.Refused r) rest = None
+
+-- the answer to a POST, which is refused where the input ends within its body
+abbrev pub post_answer : State → ℕ → Option (Errand × List ℕ) → Answer
+post_answer s ready None = Refused refusal.BadRequest
+post_answer s ready (Some post) = errand_answer s ready post.0 post.1
+
+-- THE ANSWER TO A REQUEST, by what it asks, the bytes after its head, and how many runs are ready
+abbrev pub answer_of : State → ℕ → Asked → List ℕ → Answer
+answer_of s ready (asks.Refused r) rest = Refused r
+answer_of s ready (asks.Tell page) rest = page_answer s ready page
+answer_of s ready (asks.Post p) rest = post_answer s ready (posted_body (asks.Post p) rest)
+
+-- whether the answer tells how many runs are ready
+abbrev pub page_counts : Page → Bool
+page_counts page.Status = true
+page_counts page.Testing = false
+page_counts (page.Excuses run) = false
+page_counts (page.Update run) = false
+
+abbrev pub errand_counts : Errand → Bool
+errand_counts Settle = true
+errand_counts Deliver = false
+
+abbrev pub post_counts : Option (Errand × List ℕ) → Bool
+post_counts None = false
+post_counts (Some post) = errand_counts post.0
+
+abbrev pub counts_ready : Asked → List ℕ → Bool
+counts_ready (asks.Refused r) rest = false
+counts_ready (asks.Tell page) rest = page_counts page
+counts_ready (asks.Post p) rest = post_counts (posted_body (asks.Post p) rest)
+
+-- whether a client waits for 100 Continue
+abbrev pub waits_of : Asked → Bool
+waits_of (asks.Refused r) = false
+waits_of (asks.Tell page) = false
+waits_of (asks.Post p) = p.waits
+
+abbrev pub continued : Bool → List ℕ
+continued goes_on = if goes_on then continue_bytes else []
+
+-- what is kept after a POST: the whole body is delivered once, unless a fault was met
+abbrev pub kept_by : State → Errand → List ℕ → Option StoreFault → Kept
+kept_by s Deliver body None = kept_from s.setup s.kept (body ∷ [])
+kept_by s Deliver body (Some f) = s.kept
+kept_by s Settle body fault = s.kept
+
+-- whether a POST settles: a delivery that is held, and a settle
+abbrev pub settles : State → Errand → List ℕ → Option StoreFault → Bool
+settles s Deliver body None = is_ok (answer_to s.setup s.kept body)
+settles s Deliver body (Some f) = false
+settles s Settle body fault = true
+
+-- what a POST does
+pub record Moves (before after : State) (errand : Errand) (body : List ℕ) (fault : Option StoreFault) (ready : ℕ) : Type 0 where
+  pub setup : after.setup ≡ before.setup
+  pub kept : after.kept ≡ kept_by before errand body fault
+  pub grows : before.finished ≤ after.finished
+  pub still : settles before errand body fault ≡ false → after.finished ≡ before.finished
+  pub settled : errand_counts errand ≡ true → fault ≡ None → after.finished ≡ ready
+  -- only ready runs finish
+  pub only_ready : IsReady before.setup before.kept before.finished → IsReady after.setup after.kept after.finished
+
+-- what a request does: no other than a POST with its whole body does anything
+abbrev pub Does : State → State → Option (Errand × List ℕ) → Option StoreFault → ℕ → Type 0
+Does before after None fault ready = after ≡ before
+Does before after (Some post) fault ready = Moves before after post.0 post.1 fault ready
+
+-- a page was told
+pub record Tells (s : State) (page : Page) (answer : Answer) : Type 0 where
+  -- what was met
+  pub fault : Option StoreFault
+  pub no_store : NotStore fault
+  pub ready : ℕ
+  pub counts : fault ≡ None → page_counts page ≡ true → IsReadyCount s.setup s.kept ready
+  pub answer_is : answer ≡ by_fault fault (page_answer s ready page)
+  pub place : HasPlace s.setup answer
+
+-- a POST was done
+pub record Runs (before after : State) (errand : Errand) (body : List ℕ) (answer : Answer) : Type 0 where
+  pub fault : Option StoreFault
+  pub no_store : NotStore fault
+  pub ready : ℕ
+  pub counts : fault ≡ None → errand_counts errand ≡ true → IsReadyCount before.setup before.kept ready
+  pub answer_is : answer ≡ by_fault fault (errand_answer before ready errand body)
+  pub moves : Moves before after errand body fault ready
+  pub place : HasPlace before.setup answer
+
+-- all of a request has come, or the input has ended
+abbrev pub IsWhole : Asked → List ℕ → Option (List ℕ) → Type 0
+IsWhole (asks.Refused r) rest left = ⊤
+IsWhole (asks.Tell page) rest left = ⊤
+IsWhole (asks.Post p) rest left = (p.length ≤ length rest) ⊎ IsAtEnd left
+
+-- A request was answered: the bytes after its head, of which the front had come before, the faults that were met, the
+-- answer, and what was done. Where the client waited, 100 Continue was written first; nothing else yet.
+pub record Answers (before after : State) (left left' written written' : Option (List ℕ)) (front : List ℕ) (asked : Asked) (answer : Answer) : Type 0 where
+  pub more : List ℕ
+  pub took : Consumes left left' more
+  pub fault : Option StoreFault
+  pub no_store : NotStore fault
+  pub ready : ℕ
+  pub whole : fault ≡ None → IsWhole asked (front ++ more) left'
+  pub counts : fault ≡ None → counts_ready asked (front ++ more) ≡ true → IsReadyCount before.setup before.kept ready
+  pub answer_is : answer ≡ by_fault fault (answer_of before ready asked (front ++ more))
+  pub does : Does before after (posted_body asked (front ++ more)) fault ready
+  pub goes_on : Bool
+  pub wrote : Appends written written' (continued goes_on)
+  pub went : fault ≡ None → goes_on ≡ waits_of asked
+  pub waited : goes_on ≡ true → waits_of asked ≡ true
+  pub place : HasPlace before.setup answer
+
+-- The request couldn't be read, or the client that waits not be told to go on: nothing was delivered or settled.
+pub record StopsBefore (before after : State) (written written' : Option (List ℕ)) : Type 0 where
+  pub same : after ≡ before
+  pub wrote : AppendsFront written written' continue_bytes
+
+-- THE EXCHANGE: these bytes are a request, and those its reply.
+pub record Exchange (before after : State) (left : Option (List ℕ)) (input bytes : List ℕ) (code : ℕ) : Type 0 where
+  pub head : RequestHead
+  pub rest : List ℕ
+  pub begins : BeginsWith input head rest
+  -- what was met for want of memory or by the store
+  pub fault : Option StoreFault
+  pub no_store : NotStore fault
+  pub ready : ℕ
+  pub whole : fault ≡ None → IsWhole (asked_of head) rest left
+  pub counts : fault ≡ None → counts_ready (asked_of head) rest ≡ true → IsReadyCount before.setup before.kept ready
+  pub does : Does before after (posted_body (asked_of head) rest) fault ready
+  pub goes_on : Bool
+  pub went : fault ≡ None → goes_on ≡ waits_of (asked_of head)
+  pub waited : goes_on ≡ true → waits_of (asked_of head) ≡ true
+  pub bytes_are : bytes ≡ continued goes_on ++ reply_bytes (reply_in before.setup (by_fault fault (answer_of before ready (asked_of head) rest))) (is_head_method head)
+  pub code_is : code ≡ (reply_in before.setup (by_fault fault (answer_of before ready (asked_of head) rest))).code
+
+-- Bytes that are no request within the limits, by the cause that they are refused for, or too much for the memory.
+abbrev pub IsUnread : Option (List ℕ) → List ℕ → Refusal → Type 0
+IsUnread left input refusal.HeadTooLarge = (RequestExceeds field_room input × RequestOverflows field_room input) ⊎ ((length input ≡ head_room) × HasNoRequest input)
+IsUnread left input refusal.BadRequest = NeverHasRequest input ⊎ ((0 < length input) × IsAtEnd left × HasNoRequest input)
+IsUnread left input refusal.NoMemory = ⊤
+IsUnread left input refusal.NoRoute = ⊥
+IsUnread left input refusal.NoRun = ⊥
+IsUnread left input refusal.OnlyGet = ⊥
+IsUnread left input refusal.OnlyPost = ⊥
+IsUnread left input refusal.LengthRequired = ⊥
+IsUnread left input refusal.TooLong = ⊥
+IsUnread left input refusal.Store = ⊥
+
+pub record Unread (before after : State) (left : Option (List ℕ)) (input bytes : List ℕ) (code : ℕ) : Type 0 where
+  pub refusal : Refusal
+  pub cause : IsUnread left input refusal
+  pub same : after ≡ before
+  pub bytes_are : bytes ≡ reply_bytes (refused refusal) false
+  pub code_is : code ≡ (refused refusal).code
+
+-- a request that is answered, or what is none
+abbrev pub IsServed : State → State → Option (List ℕ) → List ℕ → List ℕ → ℕ → Type 0
+IsServed before after left input bytes code = Exchange before after left input bytes code ⊎ Unread before after left input bytes code
+
+-- all of the reply was written
+pub record Replied (before after : State) (left left' written written' : Option (List ℕ)) (code : ℕ) : Type 0 where
+  pub input : List ℕ
+  pub took : Consumes left left' input
+  pub bytes : List ℕ
+  pub served : IsServed before after left' input bytes code
+  pub wrote : Appends written written' bytes
+
+-- a front of it
+pub record RepliedFront (before after : State) (left left' written written' : Option (List ℕ)) : Type 0 where
+  pub input : List ℕ
+  pub took : Consumes left left' input
+  pub bytes : List ℕ
+  pub code : ℕ
+  pub served : IsServed before after left' input bytes code
+  pub wrote : AppendsFront written written' bytes
+
+-- no byte came, and none was written
+pub record Silent (before after : State) (left left' written written' : Option (List ℕ)) : Type 0 where
+  pub took : Consumes left left' []
+  pub at_end : IsAtEnd left'
+  pub same : after ≡ before
+  pub wrote : Appends written written' []
+
+abbrev pub Serves : State → State → Option (List ℕ) → Option (List ℕ) → Option (List ℕ) → Option (List ℕ) → Option ℕ → Type 0
+Serves before after left left' written written' None = Silent before after left left' written written'
+Serves before after left left' written written' (Some code) = Replied before after left left' written written' code
+
+-- What a fault leaves. Where the reader failed nothing was delivered or settled; where the writer failed, a front of
+-- the due bytes was written, and where that was before the answer nothing was delivered or settled.
+abbrev pub StopsServe : State → State → Option (List ℕ) → Option (List ℕ) → Option (List ℕ) → Option (List ℕ) → ServeFault → Type 0
+StopsServe before after left left' written written' Read = StopsBefore before after written written'
+StopsServe before after left left' written written' Write = StopsBefore before after written written' ⊎ RepliedFront before after left left' written written'
+
+-- the same where these bytes have come, with a head in front: no public contract cites these two
+pub record ServesHead (before after : State) (left left' written written' : Option (List ℕ)) (seen : List ℕ) (code : ℕ) : Type 0 where
+  pub more : List ℕ
+  pub took : Consumes left left' more
+  pub bytes : List ℕ
+  pub exchange : Exchange before after left' (seen ++ more) bytes code
+  pub wrote : Appends written written' bytes
+
+pub record ServesFront (before after : State) (left left' written written' : Option (List ℕ)) (seen : List ℕ) : Type 0 where
+  pub more : List ℕ
+  pub took : Consumes left left' more
+  pub bytes : List ℕ
+  pub code : ℕ
+  pub exchange : Exchange before after left' (seen ++ more) bytes code
+  pub wrote : AppendsFront written written' bytes
+
+abbrev pub StopsRequest : State → State → Option (List ℕ) → Option (List ℕ) → Option (List ℕ) → Option (List ℕ) → List ℕ → ServeFault → Type 0
+StopsRequest before after left left' written written' seen Read = StopsBefore before after written written'
+StopsRequest before after left left' written written' seen Write = StopsBefore before after written written' ⊎ ServesFront before after left left' written written' seen

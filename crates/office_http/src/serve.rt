@@ -1,0 +1,284 @@
+//! One connection of the service: a request, and its reply (RFC 9110, RFC 9112).
+ghost use Rattle.std.specs.Prelude.{◌≡◌, false, ◌⊎◌, ◌≤◌, ◌<◌, ◌+◌, ◌++◌, ◌∷◌, ℕ, List, [], Option, Some, None, IfOk, IfErr, IfSome, OnOk, OnErr, length, drop, if◌then◌else◌};
+ghost use Rattle.std.specs.Io.KnownBytes.{Appends};
+ghost use Rattle.httparse.specs.Grammar.{RequestHead};
+ghost use Rattle.httparse.specs.Spans.{IsRequestAt};
+ghost use Rattle.httparse.specs.declared.spans.HeaderSpan.{HeaderSpan};
+ghost use Rattle.office_mail.specs.Counts.{HasRisen};
+ghost use Rattle.office_http.specs.Asked.{asked_of};
+ghost use Rattle.office_http.specs.Reply.{continue_bytes, refused, reply_bytes};
+ghost use Rattle.office_http.specs.Request.{IsHeadAt};
+ghost use Rattle.office_http.specs.Serve.{refusal_for, status_answer, text_answer, report_answer, delivery_answer, Tells, Does, Runs, Answers, StopsBefore, Serves, StopsRequest, StopsServe, ServesHead};
+ghost use Rattle.office_http.specs.Written.{AppendsFront};
+
+use crate::faults::{DeliverFault, Held, Progress, StoreFault};
+use crate::head::{Ended, FIELD_ROOM, Filled, read_head, read_up_to};
+use crate::office::Office;
+use crate::replies::WriteFault;
+use crate::reply::{Answer, Refusal, write_answer, write_continue};
+use crate::request::{Asked, Errand, Page, Posted, asked_of, is_head_method};
+use crate::routes::routes;
+use deb_control::Text;
+use httparse::spans::{EMPTY_HEADER_SPAN, HeaderSpan, RequestSpans};
+use office_mail::{Feed, MailFault, ReadFailed, Setup, Sink};
+use std::alloc::Global;
+use thiserror::Error;
+
+/// What came of a connection: the status code of the reply, none where no byte came.
+#[derive(Clone, Copy, Debug, PartialEq, Eq)]
+pub struct Served {
+    pub code: Option<u16>,
+}
+
+/// Why a connection wasn't served to its end.
+#[derive(Clone, Copy, Debug, PartialEq, Eq, Error)]
+pub enum ServeFault {
+    #[error("the request can't be read")]
+    Read,
+    #[error("the reply can't be written")]
+    Write,
+}
+
+impl From<ReadFailed> for ServeFault {
+    ghost use Rattle.std.specs.Prelude.{◌≡◌};
+    ghost use Rattle.office_http.specs.declared.serve.ServeFault.TheVariants.{Read};
+
+    ghost from_gives = { λ _ e. e ≡ Read };
+
+    fn from(_e: ReadFailed) -> ServeFault {
+        ServeFault::Read
+    }
+}
+
+impl From<WriteFault> for ServeFault {
+    ghost use Rattle.std.specs.Prelude.{◌≡◌};
+    ghost use Rattle.office_http.specs.declared.serve.ServeFault.TheVariants.{Write};
+
+    ghost from_gives = { λ _ e. e ≡ Write };
+
+    fn from(_e: WriteFault) -> ServeFault {
+        ServeFault::Write
+    }
+}
+
+/// How a fault of memory or of the store is told.
+fn refusal_for(fault: StoreFault) -> Refusal
+    ensures { result ≡ refusal_for fault }
+{
+    match fault {
+        StoreFault::NoMemory => Refusal::NoMemory,
+        StoreFault::Store => Refusal::Store,
+    }
+}
+
+fn status_answer(status: Result<Progress, StoreFault>) -> Answer
+    ensures { result ≡ status_answer status }
+{
+    match status {
+        Ok(progress) => Answer::Status(progress),
+        Err(fault) => Answer::Refused(refusal_for(fault)),
+    }
+}
+
+fn text_answer(text: Result<Text, StoreFault>) -> Answer
+    ensures { result ≡ text_answer text }
+{
+    match text {
+        Ok(text) => Answer::Told(text),
+        Err(fault) => Answer::Refused(refusal_for(fault)),
+    }
+}
+
+fn report_answer(report: Result<Option<Text>, StoreFault>) -> Answer
+    ensures { result ≡ report_answer report }
+{
+    match report {
+        Ok(Some(text)) => Answer::Told(text),
+        Ok(None) => Answer::Refused(Refusal::NoRun),
+        Err(fault) => Answer::Refused(refusal_for(fault)),
+    }
+}
+
+fn delivery_answer(reply: Result<Held, DeliverFault>) -> Answer
+    ensures { result ≡ delivery_answer reply }
+{
+    match reply {
+        Err(DeliverFault::Mail(MailFault::NoMemory)) => Answer::Refused(Refusal::NoMemory),
+        Err(DeliverFault::Store) => Answer::Refused(Refusal::Store),
+        reply => Answer::Delivered(reply),
+    }
+}
+
+/// Tells a text of the office.
+fn tell(office: &Office, page: Page) -> Answer
+    ensures { Tells office.now page result }
+{
+    match page {
+        Page::Status => status_answer(office.status()),
+        Page::Testing => text_answer(office.testing_text()),
+        Page::Excuses(run) => report_answer(office.excuses_text(run)),
+        Page::Update(run) => report_answer(office.update_text(run)),
+    }
+}
+
+/// Delivers a text, and settles where it is held. A fault of that settle doesn't change the answer.
+fn deliver(office: &mut Office, text: &[u8]) -> Answer
+    ensures { Runs office.old office.new Errand.Deliver text.now result }
+{
+    let reply = office.deliver(text);
+    if reply.is_ok() {
+        let _ = office.settle();
+    }
+    delivery_answer(reply)
+}
+
+fn settle(office: &mut Office, text: &[u8]) -> Answer
+    ensures { Runs office.old office.new Errand.Settle text.now result }
+{
+    status_answer(office.settle())
+}
+
+/// Does what a POST with this body asks for.
+fn run(office: &mut Office, errand: Errand, body: &[u8]) -> Answer
+    ensures { Runs office.old office.new errand body.now result }
+{
+    match errand {
+        Errand::Deliver => deliver(office, body),
+        Errand::Settle => settle(office, body),
+    }
+}
+
+/// Reads the body of a POST, and does what it asks for. Nothing is done before the whole body has come.
+fn answer_post<R: Feed, W: Sink>(
+    office: &mut Office,
+    posted: Posted,
+    start: usize,
+    seen: &mut Vec<u8>,
+    reader: &mut R,
+    writer: &mut W,
+) -> Result<Answer, ServeFault>
+    requires { start ≤ length seen.old.items }
+    ensures ok { IfOk result (λ answer. Answers office.old office.new (R.left reader.old) (R.left reader.new) (W.written writer.old) (W.written writer.new) (drop start seen.old.items) (Asked.Post posted) answer) }
+    ensures err { OnErr result (StopsBefore office.old office.new (W.written writer.old) (W.written writer.new)) }
+    ensures read { IfErr result (λ fault. fault ≡ ServeFault.Read → HasRisen (R.failures reader.old) (R.failures reader.new)) }
+    ensures write { IfErr result (λ fault. fault ≡ ServeFault.Write → HasRisen (W.failures writer.old) (W.failures writer.new)) }
+    ensures read_clean { OnOk result (R.failures reader.new ≡ R.failures reader.old) }
+    ensures write_clean { OnOk result (W.failures writer.new ≡ W.failures writer.old) }
+{
+    write_continue(posted.waits, writer)?;
+    let end = start + posted.length as usize;
+    match read_up_to(reader, seen, end)? {
+        Filled::Whole => Ok(run(office, posted.errand, &seen[start..end])),
+        Filled::BrokenOff => Ok(Answer::Refused(Refusal::BadRequest)),
+        Filled::NoMemory => Ok(Answer::Refused(Refusal::NoMemory)),
+    }
+}
+
+/// What a request asks for, none for want of memory.
+fn asked_in(
+    alloc: Global,
+    seen: &[u8],
+    spans: RequestSpans,
+    headers: &[HeaderSpan],
+) -> Option<Asked>
+    requires { IsHeadAt seen.now headers.now spans }
+    ensures { IfSome result (λ asked. (head : RequestHead) → IsRequestAt seen.now headers.now spans head → asked ≡ asked_of head) }
+{
+    match routes(alloc) {
+        Ok(router) => Some(asked_of(&router, seen, spans, headers)),
+        Err(_) => None,
+    }
+}
+
+/// Answers a request whose head is the front of the bytes seen.
+fn answer_request<R: Feed, W: Sink>(
+    office: &mut Office,
+    asked: Option<Asked>,
+    start: usize,
+    seen: &mut Vec<u8>,
+    reader: &mut R,
+    writer: &mut W,
+) -> Result<Answer, ServeFault>
+    requires { start ≤ length seen.old.items }
+    ensures ok { IfOk result (λ answer. (due : Asked) → IfSome asked (λ a. a ≡ due) → Answers office.old office.new (R.left reader.old) (R.left reader.new) (W.written writer.old) (W.written writer.new) (drop start seen.old.items) due answer) }
+    ensures err { OnErr result (StopsBefore office.old office.new (W.written writer.old) (W.written writer.new)) }
+    ensures read { IfErr result (λ fault. fault ≡ ServeFault.Read → HasRisen (R.failures reader.old) (R.failures reader.new)) }
+    ensures write { IfErr result (λ fault. fault ≡ ServeFault.Write → HasRisen (W.failures writer.old) (W.failures writer.new)) }
+    ensures read_clean { OnOk result (R.failures reader.new ≡ R.failures reader.old) }
+    ensures write_clean { OnOk result (W.failures writer.new ≡ W.failures writer.old) }
+{
+    match asked {
+        None => Ok(Answer::Refused(Refusal::NoMemory)),
+        Some(Asked::Refused(refusal)) => Ok(Answer::Refused(refusal)),
+        Some(Asked::Tell(page)) => Ok(tell(office, page)),
+        Some(Asked::Post(posted)) => answer_post(office, posted, start, seen, reader, writer),
+    }
+}
+
+/// Serves a request whose head has come.
+fn serve_request<R: Feed, W: Sink>(
+    office: &mut Office,
+    seen: &mut Vec<u8>,
+    spans: RequestSpans,
+    headers: &[HeaderSpan],
+    reader: &mut R,
+    writer: &mut W,
+) -> Result<u16, ServeFault>
+    requires { IsHeadAt seen.old.items headers.now spans }
+    ensures ok { IfOk result (λ code. ServesHead office.old office.new (R.left reader.old) (R.left reader.new) (W.written writer.old) (W.written writer.new) seen.old.items code) }
+    ensures err { IfErr result (λ fault. StopsRequest office.old office.new (R.left reader.old) (R.left reader.new) (W.written writer.old) (W.written writer.new) seen.old.items fault) }
+    ensures read { IfErr result (λ fault. fault ≡ ServeFault.Read → HasRisen (R.failures reader.old) (R.failures reader.new)) }
+    ensures write { IfErr result (λ fault. fault ≡ ServeFault.Write → HasRisen (W.failures writer.old) (W.failures writer.new)) }
+    ensures read_clean { OnOk result (R.failures reader.new ≡ R.failures reader.old) }
+    ensures write_clean { OnOk result (W.failures writer.new ≡ W.failures writer.old) }
+{
+    let is_head = is_head_method(seen.as_slice(), spans);
+    let asked = asked_in(office.alloc(), seen.as_slice(), spans, headers);
+    let answer = answer_request(office, asked, spans.len, seen, reader, writer)?;
+    Ok(write_answer(office.setup(), &answer, is_head, writer)?)
+}
+
+/// Refuses what is no request.
+fn refuse<W: Sink>(setup: &Setup, refusal: Refusal, writer: &mut W) -> Result<Served, ServeFault>
+    ensures code { IfOk result (λ served. served.code ≡ Some (refused refusal).code) }
+    ensures ok { OnOk result (Appends (W.written writer.old) (W.written writer.new) (reply_bytes (refused refusal) false)) }
+    ensures err { IfErr result (λ fault. (fault ≡ ServeFault.Write) × AppendsFront (W.written writer.old) (W.written writer.new) (reply_bytes (refused refusal) false)) }
+    ensures cause { OnErr result (HasRisen (W.failures writer.old) (W.failures writer.new)) }
+    ensures clean { OnOk result (W.failures writer.new ≡ W.failures writer.old) }
+{
+    let code = write_answer(setup, &Answer::Refused(refusal), false, writer)?;
+    Ok(Served { code: Some(code) })
+}
+
+/// Reads one request, does what it asks for, and writes its reply.
+///
+/// At most 8,192 bytes of a head and 65,536 of a body are read; what follows is ignored. The reply
+/// takes no memory, so that a 503 to a delivery says that nothing was added. `Write` comes only where the
+/// writer failed or took no byte, and `Read` only where the reader failed; then nothing was delivered
+/// or settled.
+pub fn serve_one<R: Feed, W: Sink>(
+    office: &mut Office,
+    reader: &mut R,
+    writer: &mut W,
+) -> Result<Served, ServeFault>
+    // The reply is a function of the request, of the office's state and of the faults that were met.
+    ensures ok { IfOk result (λ served. Serves office.old office.new (R.left reader.old) (R.left reader.new) (W.written writer.old) (W.written writer.new) served.code) }
+    ensures err { IfErr result (λ fault. StopsServe office.old office.new (R.left reader.old) (R.left reader.new) (W.written writer.old) (W.written writer.new) fault) }
+    ensures read { IfErr result (λ fault. fault ≡ ServeFault.Read → HasRisen (R.failures reader.old) (R.failures reader.new)) }
+    ensures write { IfErr result (λ fault. fault ≡ ServeFault.Write → HasRisen (W.failures writer.old) (W.failures writer.new)) }
+    ensures read_clean { OnOk result (R.failures reader.new ≡ R.failures reader.old) }
+    ensures write_clean { OnOk result (W.failures writer.new ≡ W.failures writer.old) }
+{
+    let mut headers = [EMPTY_HEADER_SPAN; FIELD_ROOM];
+    let mut seen = Vec::new(office.alloc());
+    match read_head(reader, &mut seen, &mut headers)? {
+        Ended::Nothing => Ok(Served { code: None }),
+        Ended::Head(spans) => {
+            let code = serve_request(office, &mut seen, spans, &headers, reader, writer)?;
+            Ok(Served { code: Some(code) })
+        }
+        Ended::HeadTooLarge => refuse(office.setup(), Refusal::HeadTooLarge, writer),
+        Ended::BadRequest => refuse(office.setup(), Refusal::BadRequest, writer),
+        Ended::NoMemory => refuse(office.setup(), Refusal::NoMemory, writer),
+    }
+}
