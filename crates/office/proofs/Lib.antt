@@ -1,1 +1,2 @@
 mod Front
+pub mod OptionFacts

@@ -1,4 +1,5 @@
-//! The office's program: it compares versions, and replays bags of mail from standard input.
+//! The office's program: it compares versions, replays bags of mail from standard input, and serves
+//! mail and reports over HTTP on loopback.
 #![tactic(auto)]
 
 mod compare;
@@ -6,15 +7,23 @@ mod conf;
 #[cfg(test)]
 mod fact_rows;
 #[cfg(test)]
+mod given_rows;
+#[cfg(test)]
+mod http_rows;
+#[cfg(test)]
+mod judge;
+#[cfg(test)]
 mod promotion_rows;
 #[cfg(test)]
 mod rows;
+mod service;
 mod words;
 
 use compare::compare;
 use conf::{conf_status, read_setup};
 use office_http::{Office, Replayed, WriteFault, replay, replay_status};
 use office_mail::{FromRead, Setup, ToWrite};
+use service::serve;
 use std::alloc::{AllocError, Global};
 use std::env;
 use std::env::Args;
@@ -46,6 +55,13 @@ fn run(rt: &HostRuntime) -> u8 {
     match read_words(&words) {
         Some(Words::Compare { v1, op, v2 }) => compare(rt, v1, op, v2),
         Some(Words::Replay { conf }) => replay_for(rt, conf),
+        Some(
+            Words::Serve {
+                conf,
+                port,
+                connections,
+            },
+        ) => serve_for(rt, conf, port, connections),
         None => usage(rt),
     }
 }
@@ -72,6 +88,9 @@ fn as_texts<'a>(alloc: Global, args: &'a [String]) -> Result<Vec<&'a str>, Alloc
 fn usage(rt: &HostRuntime) -> u8 {
     let _ = eprintln!(rt; "usage: office compare V1 lt|le|eq|ge|gt V2");
     let _ = eprintln!(rt; "       office replay --conf SETUP < BAG");
+    let _ = eprintln!(rt;
+        "       office serve --conf SETUP --port 1..65535 [--connections 0..1000000]"
+    );
     USAGE
 }
 
@@ -84,6 +103,17 @@ fn out_of_memory(rt: &HostRuntime) -> u8 {
 fn replay_for(rt: &HostRuntime, conf: &str) -> u8 {
     match read_setup(rt, conf) {
         Ok(setup) => replay_input(rt, setup),
+        Err(fault) => {
+            let _ = eprintln!(rt; "office: {conf}: {fault}");
+            conf_status(&fault)
+        }
+    }
+}
+
+/// Serves on a port, for the setup in a file.
+fn serve_for(rt: &HostRuntime, conf: &str, port: u32, connections: u32) -> u8 {
+    match read_setup(rt, conf) {
+        Ok(setup) => serve(rt, setup, port, connections),
         Err(fault) => {
             let _ = eprintln!(rt; "office: {conf}: {fault}");
             conf_status(&fault)

@@ -1,0 +1,125 @@
+#!/usr/bin/env python3
+"""Clients of the service on loopback: good ones, slow ones and broken ones, one after the other.
+
+  clients.py PROGRAM [PORT]
+
+PROGRAM is the built program, `crates/office/out/office`. Exit status 0 where each client saw what it should.
+"""
+import os
+import socket
+import subprocess
+import sys
+import tempfile
+import time
+
+SETUP = b"""Architectures: amd64 arm64
+
+Sender: ftp
+Role: upload
+
+Sender: bd
+Role: build
+
+Sender: bts
+Role: bugs
+
+Sender: rt
+Role: release
+
+Sender: clock
+Role: runs
+"""
+NONE = b"From: ftp\nNumber: %d\nKind: none\n"
+
+
+def connect(port):
+    return socket.create_connection(("127.0.0.1", port), timeout=20)
+
+
+def read_all(client):
+    reply = b""
+    while True:
+        part = client.recv(65536)
+        if not part:
+            return reply
+        reply += part
+
+
+def exchange(port, request, pause=0.0, step=0):
+    """Sends a request, all at once or a few bytes at a time, and reads the whole reply."""
+    with connect(port) as client:
+        if step:
+            for at in range(0, len(request), step):
+                client.sendall(request[at:at + step])
+                time.sleep(pause)
+        else:
+            client.sendall(request)
+        return read_all(client)
+
+
+def post(text):
+    return b"POST /mail HTTP/1.1\r\nHost: x\r\nContent-Length: %d\r\n\r\n" % len(text) + text
+
+
+def status(port):
+    return exchange(port, b"GET /status HTTP/1.1\r\nHost: x\r\n\r\n").split(b"\r\n\r\n", 1)[1]
+
+
+def early_end(port, request):
+    """Sends a front of a request, and ends."""
+    with connect(port) as client:
+        client.sendall(request)
+        client.shutdown(socket.SHUT_WR)
+        return read_all(client)
+
+
+def unread(port, request):
+    """Sends a request, and goes without its reply."""
+    with connect(port) as client:
+        client.sendall(request)
+
+
+def main():
+    program = os.path.abspath(sys.argv[1])
+    port = int(sys.argv[2]) if len(sys.argv) > 2 else 18731
+    faults = []
+
+    def want(what, due, got):
+        if not got.startswith(due):
+            faults.append("%s: due %r, got %r" % (what, due, got[:200]))
+
+    with tempfile.TemporaryDirectory() as folder:
+        conf = os.path.join(folder, "setup.conf")
+        with open(conf, "wb") as f:
+            f.write(SETUP)
+        service = subprocess.Popen([program, "serve", "--port", str(port), "--conf", conf, "--connections", "13"],
+                                   stdout=subprocess.PIPE, stderr=subprocess.PIPE)
+        want("first line", b"listening %d\n" % port, service.stdout.readline())
+        ok = b"HTTP/1.1 200 OK\r\n"
+        want("1 status", b"ready 0 finished 0\n", status(port))
+        want("2 a byte at a time", ok, exchange(port, post(NONE % 1), 0.002, 1))
+        want("3 waits for continue", b"HTTP/1.1 100 Continue\r\n\r\n" + ok, exchange(
+            port, post(NONE % 2).replace(b"Host: x", b"Expect: 100-continue")))
+        want("4 end within the head", b"HTTP/1.1 400 ", early_end(port, b"GET /status HT"))
+        want("5 end within the body", b"HTTP/1.1 400 ", early_end(port, post(NONE % 3)[:-1]))
+        want("6 nothing", b"", early_end(port, b""))
+        unread(port, post(NONE % 3))
+        want("8 a thousand fields", b"HTTP/1.1 431 ", exchange(
+            port, b"GET /status HTTP/1.1\r\n" + b"X: y\r\n" * 1000 + b"\r\n"))
+        want("9 a long field", b"HTTP/1.1 431 ", exchange(
+            port, b"GET /status HTTP/1.1\r\nX: " + b"y" * 20000 + b"\r\n\r\n"))
+        want("10 a body that is too long", b"HTTP/1.1 413 ", exchange(port, post(b"x" * 65537)))
+        want("11 the longest body", ok, exchange(
+            port, post((NONE % 4 + b"Note: ").ljust(65535, b"x") + b"\n")))
+        want("12 two requests", ok, exchange(port, b"GET /status HTTP/1.1\r\nHost: x\r\n\r\n" * 2))
+        want("13 status", b"ready 0 finished 0\n", status(port))
+        _, told = service.communicate(timeout=20)
+        if service.returncode != 0:
+            faults.append("exit status %d, %r" % (service.returncode, told))
+    for fault in faults:
+        print("FAIL", fault)
+    print("13 connections, %d faults" % len(faults))
+    sys.exit(1 if faults else 0)
+
+
+main()
