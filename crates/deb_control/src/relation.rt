@@ -177,7 +177,7 @@ fn copy_alternatives(
 ) -> Result<Vec<Alternative>, NoMemory>
     ensures { IfOk result (λ v. v.items ≡ alternatives.now) }
 {
-    let mut copies = Vec::new(alloc);
+    let mut copies = Vec::with_capacity(alloc, alternatives.len())?;
     'each: for alternative in alternatives {
         copies.push(alternative.copy(alloc)?)?;
     }
@@ -233,7 +233,7 @@ impl Clauses {
 fn copy_clauses(alloc: Global, clauses: &[Clause]) -> Result<Vec<Clause>, NoMemory>
     ensures { IfOk result (λ v. v.items ≡ clauses.now) }
 {
-    let mut copies = Vec::new(alloc);
+    let mut copies = Vec::with_capacity(alloc, clauses.len())?;
     'each: for clause in clauses {
         copies.push(clause.copy(alloc)?)?;
     }
@@ -289,7 +289,7 @@ impl Provisions {
 fn copy_provisions(alloc: Global, provisions: &[Provision]) -> Result<Vec<Provision>, NoMemory>
     ensures { IfOk result (λ v. v.items ≡ provisions.now) }
 {
-    let mut copies = Vec::new(alloc);
+    let mut copies = Vec::with_capacity(alloc, provisions.len())?;
     'each: for provision in provisions {
         copies.push(provision.copy(alloc)?)?;
     }
