@@ -1,9 +1,9 @@
 -- The places that come and leave by a move are its flags.
 use Rattle.std.specs.Prelude.{ℕ, zero, suc, ◌+◌, ◌≤◌, ◌==◌, Bool, true, false, ◌&&◌, nat_le, List, [], ◌∷◌, ◌++◌, Contains, Option, Some, None, length}
-use Rattle.std.specs.List.{slice_get, list_any}
+use Rattle.std.specs.List.{slice_get}
 use Rattle.std.specs.Option.{option_map_or}
 use Rattle.std.specs.Str.{bytes_eq}
-use Rattle.std.proofs.Common.{◌≡◌, refl, sym, ap, ◌∙◌, subst, arith, inl, inr, ◌⊎◌}
+use Rattle.std.proofs.Common.{◌≡◌, refl, sym, ap, ◌∙◌, arith, inl, inr, ◌⊎◌}
 use Rattle.std.proofs.lemmas.Bool.{false≢true, eq-eqb, eqb-true}
 use Rattle.std.proofs.lemmas.Bool.Decides.{nat_tests}
 use Rattle.std.proofs.lemmas.Option.{same_Some}
@@ -11,8 +11,8 @@ use Rattle.std.proofs.lemmas.Slice.Eq.{bytes_eq-Decides}
 use Rattle.testing_install.specs.Closed.{marked}
 use Rattle.testing_rules.specs.declared.facts.UploadIn.{UploadIn}
 use Rattle.testing_rules.specs.declared.suite.RowIn.{RowIn}
-use Rattle.testing_rules.specs.Changes.{comes_at, stands_of, stands_for, gives_way_to, has, AreThose, IsMoveOf}
-use Rattle.testing_rules.specs.Moves.{is_same_key, is_row_of, row_key, group_sources}
+use Rattle.testing_rules.specs.Changes.{comes_at, stands_of, stands_for, gives_way_to, has, IsMoveOf}
+use Rattle.testing_rules.specs.Moves.{is_same_key, is_row_of, row_key}
 use Rattle.testing_rules.specs.Unstable.{is_current}
 use Rattle.testing_rules.specs.Words.{Text}
 use Rattle.testing_rules.proofs.Changing.{row_that_comes, row_that_stands, row_that_gives_way}
@@ -26,7 +26,7 @@ first_of_both : (a b : Bool) → (a && b) ≡ true → a ≡ true
 first_of_both true b h = refl
 first_of_both false b h = absurd (false≢true h)
 
-at_some_of : {A : Type 0} (test : A → Bool) (m : Option A) → option_map_or test m false ≡ true → (r : A) × (m ≡ Some r) × (test r ≡ true)
+pub at_some_of : {A : Type 0} (test : A → Bool) (m : Option A) → option_map_or test m false ≡ true → (r : A) × (m ≡ Some r) × (test r ≡ true)
 at_some_of test None h = absurd (false≢true h)
 at_some_of test (Some r) h = (r, refl, h)
 

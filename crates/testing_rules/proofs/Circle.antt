@@ -4,7 +4,7 @@ use Rattle.std.specs.Borrow.{Bor}
 use Rattle.std.specs.List.{filter_map, cons_option, position_or_len, before_first, after_first, slice_get}
 use Rattle.std.specs.Option.{option_to_list}
 use Rattle.std.proofs.Common.{◌≡◌, refl, sym, ap, ◌∙◌, arith, add-one}
-use Rattle.std.proofs.lemmas.List.{drop_all, get_or-map, length-append, length-drop, length-take-le, take_at, drop_at, take-map, drop-map, map-append}
+use Rattle.std.proofs.lemmas.List.{drop_all, get_or-map, length-append, length-drop, length-take-le, take-map, drop-map, map-append}
 use Rattle.std.proofs.lemmas.List.Folds.{find_at}
 use Rattle.std.proofs.lemmas.Option.{slice_get-get_or, slice_get_past}
 use Rattle.std.proofs.Math.Seq.{drop-cons}
@@ -29,11 +29,14 @@ lent-behind items i =
     ∙ ap (λ es. es ++ map (λ (e : Bor Excuse). e.now) (take i items)) (sym (drop-map (λ (e : Bor Excuse). e.now) (i + 1) items))
     ∙ ap (λ es. drop (i + 1) (lent_excuses items) ++ es) (sym (take-map (λ (e : Bor Excuse). e.now) i items))
 
--- a list turned round behind one of its elements, which is gone
-pub turned : {A : Type 0} (xs : List A) (i : ℕ) → i < length xs → drop i (take i xs ++ drop (suc i) xs) ++ take i (take i xs ++ drop (suc i) xs) ≡ drop (i + 1) xs ++ take i xs
-turned xs i below =
-    let n : length (take i xs) ≡ i = length-take-le i xs (omega arith) in
-    rw (drop_at (take i xs) (drop (suc i) xs) i n, take_at (take i xs) (drop (suc i) xs) i n, add-one) refl
+-- a list turned round to one of its elements, which then goes
+turned-first : {A : Type 0} (xs ys : List A) (i : ℕ) → i < length xs → drop 1 (drop i xs ++ ys) ≡ drop (suc i) xs ++ ys
+turned-first [] ys i below = absurd (omega (arith, below))
+turned-first (x ∷ xs) ys zero below = refl
+turned-first (x ∷ xs) ys (suc i) below = turned-first xs ys i (omega (arith, below))
+
+pub turned : {A : Type 0} (xs : List A) (i : ℕ) → i < length xs → drop 1 (drop i xs ++ take i xs) ≡ drop (i + 1) xs ++ take i xs
+turned xs i below = turned-first xs (take i xs) i below ∙ ap (λ n. drop n xs ++ take i xs) (let e : suc i ≡ i + 1 = omega arith in e)
 
 module _ {A : Type 0} (test : A → Bool) (xs : List A) (i : ℕ) (d : A) (before : i + position_or_len test (drop i xs) ≡ position_or_len test xs) where
   -- the search for the first that passes goes on

@@ -1,12 +1,11 @@
 -- What a trial on one architecture tells of a change is what the change breaks there.
-use Rattle.std.specs.Prelude.{ℕ, ◌<◌, ◌↔◌, Bool, true, false, ◌&&◌, ◌||◌, not, List, Contains, Option, Some, map, filter, length}
+use Rattle.std.specs.Prelude.{ℕ, ◌<◌, Bool, true, false, ◌&&◌, ◌||◌, not, List, Option, Some, map, filter, length}
 use Rattle.std.specs.List.{All, slice_get}
 use Rattle.std.specs.Option.{option_map_or}
 use Rattle.std.proofs.Common.{◌≡◌, refl, sym, ap, ◌∙◌, arith}
 use Rattle.std.proofs.lemmas.Bool.{false≢true}
-use Rattle.std.proofs.lemmas.Option.{slice_get_within}
 use Rattle.deb_control.specs.declared.binary.Binary.{Binary}
-use Rattle.testing_install.specs.Among.{IsLost, after_change}
+use Rattle.testing_install.specs.Among.{after_change}
 use Rattle.testing_install.specs.Closed.{marked}
 use Rattle.testing_install.proofs.Counting.{slice_get_some}
 use Rattle.testing_rules.specs.declared.suite.RowIn.{RowIn}
@@ -17,11 +16,12 @@ use Rattle.testing_rules.specs.Words.{Text}
 use Rattle.testing_rules.proofs.Arranging.{from_has, to_has}
 use Rattle.testing_rules.proofs.Flags.{flags_after, flag_within}
 use Rattle.testing_rules.proofs.Least.{from_filter, to_filter}
-use Rattle.testing_rules.proofs.Lost.{IsOn, IsLostAt, IsChange, lost_where_new}
+use Rattle.testing_rules.specs.Standing.{IsOn}
+use Rattle.testing_rules.proofs.Lost.{IsChange, lost_where_new}
 use Rattle.testing_rules.proofs.Moving.{after_flags}
 use Rattle.testing_rules.proofs.Trying.{on_after, first_of_lost}
 
-same_bit : (a b : Bool) → (a ≡ true → b ≡ true) → (b ≡ true → a ≡ true) → a ≡ b
+pub same_bit : (a b : Bool) → (a ≡ true → b ≡ true) → (b ≡ true → a ≡ true) → a ≡ b
 same_bit true b to from = sym (to refl)
 same_bit false true to from = from refl
 same_bit false false to from = refl
@@ -38,7 +38,7 @@ both : (a b : Bool) → a ≡ true → b ≡ true → (a && b) ≡ true
 both a b h k = ap (λ x. x && b) h ∙ k
 
 -- a place stands in a filtered list where it stands in the list and passes
-has_filter : (test : ℕ → Bool) (ks : List ℕ) (k : ℕ) → has (filter test ks) k ≡ (has ks k && test k)
+pub has_filter : (test : ℕ → Bool) (ks : List ℕ) (k : ℕ) → has (filter test ks) k ≡ (has ks k && test k)
 has_filter test ks k =
     same_bit (has (filter test ks) k) (has ks k && test k)
     (λ h. let f = from_filter test ks k (from_has (filter test ks) k h) in both (has ks k) (test k) (to_has ks k f.0) f.1)

@@ -54,7 +54,7 @@ module _ {A : Type 0} {rank : A → A → Ordering} (o : IsTotalOrder rank) wher
   lesser_from None z u e = let same : z ≡ u = cc in inl same
   lesser_from (Some w) z u e = lesser_test _ z w u refl e
 
-  least_from : (zs : List A) (u : A) → least rank zs ≡ Some u → Contains zs u
+  pub least_from : (zs : List A) (u : A) → least rank zs ≡ Some u → Contains zs u
   least_from [] u e = let no : None ≡ Some u = e in cc
   least_from (z ∷ zs) u e = elim (lesser_from (least rank zs) z u e) [
     | inl same ↦ at_front z u zs same

@@ -47,3 +47,11 @@ pub mod KeyOrder
 pub mod Unboxed
 pub mod KeySlots
 pub mod ByName
+pub mod Suites
+pub mod BuiltOrder
+pub mod Alive
+pub mod KeyPlaces
+pub mod Mapped
+pub mod WithoutKeys
+pub mod Drafting
+pub mod Giving

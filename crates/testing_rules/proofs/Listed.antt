@@ -1,13 +1,11 @@
 -- Which rows are installable doesn't depend on the order in which they are listed.
 use Rattle.std.specs.Prelude.{ℕ, zero, suc, ◌<◌, ◌==◌, ◌↔◌, Bool, true, false, ◌&&◌, ◌||◌, List, length, Option, Some, None, get_or}
 use Rattle.std.specs.List.{All, slice_get}
-use Rattle.std.proofs.Common.{◌≡◌, refl, sym, ap, ◌∙◌, subst, arith, ⊎_elim, inl, inr, ◌⊎◌}
-use Rattle.std.proofs.lemmas.Bool.{cases_Bool, cases_lt, false≢true, eq-eqb, eqb-true}
+use Rattle.std.proofs.Common.{◌≡◌, refl, sym, ap, ◌∙◌, subst, arith, inl, inr, ◌⊎◌}
+use Rattle.std.proofs.lemmas.Bool.{cases_lt, false≢true, eq-eqb, eqb-true}
 use Rattle.std.proofs.lemmas.Option.{same_Some, slice_get_within, slice_get-get_or}
 use Rattle.std.proofs.Math.Bool.{or-true}
 use Rattle.deb_control.specs.declared.binary.Binary.{Binary}
-use Rattle.deb_control.specs.declared.relation.Clause.{Clause}
-use Rattle.testing_install.specs.Satisfies.{meets}
 use Rattle.testing_install.specs.Closed.{IsMet, IsClosed, IsInside, IsInstallable, marked}
 use Rattle.testing_install.specs.Installable.{are_installable}
 use Rattle.testing_install.proofs.Choosing.{are_exact}

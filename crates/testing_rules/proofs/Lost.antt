@@ -1,9 +1,8 @@
 -- The rows that a change loses, by their places among all rows that may stand, are those by which it breaks testing.
-use Rattle.std.specs.Prelude.{ℕ, zero, suc, ◌<◌, ◌==◌, ◌↔◌, Bool, true, false, ◌&&◌, ◌||◌, not, List, [], ◌∷◌, Contains, Option, Some, None, map, filter, length, get_or, option_map}
+use Rattle.std.specs.Prelude.{ℕ, zero, suc, ◌==◌, ◌↔◌, Bool, true, false, ◌&&◌, ◌||◌, not, List, [], ◌∷◌, Contains, Some, None, map, filter, length, option_map}
 use Rattle.std.specs.List.{AllByRecursion, slice_get, list_any}
 use Rattle.std.specs.List.Sorted.{IsStrictlySortedBy}
 use Rattle.std.specs.Str.{bytes_eq}
-use Rattle.std.specs.declared.cmp.Ordering.{Ordering}
 use Rattle.std.specs.declared.cmp.Ordering.TheVariants.{Less, Equal}
 use Rattle.std.specs.Cmp.{IsTotalOrder}
 use Rattle.std.proofs.Common.{◌≡◌, refl, sym, ap, ap₂, ◌∙◌, subst, arith, ⊎_elim, inl, inr, ◌⊎◌}
@@ -20,6 +19,7 @@ use Rattle.testing_install.proofs.Choosing.{length-are}
 use Rattle.testing_rules.specs.declared.suite.RowIn.{RowIn}
 use Rattle.testing_rules.specs.InOrder.{AreByKey}
 use Rattle.testing_rules.specs.Moves.{row_cmp, row_key, is_row_on, rows_on, is_row_of, is_same_key, is_watched_on, was_installable, fails_on, first_failing, with_answers, judged_on, Judged}
+use Rattle.testing_rules.specs.Standing.{IsShown, IsOn}
 use Rattle.testing_rules.specs.Words.{Text, text_cmp, least}
 use Rattle.testing_rules.proofs.Least.{from_filter, to_filter, same-least}
 use Rattle.testing_rules.proofs.Listed.{IsAmong, IsListing, listed_exact}
@@ -150,16 +150,6 @@ of_answer (x ∷ rows) (b ∷ marks) (suc i) j e = of_answer rows marks i j e
 
 abbrev packages : List RowIn → List Binary
 packages rows = map (λ r. r.binary) rows
-
--- the rows are those of the pool that stand, in order
-pub record IsShown (pool : List RowIn) (stands : ℕ → Bool) (rows : List RowIn) : Type 0 where
-  pub by_key : AreByKey rows
-  pub within : (r : RowIn) → Contains rows r → (k : ℕ) × (slice_get pool k ≡ Some r) × (stands k ≡ true)
-  pub all : (k : ℕ) (r : RowIn) → slice_get pool k ≡ Some r → stands k ≡ true → Contains rows r
-
--- the places of the rows that stand and are on the architecture
-pub record IsOn (arch : ℕ) (pool : List RowIn) (stands there : ℕ → Bool) : Type 0 where
-  pub on : (k : ℕ) (r : RowIn) → slice_get pool k ≡ Some r → there k ≡ (stands k && is_row_on arch r)
 
 module _ (arch : ℕ) (pool : List RowIn) (stands there : ℕ → Bool) (rows : List RowIn) (shown : IsShown pool stands rows) (o : IsOn arch pool stands there) where
   abbrev listed : List RowIn

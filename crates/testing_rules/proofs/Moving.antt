@@ -1,9 +1,9 @@
 -- The rows that stand after a move, by flags: those that came, and those that stood and didn't leave.
-use Rattle.std.specs.Prelude.{ℕ, ◌≤◌, Bool, true, false, ◌&&◌, ◌||◌, not, List, [], ◌∷◌, Contains, Option, Some, None, filter, fold}
-use Rattle.std.specs.List.{slice_get, list_any, filter_map, flat_map}
+use Rattle.std.specs.Prelude.{ℕ, Bool, true, false, ◌&&◌, ◌||◌, not, List, [], ◌∷◌, Contains, Some, filter, fold}
+use Rattle.std.specs.List.{slice_get, list_any, flat_map}
 use Rattle.std.specs.Str.{bytes_eq}
-use Rattle.std.proofs.Common.{◌≡◌, refl, sym, ap, ◌∙◌, subst, inl, inr, ◌⊎◌, ⊎_elim}
-use Rattle.std.proofs.lemmas.Bool.{cases_Bool, false≢true}
+use Rattle.std.proofs.Common.{◌≡◌, refl, sym, ap, ◌∙◌, subst, inl, inr, ◌⊎◌}
+use Rattle.std.proofs.lemmas.Bool.{false≢true}
 use Rattle.std.proofs.lemmas.Slice.Eq.{bytes_eq-Decides}
 use Rattle.testing_rules.specs.declared.facts.UploadIn.{UploadIn}
 use Rattle.testing_rules.specs.declared.suite.RowIn.{RowIn}
@@ -13,7 +13,8 @@ use Rattle.testing_rules.specs.Suite.{Suite}
 use Rattle.testing_rules.specs.Unstable.{is_current, is_of_source}
 use Rattle.testing_rules.specs.Words.{Text}
 use Rattle.testing_rules.proofs.Least.{from_filter, to_filter}
-use Rattle.testing_rules.proofs.Lost.{IsShown, IsChange}
+use Rattle.testing_rules.specs.Standing.{IsShown}
+use Rattle.testing_rules.proofs.Lost.{IsChange}
 use Rattle.testing_rules.proofs.Members.{none_among, head_of, tail_of}
 use Rattle.testing_rules.proofs.Ordered.{by_key-put, by_key-put_all, by_key-kept}
 use Rattle.testing_rules.proofs.Sets.{first_or_rest, at_front, given_by, spread_from, spreads}
@@ -24,7 +25,7 @@ use Rattle.testing_rules.proofs.Watching.{found_passes}
 abbrev puts : List RowIn → List RowIn → List RowIn
 puts xs base = fold (λ ys r. put_row r ys) base xs
 
-puts_from : (xs base : List RowIn) (r : RowIn) → AreByKey base → Contains (puts xs base) r → Contains xs r ⊎ (Contains base r × ((x : RowIn) → Contains xs x → IsOther x r))
+pub puts_from : (xs base : List RowIn) (r : RowIn) → AreByKey base → Contains (puts xs base) r → Contains xs r ⊎ (Contains base r × ((x : RowIn) → Contains xs x → IsOther x r))
 puts_from [] base r h c = inr (c, λ x d. none_among x d)
 puts_from (x ∷ xs) base r h c = elim (puts_from xs (put_row x base) r (by_key-put x base h) c) [
   | inl later ↦ inl (tail_of x xs r later)
@@ -44,18 +45,18 @@ puts_from (x ∷ xs) base r h c = elim (puts_from xs (put_row x base) r (by_key-
 ]
 
 -- each of the rows is the row itself or of another key
-abbrev AreOthers : List RowIn → RowIn → Type 0
+abbrev pub AreOthers : List RowIn → RowIn → Type 0
 AreOthers xs r = (x : RowIn) → Contains xs x → (x ≡ r) ⊎ IsOther x r
 
 puts_keep_at : (x r : RowIn) (base : List RowIn) → (x ≡ r) ⊎ IsOther x r → Contains base r → Contains (put_row x base) r
 puts_keep_at x r base (inl own) c = subst (λ z. Contains (put_row x base) z) own (put_has x base)
 puts_keep_at x r base (inr other) c = put_keeps x r base other c
 
-puts_keep : (xs base : List RowIn) (r : RowIn) → AreOthers xs r → Contains base r → Contains (puts xs base) r
+pub puts_keep : (xs base : List RowIn) (r : RowIn) → AreOthers xs r → Contains base r → Contains (puts xs base) r
 puts_keep [] base r o c = c
 puts_keep (x ∷ xs) base r o c = puts_keep xs (put_row x base) r (λ y d. o y (tail_of x xs y d)) (puts_keep_at x r base (o x (head_of x xs)) c)
 
-puts_have : (xs base : List RowIn) (r : RowIn) → AreOthers xs r → Contains xs r → Contains (puts xs base) r
+pub puts_have : (xs base : List RowIn) (r : RowIn) → AreOthers xs r → Contains xs r → Contains (puts xs base) r
 puts_have [] base r o c = none_among r c
 puts_have (x ∷ xs) base r o c = elim (first_or_rest x xs r c) [
   | inl own ↦ puts_keep xs (put_row x base) r (λ y d. o y (tail_of x xs y d)) (subst (λ z. Contains (put_row x base) z) own (put_has x base))

@@ -1,10 +1,9 @@
 -- Changes of flags, and the rows that they show.
-use Rattle.std.specs.Prelude.{ℕ, zero, suc, ◌<◌, ◌==◌, Bool, true, false, ◌&&◌, ◌||◌, not, List, [], ◌∷◌, Contains, Option, Some, None, map, filter, fold}
+use Rattle.std.specs.Prelude.{ℕ, Bool, true, false, ◌&&◌, List, [], ◌∷◌, Contains, Some, map, filter}
 use Rattle.std.specs.List.{AllByRecursion, slice_get}
 use Rattle.std.specs.List.Sorted.{IsStrictlySortedBy}
 use Rattle.std.specs.declared.cmp.Ordering.{Ordering}
 use Rattle.std.specs.declared.cmp.Ordering.TheVariants.{Less, Equal, Greater}
-use Rattle.std.specs.Cmp.{IsTotalOrder}
 use Rattle.std.proofs.Common.{◌≡◌, refl, sym, ap, ◌∙◌, subst, inl, inr, ◌⊎◌}
 use Rattle.std.proofs.lemmas.Bool.{false≢true}
 use Rattle.std.specs.Ordering.{nat_cmp}
@@ -13,7 +12,8 @@ use Rattle.testing_rules.specs.declared.suite.RowIn.{RowIn}
 use Rattle.testing_rules.specs.InOrder.{AreByKey}
 use Rattle.testing_rules.specs.Moves.{row_cmp, row_key, put_row}
 use Rattle.testing_rules.proofs.Least.{from_filter, to_filter}
-use Rattle.testing_rules.proofs.Lost.{IsShown, row_order, one_for_key}
+use Rattle.testing_rules.specs.Standing.{IsShown}
+use Rattle.testing_rules.proofs.Lost.{row_order, one_for_key}
 use Rattle.testing_rules.proofs.Members.{none_among, head_of, tail_of}
 use Rattle.testing_rules.specs.Words.{Text, text_cmp, put_by}
 use Rattle.testing_rules.proofs.MoreMail.{nat_tied, text_tied, then_equal}

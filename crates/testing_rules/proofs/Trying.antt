@@ -1,13 +1,14 @@
 -- A change tried on one architecture: which rows stand there after it, and the name of the first that it loses.
-use Rattle.std.specs.Prelude.{ℕ, ◌<◌, ◌↔◌, Bool, true, false, ◌&&◌, ◌||◌, not, List, Contains, Option, Some, map, filter, length}
+use Rattle.std.specs.Prelude.{ℕ, ◌<◌, ◌↔◌, Bool, true, false, ◌&&◌, ◌||◌, not, List, Contains, Some, map, filter, length}
 use Rattle.std.specs.List.{slice_get, filter_map}
-use Rattle.std.proofs.Common.{◌≡◌, refl, sym, ap, ap₂, ◌∙◌, subst}
+use Rattle.std.proofs.Common.{◌≡◌, refl, ap₂, ◌∙◌}
 use Rattle.std.proofs.lemmas.Option.{slice_get_within}
 use Rattle.testing_rules.specs.declared.suite.RowIn.{RowIn}
 use Rattle.testing_rules.specs.Moves.{is_row_on, is_watched_on, first_failing, judged_on}
 use Rattle.testing_rules.specs.Words.{Text, text_cmp, least}
 use Rattle.testing_rules.proofs.Least.{from_filter, to_filter}
-use Rattle.testing_rules.proofs.Lost.{IsOn, IsLostAt, IsChange, AreLost, first_lost}
+use Rattle.testing_rules.specs.Standing.{IsOn}
+use Rattle.testing_rules.proofs.Lost.{IsLostAt, IsChange, AreLost, first_lost}
 use Rattle.testing_rules.proofs.Moving.{after_flags}
 use Rattle.testing_rules.proofs.Sets.{given_by, gives, maps, mapped_from}
 

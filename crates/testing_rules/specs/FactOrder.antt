@@ -6,6 +6,8 @@ use Rattle.testing_rules.specs.declared.facts.UploadIn.{UploadIn}
 use Rattle.testing_rules.specs.declared.facts.BuildIn.{BuildIn}
 use Rattle.testing_rules.specs.declared.facts.DropIn.{DropIn}
 use Rattle.testing_rules.specs.declared.facts.BugIn.{BugIn}
+use Rattle.testing_rules.specs.declared.suite.RowIn.{RowIn}
+use Rattle.testing_rules.specs.InOrder.{AreByKey}
 use Rattle.testing_rules.specs.Words.{text_cmp}
 use Rattle.testing_rules.specs.Unstable.{pair_order, pair_of, drop_pair}
 
@@ -31,3 +33,8 @@ pub record IsFactOrder (sources : List UploadIn) (rows : List BuildIn) (drops : 
   pub by_pair : AreByPair rows
   pub drops_by_pair : AreDropsByPair drops
   pub by_number : AreByNumber bugs
+
+-- unstable's sources and rows as moves see them
+pub record IsUnstableOrder (sources : List UploadIn) (rows : List RowIn) : Type 0 where
+  pub by_source : AreBySource sources
+  pub by_key : AreByKey rows

@@ -8,6 +8,7 @@ pub mod Entries
 pub mod Excuses
 pub mod FactLists
 pub mod FactOrder
+pub mod Given
 pub mod InOrder
 pub mod JudgedRows
 pub mod Laws
@@ -19,12 +20,15 @@ pub mod Reports
 pub mod SameMessages
 pub mod Runs
 pub mod Slots
+pub mod Standing
 pub mod StandsFor
 pub mod Suite
 pub mod Taken
 pub mod TakenLaws
 pub mod Trials
+pub mod Tried
 pub mod Unstable
 pub mod Updates
 pub mod Watched
 pub mod Words
+pub mod Drafts

@@ -2,6 +2,8 @@
 
 ghost use Rattle.std.specs.Prelude.{◌≡◌, ◌++◌, OnOk, IfOk};
 ghost use Rattle.testing_rules.specs.Boxed.{unboxed};
+ghost use Rattle.testing_rules.specs.FactOrder.{AreByPair};
+ghost use Rattle.testing_rules.specs.InOrder.{AreByKey};
 ghost use Rattle.testing_rules.specs.Unstable as unstable;
 
 use crate::archs::{ALL, Archs};
@@ -47,7 +49,8 @@ pub fn built_rows(
     archs: &Archs,
     builds: &[Box<BuildIn>],
 ) -> Result<Vec<RowIn>, NoMemory>
-    ensures { IfOk result (λ rows. rows.items ≡ unstable.built_rows archs.now (unboxed builds.now)) }
+    ensures rows { IfOk result (λ rows. rows.items ≡ unstable.built_rows archs.now (unboxed builds.now)) }
+    ensures ordered { IfOk result (λ rows. AreByPair (unboxed builds.now) → AreByKey rows.items) }
 {
     let mut rows = Vec::new(alloc);
     for place in 0..archs.len() {

@@ -1,9 +1,11 @@
 //! Which rows come by a move, and which leave.
 
-ghost use Rattle.std.specs.Prelude.{◌≡◌, ◌++◌, ◌<◌, length, filter, OnOk, IfOk};
+ghost use Rattle.std.specs.Prelude.{◌≡◌, [], ◌++◌, ◌<◌, length, filter, OnOk, IfOk};
 ghost use Rattle.std.specs.List.{All};
 ghost use Rattle.testing_rules.specs.Changes.{comes_at, stands_of, stands_for, gives_way_to, AreThose, IsMoveOf};
+ghost use Rattle.testing_rules.specs.FactOrder.{AreBySource};
 ghost use Rattle.testing_rules.specs.Moves.{group_sources};
+ghost use Rattle.testing_rules.specs.Tried.{IsWithin, IsRemovalOf};
 
 use crate::facts::UploadIn;
 use crate::moves::source_in;
@@ -69,6 +71,7 @@ fn coming_of(
     sources: &[UploadIn],
     group: &[Text],
 ) -> Result<Vec<usize>, NoMemory>
+    requires { AreBySource sources.now }
     ensures { IfOk result (λ coming. AreThose (comes_at pool.now first) (group_sources sources.now group.now) coming.items) }
 {
     let mut coming = Vec::new(alloc);
@@ -176,12 +179,34 @@ pub fn change_by_move(
     sources: &[UploadIn],
     group: &[Text],
 ) -> Result<Change, NoMemory>
-    requires { length stands.now ≡ length pool.now }
-    ensures { IfOk result (λ change. IsMoveOf pool.now stands.now first sources.now group.now change.leaving.items change.coming.items) }
+    requires order { AreBySource sources.now }
+    requires flags { length stands.now ≡ length pool.now }
+    ensures within { IfOk result (λ change. IsWithin pool.now change.leaving.items change.coming.items) }
+    ensures moves { IfOk result (λ change. IsMoveOf pool.now stands.now first sources.now group.now change.leaving.items change.coming.items) }
 {
     let coming = coming_of(alloc, pool, first, sources, group)?;
     let mut leaving = standing_of_group(alloc, pool, stands, group)?;
     let giving_way = giving_way(alloc, pool, stands, &coming)?;
     leaving.extend_from_slice(&giving_way)?;
     Ok(Change { leaving, coming })
+}
+
+/// The rows that leave by a removal of the source: its standing rows.
+pub fn change_by_removal(
+    alloc: Global,
+    pool: &Pool,
+    stands: &[bool],
+    name: &str,
+) -> Result<Change, NoMemory>
+    requires { length stands.now ≡ length pool.now }
+    ensures within { IfOk result (λ change. IsWithin pool.now change.leaving.items change.coming.items) }
+    ensures removal { IfOk result (λ change. IsRemovalOf pool.now stands.now name.now change.leaving.items) }
+    ensures none { IfOk result (λ change. change.coming.items ≡ []) }
+{
+    let mut leaving = Vec::new(alloc);
+    push_standing(&mut leaving, pool, stands, name, pool.of_source(name))?;
+    Ok(Change {
+        leaving,
+        coming: Vec::new(alloc),
+    })
 }

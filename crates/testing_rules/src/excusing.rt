@@ -1,7 +1,6 @@
 //! The excuses of a run.
 
-ghost use Rattle.std.specs.Prelude.{◌≡◌, IfOk, filter, length, option_copied};
-ghost use Rattle.std.specs.List.Sorted.{IsBinarySearchResult, IsSearchInRange};
+ghost use Rattle.std.specs.Prelude.{◌≡◌, IfOk, filter, option_copied};
 ghost use Rattle.testing_rules.specs.Boxed.{unboxed};
 ghost use Rattle.testing_rules.specs.BySource.{excuses_by, ground_at, ground_from, part_of};
 ghost use Rattle.testing_rules.specs.Covered.{Covered};
@@ -9,7 +8,7 @@ ghost use Rattle.testing_rules.specs.StandsFor.{StandsFor};
 ghost use Rattle.testing_rules.specs.Excuses as rules;
 ghost use Rattle.testing_rules.specs.Unstable as unstable;
 ghost use Rattle.testing_rules.specs.Unstable.{place_numbers};
-ghost use Rattle.testing_rules.specs.Words.{Text, text_cmp};
+ghost use Rattle.testing_rules.specs.Words.{Text};
 
 use crate::archs::Archs;
 use crate::built::built_rows;
@@ -21,31 +20,18 @@ use crate::excuse::{Excuse, Excuses};
 use crate::facts::{Facts, HintIn, UnhintIn, UploadIn};
 use crate::item::copy_version;
 use crate::reasons::{Known, reasons_of};
-use crate::suite::{SourceIn, Testing};
+use crate::suite::{Testing, place_of_name};
 use crate::turns::is_standing;
 use deb_version::{NoMemory, Version};
 use jiff::civil::Date;
 use std::alloc::Global;
-use std::cmp::Ordering;
-
-/// Where testing has the source, or else where it belongs.
-fn place_of(sources: &[SourceIn], name: &str) -> Result<usize, usize>
-    ensures bound { IsSearchInRange result (length sources.now) }
-    ensures found { IsBinarySearchResult (λ s. text_cmp s.name name.now) sources.now result }
-{
-    sources.binary_search_by(
-        |source: &SourceIn| -> Ordering
-            ensures { result ≡ text_cmp source.now.name name.entry.now }
-        { source.name.as_str().cmp(name) },
-    )
-}
 
 /// The source's version in testing.
-fn testing_version<'a>(testing: &'a Testing, name: &str) -> Option<&'a Version>
+pub(crate) fn testing_version<'a>(testing: &'a Testing, name: &str) -> Option<&'a Version>
     ensures { option_copied result ≡ rules.testing_version testing.now name.now }
 {
     let sources = testing.sources();
-    match place_of(sources, name) {
+    match place_of_name(sources, name) {
         Ok(place) => Some(&sources[place].version),
         Err(_) => None,
     }

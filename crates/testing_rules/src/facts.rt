@@ -4,6 +4,7 @@ ghost use Rattle.std.specs.Prelude.{◌≡◌, ◌∷◌, ◌++◌, [], Some, Co
 ghost use Rattle.testing_rules.specs.Boxed.{unboxed};
 ghost use Rattle.testing_rules.specs.Covered.{Covered, CoveredItem, upload_of};
 ghost use Rattle.testing_rules.specs.Entries.{with_entry};
+ghost use Rattle.testing_rules.specs.FactOrder.{AreBySource, AreByPair};
 ghost use Rattle.testing_rules.specs.StandsFor.{StandsFor};
 ghost use Rattle.testing_rules.specs.Suite.{Suite};
 ghost use Rattle.testing_rules.specs.Taken.{with_upload, with_drop, with_greatest, with_builds, with_bug, stands_beside};
@@ -153,7 +154,8 @@ impl Facts {
 
     /// Unstable's sources, by name.
     pub(crate) fn sources(&self) -> &[Box<UploadIn>]
-        ensures { unboxed result.now ≡ self.now.sources }
+        ensures sources { unboxed result.now ≡ self.now.sources }
+        ensures ordered { AreBySource (unboxed result.now) }
     {
         self.sources.as_slice()
     }
@@ -167,7 +169,8 @@ impl Facts {
 
     /// Unstable's rows, by architecture and name.
     pub(crate) fn rows(&self) -> &[Box<BuildIn>]
-        ensures { unboxed result.now ≡ self.now.rows }
+        ensures rows { unboxed result.now ≡ self.now.rows }
+        ensures ordered { AreByPair (unboxed result.now) }
     {
         self.rows.as_slice()
     }

@@ -1,8 +1,11 @@
 //! Groups that easy hints ask for.
 
-ghost use Rattle.std.specs.Prelude.{◌≡◌, ◌∷◌, [], ◌++◌, ◌&&◌, not, IfOk, OnOk, option_copied, map, filter, find};
+ghost use Rattle.std.specs.Prelude.{◌≡◌, true, length, ◌∷◌, [], ◌++◌, ◌&&◌, not, IfOk, OnOk, option_copied, map, filter, find};
+ghost use Rattle.std.specs.List.Sorted.{IsSearchInRange};
 ghost use Rattle.std.specs.Str.{bytes_eq};
+ghost use Rattle.testing_rules.specs.FactOrder.{AreBySource};
 ghost use Rattle.testing_rules.specs.Words as words;
+ghost use Rattle.testing_rules.specs.Words.{text_cmp};
 ghost use Rattle.testing_rules.specs.Moves.{group_sources};
 ghost use Rattle.testing_rules.specs.Unstable as unstable_words;
 ghost use Rattle.testing_rules.specs.Updates as rules;
@@ -21,6 +24,7 @@ use crate::update::{Decision, Moved, MovedItems};
 use deb_control::Text;
 use deb_version::{NoMemory, Version};
 use std::alloc::Global;
+use std::cmp::Ordering;
 
 /// No reason keeps the source out.
 pub fn has_no_reason(excuse: &Excuse) -> bool
@@ -38,11 +42,40 @@ fn allows(excuse: &Excuse, name: &str, version: &Version) -> bool
         && is_same_version(&excuse.unstable, version)
 }
 
-/// The source is a candidate at the version.
-pub fn is_candidate(excuses: &[Excuse], name: &str, version: &Version) -> bool
+/// Where the excuses have the name, if they are in order.
+fn place_of_name(excuses: &[Excuse], name: &str) -> Result<usize, usize>
+    ensures { IsSearchInRange result (length excuses.now) }
+{
+    excuses.binary_search_by(
+        |excuse: &Excuse| -> Ordering
+            ensures { result ≡ text_cmp excuse.now.source name.entry.now }
+        { excuse.source.as_str().cmp(name) },
+    )
+}
+
+/// The excuse of the name, sought by halves, makes its source a candidate at the version.
+fn is_found(excuses: &[Excuse], name: &str, version: &Version) -> bool
+    ensures { result ≡ true → rules.is_candidate excuses.now name.now version.now ≡ true }
+{
+    match place_of_name(excuses, name) {
+        Ok(place) => allows(&excuses[place], name, version),
+        Err(_) => false,
+    }
+}
+
+/// Some excuse makes the source a candidate at the version.
+fn is_among(excuses: &[Excuse], name: &str, version: &Version) -> bool
     ensures { result ≡ rules.is_candidate excuses.now name.now version.now }
 {
     excuses.iter().any(|excuse| allows(excuse, name, version))
+}
+
+/// The source is a candidate at the version. Only where a search by halves doesn't find that, all excuses are looked
+/// at.
+pub fn is_candidate(excuses: &[Excuse], name: &str, version: &Version) -> bool
+    ensures { result ≡ rules.is_candidate excuses.now name.now version.now }
+{
+    is_found(excuses, name, version) || is_among(excuses, name, version)
 }
 
 /// Testing has the source at the version.
@@ -113,6 +146,7 @@ fn push_moved(alloc: Global, items: &mut Vec<Moved>, upload: &UploadIn) -> Resul
 
 /// The sources of a group as they moved.
 fn moved_items(alloc: Global, sources: &[UploadIn], group: &[Text]) -> Result<Vec<Moved>, NoMemory>
+    requires { AreBySource sources.now }
     ensures { IfOk result (λ items. items.items ≡ map as_moved (group_sources sources.now group.now)) }
 {
     let mut items = Vec::new(alloc);

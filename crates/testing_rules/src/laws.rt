@@ -1,5 +1,6 @@
 //! Laws of the rules, which no call needs.
 
+ghost use Rattle.testing_rules.specs.Given.{UpdateIsGiven, ArchsStayKnown};
 ghost use Rattle.testing_rules.specs.Laws.{UnstableSourceIsFirst, UnstableSourceIsFound, UnstableRowIsFirst, GreatestDropIsFirst};
 ghost use Rattle.testing_rules.specs.SameMessages.{FactsStandForSets};
 ghost use Rattle.testing_rules.specs.TakenLaws.{UploadPutsOne, BuildPutsItsOwn, DropTakesOne, DropPutsOne, BugPutsOne, GreatestDropsDecide};
@@ -63,4 +64,14 @@ pub fn facts_stand_for_sets()
 /// A run leaves every watched row installable, as it was before.
 pub fn watched_rows_stay()
     ensures { WatchedRowsStay }
+{}
+
+/// Covered uploads and builds give all that a run brings into testing.
+pub fn update_is_given()
+    ensures { UpdateIsGiven }
+{}
+
+/// A run brings in no row of an architecture that isn't listed.
+pub fn archs_stay_known()
+    ensures { ArchsStayKnown }
 {}

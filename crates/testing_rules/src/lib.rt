@@ -2,10 +2,13 @@
 #![tactic(auto)]
 
 mod archs;
+mod boxed_sources;
+mod breaking;
 mod built;
 mod by_source;
 mod change;
 mod days;
+mod draft;
 mod entry;
 mod excuse;
 mod excusing;
@@ -13,6 +16,7 @@ mod facts;
 mod groups;
 mod item;
 pub mod laws;
+mod lent_rows;
 mod live;
 mod migration;
 mod moves;
@@ -22,6 +26,7 @@ mod reasons;
 mod report;
 mod select;
 mod singles;
+mod standing;
 mod suite;
 mod taken;
 mod trial;

@@ -2,13 +2,18 @@
 
 ghost use Rattle.std.specs.Prelude.{◌≡◌, IfOk, OnOk, option_copied};
 ghost use Rattle.testing_rules.specs.Excuses as excuses;
+ghost use Rattle.testing_rules.specs.FactOrder.{AreBySource};
+ghost use Rattle.testing_rules.specs.InOrder.{AreByKey};
 ghost use Rattle.testing_rules.specs.Runs.{after_move, broken_by_move, after_removal, broken_by_removal};
 
 use crate::archs::Archs;
+use crate::breaking;
+use crate::breaking::suites_of;
+use crate::draft::Draft;
 use crate::facts::UploadIn;
-use crate::moves::{Unstable, move_group, remove_source};
-use crate::offender::offender_of;
-use crate::suite::{SourceIn, Testing};
+use crate::moves::Unstable;
+use crate::standing::PoolSuites;
+use crate::suite::Testing;
 use crate::update::Offender;
 use deb_control::Text;
 use deb_version::{NoMemory, Version};
@@ -16,16 +21,19 @@ use std::alloc::Global;
 use std::marker::Model;
 
 /// Testing while a run changes it, beside what the run goes by: the architectures and unstable.
-/// A change is first judged, and testing stays; then it is made.
+/// A change is first judged, and testing stays; then it is made. The suites judge it by what it touches; there are none
+/// after an error, that is where memory ran out while a change was made.
 #[derive(Drop)]
 pub struct LiveTesting<'a> {
     archs: &'a Archs,
     unstable: Unstable<'a>,
-    testing: Testing,
+    testing: Draft<'a>,
+    suites: Option<PoolSuites<'a>>,
 }
 
 impl<'a> Model for LiveTesting<'a> {
     ghost use Rattle.testing_rules.specs.Runs.{Moment};
+    ghost use Rattle.testing_rules.specs.Standing.{IsLiveTesting};
 
     ghost Value = { Moment };
 
@@ -33,13 +41,8 @@ impl<'a> Model for LiveTesting<'a> {
       basis = record { archs = a.archs.now; sources = a.unstable.sources.now; rows = a.unstable.rows.now };
       suite = a.testing;
     } };
-}
 
-/// The source's entry in testing.
-pub fn entry_of<'a>(sources: &'a [SourceIn], name: &str) -> Option<&'a SourceIn>
-    ensures { option_copied result ≡ excuses.entry_of sources.now name.now }
-{
-    sources.iter().find(|source| source.name.as_str() == name)
+    ghost invariant = { λ a. IsLiveTesting a.suites a.archs.now a.unstable.sources.now a.unstable.rows.now a.testing.rows };
 }
 
 impl<'a> LiveTesting<'a> {
@@ -50,15 +53,19 @@ impl<'a> LiveTesting<'a> {
         unstable: Unstable<'a>,
         testing: &'a Testing,
     ) -> Result<LiveTesting<'a>, NoMemory>
+        requires sources { AreBySource unstable.sources.now }
+        requires rows { AreByKey unstable.rows.now }
         ensures { IfOk result (λ live. live ≡ record {
           basis = record { archs = archs.now; sources = unstable.entry.sources.now; rows = unstable.entry.rows.now };
           suite = testing.now;
         }) }
     {
+        let suites = suites_of(alloc, archs, unstable, testing)?;
         Ok(LiveTesting {
             archs,
             unstable,
-            testing: testing.copy(alloc)?,
+            testing: Draft::of(alloc, testing)?,
+            suites: Some(suites),
         })
     }
 
@@ -66,15 +73,13 @@ impl<'a> LiveTesting<'a> {
     pub fn version_of(&self, name: &str) -> Option<&Version>
         ensures { option_copied result ≡ excuses.testing_version self.now.suite name.now }
     {
-        match entry_of(self.testing.sources(), name) {
-            Some(entry) => Some(&entry.version),
-            None => None,
-        }
+        self.testing.version_of(name)
     }
 
     /// Unstable's sources.
     pub fn unstable_sources(&self) -> &'a [UploadIn]
-        ensures { result.now ≡ self.now.basis.sources }
+        ensures sources { result.now ≡ self.now.basis.sources }
+        ensures ordered { AreBySource result.now }
     {
         self.unstable.sources
     }
@@ -88,15 +93,22 @@ impl<'a> LiveTesting<'a> {
         ensures same { self.new ≡ self.old }
         ensures offender { IfOk result (λ o. o ≡ broken_by_move group.now self.old) }
     {
-        let moved = move_group(alloc, self.unstable, group, &self.testing)?;
-        offender_of(alloc, self.archs, self.testing.rows(), moved.rows(), group)
+        breaking::broken_by_move(
+            alloc,
+            &mut self.suites,
+            self.archs,
+            self.unstable,
+            group,
+            &self.testing,
+        )
     }
 
     /// Moves a group.
     pub fn move_group(&mut self, alloc: Global, group: &[Text]) -> Result<(), NoMemory>
         ensures { OnOk result (self.new ≡ after_move group.now self.old) }
     {
-        self.testing = move_group(alloc, self.unstable, group, &self.testing)?;
+        let suites = self.suites.take();
+        self.suites = breaking::move_group(alloc, suites, self.unstable, group, &mut self.testing)?;
         Ok(())
     }
 
@@ -109,22 +121,37 @@ impl<'a> LiveTesting<'a> {
         ensures same { self.new ≡ self.old }
         ensures offender { IfOk result (λ o. o ≡ broken_by_removal name.now self.old) }
     {
-        let left = remove_source(alloc, name, &self.testing)?;
-        offender_of(alloc, self.archs, self.testing.rows(), left.rows(), &[])
+        breaking::broken_by_removal(
+            alloc,
+            &mut self.suites,
+            self.archs,
+            self.unstable,
+            name,
+            &self.testing,
+        )
     }
 
     /// Removes a source.
     pub fn remove(&mut self, alloc: Global, name: &str) -> Result<(), NoMemory>
         ensures { OnOk result (self.new ≡ after_removal name.now self.old) }
     {
-        self.testing = remove_source(alloc, name, &self.testing)?;
+        let suites = self.suites.take();
+        self.suites = breaking::remove_source(alloc, suites, name, &mut self.testing)?;
         Ok(())
     }
 
     /// Testing as the run leaves it.
-    pub fn into_testing(self) -> Testing
-        ensures { result ≡ self.entry.suite }
+    pub fn into_testing(self, alloc: Global) -> Result<Testing, NoMemory>
+        ensures { IfOk result (λ testing. testing ≡ self.entry.suite) }
     {
-        self.testing
+        let LiveTesting {
+            archs: _,
+            unstable: _,
+            testing,
+            suites,
+        } = self;
+        // The suites are the larger part, and go before testing is copied.
+        drop(suites);
+        testing.to_testing(alloc)
     }
 }

@@ -42,7 +42,8 @@ fn all_turns(
     turns.groups(alloc, excuses, facts.hints(), facts.unhints())?;
     turns.move_singles(alloc, excuses)?;
     turns.waits(alloc, excuses)?;
-    Ok(turns.into_parts())
+    let parts = turns.into_parts(alloc)?;
+    Ok(parts)
 }
 
 /// What a run decides by these excuses: removals, groups, single moves, and the candidates that

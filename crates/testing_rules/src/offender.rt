@@ -115,7 +115,7 @@ fn rows_on(alloc: Global, arch: u32, rows: &[RowIn]) -> Result<Vec<&RowIn>, Allo
 }
 
 /// Their packages.
-fn packages<'a>(alloc: Global, rows: &[&'a RowIn]) -> Result<Vec<Row<'a>>, AllocError>
+pub fn packages<'a>(alloc: Global, rows: &[&'a RowIn]) -> Result<Vec<Row<'a>>, AllocError>
     ensures { IfOk result (λ packages. binaries packages.items ≡ map (λ r. r.binary) (lent rows.now)) }
 {
     let mut packages = Vec::new(alloc);

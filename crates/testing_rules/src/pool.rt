@@ -122,6 +122,13 @@ impl<'a> Pool<'a> {
         })
     }
 
+    /// The rows.
+    pub fn rows(&self) -> &[&'a RowIn]
+        ensures { lent result.now ≡ self.now }
+    {
+        self.rows.as_slice()
+    }
+
     /// How many rows there are.
     pub fn len(&self) -> usize
         ensures { result ≡ length self.now }

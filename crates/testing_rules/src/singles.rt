@@ -1,6 +1,7 @@
 //! Single moves: candidates that move alone, one after the other, and those that wait.
 
-ghost use Rattle.std.specs.Prelude.{◌≡◌, ◌++◌, ◌+◌, ◌<◌, IfOk, OnOk, true, false, if◌then◌else◌, take, drop, vec_len};
+ghost use Rattle.std.specs.Prelude.{◌≡◌, ◌++◌, ◌+◌, ◌<◌, IfOk, OnOk, true, false, if◌then◌else◌, take, drop};
+ghost use Rattle.std.specs.VecDeque.{deque_len};
 ghost use Rattle.testing_rules.specs.LentItems.{lent_excuses};
 ghost use Rattle.testing_rules.specs.Runs.{go_on};
 ghost use Rattle.testing_rules.specs.Updates as rules;
@@ -12,6 +13,7 @@ use crate::turns::Turns;
 use crate::update::{Decision, Offender};
 use deb_version::NoMemory;
 use std::alloc::Global;
+use std::collections::VecDeque;
 use std::slice;
 
 /// The excuse makes its source a candidate, which hasn't moved.
@@ -38,14 +40,15 @@ fn remaining<'a>(
     Ok(candidates)
 }
 
-/// The candidate at a place leaves the circle, and the next one is looked for behind it.
-fn go_on_behind(circle: &mut Vec<&Excuse>, place: usize)
-    requires { place < vec_len circle.old }
-    ensures fewer { vec_len circle.new + 1 ≡ vec_len circle.old }
+/// The candidate at a place leaves the circle, and the next one is looked for behind it. It takes time by the place
+/// alone.
+fn go_on_behind(circle: &mut VecDeque<&Excuse>, place: usize)
+    requires { place < deque_len circle.old }
+    ensures fewer { deque_len circle.new + 1 ≡ deque_len circle.old }
     ensures behind { lent_excuses circle.new.items ≡ drop (place + 1) (lent_excuses circle.old.items) ++ take place (lent_excuses circle.old.items) }
 {
-    circle.remove(place);
     circle.rotate_left(place);
+    circle.pop_front();
 }
 
 /// The line of a candidate that moves.
@@ -87,8 +90,8 @@ impl<'a> Turns<'a> {
     }
 
     /// Moves the first candidate of the circle that may move alone, and says whether there was one.
-    fn move_next(&mut self, alloc: Global, circle: &mut Vec<&Excuse>) -> Result<bool, NoMemory>
-        ensures fewer { result ≡ Ok true → vec_len circle.new < vec_len circle.old }
+    fn move_next(&mut self, alloc: Global, circle: &mut VecDeque<&Excuse>) -> Result<bool, NoMemory>
+        ensures fewer { result ≡ Ok true → deque_len circle.new < deque_len circle.old }
         ensures moves { IfOk result (λ moved. go_on self.old (λ b. rules.move_circle b.archs b.sources b.rows (lent_excuses circle.old.items))
             ≡ (if moved then go_on self.new (λ b. rules.move_circle b.archs b.sources b.rows (lent_excuses circle.new.items)) else self.new)) }
     {
@@ -105,7 +108,7 @@ impl<'a> Turns<'a> {
     pub fn move_singles(&mut self, alloc: Global, excuses: &[Excuse]) -> Result<(), NoMemory>
         ensures { OnOk result (self.new ≡ go_on self.old (λ b. rules.move_singles b.archs b.sources b.rows excuses.now)) }
     {
-        let mut circle = remaining(alloc, self.testing(), excuses)?;
+        let mut circle = VecDeque::from(remaining(alloc, self.testing(), excuses)?);
         'moves: while self.move_next(alloc, &mut circle)? {}
         Ok(())
     }

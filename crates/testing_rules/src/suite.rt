@@ -1,9 +1,11 @@
 //! The testing suite.
 
-ghost use Rattle.std.specs.Prelude.{◌≡◌, [], IfOk, OnOk, OnErr};
+ghost use Rattle.std.specs.Prelude.{◌≡◌, [], length, IfOk, OnOk, OnErr};
+ghost use Rattle.std.specs.List.Sorted.{IsBinarySearchResult, IsSearchInRange};
 ghost use Rattle.testing_rules.specs.Moves as moves;
 ghost use Rattle.testing_rules.specs.InOrder.{AreByName, AreByKey};
 ghost use Rattle.testing_rules.specs.Places.{IsPlaceFor};
+ghost use Rattle.testing_rules.specs.Words.{text_cmp};
 
 use deb_control::{Binary, Text};
 use deb_version::{NoMemory, Version};
@@ -81,44 +83,57 @@ impl RowIn {
     }
 }
 
+/// Where the sources have the name, or else where it belongs.
+pub fn place_of_name(sources: &[SourceIn], name: &str) -> Result<usize, usize>
+    ensures bound { IsSearchInRange result (length sources.now) }
+    ensures found { IsBinarySearchResult (λ s. text_cmp s.name name.now) sources.now result }
+{
+    sources.binary_search_by(
+        |source: &SourceIn| -> Ordering
+            ensures { result ≡ text_cmp source.now.name name.entry.now }
+        { source.name.as_str().cmp(name) },
+    )
+}
+
 /// Where a source belongs: at the entry of its name, or before the first one above it.
 fn place_of_source(sources: &[SourceIn], source: &SourceIn) -> Result<usize, usize>
+    requires { AreByName sources.now }
     ensures { IsPlaceFor sources.now source.now (moves.put_source source.now sources.now) result }
 {
-    for (i, other) in sources.iter().enumerate() {
-        match source.name.as_str().cmp(other.name.as_str()) {
-            Ordering::Less => return Err(i),
-            Ordering::Equal => return Ok(i),
-            Ordering::Greater => {}
-        }
-    }
-    Err(sources.len())
+    place_of_name(sources, source.name.as_str())
 }
 
 /// The order of rows, by architecture and name.
-fn order_rows(row: &RowIn, other: &RowIn) -> Ordering
+pub fn order_rows(row: &RowIn, other: &RowIn) -> Ordering
     ensures { result ≡ moves.row_cmp (moves.row_key row.now) (moves.row_key other.now) }
 {
     let names = row.binary.name.as_str().cmp(other.binary.name.as_str());
     row.arch.cmp(&other.arch).then(names)
 }
 
+/// Where the rows have the key of the row, or else where it belongs.
+fn place_of_key(rows: &[RowIn], row: &RowIn) -> Result<usize, usize>
+    ensures bound { IsSearchInRange result (length rows.now) }
+    ensures found { IsBinarySearchResult (λ r. moves.row_cmp (moves.row_key r) (moves.row_key row.now)) rows.now result }
+{
+    rows.binary_search_by(
+        |other: &RowIn| -> Ordering
+            ensures { result ≡ moves.row_cmp (moves.row_key other.now) (moves.row_key row.entry.now) }
+        { order_rows(other, row) },
+    )
+}
+
 /// Where a row belongs: at the entry of its key, or before the first one above it.
 fn place_of_row(rows: &[RowIn], row: &RowIn) -> Result<usize, usize>
+    requires { AreByKey rows.now }
     ensures { IsPlaceFor rows.now row.now (moves.put_row row.now rows.now) result }
 {
-    for (i, other) in rows.iter().enumerate() {
-        match order_rows(row, other) {
-            Ordering::Less => return Err(i),
-            Ordering::Equal => return Ok(i),
-            Ordering::Greater => {}
-        }
-    }
-    Err(rows.len())
+    place_of_key(rows, row)
 }
 
 /// Puts a source under its name.
-pub fn put_source(sources: &mut Vec<SourceIn>, source: SourceIn) -> Result<(), AllocError>
+fn put_source(sources: &mut Vec<SourceIn>, source: SourceIn) -> Result<(), AllocError>
+    requires { AreByName sources.old.items }
     ensures ok { OnOk result (sources.new.items ≡ moves.put_source source sources.old.items) }
     ensures err { OnErr result (sources.new.items ≡ sources.old.items) }
 {
@@ -130,7 +145,8 @@ pub fn put_source(sources: &mut Vec<SourceIn>, source: SourceIn) -> Result<(), A
 }
 
 /// Puts a row under its key.
-pub fn put_row(rows: &mut Vec<RowIn>, row: RowIn) -> Result<(), AllocError>
+fn put_row(rows: &mut Vec<RowIn>, row: RowIn) -> Result<(), AllocError>
+    requires { AreByKey rows.old.items }
     ensures ok { OnOk result (rows.new.items ≡ moves.put_row row rows.old.items) }
     ensures err { OnErr result (rows.new.items ≡ rows.old.items) }
 {
@@ -141,7 +157,7 @@ pub fn put_row(rows: &mut Vec<RowIn>, row: RowIn) -> Result<(), AllocError>
     Ok(())
 }
 
-pub fn copy_sources(alloc: Global, sources: &[SourceIn]) -> Result<Vec<SourceIn>, NoMemory>
+fn copy_sources(alloc: Global, sources: &[SourceIn]) -> Result<Vec<SourceIn>, NoMemory>
     ensures { IfOk result (λ copies. copies.items ≡ sources.now) }
 {
     let mut copies = Vec::new(alloc);

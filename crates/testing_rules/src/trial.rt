@@ -21,7 +21,7 @@ fn is_place_on(arch: u32, pool: &Pool, place: usize) -> bool
 }
 
 /// Those of the places whose rows are on the architecture.
-fn places_on(
+pub fn places_on(
     alloc: Global,
     arch: u32,
     pool: &Pool,

@@ -69,11 +69,11 @@ impl<'a> Turns<'a> {
     }
 
     /// The decisions, and the testing that they leave.
-    pub fn into_parts(self) -> (Vec<Decision>, Testing)
-        ensures decisions { result.0.items ≡ self.entry.outcome.decisions }
-        ensures testing { result.1 ≡ self.entry.outcome.suite }
+    pub fn into_parts(self, alloc: Global) -> Result<(Vec<Decision>, Testing), NoMemory>
+        ensures decisions { IfOk result (λ o. o.0.items ≡ self.entry.outcome.decisions) }
+        ensures testing { IfOk result (λ o. o.1 ≡ self.entry.outcome.suite) }
     {
-        (self.decisions, self.testing.into_testing())
+        Ok((self.decisions, self.testing.into_testing(alloc)?))
     }
 
     /// What the move of a group would break.

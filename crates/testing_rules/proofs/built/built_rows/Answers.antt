@@ -1,7 +1,10 @@
-use Rattle.std.proofs.Common.{sym, ap, ◌∙◌, ◌++◌, arith, ◌<◌, length, take}
+use Rattle.std.proofs.Common.{sym, ap, ◌∙◌, subst, ◌++◌, arith, ◌<◌, ◌≤◌, length, take, ℕ, codes}
 use Rattle.std.specs.List.{enumerate_from, flat_map}
 use Rattle.testing_rules.specs.Boxed.{unboxed}
+use Rattle.testing_rules.specs.InOrder.{AreByKey}
 use Rattle.testing_rules.specs.Unstable.{built_on}
+use Rattle.testing_rules.specs.Words.{Text}
+use Rattle.testing_rules.proofs.BuiltOrder.{built-by_key}
 use Rattle.testing_rules.proofs.BuiltRows.{built-more, built-last}
 use Rattle.testing_rules.proofs.built.built_rows.Goals as goal
 
@@ -17,11 +20,24 @@ loop-place-preserved c =
     ∙ ap (λ t. so_far ++ built_on builds (k, t)) c.name.ensures
     ∙ sym (built-more builds archs k below (omega arith))
 
-pub returns : goal.returns
-returns c =
+pub returns-clause-rows : goal.returns-clause-rows
+returns-clause-rows c =
     let builds = unboxed c.args.builds.now in
     let archs = c.args.archs.now in
     let k = c.loop-place.place in
     c.in_ok-push_built_on-2.ensures
     ∙ ap (λ xs. xs ++ built_on builds _) c.loop-place.invariant
     ∙ built-last builds archs _ k (omega arith)
+
+pub returns-clause-ordered : goal.returns-clause-ordered
+returns-clause-ordered c = λ order.
+    let builds = unboxed c.args.builds.now in
+    let archs = c.args.archs.now in
+    let k = c.loop-place.place in
+    let few : length archs ≤ 16 = omega arith in
+    let all : ℕ × Text = (16, codes "all") in
+    let items =
+    c.in_ok-push_built_on-2.ensures
+    ∙ ap (λ xs. xs ++ built_on builds all) c.loop-place.invariant
+    ∙ built-last builds archs all k (omega arith) in
+    subst AreByKey (sym items) (built-by_key archs builds few order)

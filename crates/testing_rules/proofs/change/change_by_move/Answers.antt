@@ -1,8 +1,9 @@
-use Rattle.std.proofs.Common.{◌≡◌, ◌∙◌, sym, ap, subst, ◌<◌, ◌++◌, length}
+use Rattle.std.proofs.Common.{◌∙◌, sym, ap, subst, ◌<◌, ◌++◌, length}
 use Rattle.std.specs.List.{All}
 use Rattle.testing_rules.specs.Changes.{gives_way_to, AreThose, IsMoveOf}
 use Rattle.testing_rules.specs.Moves.{group_sources}
 use Rattle.testing_rules.proofs.Changing.{coming_within, all_that_leave}
+use Rattle.testing_rules.proofs.Suites.{move_within}
 use Rattle.testing_rules.proofs.change.change_by_move.Goals as goal
 
 pub giving_way-requires-clause-places : goal.giving_way-requires-clause-places
@@ -11,8 +12,8 @@ giving_way-requires-clause-places c =
     subst (All (λ k. k < length pool)) (sym c.deref.ensures.value)
     (coming_within pool c.args.first (group_sources c.args.sources.now c.args.group.now) c.in_ok-coming.coming.items c.in_ok-coming.ensures)
 
-pub returns : goal.returns
-returns c =
+moved : goal.returns-clause-moves
+moved c =
     let pool = c.args.pool.now in
     let stands = c.args.stands.now in
     let first = c.args.first in
@@ -25,3 +26,10 @@ returns c =
     let items = c.in_ok-extend_from_slice.ensures.items ∙ ap (λ ks. own ++ ks) c.deref-2.ensures.value in
     subst (λ ks. IsMoveOf pool stands first us group ks coming) (sym items)
     (all_that_leave pool stands first us group own given coming c.in_ok-coming.ensures c.in_ok-leaving.ensures gives_way)
+
+pub returns-clause-moves : goal.returns-clause-moves
+returns-clause-moves c = moved c
+
+pub returns-clause-within : goal.returns-clause-within
+returns-clause-within c =
+    move_within c.args.pool.now c.args.stands.now c.args.first c.args.sources.now c.args.group.now c.extend_from_slice.new.self.items c.in_ok-coming.coming.items (moved c)

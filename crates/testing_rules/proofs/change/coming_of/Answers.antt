@@ -1,4 +1,4 @@
-use Rattle.std.proofs.Common.{arith, ◌≡◌, ◌∙◌, sym, ap, subst, ℕ, ◌+◌, ◌<◌, Bool, List, [], ◌∷◌, ◌++◌, length, take, filter, get_or}
+use Rattle.std.proofs.Common.{arith, ◌∙◌, sym, ap, subst, ℕ, ◌+◌, ◌<◌, Bool, ◌++◌, length, take, filter}
 use Rattle.std.specs.Option.{option_copied}
 use Rattle.testing_rules.specs.declared.facts.UploadIn.{UploadIn}
 use Rattle.testing_rules.specs.Changes.{comes_at, AreThose}

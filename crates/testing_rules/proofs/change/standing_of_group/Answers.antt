@@ -1,4 +1,4 @@
-use Rattle.std.proofs.Common.{arith, ◌≡◌, ◌∙◌, sym, ap, subst, ℕ, ◌+◌, ◌<◌, true, Bool, List, [], ◌∷◌, ◌++◌, length, take, filter, get_or, Contains}
+use Rattle.std.proofs.Common.{arith, ◌≡◌, ◌∙◌, sym, ap, subst, ℕ, ◌+◌, ◌<◌, true, Bool, [], ◌∷◌, ◌++◌, length, take, filter, Contains}
 use Rattle.std.proofs.lemmas.List.{take_more}
 use Rattle.testing_rules.specs.Changes.{stands_of, AreThose}
 use Rattle.testing_rules.specs.Words.{Text}

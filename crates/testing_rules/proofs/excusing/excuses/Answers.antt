@@ -17,5 +17,5 @@ returns c = λ s h.
     c.of.ensures
     ∙ c.in_ok-excuses.ensures
     ∙ excuses-by_parts places g (ground_at c.in_ok-grouped.grouped) c.in_ok-grouped.ensures t (unboxed c.sources.result.now)
-    ∙ ap (excuses_on places g t) c.sources.ensures
+    ∙ ap (excuses_on places g t) c.sources.ensures.sources
     ∙ same-excuses archs f s t c.args.date h

@@ -14,9 +14,9 @@ returns c =
     let facts = c.args.facts.now in
     let es = c.args.excuses.now in
     let us = c.deref.result.now in
-    let sources : us ≡ facts.sources = c.deref.ensures.value ∙ c.in_ok-sources.ensures ∙ c.sources.ensures in
+    let sources : us ≡ facts.sources = c.deref.ensures.value ∙ c.in_ok-sources.ensures ∙ c.sources.ensures.sources in
     let rs = c.deref-2.result.now in
-    let rows : rs ≡ built_rows archs facts.rows = c.deref-2.ensures.value ∙ c.in_ok-rows.ensures ∙ ap (built_rows archs) c.rows.ensures in
+    let rows : rs ≡ built_rows archs facts.rows = c.deref-2.ensures.value ∙ c.in_ok-rows.ensures.rows ∙ ap (built_rows archs) c.rows.ensures.rows in
     let start : Moment → Run = λ m. record { basis = m.basis; outcome = record { decisions = []; suite = m.suite } } in
     let run =
     c.in_ok-waits.ensures
@@ -29,6 +29,6 @@ returns c =
     ∙ ap (λ (r : Run). go_on r (λ b. in_turn (remove_item b.archs) (flat_map removals_of (filter (is_standing c.unhints.result.now) c.hints.result.now))))
     (c.new-turns.ensures ∙ ap start c.in_ok-new.ensures)))) in
     let as_outcome : List Decision → Suite → Outcome = λ ds s. record { decisions = ds; suite = s } in
-    ap₂ as_outcome c.into_parts.ensures.decisions c.into_parts.ensures.testing
+    ap₂ as_outcome c.in_ok-parts.ensures.decisions c.in_ok-parts.ensures.testing
     ∙ ap (λ (r : Run). r.outcome) run
     ∙ all_steps-are archs es c.args.testing.now sources rows c.hints.ensures c.unhints.ensures c.hints-2.ensures c.unhints-2.ensures

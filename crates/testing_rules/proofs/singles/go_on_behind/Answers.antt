@@ -1,4 +1,4 @@
-use Rattle.std.proofs.Common.{arith, ◌∙◌, ap, ◌<◌, ◌++◌, length, take, drop}
+use Rattle.std.proofs.Common.{arith, ◌∙◌, ap, ◌<◌, length, drop}
 use Rattle.testing_rules.specs.LentItems.{lent_excuses}
 use Rattle.testing_rules.proofs.Circle.{turned, lent-behind}
 use Rattle.testing_rules.proofs.singles.go_on_behind.Goals as goal
@@ -9,5 +9,5 @@ returns-clause-behind c =
     let i = c.args.place in
     let below : i < length items = omega arith in
     ap lent_excuses
-    (c.rotate_left.ensures.items ∙ ap (λ xs. drop i xs ++ take i xs) c.remove.ensures.items ∙ turned items i below)
+    (c.pop_front.ensures.rest ∙ ap (drop 1) c.rotate_left.ensures.items ∙ turned items i below)
     ∙ lent-behind items i

@@ -1,4 +1,4 @@
-use Rattle.std.proofs.Common.{arith, ◌≡◌, ◌∙◌, sym, ap, ℕ, ◌+◌, ◌<◌, Bool, true, false, cond, List, length, take, filter, map, get_or, Some}
+use Rattle.std.proofs.Common.{arith, ◌≡◌, ◌∙◌, sym, ap, ◌+◌, ◌<◌, Bool, true, false, cond, length, take, filter, map, Some}
 use Rattle.std.specs.List.{slice_get, filter_map}
 use Rattle.std.specs.Option.{option_copied}
 use Rattle.testing_rules.specs.declared.suite.RowIn.{RowIn}

@@ -1,7 +1,8 @@
-use Rattle.std.proofs.Common.{arith, Ok, ◌≡◌, ◌∙◌, sym, ap, ◌+◌, ◌<◌, ◌≤◌, ◌++◌, true, false, length, take, drop, get_or, vec_len}
+use Rattle.std.proofs.Common.{arith, Ok, ◌≡◌, ◌∙◌, sym, ap, ◌+◌, ◌<◌, ◌≤◌, ◌++◌, true, false, length, take, drop, get_or}
 use Rattle.std.proofs.lemmas.List.{length-map}
 use Rattle.std.specs.Borrow.{Bor}
 use Rattle.testing_rules.specs.declared.excuse.Excuse.{Excuse}
+use Rattle.std.specs.VecDeque.{deque_len}
 use Rattle.testing_rules.specs.LentItems.{lent_excuses}
 use Rattle.testing_rules.specs.Runs.{Run, go_on}
 use Rattle.testing_rules.proofs.Circle.{lent-at, search-on, search-found, search-over}
@@ -17,7 +18,7 @@ returns-then-branch-clause-moves c =
     let b = c.index.result.now in
     let e = b.now in
     let test = allowed_in r in
-    let in_items : i < length items = omega (arith, ap vec_len c.loop-place.invariant.circle, c.args.circle.now.ok.0) in
+    let in_items : i < length items = omega (arith, ap deque_len c.loop-place.invariant.circle, c.args.circle.now.ok.0) in
     let below : i < length es = omega (arith, in_items, length-map items (λ (x : Bor Excuse). x.now)) in
     let is : get_or es i e ≡ e = lent-at items i b in_items (c.index.ensures ∙ ap (λ v. get_or v.items i b) c.loop-place.invariant.circle) in
     let moved = ap Ok c.if-branch.true in
@@ -39,7 +40,7 @@ loop-place-preserved c =
     let b = c.index.result.now in
     let e = b.now in
     let test = allowed_in r in
-    let in_items : i < length items = omega (arith, ap vec_len c.loop-place.invariant.circle, c.args.circle.now.ok.0) in
+    let in_items : i < length items = omega (arith, ap deque_len c.loop-place.invariant.circle, c.args.circle.now.ok.0) in
     let below : i < length es = omega (arith, in_items, length-map items (λ (x : Bor Excuse). x.now)) in
     let is : get_or es i e ≡ e = lent-at items i b in_items (c.index.ensures ∙ ap (λ v. get_or v.items i b) c.loop-place.invariant.circle) in
     let stayed = ap Ok c.if-branch.false in

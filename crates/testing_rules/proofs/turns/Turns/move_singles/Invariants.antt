@@ -1,4 +1,5 @@
-use Rattle.std.proofs.Common.{◌≡◌, vec_len}
+use Rattle.std.proofs.Common.{◌≡◌}
+use Rattle.std.specs.VecDeque.{deque_len}
 use Rattle.testing_rules.specs.LentItems.{lent_excuses}
 use Rattle.testing_rules.specs.Runs.{go_on}
 use Rattle.testing_rules.specs.Updates.{move_circle, move_singles}
@@ -11,4 +12,4 @@ invariant-moves l =
     ≡ go_on l.fn.self (λ b. move_singles b.archs b.sources b.rows l.excuses)
 
 abbrev pub decreases-moves : goal.decreases-moves
-decreases-moves l = vec_len l.circle
+decreases-moves l = deque_len l.circle

@@ -1,0 +1,328 @@
+-- The suites of the architectures, before and after a change.
+use Rattle.std.specs.Prelude.{ℕ, zero, suc, ◌+◌, ◌<◌, ◌≤◌, Bool, true, false, ◌&&◌, ◌||◌, nat_lt, List, [], ◌∷◌, ◌++◌, Contains, Option, Some, None, map, filter, length, replicate, slice_set, Result, IfOk, OnOk}
+use Rattle.std.specs.Prelude.{Ok, Err}
+use Rattle.std.specs.List.{All, slice_get, list_any, range_with_len}
+use Rattle.std.specs.Option.{option_map_or}
+use Rattle.std.specs.Str.{bytes_eq}
+use Rattle.std.proofs.Common.{◌≡◌, refl, sym, ap, ap₂, ◌∙◌, subst, arith, inl, inr, ◌⊎◌}
+use Rattle.std.proofs.lemmas.Bool.{cases_Bool, cases_eq, cases_lt, false≢true}
+use Rattle.std.proofs.lemmas.Bool.Decides.{nat_tests}
+use Rattle.std.proofs.lemmas.List.FromFn.{length-range_with_len, get_or-range_with_len}
+use Rattle.std.proofs.lemmas.List.{length-append, length-set, get_or-replicate, replicate-append-replicate}
+use Rattle.std.proofs.lemmas.Option.{same_Some, slice_get_within}
+use Rattle.testing_install.specs.Among.{after_change, with_all}
+use Rattle.testing_install.specs.Closed.{marked}
+use Rattle.testing_install.specs.Suite.{Standing}
+use Rattle.testing_install.proofs.Marking.{length-with_all}
+use Rattle.testing_rules.specs.declared.suite.RowIn.{RowIn}
+use Rattle.std.proofs.lemmas.Slice.Eq.{bytes_eq-Decides}
+use Rattle.testing_install.proofs.Counting.{slice_get_some}
+use Rattle.testing_rules.specs.declared.facts.UploadIn.{UploadIn}
+use Rattle.testing_rules.specs.Changes.{has, stands_of, stands_for, gives_way_to, IsMoveOf}
+use Rattle.testing_rules.specs.Moves.{is_row_on, group_sources}
+use Rattle.testing_rules.specs.Standing.{IsShown, IsOn, IsOver, IsSuiteOn, AreOver, AreSuites}
+use Rattle.testing_rules.specs.Tried.{IsWithin, IsRemovalOf, Tells}
+use Rattle.testing_rules.specs.Trials.{is_place_on, IsFirstLost}
+use Rattle.testing_rules.specs.Words.{Text}
+use Rattle.testing_rules.proofs.Arranging.{from_has, to_has, at_some_of}
+use Rattle.testing_rules.proofs.Changing.{coming_within, row_that_stands, row_that_gives_way}
+use Rattle.testing_rules.proofs.Flags.{flags_after, bounded_members, bounded_filter}
+use Rattle.testing_rules.proofs.Judging.{has_filter, same_bit}
+use Rattle.testing_rules.proofs.Least.{from_filter, to_filter}
+use Rattle.testing_rules.proofs.Lost.{any_of}
+use Rattle.testing_rules.proofs.Members.{none_among}
+use Rattle.testing_rules.proofs.Moving.{after_flags}
+use Rattle.testing_rules.proofs.Trying.{on_after}
+
+-- Elements of a list in which one is set.
+
+pub set_here : {A : Type 0} (xs : List A) (i : ℕ) (x y : A) → slice_get (slice_set xs i x) i ≡ Some y → x ≡ y
+set_here [] i x y e = let no : None ≡ Some y = e in cc
+set_here (z ∷ xs) zero x y e = same_Some x y e
+set_here (z ∷ xs) (suc i) x y e = set_here xs i x y e
+
+pub set_elsewhere : {A : Type 0} (xs : List A) (i k : ℕ) (x : A) → (k ≡ i → ⊥) → slice_get (slice_set xs i x) k ≡ slice_get xs k
+set_elsewhere [] i k x n = refl
+set_elsewhere (z ∷ xs) zero zero x n = absurd (n refl)
+set_elsewhere (z ∷ xs) zero (suc k) x n = refl
+set_elsewhere (z ∷ xs) (suc i) zero x n = refl
+set_elsewhere (z ∷ xs) (suc i) (suc k) x n = set_elsewhere xs i k x (λ e. n (ap suc e))
+
+pub length-after : (leaving coming : List ℕ) (flags : List Bool) → length (after_change leaving coming flags) ≡ length flags
+length-after leaving coming flags = length-with_all true coming (with_all false leaving flags) ∙ length-with_all false leaving flags
+
+-- A change on one architecture.
+
+module _ (arch : ℕ) (pool : List RowIn) (stands there : List Bool) (leaving coming : List ℕ) (long : length stands ≡ length pool) (there_long : length there ≡ length pool)
+    (was : IsOn arch pool (marked stands) (marked there)) where
+  abbrev coming_on : List ℕ
+  coming_on = filter (is_place_on arch pool) coming
+
+  comes_there : (k : ℕ) (r : RowIn) → slice_get pool k ≡ Some r → has coming_on k ≡ (has coming k && is_row_on arch r)
+  comes_there k r at = has_filter (is_place_on arch pool) coming k ∙ ap (λ o. has coming k && option_map_or (is_row_on arch) o false) at
+
+  by_flags : IsOn arch pool (after_flags (marked stands) (has leaving) (has coming)) (marked (after_change leaving coming_on there))
+  by_flags = on_after arch pool (marked stands) (marked there) (marked (after_change leaving coming_on there)) (has leaving) (has coming) (has coming_on) was comes_there
+      (λ k h. flags_after leaving coming_on there k (omega (arith, h, there_long)))
+
+  -- where those of the rows that come are there that are on the architecture, it has those that stand after the change
+  pub on_after_change : IsOn arch pool (marked (after_change leaving coming stands)) (marked (after_change leaving coming_on there))
+  on_after_change = record {
+    on = λ k r at.
+        by_flags.on k r at
+        ∙ ap (λ b. b && is_row_on arch r) (sym (flags_after leaving coming stands k (omega (arith, slice_get_within pool k r at, long))));
+  }
+
+-- the suite after the change
+pub suite_after : (arch : ℕ) (pool : List RowIn) (old new : Standing) (leaving coming : List ℕ) → IsOver pool new
+    → new.there ≡ after_change leaving (filter (is_place_on arch pool) coming) old.there
+    → (stands : List Bool) → length stands ≡ length pool → IsSuiteOn arch pool stands old → IsSuiteOn arch pool (after_change leaving coming stands) new
+suite_after arch pool old new leaving coming over there stands long was = record {
+  over = over;
+  on = subst (λ flags. IsOn arch pool (marked (after_change leaving coming stands)) (marked flags)) (sym there) (on_after_change arch pool stands old.there leaving coming long was.over.long was.on);
+}
+
+pub over_after : (pool : List RowIn) (old new : Standing) (leaving coming : List ℕ) → IsOver pool old → new.rows ≡ old.rows → new.there ≡ after_change leaving coming old.there → IsOver pool new
+over_after pool old new leaving coming over rows there = record {
+  rows = rows ∙ over.rows;
+  long = ap length there ∙ length-after leaving coming old.there ∙ over.long;
+}
+
+-- A change on each architecture in turn: the suites of the first ones are changed.
+
+pub record AreChangedTo (pool : List RowIn) (olds news : List Standing) (leaving coming : List ℕ) (n : ℕ) : Type 0 where
+  pub over : AreOver pool news
+  pub count : length news ≡ length olds
+  pub done : (stands : List Bool) → length stands ≡ length pool → AreSuites pool stands olds
+      → (k : ℕ) (suite : Standing) → slice_get news k ≡ Some suite → k < n → IsSuiteOn k pool (after_change leaving coming stands) suite
+  pub left : (stands : List Bool) → length stands ≡ length pool → AreSuites pool stands olds
+      → (k : ℕ) (suite : Standing) → slice_get news k ≡ Some suite → n ≤ k → IsSuiteOn k pool stands suite
+
+pub changed_none : (pool : List RowIn) (olds : List Standing) (leaving coming : List ℕ) → AreOver pool olds → AreChangedTo pool olds olds leaving coming 0
+changed_none pool olds leaving coming over = record {
+  over = over;
+  count = refl;
+  done = λ stands long are k suite at h. absurd (omega (arith, h));
+  left = λ stands long are k suite at h. are.each k suite at;
+}
+
+module _ (pool : List RowIn) (olds news : List Standing) (leaving coming : List ℕ) (n : ℕ) (to : AreChangedTo pool olds news leaving coming n)
+    (old new : Standing) (at_n : slice_get news n ≡ Some old) (new_over : IsOver pool new)
+    (step : (stands : List Bool) → length stands ≡ length pool → IsSuiteOn n pool stands old → IsSuiteOn n pool (after_change leaving coming stands) new) where
+  elsewhere : (k : ℕ) (suite : Standing) → (k ≡ n → ⊥) → slice_get (slice_set news n new) k ≡ Some suite → slice_get news k ≡ Some suite
+  elsewhere k suite apart at = sym (set_elsewhere news n k new apart) ∙ at
+
+  here : (k : ℕ) (suite : Standing) → k ≡ n → slice_get (slice_set news n new) k ≡ Some suite → new ≡ suite
+  here k suite e at = set_here news n new suite (ap (slice_get (slice_set news n new)) (sym e) ∙ at)
+
+  over_each : (k : ℕ) (suite : Standing) → slice_get (slice_set news n new) k ≡ Some suite → (k ≡ n) ⊎ (k ≡ n → ⊥) → IsOver pool suite
+  over_each k suite at (inl e) = subst (λ s. IsOver pool s) (here k suite e at) new_over
+  over_each k suite at (inr apart) = to.over.each k suite (elsewhere k suite apart at)
+
+  done_each : (stands : List Bool) (long : length stands ≡ length pool) (are : AreSuites pool stands olds) (k : ℕ) (suite : Standing)
+      → slice_get (slice_set news n new) k ≡ Some suite → k < n + 1 → (k ≡ n) ⊎ (k ≡ n → ⊥) → IsSuiteOn k pool (after_change leaving coming stands) suite
+  done_each stands long are k suite at h (inl e) =
+      let changed = step stands long (to.left stands long are n old at_n (omega arith)) in
+      subst (λ s. IsSuiteOn k pool (after_change leaving coming stands) s) (here k suite e at)
+      (subst (λ p. IsSuiteOn p pool (after_change leaving coming stands) new) (sym e) changed)
+  done_each stands long are k suite at h (inr apart) = to.done stands long are k suite (elsewhere k suite apart at) (below k n h apart)
+    where
+      below : (k n : ℕ) → k < n + 1 → (k ≡ n → ⊥) → k < n
+      below k n h apart = elim (cases_lt k n) [ inl l ↦ l | inr g ↦ absurd (apart (omega (arith, h, g))) ]
+
+  pub changed_more : AreChangedTo pool olds (slice_set news n new) leaving coming (n + 1)
+  changed_more = record {
+    over = record { each = λ k suite at. over_each k suite at (cases_eq k n) };
+    count = length-set news n new ∙ to.count;
+    done = λ stands long are k suite at h. done_each stands long are k suite at h (cases_eq k n);
+    left = λ stands long are k suite at h. to.left stands long are k suite (elsewhere k suite (λ e. absurd (omega (arith, e, h))) at) (omega (arith, h));
+  }
+
+pub changed_all : (pool : List RowIn) (olds news : List Standing) (leaving coming : List ℕ) (n : ℕ) → AreChangedTo pool olds news leaving coming n → length olds ≤ n
+    → (stands : List Bool) → length stands ≡ length pool → AreSuites pool stands olds → AreSuites pool (after_change leaving coming stands) news
+changed_all pool olds news leaving coming n to h stands long are = record {
+  each = λ k suite at. to.done stands long are k suite at (omega (arith, slice_get_within news k suite at, to.count, h));
+}
+
+-- Suites with no row there.
+
+no_flag : (n k : ℕ) → marked (replicate n false) k ≡ false
+no_flag n k = elim (cases_lt k n) [
+  | inl h ↦ get_or-replicate n k false false h
+  | inr h ↦ past n k h
+]
+  where
+    past : (n k : ℕ) → n ≤ k → marked (replicate n false) k ≡ false
+    past zero k h = refl
+    past (suc n) zero h = absurd (omega (arith, h))
+    past (suc n) (suc k) h = past n k (omega (arith, h))
+
+same_copies : {A : Type 0} (n k : ℕ) (x y : A) → slice_get (replicate n x) k ≡ Some y → x ≡ y
+same_copies zero k x y e = let no : None ≡ Some y = e in cc
+same_copies (suc n) zero x y e = same_Some x y e
+same_copies (suc n) (suc k) x y e = same_copies n k x y e
+
+length-copies : {A : Type 0} (n : ℕ) (x : A) → length (replicate n x) ≡ n
+length-copies zero x = refl
+length-copies (suc n) x = ap suc (length-copies n x)
+
+abbrev pub empty_suite : List RowIn → Standing
+empty_suite pool = record { rows = map (λ r. r.binary) pool; there = replicate (length pool) false }
+
+pub none_there : (pool : List RowIn) (archs : ℕ) → AreSuites pool (replicate (length pool) false) (replicate archs (empty_suite pool))
+none_there pool archs = record {
+  each = λ arch suite at.
+      subst (λ s. IsSuiteOn arch pool (replicate (length pool) false) s) (same_copies archs arch (empty_suite pool) suite at) (record {
+        over = record { rows = refl; long = length-copies (length pool) false };
+        on = record { on = λ k r here. no_flag (length pool) k ∙ sym (ap (λ b. b && is_row_on arch r) (no_flag (length pool) k)) };
+      });
+}
+
+pub copies_more : {A : Type 0} (n : ℕ) (x : A) → replicate n x ++ x ∷ [] ≡ replicate (n + 1) x
+copies_more n x = replicate-append-replicate n 1 x
+
+pub length-copies_of : {A : Type 0} (n : ℕ) (x : A) (xs : List A) → xs ≡ replicate n x → n ≡ length xs
+length-copies_of n x xs e = sym (ap length e ∙ length-copies n x)
+
+-- What stands.
+
+-- the same flags show the same rows
+pub shown-alike : (pool : List RowIn) (stands others : ℕ → Bool) (rows : List RowIn) → IsShown pool stands rows
+    → ((k : ℕ) → k < length pool → others k ≡ stands k) → IsShown pool others rows
+shown-alike pool stands others rows shown same = record {
+  by_key = shown.by_key;
+  within = λ r c. let w = shown.within r c in (w.0, w.1, same w.0 (slice_get_within pool w.0 r w.1) ∙ w.2);
+  all = λ k r at h. shown.all k r at (sym (same k (slice_get_within pool k r at)) ∙ h);
+}
+
+-- each suite that is that of its architecture has the rows of the pool
+pub over_of : (pool : List RowIn) (stands : List Bool) (suites : List Standing) → AreSuites pool stands suites → AreOver pool suites
+over_of pool stands suites are = record { each = λ arch suite at. (are.each arch suite at).over }
+
+-- A change tried on each architecture.
+
+pub told_at : (pool : List RowIn) (stands : List Bool) (suites : List Standing) (leaving coming : List ℕ) (tells : ℕ → Option Text) (arch : ℕ) (name : Option Text)
+    → AreSuites pool stands suites → Tells pool stands leaving coming tells → arch < length suites
+    → ((suite : Standing) → slice_get suites arch ≡ Some suite → IsFirstLost arch pool suite.there leaving coming name) → name ≡ tells arch
+told_at pool stands suites leaving coming tells arch name are told h first =
+    let suite = slice_get_some suites arch h in
+    let own = are.each arch suite.0 suite.1 in
+    told.each arch suite.0.there own.over.long own.on name (first suite.0 suite.1)
+
+-- Flags of which none is set.
+
+pub none_of : (flags : List Bool) (places : List ℕ) → list_any (marked flags) places ≡ false → (k : ℕ) → has places k ≡ true → marked flags k ≡ false
+none_of flags places none k h = elim (cases_Bool (marked flags k)) [
+  | inl up ↦ absurd (false≢true (sym none ∙ any_of (marked flags) places k (from_has places k h) up))
+  | inr down ↦ down
+]
+
+-- the first places, one more
+range_next : (a n : ℕ) → range_with_len a n ++ (a + n) ∷ [] ≡ range_with_len a (suc n)
+range_next a zero = ap (λ k. k ∷ []) (let e : a + 0 ≡ a = omega arith in e)
+range_next a (suc n) = ap (λ ks. a ∷ ks) (ap (λ k. range_with_len (a + 1) n ++ k ∷ []) (let e : a + suc n ≡ (a + 1) + n = omega arith in e) ∙ range_next (a + 1) n)
+
+pub range_more : (n : ℕ) → range_with_len 0 n ++ n ∷ [] ≡ range_with_len 0 (n + 1)
+range_more n =
+    ap (λ k. range_with_len 0 n ++ k ∷ []) (let e : n ≡ 0 + n = omega arith in e) ∙ range_next 0 n
+    ∙ ap (range_with_len 0) (let e : suc n ≡ n + 1 = omega arith in e)
+
+in_range : (n k : ℕ) → has (range_with_len 0 n) k ≡ nat_lt k n
+in_range n k =
+    same_bit (has (range_with_len 0 n) k) (nat_lt k n) (
+    λ h.
+    let c = from_has (range_with_len 0 n) k h in
+    let below : c.0 < n = omega (arith, c.1, length-range_with_len 0 n) in
+    lt_to k n (omega (arith, below, get_or-range_with_len 0 n c.0 k below, c.2))
+    ) (
+    λ h.
+    let below = lt_from k n h in
+    to_has (range_with_len 0 n) k (k, omega (arith, below, length-range_with_len 0 n), omega (arith, get_or-range_with_len 0 n k k below))
+    )
+  where
+    lt_to : (a b : ℕ) → a < b → nat_lt a b ≡ true
+    lt_to a b h = grind (arith, nat_tests)
+
+    lt_from : (a b : ℕ) → nat_lt a b ≡ true → a < b
+    lt_from a b h = grind (arith, nat_tests)
+
+-- where the first rows come and none stood before, these stand
+pub firsts_stand : (n total k : ℕ) → k < total → marked (after_change [] (range_with_len 0 n) (replicate total false)) k ≡ nat_lt k n
+firsts_stand n total k h =
+    flags_after [] (range_with_len 0 n) (replicate total false) k (omega (arith, h, length-copies total false))
+    ∙ ap (λ b. has (range_with_len 0 n) k || (b && true)) (no_flag total k) ∙ or-false (has (range_with_len 0 n) k) ∙ in_range n k
+  where
+    or-false : (b : Bool) → (b || false) ≡ b
+    or-false true = refl
+    or-false false = refl
+
+pub firsts_within : (before unstable : List RowIn) (leaving : List ℕ) → leaving ≡ [] → IsWithin (before ++ unstable) leaving (range_with_len 0 (length before))
+firsts_within before unstable leaving none = record {
+  leaving_within = subst (λ ks. All (λ k. k < length (before ++ unstable)) ks) (sym none) (bounded_members (length (before ++ unstable)) [] (λ k c. none_among k c));
+  coming_within = bounded_members (length (before ++ unstable)) (range_with_len 0 (length before)) (λ k c.
+      let below : c.0 < length before = omega (arith, c.1, length-range_with_len 0 (length before)) in
+      omega (arith, below, get_or-range_with_len 0 (length before) c.0 k below, c.2, length-append before unstable));
+}
+
+-- What leaves by a removal.
+
+pub removal_within : (pool : List RowIn) (stands : List Bool) (name : Text) (places : List ℕ) → All (λ k. k < length pool) places → IsWithin pool (filter (stands_of pool stands name) places) []
+removal_within pool stands name places all = record {
+  leaving_within = bounded_filter (length pool) (stands_of pool stands name) places all;
+  coming_within = bounded_members (length pool) [] (λ k c. none_among k c);
+}
+
+pub removal_of : (pool : List RowIn) (stands : List Bool) (name : Text) (places : List ℕ)
+    → ((k : ℕ) (r : RowIn) → slice_get pool k ≡ Some r → r.binary.source ≡ name → Contains places k) → IsRemovalOf pool stands name (filter (stands_of pool stands name) places)
+removal_of pool stands name places all = record {
+  exact = λ k r at up.
+      let test = stands_of pool stands name in
+      let is_test : test k ≡ bytes_eq r.binary.source name =
+      ap₂ (λ b o. b && option_map_or (λ (q : RowIn). bytes_eq q.binary.source name) o false) up at in
+      same_bit (has (filter test places) k) (bytes_eq r.binary.source name)
+      (λ h. sym is_test ∙ (from_filter test places k (from_has (filter test places) k h)).1)
+      (λ h. to_has (filter test places) k (to_filter test places k (all k r at ((bytes_eq-Decides r.binary.source name).0 h)) (is_test ∙ h)));
+  stood = λ k h.
+      let test = stands_of pool stands name in
+      first_of_both (marked stands k) _ (from_filter test places k (from_has (filter test places) k h)).1;
+}
+  where
+    first_of_both : (a b : Bool) → (a && b) ≡ true → a ≡ true
+    first_of_both true b h = refl
+    first_of_both false b h = absurd (false≢true h)
+
+-- What a move touches has places.
+pub move_within : (pool : List RowIn) (stands : List Bool) (first : ℕ) (sources : List UploadIn) (group : List Text) (leaving coming : List ℕ)
+    → IsMoveOf pool stands first sources group leaving coming → IsWithin pool leaving coming
+move_within pool stands first sources group leaving coming m = record {
+  leaving_within = bounded_members (length pool) leaving (λ k c. elim (m.only k c) [
+    | inl own ↦ let w = row_that_stands pool stands own.0 k own.2 in slice_get_within pool k w.0 w.1
+    | inr key ↦ given_way k key.0 key.2
+  ]);
+  coming_within = coming_within pool first (group_sources sources group) coming m.arriving;
+}
+  where
+    given_way : (k j : ℕ) → gives_way_to pool stands j k ≡ true → k < length pool
+    given_way k j h =
+        let q = at_some_of (λ (x : RowIn). stands_for pool stands x k) (slice_get pool j) h in
+        let w = row_that_gives_way pool stands q.0 k q.2 in
+        slice_get_within pool k w.0 w.1
+
+-- of a result that is Ok what follows from what is known
+pub if_ok_weaker : {A E : Type 0} (P Q : A → Type 0) (r : Result A E) → ((x : A) → P x → Q x) → IfOk r P → IfOk r Q
+if_ok_weaker P Q (Ok x) f h = f x h
+if_ok_weaker P Q (Err e) f h = h
+
+-- flags that are taken away and then set are those after the change
+pub flags_are : (old between new : List Bool) (leaving coming gone came : List ℕ) → gone ≡ leaving → came ≡ coming
+    → between ≡ with_all false gone old → new ≡ with_all true came between → new ≡ after_change leaving coming old
+flags_are old between new leaving coming gone came g c b n =
+    n ∙ ap (λ ks. with_all true ks between) c ∙ ap (λ fs. with_all true coming fs) (b ∙ ap (λ ks. with_all false ks old) g)
+
+pub if_ok_four : {A E : Type 0} (P Q R S Whole : A → Type 0) (r : Result A E) → ((x : A) → P x → Q x → R x → S x → Whole x) → IfOk r P → IfOk r Q → IfOk r R → IfOk r S → IfOk r Whole
+if_ok_four P Q R S Whole (Ok x) f p q a s = f x p q a s
+if_ok_four P Q R S Whole (Err e) f p q a s = p
+
+pub on_ok_always : {A E P : Type 0} (r : Result A E) → P → OnOk r P
+on_ok_always (Ok x) h = h
+on_ok_always (Err e) h = tt

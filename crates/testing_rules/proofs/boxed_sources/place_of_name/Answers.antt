@@ -1,0 +1,15 @@
+use Rattle.std.proofs.Common.{rules, of_calls, Box, Global}
+use Rattle.std.proofs.lemmas.Fn.{always_returns_same}
+use Rattle.testing_rules.specs.Words.{text_cmp}
+use Rattle.testing_rules.specs.declared.suite.SourceIn.{SourceIn}
+use Rattle.testing_rules.proofs.Unboxed.{unboxed-bound, unboxed-found}
+use Rattle.testing_rules.proofs.boxed_sources.place_of_name.Goals as goal
+
+pub returns-clause-bound : goal.returns-clause-bound
+returns-clause-bound c = unboxed-bound c.args.sources.now c.binary_search_by.result c.binary_search_by.ensures.bound
+
+pub returns-clause-found : goal.returns-clause-found
+returns-clause-found c =
+    let name = c.args.name.now in
+    unboxed-found (λ (s : SourceIn). text_cmp s.name name) c.args.sources.now c.binary_search_by.result c.binary_search_by.ensures.bound
+    (c.binary_search_by.ensures.position (λ (b : Box SourceIn Global). text_cmp b.value.name name) (always_returns_same _ _ _ (λ a r f k. search (rules, of_calls))))

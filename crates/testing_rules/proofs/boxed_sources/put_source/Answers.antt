@@ -1,0 +1,46 @@
+use Rattle.std.proofs.Common.{sym, ap, ◌∙◌, subst}
+use Rattle.std.specs.Prelude.{Ok, Err}
+use Rattle.testing_rules.specs.Boxed.{unboxed}
+use Rattle.testing_rules.specs.InOrder.{AreByName}
+use Rattle.testing_rules.specs.declared.suite.SourceIn.{SourceIn}
+use Rattle.testing_rules.proofs.KeyPlaces.{place-for}
+use Rattle.testing_rules.proofs.Ordered.{by_name-put}
+use Rattle.testing_rules.proofs.Orders.{text_order}
+use Rattle.testing_rules.proofs.Unboxed.{unboxed-set, unboxed-insert}
+use Rattle.testing_rules.proofs.boxed_sources.put_source.Goals as goal
+
+pub returns-in-Ok-clause-ok : goal.returns-in-Ok-clause-ok
+returns-in-Ok-clause-ok c =
+    let bs = c.args.sources.now.items in
+    let source = c.args.source.value in
+    let bound = rw c.deref.ensures.value at c.in-Ok.ensures.bound in
+    let found = rw (c.deref.ensures.value, c.as_str.ensures, c.deref-2.ensures) at c.in-Ok.ensures.found in
+    let place = place-for (λ (s : SourceIn). s.name) text_order source (unboxed bs) (Ok c.in-Ok.place) c.requires bound found in
+    unboxed-set bs c.in-Ok.place c.args.source ∙ sym place.1
+
+pub returns-in-Ok-clause-ordered : goal.returns-in-Ok-clause-ordered
+returns-in-Ok-clause-ordered c =
+    let bs = c.args.sources.now.items in
+    let source = c.args.source.value in
+    let bound = rw c.deref.ensures.value at c.in-Ok.ensures.bound in
+    let found = rw (c.deref.ensures.value, c.as_str.ensures, c.deref-2.ensures) at c.in-Ok.ensures.found in
+    let place = place-for (λ (s : SourceIn). s.name) text_order source (unboxed bs) (Ok c.in-Ok.place) c.requires bound found in
+    subst AreByName (sym (unboxed-set bs c.in-Ok.place c.args.source ∙ sym place.1)) (by_name-put source (unboxed bs) c.requires)
+
+pub returns-in_ok-insert-in-Err-clause-ok : goal.returns-in_ok-insert-in-Err-clause-ok
+returns-in_ok-insert-in-Err-clause-ok c =
+    let bs = c.args.sources.now.items in
+    let source = c.args.source.value in
+    let bound = rw c.deref.ensures.value at c.in-Err.ensures.bound in
+    let found = rw (c.deref.ensures.value, c.as_str.ensures, c.deref-2.ensures) at c.in-Err.ensures.found in
+    let place = place-for (λ (s : SourceIn). s.name) text_order source (unboxed bs) (Err c.in-Err.place) c.requires bound found in
+    ap unboxed c.in_ok-insert-in-Err.ensures.items ∙ unboxed-insert bs c.in-Err.place c.args.source ∙ sym place.1
+
+pub returns-in_ok-insert-in-Err-clause-ordered : goal.returns-in_ok-insert-in-Err-clause-ordered
+returns-in_ok-insert-in-Err-clause-ordered c =
+    let bs = c.args.sources.now.items in
+    let source = c.args.source.value in
+    let bound = rw c.deref.ensures.value at c.in-Err.ensures.bound in
+    let found = rw (c.deref.ensures.value, c.as_str.ensures, c.deref-2.ensures) at c.in-Err.ensures.found in
+    let place = place-for (λ (s : SourceIn). s.name) text_order source (unboxed bs) (Err c.in-Err.place) c.requires bound found in
+    subst AreByName (sym (ap unboxed c.in_ok-insert-in-Err.ensures.items ∙ unboxed-insert bs c.in-Err.place c.args.source ∙ sym place.1)) (by_name-put source (unboxed bs) c.requires)

@@ -1,0 +1,24 @@
+use Rattle.std.proofs.Common.{◌≡◌, ◌∙◌, ap, Option}
+use Rattle.testing_rules.specs.declared.update.Offender.{Offender}
+use Rattle.testing_rules.specs.Moves.{move_group, offender_of}
+use Rattle.testing_rules.specs.Tried.{first_told}
+use Rattle.testing_rules.proofs.Alive.{failing, move_told}
+use Rattle.testing_rules.proofs.Suites.{if_ok_weaker}
+use Rattle.testing_rules.proofs.breaking.told_by_move.Goals as goal
+
+pub returns-clause-offender : goal.returns-clause-offender
+returns-clause-offender c =
+    let s = c.args.suites.now in
+    let archs = c.args.archs.now in
+    let us = c.args.unstable.sources.now in
+    let unstable = c.args.unstable.rows.now in
+    let group = c.args.group.now in
+    let t = c.args.testing.now in
+    let leaving = c.in_ok-change.change.leaving.items in
+    let coming = c.in_ok-change.change.coming.items in
+    let new = move_group us unstable group t in
+    let tells = failing group t.rows new.rows in
+    let told = move_told s archs us unstable group leaving coming t c.requires.order c.requires.live c.in_ok-change.ensures.moves c.in_ok-change.ensures.within
+    (c.is_fresh.ensures c.if-not-is_fresh.false) in
+    if_ok_weaker _ (λ (o : Option Offender). o ≡ offender_of archs t.rows new.rows group) c.first_lost.result
+    (λ o first. first tells told ∙ ap (λ n. first_told n tells) c.requires.live.count) c.first_lost.ensures.first

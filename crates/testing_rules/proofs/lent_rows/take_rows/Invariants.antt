@@ -1,0 +1,13 @@
+use Rattle.std.proofs.Common.{◌≡◌, take}
+use Rattle.testing_rules.specs.Drafts.{without_keys, rows_at}
+use Rattle.testing_rules.specs.InOrder.{AreByKey}
+use Rattle.testing_rules.specs.JudgedRows.{lent}
+use Rattle.testing_rules.proofs.lent_rows.take_rows.Given as goal
+
+-- those so far
+abbrev pub invariant-loop-place : goal.invariant-loop-place
+invariant-loop-place l =
+    record {
+      so_far : lent l.rows.items ≡ without_keys (rows_at l.pool (take l.place-index l.places)) (lent l.fn.rows.items);
+      ordered : AreByKey (lent l.rows.items);
+    }

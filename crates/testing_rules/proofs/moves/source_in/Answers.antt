@@ -1,0 +1,16 @@
+use Rattle.std.proofs.Common.{sym, ap, ◌∙◌, Some}
+use Rattle.testing_rules.specs.declared.facts.UploadIn.{UploadIn}
+use Rattle.testing_rules.proofs.Orders.{text_order}
+use Rattle.testing_rules.proofs.KeyOrder.{searchable, find-at, find-none}
+use Rattle.testing_rules.proofs.moves.source_in.Goals as goal
+
+pub returns-in-Ok : goal.returns-in-Ok
+returns-in-Ok c =
+    let d = c.index-sources-place.result in
+    ap Some c.index-sources-place.is ∙ sym (find-at (λ (u : UploadIn). u.source) c.args.name.now c.args.sources.now c.in-Ok.place d c.requires c.in-Ok.ensures.bound (c.in-Ok.ensures.found d))
+
+pub returns-in-Err : goal.returns-in-Err
+returns-in-Err c =
+    let name = c.args.name.now in
+    let xs = c.args.sources.now in
+    sym (find-none (λ (u : UploadIn). u.source) name xs c.in-Err.field-0 (c.in-Err.ensures.found (searchable (λ (u : UploadIn). u.source) text_order xs c.requires name)))

@@ -1,0 +1,70 @@
+-- Which rows of a pool stand in testing, and the suite of each architecture.
+use Rattle.std.specs.Prelude.{◌≡◌, ℕ, Bool, true, ◌&&◌, List, ◌++◌, map, length, Option, Some, None, Contains}
+use Rattle.std.specs.List.{slice_get}
+use Rattle.testing_install.specs.Closed.{marked}
+use Rattle.testing_install.specs.Suite.{Standing}
+use Rattle.testing_rules.specs.declared.facts.UploadIn.{UploadIn}
+use Rattle.testing_rules.specs.declared.suite.RowIn.{RowIn}
+use Rattle.testing_rules.specs.FactOrder.{IsUnstableOrder}
+use Rattle.testing_rules.specs.InOrder.{AreByKey}
+use Rattle.testing_rules.specs.Moves.{is_row_on}
+use Rattle.testing_rules.specs.Words.{Text}
+
+-- the rows are those of the pool that stand, in order
+pub record IsShown (pool : List RowIn) (stands : ℕ → Bool) (rows : List RowIn) : Type 0 where
+  pub by_key : AreByKey rows
+  pub within : (r : RowIn) → Contains rows r → (k : ℕ) × (slice_get pool k ≡ Some r) × (stands k ≡ true)
+  pub all : (k : ℕ) (r : RowIn) → slice_get pool k ≡ Some r → stands k ≡ true → Contains rows r
+
+-- the places of the rows that stand and are on the architecture
+pub record IsOn (arch : ℕ) (pool : List RowIn) (stands there : ℕ → Bool) : Type 0 where
+  pub on : (k : ℕ) (r : RowIn) → slice_get pool k ≡ Some r → there k ≡ (stands k && is_row_on arch r)
+
+-- the suite has the rows of the pool
+pub record IsOver (pool : List RowIn) (suite : Standing) : Type 0 where
+  pub rows : suite.rows ≡ map (λ r. r.binary) pool
+  pub long : length suite.there ≡ length pool
+
+-- the suite is that of the architecture: of the pool's rows those are there that stand and are on it
+pub record IsSuiteOn (arch : ℕ) (pool : List RowIn) (stands : List Bool) (suite : Standing) : Type 0 where
+  pub over : IsOver pool suite
+  pub on : IsOn arch pool (marked stands) (marked suite.there)
+
+-- each suite has the rows of the pool
+pub record AreOver (pool : List RowIn) (suites : List Standing) : Type 0 where
+  pub each : (arch : ℕ) (suite : Standing) → slice_get suites arch ≡ Some suite → IsOver pool suite
+
+-- each suite is that of its architecture
+pub record AreSuites (pool : List RowIn) (stands : List Bool) (suites : List Standing) : Type 0 where
+  pub each : (arch : ℕ) (suite : Standing) → slice_get suites arch ≡ Some suite → IsSuiteOn arch pool stands suite
+
+-- a pool's rows, the place at which unstable's begin, which rows stand, and the number of the architectures
+pub record PoolState : Type 0 where
+  pub rows : List RowIn
+  pub first : ℕ
+  pub stands : List Bool
+  pub archs : ℕ
+
+-- there is a flag for each row, and for each architecture its suite
+pub record IsPoolState (pool : List RowIn) (stands : List Bool) (archs : ℕ) (suites : List Standing) : Type 0 where
+  pub long : length stands ≡ length pool
+  pub count : archs ≡ length suites
+  pub each : AreSuites pool stands suites
+
+-- testing's rows are those that stand of a pool of rows before the run, with unstable's behind them
+pub record IsLive (s : PoolState) (archs : List Text) (unstable rows : List RowIn) : Type 0 where
+  pub count : s.archs ≡ length archs
+  pub before : List RowIn
+  pub pooled : s.rows ≡ before ++ unstable
+  pub begins : s.first ≡ length before
+  pub shown : IsShown s.rows (marked s.stands) rows
+
+-- where there is a pool
+abbrev pub AreLive : Option PoolState → List Text → List RowIn → List RowIn → Type 0
+AreLive None archs unstable rows = Unit {0}
+AreLive (Some s) archs unstable rows = IsLive s archs unstable rows
+
+-- a run's testing: unstable is in order, and where there is a pool, its rows that stand are testing's
+pub record IsLiveTesting (suites : Option PoolState) (archs : List Text) (sources : List UploadIn) (unstable rows : List RowIn) : Type 0 where
+  pub order : IsUnstableOrder sources unstable
+  pub live : AreLive suites archs unstable rows

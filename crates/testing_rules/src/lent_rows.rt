@@ -1,0 +1,197 @@
+//! Rows that are lent, in the order of testing: a change moves places and copies no row.
+
+ghost use Rattle.std.specs.Prelude.{◌≡◌, ◌<◌, length, not, filter, OnOk, OnErr, IfOk};
+ghost use Rattle.std.specs.List.{All, flat_map};
+ghost use Rattle.std.specs.List.Sorted.{IsBinarySearchResult, IsSearchInRange};
+ghost use Rattle.std.specs.Str.{bytes_eq};
+ghost use Rattle.testing_rules.specs.Drafts.{without_key, without_keys, with_rows, rows_at};
+ghost use Rattle.testing_rules.specs.FactOrder.{AreBySource};
+ghost use Rattle.testing_rules.specs.InOrder.{AreByKey};
+ghost use Rattle.testing_rules.specs.JudgedRows.{lent};
+ghost use Rattle.testing_rules.specs.Moves as rules;
+ghost use Rattle.testing_rules.specs.Unstable as unstable_words;
+
+use crate::facts::UploadIn;
+use crate::moves::{Unstable, source_in};
+use crate::offender::is_row_of;
+use crate::pool::Pool;
+use crate::select::is_current;
+use crate::suite::{RowIn, order_rows};
+use deb_control::Text;
+use deb_version::NoMemory;
+use std::alloc::Global;
+use std::cmp::Ordering;
+
+/// Where the rows have the key of the row, or else where it belongs.
+fn place_of_key(rows: &[&RowIn], row: &RowIn) -> Result<usize, usize>
+    ensures bound { IsSearchInRange result (length (lent rows.now)) }
+    ensures found { IsBinarySearchResult (λ r. rules.row_cmp (rules.row_key r) (rules.row_key row.now)) (lent rows.now) result }
+{
+    rows.binary_search_by(
+        |other: &&RowIn| -> Ordering
+            ensures { result ≡ rules.row_cmp (rules.row_key other.now.now) (rules.row_key row.entry.now) }
+        { order_rows(other, row) },
+    )
+}
+
+/// Puts a row under its key.
+fn put_row<'a>(rows: &mut Vec<&'a RowIn>, row: &'a RowIn) -> Result<(), NoMemory>
+    requires { AreByKey (lent rows.old.items) }
+    ensures ok { OnOk result (lent rows.new.items ≡ rules.put_row row.now (lent rows.old.items)) }
+    ensures err { OnErr result (rows.new.items ≡ rows.old.items) }
+    ensures ordered { AreByKey (lent rows.new.items) }
+{
+    match place_of_key(rows, row) {
+        Ok(place) => rows[place] = row,
+        Err(place) => rows.insert(place, row)?,
+    }
+    Ok(())
+}
+
+/// Takes out the row of the key of the other.
+fn take_key(rows: &mut Vec<&RowIn>, other: &RowIn)
+    requires { AreByKey (lent rows.old.items) }
+    ensures rows { lent rows.new.items ≡ without_key other.now (lent rows.old.items) }
+    ensures ordered { AreByKey (lent rows.new.items) }
+{
+    if let Ok(place) = place_of_key(rows, other) {
+        rows.remove(place);
+    }
+}
+
+/// Puts in the rows of a pool at some places, each under its key.
+pub fn put_rows<'a>(
+    rows: &mut Vec<&'a RowIn>,
+    pool: &Pool<'a>,
+    places: &[usize],
+) -> Result<(), NoMemory>
+    requires order { AreByKey (lent rows.old.items) }
+    requires places { All (λ k. k < length pool.now) places.now }
+    ensures ok { OnOk result (lent rows.new.items ≡ with_rows (rows_at pool.now places.now) (lent rows.old.items)) }
+    ensures ordered { AreByKey (lent rows.new.items) }
+{
+    for place in places {
+        let row = pool.row(*place);
+        put_row(rows, row)?;
+    }
+    Ok(())
+}
+
+/// Takes out the rows of the keys of those of a pool at some places.
+pub fn take_rows(rows: &mut Vec<&RowIn>, pool: &Pool, places: &[usize])
+    requires order { AreByKey (lent rows.old.items) }
+    requires places { All (λ k. k < length pool.now) places.now }
+    ensures rows { lent rows.new.items ≡ without_keys (rows_at pool.now places.now) (lent rows.old.items) }
+    ensures ordered { AreByKey (lent rows.new.items) }
+{
+    for place in places {
+        let row = pool.row(*place);
+        take_key(rows, row);
+    }
+}
+
+/// Puts in the current rows of a source, each under its key.
+fn put_current<'a>(
+    rows: &mut Vec<&'a RowIn>,
+    built: &'a [RowIn],
+    upload: &UploadIn,
+) -> Result<(), NoMemory>
+    requires { AreByKey (lent rows.old.items) }
+    ensures ok { OnOk result (lent rows.new.items ≡ with_rows (filter (unstable_words.is_current upload.now) built.now) (lent rows.old.items)) }
+    ensures ordered { AreByKey (lent rows.new.items) }
+{
+    for row in built {
+        if is_current(upload, row) {
+            put_row(rows, row)?;
+        }
+    }
+    Ok(())
+}
+
+/// The rows that name no source of the group.
+fn other_rows<'a>(
+    alloc: Global,
+    rows: &[&'a RowIn],
+    group: &[Text],
+) -> Result<Vec<&'a RowIn>, NoMemory>
+    ensures { IfOk result (λ kept. lent kept.items ≡ filter (λ r. not (rules.is_row_of group.now r)) (lent rows.now)) }
+{
+    let mut kept = Vec::new(alloc);
+    for row in rows {
+        if !is_row_of(group, row) {
+            kept.push(*row)?;
+        }
+    }
+    Ok(kept)
+}
+
+/// Testing's rows after a group has moved: the rows of its sources leave, and their current ones come in.
+pub fn moved_rows<'a>(
+    alloc: Global,
+    rows: &[&'a RowIn],
+    unstable: Unstable<'a>,
+    group: &[Text],
+) -> Result<Vec<&'a RowIn>, NoMemory>
+    requires sources { AreBySource unstable.sources.now }
+    requires order { AreByKey (lent rows.now) }
+    ensures rows { IfOk result (λ moved. lent moved.items ≡ with_rows (flat_map (λ u. filter (unstable_words.is_current u) unstable.entry.rows.now) (rules.group_sources unstable.entry.sources.now group.now)) (filter (λ r. not (rules.is_row_of group.now r)) (lent rows.now))) }
+    ensures ordered { IfOk result (λ moved. AreByKey (lent moved.items)) }
+{
+    let mut moved = other_rows(alloc, rows, group)?;
+    for name in group {
+        if let Some(upload) = source_in(unstable.sources, name.as_str()) {
+            put_current(&mut moved, unstable.rows, upload)?;
+        }
+    }
+    Ok(moved)
+}
+
+/// The rows of other sources.
+pub fn rows_without<'a>(
+    alloc: Global,
+    rows: &[&'a RowIn],
+    name: &str,
+) -> Result<Vec<&'a RowIn>, NoMemory>
+    ensures { IfOk result (λ kept. lent kept.items ≡ filter (λ r. not (bytes_eq r.binary.source name.now)) (lent rows.now)) }
+{
+    let mut kept = Vec::new(alloc);
+    for row in rows {
+        if row.binary.source.as_str() != name {
+            kept.push(*row)?;
+        }
+    }
+    Ok(kept)
+}
+
+/// The rows, lent.
+pub fn loans_of<'a>(alloc: Global, rows: &'a [RowIn]) -> Result<Vec<&'a RowIn>, NoMemory>
+    ensures { IfOk result (λ loans. lent loans.items ≡ rows.now) }
+{
+    let mut loans = Vec::new(alloc);
+    for row in rows {
+        loans.push(row)?;
+    }
+    Ok(loans)
+}
+
+/// The same rows, lent once more.
+pub fn copy_loans<'a>(alloc: Global, rows: &[&'a RowIn]) -> Result<Vec<&'a RowIn>, NoMemory>
+    ensures { IfOk result (λ loans. lent loans.items ≡ lent rows.now) }
+{
+    let mut loans = Vec::new(alloc);
+    for row in rows {
+        loans.push(*row)?;
+    }
+    Ok(loans)
+}
+
+/// Equal rows.
+pub fn copy_lent(alloc: Global, rows: &[&RowIn]) -> Result<Vec<RowIn>, NoMemory>
+    ensures { IfOk result (λ copies. copies.items ≡ lent rows.now) }
+{
+    let mut copies = Vec::new(alloc);
+    for row in rows {
+        copies.push(row.copy(alloc)?)?;
+    }
+    Ok(copies)
+}
