@@ -102,6 +102,9 @@ makes_all a b c d e f one two three four five = record {
 -- the row of the office alone in the new tables
 pub blank : (a b : State) (next : Trees) (said : Said) → MakesAll a b → SaysMore b.now.trees next said → IsBlank next said
 blank a b next said made spoken = record {
+  row = spoken.row;
+  one = ap (λ (r : Rows). r.office) spoken.put ∙ ap (put_row spoken.row) made.office;
+  row_says = spoken.says;
   says = ap said_in (ap (λ (r : Rows). r.office) spoken.put ∙ ap (put_row spoken.row) made.office) ∙ said_one spoken.row said spoken.says;
   mail = ap (λ (r : Rows). r.mail) spoken.put ∙ made.mail;
   runs = ap (λ (r : Rows). r.runs) spoken.put ∙ made.runs;

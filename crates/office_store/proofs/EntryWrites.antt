@@ -1,5 +1,6 @@
 -- What the statements on testing make of its tables.
-use Rattle.std.proofs.Common.{◌≡◌, ℕ, ℤ, pos, List, [], ◌∷◌, Some, None, Option, Ok, refl, ap, subst}
+use Rattle.std.proofs.Common.{◌≡◌, ◌<◌, ℕ, ℤ, pos, List, [], ◌∷◌, Some, None, Option, Ok, refl, ap, subst, ◌∙◌, cond, true, nat_lt, arith}
+use Rattle.std.proofs.lemmas.Bool.Decides.{nat_tests}
 use Rattle.sqlite.specs.declared.types.Value.{Value}
 use Rattle.sqlite.specs.declared.types.Value.TheVariants.{Null, Int, Real, Text, Blob}
 use Rattle.sqlite.specs.Order.{Row, column}
@@ -20,7 +21,7 @@ use Rattle.sqlite_tied.specs.Compute.{everything}
 use Rattle.office_mail.specs.Kept.{Place}
 use Rattle.office_store.specs.Layout.{office_schema, testing_source, testing_row}
 use Rattle.office_store.specs.Texts.{clear_sources_text, add_source_text, clear_rows_text, add_row_text}
-use Rattle.office_store.specs.Tables.{number_in, text_in}
+use Rattle.office_store.specs.Tables.{small_of, small_in, text_in}
 use Rattle.office_store.specs.Entries.{integer_in, source_by, source_in, ClearsSources, AddsSource, row_by, entry_in, ClearsRows, AddsRow}
 use Rattle.office_store.proofs.Compiled.{plain_query}
 use Rattle.office_store.proofs.WriteLemmas.{Inserted, inserts_one, cast_null, cast_int}
@@ -28,7 +29,14 @@ use Rattle.office_store.proofs.DeleteLemmas.{Deleted, deletes_some}
 use Rattle.office_store.proofs.KeepLemmas.{apart, unindexed, five}
 use Rattle.office_store.proofs.RunWrites.{none_said}
 
-integer_is : (v : Value) (n : ℤ) → integer_in v ≡ Some n → v ≡ Int n
+-- fewer than 2 ^ 32
+abbrev pub Fits32 : ℕ → Type 0
+Fits32 n = n < 4_294_967_296
+
+pub small_is : (n : ℕ) → Fits32 n → small_of (Some n) ≡ Some n
+small_is n h = let t : nat_lt n 4_294_967_296 ≡ true = grind (arith, nat_tests) in ap (λ b. cond b (Some n) None) t
+
+pub integer_is : (v : Value) (n : ℤ) → integer_in v ≡ Some n → v ≡ Int n
 integer_is Null n h = absurd (let e = h in cc)
 integer_is (Int m) n h = let e : m ≡ n = cc in ap Int e
 integer_is (Real x) n h = absurd (let e = h in cc)
@@ -56,7 +64,7 @@ source_id : (row : Row) (e : List ℕ × Place) → source_in row ≡ Some e →
 unfolding source_in
 source_id row e h = go (integer_in (column row 0)) refl h
   where
-    go : (o : Option ℤ) → integer_in (column row 0) ≡ o → source_by o (text_in (column row 1)) (number_in (column row 2)) (number_in (column row 3)) ≡ Some e → (id : ℤ) × (rowid row ≡ Int id)
+    go : (o : Option ℤ) → integer_in (column row 0) ≡ o → source_by o (text_in (column row 1)) (small_in (column row 2)) (small_in (column row 3)) ≡ Some e → (id : ℤ) × (rowid row ≡ Int id)
     go None is h = absurd (let e = h in cc)
     go (Some id) is h = (id, integer_is (column row 0) id is)
 
@@ -86,16 +94,16 @@ source_values name sender number = Null ∷ Text name ∷ Int (pos sender) ∷ I
 abbrev source_row : List Row → List ℕ → ℕ → ℕ → Row
 source_row rows name sender number = with_rowid Chosen rows (cast_row source_table (source_values name sender number))
 
-source_says : (row : Row) (id : ℤ) (name : List ℕ) (sender number : ℕ) → column row 0 ≡ Int id → column row 1 ≡ Text name → column row 2 ≡ Int (pos sender) → column row 3 ≡ Int (pos number) → source_in row ≡ Some (name, (sender, number))
+pub source_says : (row : Row) (id : ℤ) (name : List ℕ) (sender number : ℕ) → column row 0 ≡ Int id → column row 1 ≡ Text name → column row 2 ≡ Int (pos sender) → column row 3 ≡ Int (pos number) → Fits32 sender → Fits32 number → source_in row ≡ Some (name, (sender, number))
 unfolding source_in
-source_says row id name sender number a b c d = rw (a, b, c, d) refl
+source_says row id name sender number a b c d s n = rw (a, b, c, d) (ap (λ x. source_by (Some id) (Some name) x (small_of (Some number))) (small_is sender s) ∙ ap (source_by (Some id) (Some name) (Some sender)) (small_is number n))
 
-source_row_says : (rows : List Row) (name : List ℕ) (sender number : ℕ) → source_in (source_row rows name sender number) ≡ Some (name, (sender, number))
-source_row_says rows name sender number = source_says (source_row rows name sender number) (next_rowid rows) name sender number (rw cast_null refl) (rw cast_null refl) (rw cast_null (cast_int (pos sender))) (rw cast_null (cast_int (pos number)))
+source_row_says : (rows : List Row) (name : List ℕ) (sender number : ℕ) → Fits32 sender → Fits32 number → source_in (source_row rows name sender number) ≡ Some (name, (sender, number))
+source_row_says rows name sender number s n = source_says (source_row rows name sender number) (next_rowid rows) name sender number (rw cast_null refl) (rw cast_null refl) (rw cast_null (cast_int (pos sender))) (rw cast_null (cast_int (pos number))) s n
 
-pub adds_source : (name : List ℕ) (sender number : ℕ) (old new : State) (count : ℕ) → old.now.schema ≡ office_schema → Executes add_source_text (Text name ∷ Int (pos sender) ∷ Int (pos number) ∷ []) old new (Ok count)
+pub adds_source : (name : List ℕ) (sender number : ℕ) → Fits32 sender → Fits32 number → (old new : State) (count : ℕ) → old.now.schema ≡ office_schema → Executes add_source_text (Text name ∷ Int (pos sender) ∷ Int (pos number) ∷ []) old new (Ok count)
     → (new.now.schema ≡ office_schema) × AddsSource old.now.trees new.now.trees name sender number
-adds_source name sender number old new count has h =
+adds_source name sender number s n old new count has h =
     let params = Text name ∷ Int (pos sender) ∷ Int (pos number) ∷ [] in
     let command = Insert 3 (Values source_terms 4) in
     let text = statement_of add_source_text (understood office_schema add_source_text) in
@@ -107,7 +115,7 @@ adds_source name sender number old new count has h =
     added : (db next : Trees) → Inserted office_schema source_table db next (source_row (db 4) name sender number) → AddsSource db next name sender number
     added db next it = record {
       row = source_row (db 4) name sender number;
-      says = source_row_says (db 4) name sender number;
+      says = source_row_says (db 4) name sender number s n;
       free = it.free;
       put = five (next 0) (next 1) (next 3) (next 4) (next 6) (db 0) (db 1) (db 3) (put_row (source_row (db 4) name sender number) (db 4)) (db 6)
           (it.others 0 (apart 0 4 refl) (unindexed 0 refl refl refl))
@@ -138,7 +146,7 @@ entry_id : (row : Row) (e : (ℕ × List ℕ) × (Place × ℕ)) → entry_in ro
 unfolding entry_in
 entry_id row e h = go (integer_in (column row 0)) refl h
   where
-    go : (o : Option ℤ) → integer_in (column row 0) ≡ o → row_by o (number_in (column row 1)) (text_in (column row 2)) (number_in (column row 3)) (number_in (column row 4)) (number_in (column row 5)) ≡ Some e → (id : ℤ) × (rowid row ≡ Int id)
+    go : (o : Option ℤ) → integer_in (column row 0) ≡ o → row_by o (small_in (column row 1)) (text_in (column row 2)) (small_in (column row 3)) (small_in (column row 4)) (small_in (column row 5)) ≡ Some e → (id : ℤ) × (rowid row ≡ Int id)
     go None is h = absurd (let e = h in cc)
     go (Some id) is h = (id, integer_is (column row 0) id is)
 
@@ -168,20 +176,24 @@ entry_values arch name sender number place = Null ∷ Int (pos arch) ∷ Text na
 abbrev entry_row : List Row → ℕ → List ℕ → ℕ → ℕ → ℕ → Row
 entry_row rows arch name sender number place = with_rowid Chosen rows (cast_row entry_table (entry_values arch name sender number place))
 
-entry_says : (row : Row) (id : ℤ) (arch : ℕ) (name : List ℕ) (sender number place : ℕ) → column row 0 ≡ Int id → column row 1 ≡ Int (pos arch) → column row 2 ≡ Text name → column row 3 ≡ Int (pos sender) → column row 4 ≡ Int (pos number) → column row 5 ≡ Int (pos place)
-    → entry_in row ≡ Some ((arch, name), ((sender, number), place))
+pub entry_says : (row : Row) (id : ℤ) (arch : ℕ) (name : List ℕ) (sender number place : ℕ) → column row 0 ≡ Int id → column row 1 ≡ Int (pos arch) → column row 2 ≡ Text name → column row 3 ≡ Int (pos sender) → column row 4 ≡ Int (pos number) → column row 5 ≡ Int (pos place)
+    → Fits32 arch → Fits32 sender → Fits32 number → Fits32 place → entry_in row ≡ Some ((arch, name), ((sender, number), place))
 unfolding entry_in
-entry_says row id arch name sender number place a b c d e f = rw (a, b, c, d, e, f) refl
+entry_says row id arch name sender number place a b c d e f w x y z = rw (a, b, c, d, e, f)
+    (ap (λ v. row_by (Some id) v (Some name) (small_of (Some sender)) (small_of (Some number)) (small_of (Some place))) (small_is arch w)
+    ∙ ap (λ v. row_by (Some id) (Some arch) (Some name) v (small_of (Some number)) (small_of (Some place))) (small_is sender x)
+    ∙ ap (λ v. row_by (Some id) (Some arch) (Some name) (Some sender) v (small_of (Some place))) (small_is number y)
+    ∙ ap (row_by (Some id) (Some arch) (Some name) (Some sender) (Some number)) (small_is place z))
 
-entry_row_says : (rows : List Row) (arch : ℕ) (name : List ℕ) (sender number place : ℕ) → entry_in (entry_row rows arch name sender number place) ≡ Some ((arch, name), ((sender, number), place))
-entry_row_says rows arch name sender number place =
+entry_row_says : (rows : List Row) (arch : ℕ) (name : List ℕ) (sender number place : ℕ) → Fits32 arch → Fits32 sender → Fits32 number → Fits32 place → entry_in (entry_row rows arch name sender number place) ≡ Some ((arch, name), ((sender, number), place))
+entry_row_says rows arch name sender number place w x y z =
     entry_says (entry_row rows arch name sender number place) (next_rowid rows) arch name sender number place
-    (rw cast_null refl) (rw cast_null (cast_int (pos arch))) (rw cast_null refl) (rw cast_null (cast_int (pos sender))) (rw cast_null (cast_int (pos number))) (rw cast_null (cast_int (pos place)))
+    (rw cast_null refl) (rw cast_null (cast_int (pos arch))) (rw cast_null refl) (rw cast_null (cast_int (pos sender))) (rw cast_null (cast_int (pos number))) (rw cast_null (cast_int (pos place))) w x y z
 
-pub adds_row : (arch : ℕ) (name : List ℕ) (sender number place : ℕ) (old new : State) (count : ℕ) → old.now.schema ≡ office_schema
+pub adds_row : (arch : ℕ) (name : List ℕ) (sender number place : ℕ) → Fits32 arch → Fits32 sender → Fits32 number → Fits32 place → (old new : State) (count : ℕ) → old.now.schema ≡ office_schema
     → Executes add_row_text (Int (pos arch) ∷ Text name ∷ Int (pos sender) ∷ Int (pos number) ∷ Int (pos place) ∷ []) old new (Ok count)
     → (new.now.schema ≡ office_schema) × AddsRow old.now.trees new.now.trees arch name sender number place
-adds_row arch name sender number place old new count has h =
+adds_row arch name sender number place w x y z old new count has h =
     let params = Int (pos arch) ∷ Text name ∷ Int (pos sender) ∷ Int (pos number) ∷ Int (pos place) ∷ [] in
     let command = Insert 4 (Values entry_terms 6) in
     let text = statement_of add_row_text (understood office_schema add_row_text) in
@@ -193,7 +205,7 @@ adds_row arch name sender number place old new count has h =
     added : (db next : Trees) → Inserted office_schema entry_table db next (entry_row (db 6) arch name sender number place) → AddsRow db next arch name sender number place
     added db next it = record {
       row = entry_row (db 6) arch name sender number place;
-      says = entry_row_says (db 6) arch name sender number place;
+      says = entry_row_says (db 6) arch name sender number place w x y z;
       free = it.free;
       put = five (next 0) (next 1) (next 3) (next 4) (next 6) (db 0) (db 1) (db 3) (db 4) (put_row (entry_row (db 6) arch name sender number place) (db 6))
           (it.others 0 (apart 0 6 refl) (unindexed 0 refl refl refl))

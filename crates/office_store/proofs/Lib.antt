@@ -1,4 +1,5 @@
 pub mod ShelfFacts
+pub mod PartFacts
 pub mod Compiled
 pub mod StateLemmas
 pub mod Answered
@@ -16,3 +17,19 @@ pub mod SettingLemmas
 pub mod Under
 pub mod FinishLemmas
 pub mod CreateLemmas
+pub mod SchemaLemmas
+pub mod WrittenWords
+pub mod WrittenSetup
+pub mod SetupRoundTrip
+pub mod OpenLemmas
+pub mod EntryReads
+pub mod Passed
+pub mod EntryShows
+pub mod EntryLists
+pub mod EntryMaps
+pub mod EntryValues
+pub mod SaidFacts
+pub mod ReportFacts
+pub mod ContentFacts
+pub mod BlankFacts
+pub mod Whole

@@ -40,7 +40,7 @@ pub office_plain : IsPlain (understood office_schema office_text) × (reads_list
 unfolding understood everything
 office_plain = ((refl, refl), refl)
 
-filter_all : {X : Type 0} (p : X → Bool) → ((x : X) → p x ≡ true) → (xs : List X) → filter p xs ≡ xs
+pub filter_all : {X : Type 0} (p : X → Bool) → ((x : X) → p x ≡ true) → (xs : List X) → filter p xs ≡ xs
 filter_all p all [] = refl
 filter_all p all (x ∷ xs) = rw (all x, filter_all p all xs) refl
 

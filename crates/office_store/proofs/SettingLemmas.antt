@@ -69,7 +69,7 @@ module _ {X K V : Type 0} {R : K → K → Ordering} (total : IsTotalOrder R) (e
 
 -- ---- sources
 
-text_exact : IsAntisymmetric text_cmp
+pub text_exact : IsAntisymmetric text_cmp
 text_exact = slice_cmp-IsAntisymmetric nat_cmp-IsAntisymmetric
 
 pub sources_start : (db next : Trees) → ClearsSources db next → SetsSources db next []
@@ -92,10 +92,10 @@ sources_step a b c xs i x name ordered within is named set added =
 
 -- ---- rows
 
-row_order : IsTotalOrder row_cmp
+pub row_order : IsTotalOrder row_cmp
 row_order = then_total (on_total (λ (p : ℕ × Text). p.0) nat_cmp_total) (on_total (λ (p : ℕ × Text). p.1) text_order)
 
-row_exact : IsAntisymmetric row_cmp
+pub row_exact : IsAntisymmetric row_cmp
 row_exact = exact_pairs nat_cmp text_cmp nat_cmp-IsAntisymmetric text_exact
 
 pub rows_start : (db next : Trees) → ClearsRows db next → SetsRows db next []

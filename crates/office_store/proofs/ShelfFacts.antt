@@ -1,40 +1,44 @@
 -- A shelf of mail.
-use Rattle.std.proofs.Common.{◌≡◌, ◌≤◌, ◌<◌, ◌+◌, ◌-◌, inl, inr, ℕ, suc, Option, Some, None, List, [], ◌∷◌, ◌++◌, map, filter_map, length, sym, ap, ◌∙◌, arith, append_assoc}
+use Rattle.std.proofs.Common.{◌≡◌, ◌≤◌, ◌<◌, ◌+◌, ◌-◌, ℕ, suc, Bool, cond, Option, Some, None, List, [], ◌∷◌, ◌++◌, filter_map, length, refl, sym, ap, ◌∙◌, arith, append_assoc}
 use Rattle.std.specs.List.{range_with_len, cons_option}
-use Rattle.std.specs.FinMap.{get, insert, from_entries, get-from_entries, from_entries_push}
-use Rattle.std.proofs.lemmas.List.{map-append, length-append, append-nil}
+use Rattle.std.specs.FinMap.{get, find, insert, get-from_entries, get-insert}
+use Rattle.std.specs.Map.{lookup}
+use Rattle.std.specs.BTreeMap.{is_at}
+use Rattle.std.specs.Ordering.{eq_by_cmp}
+use Rattle.std.proofs.lemmas.Cmp.{eq_by_cmp_equiv}
+use Rattle.std.proofs.lemmas.List.{length-append, append-nil}
 use Rattle.testing_rules.specs.Suite.{Suite}
 use Rattle.office_mail.specs.Lists.{Lists}
-use Rattle.office_mail.specs.Kept.{Kept, Place}
-use Rattle.office_mail.proofs.KeptFacts.{places_total, exact_places}
-use Rattle.office_store.specs.declared.memory.Mail.{Mail}
+use Rattle.office_mail.specs.Kept.{Kept, Place, place_cmp}
+use Rattle.office_mail.proofs.KeptFacts.{places_total, same_kept}
 use Rattle.office_store.specs.declared.values.Letter.{Letter}
 use Rattle.office_store.specs.Content.{Content, letter_at, letters_within}
-use Rattle.office_store.specs.Given.{IsGiven, KnowsArchs}
+use Rattle.office_store.specs.Given.{KnowsArchs}
 use Rattle.office_store.specs.declared.values.Reports.{Reports}
-use Rattle.office_store.specs.Shelf.{IsShelf, entry_of, kept_in, text_at}
+use Rattle.office_store.specs.Shelf.{IsShelf, kept_in}
 
-pub get-kept_in : (mail : List Mail) (p : Place) → get (kept_in mail) p ≡ text_at p mail
-get-kept_in mail p = get-from_entries places_total (map entry_of mail) p
+find-lookup : (mail : List (Place × List ℕ)) (p : Place) → find place_cmp p mail ≡ lookup (is_at (place_cmp p)) mail
+find-lookup [] p = refl
+find-lookup (e ∷ es) p = ap (cond (eq_by_cmp place_cmp p e.0) (Some e.1)) (find-lookup es p)
 
-pub kept_in-push : (mail : List Mail) (m : Mail) → text_at (m.sender, m.number) mail ≡ None → kept_in (mail ++ m ∷ []) ≡ insert (kept_in mail) (m.sender, m.number) m.text
-kept_in-push mail m free = ap from_entries (map-append entry_of mail (m ∷ [])) ∙ from_entries_push places_total exact_places (map entry_of mail) (m.sender, m.number) m.text free
+-- the kept mail is what the tree finds
+pub get-kept_in : (mail : List (Place × List ℕ)) (p : Place) → get (kept_in mail) p ≡ lookup (is_at (place_cmp p)) mail
+get-kept_in mail p = get-from_entries places_total mail p ∙ find-lookup mail p
 
--- a testing that is given has architectures of the setup, where the old one has
-pub knows_given : (setup : Lists) (content : Content) (testing : Suite) → KnowsArchs setup.archs content.testing.rows → IsGiven setup content testing → KnowsArchs setup.archs testing.rows
-knows_given setup content testing old given = record {
-  each = λ row there. elim (given.rows row there) [
-    | inl was ↦ old.each row was
-    | inr new ↦ new.known
-  ];
-}
+-- what the tree finds after a text was put in
+pub kept_in-insert : (old new : List (Place × List ℕ)) (p : Place) (text : List ℕ) → ((q : Place) → lookup (is_at (place_cmp q)) new ≡ cond (is_at (place_cmp p) q) (Some text) (lookup (is_at (place_cmp q)) old)) → kept_in new ≡ insert (kept_in old) p text
+kept_in-insert old new p text is = same_kept (kept_in new) (insert (kept_in old) p text) (λ q.
+    get-kept_in new q ∙ is q
+    ∙ ap (λ (b : Bool). cond b (Some text) (lookup (is_at (place_cmp q)) old)) ((eq_by_cmp_equiv places_total).symm p q)
+    ∙ ap (λ (o : Option (List ℕ)). cond (eq_by_cmp place_cmp q p) (Some text) o) (sym (get-kept_in old q))
+    ∙ sym (get-insert places_total (kept_in old) p text q))
 
 -- one run more on the shelf
-pub shelf_finished : (setup : Lists) (mail : List Mail) (runs more : List Reports) (reports : Reports) (old new : Suite) (run : ℕ) → IsShelf setup runs old → more ≡ runs ++ reports ∷ [] → run ≡ length runs + 1 → run ≤ 4_294_967_295
-    → IsGiven setup (record { kept = kept_in mail; reports = runs; testing = old }) new → IsShelf setup more new
-shelf_finished setup mail runs more reports old new run was pushed next fits given = record {
+pub shelf_finished : (setup : Lists) (runs more : List Reports) (reports : Reports) (new : Suite) (run : ℕ) → length runs ≤ 4_294_967_295 → more ≡ runs ++ reports ∷ [] → run ≡ length runs + 1 → run ≤ 4_294_967_295
+    → KnowsArchs setup.archs new.rows → IsShelf setup more new
+shelf_finished setup runs more reports new run few pushed next fits known = record {
   few = omega (arith, ap length pushed, length-append runs (reports ∷ []), next, fits);
-  known = knows_given setup (record { kept = kept_in mail; reports = runs; testing = old }) new was.known given;
+  known = known;
 }
 
 -- a content with this mail

@@ -1,17 +1,19 @@
 -- What a statement leaves of a connection that is ours.
 use Rattle.std.proofs.Common.{◌≡◌, ◌⊎◌, inl, inr, ℕ, List, Some, None, Ok, Err, Result, IsTrue, sym, ap, subst, ◌∙◌, arith}
-use Rattle.std.proofs.Common.{◌≤◌, IfOk, IfErr}
+use Rattle.std.proofs.Common.{◌≤◌, IfOk, IfErr, OnOk}
 use Rattle.sqlite_trees.specs.View.{doubt}
 use Rattle.sqlite.specs.Order.{Row}
 use Rattle.sqlite.specs.declared.error.Error.{Error}
 use Rattle.sqlite.specs.Effect.{Database}
 use Rattle.sqlite.specs.Listing.{understood}
 use Rattle.sqlite_resolve.specs.declared.compiled.Compiled.{Compiled}
-use Rattle.sqlite.specs.State.{State, HasCleanDisk, IsUnchanged, IsRolledBack, IsNotRun, RunsCommand, FailsToShow, FailsToQuery, ShowsRows, Shown}
+use Rattle.sqlite.specs.State.{State, HasCleanDisk, IsUnchanged, IsRolledBack, IsNotRun, RunsCommand, FailsToShow, FailsToQuery, ShowsRows, Shown, Survives}
 use Rattle.sqlite.specs.Clock.{timed}
 use Rattle.sqlite.proofs.Callers.{IsPlain}
 use Rattle.office_store.specs.Layout.{office_schema}
-use Rattle.office_store.specs.Tables.{IsTrusted, IsOurs, Same}
+use Rattle.office_store.specs.Tables.{IsTrusted, IsOurs, Same, Lasts}
+use Rattle.office_store.specs.Keeping.{HasRisen}
+use Rattle.sqlite_trees.specs.Tree.{Trees}
 
 -- the database stands as it was, or as the last commit left it
 abbrev pub Stays : State → State → Type 0
@@ -64,6 +66,14 @@ stays_same old new now ours (inr h) =
     let same : new.now ≡ old.now = undone.0 ∙ sym ours.settled in
     record { ours = record { schema = ap (λ (d : Database). d.schema) same ∙ ours.schema; settled = undone.0 ∙ sym undone.1; autocommit = h.autocommit }; now = same }
 
+shown_stays_open : (old new : State) (sql : List ℕ) (c : Compiled) (params : Row) (rows : List Row) (r : _) → ShowsRows old new sql c params rows r → IsTrue new.is_open
+shown_stays_open old new sql c params rows None h = h.3.0.is_open
+shown_stays_open old new sql c params rows (Some what) h = h.1.shown.is_open
+
+pub shown_is_open : (old new : State) (sql : List ℕ) (params : Row) (rows : List Row) → Shown sql params old new rows → IsTrue new.is_open
+unfolding Shown
+shown_is_open old new sql params rows h = shown_stays_open old new sql h.0 _ rows h.0.returning h.2
+
 -- what `query_all` says of a call
 pub record Asked {R : Type 0} (items : R → List Row) (sql : List ℕ) (params : Row) (old new : State) (result : Result R Error) : Type 0 where
   pub clean : doubt old.is_clean ≤ doubt new.is_clean
@@ -88,3 +98,45 @@ module _ {R : Type 0} (items : R → List Row) (sql : List ℕ) (params : Row) (
   pub asked_rows : (P : List Row → Type 0) (result : Result R Error) → Asked items sql params old new result → IsTrusted new → ((rows : List Row) → Shown sql params old new rows → P rows) → IfOk result (λ rows. P (items rows))
   asked_rows P (Ok rows) asked trusted gives = gives (items rows) (asked.ok trusted.0)
   asked_rows P (Err e) asked trusted gives = tt
+
+  pub asked_open : (result : Result R Error) → Asked items sql params old new result → HasCleanDisk new → OnOk result (IsTrusted new)
+  asked_open (Ok rows) asked clean = (clean, shown_is_open old new sql params (items rows) (asked.ok clean))
+  asked_open (Err e) asked clean = tt
+
+-- ---- what lasts over several calls
+
+pub lasts_survived : {C : Trees → Type 0} (old new : State) → Survives old new C → Lasts old new
+lasts_survived old new it = record { clean = it.clean; counts = it.counts; closes = it.closes }
+
+pub lasts_same : (s : State) → Lasts s s
+lasts_same s = record { clean = omega arith; counts = omega arith; closes = λ clean is_open. inl is_open }
+
+risen_later : (a b c : ℕ) → HasRisen a b → b ≤ c → HasRisen a c
+risen_later a b c h up = omega (arith, h, up)
+
+risen_after : (a b c : ℕ) → a ≤ b → HasRisen b c → HasRisen a c
+risen_after a b c up h = omega (arith, h, up)
+
+pub lasts_then : (a b c : State) → Lasts a b → Lasts b c → Lasts a c
+lasts_then a b c first second = record {
+  clean = omega (arith, first.clean, second.clean);
+  counts = omega (arith, first.counts, second.counts);
+  closes = λ clean is_open. elim (first.closes (omega (arith, clean, second.clean)) is_open) [
+    | inl still ↦ elim (second.closes clean still) [
+      | inl still ↦ inl still
+      | inr risen ↦ inr (risen_after a.faults b.faults c.faults first.counts risen)
+    ]
+    | inr risen ↦ inr (risen_later a.faults b.faults c.faults risen second.counts)
+  ];
+}
+
+-- a call leaves the connection trusted, or a fault of the disk was counted
+pub lasts_shut : (old new : State) → Lasts old new → HasCleanDisk new → IsTrusted old → IsTrusted new ⊎ HasRisen old.faults new.faults
+lasts_shut old new lasts clean trusted = elim (lasts.closes clean trusted.1) [
+  | inl still ↦ inl (clean, still)
+  | inr risen ↦ inr risen
+]
+
+-- the disk was clean before, where it is after
+pub clean_before : (old new : State) → Lasts old new → HasCleanDisk new → HasCleanDisk old
+clean_before old new lasts clean = omega (arith, lasts.clean, clean)

@@ -59,3 +59,7 @@ module _ (sql : List ℕ) (params : Row) (old new : State) where
       → ((count : ℕ) → IsInside old → Executes sql params old new (Ok count) → (new.now.schema ≡ office_schema) × P) → OnOk result P
   step_gives P (Ok count) h trusted inside gives = (went_well P count h trusted inside (gives count)).1
   step_gives P (Err e) h trusted inside gives = tt
+
+  pub step_open : (result : Result ℕ Error) → Stepped sql params old new result → HasCleanDisk new → OnOk result (IsTrusted new)
+  step_open (Ok count) h clean = (clean, (h.runs clean (begun_ok count h)).1.is_open)
+  step_open (Err e) h clean = tt

@@ -1,13 +1,14 @@
 -- What makes the office's tables in a fresh database.
-use Rattle.std.specs.Prelude.{◌≡◌, [], Some, IsTrue}
+use Rattle.std.specs.Prelude.{◌≡◌, [], ◌∷◌, Some, IsTrue}
 use Rattle.sqlite.specs.Change.{created, next_tree, KeepsRows}
+use Rattle.sqlite.specs.Order.{Row}
 use Rattle.sqlite.specs.Schema.{Schema}
 use Rattle.sqlite.specs.State.{State}
 use Rattle.sqlite.specs.Table.{Table}
 use Rattle.sqlite.specs.Tree.{Trees}
 use Rattle.office_store.specs.declared.values.Said.{Said}
 use Rattle.office_store.specs.Layout.{no_schema, office, mail, run, testing_source, testing_row}
-use Rattle.office_store.specs.Tables.{said_in}
+use Rattle.office_store.specs.Tables.{office_in, said_in}
 
 -- the schema after each table in turn
 abbrev pub schema_of_one : Schema
@@ -35,8 +36,11 @@ pub record Makes (schema : Schema) (table : Table) (old new : State) : Type 0 wh
   pub empty : new.now.trees (next_tree schema) ≡ []
   pub others : KeepsRows schema.tables old.now.trees new.now.trees
 
--- the tables stand: the office says this, and all else is empty
+-- the tables stand: the office says this in its one row, and all else is empty
 pub record IsBlank (db : Trees) (said : Said) : Type 0 where
+  pub row : Row
+  pub one : db 0 ≡ row ∷ []
+  pub row_says : office_in row ≡ Some (1, said)
   pub says : said_in (db 0) ≡ Some said
   pub mail : db 1 ≡ []
   pub runs : db 3 ≡ []

@@ -1,5 +1,5 @@
 -- The tables of testing, and what they say.
-use Rattle.std.specs.Prelude.{◌≡◌, ℕ, ℤ, false, List, [], map, filter_map, Option, Some, None}
+use Rattle.std.specs.Prelude.{◌≡◌, ℕ, ℤ, false, List, [], ◌∷◌, map, filter_map, Option, Some, None}
 use Rattle.std.specs.FinMap.{FinMap, from_entries}
 use Rattle.sqlite_rules.specs.Edit.{is_taken}
 use Rattle.sqlite.specs.Order.{Row, column}
@@ -11,7 +11,7 @@ use Rattle.testing_rules.specs.declared.suite.RowIn.{RowIn}
 use Rattle.testing_rules.specs.Words.{text_cmp}
 use Rattle.testing_rules.specs.Moves.{row_cmp, row_key}
 use Rattle.office_mail.specs.Kept.{Place}
-use Rattle.office_store.specs.Tables.{rows_in, number_in, text_in}
+use Rattle.office_store.specs.Tables.{rows_in, small_in, text_in}
 
 -- an integer
 abbrev pub integer_in : Value → Option ℤ
@@ -32,7 +32,11 @@ source_by (Some rowid) (Some name) (Some sender) (Some number) = Some (name, (se
 
 -- what a row of testing's sources says: a name, and the place of the message that gave it
 unfoldable pub source_in : Row → Option (List ℕ × Place)
-source_in row = source_by (integer_in (column row 0)) (text_in (column row 1)) (number_in (column row 2)) (number_in (column row 3))
+source_in row = source_by (integer_in (column row 0)) (text_in (column row 1)) (small_in (column row 2)) (small_in (column row 3))
+
+-- what is shown of a row of testing's sources: its rowid and its columns
+abbrev pub source_columns : Row → Row
+source_columns row = column row 0 ∷ column row 1 ∷ column row 2 ∷ column row 3 ∷ []
 
 -- the sources that the rows keep, by their names
 abbrev pub source_map : List Row → FinMap text_cmp Place
@@ -72,7 +76,11 @@ row_by (Some rowid) (Some arch) (Some name) (Some sender) (Some number) (Some pl
 
 -- what a row of testing's rows says: an architecture and a name, and the place of the message and of the paragraph that gave it
 unfoldable pub entry_in : Row → Option ((ℕ × List ℕ) × (Place × ℕ))
-entry_in row = row_by (integer_in (column row 0)) (number_in (column row 1)) (text_in (column row 2)) (number_in (column row 3)) (number_in (column row 4)) (number_in (column row 5))
+entry_in row = row_by (integer_in (column row 0)) (small_in (column row 1)) (text_in (column row 2)) (small_in (column row 3)) (small_in (column row 4)) (small_in (column row 5))
+
+-- what is shown of a row of testing's rows: its rowid and its columns
+abbrev pub entry_columns : Row → Row
+entry_columns row = column row 0 ∷ column row 1 ∷ column row 2 ∷ column row 3 ∷ column row 4 ∷ column row 5 ∷ []
 
 -- the rows of testing that the rows keep, by architecture and name
 abbrev pub entry_map : List Row → FinMap row_cmp (Place × ℕ)

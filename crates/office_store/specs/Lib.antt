@@ -8,3 +8,8 @@ pub mod Tables
 pub mod Entries
 pub mod Finishing
 pub mod Creating
+pub mod SetupText
+pub mod Opening
+pub mod Holdings
+pub mod Legible
+pub mod Fresh

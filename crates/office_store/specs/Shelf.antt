@@ -1,10 +1,10 @@
--- A keeper in memory, as lists.
-use Rattle.std.specs.Prelude.{◌≤◌, ℕ, List, Option, map, length}
-use Rattle.std.specs.FinMap.{find, from_entries}
+-- A keeper in memory.
+use Rattle.std.specs.Prelude.{◌≤◌, ℕ, List, length}
+use Rattle.std.specs.FinMap.{from_entries}
 use Rattle.office_mail.specs.Lists.{Lists}
-use Rattle.office_mail.specs.Kept.{Kept, Place, place_cmp}
+use Rattle.office_mail.specs.Kept.{Kept, Place}
 use Rattle.testing_rules.specs.Suite.{Suite}
-use Rattle.office_store.specs.declared.memory.Mail.{Mail}
+use Rattle.office_store.specs.declared.values.Letter.{Letter}
 use Rattle.office_store.specs.declared.values.Reports.{Reports}
 use Rattle.office_store.specs.Content.{Content}
 use Rattle.office_store.specs.Given.{KnowsArchs}
@@ -12,20 +12,18 @@ use Rattle.office_store.specs.Given.{KnowsArchs}
 pub record Shelf : Type 0 where
   -- the setup that it was made for
   pub setup : Lists
-  -- the texts in the order in which they came
-  pub mail : List Mail
+  -- the texts with their places, by place
+  pub mail : List (Place × List ℕ)
   pub runs : List Reports
   pub testing : Suite
 
--- a text at its place
-abbrev pub entry_of : Mail → Place × List ℕ
-entry_of m = ((m.sender, m.number), m.text)
+-- the texts at their places
+abbrev pub kept_in : List (Place × List ℕ) → Kept
+kept_in mail = from_entries mail
 
-abbrev pub kept_in : List Mail → Kept
-kept_in mail = from_entries (map entry_of mail)
-
-abbrev pub text_at : Place → List Mail → Option (List ℕ)
-text_at place mail = find place_cmp place (map entry_of mail)
+-- a text at a place of its sender, with its number
+abbrev pub letter_of : Place × List ℕ → Letter
+letter_of e = record { number = e.0.1; text = e.1 }
 
 -- what lies on the shelf
 abbrev pub content_of : Shelf → Content

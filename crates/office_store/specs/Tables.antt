@@ -1,6 +1,6 @@
 -- The tables of an office, and what they say.
 use Rattle.std.specs.Ordering.{is_eq, nat_cmp}
-use Rattle.std.specs.Prelude.{◌≡◌, ◌≤◌, ◌&&◌, Bool, length, filter, filter_map, ℕ, pos, negsuc, List, [], ◌∷◌, Option, Some, None, IsTrue, false}
+use Rattle.std.specs.Prelude.{◌≡◌, ◌≤◌, ◌⊎◌, ◌&&◌, Bool, length, filter, filter_map, ℕ, pos, negsuc, List, [], ◌∷◌, Option, Some, None, IsTrue, false, nat_lt, if◌then◌else◌}
 use Rattle.std.specs.FinMap.{FinMap, find, get, insert, from_entries}
 use Rattle.office_store.specs.declared.values.Reports.{Reports}
 use Rattle.office_store.specs.declared.values.Said.{Said}
@@ -9,14 +9,22 @@ use Rattle.sqlite_rules.specs.Edit.{is_taken}
 use Rattle.sqlite.specs.Order.{Row, column, value_cmp}
 use Rattle.sqlite.specs.Tree.{Trees, put_row}
 use Rattle.sqlite.specs.State.{State, HasCleanDisk}
+use Rattle.sqlite_trees.specs.View.{doubt}
 use Rattle.sqlite.specs.declared.types.Value.{Value}
 use Rattle.sqlite.specs.declared.types.Value.TheVariants.{Null, Int, Real, Text, Blob}
 use Rattle.office_mail.specs.Kept.{Kept, Place}
+use Rattle.office_store.specs.Keeping.{HasRisen}
 use Rattle.office_store.specs.Layout.{office_schema}
 
 -- Nobody else writes the tables, the disk returns what was written, and no fault of the disk has shut the connection.
 abbrev pub IsTrusted : State → Type 0
 IsTrusted s = HasCleanDisk s × IsTrue s.is_open
+
+-- no fault of the disk is forgotten, and only such a fault shuts the connection
+pub record Lasts (old new : State) : Type 0 where
+  pub clean : doubt old.is_clean ≤ doubt new.is_clean
+  pub counts : old.faults ≤ new.faults
+  pub closes : HasCleanDisk new → IsTrue old.is_open → IsTrue new.is_open ⊎ HasRisen old.faults new.faults
 
 -- between calls: the five tables and no others, no transaction, and nothing that isn't committed
 pub record IsOurs (s : State) : Type 0 where
@@ -61,6 +69,14 @@ number_in (Int (negsuc n)) = None
 number_in (Real x) = None
 number_in (Text text) = None
 number_in (Blob bytes) = None
+
+-- a number of 32 bits
+abbrev pub small_of : Option ℕ → Option ℕ
+small_of None = None
+small_of (Some n) = if nat_lt n 4_294_967_296 then Some n else None
+
+abbrev pub small_in : Value → Option ℕ
+small_in v = small_of (number_in v)
 
 -- bytes
 abbrev pub bytes_in : Value → Option (List ℕ)

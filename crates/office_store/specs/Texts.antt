@@ -34,6 +34,15 @@ clear_rows_text = codes "DELETE FROM testing_row"
 abbrev pub add_row_text : List ℕ
 add_row_text = codes "INSERT INTO testing_row (arch, name, sender, number, place) VALUES (?1, ?2, ?3, ?4, ?5)"
 
+abbrev pub sources_text : List ℕ
+sources_text = codes "SELECT rowid, name, sender, number FROM testing_source"
+
+abbrev pub rows_text : List ℕ
+rows_text = codes "SELECT rowid, arch, name, sender, number, place FROM testing_row"
+
+abbrev pub load_text : List ℕ
+load_text = codes "SELECT number, body FROM mail WHERE sender = ?1 AND number >= ?2 AND number <= ?3"
+
 -- ---- the definitions of the tables
 
 abbrev pub create_office_text : List ℕ

@@ -1,7 +1,9 @@
 //! A finished run, in one transaction over the tables.
-ghost use Rattle.std.specs.Prelude.{◌≡◌, Some, OnOk, OnErr};
+ghost use Rattle.std.specs.Prelude.{◌≡◌, ◌≢◌, Err, Some, OnOk, OnErr};
 ghost use Rattle.sqlite.specs.Held.{state};
-ghost use Rattle.office_store.specs.Tables.{IsTrusted, IsOurs, IsInside, WentOn, said_in};
+ghost use Rattle.sqlite.specs.State.{HasCleanDisk};
+ghost use Rattle.office_store.specs.Tables.{IsTrusted, Lasts, IsOurs, IsInside, WentOn, said_in};
+ghost use Rattle.testing_rules.specs.InOrder.{IsInOrder};
 ghost use Rattle.office_store.specs.Finishing.{WritesRun, FinishesRun, with_count};
 
 use crate::faults::{Cause, KeepFault};
@@ -20,7 +22,10 @@ fn write_run<S: Alter>(
     requires inside { IsTrusted (state S.Store tx.old.conn.now) → IsInside (state S.Store tx.old.conn.now) }
     ensures same_reference { tx.new.conn.ghost_name ≡ tx.old.conn.ghost_name }
     ensures before { IsTrusted (state S.Store tx.new.conn.now) → IsTrusted (state S.Store tx.old.conn.now) }
+    ensures lasts { Lasts (state S.Store tx.old.conn.now) (state S.Store tx.new.conn.now) }
+    ensures open { HasCleanDisk (state S.Store tx.new.conn.now) → IsTrusted (state S.Store tx.old.conn.now) → OnOk result (IsTrusted (state S.Store tx.new.conn.now)) }
     ensures on { IsTrusted (state S.Store tx.new.conn.now) → OnOk result (WentOn (state S.Store tx.old.conn.now) (state S.Store tx.new.conn.now)) }
+    ensures ordered { OnOk result (IsInOrder done.now.testing.sources done.now.testing.rows) }
     ensures done { IsTrusted (state S.Store tx.new.conn.now) → OnOk result (WritesRun (state S.Store tx.old.conn.now).now.trees (state S.Store tx.new.conn.now).now.trees run done.now (with_count run said.now)) }
     ensures err { IsTrusted (state S.Store tx.new.conn.now) → OnErr result ((state S.Store tx.new.conn.now).committed ≡ (state S.Store tx.old.conn.now).committed) }
 {
@@ -42,7 +47,11 @@ fn commit_run<S: Alter>(
 ) -> Result<(), KeepFault>
     requires ours { IsTrusted (state S.Store conn.old) → IsOurs (state S.Store conn.old) }
     ensures before { IsTrusted (state S.Store conn.new) → IsTrusted (state S.Store conn.old) }
+    ensures lasts { Lasts (state S.Store conn.old) (state S.Store conn.new) }
+    ensures open { HasCleanDisk (state S.Store conn.new) → IsTrusted (state S.Store conn.old) → OnOk result (IsTrusted (state S.Store conn.new)) }
     ensures ours { IsTrusted (state S.Store conn.new) → IsOurs (state S.Store conn.new) }
+    ensures bad { result ≢ Err (KeepFault.Store Cause.BadRow) }
+    ensures ordered { OnOk result (IsInOrder done.now.testing.sources done.now.testing.rows) }
     ensures done { IsTrusted (state S.Store conn.new) → OnOk result (WritesRun (state S.Store conn.old).now.trees (state S.Store conn.new).now.trees run done.now (with_count run said.now)) }
     ensures err { IsTrusted (state S.Store conn.new) → OnErr result ((state S.Store conn.new).now ≡ (state S.Store conn.old).now) }
 {
@@ -63,7 +72,10 @@ pub(crate) fn finish<S: Alter>(
 ) -> Result<(), KeepFault>
     requires ours { IsTrusted (state S.Store conn.old) → IsOurs (state S.Store conn.old) }
     ensures before { IsTrusted (state S.Store conn.new) → IsTrusted (state S.Store conn.old) }
+    ensures lasts { Lasts (state S.Store conn.old) (state S.Store conn.new) }
+    ensures open { HasCleanDisk (state S.Store conn.new) → IsTrusted (state S.Store conn.old) → OnOk result (IsTrusted (state S.Store conn.new)) }
     ensures ours { IsTrusted (state S.Store conn.new) → IsOurs (state S.Store conn.new) }
+    ensures ordered { OnOk result (IsInOrder done.now.testing.sources done.now.testing.rows) }
     ensures done { IsTrusted (state S.Store conn.new) → OnOk result (FinishesRun (state S.Store conn.old).now.trees (state S.Store conn.new).now.trees run done.now) }
     ensures err { IsTrusted (state S.Store conn.new) → OnErr result ((state S.Store conn.new).now ≡ (state S.Store conn.old).now) }
 {

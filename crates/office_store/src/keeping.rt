@@ -1,8 +1,8 @@
 //! What a store of the office does.
-ghost use Rattle.std.specs.Prelude.{◌≡◌, ◌≢◌, ◌+◌, ◌⊎◌, ◌++◌, ◌∷◌, [], ℕ, List, Some, None, Err, length, IfOk, OnOk, OnErr, is_some, not, if◌then◌else◌};
-ghost use Rattle.std.specs.FinMap.{get};
+ghost use Rattle.std.specs.Prelude.{◌≡◌, ◌≢◌, ◌≤◌, ◌+◌, ◌⊎◌, ◌++◌, ◌∷◌, [], ℕ, List, Some, None, Err, length, IfOk, OnOk, OnErr, is_some, not, if◌then◌else◌};
+ghost use Rattle.std.specs.FinMap.{get, insert};
 ghost use Rattle.office_mail.specs.Lists.{Lists};
-ghost use Rattle.office_store.specs.Content.{Content, with_text, with_run, item_from_one, letters_within};
+ghost use Rattle.office_store.specs.Content.{Content, reports_in, with_text, with_run, item_from_one, letters_within};
 ghost use Rattle.office_store.specs.Given.{AreOwnTexts, IsGiven, KnowsArchs};
 ghost use Rattle.office_store.specs.Keeping.{Counted, HasRisen};
 
@@ -40,6 +40,8 @@ pub trait Keeper {
         ensures found { is_trusted self.new → IfOk result (λ text. text ≡ get (content self.old).kept (sender, number)) }
         ensures same { is_trusted self.new → content self.new ≡ content self.old }
         ensures setup { setup self.new ≡ setup self.old }
+        ensures clean { is_clean self.new → is_clean self.old }
+        ensures faults { disk_faults self.old ≤ disk_faults self.new }
         ensures before { is_trusted self.new → is_trusted self.old }
         ensures open { is_clean self.new → is_trusted self.old → OnOk result (is_trusted self.new) }
         ensures shut { is_clean self.new → is_trusted self.old → is_trusted self.new ⊎ HasRisen (disk_faults self.old) (disk_faults self.new) }
@@ -50,9 +52,13 @@ pub trait Keeper {
     /// Keeps a text under a free number.
     fn keep(&mut self, sender: u32, number: u32, text: &[u8]) -> Result<(), KeepFault>
         requires free { is_trusted self.old → get (content self.old).kept (sender, number) ≡ None }
-        ensures kept { is_trusted self.new → OnOk result (content self.new ≡ with_text (content self.old) sender number text.now) }
+        ensures kept { is_trusted self.new → is_legible self.old → OnOk result (content self.new ≡ with_text (content self.old) sender number text.now) }
+        ensures mail { is_trusted self.new → OnOk result ((content self.new).kept ≡ insert (content self.old).kept (sender, number) text.now) }
+        ensures reports { is_trusted self.new → (content self.new).reports ≡ (content self.old).reports }
         ensures err { is_trusted self.new → OnErr result (content self.new ≡ content self.old) }
         ensures setup { setup self.new ≡ setup self.old }
+        ensures clean { is_clean self.new → is_clean self.old }
+        ensures faults { disk_faults self.old ≤ disk_faults self.new }
         ensures before { is_trusted self.new → is_trusted self.old }
         ensures open { is_clean self.new → is_trusted self.old → OnOk result (is_trusted self.new) }
         ensures shut { is_clean self.new → is_trusted self.old → is_trusted self.new ⊎ HasRisen (disk_faults self.old) (disk_faults self.new) }
@@ -65,6 +71,8 @@ pub trait Keeper {
         ensures value { is_trusted self.new → IfOk result (λ n. n ≡ length (content self.old).reports) }
         ensures same { is_trusted self.new → content self.new ≡ content self.old }
         ensures setup { setup self.new ≡ setup self.old }
+        ensures clean { is_clean self.new → is_clean self.old }
+        ensures faults { disk_faults self.old ≤ disk_faults self.new }
         ensures before { is_trusted self.new → is_trusted self.old }
         ensures open { is_clean self.new → is_trusted self.old → OnOk result (is_trusted self.new) }
         ensures shut { is_clean self.new → is_trusted self.old → is_trusted self.new ⊎ HasRisen (disk_faults self.old) (disk_faults self.new) }
@@ -77,6 +85,8 @@ pub trait Keeper {
         ensures loaded { is_trusted self.new → IfOk result (λ letters. letters.items ≡ letters_within (content self.old).kept sender from to) }
         ensures same { is_trusted self.new → content self.new ≡ content self.old }
         ensures setup { setup self.new ≡ setup self.old }
+        ensures clean { is_clean self.new → is_clean self.old }
+        ensures faults { disk_faults self.old ≤ disk_faults self.new }
         ensures before { is_trusted self.new → is_trusted self.old }
         ensures open { is_clean self.new → is_trusted self.old → OnOk result (is_trusted self.new) }
         ensures shut { is_clean self.new → is_trusted self.old → is_trusted self.new ⊎ HasRisen (disk_faults self.old) (disk_faults self.new) }
@@ -88,14 +98,19 @@ pub trait Keeper {
     /// one hasn't names a kept message that gives it.
     fn finish(&mut self, run: u32, done: &Finished) -> Result<(), KeepFault>
         requires next { is_trusted self.old → run ≡ length (content self.old).reports + 1 }
-        requires given { is_trusted self.old → IsGiven (setup self.old) (content self.old) done.now.testing }
-        ensures done { is_trusted self.new → OnOk result (content self.new ≡ with_run (content self.old) done.now) }
+        requires known { is_trusted self.old → KnowsArchs (setup self.old).archs done.now.testing.rows }
+        requires given { is_trusted self.old → is_legible self.old → AreOwnTexts (setup self.old) (content self.old).kept → IsGiven (setup self.old) (content self.old) done.now.testing }
+        ensures done { is_trusted self.new → is_legible self.old → AreOwnTexts (setup self.old) (content self.old).kept → OnOk result (content self.new ≡ with_run (content self.old) done.now) }
+        ensures mail { is_trusted self.new → (content self.new).kept ≡ (content self.old).kept }
+        ensures reports { is_trusted self.new → OnOk result ((content self.new).reports ≡ (content self.old).reports ++ reports_in done.now ∷ []) }
         ensures err { is_trusted self.new → OnErr result (content self.new ≡ content self.old) }
         ensures setup { setup self.new ≡ setup self.old }
+        ensures clean { is_clean self.new → is_clean self.old }
+        ensures faults { disk_faults self.old ≤ disk_faults self.new }
         ensures before { is_trusted self.new → is_trusted self.old }
         ensures open { is_clean self.new → is_trusted self.old → OnOk result (is_trusted self.new) }
         ensures shut { is_clean self.new → is_trusted self.old → is_trusted self.new ⊎ HasRisen (disk_faults self.old) (disk_faults self.new) }
-        ensures legible { is_trusted self.new → is_legible self.old → is_legible self.new }
+        ensures legible { is_trusted self.new → is_legible self.old → AreOwnTexts (setup self.old) (content self.old).kept → is_legible self.new }
         ensures bad { is_trusted self.new → is_legible self.old → AreOwnTexts (setup self.old) (content self.old).kept → result ≢ Err (KeepFault.Store Cause.BadRow) }
         ensures counted { Counted (refusals self.old) (refusals self.new) result };
 
@@ -104,6 +119,8 @@ pub trait Keeper {
         ensures value { is_trusted self.new → IfOk result (λ reports. reports ≡ item_from_one run (content self.old).reports) }
         ensures same { is_trusted self.new → content self.new ≡ content self.old }
         ensures setup { setup self.new ≡ setup self.old }
+        ensures clean { is_clean self.new → is_clean self.old }
+        ensures faults { disk_faults self.old ≤ disk_faults self.new }
         ensures before { is_trusted self.new → is_trusted self.old }
         ensures open { is_clean self.new → is_trusted self.old → OnOk result (is_trusted self.new) }
         ensures shut { is_clean self.new → is_trusted self.old → is_trusted self.new ⊎ HasRisen (disk_faults self.old) (disk_faults self.new) }
@@ -118,6 +135,8 @@ pub trait Keeper {
         ensures archs { IfOk result (λ testing. KnowsArchs (setup self.new).archs testing.rows) }
         ensures same { is_trusted self.new → content self.new ≡ content self.old }
         ensures setup { setup self.new ≡ setup self.old }
+        ensures clean { is_clean self.new → is_clean self.old }
+        ensures faults { disk_faults self.old ≤ disk_faults self.new }
         ensures before { is_trusted self.new → is_trusted self.old }
         ensures open { is_clean self.new → is_trusted self.old → OnOk result (is_trusted self.new) }
         ensures shut { is_clean self.new → is_trusted self.old → is_trusted self.new ⊎ HasRisen (disk_faults self.old) (disk_faults self.new) }
@@ -134,7 +153,7 @@ pub fn keep_if_free<K: Keeper>(
     text: &[u8],
 ) -> Result<bool, KeepFault>
     ensures free { K.is_trusted keeper.new → IfOk result (λ free. free ≡ not (is_some (get (K.content keeper.old).kept (sender, number)))) }
-    ensures kept { K.is_trusted keeper.new → IfOk result (λ free. K.content keeper.new ≡ (if free then with_text (K.content keeper.old) sender number text.now else K.content keeper.old)) }
+    ensures kept { K.is_trusted keeper.new → K.is_legible keeper.old → IfOk result (λ free. K.content keeper.new ≡ (if free then with_text (K.content keeper.old) sender number text.now else K.content keeper.old)) }
     ensures err { K.is_trusted keeper.new → OnErr result (K.content keeper.new ≡ K.content keeper.old) }
     ensures setup { K.setup keeper.new ≡ K.setup keeper.old }
 {

@@ -2,14 +2,18 @@
 //! says what each call makes of them.
 #![tactic(auto)]
 
+mod entries;
 mod faults;
 mod finishing;
 mod keeping;
+mod layout;
 mod mail;
 mod memory;
 mod on_sqlite;
+mod opening;
 mod runs;
 mod schema;
+mod setup_text;
 mod testing;
 mod values;
 
@@ -17,7 +21,10 @@ pub use faults::{Cause, KeepFault};
 pub use keeping::{Keeper, keep_if_free};
 pub use memory::Plain;
 pub use on_sqlite::Tables;
+pub use opening::OpenFault;
 pub use values::{Finished, Letter, MailText, Reports};
 
+#[cfg(test)]
+mod opening_tests;
 #[cfg(test)]
 mod tests;

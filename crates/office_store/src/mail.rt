@@ -7,7 +7,8 @@ ghost use Rattle.std.specs.FinMap.{get, insert};
 ghost use Rattle.sqlite.specs.Order.{column};
 ghost use Rattle.sqlite.specs.declared.types.Value.TheVariants.{Int, Blob};
 ghost use Rattle.sqlite.specs.Held.{state};
-ghost use Rattle.office_store.specs.Tables.{IsTrusted, IsOurs, IsInside, WentOn, Same, AddsLetter, IsCrowded, IsOnly, is_at, letter_columns, kept_rows, rows_in};
+ghost use Rattle.sqlite.specs.State.{HasCleanDisk};
+ghost use Rattle.office_store.specs.Tables.{IsTrusted, Lasts, IsOurs, IsInside, WentOn, Same, AddsLetter, IsCrowded, IsOnly, is_at, letter_columns, kept_rows, rows_in};
 
 use crate::faults::{Cause, KeepFault, unread};
 use crate::values::{Letter, MailText};
@@ -45,6 +46,8 @@ fn only_text(rows: &[Row], sender: u32, number: u32) -> Result<Option<MailText>,
 fn letters<S: Alter>(conn: &mut Connection<S>, sender: u32, number: u32) -> Result<Vec<Row>, Error>
     requires ours { IsTrusted (state S.Store conn.old) → IsOurs (state S.Store conn.old) }
     ensures before { IsTrusted (state S.Store conn.new) → IsTrusted (state S.Store conn.old) }
+    ensures lasts { Lasts (state S.Store conn.old) (state S.Store conn.new) }
+    ensures open { HasCleanDisk (state S.Store conn.new) → IsTrusted (state S.Store conn.old) → OnOk result (IsTrusted (state S.Store conn.new)) }
     ensures same { IsTrusted (state S.Store conn.new) → Same (state S.Store conn.old) (state S.Store conn.new) }
     ensures rows { IsTrusted (state S.Store conn.new) → IfOk result (λ rows. IsPermutation (map letter_columns (filter (is_at sender number) ((state S.Store conn.new).now.trees 1))) rows.items) }
 {
@@ -62,6 +65,8 @@ pub fn find<S: Alter>(
 ) -> Result<Option<MailText>, KeepFault>
     requires ours { IsTrusted (state S.Store conn.old) → IsOurs (state S.Store conn.old) }
     ensures before { IsTrusted (state S.Store conn.new) → IsTrusted (state S.Store conn.old) }
+    ensures lasts { Lasts (state S.Store conn.old) (state S.Store conn.new) }
+    ensures open { HasCleanDisk (state S.Store conn.new) → IsTrusted (state S.Store conn.old) → OnOk result (IsTrusted (state S.Store conn.new)) }
     ensures same { IsTrusted (state S.Store conn.new) → Same (state S.Store conn.old) (state S.Store conn.new) }
     ensures found { IsTrusted (state S.Store conn.new) → IfOk result (λ text. text ≡ get (kept_rows ((state S.Store conn.new).now.trees 1)) (sender, number)) }
     ensures bad { IsTrusted (state S.Store conn.new) → result ≡ Err (KeepFault.Store Cause.BadRow) → IsCrowded ((state S.Store conn.new).now.trees 1) }
@@ -79,6 +84,8 @@ fn push_letter<S: Alter>(
 ) -> Result<(), KeepFault>
     requires ours { IsTrusted (state S.Store conn.old) → IsOurs (state S.Store conn.old) }
     ensures before { IsTrusted (state S.Store conn.new) → IsTrusted (state S.Store conn.old) }
+    ensures lasts { Lasts (state S.Store conn.old) (state S.Store conn.new) }
+    ensures open { HasCleanDisk (state S.Store conn.new) → IsTrusted (state S.Store conn.old) → OnOk result (IsTrusted (state S.Store conn.new)) }
     ensures same { IsTrusted (state S.Store conn.new) → Same (state S.Store conn.old) (state S.Store conn.new) }
     ensures pushed { IsTrusted (state S.Store conn.new) → OnOk result (letters.new.items ≡ letters.old.items ++ cons_option (letter_at (kept_rows ((state S.Store conn.new).now.trees 1)) sender number) []) }
 {
@@ -98,6 +105,8 @@ pub fn load<S: Alter>(
 ) -> Result<Vec<Letter>, KeepFault>
     requires ours { IsTrusted (state S.Store conn.old) → IsOurs (state S.Store conn.old) }
     ensures before { IsTrusted (state S.Store conn.new) → IsTrusted (state S.Store conn.old) }
+    ensures lasts { Lasts (state S.Store conn.old) (state S.Store conn.new) }
+    ensures open { HasCleanDisk (state S.Store conn.new) → IsTrusted (state S.Store conn.old) → OnOk result (IsTrusted (state S.Store conn.new)) }
     ensures same { IsTrusted (state S.Store conn.new) → Same (state S.Store conn.old) (state S.Store conn.new) }
     ensures loaded { IsTrusted (state S.Store conn.new) → IfOk result (λ letters. letters.items ≡ letters_within (kept_rows ((state S.Store conn.new).now.trees 1)) sender from to) }
 {
@@ -119,6 +128,8 @@ fn add_letter<S: Alter>(
     requires inside { IsTrusted (state S.Store tx.old.conn.now) → IsInside (state S.Store tx.old.conn.now) }
     ensures same_reference { tx.new.conn.ghost_name ≡ tx.old.conn.ghost_name }
     ensures before { IsTrusted (state S.Store tx.new.conn.now) → IsTrusted (state S.Store tx.old.conn.now) }
+    ensures lasts { Lasts (state S.Store tx.old.conn.now) (state S.Store tx.new.conn.now) }
+    ensures open { HasCleanDisk (state S.Store tx.new.conn.now) → IsTrusted (state S.Store tx.old.conn.now) → OnOk result (IsTrusted (state S.Store tx.new.conn.now)) }
     ensures on { IsTrusted (state S.Store tx.new.conn.now) → OnOk result (WentOn (state S.Store tx.old.conn.now) (state S.Store tx.new.conn.now)) }
     ensures added { IsTrusted (state S.Store tx.new.conn.now) → OnOk result (AddsLetter (state S.Store tx.old.conn.now).now.trees (state S.Store tx.new.conn.now).now.trees sender number text.now) }
     ensures err { IsTrusted (state S.Store tx.new.conn.now) → OnErr result ((state S.Store tx.new.conn.now).committed ≡ (state S.Store tx.old.conn.now).committed) }
@@ -138,6 +149,8 @@ pub fn keep<S: Alter>(
 ) -> Result<(), KeepFault>
     requires ours { IsTrusted (state S.Store conn.old) → IsOurs (state S.Store conn.old) }
     ensures before { IsTrusted (state S.Store conn.new) → IsTrusted (state S.Store conn.old) }
+    ensures lasts { Lasts (state S.Store conn.old) (state S.Store conn.new) }
+    ensures open { HasCleanDisk (state S.Store conn.new) → IsTrusted (state S.Store conn.old) → OnOk result (IsTrusted (state S.Store conn.new)) }
     ensures ours { IsTrusted (state S.Store conn.new) → IsOurs (state S.Store conn.new) }
     ensures kept { IsTrusted (state S.Store conn.new) → OnOk result (AddsLetter (state S.Store conn.old).now.trees (state S.Store conn.new).now.trees sender number text.now) }
     ensures err { IsTrusted (state S.Store conn.new) → OnErr result ((state S.Store conn.new).now ≡ (state S.Store conn.old).now) }

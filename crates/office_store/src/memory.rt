@@ -1,10 +1,13 @@
 //! A keeper in memory.
-ghost use Rattle.std.specs.Prelude.{◌≡◌, ◌++◌, [], ⊤, IfOk, IfErr, OnOk};
-ghost use Rattle.std.specs.List.{cons_option};
+ghost use Rattle.std.specs.Prelude.{◌≡◌, ◌≤◌, [], ⊤, map, IfOk, IfErr};
+ghost use Rattle.std.specs.BTreeMap.{IsOrdered};
+ghost use Rattle.std.specs.BTreeMap.Range.{entries_between};
+ghost use Rattle.std.specs.declared.ops.Bound.TheVariants.{Included};
+ghost use Rattle.office_mail.specs.Kept.{place_cmp};
 ghost use Rattle.std.specs.FinMap.{get};
 ghost use Rattle.std.specs.Option.{option_copied};
-ghost use Rattle.office_store.specs.Content.{letter_at, letters_within, item_from_one};
-ghost use Rattle.office_store.specs.Shelf.{text_at, kept_in, content_of};
+ghost use Rattle.office_store.specs.Content.{letters_within, item_from_one};
+ghost use Rattle.office_store.specs.Shelf.{kept_in, letter_of, content_of};
 
 use crate::faults::KeepFault;
 use crate::keeping::Keeper;
@@ -12,23 +15,16 @@ use crate::values::{Finished, Letter, MailText, Reports};
 use deb_control::NoMemory;
 use office_mail::Setup;
 use std::alloc::Global;
+use std::collections::BTreeMap;
 use std::marker::Model;
 use testing_rules::Testing;
 
-/// A kept text.
-#[derive(Drop)]
-pub struct Mail {
-    pub sender: u32,
-    pub number: u32,
-    pub text: MailText,
-}
-
-/// Kept mail, reports and testing in vectors. It fails for want of memory alone.
+/// Kept mail by sender and number, with reports and testing. It fails for want of memory alone.
 #[derive(Drop)]
 pub struct Plain {
     alloc: Global,
     setup: Setup,
-    mail: Vec<Mail>,
+    mail: BTreeMap<(u32, u32), MailText>,
     runs: Vec<Reports>,
     testing: Testing,
 }
@@ -38,7 +34,7 @@ impl Model for Plain {
 
     ghost Value = { Shelf };
 
-    ghost view = { λ a. record { setup = a.setup; mail = a.mail.items; runs = a.runs.items; testing = a.testing } };
+    ghost view = { λ a. record { setup = a.setup; mail = a.mail.entries; runs = a.runs.items; testing = a.testing } };
 
     ghost invariant = { λ a. IsShelf a.setup a.runs.items a.testing };
 }
@@ -51,76 +47,67 @@ impl Plain {
         Ok(Plain {
             alloc,
             setup: setup.copy(alloc)?,
-            mail: Vec::new(alloc),
+            mail: BTreeMap::new(alloc),
             runs: Vec::new(alloc),
             testing: Testing::new(alloc),
         })
     }
 }
 
-/// The text at a place, or none.
-fn find_text<'a>(mail: &'a [Mail], sender: u32, number: u32) -> Option<&'a MailText>
-    ensures { option_copied result ≡ text_at (sender, number) mail.now }
-{
-    for m in mail {
-        if m.sender == sender && m.number == number {
-            return Some(&m.text);
-        }
-    }
-    None
-}
-
 /// A copy of the text at a place, or none.
 fn copy_text(
     alloc: Global,
-    mail: &[Mail],
+    mail: &BTreeMap<(u32, u32), MailText>,
     sender: u32,
     number: u32,
 ) -> Result<Option<MailText>, KeepFault>
-    ensures found { IfOk result (λ text. text ≡ get (kept_in mail.now) (sender, number)) }
+    ensures found { IfOk result (λ text. text ≡ get (kept_in mail.now.entries) (sender, number)) }
     ensures no_store { IfErr result (λ fault. fault ≡ KeepFault.NoMemory) }
 {
-    match find_text(mail, sender, number) {
+    match mail.get(&(sender, number)) {
         None => Ok(None),
         Some(text) => Ok(Some(MailText::copy_of(alloc, text.as_slice())?)),
     }
 }
 
-/// The letter under a number comes in, where there is one.
-fn push_letter(
+/// The letters of a sender from one number to another, by number, where the first isn't above the second.
+fn letters_between(
     alloc: Global,
-    letters: &mut Vec<Letter>,
-    mail: &[Mail],
-    sender: u32,
-    number: u32,
-) -> Result<(), KeepFault>
-    ensures pushed { OnOk result (letters.new.items ≡ letters.old.items ++ cons_option (letter_at (kept_in mail.now) sender number) []) }
-    ensures no_store { IfErr result (λ fault. fault ≡ KeepFault.NoMemory) }
-{
-    if let Some(text) = copy_text(alloc, mail, sender, number)? {
-        letters.push(Letter { number, text })?;
-    }
-    Ok(())
-}
-
-/// The letters of a sender from one number to another, by number.
-#[tactic(auto, unfolding(crate::specs::Content::letters_within))]
-fn letters_of(
-    alloc: Global,
-    mail: &[Mail],
+    mail: &BTreeMap<(u32, u32), MailText>,
     sender: u32,
     from: u32,
     to: u32,
 ) -> Result<Vec<Letter>, KeepFault>
-    ensures loaded { IfOk result (λ letters. letters.items ≡ letters_within (kept_in mail.now) sender from to) }
+    requires { from ≤ to }
+    ensures loaded { IfOk result (λ letters. letters.items ≡ map letter_of (entries_between place_cmp (Included (sender, from)) (Included (sender, to)) mail.now.entries)) }
+    ensures ordered { IsOrdered place_cmp mail.now }
     ensures no_store { IfErr result (λ fault. fault ≡ KeepFault.NoMemory) }
 {
     let mut letters = Vec::new(alloc);
-    let end = to as u64 + 1;
-    'numbers: for number in from as u64..end {
-        push_letter(alloc, &mut letters, mail, sender, number as u32)?;
+    'places: for (place, text) in mail.range((sender, from)..=(sender, to)) {
+        letters.push(Letter {
+            number: place.1,
+            text: MailText::copy_of(alloc, text.as_slice())?,
+        })?;
     }
     Ok(letters)
+}
+
+/// The letters of a sender from one number to another, by number.
+fn letters_of(
+    alloc: Global,
+    mail: &BTreeMap<(u32, u32), MailText>,
+    sender: u32,
+    from: u32,
+    to: u32,
+) -> Result<Vec<Letter>, KeepFault>
+    ensures loaded { IfOk result (λ letters. letters.items ≡ letters_within (kept_in mail.now.entries) sender from to) }
+    ensures no_store { IfErr result (λ fault. fault ≡ KeepFault.NoMemory) }
+{
+    if from > to {
+        return Ok(Vec::new(alloc));
+    }
+    letters_between(alloc, mail, sender, from, to)
 }
 
 /// The reports of a run counted from 1, or none.
@@ -155,11 +142,7 @@ impl Keeper for Plain {
 
     fn keep(&mut self, sender: u32, number: u32, text: &[u8]) -> Result<(), KeepFault> {
         let text = MailText::copy_of(self.alloc, text)?;
-        self.mail.push(Mail {
-            sender,
-            number,
-            text,
-        })?;
+        self.mail.insert((sender, number), text)?;
         Ok(())
     }
 

@@ -1,25 +1,30 @@
 //! A keeper over sqlite's tables.
-ghost use Rattle.std.specs.Prelude.{◌≡◌, ◌≢◌, IfOk, IfErr, OnOk, OnErr, None, Some, Err, option_map};
+ghost use Rattle.std.specs.Prelude.{◌≡◌, ◌≢◌, ◌+◌, ◌++◌, ◌∷◌, [], length, IfOk, IfErr, OnOk, OnErr, None, Some, Err};
 ghost use Rattle.std.specs.FinMap.{get, insert};
 ghost use Rattle.sqlite.specs.Held.{state};
-ghost use Rattle.office_store.specs.Tables.{IsTrusted, IsOurs, IsCrowded, kept_rows, said_in, run_map};
+ghost use Rattle.sqlite.specs.State.{HasCleanDisk};
+ghost use Rattle.office_store.specs.Holdings.{content_in, count_said};
+ghost use Rattle.office_store.specs.Given.{KnowsArchs, IsGiven};
+ghost use Rattle.office_store.specs.Tables.{IsTrusted, Lasts, IsOurs, IsCrowded, kept_rows, said_in};
 ghost use Rattle.office_store.specs.Keeping.{Counted};
-ghost use Rattle.office_store.specs.Content.{letters_within};
-ghost use Rattle.office_store.specs.Creating.{IsBlank};
+ghost use Rattle.office_store.specs.Content.{letters_within, item_from_one, with_run, reports_in};
 ghost use Rattle.office_store.specs.Finishing.{FinishesRun};
 ghost use Rattle.office_store.specs.declared.faults.Cause.{Cause};
 
 use crate::faults::KeepFault;
 use crate::values::{Finished, Letter, MailText, Reports};
-use crate::{finishing, mail, runs, schema};
+use crate::{entries, finishing, mail, runs};
+use office_mail::Setup;
 use sqlite::{Alter, Connection};
 use std::alloc::Global;
 use std::marker::Model;
+use testing_rules::Testing;
 
 /// The office's tables over a connection.
 pub struct Tables<S: Alter> {
     alloc: Global,
     conn: Connection<S>,
+    setup: Setup,
     refusals: u64,
 }
 
@@ -28,12 +33,14 @@ impl<S: Alter> Model for Tables<S> {
     ghost use Rattle.std.specs.Coded.{coded×, coded_ℕ};
     ghost use Rattle.sqlite.specs.Held.{Held, held_code, state};
     ghost use Rattle.office_store.specs.Tables.{IsTrusted, IsOurs};
+    ghost use Rattle.office_mail.specs.Lists.{Lists};
+    ghost use Rattle.office_mail.specs.contracts.setup.Setup as setup_of;
 
-    ghost Value = { Held S × ℕ };
+    ghost Value = { Held S × (Lists × ℕ) };
 
-    ghost coded = { coded× (held_code S.code) coded_ℕ };
+    ghost coded = { coded× (held_code S.code) (coded× setup_of.the_row.coded coded_ℕ) };
 
-    ghost view = { λ t. (t.conn, t.refusals) };
+    ghost view = { λ t. (t.conn, (t.setup, t.refusals)) };
 
     ghost invariant = { λ t. IsTrusted (state S.Store t.conn) → IsOurs (state S.Store t.conn) };
 }
@@ -50,37 +57,15 @@ fn count<T>(refusals: &mut u64, answer: Result<T, KeepFault>) -> Result<T, KeepF
 }
 
 impl<S: Alter> Tables<S> {
-    /// The tables of an office in a fresh database, with this setup's text, no mail and no run. A refusal hands the
-    /// connection back and leaves the database as it was: a database that has tables, and a connection in a
-    /// transaction, are refused.
-    pub fn create(
-        alloc: Global,
-        conn: Connection<S>,
-        setup: &str,
-    ) -> Result<Tables<S>, (KeepFault, Connection<S>)>
-        ensures blank { IfOk result (λ tables. IsTrusted (state S.Store tables.0) → IsBlank (state S.Store tables.0).now.trees (record { schema = 0; setup = setup.now; finished = 0 })) }
-        ensures count { IfOk result (λ tables. tables.1 ≡ 0) }
-        ensures err { IfErr result (λ refused. IsTrusted (state S.Store refused.1) → (state S.Store refused.1).now ≡ (state S.Store conn).now) }
-    {
-        let mut conn = conn;
-        match schema::create(&mut conn, setup) {
-            Ok(()) => Ok(Tables {
-                alloc,
-                conn,
-                refusals: 0,
-            }),
-            Err(fault) => Err((fault, conn)),
-        }
-    }
-
     /// The office's tables over a connection that has them, and no others.
-    pub fn over(alloc: Global, conn: Connection<S>) -> Tables<S>
+    pub fn over(alloc: Global, conn: Connection<S>, setup: Setup) -> Tables<S>
         requires { IsTrusted (state S.Store conn) → IsOurs (state S.Store conn) }
-        ensures { result ≡ (conn, 0) }
+        ensures { result ≡ (conn, (setup, 0)) }
     {
         Tables {
             alloc,
             conn,
+            setup,
             refusals: 0,
         }
     }
@@ -93,6 +78,7 @@ impl<S: Alter> Tables<S> {
         let Tables {
             alloc: _,
             conn,
+            setup: _,
             refusals: _,
         } = self;
         conn
@@ -103,8 +89,11 @@ impl<S: Alter> Tables<S> {
         ensures found { IsTrusted (state S.Store self.new.0) → IfOk result (λ text. text ≡ get (kept_rows ((state S.Store self.new.0).now.trees 1)) (sender, number)) }
         ensures same { IsTrusted (state S.Store self.new.0) → (state S.Store self.new.0).now ≡ (state S.Store self.old.0).now }
         ensures before { IsTrusted (state S.Store self.new.0) → IsTrusted (state S.Store self.old.0) }
+        ensures setup { self.new.1.0 ≡ self.old.1.0 }
+        ensures lasts { Lasts (state S.Store self.old.0) (state S.Store self.new.0) }
+        ensures open { HasCleanDisk (state S.Store self.new.0) → IsTrusted (state S.Store self.old.0) → OnOk result (IsTrusted (state S.Store self.new.0)) }
         ensures bad { IsTrusted (state S.Store self.new.0) → result ≡ Err (KeepFault.Store Cause.BadRow) → IsCrowded ((state S.Store self.new.0).now.trees 1) }
-        ensures counted { Counted self.old.1 self.new.1 result }
+        ensures counted { Counted self.old.1.1 self.new.1.1 result }
     {
         count(
             &mut self.refusals,
@@ -118,7 +107,10 @@ impl<S: Alter> Tables<S> {
         ensures loaded { IsTrusted (state S.Store self.new.0) → IfOk result (λ letters. letters.items ≡ letters_within (kept_rows ((state S.Store self.new.0).now.trees 1)) sender from to) }
         ensures same { IsTrusted (state S.Store self.new.0) → (state S.Store self.new.0).now ≡ (state S.Store self.old.0).now }
         ensures before { IsTrusted (state S.Store self.new.0) → IsTrusted (state S.Store self.old.0) }
-        ensures counted { Counted self.old.1 self.new.1 result }
+        ensures setup { self.new.1.0 ≡ self.old.1.0 }
+        ensures lasts { Lasts (state S.Store self.old.0) (state S.Store self.new.0) }
+        ensures open { HasCleanDisk (state S.Store self.new.0) → IsTrusted (state S.Store self.old.0) → OnOk result (IsTrusted (state S.Store self.new.0)) }
+        ensures counted { Counted self.old.1.1 self.new.1.1 result }
     {
         count(
             &mut self.refusals,
@@ -128,30 +120,59 @@ impl<S: Alter> Tables<S> {
 
     /// How many runs are finished.
     pub fn finished(&mut self) -> Result<u32, KeepFault>
-        ensures value { IsTrusted (state S.Store self.new.0) → IfOk result (λ n. Some n ≡ option_map (λ said. said.finished) (said_in ((state S.Store self.new.0).now.trees 0))) }
+        ensures value { IsTrusted (state S.Store self.new.0) → IfOk result (λ n. n ≡ count_said (said_in ((state S.Store self.new.0).now.trees 0))) }
         ensures same { IsTrusted (state S.Store self.new.0) → (state S.Store self.new.0).now ≡ (state S.Store self.old.0).now }
         ensures before { IsTrusted (state S.Store self.new.0) → IsTrusted (state S.Store self.old.0) }
-        ensures counted { Counted self.old.1 self.new.1 result }
+        ensures setup { self.new.1.0 ≡ self.old.1.0 }
+        ensures lasts { Lasts (state S.Store self.old.0) (state S.Store self.new.0) }
+        ensures open { HasCleanDisk (state S.Store self.new.0) → IsTrusted (state S.Store self.old.0) → OnOk result (IsTrusted (state S.Store self.new.0)) }
+        ensures counted { Counted self.old.1.1 self.new.1.1 result }
     {
         count(&mut self.refusals, runs::finished(&mut self.conn))
     }
 
-    /// The reports that stand under a run's number, or none.
+    /// The two reports of a finished run; none of another.
     pub fn reports(&mut self, run: u32) -> Result<Option<Reports>, KeepFault>
-        ensures value { IsTrusted (state S.Store self.new.0) → IfOk result (λ reports. reports ≡ get (run_map ((state S.Store self.new.0).now.trees 3)) run) }
+        ensures value { IsTrusted (state S.Store self.new.0) → IfOk result (λ reports. reports ≡ item_from_one run (content_in self.old.1.0 (state S.Store self.old.0).now.trees).reports) }
         ensures same { IsTrusted (state S.Store self.new.0) → (state S.Store self.new.0).now ≡ (state S.Store self.old.0).now }
         ensures before { IsTrusted (state S.Store self.new.0) → IsTrusted (state S.Store self.old.0) }
-        ensures counted { Counted self.old.1 self.new.1 result }
+        ensures setup { self.new.1.0 ≡ self.old.1.0 }
+        ensures lasts { Lasts (state S.Store self.old.0) (state S.Store self.new.0) }
+        ensures open { HasCleanDisk (state S.Store self.new.0) → IsTrusted (state S.Store self.old.0) → OnOk result (IsTrusted (state S.Store self.new.0)) }
+        ensures counted { Counted self.old.1.1 self.new.1.1 result }
     {
         count(&mut self.refusals, runs::reports(&mut self.conn, run))
     }
 
+    /// The testing suite, as its entries and the kept mail name it. It has architectures of the setup and `all` alone,
+    /// whatever the tables say.
+    pub fn testing(&mut self) -> Result<Testing, KeepFault>
+        ensures value { IsTrusted (state S.Store self.new.0) → IfOk result (λ testing. testing ≡ (content_in self.old.1.0 (state S.Store self.old.0).now.trees).testing) }
+        ensures archs { IfOk result (λ testing. KnowsArchs self.old.1.0.archs testing.rows) }
+        ensures same { IsTrusted (state S.Store self.new.0) → (state S.Store self.new.0).now ≡ (state S.Store self.old.0).now }
+        ensures before { IsTrusted (state S.Store self.new.0) → IsTrusted (state S.Store self.old.0) }
+        ensures setup { self.new.1.0 ≡ self.old.1.0 }
+        ensures lasts { Lasts (state S.Store self.old.0) (state S.Store self.new.0) }
+        ensures open { HasCleanDisk (state S.Store self.new.0) → IsTrusted (state S.Store self.old.0) → OnOk result (IsTrusted (state S.Store self.new.0)) }
+        ensures counted { Counted self.old.1.1 self.new.1.1 result }
+    {
+        count(
+            &mut self.refusals,
+            entries::testing(self.alloc, &mut self.conn, &self.setup),
+        )
+    }
+
     /// Makes a run finished, all its tables at once.
     pub fn finish(&mut self, run: u32, done: &Finished) -> Result<(), KeepFault>
+        ensures content { IsTrusted (state S.Store self.new.0) → run ≡ length (content_in self.old.1.0 (state S.Store self.old.0).now.trees).reports + 1 → IsGiven self.old.1.0 (content_in self.old.1.0 (state S.Store self.old.0).now.trees) done.now.testing → OnOk result (content_in self.old.1.0 (state S.Store self.new.0).now.trees ≡ with_run (content_in self.old.1.0 (state S.Store self.old.0).now.trees) done.now) }
+        ensures reports { IsTrusted (state S.Store self.new.0) → run ≡ length (content_in self.old.1.0 (state S.Store self.old.0).now.trees).reports + 1 → OnOk result ((content_in self.old.1.0 (state S.Store self.new.0).now.trees).reports ≡ (content_in self.old.1.0 (state S.Store self.old.0).now.trees).reports ++ reports_in done.now ∷ []) }
         ensures done { IsTrusted (state S.Store self.new.0) → OnOk result (FinishesRun (state S.Store self.old.0).now.trees (state S.Store self.new.0).now.trees run done.now) }
         ensures err { IsTrusted (state S.Store self.new.0) → OnErr result ((state S.Store self.new.0).now ≡ (state S.Store self.old.0).now) }
         ensures before { IsTrusted (state S.Store self.new.0) → IsTrusted (state S.Store self.old.0) }
-        ensures counted { Counted self.old.1 self.new.1 result }
+        ensures setup { self.new.1.0 ≡ self.old.1.0 }
+        ensures lasts { Lasts (state S.Store self.old.0) (state S.Store self.new.0) }
+        ensures open { HasCleanDisk (state S.Store self.new.0) → IsTrusted (state S.Store self.old.0) → OnOk result (IsTrusted (state S.Store self.new.0)) }
+        ensures counted { Counted self.old.1.1 self.new.1.1 result }
     {
         count(
             &mut self.refusals,
@@ -163,10 +184,14 @@ impl<S: Alter> Tables<S> {
     pub fn keep(&mut self, sender: u32, number: u32, text: &[u8]) -> Result<(), KeepFault>
         requires free { IsTrusted (state S.Store self.old.0) → get (kept_rows ((state S.Store self.old.0).now.trees 1)) (sender, number) ≡ None }
         ensures kept { IsTrusted (state S.Store self.new.0) → OnOk result (kept_rows ((state S.Store self.new.0).now.trees 1) ≡ insert (kept_rows ((state S.Store self.old.0).now.trees 1)) (sender, number) text.now) }
+        ensures reports { IsTrusted (state S.Store self.new.0) → (content_in self.old.1.0 (state S.Store self.new.0).now.trees).reports ≡ (content_in self.old.1.0 (state S.Store self.old.0).now.trees).reports }
         ensures err { IsTrusted (state S.Store self.new.0) → OnErr result ((state S.Store self.new.0).now ≡ (state S.Store self.old.0).now) }
         ensures before { IsTrusted (state S.Store self.new.0) → IsTrusted (state S.Store self.old.0) }
+        ensures setup { self.new.1.0 ≡ self.old.1.0 }
+        ensures lasts { Lasts (state S.Store self.old.0) (state S.Store self.new.0) }
+        ensures open { HasCleanDisk (state S.Store self.new.0) → IsTrusted (state S.Store self.old.0) → OnOk result (IsTrusted (state S.Store self.new.0)) }
         ensures bad { result ≢ Err (KeepFault.Store Cause.BadRow) }
-        ensures counted { Counted self.old.1 self.new.1 result }
+        ensures counted { Counted self.old.1.1 self.new.1.1 result }
     {
         count(
             &mut self.refusals,

@@ -1,11 +1,17 @@
 //! The tables of the office and of its finished runs.
-ghost use Rattle.std.specs.Prelude.{◌≡◌, ◌∷◌, [], Some, pos, map, filter, option_map, IfOk, OnOk, OnErr};
+ghost use Rattle.std.specs.Prelude.{◌≡◌, ◌≢◌, ◌<◌, Err, ◌∷◌, [], Some, pos, map, filter, IfOk, OnOk, OnErr};
 ghost use Rattle.std.specs.List.Sorted.{IsPermutation};
 ghost use Rattle.std.specs.FinMap.{get};
+ghost use Rattle.std.specs.Str.{IsUtf8};
+ghost use Rattle.office_store.specs.Legible.{SaysOnce};
+ghost use Rattle.office_store.specs.Content.{item_from_one};
+ghost use Rattle.office_store.specs.Holdings.{reports_to, count_said};
+ghost use Rattle.office_store.specs.declared.values.Said.{Said as SaidNow};
 ghost use Rattle.sqlite.specs.Order.{column};
 ghost use Rattle.sqlite.specs.declared.types.Value.TheVariants.{Int, Text as Words};
 ghost use Rattle.sqlite.specs.Held.{state};
-ghost use Rattle.office_store.specs.Tables.{IsTrusted, IsOurs, Same, IsInside, WentOn, IsOnlyOffice, IsOnlyRun, AddsRun, Silences, SaysMore, RecordsRun, office_columns, said_in as said_rows, is_run, run_columns, run_map};
+ghost use Rattle.sqlite.specs.State.{HasCleanDisk};
+ghost use Rattle.office_store.specs.Tables.{IsTrusted, Lasts, IsOurs, Same, IsInside, WentOn, IsOnlyOffice, IsOnlyRun, AddsRun, Silences, SaysMore, RecordsRun, office_columns, said_in as said_rows, is_run, run_columns, run_map};
 
 use crate::faults::{Cause, KeepFault, unread};
 use crate::values::{Reports, Said};
@@ -14,6 +20,7 @@ use sqlite::{Alter, Connection, Error, Row, Transaction, params};
 
 /// What a row of the office says, whose id is 1.
 fn said_in(row: &Row) -> Result<Said, KeepFault>
+    ensures bad { result ≡ Err (KeepFault.Store Cause.BadRow) → (said : SaidNow) → said.schema < 4_294_967_296 → said.finished < 4_294_967_296 → IsUtf8 said.setup → row.now ≢ Int (pos 1) ∷ Int (pos said.schema) ∷ Words said.setup ∷ Int (pos said.finished) ∷ [] }
     ensures ok { IfOk result (λ said. (column row.now 0 ≡ Int (pos 1)) × (column row.now 1 ≡ Int (pos said.schema)) × (column row.now 2 ≡ Words said.setup) × (column row.now 3 ≡ Int (pos said.finished))) }
 {
     let id: u32 = row.get(0).map_err(unread)?;
@@ -33,6 +40,7 @@ fn said_in(row: &Row) -> Result<Said, KeepFault>
 /// What the only row says.
 fn only_said(rows: &[Row]) -> Result<Said, KeepFault>
     ensures ok { IfOk result (λ said. IsOnlyOffice said rows.now) }
+    ensures bad { result ≡ Err (KeepFault.Store Cause.BadRow) → (said : SaidNow) → said.schema < 4_294_967_296 → said.finished < 4_294_967_296 → IsUtf8 said.setup → rows.now ≢ (Int (pos 1) ∷ Int (pos said.schema) ∷ Words said.setup ∷ Int (pos said.finished) ∷ []) ∷ [] }
 {
     match rows {
         [row] => said_in(row),
@@ -41,9 +49,11 @@ fn only_said(rows: &[Row]) -> Result<Said, KeepFault>
 }
 
 /// The rows of the office, in any order.
-fn office_rows<S: Alter>(conn: &mut Connection<S>) -> Result<Vec<Row>, Error>
+pub(crate) fn office_rows<S: Alter>(conn: &mut Connection<S>) -> Result<Vec<Row>, Error>
     requires ours { IsTrusted (state S.Store conn.old) → IsOurs (state S.Store conn.old) }
     ensures before { IsTrusted (state S.Store conn.new) → IsTrusted (state S.Store conn.old) }
+    ensures lasts { Lasts (state S.Store conn.old) (state S.Store conn.new) }
+    ensures open { HasCleanDisk (state S.Store conn.new) → IsTrusted (state S.Store conn.old) → OnOk result (IsTrusted (state S.Store conn.new)) }
     ensures same { IsTrusted (state S.Store conn.new) → Same (state S.Store conn.old) (state S.Store conn.new) }
     ensures rows { IsTrusted (state S.Store conn.new) → IfOk result (λ rows. IsPermutation (map office_columns ((state S.Store conn.new).now.trees 0)) rows.items) }
 {
@@ -54,8 +64,11 @@ fn office_rows<S: Alter>(conn: &mut Connection<S>) -> Result<Vec<Row>, Error>
 pub(crate) fn said<S: Alter>(conn: &mut Connection<S>) -> Result<Said, KeepFault>
     requires ours { IsTrusted (state S.Store conn.old) → IsOurs (state S.Store conn.old) }
     ensures before { IsTrusted (state S.Store conn.new) → IsTrusted (state S.Store conn.old) }
+    ensures lasts { Lasts (state S.Store conn.old) (state S.Store conn.new) }
+    ensures open { HasCleanDisk (state S.Store conn.new) → IsTrusted (state S.Store conn.old) → OnOk result (IsTrusted (state S.Store conn.new)) }
     ensures same { IsTrusted (state S.Store conn.new) → Same (state S.Store conn.old) (state S.Store conn.new) }
     ensures value { IsTrusted (state S.Store conn.new) → IfOk result (λ said. said_rows ((state S.Store conn.new).now.trees 0) ≡ Some said) }
+    ensures bad { IsTrusted (state S.Store conn.new) → SaysOnce ((state S.Store conn.new).now.trees 0) → result ≢ Err (KeepFault.Store Cause.BadRow) }
 {
     let rows = office_rows(conn)?;
     only_said(rows.as_slice())
@@ -65,8 +78,11 @@ pub(crate) fn said<S: Alter>(conn: &mut Connection<S>) -> Result<Said, KeepFault
 pub fn finished<S: Alter>(conn: &mut Connection<S>) -> Result<u32, KeepFault>
     requires ours { IsTrusted (state S.Store conn.old) → IsOurs (state S.Store conn.old) }
     ensures before { IsTrusted (state S.Store conn.new) → IsTrusted (state S.Store conn.old) }
+    ensures lasts { Lasts (state S.Store conn.old) (state S.Store conn.new) }
+    ensures open { HasCleanDisk (state S.Store conn.new) → IsTrusted (state S.Store conn.old) → OnOk result (IsTrusted (state S.Store conn.new)) }
     ensures same { IsTrusted (state S.Store conn.new) → Same (state S.Store conn.old) (state S.Store conn.new) }
-    ensures value { IsTrusted (state S.Store conn.new) → IfOk result (λ n. Some n ≡ option_map (λ said. said.finished) (said_rows ((state S.Store conn.new).now.trees 0))) }
+    ensures value { IsTrusted (state S.Store conn.new) → IfOk result (λ n. n ≡ count_said (said_rows ((state S.Store conn.new).now.trees 0))) }
+    ensures bad { IsTrusted (state S.Store conn.new) → SaysOnce ((state S.Store conn.new).now.trees 0) → result ≢ Err (KeepFault.Store Cause.BadRow) }
 {
     let said = said(conn)?;
     Ok(said.finished)
@@ -103,6 +119,8 @@ fn only_reports(rows: &[Row], run: u32) -> Result<Option<Reports>, KeepFault>
 fn run_rows<S: Alter>(conn: &mut Connection<S>, run: u32) -> Result<Vec<Row>, Error>
     requires ours { IsTrusted (state S.Store conn.old) → IsOurs (state S.Store conn.old) }
     ensures before { IsTrusted (state S.Store conn.new) → IsTrusted (state S.Store conn.old) }
+    ensures lasts { Lasts (state S.Store conn.old) (state S.Store conn.new) }
+    ensures open { HasCleanDisk (state S.Store conn.new) → IsTrusted (state S.Store conn.old) → OnOk result (IsTrusted (state S.Store conn.new)) }
     ensures same { IsTrusted (state S.Store conn.new) → Same (state S.Store conn.old) (state S.Store conn.new) }
     ensures rows { IsTrusted (state S.Store conn.new) → IfOk result (λ rows. IsPermutation (map run_columns (filter (is_run run) ((state S.Store conn.new).now.trees 3))) rows.items) }
 {
@@ -113,14 +131,38 @@ fn run_rows<S: Alter>(conn: &mut Connection<S>, run: u32) -> Result<Vec<Row>, Er
 }
 
 /// The reports that stand under a run's number, or none.
-pub fn reports<S: Alter>(conn: &mut Connection<S>, run: u32) -> Result<Option<Reports>, KeepFault>
+fn recorded<S: Alter>(conn: &mut Connection<S>, run: u32) -> Result<Option<Reports>, KeepFault>
     requires ours { IsTrusted (state S.Store conn.old) → IsOurs (state S.Store conn.old) }
     ensures before { IsTrusted (state S.Store conn.new) → IsTrusted (state S.Store conn.old) }
+    ensures lasts { Lasts (state S.Store conn.old) (state S.Store conn.new) }
+    ensures open { HasCleanDisk (state S.Store conn.new) → IsTrusted (state S.Store conn.old) → OnOk result (IsTrusted (state S.Store conn.new)) }
     ensures same { IsTrusted (state S.Store conn.new) → Same (state S.Store conn.old) (state S.Store conn.new) }
     ensures value { IsTrusted (state S.Store conn.new) → IfOk result (λ reports. reports ≡ get (run_map ((state S.Store conn.new).now.trees 3)) run) }
 {
     let rows = run_rows(conn, run)?;
     only_reports(rows.as_slice(), run)
+}
+
+/// The two reports of a finished run; none of another.
+pub fn reports<S: Alter>(conn: &mut Connection<S>, run: u32) -> Result<Option<Reports>, KeepFault>
+    requires ours { IsTrusted (state S.Store conn.old) → IsOurs (state S.Store conn.old) }
+    ensures before { IsTrusted (state S.Store conn.new) → IsTrusted (state S.Store conn.old) }
+    ensures lasts { Lasts (state S.Store conn.old) (state S.Store conn.new) }
+    ensures open { HasCleanDisk (state S.Store conn.new) → IsTrusted (state S.Store conn.old) → OnOk result (IsTrusted (state S.Store conn.new)) }
+    ensures same { IsTrusted (state S.Store conn.new) → Same (state S.Store conn.old) (state S.Store conn.new) }
+    ensures value { IsTrusted (state S.Store conn.new) → IfOk result (λ reports. reports ≡ item_from_one run (reports_to (run_map ((state S.Store conn.new).now.trees 3)) (count_said (said_rows ((state S.Store conn.new).now.trees 0))))) }
+{
+    if run == 0 {
+        return Ok(None);
+    }
+    let said = said(conn)?;
+    if said.finished < run {
+        return Ok(None);
+    }
+    match recorded(conn, run)? {
+        Some(reports) => Ok(Some(reports)),
+        None => Err(KeepFault::Store(Cause::BadRow)),
+    }
 }
 
 /// Adds the reports of a run.
@@ -133,6 +175,8 @@ fn add_run<S: Alter>(
     requires inside { IsTrusted (state S.Store tx.old.conn.now) → IsInside (state S.Store tx.old.conn.now) }
     ensures same_reference { tx.new.conn.ghost_name ≡ tx.old.conn.ghost_name }
     ensures before { IsTrusted (state S.Store tx.new.conn.now) → IsTrusted (state S.Store tx.old.conn.now) }
+    ensures lasts { Lasts (state S.Store tx.old.conn.now) (state S.Store tx.new.conn.now) }
+    ensures open { HasCleanDisk (state S.Store tx.new.conn.now) → IsTrusted (state S.Store tx.old.conn.now) → OnOk result (IsTrusted (state S.Store tx.new.conn.now)) }
     ensures on { IsTrusted (state S.Store tx.new.conn.now) → OnOk result (WentOn (state S.Store tx.old.conn.now) (state S.Store tx.new.conn.now)) }
     ensures added { IsTrusted (state S.Store tx.new.conn.now) → OnOk result (AddsRun (state S.Store tx.old.conn.now).now.trees (state S.Store tx.new.conn.now).now.trees number (record { excuses = excuses.now; updates = updates.now })) }
     ensures err { IsTrusted (state S.Store tx.new.conn.now) → OnErr result ((state S.Store tx.new.conn.now).committed ≡ (state S.Store tx.old.conn.now).committed) }
@@ -148,6 +192,8 @@ fn clear_office<S: Alter>(tx: &mut Transaction<'_, S>) -> Result<usize, Error>
     requires inside { IsTrusted (state S.Store tx.old.conn.now) → IsInside (state S.Store tx.old.conn.now) }
     ensures same_reference { tx.new.conn.ghost_name ≡ tx.old.conn.ghost_name }
     ensures before { IsTrusted (state S.Store tx.new.conn.now) → IsTrusted (state S.Store tx.old.conn.now) }
+    ensures lasts { Lasts (state S.Store tx.old.conn.now) (state S.Store tx.new.conn.now) }
+    ensures open { HasCleanDisk (state S.Store tx.new.conn.now) → IsTrusted (state S.Store tx.old.conn.now) → OnOk result (IsTrusted (state S.Store tx.new.conn.now)) }
     ensures on { IsTrusted (state S.Store tx.new.conn.now) → OnOk result (WentOn (state S.Store tx.old.conn.now) (state S.Store tx.new.conn.now)) }
     ensures cleared { IsTrusted (state S.Store tx.new.conn.now) → OnOk result (Silences (state S.Store tx.old.conn.now).now.trees (state S.Store tx.new.conn.now).now.trees) }
     ensures err { IsTrusted (state S.Store tx.new.conn.now) → OnErr result ((state S.Store tx.new.conn.now).committed ≡ (state S.Store tx.old.conn.now).committed) }
@@ -165,6 +211,8 @@ pub(crate) fn add_office<S: Alter>(
     requires inside { IsTrusted (state S.Store tx.old.conn.now) → IsInside (state S.Store tx.old.conn.now) }
     ensures same_reference { tx.new.conn.ghost_name ≡ tx.old.conn.ghost_name }
     ensures before { IsTrusted (state S.Store tx.new.conn.now) → IsTrusted (state S.Store tx.old.conn.now) }
+    ensures lasts { Lasts (state S.Store tx.old.conn.now) (state S.Store tx.new.conn.now) }
+    ensures open { HasCleanDisk (state S.Store tx.new.conn.now) → IsTrusted (state S.Store tx.old.conn.now) → OnOk result (IsTrusted (state S.Store tx.new.conn.now)) }
     ensures on { IsTrusted (state S.Store tx.new.conn.now) → OnOk result (WentOn (state S.Store tx.old.conn.now) (state S.Store tx.new.conn.now)) }
     ensures added { IsTrusted (state S.Store tx.new.conn.now) → OnOk result (SaysMore (state S.Store tx.old.conn.now).now.trees (state S.Store tx.new.conn.now).now.trees (record { schema = schema; setup = setup.now; finished = finished })) }
     ensures err { IsTrusted (state S.Store tx.new.conn.now) → OnErr result ((state S.Store tx.new.conn.now).committed ≡ (state S.Store tx.old.conn.now).committed) }
@@ -187,6 +235,8 @@ pub(crate) fn record_run<S: Alter>(
     requires inside { IsTrusted (state S.Store tx.old.conn.now) → IsInside (state S.Store tx.old.conn.now) }
     ensures same_reference { tx.new.conn.ghost_name ≡ tx.old.conn.ghost_name }
     ensures before { IsTrusted (state S.Store tx.new.conn.now) → IsTrusted (state S.Store tx.old.conn.now) }
+    ensures lasts { Lasts (state S.Store tx.old.conn.now) (state S.Store tx.new.conn.now) }
+    ensures open { HasCleanDisk (state S.Store tx.new.conn.now) → IsTrusted (state S.Store tx.old.conn.now) → OnOk result (IsTrusted (state S.Store tx.new.conn.now)) }
     ensures on { IsTrusted (state S.Store tx.new.conn.now) → OnOk result (WentOn (state S.Store tx.old.conn.now) (state S.Store tx.new.conn.now)) }
     ensures done { IsTrusted (state S.Store tx.new.conn.now) → OnOk result (RecordsRun (state S.Store tx.old.conn.now).now.trees (state S.Store tx.new.conn.now).now.trees number (record { excuses = excuses.now; updates = updates.now }) (record { schema = schema; setup = setup.now; finished = number })) }
     ensures err { IsTrusted (state S.Store tx.new.conn.now) → OnErr result ((state S.Store tx.new.conn.now).committed ≡ (state S.Store tx.old.conn.now).committed) }

@@ -1,21 +1,15 @@
 //! The office's tables in a fresh database.
-ghost use Rattle.std.specs.Prelude.{◌≡◌, IsTrue, OnOk, OnErr};
+ghost use Rattle.std.specs.Prelude.{◌≡◌, ◌≢◌, Err, IsTrue, OnOk, OnErr};
 ghost use Rattle.sqlite.specs.Held.{state};
 ghost use Rattle.office_store.specs.Layout.{no_schema, office, mail, run, testing_source, testing_row};
 ghost use Rattle.office_store.specs.Tables.{IsTrusted, IsOurs, IsInside, WentOn};
+ghost use Rattle.office_store.specs.Opening.{IsAsItWas};
 ghost use Rattle.office_store.specs.Creating.{IsBuilding, Makes, MakesAll, IsBlank, schema_of_one, schema_of_two, schema_of_three, schema_of_four};
 
 use crate::faults::{Cause, KeepFault};
+use crate::layout::is_fresh;
 use crate::runs::add_office;
 use sqlite::{Alter, Connection, Error, Transaction};
-use sqlite_schema::schema::Schema;
-
-/// Whether a database has no table, no index and no view.
-pub(crate) fn is_fresh(schema: &Schema) -> bool
-    ensures { IsTrue result → schema.now ≡ no_schema }
-{
-    schema.tables.is_empty() && schema.indexes.is_empty() && schema.views.is_empty()
-}
 
 /// Makes the table of the office.
 fn create_office<S: Alter>(tx: &mut Transaction<'_, S>) -> Result<usize, Error>
@@ -124,7 +118,8 @@ pub(crate) fn create<S: Alter>(conn: &mut Connection<S>, setup: &str) -> Result<
     ensures before { IsTrusted (state S.Store conn.new) → IsTrusted (state S.Store conn.old) }
     ensures ours { IsTrusted (state S.Store conn.new) → OnOk result (IsOurs (state S.Store conn.new)) }
     ensures blank { IsTrusted (state S.Store conn.new) → OnOk result (IsBlank (state S.Store conn.new).now.trees (record { schema = 0; setup = setup.now; finished = 0 })) }
-    ensures err { IsTrusted (state S.Store conn.new) → OnErr result ((state S.Store conn.new).now ≡ (state S.Store conn.old).now) }
+    ensures err { IsTrusted (state S.Store conn.new) → OnErr result (IsAsItWas (state S.Store conn.old) (state S.Store conn.new)) }
+    ensures bad { result ≢ Err (KeepFault.Store Cause.BadRow) }
 {
     if !conn.is_autocommit() || !is_fresh(conn.schema()) {
         return Err(KeepFault::Store(Cause::Sqlite(Error::InvalidQuery)));

@@ -10,3 +10,6 @@ returns-clause-done g c trusted =
     (state g.S.Store c.record_run.new.tx.conn.now).now.trees c.args.run c.args.done.now c.args.said.now
     (rw c.sources.ensures.entries at (c.in_ok-set_sources.ensures.set first)) (rw c.rows.ensures.entries at (c.in_ok-set_rows.ensures.set second))
     (rw (c.as_str-excuses.ensures, c.as_str-updates.ensures, c.as_str-setup.ensures) at (c.in_ok-added.ensures.done trusted))
+
+pub returns-clause-ordered : goal.returns-clause-ordered
+returns-clause-ordered g c = record { by_name = rw c.sources.ensures.entries at c.sources.ensures.ordered; by_key = rw c.rows.ensures.entries at c.rows.ensures.ordered }

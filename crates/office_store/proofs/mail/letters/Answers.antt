@@ -8,7 +8,7 @@ use Rattle.sqlite.specs.Held.{state}
 use Rattle.office_store.specs.Texts.{find_text}
 use Rattle.office_store.specs.Tables.{is_at, letter_columns}
 use Rattle.office_store.proofs.Compiled.{find_plain}
-use Rattle.office_store.proofs.StateLemmas.{Asked, asked_before, asked_same, asked_rows}
+use Rattle.office_store.proofs.StateLemmas.{Asked, asked_before, asked_same, asked_rows, asked_open}
 use Rattle.office_store.proofs.MailLemmas.{finds_rows}
 use Rattle.office_store.proofs.mail.letters.Goals as goal
 
@@ -34,3 +34,6 @@ returns-clause-rows g c trusted =
     let found = λ (db : Trees) (rows : List Row). IsPermutation (map letter_columns (filter (is_at c.args.sender c.args.number) (db 1))) rows in
     asked_rows (λ r. r.items) find_text (Int (pos c.args.sender) ∷ Int (pos c.args.number) ∷ []) old new (found new.now.trees) c.query_all.result (asked g c) trusted
     (λ rows h. subst (λ (d : Database). found d.trees rows) (sym same.now) (finds_rows c.args.sender c.args.number old new rows ours.schema h))
+
+pub returns-clause-open : goal.returns-clause-open
+returns-clause-open g c clean trusted = asked_open _ _ _ _ _ _ (asked g c) clean

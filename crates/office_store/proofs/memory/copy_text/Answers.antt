@@ -3,8 +3,8 @@ use Rattle.office_store.proofs.ShelfFacts.{get-kept_in}
 use Rattle.office_store.proofs.memory.copy_text.Goals as goal
 
 pub returns-in-None-clause-found : goal.returns-in-None-clause-found
-returns-in-None-clause-found c = c.in-None.ensures ∙ sym (get-kept_in c.args.mail.now (c.args.sender, c.args.number))
+returns-in-None-clause-found c = c.in-None.ensures.value ∙ sym (get-kept_in c.args.mail.now.entries (c.args.sender, c.args.number))
 
 pub returns-in_ok-copy_of-in-Some-clause-found : goal.returns-in_ok-copy_of-in-Some-clause-found
 returns-in_ok-copy_of-in-Some-clause-found c =
-    ap Some (c.in_ok-copy_of-in-Some.ensures ∙ c.as_slice.ensures) ∙ c.in-Some.ensures ∙ sym (get-kept_in c.args.mail.now (c.args.sender, c.args.number))
+    ap Some (c.in_ok-copy_of-in-Some.ensures ∙ c.as_slice.ensures) ∙ c.in-Some.ensures.value ∙ sym (get-kept_in c.args.mail.now.entries (c.args.sender, c.args.number))

@@ -1,11 +1,11 @@
-use Rattle.std.proofs.Common.{◌∙◌}
-use Rattle.office_store.specs.Shelf.{kept_in}
-use Rattle.office_store.specs.Content.{letter_at}
-use Rattle.office_store.proofs.ShelfFacts.{letters_step, letters_end}
+use Rattle.std.proofs.Common.{◌≡◌, IfOk, subst}
+use Rattle.office_store.proofs.PartFacts.{letters_between, letters_of_none}
 use Rattle.office_store.proofs.memory.letters_of.Goals as goal
 
-pub numbers-preserved : goal.numbers-preserved
-numbers-preserved c = letters_step (letter_at (kept_in c.args.mail.now) c.args.sender) c.numbers.letters.items _ c.numbers.number c.args.to c.numbers-test.true c.in_ok-push_letter.ensures.pushed ∙ c.numbers.invariant
+pub returns-then-from-to-clause-loaded : goal.returns-then-from-to-clause-loaded
+returns-then-from-to-clause-loaded c = letters_of_none c.args.mail.now.entries c.args.sender c.args.from c.args.to c.new.result.items c.if-from-to.true c.new.ensures.items
 
 pub returns-clause-loaded : goal.returns-clause-loaded
-returns-clause-loaded c = letters_end (letter_at (kept_in c.args.mail.now) c.args.sender) c.numbers.letters.items c.numbers.number c.args.to c.numbers-test.false ∙ c.numbers.invariant
+returns-clause-loaded c =
+    subst (λ ls. IfOk c.letters_between.result (λ letters. letters.items ≡ ls))
+    (letters_between c.args.sender c.args.from c.args.to c.args.mail.now.entries c.if-from-to.false c.letters_between.ensures.ordered) c.letters_between.ensures.loaded

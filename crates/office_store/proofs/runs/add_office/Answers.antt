@@ -3,7 +3,7 @@ use Rattle.sqlite.specs.declared.types.Value.TheVariants.{Int, Text}
 use Rattle.sqlite.specs.Held.{state}
 use Rattle.office_store.specs.Texts.{add_office_text}
 use Rattle.office_store.specs.Tables.{SaysMore}
-use Rattle.office_store.proofs.StepLemmas.{Stepped, step_went, step_gives}
+use Rattle.office_store.proofs.StepLemmas.{Stepped, step_went, step_gives, step_open}
 use Rattle.office_store.proofs.RunWrites.{says}
 use Rattle.office_store.proofs.runs.add_office.Goals as goal
 
@@ -27,3 +27,6 @@ returns-clause-added g c trusted =
     let new = state g.S.Store c.execute.new.self.conn.now in
     step_gives _ _ old new (SaysMore old.now.trees new.now.trees (record { schema = c.args.schema; setup = c.args.setup.now; finished = c.args.finished })) c.execute.result (stepped g c) trusted c.requires.inside
     (λ count inside h. says (record { schema = c.args.schema; setup = c.args.setup.now; finished = c.args.finished }) old new count inside.schema h)
+
+pub returns-clause-open : goal.returns-clause-open
+returns-clause-open g c clean trusted = step_open _ _ _ _ c.execute.result (stepped g c) clean

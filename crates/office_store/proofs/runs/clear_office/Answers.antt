@@ -2,7 +2,7 @@ use Rattle.std.proofs.Common.{[]}
 use Rattle.sqlite.specs.Held.{state}
 use Rattle.office_store.specs.Texts.{clear_office_text}
 use Rattle.office_store.specs.Tables.{Silences}
-use Rattle.office_store.proofs.StepLemmas.{Stepped, step_went, step_gives}
+use Rattle.office_store.proofs.StepLemmas.{Stepped, step_went, step_gives, step_open}
 use Rattle.office_store.proofs.RunWrites.{silences}
 use Rattle.office_store.proofs.runs.clear_office.Goals as goal
 
@@ -26,3 +26,6 @@ returns-clause-cleared g c trusted =
     let new = state g.S.Store c.execute.new.self.conn.now in
     step_gives _ _ old new (Silences old.now.trees new.now.trees) c.execute.result (stepped g c) trusted c.requires.inside
     (λ count inside h. silences old new count inside.schema h)
+
+pub returns-clause-open : goal.returns-clause-open
+returns-clause-open g c clean trusted = step_open _ _ _ _ c.execute.result (stepped g c) clean

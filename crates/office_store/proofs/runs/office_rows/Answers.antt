@@ -6,7 +6,7 @@ use Rattle.sqlite.specs.Effect.{Database}
 use Rattle.sqlite.specs.Held.{state}
 use Rattle.office_store.specs.Texts.{office_text}
 use Rattle.office_store.specs.Tables.{office_columns}
-use Rattle.office_store.proofs.StateLemmas.{Asked, asked_before, asked_same, asked_rows}
+use Rattle.office_store.proofs.StateLemmas.{Asked, asked_before, asked_same, asked_rows, asked_open}
 use Rattle.office_store.proofs.RunLemmas.{shows_office, office_plain}
 use Rattle.office_store.proofs.runs.office_rows.Goals as goal
 
@@ -28,3 +28,6 @@ returns-clause-rows g c trusted =
     let found = λ (db : Trees) (rows : List Row). IsPermutation (map office_columns (db 0)) rows in
     asked_rows (λ r. r.items) office_text [] old new (found new.now.trees) c.query_all.result (asked g c) trusted
     (λ rows h. subst (λ (d : Database). found d.trees rows) (sym same.now) (shows_office old new rows ours.schema h))
+
+pub returns-clause-open : goal.returns-clause-open
+returns-clause-open g c clean trusted = asked_open _ _ _ _ _ _ (asked g c) clean

@@ -1,7 +1,26 @@
+use Rattle.std.proofs.Common.{◌≡◌, Some, sym, ap, unwrap_or, ◌∙◌, arith}
+use Rattle.std.specs.FinMap.{get}
+use Rattle.sqlite.specs.Effect.{Database}
 use Rattle.sqlite.specs.Held.{state}
-use Rattle.office_store.proofs.RunLemmas.{reported_is}
+use Rattle.office_store.specs.Tables.{said_in, run_map}
+use Rattle.office_store.specs.Content.{item_from_one}
+use Rattle.office_store.specs.Holdings.{reports_to, count_said, no_reports}
+use Rattle.office_store.proofs.ReportFacts.{item_past, item_is}
 use Rattle.office_store.proofs.runs.reports.Goals as goal
 
-pub returns-clause-value : goal.returns-clause-value
-returns-clause-value g c trusted =
-    reported_is ((state g.S.Store c.run_rows.new.conn).now.trees 3) c.args.run c.only_reports.result c.in_ok-rows.rows.items (c.in_ok-rows.ensures.rows trusted) (rw c.as_slice.ensures.value at c.only_reports.ensures.ok)
+pub returns-then-said-run-clause-value : goal.returns-then-said-run-clause-value
+returns-then-said-run-clause-value g c trusted =
+    let db = (state g.S.Store c.said.new.conn).now.trees in
+    let count : count_said (said_in (db 0)) ≡ c.in_ok-said.said.finished = ap count_said (c.in_ok-said.ensures.value trusted) in
+    sym (ap (λ n. item_from_one c.args.run (reports_to (run_map (db 3)) n)) count ∙ item_past (run_map (db 3)) c.args.run c.in_ok-said.said.finished c.if-said-run.true)
+
+pub returns-in-Some-clause-value : goal.returns-in-Some-clause-value
+returns-in-Some-clause-value g c trusted =
+    let ensures = c.in_ok-reports.ensures in
+    let new = (state g.S.Store c.recorded.new.conn).now in
+    let count : count_said (said_in (new.trees 0)) ≡ c.in_ok-said.said.finished =
+    ap count_said (ap (λ (d : Database). said_in (d.trees 0)) (ensures.same trusted).now ∙ c.in_ok-said.ensures.value (ensures.before trusted)) in
+    let stands : get (run_map (new.trees 3)) c.args.run ≡ Some c.in-Some.reports = sym (ensures.value trusted) ∙ c.in-Some.is in
+    sym (ap (λ n. item_from_one c.args.run (reports_to (run_map (new.trees 3)) n)) count
+    ∙ item_is (run_map (new.trees 3)) c.args.run c.in_ok-said.said.finished (omega (arith, c.if-run-eq0.false)) (omega (arith, c.if-said-run.false))
+    ∙ ap (λ o. Some (unwrap_or o no_reports)) stands)

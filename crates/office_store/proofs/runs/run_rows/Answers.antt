@@ -7,7 +7,7 @@ use Rattle.sqlite.specs.declared.types.Value.TheVariants.{Int}
 use Rattle.sqlite.specs.Held.{state}
 use Rattle.office_store.specs.Texts.{reports_text}
 use Rattle.office_store.specs.Tables.{is_run, run_columns}
-use Rattle.office_store.proofs.StateLemmas.{Asked, asked_before, asked_same, asked_rows}
+use Rattle.office_store.proofs.StateLemmas.{Asked, asked_before, asked_same, asked_rows, asked_open}
 use Rattle.office_store.proofs.RunLemmas.{shows_runs, reports_plain}
 use Rattle.office_store.proofs.runs.run_rows.Goals as goal
 
@@ -33,3 +33,6 @@ returns-clause-rows g c trusted =
     let found = λ (db : Trees) (rows : List Row). IsPermutation (map run_columns (filter (is_run c.args.run) (db 3))) rows in
     asked_rows (λ r. r.items) reports_text (Int (pos c.args.run) ∷ []) old new (found new.now.trees) c.query_all.result (asked g c) trusted
     (λ rows h. subst (λ (d : Database). found d.trees rows) (sym same.now) (shows_runs c.args.run old new rows ours.schema h))
+
+pub returns-clause-open : goal.returns-clause-open
+returns-clause-open g c clean trusted = asked_open _ _ _ _ _ _ (asked g c) clean

@@ -1,9 +1,9 @@
-use Rattle.std.proofs.Common.{◌∷◌, [], pos}
+use Rattle.std.proofs.Common.{arith, ◌∷◌, [], pos}
 use Rattle.sqlite.specs.declared.types.Value.TheVariants.{Int, Text}
 use Rattle.sqlite.specs.Held.{state}
 use Rattle.office_store.specs.Texts.{add_row_text}
 use Rattle.office_store.specs.Entries.{AddsRow}
-use Rattle.office_store.proofs.StepLemmas.{Stepped, step_went, step_gives}
+use Rattle.office_store.proofs.StepLemmas.{Stepped, step_went, step_gives, step_open}
 use Rattle.office_store.proofs.EntryWrites.{adds_row}
 use Rattle.office_store.proofs.testing.add_row.Goals as goal
 
@@ -19,11 +19,14 @@ returns-clause-on g c trusted =
     let old = state g.S.Store c.args.tx.now.conn.now in
     let new = state g.S.Store c.execute.new.self.conn.now in
     step_went _ _ old new (AddsRow old.now.trees new.now.trees c.args.arch c.args.name.now c.args.sender c.args.number c.args.place) c.execute.result (stepped g c) trusted c.requires.inside
-    (λ count inside h. adds_row c.args.arch c.args.name.now c.args.sender c.args.number c.args.place old new count inside.schema h)
+    (λ count inside h. adds_row c.args.arch c.args.name.now c.args.sender c.args.number c.args.place (omega (arith, c.ranges.arch.fits)) (omega (arith, c.ranges.sender.fits)) (omega (arith, c.ranges.number.fits)) (omega (arith, c.ranges.place.fits)) old new count inside.schema h)
 
 pub returns-clause-added : goal.returns-clause-added
 returns-clause-added g c trusted =
     let old = state g.S.Store c.args.tx.now.conn.now in
     let new = state g.S.Store c.execute.new.self.conn.now in
     step_gives _ _ old new (AddsRow old.now.trees new.now.trees c.args.arch c.args.name.now c.args.sender c.args.number c.args.place) c.execute.result (stepped g c) trusted c.requires.inside
-    (λ count inside h. adds_row c.args.arch c.args.name.now c.args.sender c.args.number c.args.place old new count inside.schema h)
+    (λ count inside h. adds_row c.args.arch c.args.name.now c.args.sender c.args.number c.args.place (omega (arith, c.ranges.arch.fits)) (omega (arith, c.ranges.sender.fits)) (omega (arith, c.ranges.number.fits)) (omega (arith, c.ranges.place.fits)) old new count inside.schema h)
+
+pub returns-clause-open : goal.returns-clause-open
+returns-clause-open g c clean trusted = step_open _ _ _ _ c.execute.result (stepped g c) clean

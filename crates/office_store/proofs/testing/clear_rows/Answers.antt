@@ -2,7 +2,7 @@ use Rattle.std.proofs.Common.{[]}
 use Rattle.sqlite.specs.Held.{state}
 use Rattle.office_store.specs.Texts.{clear_rows_text}
 use Rattle.office_store.specs.Entries.{ClearsRows}
-use Rattle.office_store.proofs.StepLemmas.{Stepped, step_went, step_gives}
+use Rattle.office_store.proofs.StepLemmas.{Stepped, step_went, step_gives, step_open}
 use Rattle.office_store.proofs.EntryWrites.{clears_rows}
 use Rattle.office_store.proofs.testing.clear_rows.Goals as goal
 
@@ -26,3 +26,6 @@ returns-clause-cleared g c trusted =
     let new = state g.S.Store c.execute.new.self.conn.now in
     step_gives _ _ old new (ClearsRows old.now.trees new.now.trees) c.execute.result (stepped g c) trusted c.requires.inside
     (λ count inside h. clears_rows old new count inside.schema h)
+
+pub returns-clause-open : goal.returns-clause-open
+returns-clause-open g c clean trusted = step_open _ _ _ _ c.execute.result (stepped g c) clean

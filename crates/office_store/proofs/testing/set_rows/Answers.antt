@@ -1,11 +1,14 @@
 use Rattle.std.proofs.Common.{◌∙◌}
 use Rattle.sqlite.specs.Held.{state}
 use Rattle.office_store.proofs.SettingLemmas.{rows_step}
+use Rattle.office_store.proofs.StateLemmas.{lasts_then, clean_before}
 use Rattle.office_store.proofs.testing.set_rows.Goals as goal
 
 pub rows-preserved : goal.rows-preserved
 rows-preserved g c = record {
   same = c.in_ok-add_row.ensures.same_reference ∙ c.rows.invariant.same;
+  lasts = lasts_then _ _ _ c.rows.invariant.lasts c.in_ok-add_row.ensures.lasts;
+  still = λ clean trusted. c.in_ok-add_row.ensures.open clean (c.rows.invariant.still (clean_before _ _ c.in_ok-add_row.ensures.lasts clean) trusted);
   so_far = λ trusted.
       let so = c.rows.invariant.so_far (c.in_ok-add_row.ensures.before trusted) in
       let on = c.in_ok-add_row.ensures.on trusted in
@@ -16,3 +19,12 @@ rows-preserved g c = record {
             c.args.rows.now c.rows.row-index c.row-item.result c.as_str-name.result.now c.requires.ordered c.rows-test.true c.row-item.is c.as_str-name.ensures so.changed (c.in_ok-add_row.ensures.added trusted);
       };
 }
+
+pub returns-in_err-add_row-clause-lasts : goal.returns-in_err-add_row-clause-lasts
+returns-in_err-add_row-clause-lasts g c = lasts_then _ _ _ c.rows.invariant.lasts c.in_err-add_row.ensures.lasts
+
+pub returns-clause-lasts : goal.returns-clause-lasts
+returns-clause-lasts g c = c.rows.invariant.lasts
+
+pub returns-clause-open : goal.returns-clause-open
+returns-clause-open g c clean trusted = c.rows.invariant.still clean trusted

@@ -1,11 +1,14 @@
 use Rattle.std.proofs.Common.{◌∙◌}
 use Rattle.sqlite.specs.Held.{state}
 use Rattle.office_store.proofs.SettingLemmas.{sources_step}
+use Rattle.office_store.proofs.StateLemmas.{lasts_then, clean_before}
 use Rattle.office_store.proofs.testing.set_sources.Goals as goal
 
 pub sources-preserved : goal.sources-preserved
 sources-preserved g c = record {
   same = c.in_ok-add_source.ensures.same_reference ∙ c.sources.invariant.same;
+  lasts = lasts_then _ _ _ c.sources.invariant.lasts c.in_ok-add_source.ensures.lasts;
+  still = λ clean trusted. c.in_ok-add_source.ensures.open clean (c.sources.invariant.still (clean_before _ _ c.in_ok-add_source.ensures.lasts clean) trusted);
   so_far = λ trusted.
       let so = c.sources.invariant.so_far (c.in_ok-add_source.ensures.before trusted) in
       let on = c.in_ok-add_source.ensures.on trusted in
@@ -16,3 +19,12 @@ sources-preserved g c = record {
             c.args.sources.now c.sources.source-index c.source-item.result c.as_str.result.now c.requires.ordered c.sources-test.true c.source-item.is c.as_str.ensures so.changed (c.in_ok-add_source.ensures.added trusted);
       };
 }
+
+pub returns-in_err-add_source-clause-lasts : goal.returns-in_err-add_source-clause-lasts
+returns-in_err-add_source-clause-lasts g c = lasts_then _ _ _ c.sources.invariant.lasts c.in_err-add_source.ensures.lasts
+
+pub returns-clause-lasts : goal.returns-clause-lasts
+returns-clause-lasts g c = c.sources.invariant.lasts
+
+pub returns-clause-open : goal.returns-clause-open
+returns-clause-open g c clean trusted = c.sources.invariant.still clean trusted

@@ -1,0 +1,31 @@
+use Rattle.std.proofs.Common.{◌≡◌, Some, map, sym, subst, ◌∙◌}
+use Rattle.std.specs.List.Sorted.{IsPermutation}
+use Rattle.sqlite.specs.Effect.{Database}
+use Rattle.sqlite.specs.Held.{state}
+use Rattle.office_store.specs.Tables.{kept_rows}
+use Rattle.office_store.specs.Entries.{source_columns, entry_columns}
+use Rattle.office_store.specs.Holdings.{source_of}
+use Rattle.office_store.proofs.EntryValues.{gathered_on, known_on}
+use Rattle.office_store.proofs.entries.testing.Goals as goal
+
+pub returns-clause-known : goal.returns-clause-known
+returns-clause-known g c = known_on c.args.setup.now.archs c.in_ok-sources.sources.items c.in_ok-rows.rows.items c.gathered.result c.in_ok-rows.ensures.known c.gathered.ensures.ok
+
+pub returns-clause-value : goal.returns-clause-value
+returns-clause-value g c fourth =
+    let third = c.in_ok-rows.ensures.before fourth in
+    let second = c.in_ok-listed.ensures.before third in
+    let first = c.in_ok-sources.ensures.before second in
+    let one = state g.S.Store c.source_rows.new.conn in
+    let two = state g.S.Store c.sources_at.new.conn in
+    let three = state g.S.Store c.entry_rows.new.conn in
+    let four = state g.S.Store c.rows_at.new.conn in
+    let b : two.now ≡ one.now = (c.in_ok-sources.ensures.same second).now in
+    let d : three.now ≡ two.now = (c.in_ok-listed.ensures.same third).now in
+    let e : four.now ≡ three.now = (c.in_ok-rows.ensures.same fourth).now in
+    gathered_on c.args.setup.now (kept_rows (four.now.trees 1)) (four.now.trees 4) (four.now.trees 6) c.in_ok-named.named.items c.in_ok-listed.listed.items c.in_ok-sources.sources.items c.in_ok-rows.rows.items c.gathered.result
+    (subst (λ (x : Database). IsPermutation (map source_columns (x.trees 4)) c.in_ok-named.named.items) (sym (e ∙ d ∙ b)) (c.in_ok-named.ensures.rows first))
+    (subst (λ (x : Database). IsPermutation (map entry_columns (x.trees 6)) c.in_ok-listed.listed.items) (sym e) (c.in_ok-listed.ensures.rows third))
+    (subst (λ (x : Database). map (source_of c.args.setup.now (kept_rows (x.trees 1))) c.in_ok-named.named.items ≡ map Some c.in_ok-sources.sources.items) (sym (e ∙ d)) (rw c.as_slice.ensures.value at (c.in_ok-sources.ensures.ok second)))
+    (rw c.as_slice-2.ensures.value at (c.in_ok-rows.ensures.ok fourth))
+    c.gathered.ensures.ok

@@ -1,0 +1,7 @@
+use Rattle.sqlite.specs.Held.{state}
+use Rattle.office_store.proofs.RunLemmas.{reported_is}
+use Rattle.office_store.proofs.runs.recorded.Goals as goal
+
+pub returns-clause-value : goal.returns-clause-value
+returns-clause-value g c trusted =
+    reported_is ((state g.S.Store c.run_rows.new.conn).now.trees 3) c.args.run c.only_reports.result c.in_ok-rows.rows.items (c.in_ok-rows.ensures.rows trusted) (rw c.as_slice.ensures.value at c.only_reports.ensures.ok)

@@ -1,0 +1,47 @@
+-- Tables that read as an office writes them.
+use Rattle.std.specs.Prelude.{◌≡◌, ◌<◌, ◌≤◌, ℕ, List, length, Some, IsSome}
+use Rattle.std.specs.FinMap.{FinMap, get, len}
+use Rattle.std.specs.Str.{IsUtf8}
+use Rattle.std.specs.declared.cmp.Ordering.{Ordering}
+use Rattle.sqlite.specs.Order.{Row}
+use Rattle.sqlite.specs.Tree.{Trees}
+use Rattle.office_mail.specs.Kept.{Place}
+use Rattle.office_mail.specs.Lists.{Lists}
+use Rattle.office_store.specs.declared.values.Reports.{Reports}
+use Rattle.office_store.specs.declared.values.Said.{Said}
+use Rattle.office_store.specs.Tables.{kept_rows, said_in, run_map}
+use Rattle.office_store.specs.Entries.{source_map, entry_map}
+use Rattle.office_store.specs.Holdings.{source_at, row_at}
+
+-- each row of a table has an entry of its own: it reads, and no two have one key
+abbrev pub IsWhole : {K V : Type 0} {R : K → K → Ordering} → FinMap R V → List Row → Type 0
+IsWhole map rows = len map ≡ length rows
+
+-- the office's only row says so
+pub record SaysOnce (rows : List Row) : Type 0 where
+  pub said : Said
+  pub is : said_in rows ≡ Some said
+  pub once : length rows ≡ 1
+  pub schema : said.schema < 4_294_967_296
+  pub finished : said.finished < 4_294_967_296
+  pub setup : IsUtf8 said.setup
+
+-- the reports of the runs up to a number, and no others
+pub record AreReported (rows : List Row) (finished : ℕ) : Type 0 where
+  pub whole : IsWhole (run_map rows) rows
+  pub each : (run : ℕ) → 1 ≤ run → run ≤ finished → IsSome (get (run_map rows) run)
+  pub texts : (run : ℕ) (reports : Reports) → get (run_map rows) run ≡ Some reports → IsUtf8 reports.excuses × IsUtf8 reports.updates
+
+-- each entry of testing names a kept message that gives it
+pub record AreNamed (setup : Lists) (db : Trees) : Type 0 where
+  pub sources : IsWhole (source_map (db 4)) (db 4)
+  pub source : (name : List ℕ) (p : Place) → get (source_map (db 4)) name ≡ Some p → IsSome (source_at setup (kept_rows (db 1)) (name, p))
+  pub rows : IsWhole (entry_map (db 6)) (db 6)
+  pub row : (key : ℕ × List ℕ) (value : Place × ℕ) → get (entry_map (db 6)) key ≡ Some value → IsSome (row_at setup (kept_rows (db 1)) (key, value))
+
+-- the tables read as an office writes them
+pub record IsLegible (setup : Lists) (db : Trees) : Type 0 where
+  pub office : SaysOnce (db 0)
+  pub mail : IsWhole (kept_rows (db 1)) (db 1)
+  pub runs : AreReported (db 3) office.said.finished
+  pub testing : AreNamed setup db

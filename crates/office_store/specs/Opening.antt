@@ -1,0 +1,79 @@
+-- What an opened database holds.
+use Rattle.std.specs.Prelude.{◌≡◌, ◌≢◌, ◌⊎◌, ◌&&◌, ◌==◌, nat_le, if◌then◌else◌, ℕ, List, [], ◌∷◌, Option, Some, None}
+use Rattle.std.specs.Result.{result_ok}
+use Rattle.sqlite.specs.Effect.{Database}
+use Rattle.sqlite.specs.Order.{Row, column}
+use Rattle.sqlite.specs.State.{State}
+use Rattle.office_mail.specs.Lists.{Lists}
+use Rattle.office_mail.specs.Setup.{setup_in}
+use Rattle.office_store.specs.declared.faults.KeepFault.{KeepFault}
+use Rattle.office_store.specs.declared.faults.KeepFault.TheVariants.{NoMemory, Store}
+use Rattle.office_store.specs.declared.opening.OpenFault.{OpenFault}
+use Rattle.office_store.specs.declared.opening.OpenFault.TheVariants as opening
+use Rattle.office_store.specs.declared.values.Said.{Said}
+use Rattle.office_store.specs.Layout.{no_schema, office_schema}
+use Rattle.office_store.specs.Tables.{number_in, text_in, office_by, office_in}
+use Rattle.office_store.specs.Creating.{IsBlank}
+use Rattle.office_store.specs.SetupText.{setup_text}
+use Rattle.office_store.specs.Fresh.{IsEmptyFor}
+
+-- what a fault of the store is told as
+abbrev pub open_fault : KeepFault → OpenFault
+open_fault NoMemory = opening.NoMemory
+open_fault (Store cause) = opening.Store cause
+
+-- the setup's text that the office's row says, where its id is 1, its schema's number 0, and its count of runs one of 32 bits
+abbrev pub text_by : Option (ℕ × Said) → Option (List ℕ)
+text_by None = None
+text_by (Some (id, said)) = if id == 1 && said.schema == 0 && nat_le said.finished 4_294_967_295 then Some said.setup else None
+
+-- what a row says where its id and its copy of the rowid are shown as one
+abbrev pub shown_office : Row → Option (ℕ × Said)
+shown_office row = office_by (number_in (column row 0)) (number_in (column row 1)) (text_in (column row 2)) (number_in (column row 3))
+
+-- the setup's text that is kept, where the office has one row alone
+abbrev pub text_of_one : (Row → Option (ℕ × Said)) → List Row → Option (List ℕ)
+text_of_one says [] = None
+text_of_one says (row ∷ []) = text_by (says row)
+text_of_one says (a ∷ b ∷ rows) = None
+
+abbrev pub kept_text : List Row → Option (List ℕ)
+kept_text rows = text_of_one office_in rows
+
+-- the setup that a text is, if it is one
+abbrev pub lists_by : Option (List ℕ) → Option Lists
+lists_by None = None
+lists_by (Some text) = result_ok (setup_in text)
+
+-- The database has the office's tables and no others, and was made for this setup.
+pub record IsKeptFor (setup : Lists) (db : Database) : Type 0 where
+  pub schema : db.schema ≡ office_schema
+  pub setup_is : lists_by (kept_text (db.trees 0)) ≡ Some setup
+
+-- A database without tables got those of the office, with this setup's text, no mail and no run.
+pub record IsNewFor (setup : Lists) (old new : Database) : Type 0 where
+  pub fresh : old.schema ≡ no_schema
+  pub kept : IsKeptFor setup new
+  pub blank : IsBlank new.trees (record { schema = 0; setup = setup_text setup; finished = 0 })
+  pub empty : IsEmptyFor setup new.trees
+
+-- What opening made of a database: it was new, or it was made for this setup and stands as it was.
+abbrev pub IsOpened : Lists → Database → Database → Type 0
+IsOpened setup old new = IsNewFor setup old new ⊎ (IsKeptFor setup old × (new ≡ old))
+
+-- the database stands as it was, as the last commit left it too, in a transaction only where it was in one
+pub record IsAsItWas (old new : State) : Type 0 where
+  pub now : new.now ≡ old.now
+  pub committed : new.committed ≡ old.committed
+  pub in_transaction : new.in_transaction ≡ old.in_transaction
+
+-- it was made for a setup of other lists
+pub record IsKeptForOther (setup : Lists) (db : Database) : Type 0 where
+  pub other : Lists
+  pub kept : IsKeptFor other db
+  pub differs : other ≢ setup
+
+-- it has tables, and wasn't made for any setup
+pub record IsUnknown (db : Database) : Type 0 where
+  pub used : db.schema ≢ no_schema
+  pub unkept : (setup : Lists) → IsKeptFor setup db → ⊥

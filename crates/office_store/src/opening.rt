@@ -1,0 +1,246 @@
+//! Opening an office's tables in a database, fresh or kept.
+ghost use Rattle.std.specs.Prelude.{◌≡◌, ◌≢◌, Some, None, Err, IfOk, IfErr, OnOk, OnErr};
+ghost use Rattle.std.specs.Option.{option_copied};
+ghost use Rattle.sqlite.specs.Order.{column};
+ghost use Rattle.sqlite.specs.Held.{state};
+ghost use Rattle.office_mail.specs.Lists.{Lists};
+ghost use Rattle.office_store.specs.Tables.{IsTrusted, IsOurs, Same, number_in, text_in};
+ghost use Rattle.office_store.specs.Opening.{open_fault, text_by, shown_office, text_of_one, kept_text, lists_by, IsKeptFor, IsOpened, IsNewFor, IsKeptForOther, IsUnknown, IsAsItWas};
+ghost use Rattle.office_store.specs.Creating.{IsBlank};
+ghost use Rattle.office_store.specs.Fresh.{IsEmptyFor};
+ghost use Rattle.office_store.specs.SetupText.{setup_text as text_of};
+ghost use Rattle.office_store.specs.declared.opening.OpenFault.TheVariants as fault;
+ghost use Rattle.office_store.specs.declared.faults.Cause.TheVariants.{BadRow};
+
+use crate::faults::{Cause, KeepFault};
+use crate::layout::{has_tables, is_fresh};
+use crate::on_sqlite::Tables;
+use crate::runs::office_rows;
+use crate::schema;
+use crate::setup_text::{same_setup, setup_text};
+use office_mail::{Setup, SetupFault};
+use sqlite::types::ValueRef;
+use sqlite::{Alter, Connection, Error, Row};
+use std::alloc::{AllocError, Global};
+
+/// Why an office's tables couldn't be opened.
+#[derive(Clone, Copy, Debug, PartialEq, Eq)]
+pub enum OpenFault {
+    NoMemory,
+    /// The database's own refusal.
+    Store(Cause),
+    /// The database was made for a setup with other architectures or senders, by names, roles or order.
+    OtherSetup,
+    /// The database has tables, but not those of an office that this program reads.
+    UnknownSchema,
+}
+
+impl From<KeepFault> for OpenFault {
+    ghost from_gives = { λ fault e. e ≡ open_fault fault };
+
+    fn from(fault: KeepFault) -> OpenFault {
+        match fault {
+            KeepFault::NoMemory => OpenFault::NoMemory,
+            KeepFault::Store(cause) => OpenFault::Store(cause),
+        }
+    }
+}
+
+impl From<AllocError> for OpenFault {
+    ghost from_gives = { λ _ e. e ≡ fault.NoMemory };
+
+    fn from(_e: AllocError) -> OpenFault {
+        OpenFault::NoMemory
+    }
+}
+
+impl From<Error> for OpenFault {
+    ghost from_gives = { λ _ e. (e ≢ fault.OtherSetup) × (e ≢ fault.UnknownSchema) × (e ≢ fault.Store BadRow) };
+
+    fn from(error: Error) -> OpenFault {
+        OpenFault::from(KeepFault::from(error))
+    }
+}
+
+/// The number from 0 in a column, or none.
+fn number_at(row: &Row, at: usize) -> Option<u64>
+    ensures { result ≡ number_in (column row.now at) }
+{
+    match row.get_ref(at) {
+        Ok(ValueRef::Int(n)) => u64::try_from(n).ok(),
+        _ => None,
+    }
+}
+
+/// The text in a column, or none.
+fn text_at<'a>(row: &'a Row, at: usize) -> Option<&'a [u8]>
+    ensures { option_copied result ≡ text_in (column row.now at) }
+{
+    match row.get_ref(at) {
+        Ok(ValueRef::Text(text)) => Some(text),
+        _ => None,
+    }
+}
+
+/// The setup's text in a row of the office, or none where the row isn't one of this schema.
+fn row_text<'a>(row: &'a Row) -> Option<&'a [u8]>
+    ensures { option_copied result ≡ text_by (shown_office row.now) }
+{
+    let id = number_at(row, 0)?;
+    let schema = number_at(row, 1)?;
+    let setup = text_at(row, 2)?;
+    let finished = number_at(row, 3)?;
+    if id == 1 && schema == 0 && finished <= 4_294_967_295 {
+        Some(setup)
+    } else {
+        None
+    }
+}
+
+/// The setup's text in the only row, or none.
+fn only_text<'a>(rows: &'a [Row]) -> Option<&'a [u8]>
+    ensures { option_copied result ≡ text_of_one shown_office rows.now }
+{
+    match rows {
+        [row] => row_text(row),
+        _ => None,
+    }
+}
+
+/// The setup that a text is, or none.
+fn setup_of(alloc: Global, text: &[u8]) -> Result<Option<Setup>, OpenFault>
+    ensures value { IfOk result (λ setup. setup ≡ lists_by (Some text.now)) }
+    ensures err { IfErr result (λ e. e ≡ OpenFault.NoMemory) }
+{
+    match Setup::parse(alloc, text) {
+        Ok(setup) => Ok(Some(setup)),
+        Err(SetupFault::NoMemory) => Err(OpenFault::NoMemory),
+        Err(_) => Ok(None),
+    }
+}
+
+/// The setup that the only row of the office keeps, or none.
+fn kept_setup(alloc: Global, rows: &[Row]) -> Result<Option<Setup>, OpenFault>
+    ensures value { IfOk result (λ setup. setup ≡ lists_by (text_of_one shown_office rows.now)) }
+    ensures err { IfErr result (λ e. e ≡ OpenFault.NoMemory) }
+{
+    match only_text(rows) {
+        Some(text) => setup_of(alloc, text),
+        None => Ok(None),
+    }
+}
+
+/// Whether the rows of the office are those of one with this setup.
+fn judge(alloc: Global, rows: &[Row], setup: &Setup) -> Result<(), OpenFault>
+    ensures ok { OnOk result (lists_by (text_of_one shown_office rows.now) ≡ Some setup.now) }
+    ensures other { result ≡ Err OpenFault.OtherSetup → (kept : Lists) × (lists_by (text_of_one shown_office rows.now) ≡ Some kept) × (kept ≢ setup.now) }
+    ensures unknown { result ≡ Err OpenFault.UnknownSchema → lists_by (text_of_one shown_office rows.now) ≡ None }
+    ensures bad { result ≢ Err (OpenFault.Store BadRow) }
+{
+    match kept_setup(alloc, rows)? {
+        None => Err(OpenFault::UnknownSchema),
+        Some(kept) => same_or_other(alloc, &kept, setup),
+    }
+}
+
+/// Whether a kept setup is this one.
+fn same_or_other(alloc: Global, kept: &Setup, setup: &Setup) -> Result<(), OpenFault>
+    ensures ok { OnOk result (kept.now ≡ setup.now) }
+    ensures other { result ≡ Err OpenFault.OtherSetup → kept.now ≢ setup.now }
+    ensures known { result ≢ Err OpenFault.UnknownSchema }
+    ensures bad { result ≢ Err (OpenFault.Store BadRow) }
+{
+    if same_setup(alloc, kept, setup)? {
+        Ok(())
+    } else {
+        Err(OpenFault::OtherSetup)
+    }
+}
+
+/// Goes on over the office's tables, where they are kept for this setup.
+fn go_on<S: Alter>(alloc: Global, conn: &mut Connection<S>, setup: &Setup) -> Result<(), OpenFault>
+    requires ours { IsTrusted (state S.Store conn.old) → IsOurs (state S.Store conn.old) }
+    ensures before { IsTrusted (state S.Store conn.new) → IsTrusted (state S.Store conn.old) }
+    ensures same { IsTrusted (state S.Store conn.new) → Same (state S.Store conn.old) (state S.Store conn.new) }
+    ensures kept { IsTrusted (state S.Store conn.new) → OnOk result (lists_by (kept_text ((state S.Store conn.new).now.trees 0)) ≡ Some setup.now) }
+    ensures other { IsTrusted (state S.Store conn.new) → result ≡ Err OpenFault.OtherSetup → (kept : Lists) × (lists_by (kept_text ((state S.Store conn.new).now.trees 0)) ≡ Some kept) × (kept ≢ setup.now) }
+    ensures unknown { IsTrusted (state S.Store conn.new) → result ≡ Err OpenFault.UnknownSchema → lists_by (kept_text ((state S.Store conn.new).now.trees 0)) ≡ None }
+    ensures bad { result ≢ Err (OpenFault.Store BadRow) }
+{
+    let rows = office_rows(conn)?;
+    judge(alloc, rows.as_slice(), setup)
+}
+
+/// Makes the office's tables in a fresh database.
+fn begin<S: Alter>(alloc: Global, conn: &mut Connection<S>, setup: &Setup) -> Result<(), OpenFault>
+    ensures before { IsTrusted (state S.Store conn.new) → IsTrusted (state S.Store conn.old) }
+    ensures ours { IsTrusted (state S.Store conn.new) → OnOk result (IsOurs (state S.Store conn.new)) }
+    ensures blank { IsTrusted (state S.Store conn.new) → OnOk result (IsBlank (state S.Store conn.new).now.trees (record { schema = 0; setup = text_of setup.now; finished = 0 })) }
+    ensures kept { IsTrusted (state S.Store conn.new) → OnOk result (IsKeptFor setup.now (state S.Store conn.new).now) }
+    ensures fresh { IsTrusted (state S.Store conn.new) → OnOk result (IsEmptyFor setup.now (state S.Store conn.new).now.trees) }
+    ensures err { IsTrusted (state S.Store conn.new) → OnErr result (IsAsItWas (state S.Store conn.old) (state S.Store conn.new)) }
+    ensures own { (result ≢ Err OpenFault.OtherSetup) × (result ≢ Err OpenFault.UnknownSchema) }
+    ensures bad { result ≢ Err (OpenFault.Store BadRow) }
+{
+    let text = setup_text(alloc, setup)?;
+    schema::create(conn, text.as_str())?;
+    Ok(())
+}
+
+/// Makes or finds the office's tables.
+fn prepare<S: Alter>(
+    alloc: Global,
+    conn: &mut Connection<S>,
+    setup: &Setup,
+) -> Result<(), OpenFault>
+    ensures before { IsTrusted (state S.Store conn.new) → IsTrusted (state S.Store conn.old) }
+    ensures ours { IsTrusted (state S.Store conn.new) → OnOk result (IsOurs (state S.Store conn.new)) }
+    ensures opened { IsTrusted (state S.Store conn.new) → OnOk result (IsOpened setup.now (state S.Store conn.old).now (state S.Store conn.new).now) }
+    ensures err { IsTrusted (state S.Store conn.new) → OnErr result (IsAsItWas (state S.Store conn.old) (state S.Store conn.new)) }
+    ensures other { IsTrusted (state S.Store conn.new) → result ≡ Err OpenFault.OtherSetup → IsKeptForOther setup.now (state S.Store conn.old).now }
+    ensures unknown { IsTrusted (state S.Store conn.new) → result ≡ Err OpenFault.UnknownSchema → IsUnknown (state S.Store conn.old).now }
+    ensures bad { result ≢ Err (OpenFault.Store BadRow) }
+{
+    if !conn.is_autocommit() {
+        return Err(OpenFault::Store(Cause::Sqlite(Error::InvalidQuery)));
+    }
+    if is_fresh(conn.schema()) {
+        return begin(alloc, conn, setup);
+    }
+    if !has_tables(alloc, conn.schema())? {
+        return Err(OpenFault::UnknownSchema);
+    }
+    go_on(alloc, conn, setup)
+}
+
+impl<S: Alter> Tables<S> {
+    /// The office's tables in a database. A fresh one gets them, with this setup, no mail and no run; one that was made
+    /// for this setup goes on as it was left. `OtherSetup` comes exactly where it was made for other architectures or
+    /// senders, by names, roles or order, and `UnknownSchema` where it has tables but wasn't made for any setup: it
+    /// has not just the office's five tables, column by column, or the office's table hasn't just one row, with id 1,
+    /// schema number 0 and a text that is a setup. A connection in a transaction is refused by `Store`. A refusal hands
+    /// the connection back and leaves the database as it was.
+    pub fn open(
+        alloc: Global,
+        conn: Connection<S>,
+        setup: &Setup,
+    ) -> Result<Tables<S>, (OpenFault, Connection<S>)>
+        ensures opened { IfOk result (λ tables. IsTrusted (state S.Store tables.0) → IsOpened setup.now (state S.Store conn).now (state S.Store tables.0).now) }
+        ensures before { IfOk result (λ tables. IsTrusted (state S.Store tables.0) → IsTrusted (state S.Store conn)) }
+        ensures setup { IfOk result (λ tables. tables.1.0 ≡ setup.now) }
+        ensures count { IfOk result (λ tables. tables.1.1 ≡ 0) }
+        ensures err { IfErr result (λ refused. IsTrusted (state S.Store refused.1) → IsAsItWas (state S.Store conn) (state S.Store refused.1)) }
+        ensures other { IfErr result (λ refused. IsTrusted (state S.Store refused.1) → refused.0 ≡ OpenFault.OtherSetup → IsKeptForOther setup.now (state S.Store conn).now) }
+        ensures unknown { IfErr result (λ refused. IsTrusted (state S.Store refused.1) → refused.0 ≡ OpenFault.UnknownSchema → IsUnknown (state S.Store conn).now) }
+        ensures bad { IfErr result (λ refused. refused.0 ≢ OpenFault.Store BadRow) }
+    {
+        let Ok(copy) = setup.copy(alloc) else {
+            return Err((OpenFault::NoMemory, conn));
+        };
+        let mut conn = conn;
+        match prepare(alloc, &mut conn, setup) {
+            Ok(()) => Ok(Tables::over(alloc, conn, copy)),
+            Err(fault) => Err((fault, conn)),
+        }
+    }
+}
