@@ -1,4 +1,4 @@
--- One delivery more.
+-- One delivery more. P, Q and R say that the store refused: in a first part, in what follows, and in both.
 use Rattle.std.proofs.Common.{◌≡◌, ℕ, ◌≤◌, Bool, true, false, ◌||◌, List, [], ◌∷◌, ◌++◌, map, flat_map, Option, sym, ap, subst, ◌∙◌, refl, arith}
 use Rattle.std.specs.List.{AllByRecursion}
 use Rattle.std.specs.Io.KnownBytes.{Appends, Consumes}
@@ -20,8 +20,9 @@ use Rattle.office_http.specs.Standing.{State}
 use Rattle.office_http.specs.State.{answer_to}
 use Rattle.office_http.specs.Replies.{reply_line, reply_by, reply_to, if_taken, not_lost, is_lost, any_lost, reply_lines}
 use Rattle.office_http.specs.Written.{AppendsFront}
-use Rattle.office_http.specs.Losses.{NotByStore}
-use Rattle.office_http.specs.Delivered.{CameFrom, CameFirst, KeepsMail, Delivers, DeliversAll, DeliversFront, DeliversOneFront}
+use Rattle.office_http.specs.Losses.{DeliveryCounted}
+use Rattle.office_http.specs.Delivered.{CameFrom, CameFirst, KeepsMail, Delivers, DeliversAll, DeliversFront, DeliversOne, DeliversOneFront}
+use Rattle.office_http.proofs.RiseFacts.{delivery_weaker, deliveries_weaker}
 use Rattle.office_http.proofs.WrittenFacts.{front_after}
 
 if_taken-append : (mark : Mark) (text : List ℕ) (xs ys : List (List ℕ)) → if_taken mark text (xs ++ ys) ≡ if_taken mark text xs ++ ys
@@ -92,7 +93,7 @@ keeps_none s = record { setup = refl; kept = sym (kept_from-nil s.setup s.kept);
 
 -- one delivery more
 pub keeps_more : (s0 s1 s2 : State) (ds : List Delivery) (text : List ℕ) (mark : Mark) → KeepsMail s0 s1 ds → s2.kept ≡ kept_from s1.setup s1.kept (if_taken mark text []) → s2.setup ≡ s1.setup → s1.finished ≤ s2.finished
-    → (IsReady s1.setup s1.kept s1.finished → IsReady s2.setup s2.kept s2.finished) → KeepsMail s0 s2 (ds ++ record { text = text; mark = mark } ∷ [])
+    → IsReady s2.setup s2.kept s2.finished → KeepsMail s0 s2 (ds ++ record { text = text; mark = mark } ∷ [])
 keeps_more s0 s1 s2 ds text mark so kept setup grows ready =
     let d : Delivery = record { text = text; mark = mark } in
     record {
@@ -100,11 +101,11 @@ keeps_more s0 s1 s2 ds text mark so kept setup grows ready =
       kept = kept ∙ ap (λ (st : Lists). kept_from st s1.kept (if_taken mark text [])) so.setup ∙ ap (λ (k : Kept). kept_from s0.setup k (if_taken mark text [])) so.kept
           ∙ kept_from-append s0.setup s0.kept (not_lost ds) (if_taken mark text []) ∙ ap (kept_from s0.setup s0.kept) (sym (not_lost-push ds d));
       grows = omega (arith, so.grows, grows);
-      ready = λ h. ready (so.ready h);
+      ready = λ h. ready;
     }
 
-pub delivers_none : (s : State) (b : Reading) (w : Option (List ℕ)) → Delivers s s b b w w false
-delivers_none s b w = record { deliveries = []; came = came_none b; keeps = keeps_none s; written = Appends-nil w; losses = refl; no_store = tt }
+pub delivers_none : (s : State) (b : Reading) (w : Option (List ℕ)) (rose : Type 0) → Delivers s s b b w w false rose
+delivers_none s b w rose = record { deliveries = []; came = came_none b; keeps = keeps_none s; written = Appends-nil w; losses = refl; by_store = tt }
 
 -- the line that answers the next delivery, seen from the start
 line_after : (s0 s1 : State) (ds : List Delivery) (text : List ℕ) (mark : Mark) → KeepsMail s0 s1 ds
@@ -112,48 +113,45 @@ line_after : (s0 s1 : State) (ds : List Delivery) (text : List ℕ) (mark : Mark
 line_after s0 s1 ds text mark so =
     ap (λ (st : Lists). reply_line st (reply_by mark (answer_to st s1.kept text))) so.setup ∙ ap (λ (k : Kept). reply_line s0.setup (reply_by mark (answer_to s0.setup k text))) so.kept
 
-pub delivers_more : (lost now : Bool) (s0 s1 s2 : State) (start b1 b2 : Reading) (w0 w1 w2 : Option (List ℕ)) (text : List ℕ) (mark : Mark) → Delivers s0 s1 start b1 w0 w1 lost → TakesMessage b1 b2 text
-    → s2.kept ≡ kept_from s1.setup s1.kept (if_taken mark text []) → s2.setup ≡ s1.setup → s1.finished ≤ s2.finished
-    → (IsReady s1.setup s1.kept s1.finished → IsReady s2.setup s2.kept s2.finished)
-    → Appends w1 w2 (reply_line s1.setup (reply_by mark (answer_to s1.setup s1.kept text))) → now ≡ (lost || is_lost mark) → NotByStore mark → Delivers s0 s2 start b2 w0 w2 now
-delivers_more lost now s0 s1 s2 start b1 b2 w0 w1 w2 text mark so took kept setup grows ready wrote e no_store =
+pub delivers_more : (P Q R : Type 0) (lost now : Bool) (s0 s1 s2 : State) (start b1 b2 : Reading) (w0 w1 w2 : Option (List ℕ)) (text : List ℕ) (mark : Mark) → Delivers s0 s1 start b1 w0 w1 lost P → (P → R) → TakesMessage b1 b2 text
+    → DeliversOne s1 s2 text mark w1 w2 Q → (Q → R) → now ≡ (lost || is_lost mark) → Delivers s0 s2 start b2 w0 w2 now R
+delivers_more P Q R lost now s0 s1 s2 start b1 b2 w0 w1 w2 text mark so rises took one one_rises e =
     let d : Delivery = record { text = text; mark = mark } in
     let before : Kept = kept_from s0.setup s0.kept (not_lost so.deliveries) in
     record {
       deliveries = so.deliveries ++ d ∷ [];
       came = came_more start b1 b2 so.deliveries text mark so.came took;
-      keeps = keeps_more s0 s1 s2 so.deliveries text mark so.keeps kept setup grows ready;
+      keeps = keeps_more s0 s1 s2 so.deliveries text mark so.keeps one.kept one.setup one.settles.grows one.settles.ready;
       written = subst (Appends w0 w2) (sym (reply_lines-push s0.setup s0.kept so.deliveries d))
           (Appends-trans w0 w1 w2 (reply_lines s0.setup s0.kept so.deliveries) (reply_line s0.setup (reply_to s0.setup before d)) so.written
-          (subst (Appends w1 w2) (line_after s0 s1 so.deliveries text mark so.keeps) wrote));
+          (subst (Appends w1 w2) (line_after s0 s1 so.deliveries text mark so.keeps) one.written));
       losses = e ∙ ap (λ (b : Bool). b || is_lost mark) so.losses ∙ sym (any_lost-push so.deliveries d);
-      no_store = each_push (λ (e : Delivery). NotByStore e.mark) so.deliveries d so.no_store no_store;
+      by_store = each_push (λ (e : Delivery). DeliveryCounted R e.mark) so.deliveries d (deliveries_weaker P R so.deliveries rises so.by_store) (delivery_weaker Q R mark one_rises one.by_store);
     }
 
 -- where the writer fails at the next line
-pub delivers_front : (lost : Bool) (s0 s1 s2 : State) (start b1 b2 : Reading) (w0 w1 w2 : Option (List ℕ)) (text : List ℕ) → Delivers s0 s1 start b1 w0 w1 lost → TakesMessage b1 b2 text
-    → DeliversOneFront s1 s2 text w1 w2 → s2.setup ≡ s1.setup → s1.finished ≤ s2.finished
-    → (IsReady s1.setup s1.kept s1.finished → IsReady s2.setup s2.kept s2.finished) → DeliversFront s0 s2 start b2 w0 w2
-delivers_front lost s0 s1 s2 start b1 b2 w0 w1 w2 text so took one setup grows ready =
+pub delivers_front : (P Q R : Type 0) (lost : Bool) (s0 s1 s2 : State) (start b1 b2 : Reading) (w0 w1 w2 : Option (List ℕ)) (text : List ℕ) → Delivers s0 s1 start b1 w0 w1 lost P → (P → R) → TakesMessage b1 b2 text
+    → DeliversOneFront s1 s2 text w1 w2 Q → (Q → R) → DeliversFront s0 s2 start b2 w0 w2 R
+delivers_front P Q R lost s0 s1 s2 start b1 b2 w0 w1 w2 text so rises took one one_rises =
     let d : Delivery = record { text = text; mark = one.mark } in
     let before : Kept = kept_from s0.setup s0.kept (not_lost so.deliveries) in
     record {
       deliveries = so.deliveries ++ d ∷ [];
       came = came_more start b1 b2 so.deliveries text one.mark so.came took;
-      keeps = keeps_more s0 s1 s2 so.deliveries text one.mark so.keeps one.kept setup grows ready;
+      keeps = keeps_more s0 s1 s2 so.deliveries text one.mark so.keeps one.kept one.setup (omega (arith, one.finished)) one.ready;
       written = subst (AppendsFront w0 w2) (sym (reply_lines-push s0.setup s0.kept so.deliveries d))
           (front_after w0 w1 w2 (reply_lines s0.setup s0.kept so.deliveries) (reply_line s0.setup (reply_to s0.setup before d)) so.written
           (subst (AppendsFront w1 w2) (line_after s0 s1 so.deliveries text one.mark so.keeps) one.written));
-      no_store = each_push (λ (e : Delivery). NotByStore e.mark) so.deliveries d so.no_store one.no_store;
+      by_store = each_push (λ (e : Delivery). DeliveryCounted R e.mark) so.deliveries d (deliveries_weaker P R so.deliveries rises so.by_store) (delivery_weaker Q R one.mark one_rises one.by_store);
     }
 
 -- the bag stops behind what was delivered
-pub delivers_all : (s0 s1 : State) (start b now : Reading) (w0 w1 : Option (List ℕ)) (end : Option BagFault) (lost : Bool) → Delivers s0 s1 start b w0 w1 lost → Stops b now end → DeliversAll s0 s1 start now w0 w1 end lost
-delivers_all s0 s1 start b now w0 w1 end lost so stops = record {
+pub delivers_all : (rose : Type 0) (s0 s1 : State) (start b now : Reading) (w0 w1 : Option (List ℕ)) (end : Option BagFault) (lost : Bool) → Delivers s0 s1 start b w0 w1 lost rose → Stops b now end → DeliversAll s0 s1 start now w0 w1 end lost rose
+delivers_all rose s0 s1 start b now w0 w1 end lost so stops = record {
   deliveries = so.deliveries;
   came = came_from start b now so.deliveries end so.came stops;
   keeps = so.keeps;
   written = so.written;
   losses = so.losses;
-  no_store = so.no_store;
+  by_store = so.by_store;
 }

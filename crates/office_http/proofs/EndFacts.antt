@@ -1,15 +1,15 @@
--- The texts at the end of a replay.
-use Rattle.std.proofs.Common.{◌≡◌, ℕ, zero, suc, ◌+◌, ◌-◌, ◌<◌, ◌≤◌, Bool, true, false, ◌||◌, ◌&&◌, nat_le, is_err, is_ok, IsTrue, length, List, [], ◌∷◌, ◌++◌, Option, Some, None, Result, Ok, Err, IfOk, IfErr, sym, ap, subst, ◌∙◌, refl, arith, if◌then◌else◌}
+-- The texts at the end of a replay. P, Q and R say that the store refused: in a first part, in what follows, and in both.
+use Rattle.std.proofs.Common.{◌≡◌, ℕ, zero, suc, ◌+◌, ◌-◌, ◌<◌, ◌≤◌, Bool, true, false, ◌||◌, ◌&&◌, nat_le, is_err, is_ok, IsTrue, length, List, [], ◌∷◌, ◌++◌, Option, Some, None, Result, Ok, Err, IfOk, sym, ap, subst, ◌∙◌, refl, arith, if◌then◌else◌}
 use Rattle.std.proofs.Math.Bool.{or_assoc, or-false}
 use Rattle.std.proofs.lemmas.Bool.{le-leb}
 use Rattle.std.specs.Option.{option_map}
 use Rattle.std.specs.Io.KnownBytes.{Appends}
 use Rattle.std.proofs.lemmas.List.{append_assoc, append-nil, length-append}
-use Rattle.office_mail.specs.Runs.{IsReady, IsReadyCount}
+use Rattle.office_mail.specs.Runs.{IsReadyCount}
 use Rattle.office_http.specs.declared.faults.Progress.{Progress}
 use Rattle.office_http.specs.declared.faults.StoreFault.{StoreFault}
 use Rattle.office_http.specs.declared.faults.StoreFault.TheVariants.{NoMemory, Store}
-use Rattle.office_http.specs.declared.plain.Reports.{Reports}
+use Rattle.office_store.specs.declared.values.Reports.{Reports}
 use Rattle.office_mail.specs.Lists.{Lists}
 use Rattle.office_mail.specs.Kept.{Kept}
 use Rattle.office_http.specs.Standing.{State}
@@ -17,10 +17,11 @@ use Rattle.office_http.specs.State.{reports_at}
 use Rattle.office_http.specs.Outcome.{reports_of}
 use Rattle.office_http.specs.Written.{AppendsFront}
 use Rattle.office_http.specs.Output.{ReportMarks, or_refused, status_line, report_lines}
-use Rattle.office_http.specs.Losses.{is_missing, is_report_missing, NotStore, NoStoreReports}
+use Rattle.office_http.specs.Losses.{is_missing, is_report_missing, TextCounted, ReportsCounted}
 use Rattle.office_http.specs.Ending.{status_shown, text_shown, mark_in, report_shown, run_lines, WritesRun, WritesRunFront, WritesReports, WritesReportsFront}
 use Rattle.std.proofs.KnownBytes.{Appends-nil, Appends-trans}
 use Rattle.office_http.proofs.DeliverFacts.{each_push}
+use Rattle.office_http.proofs.RiseFacts.{text_weaker, reports_weaker}
 use Rattle.office_http.proofs.WrittenFacts.{front_after, front_before}
 
 by_test : {A : Type 0} (a b : Bool) (x : A) → a ≡ true → b ≡ true → (if a && b then Some x else None) ≡ Some x
@@ -66,43 +67,33 @@ length-fill : (n : ℕ) → length (fill n) ≡ n
 length-fill zero = refl
 length-fill (suc n) = ap suc (length-fill n)
 
-pub no_store-fill : (n : ℕ) → NoStoreReports (fill n)
-no_store-fill zero = tt
-no_store-fill (suc n) = ((tt, tt), no_store-fill n)
+pub counted-fill : (rose : Type 0) (n : ℕ) → ReportsCounted rose (fill n)
+counted-fill rose zero = tt
+counted-fill rose (suc n) = ((tt, tt), counted-fill rose n)
 
-each_append : (xs ys : List ReportMarks) → NoStoreReports xs → NoStoreReports ys → NoStoreReports (xs ++ ys)
-each_append [] ys h k = k
-each_append (x ∷ xs) ys h k = (h.0, each_append xs ys h.1 k)
-
--- what a call over a keeper in memory answers isn't missing by the store
-pub not_store : {A : Type 0} (r : Result A StoreFault) → IfErr r (λ fault. fault ≡ NoMemory) → NotStore (mark_in r)
-not_store (Ok x) h = tt
-not_store (Err NoMemory) h = tt
-not_store (Err Store) h = absurd (cc (h))
-
-pub not_store_fault : (fault : StoreFault) → fault ≡ NoMemory → NotStore (Some fault)
-not_store_fault NoMemory h = tt
-not_store_fault Store h = absurd (cc (h))
+each_append : (rose : Type 0) (xs ys : List ReportMarks) → ReportsCounted rose xs → ReportsCounted rose ys → ReportsCounted rose (xs ++ ys)
+each_append rose [] ys h k = k
+each_append rose (x ∷ xs) ys h k = (h.0, each_append rose xs ys h.1 k)
 
 -- the lines of one run, and of those after it
 lines_split : (s : State) (n : ℕ) (m : ReportMarks) (ms : List ReportMarks) → report_lines s.setup s.kept n (m ∷ ms) ≡ run_lines s (n + 1) m ++ report_lines s.setup s.kept (n + 1) ms
 lines_split s n m ms = refl
 
-pub reports_none : (s : State) (k : ℕ) (w : Option (List ℕ)) → WritesReports s k k w w false
-reports_none s k w = record { marks = []; all = omega arith; written = Appends-nil w; losses = refl; no_store = tt }
+pub reports_none : (s : State) (k : ℕ) (w : Option (List ℕ)) (rose : Type 0) → WritesReports s k k w w false rose
+reports_none s k w rose = record { marks = []; all = omega arith; written = Appends-nil w; losses = refl; by_store = tt }
 
-pub reports_more : (s : State) (k n : ℕ) (w0 w1 w2 : Option (List ℕ)) (lost missing now : Bool) → WritesReports s k n w0 w1 lost → WritesRun s (n + 1) w1 w2 missing → now ≡ (lost || missing) → WritesReports s k (n + 1) w0 w2 now
-reports_more s k n w0 w1 w2 lost missing now so one e = record {
+pub reports_more : (P Q R : Type 0) (s : State) (k n : ℕ) (w0 w1 w2 : Option (List ℕ)) (lost missing now : Bool) → WritesReports s k n w0 w1 lost P → (P → R) → WritesRun s (n + 1) w1 w2 missing Q → (Q → R) → now ≡ (lost || missing) → WritesReports s k (n + 1) w0 w2 now R
+reports_more P Q R s k n w0 w1 w2 lost missing now so rises one one_rises e = record {
   marks = so.marks ++ one.mark ∷ [];
   all = omega (arith, length-append so.marks (one.mark ∷ []), so.all);
   written = subst (Appends w0 w2) (sym (report_lines-append s.setup s.kept k n so.marks (one.mark ∷ []) so.all ∙ ap (λ (l : List ℕ). report_lines s.setup s.kept k so.marks ++ l) (lines_split s n one.mark [] ∙ append-nil (run_lines s (n + 1) one.mark))))
       (Appends-trans w0 w1 w2 (report_lines s.setup s.kept k so.marks) (run_lines s (n + 1) one.mark) so.written one.written);
   losses = e ∙ ap (λ (b : Bool). b || missing) so.losses ∙ ap (λ (b : Bool). is_report_missing so.marks || b) one.losses ∙ sym (is_report_missing-push so.marks one.mark);
-  no_store = each_push (λ (m : ReportMarks). NotStore m.0 × NotStore m.1) so.marks one.mark so.no_store one.no_store;
+  by_store = each_push (λ (m : ReportMarks). TextCounted R m.0 × TextCounted R m.1) so.marks one.mark (reports_weaker P R so.marks rises so.by_store) (text_weaker Q R one.mark.0 one_rises one.by_store.0, text_weaker Q R one.mark.1 one_rises one.by_store.1);
 }
 
-pub reports_front : (s : State) (k n all : ℕ) (w0 w1 w2 : Option (List ℕ)) (lost : Bool) → WritesReports s k n w0 w1 lost → WritesRunFront s (n + 1) w1 w2 → n < all → WritesReportsFront s k all w0 w2
-reports_front s k n all w0 w1 w2 lost so one h =
+pub reports_front : (P Q R : Type 0) (s : State) (k n all : ℕ) (w0 w1 w2 : Option (List ℕ)) (lost : Bool) → WritesReports s k n w0 w1 lost P → (P → R) → WritesRunFront s (n + 1) w1 w2 Q → (Q → R) → n < all → WritesReportsFront s k all w0 w2 R
+reports_front P Q R s k n all w0 w1 w2 lost so rises one one_rises h =
     let rest = fill (all - (n + 1)) in
     record {
       marks = so.marks ++ one.mark ∷ rest;
@@ -110,7 +101,7 @@ reports_front s k n all w0 w1 w2 lost so one h =
       written = subst (AppendsFront w0 w2) (sym (report_lines-append s.setup s.kept k n so.marks (one.mark ∷ rest) so.all ∙ ap (λ (l : List ℕ). report_lines s.setup s.kept k so.marks ++ l) (lines_split s n one.mark rest)))
           (front_after w0 w1 w2 (report_lines s.setup s.kept k so.marks) (run_lines s (n + 1) one.mark ++ report_lines s.setup s.kept (n + 1) rest) so.written
           (front_before w1 w2 (run_lines s (n + 1) one.mark) (report_lines s.setup s.kept (n + 1) rest) one.written));
-      no_store = each_append so.marks (one.mark ∷ rest) so.no_store (one.no_store, no_store-fill (all - (n + 1)));
+      by_store = each_append R so.marks (one.mark ∷ rest) (reports_weaker P R so.marks rises so.by_store) ((text_weaker Q R one.mark.0 one_rises one.by_store.0, text_weaker Q R one.mark.1 one_rises one.by_store.1), counted-fill R (all - (n + 1)));
     }
 
 -- the status line, and testing, as they are shown
@@ -138,3 +129,7 @@ fill_all k n h = omega (arith, length-fill (n - k), h)
 pub settled_ready : (setup : Lists) (kept : Kept) (n : ℕ) (r : Result Progress StoreFault) → IfOk r (λ p. IsReadyCount setup kept p.ready) → IfOk r (λ p. (p.finished ≡ p.ready) × (n ≡ p.ready)) → IsTrue (is_ok r) → IsReadyCount setup kept n
 settled_ready setup kept n (Ok p) h e t = subst (IsReadyCount setup kept) (sym e.1) h
 settled_ready setup kept n (Err f) h e t = absurd (cc (t))
+
+pub settled_unmet : (setup : Lists) (kept : Kept) (n : ℕ) (r : Result Progress StoreFault) → IfOk r (λ p. IsReadyCount setup kept p.ready) → IfOk r (λ p. (p.finished ≡ p.ready) × (n ≡ p.ready)) → mark_in r ≡ None → IsReadyCount setup kept n
+settled_unmet setup kept n (Ok p) h e t = subst (IsReadyCount setup kept) (sym e.1) h
+settled_unmet setup kept n (Err f) h e t = absurd (cc (t))

@@ -10,12 +10,12 @@ use Rattle.office_mail.specs.Lists.{Lists}
 use Rattle.office_mail.specs.Kept.{Kept}
 use Rattle.office_mail.specs.Runs.{orders_to, latest_day, IsReady, IsReadyCount}
 use Rattle.office_mail.proofs.RunFacts.{IsReady-before}
-use Rattle.office_http.specs.declared.plain.Reports.{Reports}
-use Rattle.office_http.specs.Content.{Content}
-use Rattle.office_http.specs.Mail.{item_from_one}
-use Rattle.office_http.specs.State.{IsOffice, AreOwnTexts, reports_at}
+use Rattle.office_store.specs.declared.values.Reports.{Reports}
+use Rattle.office_store.specs.declared.values.Finished.{Finished}
+use Rattle.office_store.specs.Content.{Content, item_from_one, reports_in, with_run}
+use Rattle.office_store.specs.Given.{AreOwnTexts}
+use Rattle.office_http.specs.State.{IsOffice, reports_at}
 use Rattle.testing_rules.specs.Watched.{AllWatchedWork}
-use Rattle.office_http.specs.declared.rules.Outcome.{Outcome}
 use Rattle.office_http.specs.Outcome.{Testing, covered_items, outcome, outcome_on, outcome_of, reports_of, reports_to, testing_after}
 
 pub IsReady-down : (setup : Lists) (kept : Kept) (n m : ℕ) → m ≤ n → IsReady setup kept n → IsReady setup kept m
@@ -54,17 +54,20 @@ unfolding reports_to
 reports_to-suc setup kept n = let one : n + 1 ≡ suc n = omega arith in rw one refl
 
 -- an office with one run more
-pub IsOffice-finished : (setup : Lists) (old new : Content) (testing : Testing) (left : Outcome) → IsOffice setup old testing → IsReady setup old.kept (length old.reports + 1) → new.kept ≡ old.kept → new.reports ≡ old.reports ++ left.reports ∷ [] → left ≡ outcome_of setup old.kept (length old.reports + 1) → AllWatchedWork setup.archs left.testing.rows → IsOffice setup new left.testing
-IsOffice-finished setup old new testing left office ready kept reports is watched =
-    let size : length new.reports ≡ length old.reports + 1 = ap length reports ∙ length-append old.reports (left.reports ∷ []) in
+pub IsOffice-finished : (setup : Lists) (old new : Content) (left : Finished) → IsOffice setup old → IsReady setup old.kept (length old.reports + 1) → new ≡ with_run old left → left ≡ outcome_of setup old.kept (length old.reports + 1) → AllWatchedWork setup.archs left.testing.rows → IsOffice setup new
+IsOffice-finished setup old new left office ready next is watched =
+    let kept : new.kept ≡ old.kept = ap (λ (c : Content). c.kept) next in
+    let reports : new.reports ≡ old.reports ++ reports_in left ∷ [] = ap (λ (c : Content). c.reports) next in
+    let testing : new.testing ≡ left.testing = ap (λ (c : Content). c.testing) next in
+    let size : length new.reports ≡ length old.reports + 1 = ap length reports ∙ length-append old.reports (reports_in left ∷ []) in
     record {
       places = λ p h. office.places p (subst (λ (k : Kept). IsSome (get k p)) kept h);
       texts = subst (AreOwnTexts setup) (sym kept) office.texts;
       ready = rw (size, kept) ready;
-      reports = reports ∙ ap (λ (rs : List Reports). rs ++ left.reports ∷ []) office.reports ∙ ap (λ (o : Outcome). reports_to setup old.kept (length old.reports) ++ o.reports ∷ []) is
+      reports = reports ∙ ap (λ (rs : List Reports). rs ++ reports_in left ∷ []) office.reports ∙ ap (λ (o : Finished). reports_to setup old.kept (length old.reports) ++ reports_in o ∷ []) is
           ∙ sym (reports_to-suc setup old.kept (length old.reports)) ∙ ap (reports_to setup old.kept) (sym size) ∙ ap (λ (k : Kept). reports_to setup k (length new.reports)) (sym kept);
-      testing_is = ap (λ (o : Outcome). o.testing) is ∙ ap (testing_after setup old.kept) (sym size) ∙ ap (λ (k : Kept). testing_after setup k (length new.reports)) (sym kept);
-      watched = watched;
+      testing_is = testing ∙ ap (λ (o : Finished). o.testing) is ∙ ap (testing_after setup old.kept) (sym size) ∙ ap (λ (k : Kept). testing_after setup k (length new.reports)) (sym kept);
+      watched = subst (λ (t : Testing). AllWatchedWork setup.archs t.rows) (sym testing) watched;
     }
 
 get_push_before : {A : Type 0} (xs ys : List A) (k : ℕ) → k < length xs → slice_get (xs ++ ys) k ≡ slice_get xs k
@@ -104,5 +107,5 @@ at_run setup kept n (suc k) = ⊎_elim
     (λ (le : n ≤ k). slice_get_past (reports_to setup kept n) k (omega (arith, le, length-reports_to setup kept n)) ∙ sym (ap (λ b. shown b (nat_le (suc k) n) (reports_of setup kept (suc k))) (le-leb 1 (suc k) (omega arith)) ∙ ap (λ b. shown true b (reports_of setup kept (suc k))) (lt-leb (suc k) n (omega arith))))
     (cases_lt k n)
 
-pub reports_at-is : (setup : Lists) (content : Content) (testing : Testing) (run : ℕ) → IsOffice setup content testing → item_from_one run content.reports ≡ reports_at (record { setup = setup; kept = content.kept; finished = length content.reports }) run
-reports_at-is setup content testing run office = ap (item_from_one run) office.reports ∙ at_run setup content.kept (length content.reports) run
+pub reports_at-is : (setup : Lists) (content : Content) (run : ℕ) → IsOffice setup content → item_from_one run content.reports ≡ reports_at (record { setup = setup; kept = content.kept; finished = length content.reports }) run
+reports_at-is setup content run office = ap (item_from_one run) office.reports ∙ at_run setup content.kept (length content.reports) run

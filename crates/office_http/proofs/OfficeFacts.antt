@@ -1,5 +1,5 @@
 -- What a delivery leaves of an office.
-use Rattle.std.proofs.Common.{◌≡◌, ◌⊎◌, ⊎_elim, inl, inr, ℕ, zero, suc, ◌+◌, ◌≤◌, Bool, true, false, cond, if◌then◌else◌, List, [], ◌∷◌, ◌++◌, length, Option, Some, None, Result, Ok, Err, IsSome, bytes_eq, sym, ap, subst, ◌∙◌, refl, arith, rules}
+use Rattle.std.proofs.Common.{OnOk, ◌≡◌, ◌⊎◌, ⊎_elim, inl, inr, ℕ, zero, suc, Bool, true, false, cond, List, [], ◌∷◌, ◌++◌, length, Option, Some, None, Result, Ok, Err, IsSome, sym, ap, subst, ◌∙◌, refl, rules}
 use Rattle.std.specs.Ordering.{eq_by_cmp}
 use Rattle.std.specs.FinMap.{get, insert, empty, get-empty, get-insert}
 use Rattle.office_mail.specs.declared.message.Message.{Message}
@@ -10,22 +10,22 @@ use Rattle.office_mail.specs.Read.{read}
 use Rattle.office_mail.proofs.KeptFacts.{places_total, tied, placed_ok, kept_from-nil, kept_from-append, kept_from-fault, kept_from-free, kept_from-taken, kept_from-Within}
 use Rattle.office_mail.proofs.RunFacts.{IsReady-zero}
 use Rattle.office_http.specs.declared.faults.DeliverFault.{DeliverFault}
-use Rattle.office_http.specs.declared.faults.DeliverFault.TheVariants.{Mail, OtherText, Store}
+use Rattle.office_http.specs.declared.faults.DeliverFault.TheVariants.{Mail}
 use Rattle.office_http.specs.declared.faults.Held.{Held}
-use Rattle.office_http.specs.Content.{Content}
-use Rattle.office_http.specs.State.{IsOffice, AreOwnTexts, AnswersDelivery, answer_to, answer_by, answer_at, held_at}
-use Rattle.jiff.specs.declared.civil.dates.Date.{Date}
+use Rattle.office_store.specs.Content.{Content, no_content, reports_in, with_text}
+use Rattle.office_store.specs.Given.{AreOwnTexts}
+use Rattle.office_http.specs.State.{IsOffice, AnswersDelivery, answer_to, answer_by, answer_at}
 use Rattle.office_mail.specs.declared.message.RunOrder.{RunOrder}
 use Rattle.office_mail.specs.Lists.{Lists}
 use Rattle.office_mail.specs.Kept.{Kept, Place, Within}
 use Rattle.office_mail.specs.Runs.{orders_to, latest_day, IsReady}
 use Rattle.office_mail.proofs.RunFacts.{orders_to-later, covered-later, IsReady-before, IsReady-later}
-use Rattle.office_http.specs.declared.plain.Reports.{Reports}
+use Rattle.office_store.specs.declared.values.Reports.{Reports}
+use Rattle.office_store.specs.declared.values.Finished.{Finished}
 use Rattle.std.specs.FinMap.{entries}
 use Rattle.std.specs.List.{filter_map}
 use Rattle.testing_rules.specs.Watched.{AllWatchedWork}
 use Rattle.testing_rules.specs.Covered.{Covered}
-use Rattle.office_http.specs.declared.rules.Outcome.{Outcome}
 use Rattle.office_http.specs.Outcome.{Testing, item_at, covered_items, outcome_on, outcome_of, reports_of, reports_to, testing_after}
 
 covered_items-later : (setup : Lists) (small large : Kept) (k : ℕ) → Within small large → IsReady setup small k → covered_items setup large k ≡ covered_items setup small k
@@ -39,14 +39,14 @@ outcome_of-later setup small large zero within ready = refl
 outcome_of-later setup small large (suc k) within ready =
     ap (λ (os : List RunOrder). outcome_on setup (suc k) (latest_day os) (covered_items setup large (suc k)) (outcome_of setup large k).testing) (orders_to-later setup small large (suc k) within ready.orders)
     ∙ ap (λ (mail : Covered). outcome_on setup (suc k) (latest_day (orders_to setup small (suc k))) mail (outcome_of setup large k).testing) (covered_items-later setup small large (suc k) within ready)
-    ∙ ap (λ (o : Outcome). outcome_on setup (suc k) (latest_day (orders_to setup small (suc k))) (covered_items setup small (suc k)) o.testing) (outcome_of-later setup small large k within (IsReady-before setup small k ready))
+    ∙ ap (λ (o : Finished). outcome_on setup (suc k) (latest_day (orders_to setup small (suc k))) (covered_items setup small (suc k)) o.testing) (outcome_of-later setup small large k within (IsReady-before setup small k ready))
 
 pub reports_to-later : (setup : Lists) (small large : Kept) (k : ℕ) → Within small large → IsReady setup small k → reports_to setup large k ≡ reports_to setup small k
 unfolding reports_to
 reports_to-later setup small large zero within ready = refl
 reports_to-later setup small large (suc k) within ready =
     ap (λ (rs : List Reports). rs ++ reports_of setup large (suc k) ∷ []) (reports_to-later setup small large k within (IsReady-before setup small k ready))
-    ∙ ap (λ (o : Outcome). reports_to setup small k ++ o.reports ∷ []) (outcome_of-later setup small large (suc k) within ready)
+    ∙ ap (λ (o : Finished). reports_to setup small k ++ reports_in o ∷ []) (outcome_of-later setup small large (suc k) within ready)
 
 pub answer_due : (r due : Result Held DeliverFault) → r ≡ due → AnswersDelivery r due
 answer_due r due e = search (rules, e)
@@ -62,21 +62,6 @@ unfolding answer_to
 answer_fault setup kept text fault h = ⊎_elim
     (λ e. answer_due (Err (Mail fault)) (answer_to setup kept text) (ap (answer_by kept text) e))
     (λ e. let same : fault ≡ NoMemory = cc in rw same (answer_no_memory (answer_to setup kept text))) h
-
-pub answer_free : (setup : Lists) (kept : Kept) (text : List ℕ) (message : Message) → read setup text ≡ Ok message → get kept (place_of message) ≡ None → AnswersDelivery (Ok (held_at message)) (answer_to setup kept text)
-unfolding answer_to
-answer_free setup kept text message e free = answer_due _ _ (sym (ap (answer_by kept text) e ∙ ap (answer_at text message) free))
-
-abbrev choice : Message → Bool → Result Held DeliverFault
-choice message b = if b then Ok (held_at message) else Err OtherText
-
-pub answer_same : (setup : Lists) (kept : Kept) (text stored : List ℕ) (message : Message) → read setup text ≡ Ok message → get kept (place_of message) ≡ Some stored → bytes_eq stored text ≡ true → AnswersDelivery (Ok (held_at message)) (answer_to setup kept text)
-unfolding answer_to
-answer_same setup kept text stored message e taken same = answer_due _ _ (sym (ap (answer_by kept text) e ∙ ap (answer_at text message) taken ∙ ap (choice message) same))
-
-pub answer_other : (setup : Lists) (kept : Kept) (text stored : List ℕ) (message : Message) → read setup text ≡ Ok message → get kept (place_of message) ≡ Some stored → bytes_eq stored text ≡ false → AnswersDelivery (Err OtherText) (answer_to setup kept text)
-unfolding answer_to
-answer_other setup kept text stored message e taken same = answer_due _ _ (sym (ap (answer_by kept text) e ∙ ap (answer_at text message) taken ∙ ap (choice message) same))
 
 some_of : {A : Type 0} (o : Option A) (x : A) → o ≡ Some x → IsSome o
 some_of o x e = rw e refl
@@ -117,8 +102,11 @@ place_after true text o h = inl refl
 place_after false text o h = inr h
 
 -- an office with one text more
-pub IsOffice-kept : (setup : Lists) (old new : Content) (testing : Testing) (text : List ℕ) (message : Message) → IsOffice setup old testing → read setup text ≡ Ok message → get old.kept (place_of message) ≡ None → IsPlace setup (place_of message) → new.kept ≡ insert old.kept (place_of message) text → new.reports ≡ old.reports → IsOffice setup new testing
-IsOffice-kept setup old new testing text message office e free place kept reports =
+pub IsOffice-kept : (setup : Lists) (old new : Content) (text : List ℕ) (message : Message) → IsOffice setup old → read setup text ≡ Ok message → get old.kept (place_of message) ≡ None → IsPlace setup (place_of message) → new ≡ with_text old message.sender message.number text → IsOffice setup new
+IsOffice-kept setup old new text message office e free place put =
+    let kept : new.kept ≡ insert old.kept (place_of message) text = ap (λ (c : Content). c.kept) put in
+    let reports : new.reports ≡ old.reports = ap (λ (c : Content). c.reports) put in
+    let testing : new.testing ≡ old.testing = ap (λ (c : Content). c.testing) put in
     let is : new.kept ≡ kept_from setup old.kept (text ∷ []) = kept ∙ sym (kept_from-free setup old.kept text message e free) in
     let within : Within old.kept new.kept = subst (Within old.kept) (sym is) (kept_from-Within setup old.kept (text ∷ [])) in
     let size : length new.reports ≡ length old.reports = ap length reports in
@@ -130,20 +118,35 @@ IsOffice-kept setup old new testing text message office e free place kept report
       texts = subst (AreOwnTexts setup) (sym is) (own_texts-kept_from setup old.kept (text ∷ []) office.texts);
       ready = rw size (IsReady-later setup old.kept new.kept (length old.reports) within office.ready);
       reports = reports ∙ office.reports ∙ sym (reports_to-later setup old.kept new.kept (length old.reports) within office.ready) ∙ ap (reports_to setup new.kept) (sym size);
-      testing_is = office.testing_is ∙ sym (ap (λ (o : Outcome). o.testing) (outcome_of-later setup old.kept new.kept (length old.reports) within office.ready)) ∙ ap (testing_after setup new.kept) (sym size);
-      watched = office.watched;
+      testing_is = testing ∙ office.testing_is ∙ sym (ap (λ (o : Finished). o.testing) (outcome_of-later setup old.kept new.kept (length old.reports) within office.ready)) ∙ ap (testing_after setup new.kept) (sym size);
+      watched = subst (λ (t : Testing). AllWatchedWork setup.archs t.rows) (sym testing) office.watched;
     }
 
 none_watched : (archs : List (List ℕ)) → AllWatchedWork archs []
 none_watched archs = λ arch h. tt
 
-pub IsOffice-new : (setup : Lists) (content : Content) (testing : Testing) → content.kept ≡ empty → content.reports ≡ [] → testing ≡ record { sources = []; rows = [] } → IsOffice setup content testing
+-- where nothing is kept and no run is finished, an office begins
+pub IsOffice-new : (setup : Lists) → IsOffice setup no_content
 unfolding reports_to outcome_of
-IsOffice-new setup content testing kept reports is = record {
-  places = λ p h. absurd (cc (subst IsSome (ap (λ k. get k p) kept ∙ get-empty place_cmp p) h));
-  texts = λ p t h. absurd (cc (sym (ap (λ k. get k p) kept ∙ get-empty place_cmp p) ∙ h));
-  ready = rw reports (IsReady-zero setup content.kept);
-  reports = rw reports refl;
-  testing_is = is ∙ sym (ap (λ (rs : List Reports). testing_after setup content.kept (length rs)) reports);
-  watched = subst (λ (t : Testing). AllWatchedWork setup.archs t.rows) (sym is) (none_watched setup.archs);
+IsOffice-new setup = record {
+  places = λ p h. absurd (cc (subst IsSome (get-empty place_cmp p) h));
+  texts = λ p t h. absurd (cc (sym (get-empty place_cmp p) ∙ h));
+  ready = IsReady-zero setup empty;
+  reports = refl;
+  testing_is = refl;
+  watched = none_watched setup.archs;
 }
+
+-- what holds anyway holds on Ok
+pub on_ok : {T E : Type 0} {P : Type 0} (r : Result T E) → P → OnOk r P
+on_ok (Ok x) p = p
+on_ok (Err e) p = tt
+
+-- a kept map is within itself, and within one with a message more
+pub Within-put : (setup : Lists) (old new : Kept) (text : List ℕ) (message : Message) → read setup text ≡ Ok message → get old (place_of message) ≡ None → new ≡ insert old (place_of message) text → Within old new
+Within-put setup old new text message e free put = subst (Within old) (sym (put ∙ sym (kept_from-free setup old text message e free))) (kept_from-Within setup old (text ∷ []))
+
+-- a delivery is answered by the message that a text is
+pub answer_read : (setup : Lists) (kept : Kept) (text : List ℕ) (message : Message) (r : Result Held DeliverFault) → read setup text ≡ Ok message → AnswersDelivery r (answer_at text message (get kept (place_of message))) → AnswersDelivery r (answer_to setup kept text)
+unfolding answer_to
+answer_read setup kept text message r e given = subst (AnswersDelivery r) (sym (ap (answer_by kept text) e)) given

@@ -1,5 +1,5 @@
--- What a delivery and its answer leave.
-use Rattle.std.proofs.Common.{◌≡◌, ◌⊎◌, ⊎_elim, ℕ, Bool, true, false, List, [], ◌∷◌, ◌++◌, Option, Some, None, Result, Ok, Err, IsSome, OnOk, OnErr, bytes_eq, if◌then◌else◌, sym, ap, subst, ◌∙◌, refl, arith}
+-- What a delivery and its answer leave. P, Q and R say that the store refused: in a first part, in what follows, and in both.
+use Rattle.std.proofs.Common.{◌≡◌, ◌≤◌, ⊎_elim, ℕ, Bool, true, List, [], ◌∷◌, Option, Some, None, Result, Ok, Err, IsSome, IfOk, OnOk, OnErr, is_ok, sym, ap, subst, ◌∙◌, refl, arith}
 use Rattle.std.specs.FinMap.{get}
 use Rattle.office_mail.specs.declared.message.Message.{Message}
 use Rattle.office_mail.specs.declared.message.MailFault.{MailFault}
@@ -7,38 +7,53 @@ use Rattle.office_mail.specs.declared.message.MailFault.TheVariants.{TooLong, Ba
 use Rattle.office_mail.specs.Lists.{Lists}
 use Rattle.office_mail.specs.Kept.{Kept, place_of, kept_from}
 use Rattle.office_mail.specs.Read.{read}
-use Rattle.office_mail.proofs.KeptFacts.{kept_from-nil, kept_from-taken, kept_from-fault, kept_from-Within}
-use Rattle.office_mail.specs.Runs.{IsReady}
-use Rattle.office_mail.proofs.RunFacts.{IsReady-later}
+use Rattle.office_mail.proofs.KeptFacts.{kept_from-nil, kept_from-taken, kept_from-fault}
+use Rattle.office_mail.specs.Runs.{IsReady, IsReadyCount}
+use Rattle.office_http.specs.declared.faults.Progress.{Progress}
+use Rattle.office_http.specs.declared.faults.StoreFault.{StoreFault}
+use Rattle.office_http.specs.Ending.{mark_in}
+use Rattle.office_http.proofs.EndFacts.{settled_unmet}
 use Rattle.office_http.specs.declared.faults.DeliverFault.{DeliverFault}
 use Rattle.office_http.specs.declared.faults.DeliverFault.TheVariants.{Mail, OtherText, Store}
 use Rattle.office_http.specs.declared.faults.Held.{Held}
 use Rattle.office_http.specs.declared.replies.Mark.{Mark}
 use Rattle.office_http.specs.declared.replies.Mark.TheVariants.{Taken, LostForMemory, LostForStore}
-use Rattle.office_http.specs.State.{AnswersDelivery, answer_to, answer_by, answer_at, held_at}
+use Rattle.office_http.specs.State.{AnswersDelivery, answer_to, answer_by, answer_at, IsSound, state_of}
 use Rattle.office_http.specs.Replies.{reply_by, mark_of, if_taken}
-use Rattle.office_http.specs.Losses.{NotByStore}
+use Rattle.office_http.specs.Losses.{DeliveryCounted}
+use Rattle.office_http.specs.Carried.{StoreRefused}
+use Rattle.office_http.specs.Counted.{Counted, CountedDelivery}
+use Rattle.office_http.specs.Delivered.{DeliversOne, DeliversOneFront, Settles}
+use Rattle.office_http.specs.Standing.{State}
+use Rattle.office_http.specs.Replies.{reply_line}
+use Rattle.office_http.specs.Written.{AppendsFront}
+use Rattle.office_store.specs.Content.{Content}
+use Rattle.office_store.specs.declared.keeping.Keeper.{Ghosts}
+use Rattle.std.proofs.lemmas.Result.{on_err_weaker}
+use Rattle.std.specs.Io.KnownBytes.{Appends}
+use Rattle.office_http.proofs.CarryFacts.{risen, risen_delivery}
+use Rattle.office_http.proofs.RiseFacts.{delivery_weaker, text_weaker, text_counted}
 
 -- where an answer is no loss, it is the one that is due
 due_of : (r due : Result Held DeliverFault) → AnswersDelivery r due → (r ≡ Err (Mail NoMemory) → ⊥) → (r ≡ Err Store → ⊥) → r ≡ due
 due_of r due h a b = ⊎_elim (λ e. e) (λ rest. ⊎_elim (λ e. absurd (a e)) (λ e. absurd (b e)) rest) h
 
--- where an answer isn't the store's, nothing is lost by it
-pub not_by_store : (r : Result Held DeliverFault) → (r ≡ Err Store → ⊥) → NotByStore (mark_of r)
-not_by_store (Ok held) h = tt
-not_by_store (Err OtherText) h = tt
-not_by_store (Err Store) h = absurd (h refl)
-not_by_store (Err (Mail NoMemory)) h = tt
-not_by_store (Err (Mail TooLong)) h = tt
-not_by_store (Err (Mail BadParagraph)) h = tt
-not_by_store (Err (Mail (MissingField f))) h = tt
-not_by_store (Err (Mail UnknownSender)) h = tt
-not_by_store (Err (Mail BadNumber)) h = tt
-not_by_store (Err (Mail UnknownKind)) h = tt
-not_by_store (Err (Mail WrongRole)) h = tt
-not_by_store (Err (Mail TooManyParagraphs)) h = tt
-not_by_store (Err (Mail UnknownArchitecture)) h = tt
-not_by_store (Err (Mail (BadValue f))) h = tt
+-- what the store's answer needs, a delivery that it lost has
+pub delivery_counted : (rose : Type 0) (r : Result Held DeliverFault) → (r ≡ Err Store → rose) → DeliveryCounted rose (mark_of r)
+delivery_counted rose (Ok held) h = tt
+delivery_counted rose (Err OtherText) h = tt
+delivery_counted rose (Err Store) h = h refl
+delivery_counted rose (Err (Mail NoMemory)) h = tt
+delivery_counted rose (Err (Mail TooLong)) h = tt
+delivery_counted rose (Err (Mail BadParagraph)) h = tt
+delivery_counted rose (Err (Mail (MissingField f))) h = tt
+delivery_counted rose (Err (Mail UnknownSender)) h = tt
+delivery_counted rose (Err (Mail BadNumber)) h = tt
+delivery_counted rose (Err (Mail UnknownKind)) h = tt
+delivery_counted rose (Err (Mail WrongRole)) h = tt
+delivery_counted rose (Err (Mail TooManyParagraphs)) h = tt
+delivery_counted rose (Err (Mail UnknownArchitecture)) h = tt
+delivery_counted rose (Err (Mail (BadValue f))) h = tt
 
 -- the answer, by its mark
 pub reply_by-mark : (r due : Result Held DeliverFault) → AnswersDelivery r due → r ≡ reply_by (mark_of r) due
@@ -85,7 +100,68 @@ pub kept_after : (setup : Lists) (kept new : Kept) (text : List ℕ) (r : Result
 kept_after setup kept new text (Ok held) h ok err = ok
 kept_after setup kept new text (Err fault) h ok err = err ∙ kept_marked setup kept text fault (mark_of (Err fault)) (λ t. sym (marked_due (mark_of (Err fault)) (Err fault) (answer_to setup kept text) (reply_by-mark (Err fault) (answer_to setup kept text) h) t))
 
--- a delivery leaves the ready runs ready
-pub ready_after : (setup : Lists) (kept new : Kept) (text : List ℕ) (k : ℕ) (r : Result Held DeliverFault) → OnOk r (new ≡ kept_from setup kept (text ∷ [])) → OnErr r (new ≡ kept) → IsReady setup kept k → IsReady setup new k
-ready_after setup kept new text k (Ok held) ok err h = subst (λ (m : Kept). IsReady setup m k) (sym ok) (IsReady-later setup kept (kept_from setup kept (text ∷ [])) k (kept_from-Within setup kept (text ∷ [])) h)
-ready_after setup kept new text k (Err fault) ok err h = subst (λ (m : Kept). IsReady setup m k) (sym err) h
+-- a delivery, and what it leaves
+pub record Leaves (before after : State) (text : List ℕ) (r : Result Held DeliverFault) (rose : Type 0) : Type 0 where
+  pub answer : AnswersDelivery r (answer_to before.setup before.kept text)
+  pub kept : OnOk r (after.kept ≡ kept_from before.setup before.kept (text ∷ []))
+  pub finished : after.finished ≡ before.finished
+  pub setup : after.setup ≡ before.setup
+  pub err : OnErr r (after.kept ≡ before.kept)
+  pub by_store : r ≡ Err Store → rose
+
+pub leaves_call : {K : Type 0} (keeper : Ghosts K) (a b : K) (text : List ℕ) (r : Result Held DeliverFault) → AnswersDelivery r (answer_to (keeper.setup a) (keeper.content a).kept text) → OnOk r ((keeper.content b).kept ≡ kept_from (keeper.setup a) (keeper.content a).kept (text ∷ []))
+    → (state_of keeper b).finished ≡ (state_of keeper a).finished → OnErr r (keeper.content b ≡ keeper.content a) → keeper.setup b ≡ keeper.setup a → CountedDelivery (keeper.refusals a) (keeper.refusals b) r → Leaves (state_of keeper a) (state_of keeper b) text r (StoreRefused keeper a b)
+leaves_call keeper a b text r answer kept finished err setup count = record {
+  answer = answer;
+  kept = kept;
+  finished = finished;
+  setup = setup;
+  err = on_err_weaker r (λ e. ap (λ (c : Content). c.kept) e) err;
+  by_store = risen_delivery (keeper.refusals a) (keeper.refusals b) r count;
+}
+
+pub delivers_one : (P Q R : Type 0) (s0 s1 s2 : State) (text : List ℕ) (r : Result Held DeliverFault) (w0 w1 : Option (List ℕ)) → Leaves s0 s1 text r P → (P → R) → Settles s1 s2 (is_ok r) Q → (Q → R) → Appends w0 w1 (reply_line s1.setup r) → DeliversOne s0 s2 text (mark_of r) w0 w1 R
+delivers_one P Q R s0 s1 s2 text r w0 w1 l l_rises f f_rises wrote =
+    let by : r ≡ reply_by (mark_of r) (answer_to s0.setup s0.kept text) = reply_by-mark r (answer_to s0.setup s0.kept text) l.answer in
+    record {
+      kept = f.kept ∙ kept_after s0.setup s0.kept s1.kept text r l.answer l.kept l.err;
+      setup = f.setup ∙ l.setup;
+      written = subst (Appends w0 w1) (ap (λ (s : Lists). reply_line s r) l.setup ∙ ap (reply_line s0.setup) by) wrote;
+      by_store = delivery_weaker P R (mark_of r) l_rises (delivery_counted P r l.by_store);
+      settles = record {
+        setup = f.setup ∙ l.setup;
+        kept = refl;
+        grows = omega (arith, f.grows, l.finished);
+        still = λ h. f.still (ap is_ok by ∙ h) ∙ l.finished;
+        ready = f.ready;
+        met = f.met;
+        met_by_store = text_weaker Q R f.met f_rises f.met_by_store;
+        all_ready = λ h e. f.all_ready (ap is_ok by ∙ h) e;
+      };
+    }
+
+pub delivers_one_front : (P : Type 0) (s0 s1 : State) (text : List ℕ) (r : Result Held DeliverFault) (w0 w1 : Option (List ℕ)) → Leaves s0 s1 text r P → IsReady s1.setup s1.kept s1.finished → AppendsFront w0 w1 (reply_line s1.setup r) → DeliversOneFront s0 s1 text w0 w1 P
+delivers_one_front P s0 s1 text r w0 w1 l ready wrote = record {
+  mark = mark_of r;
+  kept = kept_after s0.setup s0.kept s1.kept text r l.answer l.kept l.err;
+  setup = l.setup;
+  finished = l.finished;
+  ready = ready;
+  written = subst (AppendsFront w0 w1) (ap (λ (s : Lists). reply_line s r) l.setup ∙ ap (reply_line s0.setup) (reply_by-mark r (answer_to s0.setup s0.kept text) l.answer)) wrote;
+  by_store = delivery_counted P r l.by_store;
+}
+
+-- a settle behind a delivery that is held
+pub settles_call : {K : Type 0} (keeper : Ghosts K) (a b : K) (r : Result Progress StoreFault) (held : Bool) → IfOk r (λ p. IsReadyCount (keeper.setup a) (keeper.content a).kept p.ready) → IfOk r (λ p. (p.finished ≡ p.ready) × ((state_of keeper b).finished ≡ p.ready))
+    → (keeper.content b).kept ≡ (keeper.content a).kept → (state_of keeper a).finished ≤ (state_of keeper b).finished → keeper.setup b ≡ keeper.setup a → IsSound keeper b → Counted (keeper.refusals a) (keeper.refusals b) r → held ≡ true → Settles (state_of keeper a) (state_of keeper b) held (StoreRefused keeper a b)
+settles_call keeper a b r held counted_is finished kept grows setup sound count e = record {
+  setup = setup;
+  kept = kept;
+  grows = grows;
+  still = λ h. absurd (cc (h, e));
+  ready = sound.1.ready;
+  met = mark_in r;
+  met_by_store = text_counted (StoreRefused keeper a b) r (risen (keeper.refusals a) (keeper.refusals b) r count);
+  all_ready = λ h none. subst (λ (l : Lists). IsReadyCount l (keeper.content b).kept (state_of keeper b).finished) (sym setup)
+      (subst (λ (k : Kept). IsReadyCount (keeper.setup a) k (state_of keeper b).finished) (sym kept) (settled_unmet (keeper.setup a) (keeper.content a).kept (state_of keeper b).finished r counted_is finished none));
+}

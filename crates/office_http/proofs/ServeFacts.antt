@@ -1,5 +1,5 @@
--- What a connection comes to.
-use Rattle.std.proofs.Common.{◌≡◌, inl, inr, ⊎_elim, ℕ, ◌+◌, ◌-◌, ◌≤◌, ◌<◌, Bool, true, false, cond, nat_le, List, [], ◌∷◌, ◌++◌, length, take, drop, Option, Some, None, Result, Ok, Err, IfOk, IfErr, IfSome, OnOk, OnErr, is_ok, refl, sym, ap, subst, ◌∙◌, arith, append_assoc}
+-- What a connection comes to. P, Q and R say that the store refused: in a first part, in what follows, and in both.
+use Rattle.std.proofs.Common.{◌≡◌, inl, inr, ⊎_elim, ℕ, ◌+◌, ◌-◌, ◌≤◌, ◌<◌, Bool, true, false, cond, nat_le, List, [], ◌++◌, length, take, drop, Option, Some, None, Result, Ok, Err, IfOk, IfErr, IfSome, OnOk, is_ok, refl, sym, ap, subst, ◌∙◌, arith, append_assoc}
 use Rattle.std.specs.Option.{option_map}
 use Rattle.std.specs.Io.KnownBytes.{Appends, Consumes}
 use Rattle.std.proofs.KnownBytes.{Appends-nil, Appends-trans, Consumes-nil, Consumes-trans}
@@ -37,42 +37,54 @@ use Rattle.office_http.specs.declared.serve.ServeFault.{ServeFault}
 use Rattle.office_http.specs.declared.serve.ServeFault.TheVariants.{Read, Write}
 use Rattle.office_http.specs.declared.serve.Served.{Served}
 use Rattle.office_http.specs.Asked.{asked_of, is_head_method}
-use Rattle.office_http.specs.Losses.{NotStore, NotByStore}
+use Rattle.office_http.specs.Losses.{TextCounted, DeliveryCounted}
 use Rattle.office_http.specs.Outcome.{testing_text, testing_after}
 use Rattle.office_http.specs.Replies.{reply_by, mark_of, if_taken}
 use Rattle.office_http.specs.Reply.{refused, reply_in, reply_bytes, HasPlace}
 use Rattle.office_http.specs.Request.{BeginsWith, IsHeadAt}
 use Rattle.office_http.specs.Standing.{State}
-use Rattle.office_http.specs.State.{answer_to, reports_at, AnswersDelivery}
+use Rattle.office_http.specs.State.{answer_to, reports_at}
 use Rattle.office_http.specs.Written.{AppendsFront}
-use Rattle.office_http.specs.Serve.{status_answer, text_answer, report_answer, delivery_answer, by_fault, posted_body, post_answer, answer_of, post_counts, waits_of, continued, kept_by, settles, Does, Tells, Runs, Answers, Exchange, IsUnread, IsServed, Replied, RepliedFront, Serves, StopsServe, ServesHead, ServesFront, StopsRequest}
-use Rattle.office_http.proofs.ReplayFacts.{reply_by-mark, not_by_store, kept_after, ready_after}
+use Rattle.office_http.specs.Serve.{refusal_for, status_answer, text_answer, report_answer, delivery_answer, by_fault, posted_body, post_answer, answer_of, post_counts, waits_of, continued, kept_by, settles, Does, Tells, Runs, Answers, Exchange, IsUnread, IsServed, Replied, RepliedFront, Serves, StopsServe, ServesHead, ServesFront, StopsRequest}
+use Rattle.office_http.proofs.ReplayFacts.{Leaves, reply_by-mark, delivery_counted, kept_after}
+use Rattle.office_http.proofs.RiseFacts.{delivery_weaker, text_weaker}
+use Rattle.office_http.specs.Delivered.{Settles}
 use Rattle.office_http.proofs.WrittenFacts.{front_after}
 
 -- pages
-pub told_status : (s : State) (r : Result Progress StoreFault) → IfOk r (λ p. IsReadyCount s.setup s.kept p.ready) → IfOk r (λ p. p.finished ≡ s.finished) → IfErr r (λ f. f ≡ fault.NoMemory) → Tells s page.Status (status_answer r)
-told_status s (Ok p) counted finished err = record { fault = None; no_store = tt; ready = p.ready; counts = λ e h. counted; answer_is = ap (λ (n : ℕ). Status (record { ready = p.ready; finished = n })) finished; place = tt }
-told_status s (Err fault.NoMemory) counted finished err = record { fault = Some fault.NoMemory; no_store = tt; ready = 0; counts = λ e. absurd (cc (e)); answer_is = refl; place = tt }
-told_status s (Err fault.Store) counted finished err = absurd (cc (err))
+pub told_status : (rose : Type 0) (s : State) (r : Result Progress StoreFault) → IfOk r (λ p. IsReadyCount s.setup s.kept p.ready) → IfOk r (λ p. p.finished ≡ s.finished) → (r ≡ Err fault.Store → rose) → Tells s page.Status (status_answer r) rose
+told_status rose s (Ok p) counted finished err = record { fault = None; by_store = tt; ready = p.ready; counts = λ e h. counted; answer_is = ap (λ (n : ℕ). Status (record { ready = p.ready; finished = n })) finished }
+told_status rose s (Err fault.NoMemory) counted finished err = record { fault = Some fault.NoMemory; by_store = tt; ready = 0; counts = λ e. absurd (cc (e)); answer_is = refl }
+told_status rose s (Err fault.Store) counted finished err = record { fault = Some fault.Store; by_store = err refl; ready = 0; counts = λ e. absurd (cc (e)); answer_is = refl }
 
-pub told_testing : (s : State) (r : Result (List ℕ) StoreFault) → IfOk r (λ t. t ≡ testing_text s.setup s.finished (testing_after s.setup s.kept s.finished)) → IfErr r (λ f. f ≡ fault.NoMemory) → Tells s page.Testing (text_answer r)
-told_testing s (Ok t) is err = record { fault = None; no_store = tt; ready = 0; counts = λ e h. absurd (cc (h)); answer_is = ap Told is; place = tt }
-told_testing s (Err fault.NoMemory) is err = record { fault = Some fault.NoMemory; no_store = tt; ready = 0; counts = λ e. absurd (cc (e)); answer_is = refl; place = tt }
-told_testing s (Err fault.Store) is err = absurd (cc (err))
+pub told_testing : (rose : Type 0) (s : State) (r : Result (List ℕ) StoreFault) → IfOk r (λ t. t ≡ testing_text s.setup s.finished (testing_after s.setup s.kept s.finished)) → (r ≡ Err fault.Store → rose) → Tells s page.Testing (text_answer r) rose
+told_testing rose s (Ok t) is err = record { fault = None; by_store = tt; ready = 0; counts = λ e h. absurd (cc (h)); answer_is = ap Told is }
+told_testing rose s (Err fault.NoMemory) is err = record { fault = Some fault.NoMemory; by_store = tt; ready = 0; counts = λ e. absurd (cc (e)); answer_is = refl }
+told_testing rose s (Err fault.Store) is err = record { fault = Some fault.Store; by_store = err refl; ready = 0; counts = λ e. absurd (cc (e)); answer_is = refl }
 
-place_report : (setup : Lists) (o : Option (List ℕ)) → HasPlace setup (report_answer (Ok o))
-place_report setup None = tt
-place_report setup (Some t) = tt
+pub told_excuses : (rose : Type 0) (s : State) (run : ℕ) (r : Result (Option (List ℕ)) StoreFault) → IfOk r (λ t. t ≡ option_map (λ reports. reports.excuses) (reports_at s run)) → (r ≡ Err fault.Store → rose) → Tells s (page.Excuses run) (report_answer r) rose
+told_excuses rose s run (Ok t) is err = record { fault = None; by_store = tt; ready = 0; counts = λ e h. absurd (cc (h)); answer_is = ap (λ (o : Option (List ℕ)). report_answer (Ok o)) is }
+told_excuses rose s run (Err fault.NoMemory) is err = record { fault = Some fault.NoMemory; by_store = tt; ready = 0; counts = λ e. absurd (cc (e)); answer_is = refl }
+told_excuses rose s run (Err fault.Store) is err = record { fault = Some fault.Store; by_store = err refl; ready = 0; counts = λ e. absurd (cc (e)); answer_is = refl }
 
-pub told_excuses : (s : State) (run : ℕ) (r : Result (Option (List ℕ)) StoreFault) → IfOk r (λ t. t ≡ option_map (λ reports. reports.excuses) (reports_at s run)) → IfErr r (λ f. f ≡ fault.NoMemory) → Tells s (page.Excuses run) (report_answer r)
-told_excuses s run (Ok t) is err = record { fault = None; no_store = tt; ready = 0; counts = λ e h. absurd (cc (h)); answer_is = ap (λ (o : Option (List ℕ)). report_answer (Ok o)) is; place = place_report s.setup t }
-told_excuses s run (Err fault.NoMemory) is err = record { fault = Some fault.NoMemory; no_store = tt; ready = 0; counts = λ e. absurd (cc (e)); answer_is = refl; place = tt }
-told_excuses s run (Err fault.Store) is err = absurd (cc (err))
+pub told_update : (rose : Type 0) (s : State) (run : ℕ) (r : Result (Option (List ℕ)) StoreFault) → IfOk r (λ t. t ≡ option_map (λ reports. reports.updates) (reports_at s run)) → (r ≡ Err fault.Store → rose) → Tells s (page.Update run) (report_answer r) rose
+told_update rose s run (Ok t) is err = record { fault = None; by_store = tt; ready = 0; counts = λ e h. absurd (cc (h)); answer_is = ap (λ (o : Option (List ℕ)). report_answer (Ok o)) is }
+told_update rose s run (Err fault.NoMemory) is err = record { fault = Some fault.NoMemory; by_store = tt; ready = 0; counts = λ e. absurd (cc (e)); answer_is = refl }
+told_update rose s run (Err fault.Store) is err = record { fault = Some fault.Store; by_store = err refl; ready = 0; counts = λ e. absurd (cc (e)); answer_is = refl }
 
-pub told_update : (s : State) (run : ℕ) (r : Result (Option (List ℕ)) StoreFault) → IfOk r (λ t. t ≡ option_map (λ reports. reports.updates) (reports_at s run)) → IfErr r (λ f. f ≡ fault.NoMemory) → Tells s (page.Update run) (report_answer r)
-told_update s run (Ok t) is err = record { fault = None; no_store = tt; ready = 0; counts = λ e h. absurd (cc (h)); answer_is = ap (λ (o : Option (List ℕ)). report_answer (Ok o)) is; place = place_report s.setup t }
-told_update s run (Err fault.NoMemory) is err = record { fault = Some fault.NoMemory; no_store = tt; ready = 0; counts = λ e. absurd (cc (e)); answer_is = refl; place = tt }
-told_update s run (Err fault.Store) is err = absurd (cc (err))
+-- an answer that names no sender has a place for its name
+pub place_status : (setup : Lists) (r : Result Progress StoreFault) → HasPlace setup (status_answer r)
+place_status setup (Ok p) = tt
+place_status setup (Err f) = tt
+
+pub place_text : (setup : Lists) (r : Result (List ℕ) StoreFault) → HasPlace setup (text_answer r)
+place_text setup (Ok t) = tt
+place_text setup (Err f) = tt
+
+pub place_report : (setup : Lists) (r : Result (Option (List ℕ)) StoreFault) → HasPlace setup (report_answer r)
+place_report setup (Ok None) = tt
+place_report setup (Ok (Some t)) = tt
+place_report setup (Err f) = tt
 
 -- a delivery
 lost_of : Mark → Option StoreFault
@@ -80,11 +92,11 @@ lost_of Taken = None
 lost_of LostForMemory = Some fault.NoMemory
 lost_of LostForStore = Some fault.Store
 
-no_store_of : (m : Mark) → NotByStore m → NotStore (lost_of m)
+loss_counted : (rose : Type 0) (m : Mark) → DeliveryCounted rose m → TextCounted rose (lost_of m)
 unfolding lost_of
-no_store_of Taken h = tt
-no_store_of LostForMemory h = tt
-no_store_of LostForStore h = absurd h
+loss_counted rose Taken h = tt
+loss_counted rose LostForMemory h = tt
+loss_counted rose LostForStore h = h
 
 answered : (m : Mark) (r due : Result Held DeliverFault) → r ≡ reply_by m due → delivery_answer r ≡ by_fault (lost_of m) (delivery_answer due)
 unfolding lost_of
@@ -104,7 +116,7 @@ settles_is s text Taken r e = sym (ap is_ok e)
 settles_is s text LostForMemory r e = sym (ap is_ok e)
 settles_is s text LostForStore r e = sym (ap is_ok e)
 
-place_delivery : (setup : Lists) (r : Result Held DeliverFault) → IfOk r (λ held. held.sender < length setup.senders) → HasPlace setup (delivery_answer r)
+pub place_delivery : (setup : Lists) (r : Result Held DeliverFault) → IfOk r (λ held. held.sender < length setup.senders) → HasPlace setup (delivery_answer r)
 place_delivery setup (Ok held) h = h
 place_delivery setup (Err OtherText) h = tt
 place_delivery setup (Err Store) h = tt
@@ -120,34 +132,20 @@ place_delivery setup (Err (Mail mail.TooManyParagraphs)) h = tt
 place_delivery setup (Err (Mail mail.UnknownArchitecture)) h = tt
 place_delivery setup (Err (Mail (mail.BadValue f))) h = tt
 
--- what follows a delivery: a settle where it is held
-pub record Follows (mid after : State) (r : Result Held DeliverFault) : Type 0 where
-  pub setup : after.setup ≡ mid.setup
-  pub kept : after.kept ≡ mid.kept
-  pub grows : mid.finished ≤ after.finished
-  pub still : is_ok r ≡ false → after.finished ≡ mid.finished
-  pub only_ready : IsReady mid.setup mid.kept mid.finished → IsReady mid.setup mid.kept after.finished
-
--- a delivery, and what it leaves
-pub record Leaves (before mid : State) (text : List ℕ) (r : Result Held DeliverFault) : Type 0 where
-  pub answer : AnswersDelivery r (answer_to before.setup before.kept text)
-  pub kept : OnOk r (mid.kept ≡ kept_from before.setup before.kept (text ∷ []))
-  pub finished : mid.finished ≡ before.finished
-  pub setup : mid.setup ≡ before.setup
-  pub err : OnErr r (mid.kept ≡ before.kept)
-  pub place : IfOk r (λ held. held.sender < length before.setup.senders)
-  pub no_store : r ≡ Err Store → ⊥
-
 ready_moved : (a b : State) (n : ℕ) → b.setup ≡ a.setup → b.kept ≡ a.kept → IsReady a.setup a.kept n → IsReady b.setup b.kept n
 ready_moved a b n s k h = subst (λ (l : Lists). IsReady l b.kept n) (sym s) (subst (λ (m : Kept). IsReady a.setup m n) (sym k) h)
 
-pub delivered : (before mid after : State) (text : List ℕ) (r : Result Held DeliverFault) → Leaves before mid text r → Follows mid after r → Runs before after Deliver text (delivery_answer r)
-delivered before mid after text r l f =
+count_moved : (a b : State) (n : ℕ) → b.setup ≡ a.setup → b.kept ≡ a.kept → IsReadyCount a.setup a.kept n → IsReadyCount b.setup b.kept n
+count_moved a b n s k h = subst (λ (l : Lists). IsReadyCount l b.kept n) (sym s) (subst (λ (m : Kept). IsReadyCount a.setup m n) (sym k) h)
+
+pub delivered : (P Q R : Type 0) (before mid after : State) (text : List ℕ) (r : Result Held DeliverFault) → Leaves before mid text r P → (P → R) → Settles mid after (is_ok r) Q → (Q → R) → Runs before after Deliver text (delivery_answer r) R
+delivered P Q R before mid after text r l l_rises f f_rises =
     let m : Mark = mark_of r in
     let by : r ≡ reply_by m (answer_to before.setup before.kept text) = reply_by-mark r (answer_to before.setup before.kept text) l.answer in
+    let settling : settles before Deliver text (lost_of m) ≡ is_ok r = settles_is before text m r by in
     record {
       fault = lost_of m;
-      no_store = no_store_of m (not_by_store r l.no_store);
+      by_store = loss_counted R m (delivery_weaker P R m l_rises (delivery_counted P r l.by_store));
       ready = 0;
       counts = λ e h. absurd (cc (h));
       answer_is = answered m r (answer_to before.setup before.kept text) by;
@@ -155,66 +153,77 @@ delivered before mid after text r l f =
         setup = f.setup ∙ l.setup;
         kept = f.kept ∙ kept_after before.setup before.kept mid.kept text r l.answer l.kept l.err ∙ kept_is before text m;
         grows = omega (arith, f.grows, l.finished);
-        still = λ h. f.still (sym (settles_is before text m r by) ∙ h) ∙ l.finished;
+        still = λ h. f.still (sym settling ∙ h) ∙ l.finished;
         settled = λ h. absurd (cc (h));
-        only_ready = λ h. ready_moved mid after after.finished f.setup f.kept (f.only_ready (subst (λ n. IsReady mid.setup mid.kept n) (sym l.finished)
-            (subst (λ (s : Lists). IsReady s mid.kept before.finished) (sym l.setup) (ready_after before.setup before.kept mid.kept text before.finished r l.kept l.err h))));
+        met = f.met;
+        met_by_store = text_weaker Q R f.met f_rises f.met_by_store;
+        all_ready = λ h e. f.all_ready (sym settling ∙ h) e;
+        only_ready = λ h. f.ready;
       };
-      place = place_delivery before.setup r l.place;
     }
 
 -- a settle
-pub settled : (before after : State) (text : List ℕ) (r : Result Progress StoreFault) → IfOk r (λ p. IsReadyCount before.setup before.kept p.ready) → IfOk r (λ p. (p.finished ≡ p.ready) × (after.finished ≡ p.ready)) → after.setup ≡ before.setup → after.kept ≡ before.kept → before.finished ≤ after.finished → IsReady before.setup before.kept after.finished → IfErr r (λ f. f ≡ fault.NoMemory) → Runs before after Settle text (status_answer r)
-settled before after text (Ok p) counted fin s k g o err = record {
-  fault = None;
-  no_store = tt;
-  ready = p.ready;
-  counts = λ e h. counted;
-  answer_is = ap (λ (n : ℕ). Status (record { ready = p.ready; finished = n })) fin.0;
-  moves = record { setup = s; kept = k; grows = g; still = λ h. absurd (cc (h)); settled = λ h e. fin.1; only_ready = λ h. ready_moved before after after.finished s k o };
-  place = tt;
-}
-settled before after text (Err fault.NoMemory) counted fin s k g o err = record {
-  fault = Some fault.NoMemory;
-  no_store = tt;
+settle_missed : (rose : Type 0) (before after : State) (text : List ℕ) (f : StoreFault) → TextCounted rose (Some f) → after.setup ≡ before.setup → after.kept ≡ before.kept → before.finished ≤ after.finished → IsReady before.setup before.kept after.finished → Runs before after Settle text (Refused (refusal_for f)) rose
+settle_missed rose before after text f by_store s k g o = record {
+  fault = Some f;
+  by_store = by_store;
   ready = 0;
   counts = λ e. absurd (cc (e));
   answer_is = refl;
-  moves = record { setup = s; kept = k; grows = g; still = λ h. absurd (cc (h)); settled = λ h e. absurd (cc (e)); only_ready = λ h. ready_moved before after after.finished s k o };
-  place = tt;
+  moves = record { setup = s; kept = k; grows = g; still = λ h. absurd (cc (h)); settled = λ h e. absurd (cc (e)); met = Some f; met_by_store = by_store; all_ready = λ h e. absurd (cc (e)); only_ready = λ h. ready_moved before after after.finished s k o };
 }
-settled before after text (Err fault.Store) counted fin s k g o err = absurd (cc (err))
+
+pub settled : (rose : Type 0) (before after : State) (text : List ℕ) (r : Result Progress StoreFault) → IfOk r (λ p. IsReadyCount before.setup before.kept p.ready) → IfOk r (λ p. (p.finished ≡ p.ready) × (after.finished ≡ p.ready)) → after.setup ≡ before.setup → after.kept ≡ before.kept → before.finished ≤ after.finished → IsReady before.setup before.kept after.finished → (r ≡ Err fault.Store → rose) → Runs before after Settle text (status_answer r) rose
+settled rose before after text (Ok p) counted fin s k g o err = record {
+  fault = None;
+  by_store = tt;
+  ready = p.ready;
+  counts = λ e h. counted;
+  answer_is = ap (λ (n : ℕ). Status (record { ready = p.ready; finished = n })) fin.0;
+  moves = record {
+    setup = s;
+    kept = k;
+    grows = g;
+    still = λ h. absurd (cc (h));
+    settled = λ h e. fin.1;
+    met = None;
+    met_by_store = tt;
+    all_ready = λ h e. count_moved before after after.finished s k (subst (IsReadyCount before.setup before.kept) (sym fin.1) counted);
+    only_ready = λ h. ready_moved before after after.finished s k o;
+  };
+}
+settled rose before after text (Err fault.NoMemory) counted fin s k g o err = settle_missed rose before after text fault.NoMemory tt s k g o
+settled rose before after text (Err fault.Store) counted fin s k g o err = settle_missed rose before after text fault.Store (err refl) s k g o
 
 -- where a fault was met before anything was done
-does_nothing : (s : State) (o : Option (Errand × List ℕ)) (f : StoreFault) (ready : ℕ) → Does s s o (Some f) ready
-does_nothing s None f ready = refl
-does_nothing s (Some (Deliver, body)) f ready = record { setup = refl; kept = refl; grows = omega arith; still = λ h. refl; settled = λ h e. absurd (cc (e)); only_ready = λ h. h }
-does_nothing s (Some (Settle, body)) f ready = record { setup = refl; kept = refl; grows = omega arith; still = λ h. refl; settled = λ h e. absurd (cc (e)); only_ready = λ h. h }
+does_nothing : (rose : Type 0) (s : State) (o : Option (Errand × List ℕ)) (f : StoreFault) (ready : ℕ) → TextCounted rose (Some f) → Does s s o (Some f) ready rose
+does_nothing rose s None f ready h = refl
+does_nothing rose s (Some (Deliver, body)) f ready by = record { setup = refl; kept = refl; grows = omega arith; still = λ h. refl; settled = λ h e. absurd (cc (e)); met = Some f; met_by_store = by; all_ready = λ h e. absurd (cc (e)); only_ready = λ h. h }
+does_nothing rose s (Some (Settle, body)) f ready by = record { setup = refl; kept = refl; grows = omega arith; still = λ h. refl; settled = λ h e. absurd (cc (e)); met = Some f; met_by_store = by; all_ready = λ h e. absurd (cc (e)); only_ready = λ h. h }
 
-pub short_answers : (s : State) (l0 l1 w0 w1 : Option (List ℕ)) (front : List ℕ) (asked : Asked) (more : List ℕ) (goes_on : Bool) → Consumes l0 l1 more → Appends w0 w1 (continued goes_on) → (goes_on ≡ true → waits_of asked ≡ true) → Answers s s l0 l1 w0 w1 front asked (Refused refusal.NoMemory)
-short_answers s l0 l1 w0 w1 front asked more goes_on took wrote waited = record {
+pub short_answers : (rose : Type 0) (s : State) (l0 l1 w0 w1 : Option (List ℕ)) (front : List ℕ) (asked : Asked) (more : List ℕ) (goes_on : Bool) → Consumes l0 l1 more → Appends w0 w1 (continued goes_on) → (goes_on ≡ true → waits_of asked ≡ true) → Answers s s l0 l1 w0 w1 front asked (Refused refusal.NoMemory) rose
+short_answers rose s l0 l1 w0 w1 front asked more goes_on took wrote waited = record {
   more = more;
   took = took;
   fault = Some fault.NoMemory;
-  no_store = tt;
+  by_store = tt;
   ready = 0;
   whole = λ e. absurd (cc (e));
   counts = λ e. absurd (cc (e));
   answer_is = refl;
-  does = does_nothing s (posted_body asked (front ++ more)) fault.NoMemory 0;
+  does = does_nothing rose s (posted_body asked (front ++ more)) fault.NoMemory 0 tt;
   goes_on = goes_on;
   wrote = wrote;
   went = λ e. absurd (cc (e));
   waited = waited;
-  place = tt;
 }
 
-pub refused_answers : (s : State) (l w : Option (List ℕ)) (front : List ℕ) (r : Refusal) (due : Asked) → asks.Refused r ≡ due → Answers s s l l w w front due (Refused r)
-refused_answers s l w front r due e = subst (λ (a : Asked). Answers s s l l w w front a (Refused r)) e (record {
+pub refused_answers : (rose : Type 0) (s : State) (l w : Option (List ℕ)) (front : List ℕ) (r : Refusal) (due : Asked) → asks.Refused r ≡ due → Answers s s l l w w front due (Refused r) rose
+refused_answers rose s l w front r due e = subst (λ (a : Asked). Answers s s l l w w front a (Refused r) rose) e (record {
   more = [];
   took = Consumes-nil l;
   fault = None;
-  no_store = tt;
+  by_store = tt;
   ready = 0;
   whole = λ e. tt;
   counts = λ e h. absurd (cc (h));
@@ -224,25 +233,23 @@ refused_answers s l w front r due e = subst (λ (a : Asked). Answers s s l l w w
   wrote = Appends-nil w;
   went = λ e. refl;
   waited = λ h. absurd (cc (h));
-  place = tt;
 })
 
-pub told_answers : (s : State) (l w : Option (List ℕ)) (front : List ℕ) (p : Page) (answer : Answer) (due : Asked) → asks.Tell p ≡ due → Tells s p answer → Answers s s l l w w front due answer
-told_answers s l w front p answer due e t = subst (λ (a : Asked). Answers s s l l w w front a answer) e (record {
+pub told_answers : (rose : Type 0) (s s' : State) (l w : Option (List ℕ)) (front : List ℕ) (p : Page) (answer : Answer) (due : Asked) → asks.Tell p ≡ due → Tells s p answer rose → s' ≡ s → Answers s s' l l w w front due answer rose
+told_answers rose s s' l w front p answer due e t same = subst (λ (a : Asked). Answers s s' l l w w front a answer rose) e (record {
   more = [];
   took = Consumes-nil l;
   fault = t.fault;
-  no_store = t.no_store;
+  by_store = t.by_store;
   ready = t.ready;
   whole = λ e. tt;
   counts = t.counts;
   answer_is = t.answer_is;
-  does = refl;
+  does = same;
   goes_on = false;
   wrote = Appends-nil w;
   went = λ e. refl;
   waited = λ h. absurd (cc (h));
-  place = t.place;
 })
 
 at_most : (n m : ℕ) → n ≤ m → nat_le n m ≡ true
@@ -258,25 +265,24 @@ body_is p rest body long is =
     ∙ ap (some_post p.errand) (sym is)
 
 -- a POST whose body came
-pub whole_answers : (before after : State) (l0 l1 w0 w1 : Option (List ℕ)) (front : List ℕ) (p : Posted) (answer : Answer) (more body : List ℕ) → Consumes l0 l1 more → p.length ≤ length (front ++ more) → Runs before after p.errand body answer → body ≡ take p.length (front ++ more) → Appends w0 w1 (continued p.waits) → Answers before after l0 l1 w0 w1 front (asks.Post p) answer
+pub whole_answers : (rose : Type 0) (before after : State) (l0 l1 w0 w1 : Option (List ℕ)) (front : List ℕ) (p : Posted) (answer : Answer) (more body : List ℕ) → Consumes l0 l1 more → p.length ≤ length (front ++ more) → Runs before after p.errand body answer rose → body ≡ take p.length (front ++ more) → Appends w0 w1 (continued p.waits) → Answers before after l0 l1 w0 w1 front (asks.Post p) answer rose
 unfolding some_post
-whole_answers before after l0 l1 w0 w1 front p answer more body took long r body_same wrote =
+whole_answers rose before after l0 l1 w0 w1 front p answer more body took long r body_same wrote =
     let is : posted_body (asks.Post p) (front ++ more) ≡ some_post p.errand body = body_is p (front ++ more) body long body_same in
     record {
       more = more;
       took = took;
       fault = r.fault;
-      no_store = r.no_store;
+      by_store = r.by_store;
       ready = r.ready;
       whole = λ e. inl long;
       counts = λ e h. r.counts e (sym (ap post_counts is) ∙ h);
       answer_is = r.answer_is ∙ ap (λ (o : Option (Errand × List ℕ)). by_fault r.fault (post_answer before r.ready o)) (sym is);
-      does = subst (λ (o : Option (Errand × List ℕ)). Does before after o r.fault r.ready) (sym is) r.moves;
+      does = subst (λ (o : Option (Errand × List ℕ)). Does before after o r.fault r.ready rose) (sym is) r.moves;
       goes_on = p.waits;
       wrote = wrote;
       went = λ e. refl;
       waited = λ h. h;
-      place = r.place;
     }
 
 -- the bytes after the head, and the body in front of them
@@ -286,13 +292,6 @@ post_body seen seen' taken start size is h long =
     let size_is : start + size - start ≡ size = omega arith in
     (omega (arith, ap length e, length-drop start seen', long), ap (λ n. take n (drop start seen')) size_is ∙ ap (take size) e)
 
-does_setup : (before after : State) (o : Option (Errand × List ℕ)) (f : Option StoreFault) (ready : ℕ) → Does before after o f ready → after.setup ≡ before.setup
-does_setup before after None f ready d = ap (λ (s : State). s.setup) d
-does_setup before after (Some post) f ready d = d.setup
-
-pub answers_setup : (before after : State) (l0 l1 w0 w1 : Option (List ℕ)) (front : List ℕ) (asked : Asked) (answer : Answer) → Answers before after l0 l1 w0 w1 front asked answer → after.setup ≡ before.setup
-answers_setup before after l0 l1 w0 w1 front asked answer a = does_setup before after (posted_body asked (front ++ a.more)) a.fault a.ready a.does
-
 -- a head, and what came after it
 begins_so : (seen more : List ℕ) (headers : List HeaderSpan) (spans : RequestSpans) (h : IsHeadAt seen headers spans) → BeginsWith (seen ++ more) h.head (drop spans.len seen ++ more)
 begins_so seen more headers spans h = record {
@@ -301,13 +300,13 @@ begins_so seen more headers spans h = record {
   few = h.few;
 }
 
-pub exchanged : (before after : State) (l0 l1 w0 w1 : Option (List ℕ)) (seen : List ℕ) (headers : List HeaderSpan) (spans : RequestSpans) (answer : Answer) (is_head : Bool) (h : IsHeadAt seen headers spans) (a : Answers before after l0 l1 w0 w1 (drop spans.len seen) (asked_of h.head) answer) → is_head ≡ is_head_method h.head → Exchange before after l1 (seen ++ a.more) (continued a.goes_on ++ reply_bytes (reply_in before.setup answer) is_head) (reply_in before.setup answer).code
-exchanged before after l0 l1 w0 w1 seen headers spans answer is_head h a e = record {
+pub exchanged : (rose : Type 0) (before after : State) (l0 l1 w0 w1 : Option (List ℕ)) (seen : List ℕ) (headers : List HeaderSpan) (spans : RequestSpans) (answer : Answer) (is_head : Bool) (h : IsHeadAt seen headers spans) (a : Answers before after l0 l1 w0 w1 (drop spans.len seen) (asked_of h.head) answer rose) → is_head ≡ is_head_method h.head → Exchange before after l1 (seen ++ a.more) (continued a.goes_on ++ reply_bytes (reply_in before.setup answer) is_head) (reply_in before.setup answer).code rose
+exchanged rose before after l0 l1 w0 w1 seen headers spans answer is_head h a e = record {
   head = h.head;
   rest = drop spans.len seen ++ a.more;
   begins = begins_so seen a.more headers spans h;
   fault = a.fault;
-  no_store = a.no_store;
+  by_store = a.by_store;
   ready = a.ready;
   whole = a.whole;
   counts = a.counts;
@@ -320,31 +319,31 @@ exchanged before after l0 l1 w0 w1 seen headers spans answer is_head h a e = rec
   code_is = ap (λ (r : Answer). (reply_in before.setup r).code) a.answer_is;
 }
 
-pub served_head : (before after : State) (l0 l1 w0 w1 w2 : Option (List ℕ)) (seen : List ℕ) (headers : List HeaderSpan) (spans : RequestSpans) (setup : Lists) (answer : Answer) (is_head : Bool) (code : ℕ) (h : IsHeadAt seen headers spans) → Answers before after l0 l1 w0 w1 (drop spans.len seen) (asked_of h.head) answer → is_head ≡ is_head_method h.head → setup ≡ before.setup → code ≡ (reply_in setup answer).code → Appends w1 w2 (reply_bytes (reply_in setup answer) is_head) → ServesHead before after l0 l1 w0 w2 seen code
-served_head before after l0 l1 w0 w1 w2 seen headers spans setup answer is_head code h a e s c wrote = record {
+pub served_head : (rose : Type 0) (before after : State) (l0 l1 w0 w1 w2 : Option (List ℕ)) (seen : List ℕ) (headers : List HeaderSpan) (spans : RequestSpans) (setup : Lists) (answer : Answer) (is_head : Bool) (code : ℕ) (h : IsHeadAt seen headers spans) → Answers before after l0 l1 w0 w1 (drop spans.len seen) (asked_of h.head) answer rose → is_head ≡ is_head_method h.head → setup ≡ before.setup → code ≡ (reply_in setup answer).code → Appends w1 w2 (reply_bytes (reply_in setup answer) is_head) → ServesHead before after l0 l1 w0 w2 seen code rose
+served_head rose before after l0 l1 w0 w1 w2 seen headers spans setup answer is_head code h a e s c wrote = record {
   more = a.more;
   took = a.took;
   bytes = continued a.goes_on ++ reply_bytes (reply_in before.setup answer) is_head;
-  exchange = subst (λ n. Exchange before after l1 (seen ++ a.more) (continued a.goes_on ++ reply_bytes (reply_in before.setup answer) is_head) n)
-      (sym (c ∙ ap (λ (l : Lists). (reply_in l answer).code) s)) (exchanged before after l0 l1 w0 w1 seen headers spans answer is_head h a e);
+  exchange = subst (λ n. Exchange before after l1 (seen ++ a.more) (continued a.goes_on ++ reply_bytes (reply_in before.setup answer) is_head) n rose)
+      (sym (c ∙ ap (λ (l : Lists). (reply_in l answer).code) s)) (exchanged rose before after l0 l1 w0 w1 seen headers spans answer is_head h a e);
   wrote = Appends-trans w0 w1 w2 (continued a.goes_on) (reply_bytes (reply_in before.setup answer) is_head) a.wrote
       (subst (λ (l : Lists). Appends w1 w2 (reply_bytes (reply_in l answer) is_head)) s wrote);
 }
 
-pub served_front : (before after : State) (l0 l1 w0 w1 w2 : Option (List ℕ)) (seen : List ℕ) (headers : List HeaderSpan) (spans : RequestSpans) (setup : Lists) (answer : Answer) (is_head : Bool) (h : IsHeadAt seen headers spans) → Answers before after l0 l1 w0 w1 (drop spans.len seen) (asked_of h.head) answer → is_head ≡ is_head_method h.head → setup ≡ before.setup → AppendsFront w1 w2 (reply_bytes (reply_in setup answer) is_head) → ServesFront before after l0 l1 w0 w2 seen
-served_front before after l0 l1 w0 w1 w2 seen headers spans setup answer is_head h a e s wrote = record {
+pub served_front : (rose : Type 0) (before after : State) (l0 l1 w0 w1 w2 : Option (List ℕ)) (seen : List ℕ) (headers : List HeaderSpan) (spans : RequestSpans) (setup : Lists) (answer : Answer) (is_head : Bool) (h : IsHeadAt seen headers spans) → Answers before after l0 l1 w0 w1 (drop spans.len seen) (asked_of h.head) answer rose → is_head ≡ is_head_method h.head → setup ≡ before.setup → AppendsFront w1 w2 (reply_bytes (reply_in setup answer) is_head) → ServesFront before after l0 l1 w0 w2 seen rose
+served_front rose before after l0 l1 w0 w1 w2 seen headers spans setup answer is_head h a e s wrote = record {
   more = a.more;
   took = a.took;
   bytes = continued a.goes_on ++ reply_bytes (reply_in before.setup answer) is_head;
   code = (reply_in before.setup answer).code;
-  exchange = exchanged before after l0 l1 w0 w1 seen headers spans answer is_head h a e;
+  exchange = exchanged rose before after l0 l1 w0 w1 seen headers spans answer is_head h a e;
   wrote = front_after w0 w1 w2 (continued a.goes_on) (reply_bytes (reply_in before.setup answer) is_head) a.wrote
       (subst (λ (l : Lists). AppendsFront w1 w2 (reply_bytes (reply_in l answer) is_head)) s wrote);
 }
 
 -- the whole connection
-pub replied_head : (before after : State) (l0 l1 l2 w0 w1 : Option (List ℕ)) (seen input : List ℕ) (code : ℕ) → Consumes l0 l1 input → input ≡ seen → ServesHead before after l1 l2 w0 w1 seen code → Replied before after l0 l2 w0 w1 code
-replied_head before after l0 l1 l2 w0 w1 seen input code took same s = record {
+pub replied_head : (rose : Type 0) (before after : State) (l0 l1 l2 w0 w1 : Option (List ℕ)) (seen input : List ℕ) (code : ℕ) → Consumes l0 l1 input → input ≡ seen → ServesHead before after l1 l2 w0 w1 seen code rose → Replied before after l0 l2 w0 w1 code rose
+replied_head rose before after l0 l1 l2 w0 w1 seen input code took same s = record {
   input = seen ++ s.more;
   took = Consumes-trans l0 l1 l2 seen s.more (subst (Consumes l0 l1) same took) s.took;
   bytes = s.bytes;
@@ -352,8 +351,8 @@ replied_head before after l0 l1 l2 w0 w1 seen input code took same s = record {
   wrote = s.wrote;
 }
 
-replied_front : (before after : State) (l0 l1 l2 w0 w1 : Option (List ℕ)) (seen input : List ℕ) → Consumes l0 l1 input → input ≡ seen → ServesFront before after l1 l2 w0 w1 seen → RepliedFront before after l0 l2 w0 w1
-replied_front before after l0 l1 l2 w0 w1 seen input took same s = record {
+replied_front : (rose : Type 0) (before after : State) (l0 l1 l2 w0 w1 : Option (List ℕ)) (seen input : List ℕ) → Consumes l0 l1 input → input ≡ seen → ServesFront before after l1 l2 w0 w1 seen rose → RepliedFront before after l0 l2 w0 w1 rose
+replied_front rose before after l0 l1 l2 w0 w1 seen input took same s = record {
   input = seen ++ s.more;
   took = Consumes-trans l0 l1 l2 seen s.more (subst (Consumes l0 l1) same took) s.took;
   bytes = s.bytes;
@@ -362,24 +361,24 @@ replied_front before after l0 l1 l2 w0 w1 seen input took same s = record {
   wrote = s.wrote;
 }
 
-pub stopped_head : (before after : State) (l0 l1 l2 w0 w1 : Option (List ℕ)) (seen input : List ℕ) (f : ServeFault) → Consumes l0 l1 input → input ≡ seen → StopsRequest before after l1 l2 w0 w1 seen f → StopsServe before after l0 l2 w0 w1 f
-stopped_head before after l0 l1 l2 w0 w1 seen input Read took same s = s
-stopped_head before after l0 l1 l2 w0 w1 seen input Write took same s = ⊎_elim (λ stop. inl stop) (λ front. inr (replied_front before after l0 l1 l2 w0 w1 seen input took same front)) s
+pub stopped_head : (rose : Type 0) (before after : State) (l0 l1 l2 w0 w1 : Option (List ℕ)) (seen input : List ℕ) (f : ServeFault) → Consumes l0 l1 input → input ≡ seen → StopsRequest before after l1 l2 w0 w1 seen f rose → StopsServe before after l0 l2 w0 w1 f rose
+stopped_head rose before after l0 l1 l2 w0 w1 seen input Read took same s = s
+stopped_head rose before after l0 l1 l2 w0 w1 seen input Write took same s = ⊎_elim (λ stop. inl stop) (λ front. inr (replied_front rose before after l0 l1 l2 w0 w1 seen input took same front)) s
 
 -- what is no request
-unread : (s : State) (left : Option (List ℕ)) (input : List ℕ) (r : Refusal) → IsUnread left input r → IsServed s s left input (reply_bytes (refused r) false) (refused r).code
-unread s left input r cause = inr (record { refusal = r; cause = cause; same = refl; bytes_are = refl; code_is = refl })
+unread : (rose : Type 0) (s : State) (left : Option (List ℕ)) (input : List ℕ) (r : Refusal) → IsUnread left input r → IsServed s s left input (reply_bytes (refused r) false) (refused r).code rose
+unread rose s left input r cause = inr (record { refusal = r; cause = cause; same = refl; bytes_are = refl; code_is = refl })
 
-unread_at : (s : State) (l0 l1 w0 w1 : Option (List ℕ)) (input : List ℕ) (r : Refusal) (code : Option ℕ) → Consumes l0 l1 input → IsUnread l1 input r → code ≡ Some (refused r).code → Appends w0 w1 (reply_bytes (refused r) false) → Serves s s l0 l1 w0 w1 code
-unread_at s l0 l1 w0 w1 input r code took cause e wrote = subst (λ (o : Option ℕ). Serves s s l0 l1 w0 w1 o) (sym e) (record { input = input; took = took; bytes = reply_bytes (refused r) false; served = unread s l1 input r cause; wrote = wrote })
+unread_at : (rose : Type 0) (s : State) (l0 l1 w0 w1 : Option (List ℕ)) (input : List ℕ) (r : Refusal) (code : Option ℕ) → Consumes l0 l1 input → IsUnread l1 input r → code ≡ Some (refused r).code → Appends w0 w1 (reply_bytes (refused r) false) → Serves s s l0 l1 w0 w1 code rose
+unread_at rose s l0 l1 w0 w1 input r code took cause e wrote = subst (λ (o : Option ℕ). Serves s s l0 l1 w0 w1 o rose) (sym e) (record { input = input; took = took; bytes = reply_bytes (refused r) false; served = unread rose s l1 input r cause; wrote = wrote })
 
-pub unread_ok : (s : State) (l0 l1 w0 w1 : Option (List ℕ)) (input : List ℕ) (r : Refusal) (result : Result Served ServeFault) → Consumes l0 l1 input → IsUnread l1 input r → IfOk result (λ served. served.code ≡ Some (refused r).code) → OnOk result (Appends w0 w1 (reply_bytes (refused r) false)) → IfOk result (λ served. Serves s s l0 l1 w0 w1 served.code)
-unread_ok s l0 l1 w0 w1 input r (Ok served) took cause code wrote = unread_at s l0 l1 w0 w1 input r served.code took cause code wrote
-unread_ok s l0 l1 w0 w1 input r (Err f) took cause code wrote = tt
+pub unread_ok : (rose : Type 0) (s : State) (l0 l1 w0 w1 : Option (List ℕ)) (input : List ℕ) (r : Refusal) (result : Result Served ServeFault) → Consumes l0 l1 input → IsUnread l1 input r → IfOk result (λ served. served.code ≡ Some (refused r).code) → OnOk result (Appends w0 w1 (reply_bytes (refused r) false)) → IfOk result (λ served. Serves s s l0 l1 w0 w1 served.code rose)
+unread_ok rose s l0 l1 w0 w1 input r (Ok served) took cause code wrote = unread_at rose s l0 l1 w0 w1 input r served.code took cause code wrote
+unread_ok rose s l0 l1 w0 w1 input r (Err f) took cause code wrote = tt
 
-pub unread_err : (s : State) (l0 l1 w0 w1 : Option (List ℕ)) (input : List ℕ) (r : Refusal) (result : Result Served ServeFault) → Consumes l0 l1 input → IsUnread l1 input r → IfErr result (λ f. (f ≡ Write) × AppendsFront w0 w1 (reply_bytes (refused r) false)) → IfErr result (λ f. StopsServe s s l0 l1 w0 w1 f)
-unread_err s l0 l1 w0 w1 input r (Ok served) took cause h = tt
-unread_err s l0 l1 w0 w1 input r (Err f) took cause h = subst (λ (f : ServeFault). StopsServe s s l0 l1 w0 w1 f) (sym h.0) (inr (record { input = input; took = took; bytes = reply_bytes (refused r) false; code = (refused r).code; served = unread s l1 input r cause; wrote = h.1 }))
+pub unread_err : (rose : Type 0) (s : State) (l0 l1 w0 w1 : Option (List ℕ)) (input : List ℕ) (r : Refusal) (result : Result Served ServeFault) → Consumes l0 l1 input → IsUnread l1 input r → IfErr result (λ f. (f ≡ Write) × AppendsFront w0 w1 (reply_bytes (refused r) false)) → IfErr result (λ f. StopsServe s s l0 l1 w0 w1 f rose)
+unread_err rose s l0 l1 w0 w1 input r (Ok served) took cause h = tt
+unread_err rose s l0 l1 w0 w1 input r (Err f) took cause h = subst (λ (f : ServeFault). StopsServe s s l0 l1 w0 w1 f rose) (sym h.0) (inr (record { input = input; took = took; bytes = reply_bytes (refused r) false; code = (refused r).code; served = unread rose s l1 input r cause; wrote = h.1 }))
 
 -- what is asked, where it was read
 pub asked_due : (o : Option Asked) (seen : List ℕ) (headers : List HeaderSpan) (spans : RequestSpans) (head : RequestHead) → IfSome o (λ a. (h : RequestHead) → IsRequestAt seen headers spans h → a ≡ asked_of h) → IsRequestAt seen headers spans head → IfSome o (λ a. a ≡ asked_of head)

@@ -1,7 +1,6 @@
 -- The walk over places takes the covered messages.
-use Rattle.std.proofs.Common.{◌≡◌, ◌⊎◌, ⊎_elim, inl, inr, ℕ, zero, suc, ◌+◌, ◌<◌, ◌≤◌, Bool, true, false, cond, ◌&&◌, nat_le, List, [], ◌∷◌, ◌++◌, length, Option, Some, None, Result, Ok, Err, IsSome, option_to_list, sym, ap, subst, ◌∙◌, refl, arith, rules}
+use Rattle.std.proofs.Common.{◌≡◌, ⊎_elim, inl, inr, ℕ, zero, suc, ◌+◌, ◌<◌, ◌≤◌, Bool, true, false, cond, ◌&&◌, nat_le, List, [], ◌∷◌, ◌++◌, length, Option, Some, None, Result, Ok, Err, IsSome, option_to_list, sym, ap, subst, ◌∙◌, refl, arith}
 use Rattle.std.specs.Prelude.{Contains, T}
-use Rattle.std.specs.List.{filter_map}
 use Rattle.std.specs.Ordering.{eq_by_cmp, is_eq, is_lt}
 use Rattle.std.specs.FinMap.{get, entries, entries_sorted, get-entries, get-retain_keys, find, is_sorted}
 use Rattle.std.specs.FinMap.Entries.{below_all}
@@ -14,7 +13,7 @@ use Rattle.testing_rules.specs.FactLists.{FactLists}
 use Rattle.testing_rules.specs.StandsFor.{StandsFor}
 use Rattle.testing_rules.specs.Suite.{Suite}
 use Rattle.testing_rules.specs.SameMessages.{SameElements, HasOneOfEach}
-use Rattle.testing_rules.proofs.Members.{none_among, head_of, tail_of}
+use Rattle.testing_rules.proofs.Members.{none_among, tail_of}
 use Rattle.testing_rules.proofs.Sets.{first_or_rest, at_front, given_by, gives}
 use Rattle.testing_rules.proofs.SameFacts.{stands-same}
 use Rattle.office_mail.specs.declared.message.Message.{Message}
@@ -49,16 +48,16 @@ of_place : (setup : Lists) (p : Place) (o : Option (List ℕ)) (m : CoveredItem)
 of_place setup p None m e = absurd (cc (e))
 of_place setup p (Some text) m e = at_place setup (p, text) m e
 
-of_text : (setup : Lists) (p : Place) (o : Option (List ℕ)) (m : CoveredItem) → item_of setup p o ≡ Some m → (text : List ℕ) × (o ≡ Some text) × (item_at setup (p, text) ≡ Some m)
+pub of_text : (setup : Lists) (p : Place) (o : Option (List ℕ)) (m : CoveredItem) → item_of setup p o ≡ Some m → (text : List ℕ) × (o ≡ Some text) × (item_at setup (p, text) ≡ Some m)
 of_text setup p None m e = absurd (cc (e))
 of_text setup p (Some text) m e = (text, refl, e)
 
 -- the message is said at a place that its sender's cover has
-record IsSaid (setup : Lists) (kept : Kept) (covers : ℕ → ℕ) (n : ℕ) (m : CoveredItem) (p : Place) : Type 0 where
-  sender : p.0 < n
-  low : 1 ≤ p.1
-  high : p.1 ≤ covers p.0
-  is : item_of setup p (get kept p) ≡ Some m
+pub record IsSaid (setup : Lists) (kept : Kept) (covers : ℕ → ℕ) (n : ℕ) (m : CoveredItem) (p : Place) : Type 0 where
+  pub sender : p.0 < n
+  pub low : 1 ≤ p.1
+  pub high : p.1 ≤ covers p.0
+  pub is : item_of setup p (get kept p) ≡ Some m
 
 in_option : {A : Type 0} (o : Option A) (x : A) → Contains (option_to_list o) x → o ≡ Some x
 in_option None x c = none_among x c
@@ -86,7 +85,7 @@ place_by setup kept sender (suc n) k m low high is = ⊎_elim
     (λ (le : k ≤ n). Contains-append_right (option_to_list (item_of setup (sender, suc n) (get kept (sender, suc n)))) (said_by setup kept sender n) m (place_by setup kept sender n k m low le is))
     (cases_lt n k)
 
-within_place : (setup : Lists) (kept : Kept) (covers : ℕ → ℕ) (n : ℕ) (m : CoveredItem) → Contains (said_within setup kept covers n) m → (p : Place) × IsSaid setup kept covers n m p
+pub within_place : (setup : Lists) (kept : Kept) (covers : ℕ → ℕ) (n : ℕ) (m : CoveredItem) → Contains (said_within setup kept covers n) m → (p : Place) × IsSaid setup kept covers n m p
 unfolding said_within
 within_place setup kept covers zero m c = none_among m c
 within_place setup kept covers (suc n) m c = elim (Contains-append_cases (said_by setup kept n (covers n)) (said_within setup kept covers n) m c) [
@@ -231,6 +230,11 @@ pub said_at-none : (setup : Lists) (kept : Kept) (p : Place) → get kept p ≡ 
 unfolding said_at
 said_at-none setup kept p e = ap (λ (o : Option (List ℕ)). option_to_list (item_of setup p o)) e
 
-pub said_at-some : (setup : Lists) (kept : Kept) (p : Place) (text : List ℕ) (r : Result Message MailFault) → get kept p ≡ Some text → read setup text ≡ r → said_at setup kept p ≡ option_to_list (item_in_answer p r)
-unfolding said_at item_at
-said_at-some setup kept p text r e is = ap (λ (o : Option (List ℕ)). option_to_list (item_of setup p o)) e ∙ ap (λ (x : Result Message MailFault). option_to_list (item_in_answer p x)) is
+pub said_at-text : (setup : Lists) (kept : Kept) (p : Place) (text : List ℕ) → get kept p ≡ Some text → said_at setup kept p ≡ option_to_list (item_at setup (p, text))
+unfolding said_at
+said_at-text setup kept p text e = ap (λ (o : Option (List ℕ)). option_to_list (item_of setup p o)) e
+
+-- what a text says is what its message says
+pub item_at-read : (setup : Lists) (p : Place) (text : List ℕ) (r : Result Message MailFault) → read setup text ≡ r → option_to_list (item_at setup (p, text)) ≡ option_to_list (item_in_answer p r)
+unfolding item_at
+item_at-read setup p text r is = ap (λ (x : Result Message MailFault). option_to_list (item_in_answer p x)) is

@@ -1,10 +1,10 @@
 pub mod Asked
-pub mod Code
-pub mod Content
+pub mod Carried
+pub mod Counted
 pub mod Delivered
 pub mod Ending
+pub mod Lasting
 pub mod Losses
-pub mod Mail
 pub mod Outcome
 pub mod Output
 pub mod Ready

@@ -1,5 +1,5 @@
 -- What a replay lost for want of memory or by the store.
-use Rattle.std.specs.Prelude.{◌≡◌, ⊤, ℕ, ◌+◌, List, [], ◌∷◌, length, Option, Some, None, Bool, true, false, not, ◌||◌}
+use Rattle.std.specs.Prelude.{◌≡◌, ⊤, ℕ, ◌+◌, List, [], ◌∷◌, length, Option, Some, None, Bool, true, false, ◌||◌}
 use Rattle.std.specs.List.{AllByRecursion}
 use Rattle.office_mail.specs.declared.bag.BagFault.{BagFault}
 use Rattle.office_mail.specs.declared.bag.BagFault.TheVariants as bag
@@ -40,26 +40,26 @@ pub record MarksEnd (s : State) (k ready : ℕ) (marks : Marks) : Type 0 where
   pub ready_is : marks.status ≡ None → IsReadyCount s.setup s.kept ready
   pub runs : marks.count ≡ None → k + length marks.reports ≡ s.finished
 
--- Over a keeper in memory nothing is lost by the store: no delivery ..
-abbrev pub NotByStore : Mark → Type 0
-NotByStore Taken = ⊤
-NotByStore LostForMemory = ⊤
-NotByStore LostForStore = ⊥
+-- What the store loses it counts: a delivery is lost by it only where this is so (its count of refusals rose) ..
+abbrev pub DeliveryCounted : Type 0 → Mark → Type 0
+DeliveryCounted rose Taken = ⊤
+DeliveryCounted rose LostForMemory = ⊤
+DeliveryCounted rose LostForStore = rose
 
--- .. and no text
-abbrev pub NotStore : Option StoreFault → Type 0
-NotStore None = ⊤
-NotStore (Some NoMemory) = ⊤
-NotStore (Some Store) = ⊥
+-- .. and so is a text
+abbrev pub TextCounted : Type 0 → Option StoreFault → Type 0
+TextCounted rose None = ⊤
+TextCounted rose (Some NoMemory) = ⊤
+TextCounted rose (Some Store) = rose
 
-abbrev pub NoStoreReports : List ReportMarks → Type 0
-NoStoreReports reports = AllByRecursion (λ mark. NotStore mark.0 × NotStore mark.1) reports
+abbrev pub ReportsCounted : Type 0 → List ReportMarks → Type 0
+ReportsCounted rose reports = AllByRecursion (λ mark. TextCounted rose mark.0 × TextCounted rose mark.1) reports
 
-abbrev pub NoStoreDeliveries : List Delivery → Type 0
-NoStoreDeliveries deliveries = AllByRecursion (λ d. NotByStore d.mark) deliveries
+abbrev pub DeliveriesCounted : Type 0 → List Delivery → Type 0
+DeliveriesCounted rose deliveries = AllByRecursion (λ d. DeliveryCounted rose d.mark) deliveries
 
-pub record NoStoreMarks (marks : Marks) : Type 0 where
-  pub status : NotStore marks.status
-  pub count : NotStore marks.count
-  pub reports : NoStoreReports marks.reports
-  pub testing : NotStore marks.testing
+pub record MarksCounted (rose : Type 0) (marks : Marks) : Type 0 where
+  pub status : TextCounted rose marks.status
+  pub count : TextCounted rose marks.count
+  pub reports : ReportsCounted rose marks.reports
+  pub testing : TextCounted rose marks.testing

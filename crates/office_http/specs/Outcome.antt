@@ -1,5 +1,5 @@
 -- What runs write and leave.
-use Rattle.std.specs.Prelude.{◌≡◌, ℕ, zero, suc, List, [], ◌∷◌, ◌++◌, Option, Some, None, Result, Ok, Err}
+use Rattle.std.specs.Prelude.{ℕ, zero, suc, List, [], ◌∷◌, ◌++◌, Option, Some, None, Result, Ok, Err}
 use Rattle.std.specs.List.{filter_map}
 use Rattle.std.specs.FinMap.{entries}
 use Rattle.jiff.specs.declared.civil.dates.Date.{Date}
@@ -18,8 +18,9 @@ use Rattle.office_mail.specs.Lists.{Lists}
 use Rattle.office_mail.specs.Read.{read}
 use Rattle.office_mail.specs.Kept.{Kept, Place}
 use Rattle.office_mail.specs.Runs.{orders_to, latest_day, covered}
-use Rattle.office_http.specs.declared.rules.Outcome.{Outcome}
-use Rattle.office_http.specs.declared.plain.Reports.{Reports}
+use Rattle.office_store.specs.declared.values.Finished.{Finished}
+use Rattle.office_store.specs.declared.values.Reports.{Reports}
+use Rattle.office_store.specs.Content.{reports_in}
 
 -- testing as the rules see it
 abbrev pub Testing : Type 0
@@ -43,40 +44,38 @@ unfoldable pub covered_items : Lists → Kept → ℕ → Covered
 covered_items setup kept k = filter_map (item_at setup) (entries (covered setup kept k))
 
 -- the reports on excuses and decisions, and testing as the decisions leave it
-abbrev pub reported : Lists → ℕ → Date → List Excuse → updates.Outcome → Outcome
+abbrev pub reported : Lists → ℕ → Date → List Excuse → updates.Outcome → Finished
 reported setup run date excuses update = record {
-  reports = record {
-    excuses = texts.excuses_text setup.archs run date excuses;
-    updates = texts.update_text setup.archs run date update.decisions;
-  };
   testing = update.suite;
+  excuses = texts.excuses_text setup.archs run date excuses;
+  updates = texts.update_text setup.archs run date update.decisions;
 }
 
 -- The rules of a run: from its number, its date, its covered messages and the testing before it. First come the
 -- excuses, and then what is decided by them (Debian Developer's Reference 5.13.2).
-unfoldable pub outcome : Lists → ℕ → Date → Covered → Testing → Outcome
+unfoldable pub outcome : Lists → ℕ → Date → Covered → Testing → Finished
 outcome setup run date mail testing =
     let excuses : List Excuse = excuses_of setup.archs mail testing date in
     reported setup run date excuses (update_of setup.archs mail excuses testing)
 
 -- nothing has run
-abbrev pub at_start : Outcome
-at_start = record { reports = record { excuses = []; updates = [] }; testing = record { sources = []; rows = [] } }
+abbrev pub at_start : Finished
+at_start = record { testing = record { sources = []; rows = [] }; excuses = []; updates = [] }
 
 -- where a date is known; there is none where there is no order
-abbrev pub outcome_on : Lists → ℕ → Option Date → Covered → Testing → Outcome
+abbrev pub outcome_on : Lists → ℕ → Option Date → Covered → Testing → Finished
 outcome_on setup run None mail testing = at_start
 outcome_on setup run (Some date) mail testing = outcome setup run date mail testing
 
 -- run k, over the testing that run k - 1 left
-unfoldable pub outcome_of : Lists → Kept → ℕ → Outcome
+unfoldable pub outcome_of : Lists → Kept → ℕ → Finished
 outcome_of setup kept zero = at_start
 outcome_of setup kept (suc k) =
     outcome_on setup (suc k) (latest_day (orders_to setup kept (suc k))) (covered_items setup kept (suc k)) (outcome_of setup kept k).testing
 
 -- the reports of run k, and testing after it
 abbrev pub reports_of : Lists → Kept → ℕ → Reports
-reports_of setup kept k = (outcome_of setup kept k).reports
+reports_of setup kept k = reports_in (outcome_of setup kept k)
 
 abbrev pub testing_after : Lists → Kept → ℕ → Testing
 testing_after setup kept k = (outcome_of setup kept k).testing

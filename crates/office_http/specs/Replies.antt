@@ -1,6 +1,5 @@
 -- The lines that answer deliveries.
-use Rattle.std.specs.Prelude.{◌≡◌, ℕ, Bool, true, false, ◌||◌, List, [], ◌∷◌, ◌++◌, map, codes, decimal, slice_index_or, Option, Some, None, Result, Ok, Err}
-use Rattle.office_mail.specs.declared.setup.Sender.{Sender}
+use Rattle.std.specs.Prelude.{ℕ, Bool, true, false, ◌||◌, List, [], ◌∷◌, ◌++◌, map, codes, decimal, slice_index_or, Option, Some, None, Result, Ok, Err}
 use Rattle.office_mail.specs.Fields.{field_name}
 use Rattle.office_mail.specs.declared.message.MailFault.{MailFault}
 use Rattle.office_mail.specs.declared.message.MailFault.TheVariants.{TooLong, BadParagraph, MissingField, UnknownSender, BadNumber, UnknownKind, WrongRole, TooManyParagraphs, UnknownArchitecture, BadValue, NoMemory}

@@ -26,9 +26,9 @@ use Rattle.office_http.specs.declared.request.Asked.TheVariants as asks
 use Rattle.office_http.specs.declared.serve.ServeFault.{ServeFault}
 use Rattle.office_http.specs.declared.serve.ServeFault.TheVariants.{Read, Write}
 use Rattle.office_http.specs.Asked.{asked_of, is_head_method}
-use Rattle.office_http.specs.Losses.{NotStore}
+use Rattle.office_http.specs.Losses.{TextCounted}
 use Rattle.office_http.specs.Outcome.{testing_text, testing_after}
-use Rattle.office_http.specs.Reply.{refused, reply_in, reply_bytes, continue_bytes, HasPlace}
+use Rattle.office_http.specs.Reply.{refused, reply_in, reply_bytes, continue_bytes}
 use Rattle.office_http.specs.Request.{BeginsWith, field_room, head_room}
 use Rattle.office_http.specs.Standing.{State}
 use Rattle.office_http.specs.State.{answer_to, reports_at}
@@ -148,39 +148,41 @@ settles s Deliver body (Some f) = false
 settles s Settle body fault = true
 
 -- what a POST does
-pub record Moves (before after : State) (errand : Errand) (body : List ℕ) (fault : Option StoreFault) (ready : ℕ) : Type 0 where
+pub record Moves (before after : State) (errand : Errand) (body : List ℕ) (fault : Option StoreFault) (ready : ℕ) (rose : Type 0) : Type 0 where
   pub setup : after.setup ≡ before.setup
   pub kept : after.kept ≡ kept_by before errand body fault
   pub grows : before.finished ≤ after.finished
   pub still : settles before errand body fault ≡ false → after.finished ≡ before.finished
   pub settled : errand_counts errand ≡ true → fault ≡ None → after.finished ≡ ready
+  -- what the settle met; where it met nothing, all ready runs are finished
+  pub met : Option StoreFault
+  pub met_by_store : TextCounted rose met
+  pub all_ready : settles before errand body fault ≡ true → met ≡ None → IsReadyCount after.setup after.kept after.finished
   -- only ready runs finish
   pub only_ready : IsReady before.setup before.kept before.finished → IsReady after.setup after.kept after.finished
 
 -- what a request does: no other than a POST with its whole body does anything
-abbrev pub Does : State → State → Option (Errand × List ℕ) → Option StoreFault → ℕ → Type 0
-Does before after None fault ready = after ≡ before
-Does before after (Some post) fault ready = Moves before after post.0 post.1 fault ready
+abbrev pub Does : State → State → Option (Errand × List ℕ) → Option StoreFault → ℕ → Type 0 → Type 0
+Does before after None fault ready rose = after ≡ before
+Does before after (Some post) fault ready rose = Moves before after post.0 post.1 fault ready rose
 
 -- a page was told
-pub record Tells (s : State) (page : Page) (answer : Answer) : Type 0 where
+pub record Tells (s : State) (page : Page) (answer : Answer) (rose : Type 0) : Type 0 where
   -- what was met
   pub fault : Option StoreFault
-  pub no_store : NotStore fault
+  pub by_store : TextCounted rose fault
   pub ready : ℕ
   pub counts : fault ≡ None → page_counts page ≡ true → IsReadyCount s.setup s.kept ready
   pub answer_is : answer ≡ by_fault fault (page_answer s ready page)
-  pub place : HasPlace s.setup answer
 
 -- a POST was done
-pub record Runs (before after : State) (errand : Errand) (body : List ℕ) (answer : Answer) : Type 0 where
+pub record Runs (before after : State) (errand : Errand) (body : List ℕ) (answer : Answer) (rose : Type 0) : Type 0 where
   pub fault : Option StoreFault
-  pub no_store : NotStore fault
+  pub by_store : TextCounted rose fault
   pub ready : ℕ
   pub counts : fault ≡ None → errand_counts errand ≡ true → IsReadyCount before.setup before.kept ready
   pub answer_is : answer ≡ by_fault fault (errand_answer before ready errand body)
-  pub moves : Moves before after errand body fault ready
-  pub place : HasPlace before.setup answer
+  pub moves : Moves before after errand body fault ready rose
 
 -- all of a request has come, or the input has ended
 abbrev pub IsWhole : Asked → List ℕ → Option (List ℕ) → Type 0
@@ -190,21 +192,20 @@ IsWhole (asks.Post p) rest left = (p.length ≤ length rest) ⊎ IsAtEnd left
 
 -- A request was answered: the bytes after its head, of which the front had come before, the faults that were met, the
 -- answer, and what was done. Where the client waited, 100 Continue was written first; nothing else yet.
-pub record Answers (before after : State) (left left' written written' : Option (List ℕ)) (front : List ℕ) (asked : Asked) (answer : Answer) : Type 0 where
+pub record Answers (before after : State) (left left' written written' : Option (List ℕ)) (front : List ℕ) (asked : Asked) (answer : Answer) (rose : Type 0) : Type 0 where
   pub more : List ℕ
   pub took : Consumes left left' more
   pub fault : Option StoreFault
-  pub no_store : NotStore fault
+  pub by_store : TextCounted rose fault
   pub ready : ℕ
   pub whole : fault ≡ None → IsWhole asked (front ++ more) left'
   pub counts : fault ≡ None → counts_ready asked (front ++ more) ≡ true → IsReadyCount before.setup before.kept ready
   pub answer_is : answer ≡ by_fault fault (answer_of before ready asked (front ++ more))
-  pub does : Does before after (posted_body asked (front ++ more)) fault ready
+  pub does : Does before after (posted_body asked (front ++ more)) fault ready rose
   pub goes_on : Bool
   pub wrote : Appends written written' (continued goes_on)
   pub went : fault ≡ None → goes_on ≡ waits_of asked
   pub waited : goes_on ≡ true → waits_of asked ≡ true
-  pub place : HasPlace before.setup answer
 
 -- The request couldn't be read, or the client that waits not be told to go on: nothing was delivered or settled.
 pub record StopsBefore (before after : State) (written written' : Option (List ℕ)) : Type 0 where
@@ -212,17 +213,17 @@ pub record StopsBefore (before after : State) (written written' : Option (List �
   pub wrote : AppendsFront written written' continue_bytes
 
 -- THE EXCHANGE: these bytes are a request, and those its reply.
-pub record Exchange (before after : State) (left : Option (List ℕ)) (input bytes : List ℕ) (code : ℕ) : Type 0 where
+pub record Exchange (before after : State) (left : Option (List ℕ)) (input bytes : List ℕ) (code : ℕ) (rose : Type 0) : Type 0 where
   pub head : RequestHead
   pub rest : List ℕ
   pub begins : BeginsWith input head rest
   -- what was met for want of memory or by the store
   pub fault : Option StoreFault
-  pub no_store : NotStore fault
+  pub by_store : TextCounted rose fault
   pub ready : ℕ
   pub whole : fault ≡ None → IsWhole (asked_of head) rest left
   pub counts : fault ≡ None → counts_ready (asked_of head) rest ≡ true → IsReadyCount before.setup before.kept ready
-  pub does : Does before after (posted_body (asked_of head) rest) fault ready
+  pub does : Does before after (posted_body (asked_of head) rest) fault ready rose
   pub goes_on : Bool
   pub went : fault ≡ None → goes_on ≡ waits_of (asked_of head)
   pub waited : goes_on ≡ true → waits_of (asked_of head) ≡ true
@@ -250,24 +251,24 @@ pub record Unread (before after : State) (left : Option (List ℕ)) (input bytes
   pub code_is : code ≡ (refused refusal).code
 
 -- a request that is answered, or what is none
-abbrev pub IsServed : State → State → Option (List ℕ) → List ℕ → List ℕ → ℕ → Type 0
-IsServed before after left input bytes code = Exchange before after left input bytes code ⊎ Unread before after left input bytes code
+abbrev pub IsServed : State → State → Option (List ℕ) → List ℕ → List ℕ → ℕ → Type 0 → Type 0
+IsServed before after left input bytes code rose = Exchange before after left input bytes code rose ⊎ Unread before after left input bytes code
 
 -- all of the reply was written
-pub record Replied (before after : State) (left left' written written' : Option (List ℕ)) (code : ℕ) : Type 0 where
+pub record Replied (before after : State) (left left' written written' : Option (List ℕ)) (code : ℕ) (rose : Type 0) : Type 0 where
   pub input : List ℕ
   pub took : Consumes left left' input
   pub bytes : List ℕ
-  pub served : IsServed before after left' input bytes code
+  pub served : IsServed before after left' input bytes code rose
   pub wrote : Appends written written' bytes
 
 -- a front of it
-pub record RepliedFront (before after : State) (left left' written written' : Option (List ℕ)) : Type 0 where
+pub record RepliedFront (before after : State) (left left' written written' : Option (List ℕ)) (rose : Type 0) : Type 0 where
   pub input : List ℕ
   pub took : Consumes left left' input
   pub bytes : List ℕ
   pub code : ℕ
-  pub served : IsServed before after left' input bytes code
+  pub served : IsServed before after left' input bytes code rose
   pub wrote : AppendsFront written written' bytes
 
 -- no byte came, and none was written
@@ -277,32 +278,32 @@ pub record Silent (before after : State) (left left' written written' : Option (
   pub same : after ≡ before
   pub wrote : Appends written written' []
 
-abbrev pub Serves : State → State → Option (List ℕ) → Option (List ℕ) → Option (List ℕ) → Option (List ℕ) → Option ℕ → Type 0
-Serves before after left left' written written' None = Silent before after left left' written written'
-Serves before after left left' written written' (Some code) = Replied before after left left' written written' code
+abbrev pub Serves : State → State → Option (List ℕ) → Option (List ℕ) → Option (List ℕ) → Option (List ℕ) → Option ℕ → Type 0 → Type 0
+Serves before after left left' written written' None rose = Silent before after left left' written written'
+Serves before after left left' written written' (Some code) rose = Replied before after left left' written written' code rose
 
 -- What a fault leaves. Where the reader failed nothing was delivered or settled; where the writer failed, a front of
 -- the due bytes was written, and where that was before the answer nothing was delivered or settled.
-abbrev pub StopsServe : State → State → Option (List ℕ) → Option (List ℕ) → Option (List ℕ) → Option (List ℕ) → ServeFault → Type 0
-StopsServe before after left left' written written' Read = StopsBefore before after written written'
-StopsServe before after left left' written written' Write = StopsBefore before after written written' ⊎ RepliedFront before after left left' written written'
+abbrev pub StopsServe : State → State → Option (List ℕ) → Option (List ℕ) → Option (List ℕ) → Option (List ℕ) → ServeFault → Type 0 → Type 0
+StopsServe before after left left' written written' Read rose = StopsBefore before after written written'
+StopsServe before after left left' written written' Write rose = StopsBefore before after written written' ⊎ RepliedFront before after left left' written written' rose
 
 -- the same where these bytes have come, with a head in front: no public contract cites these two
-pub record ServesHead (before after : State) (left left' written written' : Option (List ℕ)) (seen : List ℕ) (code : ℕ) : Type 0 where
+pub record ServesHead (before after : State) (left left' written written' : Option (List ℕ)) (seen : List ℕ) (code : ℕ) (rose : Type 0) : Type 0 where
   pub more : List ℕ
   pub took : Consumes left left' more
   pub bytes : List ℕ
-  pub exchange : Exchange before after left' (seen ++ more) bytes code
+  pub exchange : Exchange before after left' (seen ++ more) bytes code rose
   pub wrote : Appends written written' bytes
 
-pub record ServesFront (before after : State) (left left' written written' : Option (List ℕ)) (seen : List ℕ) : Type 0 where
+pub record ServesFront (before after : State) (left left' written written' : Option (List ℕ)) (seen : List ℕ) (rose : Type 0) : Type 0 where
   pub more : List ℕ
   pub took : Consumes left left' more
   pub bytes : List ℕ
   pub code : ℕ
-  pub exchange : Exchange before after left' (seen ++ more) bytes code
+  pub exchange : Exchange before after left' (seen ++ more) bytes code rose
   pub wrote : AppendsFront written written' bytes
 
-abbrev pub StopsRequest : State → State → Option (List ℕ) → Option (List ℕ) → Option (List ℕ) → Option (List ℕ) → List ℕ → ServeFault → Type 0
-StopsRequest before after left left' written written' seen Read = StopsBefore before after written written'
-StopsRequest before after left left' written written' seen Write = StopsBefore before after written written' ⊎ ServesFront before after left left' written written' seen
+abbrev pub StopsRequest : State → State → Option (List ℕ) → Option (List ℕ) → Option (List ℕ) → Option (List ℕ) → List ℕ → ServeFault → Type 0 → Type 0
+StopsRequest before after left left' written written' seen Read rose = StopsBefore before after written written'
+StopsRequest before after left left' written written' seen Write rose = StopsBefore before after written written' ⊎ ServesFront before after left left' written written' seen rose

@@ -1,35 +1,41 @@
 -- What is true of every office, and its answers.
-use Rattle.std.specs.Prelude.{◌≡◌, ℕ, ◌⊎◌, Bool, List, [], ◌∷◌, ◌++◌, length, Option, Some, None, Result, Ok, Err, IsSome, bytes_eq, nat_le, ◌&&◌, if◌then◌else◌}
+use Rattle.std.specs.Prelude.{◌≡◌, ℕ, ◌⊎◌, List, length, Option, Some, None, Result, Ok, Err, IsSome, bytes_eq, nat_le, ◌&&◌, if◌then◌else◌}
 use Rattle.std.specs.FinMap.{get}
 use Rattle.office_mail.specs.declared.message.Message.{Message}
 use Rattle.office_mail.specs.declared.message.MailFault.{MailFault}
 use Rattle.office_mail.specs.declared.message.MailFault.TheVariants.{NoMemory}
 use Rattle.office_mail.specs.Lists.{Lists}
-use Rattle.office_mail.specs.Kept.{Kept, Place, IsPlace, place_of, placed}
+use Rattle.office_mail.specs.Kept.{Kept, Place, IsPlace, place_of}
 use Rattle.office_mail.specs.Read.{read}
 use Rattle.office_mail.specs.Runs.{IsReady}
 use Rattle.office_http.specs.declared.faults.DeliverFault.{DeliverFault}
 use Rattle.office_http.specs.declared.faults.DeliverFault.TheVariants.{Mail, OtherText, Store}
 use Rattle.office_http.specs.declared.faults.Held.{Held}
-use Rattle.office_http.specs.Content.{Content}
-use Rattle.office_http.specs.declared.plain.Reports.{Reports}
+use Rattle.office_store.specs.Content.{Content}
+use Rattle.office_store.specs.Given.{AreOwnTexts}
+use Rattle.office_store.specs.declared.values.Reports.{Reports}
+use Rattle.office_store.specs.declared.keeping.Keeper.{Ghosts}
 use Rattle.office_http.specs.Standing.{State}
-use Rattle.office_http.specs.Outcome.{Testing, reports_of, reports_to, testing_after}
+use Rattle.office_http.specs.Outcome.{reports_of, reports_to, testing_after}
 use Rattle.testing_rules.specs.Watched.{AllWatchedWork}
 
--- each kept text is well formed, and stands under its own sender and number
-abbrev pub AreOwnTexts : Lists → Kept → Type 0
-AreOwnTexts setup kept = (p : Place) (text : List ℕ) → get kept p ≡ Some text → placed setup text ≡ Some (p, text)
+-- the state of the office that a store holds
+abbrev pub state_of : {K : Type 0} → Ghosts K → K → State
+state_of keeper store = record { setup = keeper.setup store; kept = (keeper.content store).kept; finished = length (keeper.content store).reports }
 
 -- Each text is kept under a place that a message may have, which is its own; the finished runs are
 -- ready, their reports stand, and so does the testing that they left, where all watched rows are installable.
-pub record IsOffice (setup : Lists) (content : Content) (testing : Testing) : Type 0 where
+pub record IsOffice (setup : Lists) (content : Content) : Type 0 where
   pub places : (p : Place) → IsSome (get content.kept p) → IsPlace setup p
   pub texts : AreOwnTexts setup content.kept
   pub ready : IsReady setup content.kept (length content.reports)
   pub reports : content.reports ≡ reports_to setup content.kept (length content.reports)
-  pub testing_is : testing ≡ testing_after setup content.kept (length content.reports)
-  pub watched : AllWatchedWork setup.archs testing.rows
+  pub testing_is : content.testing ≡ testing_after setup content.kept (length content.reports)
+  pub watched : AllWatchedWork setup.archs content.testing.rows
+
+-- the store holds what an office leaves
+abbrev pub IsSound : {K : Type 0} → Ghosts K → K → Type 0
+IsSound keeper store = keeper.is_legible store × IsOffice (keeper.setup store) (keeper.content store)
 
 abbrev pub held_at : Message → Held
 held_at message = record { sender = message.sender; number = message.number }

@@ -2,17 +2,20 @@
 ghost use Rattle.std.specs.Prelude.{◌≡◌, [], is_err, ◌+◌, ◌≤◌, ◌++◌, ◌∷◌, ◌||◌, List, Option, Some, None, OnOk, OnErr, IfOk, length, codes};
 ghost use Rattle.std.specs.Io.KnownBytes.{Appends};
 ghost use Rattle.office_mail.specs.Counts.{HasRisen};
+ghost use Rattle.office_http.specs.Carried.{Asks, Holds, StoreRefused};
 ghost use Rattle.office_http.specs.Outcome.{reports_of};
 ghost use Rattle.office_http.specs.Replies.{bag_line};
 ghost use Rattle.office_http.specs.Written.{AppendsFront};
 ghost use Rattle.office_http.specs.Output.{or_refused};
 ghost use Rattle.office_http.specs.Ending.{status_shown, text_shown, report_shown, WritesRun, WritesRunFront, WritesReports, WritesReportsFront, WritesNews, WritesNewsFront, WritesEnd, WritesEndFront};
+ghost use Rattle.office_http.specs.State.{state_of};
 
 use crate::faults::{Progress, StoreFault};
 use crate::office::Office;
 use crate::replies::{Digits, WriteFault, write_all, write_parts};
 use deb_control::Text;
 use office_mail::{BagFault, Sink};
+use office_store::Keeper;
 
 /// The line for a bag that is refused.
 fn bag_refusal(fault: BagFault) -> &'static str
@@ -117,11 +120,15 @@ fn write_report<W: Sink>(
 }
 
 /// Writes the two reports of a finished run. True where one is missing.
-fn write_run<W: Sink>(office: &Office, run: u32, writer: &mut W) -> Result<bool, WriteFault>
-    requires first { 1 ≤ run }
-    requires last { run ≤ office.now.finished }
-    ensures ok { IfOk result (λ lost. WritesRun office.now run (W.written writer.old) (W.written writer.new) lost) }
-    ensures err { OnErr result (WritesRunFront office.now run (W.written writer.old) (W.written writer.new)) }
+fn write_run<K: Keeper, W: Sink>(
+    office: &mut Office<K>,
+    run: u32,
+    writer: &mut W,
+) -> Result<bool, WriteFault>
+    requires { 1 ≤ run }
+    ensures asks { Asks K.Keeper office.old office.new }
+    ensures ok { Holds K.Keeper office.old office.new → run ≤ (state_of K.Keeper office.old).finished → IfOk result (λ lost. WritesRun (state_of K.Keeper office.old) run (W.written writer.old) (W.written writer.new) lost (StoreRefused K.Keeper office.old office.new)) }
+    ensures err { Holds K.Keeper office.old office.new → run ≤ (state_of K.Keeper office.old).finished → OnErr result (WritesRunFront (state_of K.Keeper office.old) run (W.written writer.old) (W.written writer.new) (StoreRefused K.Keeper office.old office.new)) }
     ensures cause { OnErr result (HasRisen (W.failures writer.old) (W.failures writer.new)) }
     ensures clean { OnOk result (W.failures writer.new ≡ W.failures writer.old) }
 {
@@ -148,16 +155,15 @@ pub(crate) fn either(one: bool, other: bool) -> bool
 }
 
 /// Writes the reports of the runs after one run up to another. True where one is missing.
-fn write_reports<W: Sink>(
-    office: &Office,
+fn write_reports<K: Keeper, W: Sink>(
+    office: &mut Office<K>,
     before: u32,
     finished: u32,
     writer: &mut W,
 ) -> Result<bool, WriteFault>
-    requires all { finished ≡ office.now.finished }
-    requires some { before ≤ finished }
-    ensures ok { IfOk result (λ lost. WritesReports office.now before finished (W.written writer.old) (W.written writer.new) lost) }
-    ensures err { OnErr result (WritesReportsFront office.now before finished (W.written writer.old) (W.written writer.new)) }
+    ensures asks { Asks K.Keeper office.old office.new }
+    ensures ok { Holds K.Keeper office.old office.new → before ≤ finished → finished ≡ (state_of K.Keeper office.old).finished → IfOk result (λ lost. WritesReports (state_of K.Keeper office.old) before finished (W.written writer.old) (W.written writer.new) lost (StoreRefused K.Keeper office.old office.new)) }
+    ensures err { Holds K.Keeper office.old office.new → before ≤ finished → finished ≡ (state_of K.Keeper office.old).finished → OnErr result (WritesReportsFront (state_of K.Keeper office.old) before finished (W.written writer.old) (W.written writer.new) (StoreRefused K.Keeper office.old office.new)) }
     ensures cause { OnErr result (HasRisen (W.failures writer.old) (W.failures writer.new)) }
     ensures clean { OnOk result (W.failures writer.new ≡ W.failures writer.old) }
 {
@@ -172,10 +178,14 @@ fn write_reports<W: Sink>(
 }
 
 /// Writes the reports of the runs after this one. True where one is missing.
-fn write_news<W: Sink>(office: &Office, before: u32, writer: &mut W) -> Result<bool, WriteFault>
-    requires { before ≤ office.now.finished }
-    ensures ok { IfOk result (λ lost. WritesNews office.now before (W.written writer.old) (W.written writer.new) lost) }
-    ensures err { OnErr result (WritesNewsFront office.now before (W.written writer.old) (W.written writer.new)) }
+fn write_news<K: Keeper, W: Sink>(
+    office: &mut Office<K>,
+    before: u32,
+    writer: &mut W,
+) -> Result<bool, WriteFault>
+    ensures asks { Asks K.Keeper office.old office.new }
+    ensures ok { Holds K.Keeper office.old office.new → before ≤ (state_of K.Keeper office.old).finished → IfOk result (λ lost. WritesNews (state_of K.Keeper office.old) before (W.written writer.old) (W.written writer.new) lost (StoreRefused K.Keeper office.old office.new)) }
+    ensures err { Holds K.Keeper office.old office.new → before ≤ (state_of K.Keeper office.old).finished → OnErr result (WritesNewsFront (state_of K.Keeper office.old) before (W.written writer.old) (W.written writer.new) (StoreRefused K.Keeper office.old office.new)) }
     ensures cause { OnErr result (HasRisen (W.failures writer.old) (W.failures writer.new)) }
     ensures clean { OnOk result (W.failures writer.new ≡ W.failures writer.old) }
 {
@@ -189,14 +199,14 @@ fn write_news<W: Sink>(office: &Office, before: u32, writer: &mut W) -> Result<b
 }
 
 /// Writes the status, the reports of the runs after this one, and testing. True where one is missing.
-pub(crate) fn write_end<W: Sink>(
-    office: &Office,
+pub(crate) fn write_end<K: Keeper, W: Sink>(
+    office: &mut Office<K>,
     before: u32,
     writer: &mut W,
 ) -> Result<bool, WriteFault>
-    requires { before ≤ office.now.finished }
-    ensures ok { IfOk result (λ lost. WritesEnd office.now before (W.written writer.old) (W.written writer.new) lost) }
-    ensures err { OnErr result (WritesEndFront office.now before (W.written writer.old) (W.written writer.new)) }
+    ensures asks { Asks K.Keeper office.old office.new }
+    ensures ok { Holds K.Keeper office.old office.new → before ≤ (state_of K.Keeper office.old).finished → IfOk result (λ lost. WritesEnd (state_of K.Keeper office.old) before (W.written writer.old) (W.written writer.new) lost (StoreRefused K.Keeper office.old office.new)) }
+    ensures err { Holds K.Keeper office.old office.new → before ≤ (state_of K.Keeper office.old).finished → OnErr result (WritesEndFront (state_of K.Keeper office.old) before (W.written writer.old) (W.written writer.new) (StoreRefused K.Keeper office.old office.new)) }
     ensures cause { OnErr result (HasRisen (W.failures writer.old) (W.failures writer.new)) }
     ensures clean { OnOk result (W.failures writer.new ≡ W.failures writer.old) }
 {

@@ -1,6 +1,7 @@
 //! Answers and refusals.
 use deb_control::NoMemory;
 use office_mail::MailFault;
+use office_store::KeepFault;
 use std::alloc::{AllocError, AllocFailed};
 use thiserror::Error;
 
@@ -46,6 +47,20 @@ impl From<NoMemory> for StoreFault {
     }
 }
 
+impl From<KeepFault> for StoreFault {
+    ghost use Rattle.std.specs.Prelude.{◌≡◌};
+    ghost use Rattle.office_http.specs.Counted.{told};
+
+    ghost from_gives = { λ k e. e ≡ told k };
+
+    fn from(fault: KeepFault) -> StoreFault {
+        match fault {
+            KeepFault::NoMemory => StoreFault::NoMemory,
+            KeepFault::Store(_) => StoreFault::Store,
+        }
+    }
+}
+
 /// Why a delivery was refused.
 #[derive(Clone, Copy, Debug, PartialEq, Eq, Error)]
 pub enum DeliverFault {
@@ -55,6 +70,20 @@ pub enum DeliverFault {
     OtherText,
     #[error("the store failed")]
     Store,
+}
+
+impl From<StoreFault> for DeliverFault {
+    ghost use Rattle.std.specs.Prelude.{◌≡◌};
+    ghost use Rattle.office_http.specs.Counted.{told_sender};
+
+    ghost from_gives = { λ f e. e ≡ told_sender f };
+
+    fn from(fault: StoreFault) -> DeliverFault {
+        match fault {
+            StoreFault::NoMemory => DeliverFault::Mail(MailFault::NoMemory),
+            StoreFault::Store => DeliverFault::Store,
+        }
+    }
 }
 
 /// The sender and the number of a text that is kept.

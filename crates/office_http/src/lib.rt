@@ -2,23 +2,25 @@
 //! (Debian Developer's Reference 5.13) as their mail is there, and replays bags of mail.
 #![tactic(auto)]
 
+mod covered;
 mod ending;
 mod faults;
 mod head;
-mod mail_text;
+pub mod laws;
 mod office;
 mod orders;
-mod plain;
+mod posting;
 mod replays;
 mod replies;
 mod reply;
 mod request;
 mod routes;
 mod rules;
+mod runs;
 mod serve;
+mod stored;
 
 pub use faults::{DeliverFault, Held, Progress, StoreFault};
-pub use mail_text::MailText;
 pub use office::Office;
 pub use replays::{Replayed, replay, replay_bag, replay_status};
 pub use replies::{Delivery, Mark, WriteFault};

@@ -1,27 +1,25 @@
 //! Run orders in the kept mail, and what they wait for.
-ghost use Rattle.std.specs.Prelude.{◌≡◌, ℕ, ◌+◌, ◌<◌, ◌≤◌, ◌↔◌, IsTrue, IfOk, IfErr, OnOk, None, length, slice_index};
-ghost use Rattle.office_mail.specs.Runs.{order_at, order_in_body};
-ghost use Rattle.office_http.specs.Ready.{FirstOrders};
+#![tactic(auto, using(crate::proofs::LastFacts::lasting))]
+
+ghost use Rattle.std.specs.Prelude.{is_ok, ◌≡◌, ◌≢◌, ℕ, ◌+◌, ◌<◌, ◌≤◌, ◌↔◌, IsTrue, IfOk, IfErr, OnOk, None, length, slice_index};
+ghost use Rattle.std.specs.FinMap.{get};
+ghost use Rattle.office_mail.specs.Runs.{order_at, order_in, order_in_body};
+ghost use Rattle.office_http.specs.Counted.{Counted};
+ghost use Rattle.office_http.specs.Lasting.{Lasts};
+ghost use Rattle.office_http.specs.Ready.{FirstOrders, HasNumbers, HasEach, HasPlaces, IsReached};
 
 use crate::faults::StoreFault;
-use crate::plain::Plain;
+use crate::stored;
 use office_mail::{Body, MailFault, Message, RunOrder, Setup, read_message, ready};
+use office_store::Keeper;
 use std::alloc::Global;
 
-/// The run order of a number, none where it isn't kept. It fails for want of memory alone.
-pub fn order(
-    alloc: Global,
-    setup: &Setup,
-    plain: &Plain,
-    number: u32,
-) -> Result<Option<RunOrder>, StoreFault>
-    ensures order { IfOk result (λ order. order ≡ order_at setup.now plain.now.kept number) }
+/// The run order that a kept text is, or none. It fails for want of memory alone.
+fn read_order(alloc: Global, setup: &Setup, text: &[u8]) -> Result<Option<RunOrder>, StoreFault>
+    ensures order { IfOk result (λ order. order ≡ order_in setup.now text.now) }
     ensures no_store { IfErr result (λ fault. fault ≡ StoreFault.NoMemory) }
 {
-    let Some(text) = plain.find(setup.runs(), number) else {
-        return Ok(None);
-    };
-    match read_message(alloc, setup, text.as_slice()) {
+    match read_message(alloc, setup, text) {
         Ok(message) => Ok(order_in(message)),
         Err(fault) => no_order(fault),
     }
@@ -48,49 +46,176 @@ fn order_in(message: Message) -> Option<RunOrder>
     }
 }
 
-/// Reads the order of the next run, where it is kept and wasn't read yet. It fails for want of memory
-/// alone, and then no order is read.
-pub fn read_next(
+/// The run order of a number, none where it isn't kept.
+pub fn order<K: Keeper>(
     alloc: Global,
     setup: &Setup,
-    plain: &Plain,
-    orders: &mut Vec<RunOrder>,
-) -> Result<(), StoreFault>
-    requires first { FirstOrders setup.now plain.now.kept orders.old.items }
-    requires finished { length plain.now.reports ≤ length orders.old.items }
-    requires next { length orders.old.items ≤ length plain.now.reports + 1 }
-    ensures first { FirstOrders setup.now plain.now.kept orders.new.items }
-    ensures finished { length plain.now.reports ≤ length orders.new.items }
-    ensures next { length orders.new.items ≤ length plain.now.reports + 1 }
-    ensures none { OnOk result (length orders.new.items ≤ length plain.now.reports → order_at setup.now plain.now.kept (length plain.now.reports + 1) ≡ None) }
-    ensures no_store { IfErr result (λ fault. fault ≡ StoreFault.NoMemory) }
+    keeper: &mut K,
+    number: u32,
+) -> Result<Option<RunOrder>, StoreFault>
+    ensures order { K.is_trusted keeper.new → IfOk result (λ order. order ≡ order_at setup.now (K.content keeper.old).kept number) }
+    ensures same { K.is_trusted keeper.new → K.content keeper.new ≡ K.content keeper.old }
+    ensures setup { K.setup keeper.new ≡ K.setup keeper.old }
+    ensures before { K.is_trusted keeper.new → K.is_trusted keeper.old }
+    ensures legible { K.is_trusted keeper.new → K.is_legible keeper.old → K.is_legible keeper.new }
+    ensures lasts { Lasts K.Keeper keeper.old keeper.new (is_ok result) }
+    ensures counted { Counted (K.refusals keeper.old) (K.refusals keeper.new) result }
 {
-    let finished = plain.finished();
-    if (finished as usize) < orders.len() {
-        return Ok(());
+    match stored::find(keeper, setup.runs(), number)? {
+        Some(text) => read_order(alloc, setup, text.as_slice()),
+        None => Ok(None),
     }
-    if let Some(order) = order(alloc, setup, plain, finished + 1)? {
+}
+
+/// Reads the orders on up to that of a run, as far as they are kept.
+pub fn read_orders<K: Keeper>(
+    alloc: Global,
+    setup: &Setup,
+    keeper: &mut K,
+    orders: &mut Vec<RunOrder>,
+    run: u32,
+) -> Result<(), StoreFault>
+    requires first { K.is_trusted keeper.old → FirstOrders setup.now (K.content keeper.old).kept orders.old.items }
+    ensures first { K.is_trusted keeper.new → FirstOrders setup.now (K.content keeper.old).kept orders.new.items }
+    ensures next { length orders.old.items ≤ run → length orders.new.items ≤ run }
+    ensures none { K.is_trusted keeper.new → OnOk result (length orders.new.items < run → order_at setup.now (K.content keeper.old).kept (length orders.new.items + 1) ≡ None) }
+    ensures same { K.is_trusted keeper.new → K.content keeper.new ≡ K.content keeper.old }
+    ensures setup { K.setup keeper.new ≡ K.setup keeper.old }
+    ensures before { K.is_trusted keeper.new → K.is_trusted keeper.old }
+    ensures legible { K.is_trusted keeper.new → K.is_legible keeper.old → K.is_legible keeper.new }
+    ensures lasts { Lasts K.Keeper keeper.old keeper.new (is_ok result) }
+    ensures counted { Counted (K.refusals keeper.old) (K.refusals keeper.new) result }
+{
+    'orders: while orders.len() < run as usize {
+        let number = orders.len() as u32 + 1;
+        let Some(order) = order(alloc, setup, keeper, number)? else {
+            return Ok(());
+        };
         orders.push(order)?;
     }
     Ok(())
 }
 
 /// Whether all that an order states is within these numbers, 0 for a sender that has no entry.
-pub fn is_within(order: &RunOrder, unbroken: &[u32]) -> bool
-    ensures { IsTrue result ↔ ((sender : ℕ) → slice_index order.now.covers sender ≤ slice_index unbroken.now sender) }
+pub fn is_within(order: &RunOrder, counts: &[u32]) -> bool
+    ensures { IsTrue result ↔ ((sender : ℕ) → slice_index order.now.covers sender ≤ slice_index counts.now sender) }
 {
-    ready(std::slice::from_ref(order), unbroken) == 1
+    ready(std::slice::from_ref(order), counts) == 1
+}
+
+/// Counts a sender's numbers on from those that are known to be kept, up to a number: it stops before one that isn't.
+fn count_on<K: Keeper>(
+    keeper: &mut K,
+    sender: u32,
+    known: u32,
+    cover: u32,
+) -> Result<u32, StoreFault>
+    requires known { K.is_trusted keeper.old → HasNumbers (K.content keeper.old).kept sender known }
+    ensures each { K.is_trusted keeper.new → IfOk result (λ count. HasNumbers (K.content keeper.old).kept sender count) }
+    ensures gap { K.is_trusted keeper.new → IfOk result (λ count. count < cover → get (K.content keeper.old).kept (sender, count + 1) ≡ None) }
+    ensures same { K.is_trusted keeper.new → K.content keeper.new ≡ K.content keeper.old }
+    ensures setup { K.setup keeper.new ≡ K.setup keeper.old }
+    ensures before { K.is_trusted keeper.new → K.is_trusted keeper.old }
+    ensures legible { K.is_trusted keeper.new → K.is_legible keeper.old → K.is_legible keeper.new }
+    ensures lasts { Lasts K.Keeper keeper.old keeper.new (is_ok result) }
+    ensures counted { Counted (K.refusals keeper.old) (K.refusals keeper.new) result }
+{
+    let mut count = known;
+    'numbers: while count < cover {
+        if stored::find(keeper, sender, count + 1)?.is_none() {
+            return Ok(count);
+        }
+        count += 1;
+    }
+    Ok(count)
 }
 
 /// Makes room for a sender's count, 0 at first. It fails for want of memory alone; no count changes.
-pub fn make_room(unbroken: &mut Vec<u32>, sender: u32) -> Result<(), StoreFault>
-    ensures same { (s : ℕ) → slice_index unbroken.new.items s ≡ slice_index unbroken.old.items s }
-    ensures room { OnOk result (sender < length unbroken.new.items) }
+fn make_room(counts: &mut Vec<u32>, sender: u32) -> Result<(), StoreFault>
+    ensures same { (s : ℕ) → slice_index counts.new.items s ≡ slice_index counts.old.items s }
+    ensures room { OnOk result (sender < length counts.new.items) }
     ensures no_store { IfErr result (λ fault. fault ≡ StoreFault.NoMemory) }
 {
     let room = sender as usize + 1;
-    if unbroken.len() < room {
-        unbroken.resize(room, 0)?;
+    if counts.len() < room {
+        counts.resize(room, 0)?;
     }
     Ok(())
+}
+
+/// Counts one sender's numbers on, as far as a cover wants it.
+fn reach<K: Keeper>(
+    keeper: &mut K,
+    counts: &mut Vec<u32>,
+    sender: u32,
+    cover: u32,
+) -> Result<(), StoreFault>
+    requires each { K.is_trusted keeper.old → HasEach (K.content keeper.old).kept counts.old.items }
+    ensures each { K.is_trusted keeper.new → HasEach (K.content keeper.old).kept counts.new.items }
+    ensures gap { K.is_trusted keeper.new → OnOk result (slice_index counts.new.items sender < cover → get (K.content keeper.old).kept (sender, slice_index counts.new.items sender + 1) ≡ None) }
+    ensures others { (s : ℕ) → s ≢ sender → slice_index counts.new.items s ≡ slice_index counts.old.items s }
+    ensures same { K.is_trusted keeper.new → K.content keeper.new ≡ K.content keeper.old }
+    ensures setup { K.setup keeper.new ≡ K.setup keeper.old }
+    ensures before { K.is_trusted keeper.new → K.is_trusted keeper.old }
+    ensures legible { K.is_trusted keeper.new → K.is_legible keeper.old → K.is_legible keeper.new }
+    ensures lasts { Lasts K.Keeper keeper.old keeper.new (is_ok result) }
+    ensures counted { Counted (K.refusals keeper.old) (K.refusals keeper.new) result }
+{
+    make_room(counts, sender)?;
+    let place = sender as usize;
+    let count = count_on(keeper, sender, counts[place], cover)?;
+    counts[place] = count;
+    Ok(())
+}
+
+/// Counts each sender's numbers on, as far as an order wants it.
+fn reach_all<K: Keeper>(
+    setup: &Setup,
+    keeper: &mut K,
+    order: &RunOrder,
+    counts: &mut Vec<u32>,
+) -> Result<(), StoreFault>
+    requires each { K.is_trusted keeper.old → HasEach (K.content keeper.old).kept counts.old.items }
+    ensures each { K.is_trusted keeper.new → HasEach (K.content keeper.old).kept counts.new.items }
+    ensures reached { K.is_trusted keeper.new → OnOk result ((s : ℕ) → s < length setup.now.senders → IsReached (K.content keeper.old).kept order.now.covers counts.new.items s) }
+    ensures same { K.is_trusted keeper.new → K.content keeper.new ≡ K.content keeper.old }
+    ensures setup { K.setup keeper.new ≡ K.setup keeper.old }
+    ensures before { K.is_trusted keeper.new → K.is_trusted keeper.old }
+    ensures legible { K.is_trusted keeper.new → K.is_legible keeper.old → K.is_legible keeper.new }
+    ensures lasts { Lasts K.Keeper keeper.old keeper.new (is_ok result) }
+    ensures counted { Counted (K.refusals keeper.old) (K.refusals keeper.new) result }
+{
+    'senders: for sender in 0..setup.senders().len() {
+        let cover = stated_for(order, sender);
+        reach(keeper, counts, sender as u32, cover)?;
+    }
+    Ok(())
+}
+
+/// Whether each number that an order states is kept, with the numbers before it.
+pub fn is_there<K: Keeper>(
+    setup: &Setup,
+    keeper: &mut K,
+    order: &RunOrder,
+    counts: &mut Vec<u32>,
+) -> Result<bool, StoreFault>
+    requires each { K.is_trusted keeper.old → HasEach (K.content keeper.old).kept counts.old.items }
+    ensures each { K.is_trusted keeper.new → HasEach (K.content keeper.old).kept counts.new.items }
+    ensures there { K.is_trusted keeper.new → HasPlaces setup.now (K.content keeper.old).kept → IfOk result (λ there. IsTrue there ↔ HasEach (K.content keeper.old).kept order.now.covers) }
+    ensures same { K.is_trusted keeper.new → K.content keeper.new ≡ K.content keeper.old }
+    ensures setup { K.setup keeper.new ≡ K.setup keeper.old }
+    ensures before { K.is_trusted keeper.new → K.is_trusted keeper.old }
+    ensures legible { K.is_trusted keeper.new → K.is_legible keeper.old → K.is_legible keeper.new }
+    ensures lasts { Lasts K.Keeper keeper.old keeper.new (is_ok result) }
+    ensures counted { Counted (K.refusals keeper.old) (K.refusals keeper.new) result }
+{
+    reach_all(setup, keeper, order, counts)?;
+    Ok(is_within(order, counts))
+}
+
+/// The number that an order states for a sender, 0 where it has none.
+pub fn stated_for(order: &RunOrder, sender: usize) -> u32
+    ensures { result ≡ slice_index order.now.covers sender }
+{
+    order.covers.as_slice().get(sender).copied().unwrap_or(0)
 }

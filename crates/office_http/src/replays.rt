@@ -1,22 +1,22 @@
 //! Replays of bags of mail.
-ghost use Rattle.std.specs.Prelude.{◌≡◌, ◌≤◌, ◌+◌, ◌⊎◌, [], false, Some, IfOk, OnOk, OnErr, IfErr};
+ghost use Rattle.std.specs.Prelude.{◌≡◌, ◌≤◌, ◌+◌, ◌⊎◌, [], false, Some, IfOk, OnOk, OnErr, IfErr, is_ok};
 ghost use Rattle.std.specs.Io.KnownBytes.{Appends};
 ghost use Rattle.office_mail.specs.Counts.{HasRisen};
-ghost use Rattle.office_mail.specs.Kept.{kept_from};
 ghost use Rattle.office_mail.specs.Reading.{Reading};
-ghost use Rattle.office_mail.specs.Runs.{IsReady};
 ghost use Rattle.office_mail.specs.Taken.{ReadFails};
-ghost use Rattle.office_http.specs.Delivered.{DeliversAll, DeliversFront, DeliversOneFront};
-ghost use Rattle.office_http.specs.Losses.{is_short, NotByStore};
+ghost use Rattle.office_http.specs.Carried.{Carries, Holds, StoreRefused};
+ghost use Rattle.office_http.specs.Delivered.{DeliversAll, DeliversFront, DeliversOne, DeliversOneFront, Settles};
+ghost use Rattle.office_http.specs.Losses.{is_short};
 ghost use Rattle.office_http.specs.Replay.{Replays, ReplaysAll, ReplaysFront, StopsEarly, StopsReplay, IsFresh, status_of};
-ghost use Rattle.office_http.specs.State.{answer_to};
-ghost use Rattle.office_http.specs.Replies.{reply_line, reply_by, mark_of, if_taken};
+ghost use Rattle.office_http.specs.State.{state_of};
+ghost use Rattle.office_http.specs.Replies.{mark_of};
 
 use crate::ending::{either, write_bag, write_end, write_refusal};
 use crate::faults::{DeliverFault, Held};
 use crate::office::Office;
 use crate::replies::{Mark, WriteFault, write_reply};
 use office_mail::{Bag, BagFault, Feed, MailFault, Sink};
+use office_store::Keeper;
 
 /// What an answer says of a delivery.
 fn mark_of(reply: &Result<Held, DeliverFault>) -> Mark
@@ -29,29 +29,32 @@ fn mark_of(reply: &Result<Held, DeliverFault>) -> Mark
     }
 }
 
-/// Delivers a text, writes the line that answers it, and settles where it is held.
-pub(crate) fn deliver_one<W: Sink>(
-    office: &mut Office,
-    text: &[u8],
-    writer: &mut W,
-) -> Result<Mark, WriteFault>
-    ensures kept { IfOk result (λ mark. office.new.kept ≡ kept_from office.old.setup office.old.kept (if_taken mark text.now [])) }
-    ensures setup { office.new.setup ≡ office.old.setup }
-    ensures grows { office.old.finished ≤ office.new.finished }
-    ensures written { IfOk result (λ mark. Appends (W.written writer.old) (W.written writer.new)
-        (reply_line office.old.setup (reply_by mark (answer_to office.old.setup office.old.kept text.now)))) }
-    // What a writer that fails leaves: the text may be kept, and a front of the line was written.
-    ensures front { OnErr result (DeliversOneFront office.old office.new text.now (W.written writer.old) (W.written writer.new)) }
-    ensures cause { OnErr result (HasRisen (W.failures writer.old) (W.failures writer.new)) }
-    ensures clean { OnOk result (W.failures writer.new ≡ W.failures writer.old) }
-    ensures no_store { IfOk result (λ mark. NotByStore mark) }
-    ensures ready { IsReady office.old.setup office.old.kept office.old.finished → IsReady office.new.setup office.new.kept office.new.finished }
+/// Settles behind a delivery that is held. A fault of that settle is told by nobody: the next one goes on.
+pub(crate) fn settle_behind<K: Keeper>(office: &mut Office<K>, reply: &Result<Held, DeliverFault>)
+    ensures carries { Carries K.Keeper office.old office.new }
+    ensures settles { Holds K.Keeper office.old office.new → Settles (state_of K.Keeper office.old) (state_of K.Keeper office.new) (is_ok reply.now) (StoreRefused K.Keeper office.old office.new) }
 {
-    let reply = office.deliver(text);
-    write_reply(office.setup(), &reply, writer)?;
     if reply.is_ok() {
         let _ = office.settle();
     }
+}
+
+/// Delivers a text, writes the line that answers it, and settles where it is held.
+pub(crate) fn deliver_one<K: Keeper, W: Sink>(
+    office: &mut Office<K>,
+    text: &[u8],
+    writer: &mut W,
+) -> Result<Mark, WriteFault>
+    ensures carries { Carries K.Keeper office.old office.new }
+    ensures ok { Holds K.Keeper office.old office.new → IfOk result (λ mark. DeliversOne (state_of K.Keeper office.old) (state_of K.Keeper office.new) text.now mark (W.written writer.old) (W.written writer.new) (StoreRefused K.Keeper office.old office.new)) }
+    // What a writer that fails leaves: the text may be kept, and a front of the line was written.
+    ensures front { Holds K.Keeper office.old office.new → OnErr result (DeliversOneFront (state_of K.Keeper office.old) (state_of K.Keeper office.new) text.now (W.written writer.old) (W.written writer.new) (StoreRefused K.Keeper office.old office.new)) }
+    ensures cause { OnErr result (HasRisen (W.failures writer.old) (W.failures writer.new)) }
+    ensures clean { OnOk result (W.failures writer.new ≡ W.failures writer.old) }
+{
+    let reply = office.deliver(text);
+    write_reply(office.setup(), &reply, writer)?;
+    settle_behind(office, &reply);
     Ok(mark_of(&reply))
 }
 
@@ -63,14 +66,15 @@ pub(crate) struct Delivered {
 }
 
 /// Delivers the messages of a bag in turn, up to its end.
-pub(crate) fn deliver_all<R: Feed, W: Sink>(
-    office: &mut Office,
+pub(crate) fn deliver_all<K: Keeper, R: Feed, W: Sink>(
+    office: &mut Office<K>,
     bag: &mut Bag<R>,
     writer: &mut W,
 ) -> Result<Delivered, WriteFault>
     requires { bag.old.ended ≡ false }
-    ensures all { IfOk result (λ delivered. DeliversAll office.old office.new bag.old bag.new (W.written writer.old) (W.written writer.new) delivered.end delivered.lost) }
-    ensures front { OnErr result (DeliversFront office.old office.new bag.old bag.new (W.written writer.old) (W.written writer.new)) }
+    ensures carries { Carries K.Keeper office.old office.new }
+    ensures all { Holds K.Keeper office.old office.new → IfOk result (λ delivered. DeliversAll (state_of K.Keeper office.old) (state_of K.Keeper office.new) bag.old bag.new (W.written writer.old) (W.written writer.new) delivered.end delivered.lost (StoreRefused K.Keeper office.old office.new)) }
+    ensures front { Holds K.Keeper office.old office.new → OnErr result (DeliversFront (state_of K.Keeper office.old) (state_of K.Keeper office.new) bag.old bag.new (W.written writer.old) (W.written writer.new) (StoreRefused K.Keeper office.old office.new)) }
 
     // A read failed exactly where the bag is refused for it, but for the last of the reads.
     ensures read_cause { IfOk result (λ delivered. delivered.end ≡ Some BagFault.ReadFault → ReadFails bag.old bag.new) }
@@ -108,15 +112,18 @@ pub struct Replayed {
 /// Delivers the messages that a reader gives as a bag, settles, and writes the answers, the status,
 /// the reports of the runs that it finished, and testing. It fails only where the writer failed or
 /// took no byte. What becomes of the reader is said by [`replay_bag`].
-pub fn replay<R: Feed + Drop, W: Sink>(
-    office: &mut Office,
+pub fn replay<K: Keeper, R: Feed + Drop, W: Sink>(
+    office: &mut Office<K>,
     reader: R,
     writer: &mut W,
 ) -> Result<Replayed, WriteFault>
-    ensures ok { IfOk result (λ replayed. (start : Reading) × (now : Reading) × IsFresh (R.left reader) start
-        × Replays office.old office.new start now (W.written writer.old) (W.written writer.new) replayed) }
-    ensures err { OnErr result ((start : Reading) × (now : Reading) × IsFresh (R.left reader) start
-        × StopsReplay office.old office.new start now (W.written writer.old) (W.written writer.new)) }
+    // A store that is trusted was so before, and holds an office's state as before. What the replay makes of it is known
+    // while it is trusted; what it lost is lost by the store only where that counted a refusal.
+    ensures carries { Carries K.Keeper office.old office.new }
+    ensures ok { Holds K.Keeper office.old office.new → IfOk result (λ replayed. (start : Reading) × (now : Reading) × IsFresh (R.left reader) start
+        × Replays (state_of K.Keeper office.old) (state_of K.Keeper office.new) start now (W.written writer.old) (W.written writer.new) replayed (StoreRefused K.Keeper office.old office.new)) }
+    ensures err { Holds K.Keeper office.old office.new → OnErr result ((start : Reading) × (now : Reading) × IsFresh (R.left reader) start
+        × StopsReplay (state_of K.Keeper office.old) (state_of K.Keeper office.new) start now (W.written writer.old) (W.written writer.new) (StoreRefused K.Keeper office.old office.new)) }
     ensures cause { OnErr result (HasRisen (W.failures writer.old) (W.failures writer.new)) }
     ensures clean { OnOk result (W.failures writer.new ≡ W.failures writer.old) }
 {
@@ -127,14 +134,17 @@ pub fn replay<R: Feed + Drop, W: Sink>(
 /// Delivers the messages of a bag that hasn't ended, settles, and writes the answers, the status, the
 /// reports of the runs that it finished, and testing. It fails only where the writer failed or took no
 /// byte; what was delivered before stays.
-pub fn replay_bag<R: Feed, W: Sink>(
-    office: &mut Office,
+pub fn replay_bag<K: Keeper, R: Feed, W: Sink>(
+    office: &mut Office<K>,
     bag: &mut Bag<R>,
     writer: &mut W,
 ) -> Result<Replayed, WriteFault>
     requires { bag.old.ended ≡ false }
-    ensures ok { IfOk result (λ replayed. Replays office.old office.new bag.old bag.new (W.written writer.old) (W.written writer.new) replayed) }
-    ensures err { OnErr result (StopsReplay office.old office.new bag.old bag.new (W.written writer.old) (W.written writer.new)) }
+    // A store that is trusted was so before, and holds an office's state as before. What the replay makes of it is known
+    // while it is trusted; what it lost is lost by the store only where that counted a refusal.
+    ensures carries { Carries K.Keeper office.old office.new }
+    ensures ok { Holds K.Keeper office.old office.new → IfOk result (λ replayed. Replays (state_of K.Keeper office.old) (state_of K.Keeper office.new) bag.old bag.new (W.written writer.old) (W.written writer.new) replayed (StoreRefused K.Keeper office.old office.new)) }
+    ensures err { Holds K.Keeper office.old office.new → OnErr result (StopsReplay (state_of K.Keeper office.old) (state_of K.Keeper office.new) bag.old bag.new (W.written writer.old) (W.written writer.new) (StoreRefused K.Keeper office.old office.new)) }
 
     // A read failed exactly where the bag is refused for it, but for the last of the reads.
     ensures read_cause { IfOk result (λ replayed. replayed.bag ≡ Some BagFault.ReadFault → ReadFails bag.old bag.new) }
@@ -160,18 +170,17 @@ pub fn replay_bag<R: Feed, W: Sink>(
 }
 
 /// The same, where this count of runs is finished.
-fn replay_from<R: Feed, W: Sink>(
-    office: &mut Office,
+fn replay_from<K: Keeper, R: Feed, W: Sink>(
+    office: &mut Office<K>,
     before: u32,
     bag: &mut Bag<R>,
     writer: &mut W,
 ) -> Result<Replayed, WriteFault>
-    requires open { bag.old.ended ≡ false }
-    requires before { before ≡ office.old.finished }
-    requires ready { IsReady office.old.setup office.old.kept office.old.finished }
-    ensures ok { IfOk result (λ replayed. ReplaysAll office.old office.new bag.old bag.new (W.written writer.old) (W.written writer.new) replayed) }
-    ensures err { OnErr result (StopsEarly office.old office.new bag.old bag.new (W.written writer.old) (W.written writer.new)
-        ⊎ ReplaysFront office.old office.new bag.old bag.new (W.written writer.old) (W.written writer.new)) }
+    requires { bag.old.ended ≡ false }
+    ensures carries { Carries K.Keeper office.old office.new }
+    ensures ok { Holds K.Keeper office.old office.new → before ≡ (state_of K.Keeper office.old).finished → IfOk result (λ replayed. ReplaysAll (state_of K.Keeper office.old) (state_of K.Keeper office.new) bag.old bag.new (W.written writer.old) (W.written writer.new) replayed (StoreRefused K.Keeper office.old office.new)) }
+    ensures err { Holds K.Keeper office.old office.new → before ≡ (state_of K.Keeper office.old).finished → OnErr result (StopsEarly (state_of K.Keeper office.old) (state_of K.Keeper office.new) bag.old bag.new (W.written writer.old) (W.written writer.new) (StoreRefused K.Keeper office.old office.new)
+        ⊎ ReplaysFront (state_of K.Keeper office.old) (state_of K.Keeper office.new) bag.old bag.new (W.written writer.old) (W.written writer.new) (StoreRefused K.Keeper office.old office.new)) }
     ensures read_cause { IfOk result (λ replayed. replayed.bag ≡ Some BagFault.ReadFault → ReadFails bag.old bag.new) }
     ensures read_clean { IfOk result (λ replayed. (replayed.bag ≡ Some BagFault.ReadFault) ⊎ (bag.new.failures ≡ bag.old.failures)) }
     ensures reads { bag.new.reads ≤ 1_000_000 }

@@ -1,27 +1,33 @@
 //! What a run writes and leaves.
-ghost use Rattle.std.specs.Prelude.{◌≡◌, ◌++◌, IfOk, IfErr, OnOk, max, option_to_list, slice_index};
+ghost use Rattle.std.specs.Prelude.{◌≡◌, List, ◌++◌, IfOk, IfErr, OnOk, max, option_to_list};
 ghost use Rattle.office_http.specs.Outcome.{item_in_body, outcome};
 ghost use Rattle.testing_rules.specs.Covered.{Covered};
 ghost use Rattle.testing_rules.specs.StandsFor.{StandsFor};
 ghost use Rattle.testing_rules.specs.Suite.{Suite};
+ghost use Rattle.testing_rules.specs.Updates.{update_of};
+ghost use Rattle.testing_rules.specs.declared.excuse.Excuse.{Excuse};
 ghost use Rattle.testing_rules.specs.Watched.{AllWatchedWork};
 ghost use Rattle.office_mail.specs.Runs.{cover_of};
+ghost use Rattle.testing_rules.specs.Given.{IsGivenBy};
 
-use crate::plain::Reports;
+use crate::orders::stated_for;
 use deb_control::{NoMemory, Text};
 use jiff::civil::Date;
 use office_mail::{Body, RunOrder, Setup};
+use office_store::Finished;
 use std::alloc::Global;
-use testing_rules::{Facts, Testing, excuses, excuses_text, migrate, update_text};
+use testing_rules::laws::update_is_given;
+use testing_rules::{Archs, Facts, Testing, excuses, excuses_text, migrate, update_text};
 
-/// The reports of a run, and the testing that it leaves.
-#[derive(Drop)]
-pub struct Outcome {
-    pub reports: Reports,
-    pub testing: Testing,
+/// What a run brings into testing is given by the messages that it covers.
+fn gives_update(archs: &Archs)
+    ensures { (s : Covered) (excuses : List Excuse) (old : Suite) → IsGivenBy archs.now s old (update_of archs.now s excuses old).suite }
+{
+    update_is_given();
+    let _ = archs.as_slice();
 }
 
-/// A run by the rules, over the messages that the facts stand for.
+/// A run by the rules from this testing, over the messages that the facts stand for.
 #[tactic(auto, unfolding(crate::specs::Outcome::outcome))]
 pub fn run_rules(
     alloc: Global,
@@ -29,23 +35,23 @@ pub fn run_rules(
     run: u32,
     date: Date,
     facts: &Facts,
-    testing: &Testing,
-) -> Result<Outcome, NoMemory>
-    ensures ok { IfOk result (λ o. (s : Covered) → StandsFor facts.now s testing.now → o ≡ outcome setup.now run date s testing.now) }
-    ensures watched { IfOk result (λ o. AllWatchedWork setup.now.archs testing.now.rows → AllWatchedWork setup.now.archs o.testing.rows) }
+    testing: Testing,
+) -> Result<Finished, NoMemory>
+    ensures ok { IfOk result (λ o. (s : Covered) → StandsFor facts.now s testing → o ≡ outcome setup.now run date s testing) }
+    ensures given { IfOk result (λ o. (s : Covered) → StandsFor facts.now s testing → IsGivenBy setup.now.archs s testing o.testing) }
+    ensures watched { IfOk result (λ o. AllWatchedWork setup.now.archs testing.rows → AllWatchedWork setup.now.archs o.testing.rows) }
 {
     let archs = setup.archs();
-    let excuses = excuses(alloc, archs, facts, testing, date)?;
-    let mut after = testing.copy(alloc)?;
+    gives_update(archs);
+    let excuses = excuses(alloc, archs, facts, &testing, date)?;
+    let mut after = testing;
     let update = migrate(alloc, archs, facts, &excuses, &mut after)?;
     let excuses = excuses_text(alloc, archs, run, date, &excuses)?;
     let updates = update_text(alloc, archs, run, date, &update)?;
-    Ok(Outcome {
-        reports: Reports {
-            excuses: Text::from_string(excuses),
-            updates: Text::from_string(updates),
-        },
+    Ok(Finished {
         testing: after,
+        excuses: Text::from_string(excuses),
+        updates: Text::from_string(updates),
     })
 }
 
@@ -68,13 +74,6 @@ pub fn cover_of(orders: &[RunOrder], sender: usize) -> u32
         cover = greater(cover, stated_for(order, sender));
     }
     cover
-}
-
-/// The number that an order states for a sender, 0 where it has none.
-fn stated_for(order: &RunOrder, sender: usize) -> u32
-    ensures { result ≡ slice_index order.now.covers sender }
-{
-    order.covers.as_slice().get(sender).copied().unwrap_or(0)
 }
 
 /// The greater of two numbers.

@@ -6,14 +6,17 @@ ghost use Rattle.httparse.specs.Spans.{IsRequestAt};
 ghost use Rattle.httparse.specs.declared.spans.HeaderSpan.{HeaderSpan};
 ghost use Rattle.office_mail.specs.Counts.{HasRisen};
 ghost use Rattle.office_http.specs.Asked.{asked_of};
-ghost use Rattle.office_http.specs.Reply.{continue_bytes, refused, reply_bytes};
+ghost use Rattle.office_http.specs.Carried.{Asks, Carries, Holds, StoreRefused};
+ghost use Rattle.office_http.specs.Reply.{continue_bytes, refused, reply_bytes, HasPlace};
 ghost use Rattle.office_http.specs.Request.{IsHeadAt};
 ghost use Rattle.office_http.specs.Serve.{refusal_for, status_answer, text_answer, report_answer, delivery_answer, Tells, Does, Runs, Answers, StopsBefore, Serves, StopsRequest, StopsServe, ServesHead};
+ghost use Rattle.office_http.specs.State.{state_of};
 ghost use Rattle.office_http.specs.Written.{AppendsFront};
 
 use crate::faults::{DeliverFault, Held, Progress, StoreFault};
 use crate::head::{Ended, FIELD_ROOM, Filled, read_head, read_up_to};
 use crate::office::Office;
+use crate::replays::settle_behind;
 use crate::replies::WriteFault;
 use crate::reply::{Answer, Refusal, write_answer, write_continue};
 use crate::request::{Asked, Errand, Page, Posted, asked_of, is_head_method};
@@ -21,6 +24,7 @@ use crate::routes::routes;
 use deb_control::Text;
 use httparse::spans::{EMPTY_HEADER_SPAN, HeaderSpan, RequestSpans};
 use office_mail::{Feed, MailFault, ReadFailed, Setup, Sink};
+use office_store::Keeper;
 use std::alloc::Global;
 use thiserror::Error;
 
@@ -110,8 +114,10 @@ fn delivery_answer(reply: Result<Held, DeliverFault>) -> Answer
 }
 
 /// Tells a text of the office.
-fn tell(office: &Office, page: Page) -> Answer
-    ensures { Tells office.now page result }
+fn tell<K: Keeper>(office: &mut Office<K>, page: Page) -> Answer
+    ensures asks { Asks K.Keeper office.old office.new }
+    ensures place { HasPlace (K.setup office.old) result }
+    ensures tells { Holds K.Keeper office.old office.new → Tells (state_of K.Keeper office.old) page result (StoreRefused K.Keeper office.old office.new) }
 {
     match page {
         Page::Status => status_answer(office.status()),
@@ -122,25 +128,29 @@ fn tell(office: &Office, page: Page) -> Answer
 }
 
 /// Delivers a text, and settles where it is held. A fault of that settle doesn't change the answer.
-fn deliver(office: &mut Office, text: &[u8]) -> Answer
-    ensures { Runs office.old office.new Errand.Deliver text.now result }
+fn deliver<K: Keeper>(office: &mut Office<K>, text: &[u8]) -> Answer
+    ensures carries { Carries K.Keeper office.old office.new }
+    ensures place { HasPlace (K.setup office.old) result }
+    ensures runs { Holds K.Keeper office.old office.new → Runs (state_of K.Keeper office.old) (state_of K.Keeper office.new) Errand.Deliver text.now result (StoreRefused K.Keeper office.old office.new) }
 {
     let reply = office.deliver(text);
-    if reply.is_ok() {
-        let _ = office.settle();
-    }
+    settle_behind(office, &reply);
     delivery_answer(reply)
 }
 
-fn settle(office: &mut Office, text: &[u8]) -> Answer
-    ensures { Runs office.old office.new Errand.Settle text.now result }
+fn settle<K: Keeper>(office: &mut Office<K>, text: &[u8]) -> Answer
+    ensures carries { Carries K.Keeper office.old office.new }
+    ensures place { HasPlace (K.setup office.old) result }
+    ensures runs { Holds K.Keeper office.old office.new → Runs (state_of K.Keeper office.old) (state_of K.Keeper office.new) Errand.Settle text.now result (StoreRefused K.Keeper office.old office.new) }
 {
     status_answer(office.settle())
 }
 
 /// Does what a POST with this body asks for.
-fn run(office: &mut Office, errand: Errand, body: &[u8]) -> Answer
-    ensures { Runs office.old office.new errand body.now result }
+fn run<K: Keeper>(office: &mut Office<K>, errand: Errand, body: &[u8]) -> Answer
+    ensures carries { Carries K.Keeper office.old office.new }
+    ensures place { HasPlace (K.setup office.old) result }
+    ensures runs { Holds K.Keeper office.old office.new → Runs (state_of K.Keeper office.old) (state_of K.Keeper office.new) errand body.now result (StoreRefused K.Keeper office.old office.new) }
 {
     match errand {
         Errand::Deliver => deliver(office, body),
@@ -149,8 +159,8 @@ fn run(office: &mut Office, errand: Errand, body: &[u8]) -> Answer
 }
 
 /// Reads the body of a POST, and does what it asks for. Nothing is done before the whole body has come.
-fn answer_post<R: Feed, W: Sink>(
-    office: &mut Office,
+fn answer_post<K: Keeper, R: Feed, W: Sink>(
+    office: &mut Office<K>,
     posted: Posted,
     start: usize,
     seen: &mut Vec<u8>,
@@ -158,8 +168,10 @@ fn answer_post<R: Feed, W: Sink>(
     writer: &mut W,
 ) -> Result<Answer, ServeFault>
     requires { start ≤ length seen.old.items }
-    ensures ok { IfOk result (λ answer. Answers office.old office.new (R.left reader.old) (R.left reader.new) (W.written writer.old) (W.written writer.new) (drop start seen.old.items) (Asked.Post posted) answer) }
-    ensures err { OnErr result (StopsBefore office.old office.new (W.written writer.old) (W.written writer.new)) }
+    ensures carries { Carries K.Keeper office.old office.new }
+    ensures place { IfOk result (λ answer. HasPlace (K.setup office.old) answer) }
+    ensures ok { Holds K.Keeper office.old office.new → IfOk result (λ answer. Answers (state_of K.Keeper office.old) (state_of K.Keeper office.new) (R.left reader.old) (R.left reader.new) (W.written writer.old) (W.written writer.new) (drop start seen.old.items) (Asked.Post posted) answer (StoreRefused K.Keeper office.old office.new)) }
+    ensures err { K.is_trusted office.new → OnErr result (StopsBefore (state_of K.Keeper office.old) (state_of K.Keeper office.new) (W.written writer.old) (W.written writer.new)) }
     ensures read { IfErr result (λ fault. fault ≡ ServeFault.Read → HasRisen (R.failures reader.old) (R.failures reader.new)) }
     ensures write { IfErr result (λ fault. fault ≡ ServeFault.Write → HasRisen (W.failures writer.old) (W.failures writer.new)) }
     ensures read_clean { OnOk result (R.failures reader.new ≡ R.failures reader.old) }
@@ -191,8 +203,8 @@ fn asked_in(
 }
 
 /// Answers a request whose head is the front of the bytes seen.
-fn answer_request<R: Feed, W: Sink>(
-    office: &mut Office,
+fn answer_request<K: Keeper, R: Feed, W: Sink>(
+    office: &mut Office<K>,
     asked: Option<Asked>,
     start: usize,
     seen: &mut Vec<u8>,
@@ -200,8 +212,10 @@ fn answer_request<R: Feed, W: Sink>(
     writer: &mut W,
 ) -> Result<Answer, ServeFault>
     requires { start ≤ length seen.old.items }
-    ensures ok { IfOk result (λ answer. (due : Asked) → IfSome asked (λ a. a ≡ due) → Answers office.old office.new (R.left reader.old) (R.left reader.new) (W.written writer.old) (W.written writer.new) (drop start seen.old.items) due answer) }
-    ensures err { OnErr result (StopsBefore office.old office.new (W.written writer.old) (W.written writer.new)) }
+    ensures carries { Carries K.Keeper office.old office.new }
+    ensures place { IfOk result (λ answer. HasPlace (K.setup office.old) answer) }
+    ensures ok { Holds K.Keeper office.old office.new → IfOk result (λ answer. (due : Asked) → IfSome asked (λ a. a ≡ due) → Answers (state_of K.Keeper office.old) (state_of K.Keeper office.new) (R.left reader.old) (R.left reader.new) (W.written writer.old) (W.written writer.new) (drop start seen.old.items) due answer (StoreRefused K.Keeper office.old office.new)) }
+    ensures err { K.is_trusted office.new → OnErr result (StopsBefore (state_of K.Keeper office.old) (state_of K.Keeper office.new) (W.written writer.old) (W.written writer.new)) }
     ensures read { IfErr result (λ fault. fault ≡ ServeFault.Read → HasRisen (R.failures reader.old) (R.failures reader.new)) }
     ensures write { IfErr result (λ fault. fault ≡ ServeFault.Write → HasRisen (W.failures writer.old) (W.failures writer.new)) }
     ensures read_clean { OnOk result (R.failures reader.new ≡ R.failures reader.old) }
@@ -216,8 +230,8 @@ fn answer_request<R: Feed, W: Sink>(
 }
 
 /// Serves a request whose head has come.
-fn serve_request<R: Feed, W: Sink>(
-    office: &mut Office,
+fn serve_request<K: Keeper, R: Feed, W: Sink>(
+    office: &mut Office<K>,
     seen: &mut Vec<u8>,
     spans: RequestSpans,
     headers: &[HeaderSpan],
@@ -225,8 +239,9 @@ fn serve_request<R: Feed, W: Sink>(
     writer: &mut W,
 ) -> Result<u16, ServeFault>
     requires { IsHeadAt seen.old.items headers.now spans }
-    ensures ok { IfOk result (λ code. ServesHead office.old office.new (R.left reader.old) (R.left reader.new) (W.written writer.old) (W.written writer.new) seen.old.items code) }
-    ensures err { IfErr result (λ fault. StopsRequest office.old office.new (R.left reader.old) (R.left reader.new) (W.written writer.old) (W.written writer.new) seen.old.items fault) }
+    ensures carries { Carries K.Keeper office.old office.new }
+    ensures ok { Holds K.Keeper office.old office.new → IfOk result (λ code. ServesHead (state_of K.Keeper office.old) (state_of K.Keeper office.new) (R.left reader.old) (R.left reader.new) (W.written writer.old) (W.written writer.new) seen.old.items code (StoreRefused K.Keeper office.old office.new)) }
+    ensures err { Holds K.Keeper office.old office.new → IfErr result (λ fault. StopsRequest (state_of K.Keeper office.old) (state_of K.Keeper office.new) (R.left reader.old) (R.left reader.new) (W.written writer.old) (W.written writer.new) seen.old.items fault (StoreRefused K.Keeper office.old office.new)) }
     ensures read { IfErr result (λ fault. fault ≡ ServeFault.Read → HasRisen (R.failures reader.old) (R.failures reader.new)) }
     ensures write { IfErr result (λ fault. fault ≡ ServeFault.Write → HasRisen (W.failures writer.old) (W.failures writer.new)) }
     ensures read_clean { OnOk result (R.failures reader.new ≡ R.failures reader.old) }
@@ -256,14 +271,17 @@ fn refuse<W: Sink>(setup: &Setup, refusal: Refusal, writer: &mut W) -> Result<Se
 /// takes no memory, so that a 503 to a delivery says that nothing was added. `Write` comes only where the
 /// writer failed or took no byte, and `Read` only where the reader failed; then nothing was delivered
 /// or settled.
-pub fn serve_one<R: Feed, W: Sink>(
-    office: &mut Office,
+pub fn serve_one<K: Keeper, R: Feed, W: Sink>(
+    office: &mut Office<K>,
     reader: &mut R,
     writer: &mut W,
 ) -> Result<Served, ServeFault>
-    // The reply is a function of the request, of the office's state and of the faults that were met.
-    ensures ok { IfOk result (λ served. Serves office.old office.new (R.left reader.old) (R.left reader.new) (W.written writer.old) (W.written writer.new) served.code) }
-    ensures err { IfErr result (λ fault. StopsServe office.old office.new (R.left reader.old) (R.left reader.new) (W.written writer.old) (W.written writer.new) fault) }
+    // A store that is trusted was so before, and holds an office's state as before.
+    ensures carries { Carries K.Keeper office.old office.new }
+    // The reply is a function of the request, of the office's state and of the faults that were met; a fault of the store
+    // is told only where that counted a refusal.
+    ensures ok { Holds K.Keeper office.old office.new → IfOk result (λ served. Serves (state_of K.Keeper office.old) (state_of K.Keeper office.new) (R.left reader.old) (R.left reader.new) (W.written writer.old) (W.written writer.new) served.code (StoreRefused K.Keeper office.old office.new)) }
+    ensures err { Holds K.Keeper office.old office.new → IfErr result (λ fault. StopsServe (state_of K.Keeper office.old) (state_of K.Keeper office.new) (R.left reader.old) (R.left reader.new) (W.written writer.old) (W.written writer.new) fault (StoreRefused K.Keeper office.old office.new)) }
     ensures read { IfErr result (λ fault. fault ≡ ServeFault.Read → HasRisen (R.failures reader.old) (R.failures reader.new)) }
     ensures write { IfErr result (λ fault. fault ≡ ServeFault.Write → HasRisen (W.failures writer.old) (W.failures writer.new)) }
     ensures read_clean { OnOk result (R.failures reader.new ≡ R.failures reader.old) }

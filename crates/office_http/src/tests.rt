@@ -1,5 +1,6 @@
 use super::*;
-use office_mail::{BagFault, Field, FromRead, MailFault, Setup, SetupFault, ToWrite};
+use office_mail::{BagFault, Field, FromRead, MailFault, Setup, ToWrite};
+use office_store::Plain;
 use std::alloc::Global;
 use std::io;
 use std::io::{Read, Write};
@@ -33,9 +34,10 @@ const BAG: &str = "mail 46\nFrom: rt\nNumber: 1\nKind: hint\nHint: block foo\n\
 const OUTPUT: &str = "held rt 1\nheld clock 1\nready 1 finished 1\n\
     excuses 1 2025-03-06\nupdate 1 2025-03-06\ntesting 1\n";
 
-fn office(alloc: Global) -> Result<Office, SetupFault> {
+fn office(alloc: Global) -> Result<Office<Plain>, Fail> {
     let setup = Setup::parse(alloc, SETUP.as_bytes())?;
-    Ok(Office::new(alloc, setup))
+    let plain = Plain::new(alloc, &setup)?;
+    Ok(Office::new(alloc, setup, plain))
 }
 
 #[test]

@@ -6,5 +6,5 @@ use Rattle.office_http.proofs.orders.is_within.Goals as goal
 
 pub returns : goal.returns
 returns c =
-    within_one c.args.order.now c.args.unbroken.now c.ready.result
-    (subst (λ (orders : List RunOrder). IsGreatest (IsReadyRun orders c.args.unbroken.now) c.ready.result) c.from_ref.ensures.value c.ready.ensures)
+    within_one c.args.order.now c.args.counts.now c.ready.result
+    (subst (λ (orders : List RunOrder). IsGreatest (IsReadyRun orders c.args.counts.now) c.ready.result) c.from_ref.ensures.value c.ready.ensures)

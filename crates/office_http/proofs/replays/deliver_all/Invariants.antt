@@ -1,10 +1,13 @@
 use Rattle.std.proofs.Common.{◌≡◌, ◌+◌, ◌≤◌, false}
+use Rattle.office_http.specs.Carried.{Carries, Holds, StoreRefused}
 use Rattle.office_http.specs.Delivered.{Delivers}
+use Rattle.office_http.specs.State.{state_of}
 use Rattle.office_http.proofs.replays.deliver_all.Given as goal
 
 abbrev pub invariant-loop-text : goal.invariant-loop-text
 invariant-loop-text g l = record {
-  so_far : Delivers l.fn.office l.office l.fn.bag l.bag (g.W.Sink.written l.fn.writer) (g.W.Sink.written l.writer) l.lost;
+  carries : Carries g.K.Keeper l.fn.office l.office;
+  so_far : Holds g.K.Keeper l.fn.office l.office → Delivers (state_of g.K.Keeper l.fn.office) (state_of g.K.Keeper l.office) l.fn.bag l.bag (g.W.Sink.written l.fn.writer) (g.W.Sink.written l.writer) l.lost (StoreRefused g.K.Keeper l.fn.office l.office);
   open_yet : l.bag.ended ≡ false;
   reads : l.bag.failures ≡ l.fn.bag.failures;
   calls : l.bag.calls + l.fn.bag.reads ≤ l.fn.bag.calls + l.bag.reads;

@@ -1,47 +1,49 @@
-use Rattle.std.proofs.Common.{◌≡◌, ℕ, List, [], sym, ap, subst, ◌∙◌, refl}
-use Rattle.std.proofs.lemmas.Result.{on_err_weaker}
-use Rattle.office_mail.specs.Kept.{kept_from}
-use Rattle.office_http.specs.Standing.{State}
-use Rattle.office_http.specs.Replies.{if_taken, mark_of, reply_line}
+use Rattle.std.proofs.Common.{sym, subst}
 use Rattle.std.proofs.lemmas.Result.{err_from_is_err_and}
+use Rattle.std.specs.Io.KnownBytes.{Appends}
 use Rattle.office_mail.specs.Lists.{Lists}
-use Rattle.office_mail.specs.Runs.{IsReady}
-use Rattle.office_http.specs.State.{answer_to}
+use Rattle.office_http.specs.declared.replies.Mark.{Mark}
+use Rattle.office_http.specs.Carried.{StoreRefused}
+use Rattle.office_http.specs.Delivered.{DeliversOne}
+use Rattle.office_http.specs.Replies.{reply_line}
+use Rattle.office_http.specs.State.{state_of}
 use Rattle.office_http.specs.Written.{AppendsFront}
-use Rattle.office_http.proofs.ReplayFacts.{kept_after, ready_after, reply_by-mark, not_by_store}
+use Rattle.office_http.proofs.CarryFacts.{carries_delivery, holds_first, holds_next, refused_first, refused_next}
+use Rattle.office_http.proofs.ReplayFacts.{leaves_call, delivers_one, delivers_one_front}
 use Rattle.office_http.proofs.replays.deliver_one.Goals as goal
-use Rattle.office_http.proofs.replays.deliver_one.Goals.{then-is_ok, else-is_ok}
-
-pub returns-clause-kept : goal.returns-clause-kept
-returns-clause-kept g c =
-    let s = c.args.office.now in
-    let text = c.args.text.now in
-    let after = c.deliver-reply.new.self in
-    let same : c.if-is_ok.office.kept ≡ after.kept = elim c.if-is_ok.branch [
-      | then-is_ok w ↦ ap (λ (o : State). o.kept) w.office-is ∙ w.settle.ensures.kept
-      | else-is_ok w ↦ ap (λ (o : State). o.kept) w.office-is
-    ] in
-    same ∙ kept_after s.setup s.kept after.kept text c.deliver-reply.result c.deliver-reply.ensures.answer c.deliver-reply.ensures.kept (on_err_weaker c.deliver-reply.result (λ e. ap (λ (o : State). o.kept) e) c.deliver-reply.ensures.err)
-    ∙ ap (λ mark. kept_from s.setup s.kept (if_taken mark text [])) (sym c.mark_of.ensures)
 
 pub returns-in_err-write_reply-clause-front : goal.returns-in_err-write_reply-clause-front
 returns-in_err-write_reply-clause-front g c =
+    let keeper = g.K.Keeper in
+    let s0 = c.args.office.now in
+    let s1 = c.deliver-reply.new.self in
+    let r = c.deliver-reply.result in
+    let e = c.deliver-reply.ensures in
+    let w0 = g.W.Sink.written c.args.writer.now in
+    let w1 = g.W.Sink.written c.write_reply.new.writer in
     let p = err_from_is_err_and c.from_residual.result c.from_residual.ensures.1 in
-    let s = c.args.office.now in
-    let text = c.args.text.now in
-    let reply = c.deliver-reply.result in
-    let written = g.W.Sink.written in
-    rw p.1 (record {
-      mark = mark_of reply;
-      kept = kept_after s.setup s.kept c.deliver-reply.new.self.kept text reply c.deliver-reply.ensures.answer c.deliver-reply.ensures.kept (on_err_weaker reply (λ e. ap (λ (o : State). o.kept) e) c.deliver-reply.ensures.err);
-      no_store = not_by_store reply c.deliver-reply.ensures.no_store;
-      written = subst (AppendsFront (written c.args.writer.now) (written c.write_reply.new.writer))
-          (ap (λ (l : Lists). reply_line l reply) (c.setup.ensures.setup ∙ c.deliver-reply.ensures.setup) ∙ ap (reply_line s.setup) (reply_by-mark reply (answer_to s.setup s.kept text) c.deliver-reply.ensures.answer))
-          c.in_err-write_reply.ensures.err;
-    })
+    λ h. rw p.1 (delivers_one_front (StoreRefused keeper s0 s1) (state_of keeper s0) (state_of keeper s1) c.args.text.now r w0 w1
+    (leaves_call keeper s0 s1 c.args.text.now r (e.answer h.0 h.1) (e.kept h.0 h.1) (e.finished h.0 h.1) (e.err h.0 h.1) e.setup e.counted)
+    (e.sound h.0 h.1).1.ready (subst (λ (l : Lists). AppendsFront w0 w1 (reply_line l r)) c.setup.ensures.setup c.in_err-write_reply.ensures.err))
 
-pub returns-in_err-write_reply-clause-ready : goal.returns-in_err-write_reply-clause-ready
-returns-in_err-write_reply-clause-ready g c =
-    let s = c.args.office.now in
-    λ h. rw (c.deliver-reply.ensures.setup, c.deliver-reply.ensures.finished)
-    (ready_after s.setup s.kept c.deliver-reply.new.self.kept c.args.text.now s.finished c.deliver-reply.result c.deliver-reply.ensures.kept (on_err_weaker c.deliver-reply.result (λ e. ap (λ (o : State). o.kept) e) c.deliver-reply.ensures.err) h)
+pub returns-clause-ok : goal.returns-clause-ok
+returns-clause-ok g c =
+    let keeper = g.K.Keeper in
+    let s0 = c.args.office.now in
+    let s1 = c.deliver-reply.new.self in
+    let s2 = c.settle_behind.new.office in
+    let text = c.args.text.now in
+    let r = c.deliver-reply.result in
+    let e = c.deliver-reply.ensures in
+    let w0 = g.W.Sink.written c.args.writer.now in
+    let w1 = g.W.Sink.written c.write_reply.new.writer in
+    let one = carries_delivery keeper s0 s1 r e.before e.sound e.setup e.counted e.lasts in
+    let two = c.settle_behind.ensures.carries in
+    λ h.
+    let h1 = holds_first keeper s0 s1 s2 two h in
+    let h2 = holds_next keeper s0 s1 s2 one two h in
+    subst (λ (m : Mark). DeliversOne (state_of keeper s0) (state_of keeper s2) text m w0 w1 (StoreRefused keeper s0 s2)) (sym c.mark_of.ensures)
+    (delivers_one (StoreRefused keeper s0 s1) (StoreRefused keeper s1 s2) (StoreRefused keeper s0 s2) (state_of keeper s0) (state_of keeper s1) (state_of keeper s2) text r w0 w1
+    (leaves_call keeper s0 s1 text r (e.answer h1.0 h1.1) (e.kept h1.0 h1.1) (e.finished h1.0 h1.1) (e.err h1.0 h1.1) e.setup e.counted) (refused_first keeper s0 s1 s2 two)
+    (c.settle_behind.ensures.settles h2) (refused_next keeper s0 s1 s2 one)
+    (subst (λ (l : Lists). Appends w0 w1 (reply_line l r)) c.setup.ensures.setup c.in_ok-write_reply.ensures.ok))

@@ -1,4 +1,4 @@
-use Rattle.std.proofs.Common.{◌≡◌, ℕ, drop, max}
+use Rattle.std.proofs.Common.{◌≡◌, drop, max}
 use Rattle.office_mail.specs.Runs.{cover_of}
 use Rattle.office_http.proofs.rules.cover_of.Given as goal
 

@@ -1,4 +1,3 @@
-use Rattle.std.proofs.Common.{◌≡◌, ℕ, sym, refl}
 use Rattle.office_http.proofs.rules.take_body.Goals as goal
 
 pub returns-in-Item : goal.returns-in-Item

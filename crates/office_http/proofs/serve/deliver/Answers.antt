@@ -1,39 +1,26 @@
-use Rattle.std.proofs.Common.{refl, ap, arith}
-use Rattle.std.proofs.lemmas.Result.{on_err_weaker}
-use Rattle.office_http.specs.Standing.{State}
-use Rattle.office_http.proofs.ServeFacts.{Leaves, Follows, delivered}
+use Rattle.office_http.specs.Carried.{StoreRefused}
+use Rattle.office_http.specs.State.{state_of}
+use Rattle.office_http.proofs.CarryFacts.{carries_delivery, holds_first, holds_next, refused_first, refused_next}
+use Rattle.office_http.proofs.ReplayFacts.{leaves_call}
+use Rattle.office_http.proofs.ServeFacts.{delivered, place_delivery}
 use Rattle.office_http.proofs.serve.deliver.Goals as goal
-use Rattle.office_http.proofs.serve.deliver.Goals.{then-is_ok, else-is_ok}
 
-pub returns : goal.returns
-returns c =
-    let before = c.args.office.now in
-    let mid = c.deliver-reply.new.self in
-    let after = c.if-is_ok.office in
+pub returns-clause-place : goal.returns-clause-place
+returns-clause-place g c = rw c.delivery_answer.ensures (place_delivery (g.K.Keeper.setup c.args.office.now) c.deliver-reply.result c.deliver-reply.ensures.place)
+
+pub returns-clause-runs : goal.returns-clause-runs
+returns-clause-runs g c =
+    let keeper = g.K.Keeper in
+    let s0 = c.args.office.now in
+    let s1 = c.deliver-reply.new.self in
+    let s2 = c.settle_behind.new.office in
     let r = c.deliver-reply.result in
-    let leaves : Leaves before mid c.args.text.now r = record {
-      answer = c.deliver-reply.ensures.answer;
-      kept = c.deliver-reply.ensures.kept;
-      finished = c.deliver-reply.ensures.finished;
-      setup = c.deliver-reply.ensures.setup;
-      err = on_err_weaker r (λ e. ap (λ (s : State). s.kept) e) c.deliver-reply.ensures.err;
-      place = c.deliver-reply.ensures.place;
-      no_store = c.deliver-reply.ensures.no_store;
-    } in
-    let follows : Follows mid after r = elim c.if-is_ok.branch [
-      | then-is_ok w ↦ rw w.office-is (record {
-        setup = w.settle.ensures.setup;
-        kept = w.settle.ensures.kept;
-        grows = w.settle.ensures.grows;
-        still = λ h. absurd (cc (h, w.if-is_ok.true, c.is_ok.ensures.value));
-        only_ready = λ h. w.settle.ensures.only_ready;
-      })
-      | else-is_ok w ↦ rw w.office-is (record {
-        setup = refl;
-        kept = refl;
-        grows = omega arith;
-        still = λ h. refl;
-        only_ready = λ h. h;
-      })
-    ] in
-    rw c.delivery_answer.ensures (delivered before mid after c.args.text.now r leaves follows)
+    let e = c.deliver-reply.ensures in
+    let one = carries_delivery keeper s0 s1 r e.before e.sound e.setup e.counted e.lasts in
+    let two = c.settle_behind.ensures.carries in
+    λ h.
+    let h1 = holds_first keeper s0 s1 s2 two h in
+    let h2 = holds_next keeper s0 s1 s2 one two h in
+    rw c.delivery_answer.ensures (delivered (StoreRefused keeper s0 s1) (StoreRefused keeper s1 s2) (StoreRefused keeper s0 s2) (state_of keeper s0) (state_of keeper s1) (state_of keeper s2) c.args.text.now r
+    (leaves_call keeper s0 s1 c.args.text.now r (e.answer h1.0 h1.1) (e.kept h1.0 h1.1) (e.finished h1.0 h1.1) (e.err h1.0 h1.1) e.setup e.counted) (refused_first keeper s0 s1 s2 two)
+    (c.settle_behind.ensures.settles h2) (refused_next keeper s0 s1 s2 one))

@@ -1,5 +1,18 @@
-use Rattle.office_http.proofs.ServeFacts.{settled}
+use Rattle.office_http.specs.Carried.{StoreRefused}
+use Rattle.office_http.specs.State.{state_of}
+use Rattle.office_http.proofs.CarryFacts.{risen}
+use Rattle.office_http.proofs.ServeFacts.{settled, place_status}
 use Rattle.office_http.proofs.serve.settle.Goals as goal
 
-pub returns : goal.returns
-returns c = rw c.status_answer.ensures (settled c.args.office.now c.settle.new.self c.args.text.now c.settle.result c.settle.ensures.ready c.settle.ensures.finished c.settle.ensures.setup c.settle.ensures.kept c.settle.ensures.grows c.settle.ensures.only_ready c.settle.ensures.no_store)
+pub returns-clause-place : goal.returns-clause-place
+returns-clause-place g c = rw c.status_answer.ensures (place_status (g.K.Keeper.setup c.args.office.now) c.settle.result)
+
+pub returns-clause-runs : goal.returns-clause-runs
+returns-clause-runs g c =
+    let keeper = g.K.Keeper in
+    let s0 = c.args.office.now in
+    let s1 = c.settle.new.self in
+    let r = c.settle.result in
+    let e = c.settle.ensures in
+    λ h. rw c.status_answer.ensures (settled (StoreRefused keeper s0 s1) (state_of keeper s0) (state_of keeper s1) c.args.text.now r (e.ready h.0 h.1) (e.finished h.0 h.1) e.setup (e.kept h.0 h.1) (e.grows h.0 h.1) (e.only_ready h.0 h.1)
+    (risen (keeper.refusals s0) (keeper.refusals s1) r e.counted))

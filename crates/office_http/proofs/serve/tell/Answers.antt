@@ -1,14 +1,53 @@
-use Rattle.office_http.proofs.ServeFacts.{told_status, told_testing, told_excuses, told_update}
+use Rattle.office_http.specs.Carried.{StoreRefused}
+use Rattle.office_http.specs.State.{state_of}
+use Rattle.office_http.proofs.CarryFacts.{risen}
+use Rattle.office_http.proofs.ServeFacts.{told_status, told_testing, told_excuses, told_update, place_status, place_text, place_report}
 use Rattle.office_http.proofs.serve.tell.Goals as goal
 
-pub returns-in-Status : goal.returns-in-Status
-returns-in-Status c = rw (c.in-Status.is, c.status_answer.ensures) (told_status c.args.office.now c.status.result c.status.ensures.ready c.status.ensures.finished c.status.ensures.no_store)
+pub returns-in-Status-clause-place : goal.returns-in-Status-clause-place
+returns-in-Status-clause-place g c = rw c.status_answer.ensures (place_status (g.K.Keeper.setup c.args.office.now) c.status.result)
 
-pub returns-in-Testing : goal.returns-in-Testing
-returns-in-Testing c = rw (c.in-Testing.is, c.text_answer.ensures) (told_testing c.args.office.now c.testing_text.result c.testing_text.ensures.text c.testing_text.ensures.no_store)
+pub returns-in-Status-clause-tells : goal.returns-in-Status-clause-tells
+returns-in-Status-clause-tells g c =
+    let keeper = g.K.Keeper in
+    let s0 = c.args.office.now in
+    let s1 = c.status.new.self in
+    let r = c.status.result in
+    let e = c.status.ensures in
+    λ h. rw (c.in-Status.is, c.status_answer.ensures) (told_status (StoreRefused keeper s0 s1) (state_of keeper s0) r (e.ready h.0 h.1) (e.finished h.0 h.1) (risen (keeper.refusals s0) (keeper.refusals s1) r e.counted))
 
-pub returns-in-Excuses : goal.returns-in-Excuses
-returns-in-Excuses c = rw (c.in-Excuses.is, c.report_answer.ensures) (told_excuses c.args.office.now c.in-Excuses.run' c.excuses_text.result c.excuses_text.ensures.text c.excuses_text.ensures.no_store)
+pub returns-in-Testing-clause-place : goal.returns-in-Testing-clause-place
+returns-in-Testing-clause-place g c = rw c.text_answer.ensures (place_text (g.K.Keeper.setup c.args.office.now) c.testing_text.result)
 
-pub returns-in-Update : goal.returns-in-Update
-returns-in-Update c = rw (c.in-Update.is, c.report_answer-in-Update.ensures) (told_update c.args.office.now c.in-Update.run' c.update_text.result c.update_text.ensures.text c.update_text.ensures.no_store)
+pub returns-in-Testing-clause-tells : goal.returns-in-Testing-clause-tells
+returns-in-Testing-clause-tells g c =
+    let keeper = g.K.Keeper in
+    let s0 = c.args.office.now in
+    let s1 = c.testing_text.new.self in
+    let r = c.testing_text.result in
+    let e = c.testing_text.ensures in
+    λ h. rw (c.in-Testing.is, c.text_answer.ensures) (told_testing (StoreRefused keeper s0 s1) (state_of keeper s0) r (e.text h.0 h.1) (risen (keeper.refusals s0) (keeper.refusals s1) r e.counted))
+
+pub returns-in-Excuses-clause-place : goal.returns-in-Excuses-clause-place
+returns-in-Excuses-clause-place g c = rw c.report_answer.ensures (place_report (g.K.Keeper.setup c.args.office.now) c.excuses_text.result)
+
+pub returns-in-Excuses-clause-tells : goal.returns-in-Excuses-clause-tells
+returns-in-Excuses-clause-tells g c =
+    let keeper = g.K.Keeper in
+    let s0 = c.args.office.now in
+    let s1 = c.excuses_text.new.self in
+    let r = c.excuses_text.result in
+    let e = c.excuses_text.ensures in
+    λ h. rw (c.in-Excuses.is, c.report_answer.ensures) (told_excuses (StoreRefused keeper s0 s1) (state_of keeper s0) c.in-Excuses.run' r (e.text h.0 h.1) (risen (keeper.refusals s0) (keeper.refusals s1) r e.counted))
+
+pub returns-in-Update-clause-place : goal.returns-in-Update-clause-place
+returns-in-Update-clause-place g c = rw c.report_answer-in-Update.ensures (place_report (g.K.Keeper.setup c.args.office.now) c.update_text.result)
+
+pub returns-in-Update-clause-tells : goal.returns-in-Update-clause-tells
+returns-in-Update-clause-tells g c =
+    let keeper = g.K.Keeper in
+    let s0 = c.args.office.now in
+    let s1 = c.update_text.new.self in
+    let r = c.update_text.result in
+    let e = c.update_text.ensures in
+    λ h. rw (c.in-Update.is, c.report_answer-in-Update.ensures) (told_update (StoreRefused keeper s0 s1) (state_of keeper s0) c.in-Update.run' r (e.text h.0 h.1) (risen (keeper.refusals s0) (keeper.refusals s1) r e.counted))

@@ -1,13 +1,14 @@
-use Rattle.std.proofs.Common.{Some, ap, ◌∙◌}
+use Rattle.std.proofs.Common.{ap, ◌∙◌}
 use Rattle.std.specs.Option.{option_map}
-use Rattle.office_http.specs.declared.plain.Reports.{Reports}
-use Rattle.office_http.specs.Standing.{State}
-use Rattle.office_http.specs.State.{reports_at}
+use Rattle.office_store.specs.Content.{item_from_one}
+use Rattle.office_store.specs.declared.values.Reports.{Reports}
 use Rattle.office_http.proofs.FinishFacts.{reports_at-is}
 use Rattle.office_http.proofs.office.Office.excuses_text.Goals as goal
 
-pub returns-in_ok-copy-in-Some-clause-text : goal.returns-in_ok-copy-in-Some-clause-text
-returns-in_ok-copy-in-Some-clause-text c =
-    ap Some c.in_ok-copy-in-Some.ensures
-    ∙ ap (option_map (λ (r : Reports). r.excuses)) (c.in-Some.ensures ∙ reports_at-is c.self.inside.setup c.self.inside.plain c.self.inside.testing c.args.run c.self.invariant.0)
-    ∙ ap (λ (s : State). option_map (λ (r : Reports). r.excuses) (reports_at s c.args.run)) c.self.view_is
+pub returns-clause-text : goal.returns-clause-text
+returns-clause-text g c = λ trusted sound.
+    let keeper = g.K.Keeper in
+    let old = c.args.self.now in
+    c.excuses_in.ensures
+    ∙ ap (option_map (λ (r : Reports). r.excuses))
+    (c.in_ok-reports.ensures.value trusted ∙ ap (λ k. item_from_one c.args.run (keeper.content k).reports) c.self.view_is ∙ reports_at-is (keeper.setup old) (keeper.content old) c.args.run sound.1)

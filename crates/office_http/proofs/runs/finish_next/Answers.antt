@@ -1,0 +1,65 @@
+use Rattle.std.proofs.Common.{◌≡◌, ◌+◌, List, length, sym, ap, subst, ◌∙◌, arith}
+use Rattle.office_mail.specs.declared.message.RunOrder.{RunOrder}
+use Rattle.office_mail.specs.Lists.{Lists}
+use Rattle.office_mail.specs.Runs.{IsReady}
+use Rattle.office_store.specs.Content.{Content, with_run}
+use Rattle.office_store.specs.Given.{AreOwnTexts}
+use Rattle.office_http.specs.Outcome.{outcome_of}
+use Rattle.office_http.specs.Ready.{FirstOrders}
+use Rattle.office_http.specs.State.{IsOffice}
+use Rattle.office_http.proofs.FinishFacts.{IsOffice-finished}
+use Rattle.office_http.proofs.runs.finish_next.Goals as goal
+
+pub returns-clause-office : goal.returns-clause-office
+returns-clause-office g c = λ trusted legible office.
+    let setup = c.args.setup.now in
+    let trust = g.K.Keeper.is_trusted in
+    let content = g.K.Keeper.content in
+    let old : Content = content c.args.keeper.now in
+    let mid : Content = content c.next_is_ready.new.keeper in
+    let late : Content = content c.next_outcome.new.keeper in
+    let new : Content = content c.finish.new.keeper in
+    let at3 = c.in_ok-finish.ensures in
+    let t2 = at3.before trusted in
+    let at2 = c.in_ok-done.ensures in
+    let t1 = at2.before t2 in
+    let at1 = c.in_ok-next_is_ready.ensures in
+    let t0 = at1.before t1 in
+    let same1 : mid ≡ old = at1.same t1 in
+    let same2 : late ≡ old = at2.same t2 ∙ same1 in
+    let n = length old.reports in
+    let finished : c.args.finished ≡ n = c.requires.finished t0 in
+    let orders : List RunOrder = c.next_is_ready.new.orders.items in
+    let known = at1.known t1 in
+    let size : length orders ≡ n + 1 = omega (arith, known.next, at1.there c.if-not-branch.false, finished) in
+    let ready : IsReady setup old.kept (n + 1) = subst (λ k. IsReady setup old.kept (k + 1)) finished ((at1.ready t1 office).0 c.if-not-branch.false) in
+    let there : IsOffice setup mid = subst (IsOffice setup) (sym same1) office in
+    let legible2 = at2.legible t2 (at1.legible t1 legible) in
+    let lists : g.K.Keeper.setup c.next_outcome.new.keeper ≡ setup = at2.setup ∙ at1.setup ∙ c.requires.lists in
+    let own : AreOwnTexts (g.K.Keeper.setup c.next_outcome.new.keeper) late.kept = subst (λ (u : Lists). AreOwnTexts u late.kept) (sym lists) (subst (λ (m : Content). AreOwnTexts setup m.kept) (sym same2) office.texts) in
+    let next : new ≡ with_run old c.in_ok-done.done = at3.done trusted legible2 own ∙ ap (λ (m : Content). with_run m c.in_ok-done.done) same2 in
+    let given : List RunOrder = c.deref.result.now in
+    let first : FirstOrders setup mid.kept given = subst (FirstOrders setup mid.kept) (sym c.deref.ensures.value) (subst (λ (m : Content). FirstOrders setup m.kept orders) (sym same1) known.first) in
+    let whole : length given ≡ length mid.reports + 1 = ap length c.deref.ensures.value ∙ size ∙ ap (λ (m : Content). length m.reports + 1) (sym same1) in
+    let run : c.args.finished + 1 ≡ length mid.reports + 1 = ap (λ k. k + 1) finished ∙ ap (λ (m : Content). length m.reports + 1) (sym same1) in
+    let is : c.in_ok-done.done ≡ outcome_of setup old.kept (n + 1) =
+    at2.outcome t2 there first whole run ∙ ap (λ (m : Content). outcome_of setup m.kept (c.args.finished + 1)) same1 ∙ ap (λ k. outcome_of setup old.kept (k + 1)) finished in
+    let works = at2.watched t2 there.watched in
+    IsOffice-finished setup old new c.in_ok-done.done office ready next is works
+
+pub returns-clause-legible : goal.returns-clause-legible
+returns-clause-legible g c = λ trusted legible office.
+    let setup = c.args.setup.now in
+    let content = g.K.Keeper.content in
+    let old : Content = content c.args.keeper.now in
+    let mid : Content = content c.next_is_ready.new.keeper in
+    let late : Content = content c.next_outcome.new.keeper in
+    let at3 = c.in_ok-finish.ensures in
+    let t2 = at3.before trusted in
+    let at2 = c.in_ok-done.ensures in
+    let t1 = at2.before t2 in
+    let at1 = c.in_ok-next_is_ready.ensures in
+    let same : late ≡ old = at2.same t2 ∙ at1.same t1 in
+    let lists : g.K.Keeper.setup c.next_outcome.new.keeper ≡ setup = at2.setup ∙ at1.setup ∙ c.requires.lists in
+    let own : AreOwnTexts (g.K.Keeper.setup c.next_outcome.new.keeper) late.kept = subst (λ (u : Lists). AreOwnTexts u late.kept) (sym lists) (subst (λ (m : Content). AreOwnTexts setup m.kept) (sym same) office.texts) in
+    at3.legible trusted (at2.legible t2 (at1.legible t1 legible)) own
