@@ -1,0 +1,6 @@
+mod Numbers
+mod Reading
+mod Rows
+mod Taken
+mod Values
+mod Walks

@@ -1,0 +1,86 @@
+-- What the words of the command line ask for.
+use Rattle.std.specs.Prelude.{◌≡◌, ⊤, Result, Ok, Err, ℕ, Bool, ◌&&◌, ◌^◌, codes, length, List, [], ◌∷◌, Option, Some, None, option_map, option_and_then, nat_lt, if◌then◌else◌}
+use Rattle.std.specs.List.{list_all}
+use Rattle.std.specs.Str.{bytes_eq}
+use Rattle.std.specs.Str.Parse.{digits_value, without_leading_plus}
+use Rattle.std.specs.Char.{digit_value}
+use Rattle.clap.specs.Words.{Row, Text, fault_of, first_of, subcommand_of}
+use Rattle.clap.specs.Kinds.{Kinds}
+use Rattle.office_words.specs.Program.{office}
+use Rattle.office_words.specs.declared.Words.{Words}
+use Rattle.office_words.specs.declared.WordsFault.{WordsFault}
+use Rattle.office_words.specs.declared.WordsFault.TheVariants.{NoMemory, Usage}
+use Rattle.office_words.specs.declared.Words.TheVariants.{Compare, Replay, Serve}
+
+-- what is asked: to compare two versions by an operator; to replay a bag for the setup in a file, over a store in a file or in memory;
+-- or to serve so many connections for it on a port
+pub data Asked : Type 0 where
+  ToCompare : Text → Text → Text → Asked
+  ToReplay : Text → Option Text → Asked
+  ToServe : Text → ℕ → Option Text → ℕ → Asked
+
+abbrev pub asked : Words → Asked
+asked (Compare v1 op v2) = ToCompare v1.now op.now v2.now
+asked (Replay conf db) = ToReplay conf.now (option_map (λ text. text.now) db)
+asked (Serve conf port db connections) = ToServe conf.now port (option_map (λ text. text.now) db) connections
+
+-- decimal digits, of a number of 32 bits
+abbrev pub is_number : Text → Bool
+is_number digits = nat_lt 0 (length digits) && list_all (λ d. nat_lt (digit_value d) 10) digits && nat_lt (digits_value 10 digits) (2 ^ 32)
+
+-- the number of a text of them, which a `+` may stand before
+abbrev pub number_in : Text → Option ℕ
+number_in text = if is_number (without_leading_plus text) then Some (digits_value 10 (without_leading_plus text)) else None
+
+-- the number given under a name
+abbrev pub number_of : Text → List Row → Option ℕ
+number_of id rows = option_and_then number_in (first_of id rows)
+
+-- what was given to each command
+abbrev pub compare_of : Option Text → Option Text → Option Text → Option Asked
+compare_of (Some v1) (Some op) (Some v2) = Some (ToCompare v1 op v2)
+compare_of _ _ _ = None
+
+abbrev pub serve_of : Option Text → Option ℕ → Option Text → Option ℕ → Option Asked
+serve_of (Some conf) (Some port) db (Some connections) = Some (ToServe conf port db connections)
+serve_of _ _ _ _ = None
+
+abbrev pub compare_in : List Row → Option Asked
+compare_in rows = compare_of (first_of (codes "V1") rows) (first_of (codes "OP") rows) (first_of (codes "V2") rows)
+
+abbrev pub replay_in : List Row → Option Asked
+replay_in rows = option_map (λ conf. ToReplay conf (first_of (codes "db") rows)) (first_of (codes "conf") rows)
+
+abbrev pub serve_in : List Row → Option Asked
+serve_in rows = serve_of (first_of (codes "conf") rows) (number_of (codes "port") rows) (first_of (codes "db") rows) (number_of (codes "connections") rows)
+
+abbrev pub command_in : Text → List Row → Option Asked
+command_in name rows =
+    if bytes_eq name (codes "compare") then compare_in rows
+    else if bytes_eq name (codes "replay") then replay_in rows
+    else if bytes_eq name (codes "serve") then serve_in rows
+    else None
+
+-- by the command that the words name and what they give it
+abbrev pub asked_by : Option (Text × List Row) → Option Asked
+asked_by entered = option_and_then (λ found. command_in found.0 found.1) entered
+
+-- what clap makes of words counts where it finds no fault in them
+abbrev pub if_faultless : Kinds → Option Asked → Option Asked
+if_faultless [] found = found
+if_faultless (kind ∷ more) found = None
+
+-- what words ask for, the program's name being the first, as clap's definition reads them in the program's command
+unfoldable pub words_in : List Text → Option Asked
+words_in words = if_faultless (fault_of office words) (asked_by (subcommand_of office words))
+
+-- what is told of the words: what they ask for, or that they ask for nothing. Want of memory may come at any place
+abbrev pub Gives : Result Words WordsFault → Option Asked → Type 0
+Gives (Ok words) said = said ≡ Some (asked words)
+Gives (Err (Usage error)) said = said ≡ None
+Gives (Err NoMemory) said = ⊤
+
+-- the exit status for words that ask for nothing
+abbrev pub status_of_fault : WordsFault → ℕ
+status_of_fault (Usage error) = 2
+status_of_fault NoMemory = 4

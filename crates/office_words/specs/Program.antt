@@ -1,0 +1,59 @@
+-- The program's command line: a command of clap with three subcommands.
+use Rattle.std.specs.Prelude.{codes, Some, true, [], ◌∷◌}
+use Rattle.clap.specs.Words.{App, Rule, Text, new_app, new_rule, with_rule, with_subcommand}
+use Rattle.clap.specs.declared.builder.value_parser.ValueParser.TheVariants.{Unsigned}
+
+-- a value that has to be given, by its place
+abbrev pub place : Text → Rule
+place id = record (new_rule id) { required = true }
+
+-- `--NAME VALUE`, which may be given once
+abbrev pub option : Text → Rule
+option id = record (new_rule id) { long = Some id; value_names = 1 }
+
+-- the same, which has to be given
+abbrev pub needed : Text → Rule
+needed id = record (option id) { required = true }
+
+-- `--conf F` and `--db F`
+abbrev pub conf : Rule
+conf = needed (codes "conf")
+
+abbrev pub db : Rule
+db = option (codes "db")
+
+-- `--port N`, from 1 to 65,535
+abbrev pub port : Rule
+port = record (needed (codes "port")) { parser = Some (Unsigned 1 65_535) }
+
+-- `--connections C`, from 0 to 1,000,000; as many where it isn't given
+abbrev pub connections : Rule
+connections = record (option (codes "connections")) {
+  parser = Some (Unsigned 0 1_000_000);
+  defaults = codes "1000000" ∷ [];
+}
+
+-- `compare V1 OP V2`
+abbrev pub compare : App
+compare = with_rule (with_rule (with_rule (new_app (codes "compare")) (place (codes "V1"))) (place (codes "OP"))) (place (codes "V2"))
+
+-- `replay --conf F [--db F]`
+abbrev pub replay : App
+replay = with_rule (with_rule (new_app (codes "replay")) conf) db
+
+-- `serve --conf F --port N [--db F] [--connections C]`
+abbrev pub serve : App
+serve = with_rule (with_rule (with_rule (with_rule (new_app (codes "serve")) conf) port) db) connections
+
+-- `office COMMAND ..`: a command has to be named, and no words at all are a call for help
+abbrev pub bare : App
+bare = record (new_app (codes "office")) {
+  top = record (new_app (codes "office")).top {
+    subcommand_required = true;
+    arg_required_else_help = true;
+    disable_help_subcommand = true;
+  };
+}
+
+unfoldable pub office : App
+office = with_subcommand (with_subcommand (with_subcommand bare compare.top) replay.top) serve.top

@@ -1,0 +1,173 @@
+//! The program's command as clap sees it, with its help texts.
+
+ghost use Rattle.std.specs.Prelude.{◌≡◌, IfOk, false};
+ghost use Rattle.clap.specs.Words.{app_of, rule_of};
+ghost use Rattle.office_words.specs.Program as program;
+
+use clap::builder::ValueParser;
+use clap::{Arg, Command};
+use std::alloc::{AllocError, Global};
+
+const ABOUT: &str = "Decides which Debian source packages migrate from unstable to testing.";
+
+const AFTER: &str =
+    "Each command has its own help: office compare --help, office replay --help, office serve --help.
+
+Exit status: 0 done, or the comparison is true; 1 the comparison is false; 2 usage, or help was asked for;
+3 a version, the setup or the bag was refused; 4 memory, a file, the store, the socket or the output failed.";
+
+const COMPARE: &str =
+    "Compares two versions as Debian Policy 5.6.12 orders them: status 0 true, 1 false";
+
+const AFTER_COMPARE: &str = "Example: office compare 1.0~rc1 lt 1.0
+
+Nothing is printed: the answer is the exit status. A version that begins with a hyphen stands behind --,
+as in office compare -- -1 lt 1.";
+
+const REPLAY: &str =
+    "Delivers the messages of a bag on standard input, finishes the runs that are ready, and prints what came of it";
+
+const AFTER_REPLAY: &str = "Example: office replay --conf examples/setup.conf < examples/first.bag
+
+A bag has each message behind a line 'mail N', N being its length in bytes. Without --db the mail is kept in
+memory and is gone at the end.";
+
+const SERVE: &str = "Takes mail and tells reports over HTTP on 127.0.0.1";
+
+const AFTER_SERVE: &str = "Example: office serve --conf examples/setup.conf --port 8080
+         curl --data-binary @MESSAGE http://127.0.0.1:8080/mail
+         curl http://127.0.0.1:8080/status
+
+Prints 'listening N' once it takes connections, and serves one after the other. Without --db the mail is kept
+in memory and is gone at the end.";
+
+const SETUP: &str =
+    "The file of the setup: the architectures, and the senders of mail with their roles";
+
+const STORE: &str = "The file that keeps mail, reports and testing; it is made where there is none";
+
+/// `--conf SETUP`, which is needed.
+fn conf_option<'a>(alloc: Global) -> Arg<'a>
+    ensures rule { rule_of result ≡ program.conf }
+    ensures local { result.global ≡ false }
+{
+    Arg::new(alloc, "conf")
+        .long("conf")
+        .value_name("SETUP")
+        .help(SETUP)
+        .required(true)
+}
+
+/// `--db FILE`.
+fn db_option<'a>(alloc: Global) -> Arg<'a>
+    ensures rule { rule_of result ≡ program.db }
+    ensures local { result.global ≡ false }
+{
+    Arg::new(alloc, "db")
+        .long("db")
+        .value_name("FILE")
+        .help(STORE)
+}
+
+/// `--port PORT`, from 1 to 65,535.
+fn port_option<'a>(alloc: Global) -> Arg<'a>
+    ensures rule { rule_of result ≡ program.port }
+    ensures local { result.global ≡ false }
+{
+    Arg::new(alloc, "port")
+        .long("port")
+        .value_name("PORT")
+        .help("The port of 127.0.0.1, from 1 to 65535")
+        .required(true)
+        .value_parser(ValueParser::unsigned(1, 65_535))
+}
+
+/// `--connections COUNT`, from 0 to 1,000,000.
+fn connections_option<'a>(alloc: Global) -> Arg<'a>
+    ensures rule { rule_of result ≡ program.connections }
+    ensures local { result.global ≡ false }
+{
+    Arg::new(alloc, "connections")
+        .long("connections")
+        .value_name("COUNT")
+        .help("How many connections are served before the service ends, from 0 to 1000000")
+        .value_parser(ValueParser::unsigned(0, 1_000_000))
+        .default_value("1000000")
+}
+
+/// A value that is needed, by its place.
+fn place<'a>(alloc: Global, id: &'a str, help: &'a str) -> Arg<'a>
+    ensures rule { rule_of result ≡ program.place id.entry.now }
+    ensures local { result.global ≡ false }
+{
+    Arg::new(alloc, id).help(help).required(true)
+}
+
+/// `compare V1 OP V2`.
+fn compare_command<'a>(alloc: Global) -> Result<Command<'a>, AllocError>
+    ensures { IfOk result (λ c. app_of c ≡ program.compare) }
+{
+    let v1 = place(alloc, "V1", "A version");
+    let op = place(
+        alloc,
+        "OP",
+        "lt, le, eq, ge or gt: whether V1 is less than V2, at most V2, the same version, at least V2, or greater than V2",
+    );
+    let v2 = place(alloc, "V2", "Another version");
+    Command::new(alloc, "compare")
+        .about(COMPARE)
+        .after_help(AFTER_COMPARE)
+        .arg(v1)?
+        .arg(op)?
+        .arg(v2)
+}
+
+/// `replay --conf SETUP [--db FILE]`.
+fn replay_command<'a>(alloc: Global) -> Result<Command<'a>, AllocError>
+    ensures { IfOk result (λ c. app_of c ≡ program.replay) }
+{
+    Command::new(alloc, "replay")
+        .about(REPLAY)
+        .after_help(AFTER_REPLAY)
+        .arg(conf_option(alloc))?
+        .arg(db_option(alloc))
+}
+
+/// `serve --conf SETUP --port PORT [--db FILE] [--connections COUNT]`.
+fn serve_command<'a>(alloc: Global) -> Result<Command<'a>, AllocError>
+    ensures { IfOk result (λ c. app_of c ≡ program.serve) }
+{
+    Command::new(alloc, "serve")
+        .about(SERVE)
+        .after_help(AFTER_SERVE)
+        .arg(conf_option(alloc))?
+        .arg(port_option(alloc))?
+        .arg(db_option(alloc))?
+        .arg(connections_option(alloc))
+}
+
+/// The command without its subcommands.
+fn bare_command<'a>(alloc: Global) -> Command<'a>
+    ensures { app_of result ≡ program.bare }
+{
+    Command::new(alloc, "office")
+        .about(ABOUT)
+        .after_help(AFTER)
+        .subcommand_required(true)
+        .arg_required_else_help(true)
+        .disable_help_subcommand(true)
+}
+
+/// The program's command.
+pub(crate) fn office_command<'a>(alloc: Global) -> Result<Command<'a>, AllocError>
+    ensures { IfOk result (λ c. app_of c ≡ program.office) }
+{
+    let compare = compare_command(alloc)?;
+    let replay = replay_command(alloc)?;
+    let serve = serve_command(alloc)?;
+    let whole = bare_command(alloc)
+        .subcommand(compare)?
+        .subcommand(replay)?
+        .subcommand(serve)?;
+    Ok(whole)
+}

@@ -1,0 +1,86 @@
+//! What was given to each command.
+
+ghost use Rattle.std.specs.Prelude.{◌≡◌, option_map};
+ghost use Rattle.clap.specs.Words.{first_of, found_of, rows_of, subcommand_rows_of};
+ghost use Rattle.office_words.specs.Asked.{asked, asked_by, command_in, compare_in, number_in, number_of, replay_in, serve_in};
+
+use crate::Words;
+use clap::ArgMatches;
+
+/// The text given under a name.
+fn text_of<'a>(given: &ArgMatches<'a>, name: &str) -> Option<&'a str>
+    ensures { option_map (λ text. text.now) result ≡ first_of name.now (rows_of (found_of given.now)) }
+{
+    given.get_str(name)
+}
+
+fn number_in(text: &str) -> Option<u32>
+    ensures { result ≡ number_in text.now }
+{
+    match u32::from_str_radix(text, 10) {
+        Ok(number) => Some(number),
+        Err(_) => None,
+    }
+}
+
+/// The number given under a name.
+fn number_of(given: &ArgMatches, name: &str) -> Option<u32>
+    ensures { result ≡ number_of name.now (rows_of (found_of given.now)) }
+{
+    match text_of(given, name) {
+        Some(text) => number_in(text),
+        None => None,
+    }
+}
+
+fn compare_words<'a>(given: &ArgMatches<'a>) -> Option<Words<'a>>
+    ensures { option_map asked result ≡ compare_in (rows_of (found_of given.now)) }
+{
+    let v1 = text_of(given, "V1")?;
+    let op = text_of(given, "OP")?;
+    let v2 = text_of(given, "V2")?;
+    Some(Words::Compare { v1, op, v2 })
+}
+
+fn replay_words<'a>(given: &ArgMatches<'a>) -> Option<Words<'a>>
+    ensures { option_map asked result ≡ replay_in (rows_of (found_of given.now)) }
+{
+    let conf = text_of(given, "conf")?;
+    Some(Words::Replay {
+        conf,
+        db: text_of(given, "db"),
+    })
+}
+
+fn serve_words<'a>(given: &ArgMatches<'a>) -> Option<Words<'a>>
+    ensures { option_map asked result ≡ serve_in (rows_of (found_of given.now)) }
+{
+    let conf = text_of(given, "conf")?;
+    let port = number_of(given, "port")?;
+    let connections = number_of(given, "connections")?;
+    Some(Words::Serve {
+        conf,
+        port,
+        db: text_of(given, "db"),
+        connections,
+    })
+}
+
+fn command_words<'a>(name: &str, given: &ArgMatches<'a>) -> Option<Words<'a>>
+    ensures { option_map asked result ≡ command_in name.now (rows_of (found_of given.now)) }
+{
+    match name {
+        "compare" => compare_words(given),
+        "replay" => replay_words(given),
+        "serve" => serve_words(given),
+        _ => None,
+    }
+}
+
+/// What is asked by the command that the words name and what they give it.
+pub(crate) fn asked_words<'a>(matches: &ArgMatches<'a>) -> Option<Words<'a>>
+    ensures { option_map asked result ≡ asked_by (subcommand_rows_of matches.now) }
+{
+    let (name, given) = matches.subcommand()?;
+    command_words(name, given)
+}

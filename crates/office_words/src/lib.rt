@@ -1,0 +1,100 @@
+//! The words of the program's command line, read by clap.
+#![tactic(auto)]
+
+mod command;
+mod given;
+
+ghost use Rattle.std.specs.Prelude.{◌≡◌, ◌≢◌, ◌⊎◌, map, true, [], IfOk, IfErr};
+ghost use Rattle.clap.specs.Words.{FailsBy, fault_of, kind_of, subcommand_of, subcommand_rows_of, takes};
+ghost use Rattle.clap.specs.declared.error.kind.ErrorKind.TheVariants as kind;
+ghost use Rattle.office_words.specs.Asked.{Gives, status_of_fault, words_in};
+ghost use Rattle.office_words.specs.Program.{office};
+ghost use Rattle.office_words.specs.declared.WordsFault.TheVariants.{NoMemory, Usage};
+
+use clap::error::ErrorKind;
+use clap::{ArgMatches, Error};
+use command::office_command;
+use given::asked_words;
+use std::alloc::Global;
+
+/// What the words after the program's name ask for.
+#[derive(Clone, Copy, Debug)]
+pub enum Words<'a> {
+    /// Compare two versions by an operator.
+    Compare {
+        v1: &'a str,
+        op: &'a str,
+        v2: &'a str,
+    },
+    /// Replay the bag on standard input for the setup in a file, over a store in a file or in memory.
+    Replay {
+        conf: &'a str,
+        db: Option<&'a str>,
+    },
+    /// Serve so many connections on a port, for the setup in a file, over a store in a file or in memory.
+    Serve {
+        conf: &'a str,
+        port: u32,
+        db: Option<&'a str>,
+        connections: u32,
+    },
+}
+
+/// Why words ask for nothing.
+#[derive(Debug, Drop)]
+pub enum WordsFault {
+    /// They are no command, or a request for help: clap's text says more.
+    Usage(Error),
+    NoMemory,
+}
+
+impl WordsFault {
+    /// The fault behind clap's error.
+    fn of(error: Error) -> WordsFault
+        ensures usage { (result ≡ NoMemory) ⊎ ((e : _) × (result ≡ Usage e) × (kind_of error ≢ kind.OutOfMemory)) }
+        ensures memory { kind_of error ≡ kind.OutOfMemory → result ≡ NoMemory }
+    {
+        match error.kind() {
+            ErrorKind::OutOfMemory => WordsFault::NoMemory,
+            _ => WordsFault::Usage(error),
+        }
+    }
+}
+
+/// What clap makes of the words in the program's command.
+fn matches<'a>(alloc: Global, words: &'a [&'a str]) -> Result<ArgMatches<'a>, Error>
+    ensures ok { IfOk result (λ m. subcommand_rows_of m ≡ subcommand_of office (map (λ word. word.now) words.now)) }
+    ensures passes { IfErr result (λ e. takes office (map (λ word. word.now) words.now) ≡ true → kind_of e ≡ kind.OutOfMemory) }
+    ensures kinds { FailsBy (fault_of office (map (λ word. word.now) words.now)) result }
+{
+    office_command(alloc)?.try_get_matches_from(words)
+}
+
+/// What the words ask for, the program's name being the first. They are read as clap reads them in
+/// the command `office` with its subcommands `compare V1 OP V2`, `replay --conf F [--db F]` and
+/// `serve --conf F --port N [--db F] [--connections C]`, where N is from 1 to 65,535 and C from 0 to
+/// 1,000,000, which it is where it isn't given.
+///
+/// Refused as `Usage` are words in which clap finds a fault, a request for help among them.
+pub fn read_words<'a>(alloc: Global, words: &'a [&'a str]) -> Result<Words<'a>, WordsFault>
+    ensures asked { Gives result (words_in (map (λ word. word.now) words.now)) }
+    // Words that clap takes are refused for want of memory alone.
+    ensures taken { IfErr result (λ fault. takes office (map (λ word. word.now) words.now) ≡ true → fault ≡ NoMemory) }
+    ensures faultless { IfErr result (λ fault. fault_of office (map (λ word. word.now) words.now) ≡ [] → fault ≡ NoMemory) }
+{
+    match matches(alloc, words) {
+        Ok(matches) => Ok(asked_words(&matches).unwrap()),
+        Err(error) => Err(WordsFault::of(error)),
+    }
+}
+
+/// The exit status for words that ask for nothing: 2 for a usage error and for a request for help, 4
+/// for want of memory.
+pub fn words_status(fault: &WordsFault) -> u8
+    ensures { result ≡ status_of_fault fault.now }
+{
+    match fault {
+        WordsFault::Usage(_) => 2,
+        WordsFault::NoMemory => 4,
+    }
+}
