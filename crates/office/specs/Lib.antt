@@ -1,3 +1,3 @@
 pub mod Compare
 pub mod Conf
-pub mod Words
+pub mod Service

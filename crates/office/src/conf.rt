@@ -1,7 +1,7 @@
 //! The setup's file.
 
 ghost use Rattle.std.specs.Prelude.{◌≡◌, IfOk, IfSome};
-ghost use Rattle.office.specs.Conf.{front, status_of_fault};
+ghost use Rattle.office.specs.Conf.{front, status_of_conf, status_of_fault};
 
 use office_mail::{Setup, SetupFault};
 use std::alloc::Global;
@@ -56,7 +56,9 @@ pub fn setup_status(fault: &SetupFault) -> u8
 }
 
 /// The exit status where there is no setup: 4 where the file can't be read.
-pub fn conf_status(fault: &ConfFault) -> u8 {
+pub fn conf_status(fault: &ConfFault) -> u8
+    ensures { result ≡ status_of_conf fault.now }
+{
     match fault {
         ConfFault::Unreadable => 4,
         ConfFault::Refused(fault) => setup_status(fault),

@@ -1,8 +1,9 @@
 //! Worked rows over HTTP: requests, one connection each, and their whole replies.
 
-use crate::rows::SETUP;
+use crate::rows::new_office;
 use office_http::{Office, serve_one};
-use office_mail::{FromRead, Setup, ToWrite};
+use office_mail::{FromRead, ToWrite};
+use office_store::Plain;
 use std::alloc::Global;
 use std::test::Fail;
 
@@ -16,7 +17,7 @@ const NO_LENGTH: &str =
     "HTTP/1.1 411 Length Required\r\nContent-Type: text/plain; charset=utf-8\r\nContent-Length: 23\r\nConnection: close\r\n\r\nrefused LengthRequired\n";
 
 /// What an office writes to a connection that gives these bytes.
-fn served(alloc: Global, office: &mut Office, request: &[u8]) -> Result<Vec<u8>, Fail> {
+fn served(alloc: Global, office: &mut Office<Plain>, request: &[u8]) -> Result<Vec<u8>, Fail> {
     let mut output = Vec::new(alloc);
     let mut writer = ToWrite::new(&mut output);
     let mut reader = FromRead::new(request);
@@ -27,8 +28,7 @@ fn served(alloc: Global, office: &mut Office, request: &[u8]) -> Result<Vec<u8>,
 /// A message that is taken, and again, and a request that is refused.
 #[test]
 fn mail_by_post(rt: HostRuntime) -> Result<(), Fail> {
-    let setup = Setup::parse(rt.alloc(), SETUP.as_bytes())?;
-    let mut office = Office::new(rt.alloc(), setup);
+    let mut office = new_office(rt.alloc())?;
     let rows = [
         (UPLOAD, HELD),
         ("POST /mail HTTP/1.1\r\n\r\n", NO_LENGTH),

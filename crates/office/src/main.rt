@@ -5,37 +5,40 @@
 mod compare;
 mod conf;
 #[cfg(test)]
-mod fact_rows;
-#[cfg(test)]
-mod given_rows;
-#[cfg(test)]
 mod http_rows;
-#[cfg(test)]
-mod judge;
 #[cfg(test)]
 mod promotion_rows;
 #[cfg(test)]
 mod rows;
 mod service;
-mod words;
 
 use compare::compare;
 use conf::{conf_status, read_setup};
 use office_http::{Office, Replayed, WriteFault, replay, replay_status};
 use office_mail::{FromRead, Setup, ToWrite};
-use service::serve;
+use office_store::{Keeper, Plain};
+use office_words::{Words, WordsFault, read_words, words_status};
+use service::{serve, service_status};
 use std::alloc::{AllocError, Global};
 use std::env;
 use std::env::Args;
 use std::io::{BufWriter, Write};
 use std::process::ExitCode;
-use words::{Words, read_words};
 
-/// The exit status where the words are no command.
+/// The exit status where the words can't be read as texts.
 const USAGE: u8 = 2;
 
-/// The exit status where memory ran out, or the output failed.
+/// The exit status where memory ran out, or a store can't be opened.
 const FAILED: u8 = 4;
+
+/// What is done in an office, once its store is there.
+#[derive(Clone, Copy)]
+enum Task {
+    /// The bag on standard input is replayed.
+    Replay,
+    /// So many connections are served on a port.
+    Serve { port: u32, connections: u32 },
+}
 
 fn main(rt: HostRuntime) -> ExitCode {
     ExitCode::from(run(&rt))
@@ -44,25 +47,35 @@ fn main(rt: HostRuntime) -> ExitCode {
 /// Does what the command line asks for, and gives the exit status.
 fn run(rt: &HostRuntime) -> u8 {
     let Ok(args) = env::args(rt) else {
-        return usage(rt);
+        let _ = eprintln!(rt; "office: the arguments can't be read: one isn't UTF-8");
+        return USAGE;
     };
     let Ok(args) = all_args(rt.alloc(), args) else {
         return out_of_memory(rt);
     };
-    let Ok(words) = as_texts(rt.alloc(), &args) else {
+    let Ok(texts) = as_texts(rt.alloc(), &args) else {
         return out_of_memory(rt);
     };
-    match read_words(&words) {
-        Some(Words::Compare { v1, op, v2 }) => compare(rt, v1, op, v2),
-        Some(Words::Replay { conf }) => replay_for(rt, conf),
-        Some(
-            Words::Serve {
-                conf,
-                port,
-                connections,
-            },
-        ) => serve_for(rt, conf, port, connections),
-        None => usage(rt),
+    match read_words(rt.alloc(), &texts) {
+        Ok(words) => obey(rt, words),
+        Err(fault) => {
+            tell_usage(rt, &fault);
+            words_status(&fault)
+        }
+    }
+}
+
+/// Does what words ask for, and gives the exit status.
+fn obey(rt: &HostRuntime, words: Words) -> u8 {
+    match words {
+        Words::Compare { v1, op, v2 } => compare(rt, v1, op, v2),
+        Words::Replay { conf, db } => run_for(rt, conf, db, Task::Replay),
+        Words::Serve {
+            conf,
+            port,
+            db,
+            connections,
+        } => run_for(rt, conf, db, Task::Serve { port, connections }),
     }
 }
 
@@ -84,14 +97,12 @@ fn as_texts<'a>(alloc: Global, args: &'a [String]) -> Result<Vec<&'a str>, Alloc
     Ok(texts)
 }
 
-/// Says how the program is called.
-fn usage(rt: &HostRuntime) -> u8 {
-    let _ = eprintln!(rt; "usage: office compare V1 lt|le|eq|ge|gt V2");
-    let _ = eprintln!(rt; "       office replay --conf SETUP < BAG");
-    let _ = eprintln!(rt;
-        "       office serve --conf SETUP --port 1..65535 [--connections 0..1000000]"
-    );
-    USAGE
+/// Prints why the words ask for nothing, or the help that they ask for.
+fn tell_usage(rt: &HostRuntime, fault: &WordsFault) {
+    let _ = match fault {
+        WordsFault::Usage(error) => error.print(rt),
+        WordsFault::NoMemory => eprintln!(rt; "office: out of memory"),
+    };
 }
 
 fn out_of_memory(rt: &HostRuntime) -> u8 {
@@ -99,10 +110,13 @@ fn out_of_memory(rt: &HostRuntime) -> u8 {
     FAILED
 }
 
-/// Replays the bag on standard input, for the setup in a file.
-fn replay_for(rt: &HostRuntime, conf: &str) -> u8 {
+/// Does a task for the setup in a file, over the store in a file or in memory.
+fn run_for(rt: &HostRuntime, conf: &str, db: Option<&str>, task: Task) -> u8 {
     match read_setup(rt, conf) {
-        Ok(setup) => replay_input(rt, setup),
+        Ok(setup) => match db {
+            Some(path) => no_store_yet(rt, path),
+            None => run_in_memory(rt, setup, task),
+        },
         Err(fault) => {
             let _ = eprintln!(rt; "office: {conf}: {fault}");
             conf_status(&fault)
@@ -110,34 +124,58 @@ fn replay_for(rt: &HostRuntime, conf: &str) -> u8 {
     }
 }
 
-/// Serves on a port, for the setup in a file.
-fn serve_for(rt: &HostRuntime, conf: &str, port: u32, connections: u32) -> u8 {
-    match read_setup(rt, conf) {
-        Ok(setup) => serve(rt, setup, port, connections),
-        Err(fault) => {
-            let _ = eprintln!(rt; "office: {conf}: {fault}");
-            conf_status(&fault)
-        }
+/// Says that no store is opened in a file.
+fn no_store_yet(rt: &HostRuntime, path: &str) -> u8 {
+    let _ = eprintln!(rt; "office: {path}: a store in a file can't be opened yet: leave --db out");
+    FAILED
+}
+
+/// Does a task in an office whose store is in memory.
+fn run_in_memory(rt: &HostRuntime, setup: Setup, task: Task) -> u8 {
+    match Plain::new(rt.alloc(), &setup) {
+        Ok(plain) => run_over(rt, &mut Office::new(rt.alloc(), setup, plain), task),
+        Err(_) => out_of_memory(rt),
     }
 }
 
-/// Replays the bag on standard input.
-fn replay_input(rt: &HostRuntime, setup: Setup) -> u8 {
+/// Does a task in an office.
+fn run_over<K: Keeper>(rt: &HostRuntime, office: &mut Office<K>, task: Task) -> u8 {
+    match task {
+        Task::Replay => replay_over(rt, office),
+        Task::Serve { port, connections } => serve_over(rt, office, port, connections),
+    }
+}
+
+/// Replays the bag on standard input in an office.
+fn replay_over<K: Keeper>(rt: &HostRuntime, office: &mut Office<K>) -> u8 {
     let Ok(mut output) = BufWriter::new(rt.alloc(), rt.stdout()) else {
         return out_of_memory(rt);
     };
-    let mut office = Office::new(rt.alloc(), setup);
     let mut writer = ToWrite::new(&mut output);
-    let mut replayed = replay(&mut office, FromRead::new(rt.stdin()), &mut writer);
+    let mut replayed = replay(office, FromRead::new(rt.stdin()), &mut writer);
     if output.flush().is_err() {
         replayed = Err(WriteFault);
     }
-    tell(rt, &replayed);
+    tell_replay(rt, &replayed);
     replay_status(&replayed)
 }
 
+/// Serves so many connections on a port, over an office.
+fn serve_over<K: Keeper>(
+    rt: &HostRuntime,
+    office: &mut Office<K>,
+    port: u32,
+    connections: u32,
+) -> u8 {
+    let served = serve(rt, office, port, connections);
+    if let Err(fault) = &served {
+        let _ = eprintln!(rt; "office: 127.0.0.1:{port}: {fault}");
+    }
+    service_status(&served)
+}
+
 /// Says on standard error what was refused, where something was.
-fn tell(rt: &HostRuntime, replayed: &Result<Replayed, WriteFault>) {
+fn tell_replay(rt: &HostRuntime, replayed: &Result<Replayed, WriteFault>) {
     let _ = match replayed {
         Err(_) => eprintln!(rt; "office: standard output: a write failed"),
         Ok(replayed) => {

@@ -2,6 +2,7 @@
 
 use office_http::{Office, replay, replay_status};
 use office_mail::{FromRead, Setup, ToWrite};
+use office_store::Plain;
 use std::alloc::Global;
 use std::test::Fail;
 
@@ -34,10 +35,16 @@ pub fn bag_of(alloc: Global, texts: &[&str]) -> Result<Vec<u8>, Fail> {
     Ok(bag)
 }
 
+/// An office for the setup, over a store in memory.
+pub fn new_office(alloc: Global) -> Result<Office<Plain>, Fail> {
+    let setup = Setup::parse(alloc, SETUP.as_bytes())?;
+    let plain = Plain::new(alloc, &setup)?;
+    Ok(Office::new(alloc, setup, plain))
+}
+
 /// What a replay of a bag in a new office prints, and its exit status.
 pub fn replayed(alloc: Global, bag: &[u8]) -> Result<(Vec<u8>, u8), Fail> {
-    let setup = Setup::parse(alloc, SETUP.as_bytes())?;
-    let mut office = Office::new(alloc, setup);
+    let mut office = new_office(alloc)?;
     let mut output = Vec::new(alloc);
     let mut writer = ToWrite::new(&mut output);
     let replayed = replay(&mut office, FromRead::new(bag), &mut writer);

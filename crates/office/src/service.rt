@@ -1,16 +1,37 @@
 //! The service: one connection after the other on loopback.
 
+ghost use Rattle.std.specs.Prelude.{◌≡◌};
+ghost use Rattle.office.specs.Service.{status_of_service};
+
 use office_http::{Office, ServeFault, serve_one};
-use office_mail::{FromRead, Setup, ToWrite};
+use office_mail::{FromRead, ToWrite};
+use office_store::Keeper;
+use std::io;
 use std::io::{Read, Write};
 use std::net::{Shutdown, TcpListener, TcpStream};
 use std::time::Duration;
+use thiserror::Error;
 
-/// The exit status where the service came to its end.
-const DONE: u8 = 0;
+/// Why a service ended before its last connection.
+#[derive(Debug, Drop, Error)]
+pub enum ServiceFault {
+    #[error("out of memory")]
+    NoMemory,
+    #[error("{0}: is another service on this port?")]
+    Socket(io::Error),
+    #[error("standard output: a write failed")]
+    Output,
+}
 
-/// The exit status where memory ran out, or the socket or the output failed.
-const FAILED: u8 = 4;
+/// The exit status of a service: 0 where it came to its end, else 4.
+pub fn service_status(served: &Result<(), ServiceFault>) -> u8
+    ensures { result ≡ status_of_service served.now }
+{
+    match served {
+        Ok(()) => 0,
+        Err(_) => 4,
+    }
+}
 
 /// The longest wait for what a client still sends after its reply, in milliseconds.
 const LINGER: u64 = 500;
@@ -18,35 +39,34 @@ const LINGER: u64 = 500;
 /// How often what a client still sends is read and dropped.
 const DRAINS: u32 = 64;
 
-/// Serves so many connections on a port of 127.0.0.1, and gives the exit status. A connection that
-/// fails counts, and is followed by the next.
-pub fn serve(rt: &HostRuntime, setup: Setup, port: u32, connections: u32) -> u8 {
-    let Ok(address) = format!(in rt.alloc(); "127.0.0.1:{port}") else {
-        let _ = eprintln!(rt; "office: out of memory");
-        return FAILED;
-    };
-    let listener = match TcpListener::bind(rt, address.as_str()) {
-        Ok(listener) => listener,
-        Err(fault) => {
-            let _ = eprintln!(rt;
-                "office: 127.0.0.1:{port}: {fault}: is another service on this port?"
-            );
-            return FAILED;
-        }
-    };
+/// Serves so many connections on a port of 127.0.0.1. A connection that fails counts, and is followed
+/// by the next.
+pub fn serve<K: Keeper>(
+    rt: &HostRuntime,
+    office: &mut Office<K>,
+    port: u32,
+    connections: u32,
+) -> Result<(), ServiceFault> {
+    let listener = listen(rt, port)?;
     if println!(rt; "listening {port}").is_err() {
-        let _ = eprintln!(rt; "office: standard output: a write failed");
-        return FAILED;
+        return Err(ServiceFault::Output);
     }
-    let mut office = Office::new(rt.alloc(), setup);
     for _ in 0..connections {
-        serve_next(rt, &listener, &mut office);
+        serve_next(rt, &listener, office);
     }
-    DONE
+    Ok(())
+}
+
+/// A listener on a port of 127.0.0.1.
+fn listen(rt: &HostRuntime, port: u32) -> Result<TcpListener, ServiceFault> {
+    let Ok(address) = format!(in rt.alloc(); "127.0.0.1:{port}") else {
+        return Err(ServiceFault::NoMemory);
+    };
+    TcpListener::bind(rt, address.as_str()).map_err(ServiceFault::Socket)
 }
 
 /// Serves the next connection.
-fn serve_next(rt: &HostRuntime, listener: &TcpListener, office: &mut Office) {
+fn serve_next<K: Keeper>(rt: &HostRuntime, listener: &TcpListener, office: &mut Office<K>) {
     match listener.accept() {
         Ok((stream, _)) => serve_stream(rt, &stream, office),
         Err(fault) => {
@@ -55,7 +75,7 @@ fn serve_next(rt: &HostRuntime, listener: &TcpListener, office: &mut Office) {
     }
 }
 
-fn serve_stream(rt: &HostRuntime, stream: &TcpStream, office: &mut Office) {
+fn serve_stream<K: Keeper>(rt: &HostRuntime, stream: &TcpStream, office: &mut Office<K>) {
     let mut reader = FromRead::new(stream);
     let mut writer = ToWrite::new(stream);
     match serve_one(office, &mut reader, &mut writer) {

@@ -1,6 +1,6 @@
 //! Facts and excuses of a few messages.
 
-use crate::rows::SETUP;
+use crate::setup::SETUP;
 use deb_control::{Binary, Paragraphs, Text};
 use deb_version::Version;
 use jiff::civil::Date;

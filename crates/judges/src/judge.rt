@@ -9,7 +9,6 @@ mod excuses;
 mod given;
 mod installs;
 mod letters;
-mod random;
 mod said;
 mod suite;
 mod texts;

@@ -1,6 +1,6 @@
 //! Excuses over a testing that is put together entry by entry.
 
-use crate::rows::SETUP;
+use crate::setup::SETUP;
 use deb_control::{Binary, Paragraphs, Text};
 use deb_version::Version;
 use jiff::civil::Date;

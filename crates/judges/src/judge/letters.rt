@@ -1,11 +1,11 @@
 //! Random mail: each message as a text, and as what it says.
 
 use super::covered::Mail;
-use super::random::Draws;
 use super::said::{
     Arch, At, Bug, Delays, Gone, LISTED, NAMES, Name, Severity, Upload, Urgency, VERSIONS, Version,
 };
 use super::texts::push_version;
+use crate::random::Draws;
 use std::alloc::Global;
 use std::test::Fail;
 
