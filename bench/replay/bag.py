@@ -10,7 +10,9 @@ mail        the uploads and builds, source by source, and no run
 waiting     the same behind a run order that waits for one message more than there are
 backwards   as waiting, the last message of each sender first
 idle        as many messages that say nothing, and three runs over all of them
-runs        with three runs: one over all sources, and two over 500 newer uploads each
+first       with a run over all sources
+runs        with two runs more, over 500 newer uploads each
+both        as runs, and each binary is built on amd64 and on arm64
 """
 import random
 import sys
@@ -38,11 +40,12 @@ def upload(number, source, version, day):
             f"Version: {version}\nUrgency: medium\nDay: {day}\n")
 
 
-def build(number, source, version, rows):
+def build(number, source, version, rows, archs):
     text = f"From: bd\nNumber: {number}\nKind: build\n"
-    for name, depends in rows:
-        text += (f"\nPackage: {name}\nVersion: {version}\nArchitecture: amd64\n"
-                 f"Source: s{source}\n" + (f"Depends: {depends}\n" if depends else ""))
+    for arch in archs:
+        for name, depends in rows:
+            text += (f"\nPackage: {name}\nVersion: {version}\nArchitecture: {arch}\n"
+                     f"Source: s{source}\n" + (f"Depends: {depends}\n" if depends else ""))
     return text
 
 
@@ -54,14 +57,14 @@ def order(number, day, covered):
     return f"From: clock\nNumber: {number}\nKind: run\nDay: {day}\nCovers: ftp {covered}, bd {covered}\n"
 
 
-def first_mail(draw, sources):
+def first_mail(draw, sources, archs):
     """Each source's upload and build, and its rows."""
     earlier, texts, rows_of = [], [], []
     for source in range(1, sources + 1):
         rows = [(name, clauses(draw, earlier)) for name in binaries_of(draw, source)]
         earlier += [name for name, _ in rows]
         rows_of.append(rows)
-        texts.append((upload(source, source, "1.0-1", "2025-03-01"), build(source, source, "1.0-1", rows)))
+        texts.append((upload(source, source, "1.0-1", "2025-03-01"), build(source, source, "1.0-1", rows, archs)))
     return texts, rows_of
 
 
@@ -74,7 +77,8 @@ def bag(shape, sources):
     if shape == "idle":
         return idle(sources)
     draw = random.Random(9)
-    pairs, rows_of = first_mail(draw, sources)
+    archs = ("amd64", "arm64") if shape == "both" else ("amd64",)
+    pairs, rows_of = first_mail(draw, sources, archs)
     texts = [text for pair in pairs for text in pair]
     waiting = order(1, "2025-03-10", sources + 1)
     if shape == "mail":
@@ -84,19 +88,21 @@ def bag(shape, sources):
     if shape == "backwards":
         return [waiting] + texts[::-1]
     texts.append(order(1, "2025-03-10", sources))
+    if shape == "first":
+        return texts
     number = sources
     for run, day, version in ((2, "2025-03-20", "1.1-1"), (3, "2025-03-30", "1.2-1")):
         for source in draw.sample(range(1, sources + 1), min(NEWER, sources)):
             number += 1
             texts.append(upload(number, source, version, f"2025-03-{10 * run - 9}"))
-            texts.append(build(number, source, version, rows_of[source - 1]))
+            texts.append(build(number, source, version, rows_of[source - 1], archs))
         texts.append(order(run, day, number))
     return texts
 
 
 def main():
     shape, sources = sys.argv[1], int(sys.argv[2])
-    if shape not in ("mail", "waiting", "backwards", "idle", "runs"):
+    if shape not in ("mail", "waiting", "backwards", "idle", "first", "runs", "both"):
         sys.exit(__doc__)
     for text in bag(shape, sources):
         sys.stdout.write(f"mail {len(text)}\n{text}")

@@ -11,7 +11,9 @@ trap 'rm -rf "$bags"' EXIT
 [ $# -gt 0 ] || set -- mail:1000 mail:5000 mail:34000 waiting:1000 waiting:5000 waiting:34000 backwards:34000 idle:34000
 for bag in "$@"; do
     python3 "$here/bag.py" "${bag%:*}" "${bag#*:}" > "$bags/bag"
-    python3 - "$office" "$here/setup.conf" "$bags/bag" "$bag" << 'PYTHON'
+    setup=$here/setup.conf
+    case $bag in both:*) setup=$here/both.conf ;; esac
+    python3 - "$office" "$setup" "$bags/bag" "$bag" << 'PYTHON'
 import resource, subprocess, sys, time
 office, setup, bag, name = sys.argv[1:]
 messages = sum(line.startswith(b"mail ") for line in open(bag, "rb"))

@@ -1,0 +1,26 @@
+#!/bin/bash
+# Times the moves of three runs over archives of several sizes: the first from an empty testing, and two over 500 newer uploads each.
+# Usage: bench/moves/run.sh [SOURCES..]
+set -euo pipefail
+here=$(cd "$(dirname "$0")" && pwd)
+top=$(cd "$here/../.." && pwd)
+work=$(mktemp -d)
+trap 'rm -rf "$work"' EXIT
+
+# The proved program, beside copies of the crates that it stands on.
+grep -E '^(deb_version|deb_control|testing_install|testing_rules):' "$top/crates.txt" > "$work/crates.txt"
+echo 'bench_moves: deb_version deb_control testing_rules jiff anyhow' >> "$work/crates.txt"
+proved=$work/crates/bench_moves
+mkdir -p "$proved/src" "$proved/proofs/one_arch"
+cp "$here/program.rattle" "$proved/src/main.rt"
+cp "$here/one_arch.answers" "$proved/proofs/one_arch/Answers.antt"
+for name in deb_version deb_control testing_install testing_rules; do cp -r "$top/crates/$name" "$work/crates/"; done
+(cd "$proved" && rt run --jobs 1 < /dev/null) > "$work/build" 2>&1 || { cat "$work/build"; exit 1; }
+
+peak='import resource, subprocess, sys
+subprocess.run(sys.argv[1:], check=True)
+print("peak", resource.getrusage(resource.RUSAGE_CHILDREN).ru_maxrss // 1024, "MB")'
+for sources in ${@:-400 800 2000 8000 34000}; do
+    python3 "$here/packages.py" "$sources" > "$work/packages"
+    python3 -c "$peak" "$proved/out/bench_moves" < "$work/packages"
+done

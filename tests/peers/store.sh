@@ -1,0 +1,48 @@
+#!/bin/sh
+# Reads an office's store by the stock sqlite3, and tells what it finds.
+#
+# Usage: tests/peers/store.sh FILE, where FILE was written by `office replay --db FILE` or
+# `office serve --db FILE` and is closed. Debian's package sqlite3 is needed.
+#
+# The file must pass PRAGMA integrity_check and foreign_key_check, have the five tables of the
+# office, each STRICT and with no column that may be null, and one row of the office, with id 1 and
+# schema number 0. The exit status is 1 where any of these fails.
+set -eu
+
+if [ $# -ne 1 ] || [ ! -f "$1" ]; then
+    echo "usage: $0 FILE" >&2
+    exit 2
+fi
+file=$1
+failed=0
+
+ask() {
+    sqlite3 -readonly -batch "$file" "$1"
+}
+
+# expect WHAT FOUND WANTED
+expect() {
+    if [ "$2" = "$3" ]; then
+        echo "ok: $1"
+    else
+        echo "not ok: $1"
+        echo "  found:  $2"
+        echo "  wanted: $3"
+        failed=1
+    fi
+}
+
+expect "integrity_check" "$(ask 'PRAGMA integrity_check')" "ok"
+expect "foreign_key_check" "$(ask 'PRAGMA foreign_key_check')" ""
+expect "the tables, all STRICT" \
+    "$(ask "SELECT group_concat(name || ' ' || strict) FROM (SELECT name, strict FROM pragma_table_list WHERE schema = 'main' AND name NOT LIKE 'sqlite_%' ORDER BY name)")" \
+    "mail 1,office 1,run 1,testing_row 1,testing_source 1"
+expect "no column may be null but the integer keys" \
+    "$(ask "SELECT group_concat(t.name || '.' || c.name) FROM pragma_table_list t JOIN pragma_table_info(t.name) c WHERE t.schema = 'main' AND t.name NOT LIKE 'sqlite_%' AND NOT c.\"notnull\" AND NOT (c.pk AND t.name IN ('office', 'run'))")" \
+    ""
+expect "one row of the office, id 1, schema number 0" "$(ask 'SELECT id, schema FROM office')" "1|0"
+expect "as many runs as the office says are finished, numbered from 1" \
+    "$(ask 'SELECT count(*), coalesce(min(number), 1), coalesce(max(number), 0) FROM run')" \
+    "$(ask 'SELECT finished, 1, finished FROM office')"
+echo "mail $(ask 'SELECT count(*) FROM mail'), runs $(ask 'SELECT finished FROM office'), sources in testing $(ask 'SELECT count(*) FROM testing_source'), rows in testing $(ask 'SELECT count(*) FROM testing_row')"
+exit $failed
