@@ -1,0 +1,25 @@
+#!/bin/bash
+# Times 70,000 look-ups and inserts of texts, a transaction each, and one finished run, over tables in memory: by the proved
+# store, and by the stock sqlite3 with the same statements.
+# Usage: bench/store/run.sh
+set -euo pipefail
+here=$(cd "$(dirname "$0")" && pwd)
+top=$(cd "$here/../.." && pwd)
+work=$(mktemp -d)
+trap 'rm -rf "$work"' EXIT
+
+# The stock sqlite3.
+python3 "$here/statements.py" > "$work/statements"
+echo "sqlite3 $(sqlite3 --version | cut -d' ' -f1):"
+(time sqlite3 :memory: < "$work/statements") 2>&1 | grep real
+
+# The proved program, beside copies of the crates that it stands on.
+crates="deb_version deb_control testing_install testing_rules office_mail office_store"
+for name in $crates; do grep "^$name:" "$top/crates.txt"; done > "$work/crates.txt"
+echo 'bench_store: deb_control testing_rules office_mail office_store sqlite anyhow' >> "$work/crates.txt"
+proved=$work/crates/bench_store
+mkdir -p "$proved/src"
+cp "$here/program.rattle" "$proved/src/main.rt"
+for name in $crates; do cp -r "$top/crates/$name" "$work/crates/"; done
+(cd "$proved" && rt run --jobs 1 < /dev/null) > "$work/build" 2>&1 || { cat "$work/build"; exit 1; }
+"$proved/out/bench_store"
