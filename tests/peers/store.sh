@@ -1,8 +1,8 @@
 #!/bin/sh
 # Reads an office's store by the stock sqlite3, and tells what it finds.
 #
-# Usage: tests/peers/store.sh FILE, where FILE was written by `office replay --db FILE` or
-# `office serve --db FILE` and is closed. Debian's package sqlite3 is needed.
+# Usage: tests/peers/store.sh FILE, where FILE is a store that office_store's `Tables` wrote and that
+# is closed. Debian's package sqlite3 is needed.
 #
 # The file must pass PRAGMA integrity_check and foreign_key_check, have the five tables of the
 # office, each STRICT and with no column that may be null, and one row of the office, with id 1 and
