@@ -5,21 +5,21 @@ use Rattle.std.proofs.lemmas.List.{take_more, drop_all, map-append}
 use Rattle.std.proofs.lemmas.List.Elements.{filter-append}
 use Rattle.std.proofs.lemmas.Bool.{cases_lt}
 use Rattle.std.proofs.Math.Seq.{drop-cons}
-use Rattle.std.specs.Borrow.{Bor}
 use Rattle.std.specs.List.{filter_map, range_with_len}
 use Rattle.std.specs.declared.cmp.Ordering.{Ordering}
 use Rattle.std.specs.Cmp.{IsTotalOrder}
+use Rattle.testing_rules.specs.declared.suite.LentRow.{LentRow}
 use Rattle.testing_rules.specs.declared.suite.RowIn.{RowIn}
 use Rattle.testing_rules.specs.declared.offender.Judged.{Judged}
 use Rattle.testing_rules.specs.declared.update.Offender.{Offender}
 use Rattle.testing_rules.specs.Words.{Text, text_cmp, least, first_of_two}
 use Rattle.testing_rules.specs.Moves.{with_answers, first_failing, fails_on, first_of, judged_on, offender_on, Judged as Answer}
-use Rattle.testing_rules.specs.JudgedRows.{answer, answers, lent}
+use Rattle.testing_rules.specs.JudgedRows.{answer, answers, lent, row_of}
 use Rattle.testing_rules.proofs.Orders.{least-push, text_order}
 
 -- a list of rows and their answers, from a place on
-pub with_answers-drop : (rows : List (Bor RowIn)) (marks : List Bool) (k : ℕ) (d : Bor RowIn) → k < length rows → k < length marks
-    → with_answers (lent (drop k rows)) (drop k marks) ≡ record { row = (get_or rows k d).now; is_installable = get_or marks k false } ∷ with_answers (lent (drop (k + 1) rows)) (drop (k + 1) marks)
+pub with_answers-drop : (rows : List (LentRow)) (marks : List Bool) (k : ℕ) (d : LentRow) → k < length rows → k < length marks
+    → with_answers (lent (drop k rows)) (drop k marks) ≡ record { row = row_of (get_or rows k d); is_installable = get_or marks k false } ∷ with_answers (lent (drop (k + 1) rows)) (drop (k + 1) marks)
 with_answers-drop rows marks k d h g = rw (drop-cons rows k d h, drop-cons marks k false g, add-one) refl
 
 with_answers-nil : (rows : List RowIn) → with_answers rows [] ≡ []
@@ -27,7 +27,7 @@ with_answers-nil [] = refl
 with_answers-nil (r ∷ rows) = refl
 
 -- nothing is left where either list ends
-pub with_answers-end : (rows : List (Bor RowIn)) (marks : List Bool) (k : ℕ) → min (length rows) (length marks) ≤ k → with_answers (lent (drop k rows)) (drop k marks) ≡ []
+pub with_answers-end : (rows : List (LentRow)) (marks : List Bool) (k : ℕ) → min (length rows) (length marks) ≤ k → with_answers (lent (drop k rows)) (drop k marks) ≡ []
 with_answers-end rows marks k h =
     elim (cases_lt (length marks) (length rows)) [
       | inl m ↦ rw (drop_all k marks (omega arith)) (with_answers-nil (lent (drop k rows)))
@@ -44,7 +44,7 @@ module _ {A : Type 0} {cmp : Text → Text → Ordering} (o : IsTotalOrder cmp) 
 pub first_failing-more : (arch : ℕ) (group : List Text) (before : List Answer) (after : List Judged) (i : ℕ) (d : Judged) (b : Bool)
     → i < length after → fails_on arch group before (answer (get_or after i d)) ≡ b
     → first_failing arch group before (answers (take (i + 1) after))
-    ≡ cond b (Some (first_of_two text_cmp (first_failing arch group before (answers (take i after))) (get_or after i d).row.now.binary.name)) (first_failing arch group before (answers (take i after)))
+    ≡ cond b (Some (first_of_two text_cmp (first_failing arch group before (answers (take i after))) (get_or after i d).row.binary.now.name)) (first_failing arch group before (answers (take i after)))
 first_failing-more arch group before after i d b h e =
     rw (take_more after i d h, map-append) (one_more text_order (fails_on arch group before) (λ (j : Answer). j.row.binary.name) b (answers (take i after)) (answer (get_or after i d)) e)
 

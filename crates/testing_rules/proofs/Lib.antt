@@ -18,6 +18,9 @@ pub mod InTurn
 pub mod Grouping
 pub mod BuiltRows
 pub mod Members
+pub mod Carried
+pub mod Numbers
+pub mod Parts
 pub mod Urgent
 pub mod Grounds
 pub mod SlotFacts
@@ -55,3 +58,4 @@ pub mod Mapped
 pub mod WithoutKeys
 pub mod Drafting
 pub mod Giving
+pub mod Lending

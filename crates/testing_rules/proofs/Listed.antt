@@ -127,6 +127,24 @@ module _ (firsts seconds : List Binary) (s : ℕ → Bool) (find : (i : ℕ) (ro
       → (i : ℕ) (row : Binary) → slice_get firsts i ≡ Some row → s i ≡ true → P (place i)
   place_has P each i row now on = place_has_at P each i row (slice_get firsts i) (s i) refl refl now on
 
+-- a row that is installable among those of one list that are there is so in a list that has these there too
+pub carried : (xs rows : List Binary) (here there : ℕ → Bool)
+    → ((i : ℕ) (row : Binary) → slice_get xs i ≡ Some row → here i ≡ true → (k : ℕ) × (slice_get rows k ≡ Some row) × (there k ≡ true))
+    → (i k : ℕ) (row : Binary) → slice_get xs i ≡ Some row → slice_get rows k ≡ Some row → there k ≡ true → IsAmong xs here i → IsAmong rows there k
+carried xs rows here there within i k row at now stands some =
+    let s = some.0 in
+    let up : (j : ℕ) (r : Binary) → slice_get xs j ≡ Some r → s j ≡ true → here j ≡ true = λ j r e on. some.2 j (slice_get_within xs j r e) on in
+    let find : (j : ℕ) (r : Binary) → slice_get xs j ≡ Some r → s j ≡ true → (p : ℕ) × (slice_get rows p ≡ Some r) = λ j r e on. let w = within j r e (up j r e on) in (w.0, w.1) in
+    let f = place xs rows s find in
+    let same = place_is xs rows s find in
+    let inside = place_has xs rows s find (λ p. there p ≡ true) (λ j r e on. (within j r e (up j r e on)).2) in (
+      taken xs rows s f some.1 same i row at some.4 k now,
+      taken_closed xs rows s f some.1 same i row at some.4 k now,
+      λ p below on. taken_inside xs rows s f some.1 same i row at some.4 k now there stands inside p on,
+      slice_get_within rows k row now,
+      taken_has xs rows s f some.1 same i row at some.4 k now,
+    )
+
 module _ (xs rows : List Binary) (there : ℕ → Bool) (h : IsListing xs rows there) (i k : ℕ) (row : Binary)
     (at : slice_get xs i ≡ Some row) (here : slice_get rows k ≡ Some row) (stands : there k ≡ true) where
   to_among : IsInstallable xs i → IsAmong rows there k

@@ -36,10 +36,10 @@ contains_at xs i x e = (i, slice_get_within xs i x e, get_or_from_slice_get xs i
 pub at_place : {A : Type 0} (xs : List A) (x : A) (c : Contains xs x) → slice_get xs c.0 ≡ Some x
 at_place xs x c = slice_get-get_or xs c.0 x c.1 ∙ ap Some c.2
 
-get_map : {A B : Type 0} (f : A → B) (xs : List A) (i : ℕ) (x : A) → slice_get xs i ≡ Some x → slice_get (map f xs) i ≡ Some (f x)
+pub get_map : {A B : Type 0} (f : A → B) (xs : List A) (i : ℕ) (x : A) → slice_get xs i ≡ Some x → slice_get (map f xs) i ≡ Some (f x)
 get_map f xs i x e = slice_get-map f xs i ∙ ap (option_map f) e
 
-of_map : {A B : Type 0} (f : A → B) (xs : List A) (i : ℕ) (y : B) → slice_get (map f xs) i ≡ Some y → (x : A) × (slice_get xs i ≡ Some x) × (f x ≡ y)
+pub of_map : {A B : Type 0} (f : A → B) (xs : List A) (i : ℕ) (y : B) → slice_get (map f xs) i ≡ Some y → (x : A) × (slice_get xs i ≡ Some x) × (f x ≡ y)
 of_map f [] i y e = let no : None ≡ Some y = e in cc
 of_map f (x ∷ xs) zero y e = (x, refl, same_Some (f x) y e)
 of_map f (x ∷ xs) (suc i) y e = of_map f xs i y e

@@ -1,11 +1,12 @@
 -- Of a ground only what is about a source tells on its excuse.
-use Rattle.std.specs.Prelude.{ℕ, ◌+◌, ◌<◌, ◌==◌, Bool, true, false, cond, not, ◌&&◌, ◌||◌, nat_lt, List, [], ◌∷◌, ◌++◌, length, take, get_or, map, filter, fold, Option, unwrap_or, Vec, String, string_bytes}
+use Rattle.std.specs.Prelude.{ℕ, ◌+◌, ◌<◌, ◌==◌, Bool, true, false, cond, not, ◌&&◌, ◌||◌, nat_lt, List, [], ◌∷◌, ◌++◌, length, take, get_or, map, filter, fold, Option, unwrap_or, Vec}
 use Rattle.std.proofs.Common.{◌≡◌, refl, sym, ap, ◌∙◌, append_assoc, append-nil}
 use Rattle.std.specs.List.{list_any}
 use Rattle.std.specs.Str.{bytes_eq}
 use Rattle.std.specs.Option.{option_map_or}
 use Rattle.std.specs.BTreeMap.{BTreeMap, is_at}
 use Rattle.std.specs.Map.{lookup}
+use Rattle.std.specs.Borrow.{Bor}
 use Rattle.std.specs.Ordering.{nat_cmp}
 use Rattle.std.specs.Cmp.Lexicographic.{slice_cmp}
 use Rattle.std.specs.declared.alloc.Global.{Global}
@@ -167,5 +168,5 @@ pub part-is : (g : Ground) (name : Text) {rows : List RowIn} {bugs : List BugIn}
 part-is g name er eb eh eu ed = rw (er, eb, eh, eu, ed) refl
 
 -- an empty map has nothing of a source
-pub group-none : {A : Type 0} (groups : BTreeMap (String Global) (Vec A Global)) (q : Text) → groups.entries ≡ [] → group_at groups q ≡ []
-group-none {A} groups q e = ap (λ es. option_map_or (λ (v : Vec A Global). v.items) (lookup (is_at (λ (k : String Global). slice_cmp nat_cmp q (string_bytes k))) es) []) e
+pub group-none : {A : Type 0} (groups : BTreeMap (Bor Text) (Vec A Global)) (q : Text) → groups.entries ≡ [] → group_at groups q ≡ []
+group-none {A} groups q e = ap (λ es. option_map_or (λ (v : Vec A Global). v.items) (lookup (is_at (λ (k : Bor Text). slice_cmp nat_cmp q k.now)) es) []) e

@@ -1,18 +1,17 @@
 -- The suites of the architectures, before and after a change.
-use Rattle.std.specs.Prelude.{ℕ, zero, suc, ◌+◌, ◌<◌, ◌≤◌, Bool, true, false, ◌&&◌, ◌||◌, nat_lt, List, [], ◌∷◌, ◌++◌, Contains, Option, Some, None, map, filter, length, replicate, slice_set, Result, IfOk, OnOk}
+use Rattle.std.specs.Prelude.{ℕ, zero, suc, ◌+◌, ◌<◌, ◌≤◌, Bool, true, false, ◌&&◌, ◌||◌, not, nat_lt, List, [], ◌∷◌, ◌++◌, Contains, Option, Some, None, map, filter, length, replicate, slice_set, Result, IfOk, OnOk}
 use Rattle.std.specs.Prelude.{Ok, Err}
 use Rattle.std.specs.List.{All, slice_get, list_any, range_with_len}
 use Rattle.std.specs.Option.{option_map_or}
 use Rattle.std.specs.Str.{bytes_eq}
-use Rattle.std.proofs.Common.{◌≡◌, refl, sym, ap, ap₂, ◌∙◌, subst, arith, inl, inr, ◌⊎◌}
+use Rattle.std.proofs.Common.{◌≡◌, refl, sym, ap, ap₂, ◌∙◌, subst, arith, ⊎_elim, inl, inr, ◌⊎◌}
 use Rattle.std.proofs.lemmas.Bool.{cases_Bool, cases_eq, cases_lt, false≢true}
 use Rattle.std.proofs.lemmas.Bool.Decides.{nat_tests}
 use Rattle.std.proofs.lemmas.List.FromFn.{length-range_with_len, get_or-range_with_len}
-use Rattle.std.proofs.lemmas.List.{length-append, length-set, get_or-replicate, replicate-append-replicate}
+use Rattle.std.proofs.lemmas.List.{length-append, length-set, get_or-replicate}
 use Rattle.std.proofs.lemmas.Option.{same_Some, slice_get_within}
 use Rattle.testing_install.specs.Among.{after_change, with_all}
 use Rattle.testing_install.specs.Closed.{marked}
-use Rattle.testing_install.specs.Suite.{Standing}
 use Rattle.testing_install.proofs.Marking.{length-with_all}
 use Rattle.testing_rules.specs.declared.suite.RowIn.{RowIn}
 use Rattle.std.proofs.lemmas.Slice.Eq.{bytes_eq-Decides}
@@ -21,18 +20,19 @@ use Rattle.testing_rules.specs.declared.facts.UploadIn.{UploadIn}
 use Rattle.testing_rules.specs.Changes.{has, stands_of, stands_for, gives_way_to, IsMoveOf}
 use Rattle.testing_rules.specs.Moves.{is_row_on, group_sources}
 use Rattle.testing_rules.specs.Standing.{IsShown, IsOn, IsOver, IsSuiteOn, AreOver, AreSuites}
+use Rattle.testing_rules.specs.Parts.{Part, IsAfter, package_at}
 use Rattle.testing_rules.specs.Tried.{IsWithin, IsRemovalOf, Tells}
-use Rattle.testing_rules.specs.Trials.{is_place_on, IsFirstLost}
+use Rattle.testing_rules.specs.Trials.{IsFirstLost}
 use Rattle.testing_rules.specs.Words.{Text}
 use Rattle.testing_rules.proofs.Arranging.{from_has, to_has, at_some_of}
+use Rattle.testing_rules.proofs.Carried.{has_number}
 use Rattle.testing_rules.proofs.Changing.{coming_within, row_that_stands, row_that_gives_way}
 use Rattle.testing_rules.proofs.Flags.{flags_after, bounded_members, bounded_filter}
-use Rattle.testing_rules.proofs.Judging.{has_filter, same_bit}
+use Rattle.testing_rules.proofs.Judging.{same_bit}
 use Rattle.testing_rules.proofs.Least.{from_filter, to_filter}
 use Rattle.testing_rules.proofs.Lost.{any_of}
 use Rattle.testing_rules.proofs.Members.{none_among}
-use Rattle.testing_rules.proofs.Moving.{after_flags}
-use Rattle.testing_rules.proofs.Trying.{on_after}
+use Rattle.testing_rules.proofs.Parts.{row_of_number}
 
 -- Elements of a list in which one is set.
 
@@ -53,95 +53,73 @@ length-after leaving coming flags = length-with_all true coming (with_all false 
 
 -- A change on one architecture.
 
-module _ (arch : ℕ) (pool : List RowIn) (stands there : List Bool) (leaving coming : List ℕ) (long : length stands ≡ length pool) (there_long : length there ≡ length pool)
-    (was : IsOn arch pool (marked stands) (marked there)) where
-  abbrev coming_on : List ℕ
-  coming_on = filter (is_place_on arch pool) coming
-
-  comes_there : (k : ℕ) (r : RowIn) → slice_get pool k ≡ Some r → has coming_on k ≡ (has coming k && is_row_on arch r)
-  comes_there k r at = has_filter (is_place_on arch pool) coming k ∙ ap (λ o. has coming k && option_map_or (is_row_on arch) o false) at
-
-  by_flags : IsOn arch pool (after_flags (marked stands) (has leaving) (has coming)) (marked (after_change leaving coming_on there))
-  by_flags = on_after arch pool (marked stands) (marked there) (marked (after_change leaving coming_on there)) (has leaving) (has coming) (has coming_on) was comes_there
-      (λ k h. flags_after leaving coming_on there k (omega (arith, h, there_long)))
-
-  -- where those of the rows that come are there that are on the architecture, it has those that stand after the change
-  pub on_after_change : IsOn arch pool (marked (after_change leaving coming stands)) (marked (after_change leaving coming_on there))
-  on_after_change = record {
-    on = λ k r at.
-        by_flags.on k r at
-        ∙ ap (λ b. b && is_row_on arch r) (sym (flags_after leaving coming stands k (omega (arith, slice_get_within pool k r at, long))));
-  }
-
--- the suite after the change
-pub suite_after : (arch : ℕ) (pool : List RowIn) (old new : Standing) (leaving coming : List ℕ) → IsOver pool new
-    → new.there ≡ after_change leaving (filter (is_place_on arch pool) coming) old.there
+-- where its rows leave and come by their numbers, those of them are there that stand after the change
+pub suite_after : (arch : ℕ) (pool : List RowIn) (old new : Part) (leaving coming : List ℕ) → new.places ≡ old.places → new.suite.rows ≡ old.suite.rows
+    → IsAfter old leaving coming new.suite.there
     → (stands : List Bool) → length stands ≡ length pool → IsSuiteOn arch pool stands old → IsSuiteOn arch pool (after_change leaving coming stands) new
-suite_after arch pool old new leaving coming over there stands long was = record {
-  over = over;
-  on = subst (λ flags. IsOn arch pool (marked (after_change leaving coming stands)) (marked flags)) (sym there) (on_after_change arch pool stands old.there leaving coming long was.over.long was.on);
-}
-
-pub over_after : (pool : List RowIn) (old new : Standing) (leaving coming : List ℕ) → IsOver pool old → new.rows ≡ old.rows → new.there ≡ after_change leaving coming old.there → IsOver pool new
-over_after pool old new leaving coming over rows there = record {
-  rows = rows ∙ over.rows;
-  long = ap length there ∙ length-after leaving coming old.there ∙ over.long;
+suite_after arch pool old new leaving coming places rows after stands long was = record {
+  over = record {
+    places = places ∙ was.over.places;
+    rows = ap (map (λ b. Some b)) rows ∙ was.over.rows ∙ ap (map (package_at pool)) (sym places);
+    long = ap length after.exact ∙ length-after after.left after.came old.suite.there ∙ was.over.long ∙ ap length (sym places);
+  };
+  stand = λ i k at.
+      let here : slice_get old.places i ≡ Some k = ap (λ ks. slice_get ks i) (sym places) ∙ at in
+      let r = row_of_number arch pool old was.over i k here in
+      ap (λ fs. marked fs i) after.exact
+      ∙ flags_after after.left after.came old.suite.there i (omega (arith, was.over.long, slice_get_within old.places i k here))
+      ∙ ap₂ (λ c t. c || t) (has_number old.places coming after.came after.came_are i k here)
+      (ap₂ (λ t l. t && not l) (was.stand i k here) (has_number old.places leaving after.left after.left_are i k here))
+      ∙ sym (flags_after leaving coming stands k (omega (arith, slice_get_within pool k r.0 r.1, long)));
 }
 
 -- A change on each architecture in turn: the suites of the first ones are changed.
 
-pub record AreChangedTo (pool : List RowIn) (olds news : List Standing) (leaving coming : List ℕ) (n : ℕ) : Type 0 where
-  pub over : AreOver pool news
+pub record AreChangedTo (olds news : List Part) (leaving coming : List ℕ) (n : ℕ) : Type 0 where
   pub count : length news ≡ length olds
-  pub done : (stands : List Bool) → length stands ≡ length pool → AreSuites pool stands olds
-      → (k : ℕ) (suite : Standing) → slice_get news k ≡ Some suite → k < n → IsSuiteOn k pool (after_change leaving coming stands) suite
-  pub left : (stands : List Bool) → length stands ≡ length pool → AreSuites pool stands olds
-      → (k : ℕ) (suite : Standing) → slice_get news k ≡ Some suite → n ≤ k → IsSuiteOn k pool stands suite
+  pub done : (pool : List RowIn) (stands : List Bool) → length stands ≡ length pool → AreSuites pool stands olds
+      → (k : ℕ) (suite : Part) → slice_get news k ≡ Some suite → k < n → IsSuiteOn k pool (after_change leaving coming stands) suite
+  pub left : (pool : List RowIn) (stands : List Bool) → length stands ≡ length pool → AreSuites pool stands olds
+      → (k : ℕ) (suite : Part) → slice_get news k ≡ Some suite → n ≤ k → IsSuiteOn k pool stands suite
 
-pub changed_none : (pool : List RowIn) (olds : List Standing) (leaving coming : List ℕ) → AreOver pool olds → AreChangedTo pool olds olds leaving coming 0
-changed_none pool olds leaving coming over = record {
-  over = over;
+pub changed_none : (olds : List Part) (leaving coming : List ℕ) → AreChangedTo olds olds leaving coming 0
+changed_none olds leaving coming = record {
   count = refl;
-  done = λ stands long are k suite at h. absurd (omega (arith, h));
-  left = λ stands long are k suite at h. are.each k suite at;
+  done = λ pool stands long are k suite at h. absurd (omega (arith, h));
+  left = λ pool stands long are k suite at h. are.each k suite at;
 }
 
-module _ (pool : List RowIn) (olds news : List Standing) (leaving coming : List ℕ) (n : ℕ) (to : AreChangedTo pool olds news leaving coming n)
-    (old new : Standing) (at_n : slice_get news n ≡ Some old) (new_over : IsOver pool new)
-    (step : (stands : List Bool) → length stands ≡ length pool → IsSuiteOn n pool stands old → IsSuiteOn n pool (after_change leaving coming stands) new) where
-  elsewhere : (k : ℕ) (suite : Standing) → (k ≡ n → ⊥) → slice_get (slice_set news n new) k ≡ Some suite → slice_get news k ≡ Some suite
+module _ (olds news : List Part) (leaving coming : List ℕ) (n : ℕ) (to : AreChangedTo olds news leaving coming n)
+    (old new : Part) (at_n : slice_get news n ≡ Some old)
+    (step : (pool : List RowIn) (stands : List Bool) → length stands ≡ length pool → IsSuiteOn n pool stands old → IsSuiteOn n pool (after_change leaving coming stands) new) where
+  elsewhere : (k : ℕ) (suite : Part) → (k ≡ n → ⊥) → slice_get (slice_set news n new) k ≡ Some suite → slice_get news k ≡ Some suite
   elsewhere k suite apart at = sym (set_elsewhere news n k new apart) ∙ at
 
-  here : (k : ℕ) (suite : Standing) → k ≡ n → slice_get (slice_set news n new) k ≡ Some suite → new ≡ suite
+  here : (k : ℕ) (suite : Part) → k ≡ n → slice_get (slice_set news n new) k ≡ Some suite → new ≡ suite
   here k suite e at = set_here news n new suite (ap (slice_get (slice_set news n new)) (sym e) ∙ at)
 
-  over_each : (k : ℕ) (suite : Standing) → slice_get (slice_set news n new) k ≡ Some suite → (k ≡ n) ⊎ (k ≡ n → ⊥) → IsOver pool suite
-  over_each k suite at (inl e) = subst (λ s. IsOver pool s) (here k suite e at) new_over
-  over_each k suite at (inr apart) = to.over.each k suite (elsewhere k suite apart at)
-
-  done_each : (stands : List Bool) (long : length stands ≡ length pool) (are : AreSuites pool stands olds) (k : ℕ) (suite : Standing)
+  done_each : (pool : List RowIn) (stands : List Bool) (long : length stands ≡ length pool) (are : AreSuites pool stands olds) (k : ℕ) (suite : Part)
       → slice_get (slice_set news n new) k ≡ Some suite → k < n + 1 → (k ≡ n) ⊎ (k ≡ n → ⊥) → IsSuiteOn k pool (after_change leaving coming stands) suite
-  done_each stands long are k suite at h (inl e) =
-      let changed = step stands long (to.left stands long are n old at_n (omega arith)) in
+  done_each pool stands long are k suite at h (inl e) =
+      let changed = step pool stands long (to.left pool stands long are n old at_n (omega arith)) in
       subst (λ s. IsSuiteOn k pool (after_change leaving coming stands) s) (here k suite e at)
       (subst (λ p. IsSuiteOn p pool (after_change leaving coming stands) new) (sym e) changed)
-  done_each stands long are k suite at h (inr apart) = to.done stands long are k suite (elsewhere k suite apart at) (below k n h apart)
+  done_each pool stands long are k suite at h (inr apart) = to.done pool stands long are k suite (elsewhere k suite apart at) (below k n h apart)
     where
       below : (k n : ℕ) → k < n + 1 → (k ≡ n → ⊥) → k < n
       below k n h apart = elim (cases_lt k n) [ inl l ↦ l | inr g ↦ absurd (apart (omega (arith, h, g))) ]
 
-  pub changed_more : AreChangedTo pool olds (slice_set news n new) leaving coming (n + 1)
+  pub changed_more : AreChangedTo olds (slice_set news n new) leaving coming (n + 1)
   changed_more = record {
-    over = record { each = λ k suite at. over_each k suite at (cases_eq k n) };
     count = length-set news n new ∙ to.count;
-    done = λ stands long are k suite at h. done_each stands long are k suite at h (cases_eq k n);
-    left = λ stands long are k suite at h. to.left stands long are k suite (elsewhere k suite (λ e. absurd (omega (arith, e, h))) at) (omega (arith, h));
+    done = λ pool stands long are k suite at h. done_each pool stands long are k suite at h (cases_eq k n);
+    left = λ pool stands long are k suite at h. to.left pool stands long are k suite (elsewhere k suite (λ e. absurd (omega (arith, e, h))) at) (omega (arith, h));
   }
 
-pub changed_all : (pool : List RowIn) (olds news : List Standing) (leaving coming : List ℕ) (n : ℕ) → AreChangedTo pool olds news leaving coming n → length olds ≤ n
-    → (stands : List Bool) → length stands ≡ length pool → AreSuites pool stands olds → AreSuites pool (after_change leaving coming stands) news
-changed_all pool olds news leaving coming n to h stands long are = record {
-  each = λ k suite at. to.done stands long are k suite at (omega (arith, slice_get_within news k suite at, to.count, h));
+pub changed_all : (olds news : List Part) (leaving coming : List ℕ) (n : ℕ) → AreChangedTo olds news leaving coming n → length olds ≤ n
+    → (pool : List RowIn) (stands : List Bool) → length stands ≡ length pool → AreSuites pool stands olds → AreSuites pool (after_change leaving coming stands) news
+changed_all olds news leaving coming n to h pool stands long are = record {
+  each = λ k suite at. to.done pool stands long are k suite at (omega (arith, slice_get_within news k suite at, to.count, h));
 }
 
 -- Suites with no row there.
@@ -157,32 +135,36 @@ no_flag n k = elim (cases_lt k n) [
     past (suc n) zero h = absurd (omega (arith, h))
     past (suc n) (suc k) h = past n k (omega (arith, h))
 
-same_copies : {A : Type 0} (n k : ℕ) (x y : A) → slice_get (replicate n x) k ≡ Some y → x ≡ y
-same_copies zero k x y e = let no : None ≡ Some y = e in cc
-same_copies (suc n) zero x y e = same_Some x y e
-same_copies (suc n) (suc k) x y e = same_copies n k x y e
-
 length-copies : {A : Type 0} (n : ℕ) (x : A) → length (replicate n x) ≡ n
 length-copies zero x = refl
 length-copies (suc n) x = ap suc (length-copies n x)
 
-abbrev pub empty_suite : List RowIn → Standing
-empty_suite pool = record { rows = map (λ r. r.binary) pool; there = replicate (length pool) false }
-
-pub none_there : (pool : List RowIn) (archs : ℕ) → AreSuites pool (replicate (length pool) false) (replicate archs (empty_suite pool))
-none_there pool archs = record {
-  each = λ arch suite at.
-      subst (λ s. IsSuiteOn arch pool (replicate (length pool) false) s) (same_copies archs arch (empty_suite pool) suite at) (record {
-        over = record { rows = refl; long = length-copies (length pool) false };
-        on = record { on = λ k r here. no_flag (length pool) k ∙ sym (ap (λ b. b && is_row_on arch r) (no_flag (length pool) k)) };
-      });
+-- where none of its rows is there, it is the suite of its architecture before any row stands
+pub suite_before : (arch : ℕ) (pool : List RowIn) (suite : Part) → IsOver arch pool suite → suite.suite.there ≡ replicate (length suite.places) false
+    → IsSuiteOn arch pool (replicate (length pool) false) suite
+suite_before arch pool suite over none = record {
+  over = over;
+  stand = λ i k at. ap (λ fs. marked fs i) none ∙ no_flag (length suite.places) i ∙ sym (no_flag (length pool) k);
 }
 
-pub copies_more : {A : Type 0} (n : ℕ) (x : A) → replicate n x ++ x ∷ [] ≡ replicate (n + 1) x
-copies_more n x = replicate-append-replicate n 1 x
+pub are_none : (pool : List RowIn) (stands : List Bool) → AreSuites pool stands []
+are_none pool stands = record { each = λ arch suite at. let no : None ≡ Some suite = at in cc }
 
-pub length-copies_of : {A : Type 0} (n : ℕ) (x : A) (xs : List A) → xs ≡ replicate n x → n ≡ length xs
-length-copies_of n x xs e = sym (ap length e ∙ length-copies n x)
+pushed_at : {A : Type 0} (xs : List A) (x : A) (k : ℕ) (y : A) → slice_get (xs ++ x ∷ []) k ≡ Some y → (slice_get xs k ≡ Some y) ⊎ ((k ≡ length xs) × (x ≡ y))
+pushed_at [] x zero y e = inr (refl, same_Some x y e)
+pushed_at [] x (suc k) y e = let no : None ≡ Some y = e in cc
+pushed_at (z ∷ xs) x zero y e = inl e
+pushed_at (z ∷ xs) x (suc k) y e = ⊎_elim (λ before. inl before) (λ last. inr (ap suc last.0, last.1)) (pushed_at xs x k y e)
+
+-- the suite of one architecture more
+pub are_more : (pool : List RowIn) (stands : List Bool) (suites : List Part) (arch : ℕ) (new : Part) → AreSuites pool stands suites → length suites ≡ arch
+    → IsSuiteOn arch pool stands new → AreSuites pool stands (suites ++ new ∷ [])
+are_more pool stands suites arch new are count own = record {
+  each = λ k suite at. elim (pushed_at suites new k suite at) [
+    | inl before ↦ are.each k suite before
+    | inr last ↦ subst (λ s. IsSuiteOn k pool stands s) last.1 (subst (λ a. IsSuiteOn a pool stands new) (sym (last.0 ∙ count)) own)
+  ];
+}
 
 -- What stands.
 
@@ -195,19 +177,40 @@ shown-alike pool stands others rows shown same = record {
   all = λ k r at h. shown.all k r at (sym (same k (slice_get_within pool k r at)) ∙ h);
 }
 
--- each suite that is that of its architecture has the rows of the pool
-pub over_of : (pool : List RowIn) (stands : List Bool) (suites : List Standing) → AreSuites pool stands suites → AreOver pool suites
+-- each suite that is that of its architecture has the pool's rows on it
+pub over_of : (pool : List RowIn) (stands : List Bool) (suites : List Part) → AreSuites pool stands suites → AreOver pool suites
 over_of pool stands suites are = record { each = λ arch suite at. (are.each arch suite at).over }
 
 -- A change tried on each architecture.
 
-pub told_at : (pool : List RowIn) (stands : List Bool) (suites : List Standing) (leaving coming : List ℕ) (tells : ℕ → Option Text) (arch : ℕ) (name : Option Text)
+-- flags for the pool's rows: which of them stand and are on the architecture
+abbrev stood_on : ℕ → List RowIn → List Bool → List Bool
+stood_on arch [] stands = []
+stood_on arch (r ∷ pool) [] = false ∷ stood_on arch pool []
+stood_on arch (r ∷ pool) (b ∷ stands) = (b && is_row_on arch r) ∷ stood_on arch pool stands
+
+length-stood : (arch : ℕ) (pool : List RowIn) (stands : List Bool) → length (stood_on arch pool stands) ≡ length pool
+length-stood arch [] stands = refl
+length-stood arch (r ∷ pool) [] = ap suc (length-stood arch pool [])
+length-stood arch (r ∷ pool) (b ∷ stands) = ap suc (length-stood arch pool stands)
+
+stood_at : (arch : ℕ) (pool : List RowIn) (stands : List Bool) (k : ℕ) (r : RowIn) → slice_get pool k ≡ Some r → marked (stood_on arch pool stands) k ≡ (marked stands k && is_row_on arch r)
+stood_at arch [] stands k r at = let no : None ≡ Some r = at in cc
+stood_at arch (q ∷ pool) [] zero r at = refl
+stood_at arch (q ∷ pool) [] (suc k) r at = stood_at arch pool [] k r at
+stood_at arch (q ∷ pool) (b ∷ stands) zero r at = ap (λ x. b && is_row_on arch x) (same_Some q r at)
+stood_at arch (q ∷ pool) (b ∷ stands) (suc k) r at = stood_at arch pool stands k r at
+
+pub told_at : (pool : List RowIn) (stands : List Bool) (suites : List Part) (leaving coming : List ℕ) (tells : ℕ → Option Text) (arch : ℕ) (name : Option Text)
     → AreSuites pool stands suites → Tells pool stands leaving coming tells → arch < length suites
-    → ((suite : Standing) → slice_get suites arch ≡ Some suite → IsFirstLost arch pool suite.there leaving coming name) → name ≡ tells arch
+    → ((suite : Part) → slice_get suites arch ≡ Some suite → (stands there : List Bool) → IsSuiteOn arch pool stands suite → length there ≡ length pool
+    → IsOn arch pool (marked stands) (marked there) → IsFirstLost arch pool there leaving coming name) → name ≡ tells arch
 told_at pool stands suites leaving coming tells arch name are told h first =
     let suite = slice_get_some suites arch h in
-    let own = are.each arch suite.0 suite.1 in
-    told.each arch suite.0.there own.over.long own.on name (first suite.0 suite.1)
+    let there = stood_on arch pool stands in
+    let long = length-stood arch pool stands in
+    let on : IsOn arch pool (marked stands) (marked there) = record { on = λ k r at. stood_at arch pool stands k r at } in
+    told.each arch there long on name (first suite.0 suite.1 stands there (are.each arch suite.0 suite.1) long on)
 
 -- Flags of which none is set.
 
@@ -216,16 +219,6 @@ none_of flags places none k h = elim (cases_Bool (marked flags k)) [
   | inl up ↦ absurd (false≢true (sym none ∙ any_of (marked flags) places k (from_has places k h) up))
   | inr down ↦ down
 ]
-
--- the first places, one more
-range_next : (a n : ℕ) → range_with_len a n ++ (a + n) ∷ [] ≡ range_with_len a (suc n)
-range_next a zero = ap (λ k. k ∷ []) (let e : a + 0 ≡ a = omega arith in e)
-range_next a (suc n) = ap (λ ks. a ∷ ks) (ap (λ k. range_with_len (a + 1) n ++ k ∷ []) (let e : a + suc n ≡ (a + 1) + n = omega arith in e) ∙ range_next (a + 1) n)
-
-pub range_more : (n : ℕ) → range_with_len 0 n ++ n ∷ [] ≡ range_with_len 0 (n + 1)
-range_more n =
-    ap (λ k. range_with_len 0 n ++ k ∷ []) (let e : n ≡ 0 + n = omega arith in e) ∙ range_next 0 n
-    ∙ ap (range_with_len 0) (let e : suc n ≡ n + 1 = omega arith in e)
 
 in_range : (n k : ℕ) → has (range_with_len 0 n) k ≡ nat_lt k n
 in_range n k =

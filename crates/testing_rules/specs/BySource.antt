@@ -1,8 +1,11 @@
 -- What a run has of each source, found by the source's name.
-use Rattle.std.specs.Prelude.{ℕ, List, [], Vec, String, map, filter}
+use Rattle.std.specs.Prelude.{ℕ, List, [], Vec, map, filter}
 use Rattle.std.specs.Option.{option_map_or}
 use Rattle.std.specs.Str.{bytes_eq}
-use Rattle.std.specs.BTreeMap.{BTreeMap, get_by_text}
+use Rattle.std.specs.BTreeMap.{BTreeMap, get_by}
+use Rattle.std.specs.Borrow.{Bor}
+use Rattle.std.specs.Cmp.Lexicographic.{slice_cmp}
+use Rattle.std.specs.Ordering.{nat_cmp}
 use Rattle.std.specs.declared.alloc.Global.{Global}
 use Rattle.jiff.specs.declared.civil.dates.Date.{Date}
 use Rattle.testing_rules.specs.declared.facts.UploadIn.{UploadIn}
@@ -11,17 +14,18 @@ use Rattle.testing_rules.specs.declared.by_source.Grouped.{Grouped}
 use Rattle.testing_rules.specs.Words.{Text}
 use Rattle.testing_rules.specs.Suite.{Suite}
 use Rattle.testing_rules.specs.FactLists.{FactLists}
+use Rattle.testing_rules.specs.JudgedRows.{lent}
 use Rattle.testing_rules.specs.Unstable.{built_rows, is_standing}
 use Rattle.testing_rules.specs.Excuses.{Ground, excuse_on, testing_version, is_news, delays_in_force}
 
 -- what the map has of a source
-abbrev pub group_at : {A : Type 0} → BTreeMap (String Global) (Vec A Global) → Text → List A
-group_at groups name = option_map_or (λ v. v.items) (get_by_text groups name) []
+abbrev pub group_at : {A : Type 0} → BTreeMap (Bor Text) (Vec A Global) → Text → List A
+group_at groups name = option_map_or (λ v. v.items) (get_by (λ k. slice_cmp nat_cmp name k.now) groups) []
 
 -- what is known of a source
 abbrev pub ground_at : Grouped → Text → Ground
 ground_at g name = record {
-  rows = group_at g.rows name;
+  rows = lent (group_at g.rows name);
   bugs = group_at g.bugs name;
   hints = g.hints.items;
   uploads = group_at g.uploads name;

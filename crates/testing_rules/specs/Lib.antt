@@ -14,6 +14,7 @@ pub mod JudgedRows
 pub mod Laws
 pub mod LentItems
 pub mod Moves
+pub mod Parts
 pub mod Places
 pub mod Pools
 pub mod Reports

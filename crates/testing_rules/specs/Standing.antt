@@ -1,13 +1,14 @@
 -- Which rows of a pool stand in testing, and the suite of each architecture.
-use Rattle.std.specs.Prelude.{◌≡◌, ℕ, Bool, true, ◌&&◌, List, ◌++◌, map, length, Option, Some, None, Contains}
-use Rattle.std.specs.List.{slice_get}
+use Rattle.std.specs.Prelude.{◌≡◌, ℕ, Bool, true, ◌&&◌, List, ◌++◌, map, filter, length, Option, Some, None, Contains}
+use Rattle.std.specs.List.{slice_get, range_with_len}
 use Rattle.testing_install.specs.Closed.{marked}
-use Rattle.testing_install.specs.Suite.{Standing}
 use Rattle.testing_rules.specs.declared.facts.UploadIn.{UploadIn}
 use Rattle.testing_rules.specs.declared.suite.RowIn.{RowIn}
 use Rattle.testing_rules.specs.FactOrder.{IsUnstableOrder}
 use Rattle.testing_rules.specs.InOrder.{AreByKey}
 use Rattle.testing_rules.specs.Moves.{is_row_on}
+use Rattle.testing_rules.specs.Parts.{Part, package_at}
+use Rattle.testing_rules.specs.Trials.{is_place_on}
 use Rattle.testing_rules.specs.Words.{Text}
 
 -- the rows are those of the pool that stand, in order
@@ -20,23 +21,24 @@ pub record IsShown (pool : List RowIn) (stands : ℕ → Bool) (rows : List RowI
 pub record IsOn (arch : ℕ) (pool : List RowIn) (stands there : ℕ → Bool) : Type 0 where
   pub on : (k : ℕ) (r : RowIn) → slice_get pool k ≡ Some r → there k ≡ (stands k && is_row_on arch r)
 
--- the suite has the rows of the pool
-pub record IsOver (pool : List RowIn) (suite : Standing) : Type 0 where
-  pub rows : suite.rows ≡ map (λ r. r.binary) pool
-  pub long : length suite.there ≡ length pool
+-- the suite has the pool's rows that are on the architecture, and no others
+pub record IsOver (arch : ℕ) (pool : List RowIn) (suite : Part) : Type 0 where
+  pub places : suite.places ≡ filter (is_place_on arch pool) (range_with_len 0 (length pool))
+  pub rows : map (λ b. Some b) suite.suite.rows ≡ map (package_at pool) suite.places
+  pub long : length suite.suite.there ≡ length suite.places
 
--- the suite is that of the architecture: of the pool's rows those are there that stand and are on it
-pub record IsSuiteOn (arch : ℕ) (pool : List RowIn) (stands : List Bool) (suite : Standing) : Type 0 where
-  pub over : IsOver pool suite
-  pub on : IsOn arch pool (marked stands) (marked suite.there)
+-- the suite is that of the architecture: of its rows those are there that stand
+pub record IsSuiteOn (arch : ℕ) (pool : List RowIn) (stands : List Bool) (suite : Part) : Type 0 where
+  pub over : IsOver arch pool suite
+  pub stand : (i k : ℕ) → slice_get suite.places i ≡ Some k → marked suite.suite.there i ≡ marked stands k
 
--- each suite has the rows of the pool
-pub record AreOver (pool : List RowIn) (suites : List Standing) : Type 0 where
-  pub each : (arch : ℕ) (suite : Standing) → slice_get suites arch ≡ Some suite → IsOver pool suite
+-- each suite has the pool's rows that are on its architecture
+pub record AreOver (pool : List RowIn) (suites : List Part) : Type 0 where
+  pub each : (arch : ℕ) (suite : Part) → slice_get suites arch ≡ Some suite → IsOver arch pool suite
 
 -- each suite is that of its architecture
-pub record AreSuites (pool : List RowIn) (stands : List Bool) (suites : List Standing) : Type 0 where
-  pub each : (arch : ℕ) (suite : Standing) → slice_get suites arch ≡ Some suite → IsSuiteOn arch pool stands suite
+pub record AreSuites (pool : List RowIn) (stands : List Bool) (suites : List Part) : Type 0 where
+  pub each : (arch : ℕ) (suite : Part) → slice_get suites arch ≡ Some suite → IsSuiteOn arch pool stands suite
 
 -- a pool's rows, the place at which unstable's begin, which rows stand, and the number of the architectures
 pub record PoolState : Type 0 where
@@ -46,7 +48,7 @@ pub record PoolState : Type 0 where
   pub archs : ℕ
 
 -- there is a flag for each row, and for each architecture its suite
-pub record IsPoolState (pool : List RowIn) (stands : List Bool) (archs : ℕ) (suites : List Standing) : Type 0 where
+pub record IsPoolState (pool : List RowIn) (stands : List Bool) (archs : ℕ) (suites : List Part) : Type 0 where
   pub long : length stands ≡ length pool
   pub count : archs ≡ length suites
   pub each : AreSuites pool stands suites

@@ -3,6 +3,7 @@
 ghost use Rattle.std.specs.Prelude.{◌≡◌, [], IfOk, OnOk, List, length};
 ghost use Rattle.testing_install.specs.Closed.{marked};
 ghost use Rattle.testing_rules.specs.FactOrder.{AreBySource, IsUnstableOrder};
+ghost use Rattle.testing_rules.specs.JudgedRows.{lent};
 ghost use Rattle.testing_rules.specs.Moves as rules;
 ghost use Rattle.testing_rules.specs.Standing.{IsShown, IsLive, AreLive, IsLiveTesting};
 ghost use Rattle.testing_rules.specs.declared.suite.RowIn.{RowIn as ARow};
@@ -29,8 +30,6 @@ fn broken_by(
 ) -> Result<Option<Offender>, NoMemory>
     ensures { IfOk result (λ o. o ≡ rules.offender_of archs.now old.now.rows new.now.rows group.now) }
 {
-    let old = old.to_testing(alloc)?;
-    let new = new.to_testing(alloc)?;
     offender_of(alloc, archs, old.rows(), new.rows(), group)
 }
 
@@ -38,13 +37,13 @@ fn broken_by(
 fn broken_by_move_anew<'a>(
     alloc: Global,
     archs: &Archs,
-    unstable: Unstable<'a>,
+    unstable: Unstable<'_, 'a>,
     group: &[Text],
     testing: &Draft<'a>,
 ) -> Result<Option<Offender>, NoMemory>
     requires { AreBySource unstable.sources.now }
     ensures { IfOk result (λ o. o ≡ rules.offender_of archs.now testing.now.rows
-        (rules.move_group unstable.entry.sources.now unstable.entry.rows.now group.now testing.now).rows group.now) }
+        (rules.move_group unstable.entry.sources.now (lent unstable.entry.rows.now) group.now testing.now).rows group.now) }
 {
     let mut moved = testing.copy(alloc)?;
     moved.move_group(alloc, unstable, group)?;
@@ -69,10 +68,10 @@ fn broken_by_removal_anew(
 pub fn suites_of<'a>(
     alloc: Global,
     archs: &Archs,
-    unstable: Unstable<'a>,
+    unstable: Unstable<'_, 'a>,
     testing: &'a Testing,
 ) -> Result<PoolSuites<'a>, NoMemory>
-    ensures { IfOk result (λ suites. IsLive suites archs.now unstable.entry.rows.now testing.now.rows) }
+    ensures { IfOk result (λ suites. IsLive suites archs.now (lent unstable.entry.rows.now) testing.now.rows) }
 {
     PoolSuites::new(alloc, archs.len(), testing.rows(), unstable.rows)
 }
@@ -83,15 +82,15 @@ fn told_by_move<'a>(
     alloc: Global,
     suites: &mut PoolSuites<'_>,
     archs: &Archs,
-    unstable: Unstable<'a>,
+    unstable: Unstable<'_, 'a>,
     group: &[Text],
     testing: &Draft<'a>,
 ) -> Result<Option<Offender>, NoMemory>
-    requires order { IsUnstableOrder unstable.sources.now unstable.rows.now }
-    requires live { IsLive suites.old archs.now unstable.rows.now testing.now.rows }
+    requires order { IsUnstableOrder unstable.sources.now (lent unstable.rows.now) }
+    requires live { IsLive suites.old archs.now (lent unstable.rows.now) testing.now.rows }
     ensures same { suites.new ≡ suites.old }
     ensures offender { IfOk result (λ o. o ≡ rules.offender_of archs.now testing.now.rows
-        (rules.move_group unstable.entry.sources.now unstable.entry.rows.now group.now testing.now).rows group.now) }
+        (rules.move_group unstable.entry.sources.now (lent unstable.entry.rows.now) group.now testing.now).rows group.now) }
 {
     let change = suites.change_by_move(alloc, unstable.sources, group)?;
     if !suites.is_fresh(&change) {
@@ -121,15 +120,15 @@ fn told_by_removal(
 fn move_by_suites<'a>(
     alloc: Global,
     suites: PoolSuites<'a>,
-    unstable: Unstable<'a>,
+    unstable: Unstable<'_, 'a>,
     group: &[Text],
     testing: &mut Draft<'a>,
 ) -> Result<PoolSuites<'a>, NoMemory>
-    requires { IsUnstableOrder unstable.sources.now unstable.rows.now }
-    ensures moved { OnOk result ((archs : List Word) → IsLive suites.entry archs unstable.entry.rows.now testing.old.rows
-        → testing.new ≡ rules.move_group unstable.entry.sources.now unstable.entry.rows.now group.now testing.old) }
-    ensures live { IfOk result (λ new. (archs : List Word) → IsLive suites.entry archs unstable.entry.rows.now testing.old.rows
-        → IsLive new archs unstable.entry.rows.now (rules.move_group unstable.entry.sources.now unstable.entry.rows.now group.now testing.old).rows) }
+    requires { IsUnstableOrder unstable.sources.now (lent unstable.rows.now) }
+    ensures moved { OnOk result ((archs : List Word) → IsLive suites.entry archs (lent unstable.entry.rows.now) testing.old.rows
+        → testing.new ≡ rules.move_group unstable.entry.sources.now (lent unstable.entry.rows.now) group.now testing.old) }
+    ensures live { IfOk result (λ new. (archs : List Word) → IsLive suites.entry archs (lent unstable.entry.rows.now) testing.old.rows
+        → IsLive new archs (lent unstable.entry.rows.now) (rules.move_group unstable.entry.sources.now (lent unstable.entry.rows.now) group.now testing.old).rows) }
 {
     let change = suites.change_by_move(alloc, unstable.sources, group)?;
     testing.change_rows(suites.pool(), &change.leaving, &change.coming)?;
@@ -160,14 +159,14 @@ pub fn broken_by_move<'a>(
     alloc: Global,
     suites: &mut Option<PoolSuites<'_>>,
     archs: &Archs,
-    unstable: Unstable<'a>,
+    unstable: Unstable<'_, 'a>,
     group: &[Text],
     testing: &Draft<'a>,
 ) -> Result<Option<Offender>, NoMemory>
-    requires { IsLiveTesting suites.old archs.now unstable.sources.now unstable.rows.now testing.now.rows }
+    requires { IsLiveTesting suites.old archs.now unstable.sources.now (lent unstable.rows.now) testing.now.rows }
     ensures same { suites.new ≡ suites.old }
     ensures offender { IfOk result (λ o. o ≡ rules.offender_of archs.now testing.now.rows
-        (rules.move_group unstable.entry.sources.now unstable.entry.rows.now group.now testing.now).rows group.now) }
+        (rules.move_group unstable.entry.sources.now (lent unstable.entry.rows.now) group.now testing.now).rows group.now) }
 {
     match suites {
         Some(suites) => told_by_move(alloc, suites, archs, unstable, group, testing),
@@ -184,7 +183,7 @@ pub fn broken_by_removal(
     name: &str,
     testing: &Draft,
 ) -> Result<Option<Offender>, NoMemory>
-    requires { IsLiveTesting suites.old archs.now unstable.sources.now unstable.rows.now testing.now.rows }
+    requires { IsLiveTesting suites.old archs.now unstable.sources.now (lent unstable.rows.now) testing.now.rows }
     ensures same { suites.new ≡ suites.old }
     ensures offender { IfOk result (λ o. o ≡ rules.offender_of archs.now testing.now.rows (rules.remove_source name.now testing.now).rows []) }
 {
@@ -198,15 +197,15 @@ pub fn broken_by_removal(
 pub fn move_group<'a>(
     alloc: Global,
     suites: Option<PoolSuites<'a>>,
-    unstable: Unstable<'a>,
+    unstable: Unstable<'_, 'a>,
     group: &[Text],
     testing: &mut Draft<'a>,
 ) -> Result<Option<PoolSuites<'a>>, NoMemory>
-    requires { IsUnstableOrder unstable.sources.now unstable.rows.now }
-    ensures moved { OnOk result ((archs : List Word) → AreLive suites.entry archs unstable.entry.rows.now testing.old.rows
-        → testing.new ≡ rules.move_group unstable.entry.sources.now unstable.entry.rows.now group.now testing.old) }
-    ensures live { IfOk result (λ new. (archs : List Word) → AreLive suites.entry archs unstable.entry.rows.now testing.old.rows
-        → AreLive new archs unstable.entry.rows.now (rules.move_group unstable.entry.sources.now unstable.entry.rows.now group.now testing.old).rows) }
+    requires { IsUnstableOrder unstable.sources.now (lent unstable.rows.now) }
+    ensures moved { OnOk result ((archs : List Word) → AreLive suites.entry archs (lent unstable.entry.rows.now) testing.old.rows
+        → testing.new ≡ rules.move_group unstable.entry.sources.now (lent unstable.entry.rows.now) group.now testing.old) }
+    ensures live { IfOk result (λ new. (archs : List Word) → AreLive suites.entry archs (lent unstable.entry.rows.now) testing.old.rows
+        → AreLive new archs (lent unstable.entry.rows.now) (rules.move_group unstable.entry.sources.now (lent unstable.entry.rows.now) group.now testing.old).rows) }
 {
     match suites {
         Some(suites) => Ok(Some(move_by_suites(alloc, suites, unstable, group, testing)?)),

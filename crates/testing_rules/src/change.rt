@@ -4,6 +4,7 @@ ghost use Rattle.std.specs.Prelude.{◌≡◌, [], ◌++◌, ◌<◌, length, fi
 ghost use Rattle.std.specs.List.{All};
 ghost use Rattle.testing_rules.specs.Changes.{comes_at, stands_of, stands_for, gives_way_to, AreThose, IsMoveOf};
 ghost use Rattle.testing_rules.specs.FactOrder.{AreBySource};
+ghost use Rattle.testing_rules.specs.JudgedRows.{row_of};
 ghost use Rattle.testing_rules.specs.Moves.{group_sources};
 ghost use Rattle.testing_rules.specs.Tried.{IsWithin, IsRemovalOf};
 
@@ -12,7 +13,7 @@ use crate::moves::source_in;
 use crate::offender::is_same_key;
 use crate::pool::Pool;
 use crate::select::is_current;
-use crate::suite::RowIn;
+use crate::suite::LentRow;
 use deb_control::Text;
 use deb_version::NoMemory;
 use std::alloc::Global;
@@ -22,7 +23,7 @@ fn comes_at(pool: &Pool, first: usize, upload: &UploadIn, place: usize) -> bool
     requires { place < length pool.now }
     ensures { result ≡ comes_at pool.now first upload.now place }
 {
-    first <= place && is_current(upload, pool.row(place))
+    first <= place && is_current(upload, &pool.row(place))
 }
 
 /// The row at the place stands and names the source.
@@ -35,12 +36,12 @@ fn stands_of(pool: &Pool, stands: &[bool], name: &str, place: usize) -> bool
 }
 
 /// The row at the place stands and has the key of the other.
-fn stands_for(pool: &Pool, stands: &[bool], other: &RowIn, place: usize) -> bool
+fn stands_for(pool: &Pool, stands: &[bool], other: &LentRow, place: usize) -> bool
     requires places { place < length pool.now }
     requires flags { length stands.now ≡ length pool.now }
-    ensures { result ≡ stands_for pool.now stands.now other.now place }
+    ensures { result ≡ stands_for pool.now stands.now (row_of other.now) place }
 {
-    stands[place] && is_same_key(other, pool.row(place))
+    stands[place] && is_same_key(other, &pool.row(place))
 }
 
 /// Those of the places whose rows come for the upload.
@@ -127,12 +128,12 @@ fn push_giving_way(
     leaving: &mut Vec<usize>,
     pool: &Pool,
     stands: &[bool],
-    other: &RowIn,
+    other: &LentRow,
     places: &[usize],
 ) -> Result<(), NoMemory>
     requires places { All (λ k. k < length pool.now) places.now }
     requires flags { length stands.now ≡ length pool.now }
-    ensures { OnOk result (leaving.new.items ≡ leaving.old.items ++ filter (stands_for pool.now stands.now other.now) places.now) }
+    ensures { OnOk result (leaving.new.items ≡ leaving.old.items ++ filter (stands_for pool.now stands.now (row_of other.now)) places.now) }
 {
     for place in places {
         if stands_for(pool, stands, other, *place) {
@@ -157,7 +158,7 @@ fn giving_way(
     for place in coming {
         let row = pool.row(*place);
         let places = pool.of_name(row.binary.name.as_str());
-        push_giving_way(&mut leaving, pool, stands, row, places)?;
+        push_giving_way(&mut leaving, pool, stands, &row, places)?;
     }
     Ok(leaving)
 }

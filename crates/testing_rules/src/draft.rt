@@ -6,6 +6,7 @@ ghost use Rattle.std.specs.Str.{bytes_eq};
 ghost use Rattle.testing_rules.specs.Drafts.{rows_after, sources_after};
 ghost use Rattle.testing_rules.specs.Excuses as excuses;
 ghost use Rattle.testing_rules.specs.FactOrder.{AreBySource};
+ghost use Rattle.testing_rules.specs.JudgedRows.{lent};
 ghost use Rattle.testing_rules.specs.Moves as rules;
 
 use crate::boxed_sources::{
@@ -17,7 +18,7 @@ use crate::lent_rows::{
 };
 use crate::moves::Unstable;
 use crate::pool::Pool;
-use crate::suite::{RowIn, SourceIn, Testing};
+use crate::suite::{LentRow, SourceIn, Testing};
 use deb_control::Text;
 use deb_version::{NoMemory, Version};
 use std::alloc::Global;
@@ -28,7 +29,7 @@ use std::marker::Model;
 #[derive(Drop)]
 pub struct Draft<'a> {
     sources: Vec<Box<SourceIn>>,
-    rows: Vec<&'a RowIn>,
+    rows: Vec<LentRow<'a>>,
 }
 
 impl<'a> Model for Draft<'a> {
@@ -70,6 +71,13 @@ impl<'a> Draft<'a> {
         let sources = copy_boxed(alloc, &self.sources)?;
         let rows = copy_lent(alloc, &self.rows)?;
         Ok(Testing::of(sources, rows))
+    }
+
+    /// The rows by architecture and name.
+    pub fn rows(&self) -> &[LentRow<'a>]
+        ensures { lent result.now ≡ self.now.rows }
+    {
+        self.rows.as_slice()
     }
 
     /// The source's version.
@@ -122,11 +130,11 @@ impl<'a> Draft<'a> {
     pub fn move_group(
         &mut self,
         alloc: Global,
-        unstable: Unstable<'a>,
+        unstable: Unstable<'_, 'a>,
         group: &[Text],
     ) -> Result<(), NoMemory>
         requires { AreBySource unstable.sources.now }
-        ensures { OnOk result (self.new ≡ rules.move_group unstable.entry.sources.now unstable.entry.rows.now group.now self.old) }
+        ensures { OnOk result (self.new ≡ rules.move_group unstable.entry.sources.now (lent unstable.entry.rows.now) group.now self.old) }
     {
         let rows = moved_rows(alloc, &self.rows, unstable, group)?;
         self.rows = rows;

@@ -100,12 +100,17 @@ fn excuses_on(
 }
 
 /// What the facts give to each source.
-fn group_facts(alloc: Global, archs: &Archs, facts: &Facts, date: Date) -> Result<Grouped, NoMemory>
+fn group_facts<'a>(
+    alloc: Global,
+    archs: &Archs,
+    facts: &'a Facts,
+    date: Date,
+) -> Result<Grouped<'a>, NoMemory>
     ensures { IfOk result (λ g. (name : Text) → ground_at g name ≡ part_of (ground_from archs.now facts.now date) name) }
 {
     let rows = built_rows(alloc, archs, facts.rows())?;
     Ok(Grouped {
-        rows: rows_by_source(alloc, rows)?,
+        rows: rows_by_source(alloc, &rows)?,
         bugs: bugs_by_source(alloc, facts.bugs())?,
         hints: standing(alloc, facts.hints(), facts.unhints())?,
         uploads: uploads_by_source(alloc, facts.uploads())?,

@@ -158,7 +158,7 @@ fn moved_items(alloc: Global, sources: &[UploadIn], group: &[Text]) -> Result<Ve
     Ok(items)
 }
 
-impl<'a> Turns<'a> {
+impl<'u, 'a> Turns<'u, 'a> {
     /// A group moves as one, where nothing breaks.
     fn move_as_one(&mut self, alloc: Global, hint: u32, group: &[Text]) -> Result<(), NoMemory>
         ensures { OnOk result (self.new ≡ go_on self.old (λ b. rules.move_as_one b.archs b.sources b.rows hint group.now)) }

@@ -7,7 +7,7 @@ ghost use Rattle.std.specs.Str.{bytes_eq};
 ghost use Rattle.testing_rules.specs.Drafts.{without_key, without_keys, with_rows, rows_at};
 ghost use Rattle.testing_rules.specs.FactOrder.{AreBySource};
 ghost use Rattle.testing_rules.specs.InOrder.{AreByKey};
-ghost use Rattle.testing_rules.specs.JudgedRows.{lent};
+ghost use Rattle.testing_rules.specs.JudgedRows.{lent, row_of};
 ghost use Rattle.testing_rules.specs.Moves as rules;
 ghost use Rattle.testing_rules.specs.Unstable as unstable_words;
 
@@ -16,42 +16,50 @@ use crate::moves::{Unstable, source_in};
 use crate::offender::is_row_of;
 use crate::pool::Pool;
 use crate::select::is_current;
-use crate::suite::{RowIn, order_rows};
+use crate::suite::{LentRow, RowIn};
 use deb_control::Text;
 use deb_version::NoMemory;
 use std::alloc::Global;
 use std::cmp::Ordering;
 
+/// The order of rows, by architecture and name.
+fn order_rows(row: &LentRow, other: &LentRow) -> Ordering
+    ensures { result ≡ rules.row_cmp (rules.row_key (row_of row.now)) (rules.row_key (row_of other.now)) }
+{
+    let names = row.binary.name.as_str().cmp(other.binary.name.as_str());
+    row.arch.cmp(&other.arch).then(names)
+}
+
 /// Where the rows have the key of the row, or else where it belongs.
-fn place_of_key(rows: &[&RowIn], row: &RowIn) -> Result<usize, usize>
+fn place_of_key(rows: &[LentRow], row: &LentRow) -> Result<usize, usize>
     ensures bound { IsSearchInRange result (length (lent rows.now)) }
-    ensures found { IsBinarySearchResult (λ r. rules.row_cmp (rules.row_key r) (rules.row_key row.now)) (lent rows.now) result }
+    ensures found { IsBinarySearchResult (λ r. rules.row_cmp (rules.row_key r) (rules.row_key (row_of row.now))) (lent rows.now) result }
 {
     rows.binary_search_by(
-        |other: &&RowIn| -> Ordering
-            ensures { result ≡ rules.row_cmp (rules.row_key other.now.now) (rules.row_key row.entry.now) }
+        |other: &LentRow| -> Ordering
+            ensures { result ≡ rules.row_cmp (rules.row_key (row_of other.now)) (rules.row_key (row_of row.entry.now)) }
         { order_rows(other, row) },
     )
 }
 
 /// Puts a row under its key.
-fn put_row<'a>(rows: &mut Vec<&'a RowIn>, row: &'a RowIn) -> Result<(), NoMemory>
+fn put_row<'a>(rows: &mut Vec<LentRow<'a>>, row: &LentRow<'a>) -> Result<(), NoMemory>
     requires { AreByKey (lent rows.old.items) }
-    ensures ok { OnOk result (lent rows.new.items ≡ rules.put_row row.now (lent rows.old.items)) }
+    ensures ok { OnOk result (lent rows.new.items ≡ rules.put_row (row_of row.now) (lent rows.old.items)) }
     ensures err { OnErr result (rows.new.items ≡ rows.old.items) }
     ensures ordered { AreByKey (lent rows.new.items) }
 {
     match place_of_key(rows, row) {
-        Ok(place) => rows[place] = row,
-        Err(place) => rows.insert(place, row)?,
+        Ok(place) => rows[place] = *row,
+        Err(place) => rows.insert(place, *row)?,
     }
     Ok(())
 }
 
 /// Takes out the row of the key of the other.
-fn take_key(rows: &mut Vec<&RowIn>, other: &RowIn)
+fn take_key(rows: &mut Vec<LentRow>, other: &LentRow)
     requires { AreByKey (lent rows.old.items) }
-    ensures rows { lent rows.new.items ≡ without_key other.now (lent rows.old.items) }
+    ensures rows { lent rows.new.items ≡ without_key (row_of other.now) (lent rows.old.items) }
     ensures ordered { AreByKey (lent rows.new.items) }
 {
     if let Ok(place) = place_of_key(rows, other) {
@@ -61,7 +69,7 @@ fn take_key(rows: &mut Vec<&RowIn>, other: &RowIn)
 
 /// Puts in the rows of a pool at some places, each under its key.
 pub fn put_rows<'a>(
-    rows: &mut Vec<&'a RowIn>,
+    rows: &mut Vec<LentRow<'a>>,
     pool: &Pool<'a>,
     places: &[usize],
 ) -> Result<(), NoMemory>
@@ -72,13 +80,13 @@ pub fn put_rows<'a>(
 {
     for place in places {
         let row = pool.row(*place);
-        put_row(rows, row)?;
+        put_row(rows, &row)?;
     }
     Ok(())
 }
 
 /// Takes out the rows of the keys of those of a pool at some places.
-pub fn take_rows(rows: &mut Vec<&RowIn>, pool: &Pool, places: &[usize])
+pub fn take_rows(rows: &mut Vec<LentRow>, pool: &Pool, places: &[usize])
     requires order { AreByKey (lent rows.old.items) }
     requires places { All (λ k. k < length pool.now) places.now }
     ensures rows { lent rows.new.items ≡ without_keys (rows_at pool.now places.now) (lent rows.old.items) }
@@ -86,18 +94,18 @@ pub fn take_rows(rows: &mut Vec<&RowIn>, pool: &Pool, places: &[usize])
 {
     for place in places {
         let row = pool.row(*place);
-        take_key(rows, row);
+        take_key(rows, &row);
     }
 }
 
 /// Puts in the current rows of a source, each under its key.
 fn put_current<'a>(
-    rows: &mut Vec<&'a RowIn>,
-    built: &'a [RowIn],
+    rows: &mut Vec<LentRow<'a>>,
+    built: &[LentRow<'a>],
     upload: &UploadIn,
 ) -> Result<(), NoMemory>
     requires { AreByKey (lent rows.old.items) }
-    ensures ok { OnOk result (lent rows.new.items ≡ with_rows (filter (unstable_words.is_current upload.now) built.now) (lent rows.old.items)) }
+    ensures ok { OnOk result (lent rows.new.items ≡ with_rows (filter (unstable_words.is_current upload.now) (lent built.now)) (lent rows.old.items)) }
     ensures ordered { AreByKey (lent rows.new.items) }
 {
     for row in built {
@@ -111,9 +119,9 @@ fn put_current<'a>(
 /// The rows that name no source of the group.
 fn other_rows<'a>(
     alloc: Global,
-    rows: &[&'a RowIn],
+    rows: &[LentRow<'a>],
     group: &[Text],
-) -> Result<Vec<&'a RowIn>, NoMemory>
+) -> Result<Vec<LentRow<'a>>, NoMemory>
     ensures { IfOk result (λ kept. lent kept.items ≡ filter (λ r. not (rules.is_row_of group.now r)) (lent rows.now)) }
 {
     let mut kept = Vec::new(alloc);
@@ -128,13 +136,13 @@ fn other_rows<'a>(
 /// Testing's rows after a group has moved: the rows of its sources leave, and their current ones come in.
 pub fn moved_rows<'a>(
     alloc: Global,
-    rows: &[&'a RowIn],
-    unstable: Unstable<'a>,
+    rows: &[LentRow<'a>],
+    unstable: Unstable<'_, 'a>,
     group: &[Text],
-) -> Result<Vec<&'a RowIn>, NoMemory>
+) -> Result<Vec<LentRow<'a>>, NoMemory>
     requires sources { AreBySource unstable.sources.now }
     requires order { AreByKey (lent rows.now) }
-    ensures rows { IfOk result (λ moved. lent moved.items ≡ with_rows (flat_map (λ u. filter (unstable_words.is_current u) unstable.entry.rows.now) (rules.group_sources unstable.entry.sources.now group.now)) (filter (λ r. not (rules.is_row_of group.now r)) (lent rows.now))) }
+    ensures rows { IfOk result (λ moved. lent moved.items ≡ with_rows (flat_map (λ u. filter (unstable_words.is_current u) (lent unstable.entry.rows.now)) (rules.group_sources unstable.entry.sources.now group.now)) (filter (λ r. not (rules.is_row_of group.now r)) (lent rows.now))) }
     ensures ordered { IfOk result (λ moved. AreByKey (lent moved.items)) }
 {
     let mut moved = other_rows(alloc, rows, group)?;
@@ -149,9 +157,9 @@ pub fn moved_rows<'a>(
 /// The rows of other sources.
 pub fn rows_without<'a>(
     alloc: Global,
-    rows: &[&'a RowIn],
+    rows: &[LentRow<'a>],
     name: &str,
-) -> Result<Vec<&'a RowIn>, NoMemory>
+) -> Result<Vec<LentRow<'a>>, NoMemory>
     ensures { IfOk result (λ kept. lent kept.items ≡ filter (λ r. not (bytes_eq r.binary.source name.now)) (lent rows.now)) }
 {
     let mut kept = Vec::new(alloc);
@@ -164,18 +172,18 @@ pub fn rows_without<'a>(
 }
 
 /// The rows, lent.
-pub fn loans_of<'a>(alloc: Global, rows: &'a [RowIn]) -> Result<Vec<&'a RowIn>, NoMemory>
+pub fn loans_of<'a>(alloc: Global, rows: &'a [RowIn]) -> Result<Vec<LentRow<'a>>, NoMemory>
     ensures { IfOk result (λ loans. lent loans.items ≡ rows.now) }
 {
     let mut loans = Vec::new(alloc);
     for row in rows {
-        loans.push(row)?;
+        loans.push(row.lend())?;
     }
     Ok(loans)
 }
 
 /// The same rows, lent once more.
-pub fn copy_loans<'a>(alloc: Global, rows: &[&'a RowIn]) -> Result<Vec<&'a RowIn>, NoMemory>
+pub fn copy_loans<'a>(alloc: Global, rows: &[LentRow<'a>]) -> Result<Vec<LentRow<'a>>, NoMemory>
     ensures { IfOk result (λ loans. lent loans.items ≡ lent rows.now) }
 {
     let mut loans = Vec::new(alloc);
@@ -186,7 +194,7 @@ pub fn copy_loans<'a>(alloc: Global, rows: &[&'a RowIn]) -> Result<Vec<&'a RowIn
 }
 
 /// Equal rows.
-pub fn copy_lent(alloc: Global, rows: &[&RowIn]) -> Result<Vec<RowIn>, NoMemory>
+pub fn copy_lent(alloc: Global, rows: &[LentRow]) -> Result<Vec<RowIn>, NoMemory>
     ensures { IfOk result (λ copies. copies.items ≡ lent rows.now) }
 {
     let mut copies = Vec::new(alloc);

@@ -1,6 +1,7 @@
 //! The promotion rules: which sources may move from unstable to testing, and how they move.
 #![tactic(auto)]
 
+mod arch_suite;
 mod archs;
 mod boxed_sources;
 mod breaking;

@@ -4,6 +4,7 @@ ghost use Rattle.std.specs.Prelude.{◌≡◌, IfOk, OnOk, option_copied};
 ghost use Rattle.testing_rules.specs.Excuses as excuses;
 ghost use Rattle.testing_rules.specs.FactOrder.{AreBySource};
 ghost use Rattle.testing_rules.specs.InOrder.{AreByKey};
+ghost use Rattle.testing_rules.specs.JudgedRows.{lent};
 ghost use Rattle.testing_rules.specs.Runs.{after_move, broken_by_move, after_removal, broken_by_removal};
 
 use crate::archs::Archs;
@@ -24,39 +25,40 @@ use std::marker::Model;
 /// A change is first judged, and testing stays; then it is made. The suites judge it by what it touches; there are none
 /// after an error, that is where memory ran out while a change was made.
 #[derive(Drop)]
-pub struct LiveTesting<'a> {
-    archs: &'a Archs,
-    unstable: Unstable<'a>,
+pub struct LiveTesting<'u, 'a> {
+    archs: &'u Archs,
+    unstable: Unstable<'u, 'a>,
     testing: Draft<'a>,
     suites: Option<PoolSuites<'a>>,
 }
 
-impl<'a> Model for LiveTesting<'a> {
+impl<'u, 'a> Model for LiveTesting<'u, 'a> {
+    ghost use Rattle.testing_rules.specs.JudgedRows.{lent};
     ghost use Rattle.testing_rules.specs.Runs.{Moment};
     ghost use Rattle.testing_rules.specs.Standing.{IsLiveTesting};
 
     ghost Value = { Moment };
 
     ghost view = { λ a. record {
-      basis = record { archs = a.archs.now; sources = a.unstable.sources.now; rows = a.unstable.rows.now };
+      basis = record { archs = a.archs.now; sources = a.unstable.sources.now; rows = lent a.unstable.rows.now };
       suite = a.testing;
     } };
 
-    ghost invariant = { λ a. IsLiveTesting a.suites a.archs.now a.unstable.sources.now a.unstable.rows.now a.testing.rows };
+    ghost invariant = { λ a. IsLiveTesting a.suites a.archs.now a.unstable.sources.now (lent a.unstable.rows.now) a.testing.rows };
 }
 
-impl<'a> LiveTesting<'a> {
+impl<'u, 'a> LiveTesting<'u, 'a> {
     /// Testing as it is before the run.
     pub fn new(
         alloc: Global,
-        archs: &'a Archs,
-        unstable: Unstable<'a>,
+        archs: &'u Archs,
+        unstable: Unstable<'u, 'a>,
         testing: &'a Testing,
-    ) -> Result<LiveTesting<'a>, NoMemory>
+    ) -> Result<LiveTesting<'u, 'a>, NoMemory>
         requires sources { AreBySource unstable.sources.now }
-        requires rows { AreByKey unstable.rows.now }
+        requires rows { AreByKey (lent unstable.rows.now) }
         ensures { IfOk result (λ live. live ≡ record {
-          basis = record { archs = archs.now; sources = unstable.entry.sources.now; rows = unstable.entry.rows.now };
+          basis = record { archs = archs.now; sources = unstable.entry.sources.now; rows = lent unstable.entry.rows.now };
           suite = testing.now;
         }) }
     {
@@ -77,7 +79,7 @@ impl<'a> LiveTesting<'a> {
     }
 
     /// Unstable's sources.
-    pub fn unstable_sources(&self) -> &'a [UploadIn]
+    pub fn unstable_sources(&self) -> &'u [UploadIn]
         ensures sources { result.now ≡ self.now.basis.sources }
         ensures ordered { AreBySource result.now }
     {

@@ -22,12 +22,12 @@ use jiff::civil::Date;
 use std::alloc::Global;
 
 /// The decisions of a run over unstable, and the testing that they leave.
-fn all_turns(
+fn all_turns<'a>(
     alloc: Global,
     archs: &Archs,
-    facts: &Facts,
+    facts: &'a Facts,
     excuses: &[Excuse],
-    testing: &Testing,
+    testing: &'a Testing,
 ) -> Result<(Vec<Decision>, Testing), NoMemory>
     ensures { IfOk result (λ o. record { decisions = o.0.items; suite = o.1 } ≡ update_by archs.now facts.now.sources (unstable_words.built_rows archs.now facts.now.rows) facts.now.hints facts.now.unhints excuses.now testing.now) }
 {

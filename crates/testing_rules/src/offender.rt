@@ -3,13 +3,13 @@
 ghost use Rattle.std.specs.Prelude.{◌≡◌, IfOk, IsTrue, ◌==◌, length, map, option_map, Contains};
 ghost use Rattle.testing_rules.specs.Moves as moves;
 ghost use Rattle.testing_rules.specs.Moves.{Judged as Answer, judged_on};
-ghost use Rattle.testing_rules.specs.JudgedRows.{answers, lent};
+ghost use Rattle.testing_rules.specs.JudgedRows.{answers, lent, row_of};
 ghost use Rattle.testing_rules.specs.Words.{text_cmp, first_of_two};
 ghost use Rattle.testing_install.specs.Rows.{binaries};
 ghost use Rattle.std.specs.Option.{option_copied};
 
 use crate::archs::{ALL, Archs};
-use crate::suite::RowIn;
+use crate::suite::LentRow;
 use crate::update::Offender;
 use deb_control::Text;
 use deb_version::NoMemory;
@@ -17,8 +17,8 @@ use std::alloc::{AllocError, Global};
 use testing_install::{Row, installable};
 
 /// The row names a source of the group.
-pub fn is_row_of(group: &[Text], row: &RowIn) -> bool
-    ensures { result ≡ moves.is_row_of group.now row.now }
+pub fn is_row_of(group: &[Text], row: &LentRow) -> bool
+    ensures { result ≡ moves.is_row_of group.now (row_of row.now) }
 {
     group
         .iter()
@@ -26,21 +26,21 @@ pub fn is_row_of(group: &[Text], row: &RowIn) -> bool
 }
 
 /// The row is the architecture's own, or one of `all`.
-pub fn is_row_on(arch: u32, row: &RowIn) -> bool
-    ensures { result ≡ moves.is_row_on arch row.now }
+pub fn is_row_on(arch: u32, row: &LentRow) -> bool
+    ensures { result ≡ moves.is_row_on arch (row_of row.now) }
 {
     row.arch == arch || row.arch == ALL
 }
 
 /// The row is watched on the architecture.
-pub fn is_watched_on(arch: u32, row: &RowIn) -> bool
-    ensures { result ≡ moves.is_watched_on arch row.now }
+pub fn is_watched_on(arch: u32, row: &LentRow) -> bool
+    ensures { result ≡ moves.is_watched_on arch (row_of row.now) }
 {
     row.arch == arch || (row.arch == ALL && arch == 0)
 }
 
-pub fn is_same_key(row: &RowIn, other: &RowIn) -> bool
-    ensures { result ≡ moves.is_same_key row.now other.now }
+pub fn is_same_key(row: &LentRow, other: &LentRow) -> bool
+    ensures { result ≡ moves.is_same_key (row_of row.now) (row_of other.now) }
 {
     row.arch == other.arch && row.binary.name.as_str() == other.binary.name.as_str()
 }
@@ -48,16 +48,16 @@ pub fn is_same_key(row: &RowIn, other: &RowIn) -> bool
 /// A row on an architecture, and whether it is installable there.
 #[derive(Clone, Copy)]
 pub struct Judged<'a> {
-    pub row: &'a RowIn,
+    pub row: LentRow<'a>,
     pub is_installable: bool,
 }
 
 /// The row of this architecture and name was installable.
-fn was_installable(before: &[Judged], row: &RowIn) -> bool
-    ensures { result ≡ moves.was_installable (answers before.now) row.now }
+fn was_installable(before: &[Judged], row: &LentRow) -> bool
+    ensures { result ≡ moves.was_installable (answers before.now) (row_of row.now) }
 {
     for judged in before {
-        if judged.is_installable && is_same_key(judged.row, row) {
+        if judged.is_installable && is_same_key(&judged.row, row) {
             return true;
         }
     }
@@ -66,11 +66,11 @@ fn was_installable(before: &[Judged], row: &RowIn) -> bool
 
 /// The row fails: it isn't installable, though it came in with the group or was installable before.
 fn fails_on(arch: u32, group: &[Text], before: &[Judged], judged: Judged) -> bool
-    ensures { result ≡ moves.fails_on arch group.now (answers before.now) (record { row = judged.entry.row.now; is_installable = judged.entry.is_installable }) }
+    ensures { result ≡ moves.fails_on arch group.now (answers before.now) (record { row = row_of judged.entry.row; is_installable = judged.entry.is_installable }) }
 {
-    is_watched_on(arch, judged.row)
+    is_watched_on(arch, &judged.row)
         && !judged.is_installable
-        && (is_row_of(group, judged.row) || was_installable(before, judged.row))
+        && (is_row_of(group, &judged.row) || was_installable(before, &judged.row))
 }
 
 /// The first of two names in byte order, the old one where they are equal.
@@ -102,27 +102,29 @@ fn first_failing<'a>(
 }
 
 /// The rows on an architecture.
-fn rows_on(alloc: Global, arch: u32, rows: &[RowIn]) -> Result<Vec<&RowIn>, AllocError>
-    ensures { IfOk result (λ there. lent there.items ≡ moves.rows_on arch rows.now) }
+fn rows_on<'a>(
+    alloc: Global,
+    arch: u32,
+    rows: &[LentRow<'a>],
+) -> Result<Vec<LentRow<'a>>, AllocError>
+    ensures { IfOk result (λ there. lent there.items ≡ moves.rows_on arch (lent rows.now)) }
 {
     let mut there = Vec::new(alloc);
     for row in rows {
         if is_row_on(arch, row) {
-            there.push(row)?;
+            there.push(*row)?;
         }
     }
     Ok(there)
 }
 
 /// Their packages.
-pub fn packages<'a>(alloc: Global, rows: &[&'a RowIn]) -> Result<Vec<Row<'a>>, AllocError>
+fn packages<'a>(alloc: Global, rows: &[LentRow<'a>]) -> Result<Vec<Row<'a>>, AllocError>
     ensures { IfOk result (λ packages. binaries packages.items ≡ map (λ r. r.binary) (lent rows.now)) }
 {
     let mut packages = Vec::new(alloc);
     for row in rows {
-        packages.push(Row {
-            binary: &row.binary,
-        })?;
+        packages.push(Row { binary: row.binary })?;
     }
     Ok(packages)
 }
@@ -130,7 +132,7 @@ pub fn packages<'a>(alloc: Global, rows: &[&'a RowIn]) -> Result<Vec<Row<'a>>, A
 /// Each row with its answer.
 fn with_answers<'a>(
     alloc: Global,
-    rows: &[&'a RowIn],
+    rows: &[LentRow<'a>],
     marks: &[bool],
 ) -> Result<Vec<Judged<'a>>, AllocError>
     ensures { IfOk result (λ judged. answers judged.items ≡ moves.with_answers (lent rows.now) marks.now) }
@@ -146,8 +148,8 @@ fn with_answers<'a>(
 }
 
 /// Each row on the architecture, and whether it is installable there.
-fn judge(alloc: Global, arch: u32, rows: &[RowIn]) -> Result<Vec<Judged<'_>>, NoMemory>
-    ensures { IfOk result (λ judged. answers judged.items ≡ judged_on arch rows.now) }
+fn judge<'a>(alloc: Global, arch: u32, rows: &[LentRow<'a>]) -> Result<Vec<Judged<'a>>, NoMemory>
+    ensures { IfOk result (λ judged. answers judged.items ≡ judged_on arch (lent rows.now)) }
 {
     let there = rows_on(alloc, arch, rows)?;
     let packages = packages(alloc, &there)?;
@@ -159,11 +161,11 @@ fn judge(alloc: Global, arch: u32, rows: &[RowIn]) -> Result<Vec<Judged<'_>>, No
 pub fn offender_of(
     alloc: Global,
     archs: &Archs,
-    old: &[RowIn],
-    new: &[RowIn],
+    old: &[LentRow],
+    new: &[LentRow],
     group: &[Text],
 ) -> Result<Option<Offender>, NoMemory>
-    ensures { IfOk result (λ o. o ≡ moves.offender_of archs.now old.now new.now group.now) }
+    ensures { IfOk result (λ o. o ≡ moves.offender_of archs.now (lent old.now) (lent new.now) group.now) }
 {
     for arch in 0..archs.len() {
         let before = judge(alloc, arch, old)?;

@@ -5,10 +5,10 @@ ghost use Rattle.std.specs.List.{All, slice_get};
 ghost use Rattle.std.specs.Str.{bytes_eq};
 ghost use Rattle.testing_install.specs.Index.{places_at};
 ghost use Rattle.testing_rules.specs.declared.suite.RowIn.{RowIn as ARow};
-ghost use Rattle.testing_rules.specs.JudgedRows.{lent};
+ghost use Rattle.testing_rules.specs.JudgedRows.{lent, row_of};
 ghost use Rattle.testing_rules.specs.Pools.{lent_texts, sources_of, names_of, IsTextIndex};
 
-use crate::suite::RowIn;
+use crate::suite::{LentRow, RowIn};
 use deb_version::NoMemory;
 use std::alloc::Global;
 use std::collections::BTreeMap;
@@ -17,7 +17,7 @@ use std::marker::Model;
 /// The rows, and their places by the source that they name and by the package's name.
 #[derive(Drop)]
 pub struct Pool<'a> {
-    rows: Vec<&'a RowIn>,
+    rows: Vec<LentRow<'a>>,
     by_source: BTreeMap<&'a str, Vec<usize>>,
     by_name: BTreeMap<&'a str, Vec<usize>>,
 }
@@ -70,7 +70,7 @@ fn places<'p>(index: &'p BTreeMap<&str, Vec<usize>>, text: &str) -> &'p [usize]
 }
 
 /// The sources that the rows name.
-fn sources_of<'a>(alloc: Global, rows: &[&'a RowIn]) -> Result<Vec<&'a str>, NoMemory>
+fn sources_of<'a>(alloc: Global, rows: &[LentRow<'a>]) -> Result<Vec<&'a str>, NoMemory>
     ensures { IfOk result (λ texts. lent_texts texts.items ≡ sources_of (lent rows.now)) }
 {
     let mut texts = Vec::new(alloc);
@@ -81,7 +81,7 @@ fn sources_of<'a>(alloc: Global, rows: &[&'a RowIn]) -> Result<Vec<&'a str>, NoM
 }
 
 /// The names of the rows' packages.
-fn names_of<'a>(alloc: Global, rows: &[&'a RowIn]) -> Result<Vec<&'a str>, NoMemory>
+fn names_of<'a>(alloc: Global, rows: &[LentRow<'a>]) -> Result<Vec<&'a str>, NoMemory>
     ensures { IfOk result (λ texts. lent_texts texts.items ≡ names_of (lent rows.now)) }
 {
     let mut texts = Vec::new(alloc);
@@ -91,12 +91,22 @@ fn names_of<'a>(alloc: Global, rows: &[&'a RowIn]) -> Result<Vec<&'a str>, NoMem
     Ok(texts)
 }
 
-/// Rows behind others.
-fn push_rows<'a>(pool: &mut Vec<&'a RowIn>, rows: &'a [RowIn]) -> Result<(), NoMemory>
+/// Rows behind others, lent.
+fn push_rows<'a>(pool: &mut Vec<LentRow<'a>>, rows: &'a [RowIn]) -> Result<(), NoMemory>
     ensures { OnOk result (lent pool.new.items ≡ lent pool.old.items ++ rows.now) }
 {
     for row in rows {
-        pool.push(row)?;
+        pool.push(row.lend())?;
+    }
+    Ok(())
+}
+
+/// Rows that are lent already behind others.
+fn push_lent<'a>(pool: &mut Vec<LentRow<'a>>, rows: &[LentRow<'a>]) -> Result<(), NoMemory>
+    ensures { OnOk result (lent pool.new.items ≡ lent pool.old.items ++ lent rows.now) }
+{
+    for row in rows {
+        pool.push(*row)?;
     }
     Ok(())
 }
@@ -106,13 +116,13 @@ impl<'a> Pool<'a> {
     pub fn new(
         alloc: Global,
         testing: &'a [RowIn],
-        unstable: &'a [RowIn],
+        unstable: &[LentRow<'a>],
     ) -> Result<Pool<'a>, NoMemory>
-        ensures { IfOk result (λ pool. pool ≡ testing.now ++ unstable.now) }
+        ensures { IfOk result (λ pool. pool ≡ testing.now ++ lent unstable.now) }
     {
         let mut rows = Vec::new(alloc);
         push_rows(&mut rows, testing)?;
-        push_rows(&mut rows, unstable)?;
+        push_lent(&mut rows, unstable)?;
         let by_source = index_of(alloc, &sources_of(alloc, &rows)?)?;
         let by_name = index_of(alloc, &names_of(alloc, &rows)?)?;
         Ok(Pool {
@@ -120,13 +130,6 @@ impl<'a> Pool<'a> {
             by_source,
             by_name,
         })
-    }
-
-    /// The rows.
-    pub fn rows(&self) -> &[&'a RowIn]
-        ensures { lent result.now ≡ self.now }
-    {
-        self.rows.as_slice()
     }
 
     /// How many rows there are.
@@ -137,9 +140,9 @@ impl<'a> Pool<'a> {
     }
 
     /// The row at the place.
-    pub fn row(&self, place: usize) -> &'a RowIn
+    pub fn row(&self, place: usize) -> LentRow<'a>
         requires { place < length self.now }
-        ensures { slice_get self.now place ≡ Some result.now }
+        ensures { slice_get self.now place ≡ Some (row_of result) }
     {
         self.rows[place]
     }

@@ -1,11 +1,12 @@
 //! What keeps a source out.
 
-ghost use Rattle.std.specs.Prelude.{◌≡◌, ◌&&◌, ◌++◌, OnOk, IfOk, filter, option_copied, length, map};
+ghost use Rattle.std.specs.Prelude.{◌≡◌, ◌==◌, ◌&&◌, ◌++◌, OnOk, IfOk, filter, option_copied, length, map};
 ghost use Rattle.testing_rules.specs.Unstable as unstable;
 ghost use Rattle.testing_rules.specs.Unstable.{place_numbers};
 ghost use Rattle.std.specs.List.{list_any};
 ghost use Rattle.std.specs.Str.{bytes_eq};
 ghost use Rattle.testing_rules.specs.Excuses as rules;
+ghost use Rattle.testing_rules.specs.JudgedRows.{row_of, lent};
 ghost use Rattle.testing_rules.specs.Words.{only_if};
 ghost use Rattle.testing_rules.specs.declared.excuse.Reason.TheVariants.{TooYoung, NewBug, NoBinaries, MissingOn, Blocked, RemovalAsked};
 
@@ -14,7 +15,7 @@ use crate::excuse::{Reason, Reasons};
 use crate::facts::{BugIn, HintIn, UploadIn};
 use crate::item::{Hint, HintItem, Severity};
 use crate::select::{is_above, is_current, is_of_source, is_same_version};
-use crate::suite::RowIn;
+use crate::suite::LentRow;
 use deb_control::Text;
 use deb_version::{NoMemory, Version};
 use std::alloc::{AllocError, Global};
@@ -134,32 +135,55 @@ fn is_new_bug(testing: Option<&Version>, upload: &UploadIn, bug: &BugIn) -> bool
         }
 }
 
-/// The source has a row of the architecture.
-fn has_row_on(rows: &[RowIn], upload: &UploadIn, arch: u32) -> bool
-    ensures { result ≡ rules.has_row_on rows.now upload.now arch }
+/// One of the rows is of the architecture and names the source.
+fn one_on(rows: &[LentRow], upload: &UploadIn, arch: u32) -> bool
+    ensures { result ≡ list_any (λ r. (r.arch == arch) && unstable.is_of_source upload.now (row_of r)) rows.now }
 {
     rows.iter()
         .any(|row| row.arch == arch && is_of_source(upload, row))
 }
 
-fn has_current_on(rows: &[RowIn], upload: &UploadIn, arch: u32) -> bool
-    ensures { result ≡ rules.has_current_on rows.now upload.now arch }
+/// One of the rows is of the architecture and current.
+fn one_current_on(rows: &[LentRow], upload: &UploadIn, arch: u32) -> bool
+    ensures { result ≡ list_any (λ r. (r.arch == arch) && unstable.is_current upload.now (row_of r)) rows.now }
 {
     rows.iter()
         .any(|row| row.arch == arch && is_current(upload, row))
 }
 
+/// One of the rows is current.
+fn one_current(rows: &[LentRow], upload: &UploadIn) -> bool
+    ensures { result ≡ list_any (λ r. unstable.is_current upload.now (row_of r)) rows.now }
+{
+    rows.iter().any(|row| is_current(upload, row))
+}
+
+/// The source has a row of the architecture.
+fn has_row_on(rows: &[LentRow], upload: &UploadIn, arch: u32) -> bool
+    ensures { result ≡ rules.has_row_on (lent rows.now) upload.now arch }
+{
+    one_on(rows, upload, arch)
+}
+
+/// The source has a current row of the architecture.
+fn has_current_on(rows: &[LentRow], upload: &UploadIn, arch: u32) -> bool
+    ensures { result ≡ rules.has_current_on (lent rows.now) upload.now arch }
+{
+    one_current_on(rows, upload, arch)
+}
+
 /// The source has rows of the architecture, and none of them is current.
-fn is_missing_on(rows: &[RowIn], upload: &UploadIn, arch: u32) -> bool
-    ensures { result ≡ rules.is_missing_on rows.now upload.now arch }
+fn is_missing_on(rows: &[LentRow], upload: &UploadIn, arch: u32) -> bool
+    ensures { result ≡ rules.is_missing_on (lent rows.now) upload.now arch }
 {
     has_row_on(rows, upload, arch) && !has_current_on(rows, upload, arch)
 }
 
-fn has_current(rows: &[RowIn], upload: &UploadIn) -> bool
-    ensures { result ≡ rules.has_current rows.now upload.now }
+/// Some row of the source is current.
+fn has_current(rows: &[LentRow], upload: &UploadIn) -> bool
+    ensures { result ≡ rules.has_current (lent rows.now) upload.now }
 {
-    rows.iter().any(|row| is_current(upload, row))
+    one_current(rows, upload)
 }
 
 fn push_if(reasons: &mut Vec<Reason>, holds: bool, reason: Reason) -> Result<(), AllocError>
@@ -191,10 +215,10 @@ fn push_bugs(
 fn push_missing(
     reasons: &mut Vec<Reason>,
     archs: &Archs,
-    rows: &[RowIn],
+    rows: &[LentRow],
     upload: &UploadIn,
 ) -> Result<(), AllocError>
-    ensures { OnOk result (reasons.new.items ≡ reasons.old.items ++ map (λ a. MissingOn a) (filter (rules.is_missing_on rows.now upload.now) (place_numbers archs.now))) }
+    ensures { OnOk result (reasons.new.items ≡ reasons.old.items ++ map (λ a. MissingOn a) (filter (rules.is_missing_on (lent rows.now) upload.now) (place_numbers archs.now))) }
 {
     for arch in 0..archs.len() {
         push_if(
@@ -212,11 +236,11 @@ fn push_missing(
 
 /// What a run knows of one source beside its unstable upload.
 #[derive(Clone, Copy)]
-pub struct Known<'a> {
-    pub rows: &'a [RowIn],
-    pub bugs: &'a [BugIn],
-    pub hints: &'a [HintIn],
-    pub testing: Option<&'a Version>,
+pub struct Known<'g, 'a> {
+    pub rows: &'g [LentRow<'a>],
+    pub bugs: &'g [BugIn],
+    pub hints: &'g [HintIn],
+    pub testing: Option<&'g Version>,
 }
 
 /// What keeps an unstable source out.
@@ -227,7 +251,7 @@ pub fn reasons_of(
     is_young: bool,
     upload: &UploadIn,
 ) -> Result<Reasons, NoMemory>
-    ensures { IfOk result (λ r. r ≡ rules.reasons_of (place_numbers archs.now) known.now.rows.now known.now.bugs.now known.now.hints.now (option_copied known.now.testing) is_young upload.now) }
+    ensures { IfOk result (λ r. r ≡ rules.reasons_of (place_numbers archs.now) (lent known.now.rows.now) known.now.bugs.now known.now.hints.now (option_copied known.now.testing) is_young upload.now) }
 {
     let mut reasons = Vec::new(alloc);
     push_if(&mut reasons, is_young, Reason::TooYoung)?;

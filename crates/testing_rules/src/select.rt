@@ -1,11 +1,12 @@
 //! Which upload, and which rows, count.
 
 ghost use Rattle.std.specs.Prelude.{◌≡◌};
+ghost use Rattle.testing_rules.specs.JudgedRows.{row_of};
 ghost use Rattle.testing_rules.specs.Words as words;
 ghost use Rattle.testing_rules.specs.Unstable as unstable;
 
 use crate::facts::{BugIn, BuildIn, DelaysIn, DropIn, HintIn, UnhintIn, UploadIn};
-use crate::suite::RowIn;
+use crate::suite::LentRow;
 use deb_version::Version;
 use std::cmp::Ordering;
 
@@ -88,15 +89,15 @@ pub fn unhint_order(unhint: &UnhintIn, other: &UnhintIn) -> Ordering
 }
 
 /// The row names the source of the upload.
-pub fn is_of_source(upload: &UploadIn, row: &RowIn) -> bool
-    ensures { result ≡ unstable.is_of_source upload.now row.now }
+pub fn is_of_source(upload: &UploadIn, row: &LentRow) -> bool
+    ensures { result ≡ unstable.is_of_source upload.now (row_of row.now) }
 {
     row.binary.source.as_str() == upload.source.as_str()
 }
 
 /// The row names the source of the upload, and was built from its version.
-pub fn is_current(upload: &UploadIn, row: &RowIn) -> bool
-    ensures { result ≡ unstable.is_current upload.now row.now }
+pub fn is_current(upload: &UploadIn, row: &LentRow) -> bool
+    ensures { result ≡ unstable.is_current upload.now (row_of row.now) }
 {
     is_of_source(upload, row) && is_same_version(&row.binary.source_version, &upload.version)
 }

@@ -73,7 +73,7 @@ fn waiting(alloc: Global, excuse: &Excuse, offender: Offender) -> Result<Decisio
     })
 }
 
-impl<'a> Turns<'a> {
+impl<'u, 'a> Turns<'u, 'a> {
     /// Moves the candidate, where that breaks nothing, and says whether it moved.
     fn move_alone(&mut self, alloc: Global, excuse: &Excuse) -> Result<bool, NoMemory>
         ensures moved { result ≡ Ok true → rules.is_allowed_alone self.old.basis.archs self.old.basis.sources self.old.basis.rows self.old.outcome.suite excuse.now ≡ true }

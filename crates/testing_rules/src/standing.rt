@@ -1,30 +1,30 @@
 //! Which rows of a pool stand in testing during a run, and the suite of each architecture.
 
-ghost use Rattle.std.specs.Prelude.{◌≡◌, ℕ, ◌++◌, ◌<◌, true, false, Bool, nat_lt, length, map, replicate, Contains, [], IfOk, OnOk, option_copied, Some, List, Option};
+ghost use Rattle.std.specs.Prelude.{◌≡◌, ℕ, ◌++◌, ◌<◌, true, false, Bool, nat_lt, length, replicate, [], IfOk, option_copied, Some, List, Option};
 ghost use Rattle.std.specs.List.{All, slice_get, range_with_len};
 ghost use Rattle.testing_install.specs.Among.{with_all, after_change};
 ghost use Rattle.testing_install.specs.Closed.{marked};
-ghost use Rattle.testing_install.specs.Rows.{binaries};
-ghost use Rattle.testing_install.specs.Suite.{Standing};
 ghost use Rattle.testing_rules.specs.Changes.{has, IsMoveOf};
 ghost use Rattle.testing_rules.specs.FactOrder.{AreBySource};
-ghost use Rattle.testing_rules.specs.Standing.{IsOver, IsSuiteOn, AreOver, AreSuites};
+ghost use Rattle.testing_rules.specs.JudgedRows.{lent};
+ghost use Rattle.testing_rules.specs.Parts.{Part};
+ghost use Rattle.testing_rules.specs.Standing.{IsOn, IsSuiteOn, AreOver, AreSuites};
 ghost use Rattle.testing_rules.specs.Tried.{first_told, Tells, IsWithin, IsRemovalOf};
 ghost use Rattle.testing_rules.specs.Trials.{IsFirstLost};
 ghost use Rattle.testing_rules.specs.Words.{Text as Word};
+ghost use Rattle.testing_rules.specs.declared.suite.RowIn.{RowIn as ARow};
 
+use crate::arch_suite::ArchSuite;
 use crate::change::{Change, change_by_move, change_by_removal};
 use crate::facts::UploadIn;
-use crate::offender::packages;
 use crate::pool::Pool;
-use crate::suite::RowIn;
-use crate::trial::{first_lost, places_on};
+use crate::suite::{LentRow, RowIn};
+use crate::trial::first_lost;
 use crate::update::Offender;
 use deb_control::Text;
 use deb_version::NoMemory;
 use std::alloc::Global;
 use std::marker::Model;
-use testing_install::Suite;
 
 /// Sets the flags at the places.
 fn set_flags(flags: &mut Vec<bool>, places: &[usize], flag: bool)
@@ -60,14 +60,18 @@ fn first_places(alloc: Global, count: usize) -> Result<Vec<usize>, NoMemory>
     Ok(places)
 }
 
-/// A suite over the pool's rows for each architecture, with no row there yet.
-fn empty_suites<'a>(alloc: Global, archs: u32, pool: &Pool<'a>) -> Result<Vec<Suite<'a>>, NoMemory>
-    ensures { IfOk result (λ suites. suites.items ≡ replicate archs (record { rows = map (λ r. r.binary) pool.now; there = replicate (length pool.now) false })) }
+/// The suite of each architecture over the pool's rows on it, with no row there yet.
+fn empty_suites<'a>(
+    alloc: Global,
+    archs: u32,
+    pool: &Pool<'a>,
+) -> Result<Vec<ArchSuite<'a>>, NoMemory>
+    ensures count { IfOk result (λ suites. length suites.items ≡ archs) }
+    ensures each { IfOk result (λ suites. AreSuites pool.now (replicate (length pool.now) false) suites.items) }
 {
     let mut suites = Vec::new(alloc);
-    for _ in 0..archs {
-        let rows = packages(alloc, pool.rows())?;
-        suites.push(Suite::new(alloc, rows)?)?;
+    for arch in 0..archs {
+        suites.push(ArchSuite::new(alloc, arch, pool)?)?;
     }
     Ok(suites)
 }
@@ -77,15 +81,15 @@ fn lost_on<'a>(
     alloc: Global,
     arch: u32,
     pool: &Pool<'a>,
-    suites: &mut Vec<Suite<'_>>,
+    suites: &mut Vec<ArchSuite<'_>>,
     change: &Change,
 ) -> Result<Option<&'a str>, NoMemory>
     requires arch { arch < length suites.old.items }
     requires over { AreOver pool.now suites.old.items }
-    requires within { IsWithin pool.now change.now.leaving.items change.now.coming.items }
     ensures same { suites.new.items ≡ suites.old.items }
-    ensures first { IfOk result (λ name. (suite : Standing) → slice_get suites.old.items arch ≡ Some suite
-        → IsFirstLost arch pool.now suite.there change.now.leaving.items change.now.coming.items (option_copied name)) }
+    ensures first { IfOk result (λ name. (suite : Part) → slice_get suites.old.items arch ≡ Some suite
+        → (stands there : List Bool) → IsSuiteOn arch pool.now stands suite → length there ≡ length pool.now → IsOn arch pool.now (marked stands) (marked there)
+        → IsFirstLost arch pool.now there change.now.leaving.items change.now.coming.items (option_copied name)) }
 {
     let suite = &mut suites[arch as usize];
     first_lost(alloc, arch, pool, suite, change)
@@ -96,12 +100,11 @@ fn lost_anywhere(
     alloc: Global,
     archs: u32,
     pool: &Pool,
-    suites: &mut Vec<Suite<'_>>,
+    suites: &mut Vec<ArchSuite<'_>>,
     change: &Change,
 ) -> Result<Option<Offender>, NoMemory>
     requires archs { archs ≡ length suites.old.items }
     requires over { AreOver pool.now suites.old.items }
-    requires within { IsWithin pool.now change.now.leaving.items change.now.coming.items }
     ensures same { suites.new.items ≡ suites.old.items }
     ensures first { IfOk result (λ o. (stands : List Bool) (tells : ℕ → Option Word) → AreSuites pool.now stands suites.old.items
         → Tells pool.now stands change.now.leaving.items change.now.coming.items tells → o ≡ first_told archs tells) }
@@ -115,45 +118,24 @@ fn lost_anywhere(
     Ok(None)
 }
 
-/// Makes the change on one architecture.
-fn change_on(
-    alloc: Global,
-    arch: u32,
-    pool: &Pool,
-    suite: &mut Suite<'_>,
-    change: &Change,
-) -> Result<(), NoMemory>
-    requires over { IsOver pool.now suite.old }
-    requires within { IsWithin pool.now change.now.leaving.items change.now.coming.items }
-    ensures over { OnOk result (IsOver pool.now suite.new) }
-    ensures on { OnOk result ((stands : List Bool) → length stands ≡ length pool.now → IsSuiteOn arch pool.now stands suite.old
-        → IsSuiteOn arch pool.now (after_change change.now.leaving.items change.now.coming.items stands) suite.new) }
-{
-    let coming = places_on(alloc, arch, pool, &change.coming)?;
-    suite.change(alloc, &change.leaving, &coming)?;
-    Ok(())
-}
-
-/// Makes the change on each architecture.
-fn change_all(
+/// The suites once the change is made on each architecture.
+fn changed<'a>(
     alloc: Global,
     archs: u32,
-    pool: &Pool,
-    suites: &mut Vec<Suite<'_>>,
+    suites: Vec<ArchSuite<'a>>,
     change: &Change,
-) -> Result<(), NoMemory>
-    requires archs { archs ≡ length suites.old.items }
-    requires over { AreOver pool.now suites.old.items }
-    requires within { IsWithin pool.now change.now.leaving.items change.now.coming.items }
-    ensures count { OnOk result (length suites.new.items ≡ archs) }
-    ensures each { OnOk result ((stands : List Bool) → length stands ≡ length pool.now → AreSuites pool.now stands suites.old.items
-        → AreSuites pool.now (after_change change.now.leaving.items change.now.coming.items stands) suites.new.items) }
+) -> Result<Vec<ArchSuite<'a>>, NoMemory>
+    requires { archs ≡ length suites.items }
+    ensures count { IfOk result (λ new. length new.items ≡ archs) }
+    ensures each { IfOk result (λ new. (pool : List ARow) (stands : List Bool) → length stands ≡ length pool → AreSuites pool stands suites.entry.items
+        → AreSuites pool (after_change change.now.leaving.items change.now.coming.items stands) new.items) }
 {
+    let mut suites = suites;
     for arch in 0..archs {
         let suite = &mut suites[arch as usize];
-        change_on(alloc, arch, pool, suite, change)?;
+        suite.change(alloc, &change.leaving, &change.coming)?;
     }
-    Ok(())
+    Ok(suites)
 }
 
 /// The rows that may stand in testing during a run, which of them stand, and the suite of each architecture. A change
@@ -164,7 +146,7 @@ pub struct PoolSuites<'a> {
     first: usize,
     archs: u32,
     stands: Vec<bool>,
-    suites: Vec<Suite<'a>>,
+    suites: Vec<ArchSuite<'a>>,
 }
 
 impl<'a> Model for PoolSuites<'a> {
@@ -203,9 +185,9 @@ impl<'a> PoolSuites<'a> {
         alloc: Global,
         archs: u32,
         before: &'a [RowIn],
-        unstable: &'a [RowIn],
+        unstable: &[LentRow<'a>],
     ) -> Result<PoolSuites<'a>, NoMemory>
-        ensures rows { IfOk result (λ s. s.rows ≡ before.now ++ unstable.now) }
+        ensures rows { IfOk result (λ s. s.rows ≡ before.now ++ lent unstable.now) }
         ensures first { IfOk result (λ s. s.first ≡ length before.now) }
         ensures archs { IfOk result (λ s. s.archs ≡ archs) }
         ensures stands { IfOk result (λ s. (k : ℕ) → k < length s.rows → marked s.stands k ≡ nat_lt k (length before.now)) }
@@ -263,7 +245,6 @@ impl<'a> PoolSuites<'a> {
         alloc: Global,
         change: &Change,
     ) -> Result<Option<Offender>, NoMemory>
-        requires { IsWithin self.old.rows change.now.leaving.items change.now.coming.items }
         ensures same { self.new ≡ self.old }
         ensures first { IfOk result (λ o. (tells : ℕ → Option Word) → Tells self.old.rows self.old.stands change.now.leaving.items change.now.coming.items tells
             → o ≡ first_told self.old.archs tells) }
@@ -282,15 +263,20 @@ impl<'a> PoolSuites<'a> {
         }) }
         ensures long { length self.entry.stands ≡ length self.entry.rows }
     {
-        let mut suites = self.suites;
-        let mut stands = self.stands;
-        change_all(alloc, self.archs, &self.pool, &mut suites, change)?;
+        let PoolSuites {
+            pool,
+            first,
+            archs,
+            mut stands,
+            suites,
+        } = self;
+        let suites = changed(alloc, archs, suites, change)?;
         set_flags(&mut stands, &change.leaving, false);
         set_flags(&mut stands, &change.coming, true);
         Ok(PoolSuites {
-            pool: self.pool,
-            first: self.first,
-            archs: self.archs,
+            pool,
+            first,
+            archs,
             stands,
             suites,
         })

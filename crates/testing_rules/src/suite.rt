@@ -4,6 +4,7 @@ ghost use Rattle.std.specs.Prelude.{◌≡◌, [], length, IfOk, OnOk, OnErr};
 ghost use Rattle.std.specs.List.Sorted.{IsBinarySearchResult, IsSearchInRange};
 ghost use Rattle.testing_rules.specs.Moves as moves;
 ghost use Rattle.testing_rules.specs.InOrder.{AreByName, AreByKey};
+ghost use Rattle.testing_rules.specs.JudgedRows.{row_of};
 ghost use Rattle.testing_rules.specs.Places.{IsPlaceFor};
 ghost use Rattle.testing_rules.specs.Words.{text_cmp};
 
@@ -28,6 +29,16 @@ pub struct SourceIn {
 pub struct RowIn {
     pub arch: u32,
     pub binary: Binary,
+    pub sender: u32,
+    pub number: u32,
+    pub place: u32,
+}
+
+/// A row that is lent: its binary stands in testing or among the builds of unstable.
+#[derive(Clone, Copy)]
+pub struct LentRow<'a> {
+    pub arch: u32,
+    pub binary: &'a Binary,
     pub sender: u32,
     pub number: u32,
     pub place: u32,
@@ -68,9 +79,31 @@ impl SourceIn {
 }
 
 impl RowIn {
+    /// The row, lent.
+    pub(crate) fn lend(&self) -> LentRow<'_>
+        ensures { row_of result ≡ self.now }
+    {
+        LentRow {
+            arch: self.arch,
+            binary: &self.binary,
+            sender: self.sender,
+            number: self.number,
+            place: self.place,
+        }
+    }
+
     /// An equal value.
     pub fn copy(&self, alloc: Global) -> Result<RowIn, NoMemory>
         ensures { IfOk result (λ r. r ≡ self.now) }
+    {
+        self.lend().copy(alloc)
+    }
+}
+
+impl LentRow<'_> {
+    /// An equal row.
+    pub fn copy(&self, alloc: Global) -> Result<RowIn, NoMemory>
+        ensures { IfOk result (λ r. r ≡ row_of self.now) }
     {
         let binary = self.binary.copy(alloc)?;
         Ok(RowIn {
@@ -104,7 +137,7 @@ fn place_of_source(sources: &[SourceIn], source: &SourceIn) -> Result<usize, usi
 }
 
 /// The order of rows, by architecture and name.
-pub fn order_rows(row: &RowIn, other: &RowIn) -> Ordering
+fn order_rows(row: &RowIn, other: &RowIn) -> Ordering
     ensures { result ≡ moves.row_cmp (moves.row_key row.now) (moves.row_key other.now) }
 {
     let names = row.binary.name.as_str().cmp(other.binary.name.as_str());

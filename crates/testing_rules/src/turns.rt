@@ -20,12 +20,12 @@ use std::marker::Model;
 
 /// The decisions so far, and the testing that they leave.
 #[derive(Drop)]
-pub struct Turns<'a> {
+pub struct Turns<'u, 'a> {
     decisions: Vec<Decision>,
-    testing: LiveTesting<'a>,
+    testing: LiveTesting<'u, 'a>,
 }
 
-impl<'a> Model for Turns<'a> {
+impl<'u, 'a> Model for Turns<'u, 'a> {
     ghost use Rattle.testing_rules.specs.Runs.{Run};
 
     ghost Value = { Run };
@@ -50,9 +50,9 @@ pub fn is_standing(unhints: &[UnhintIn], hint: &HintIn) -> bool
     !is_cancelled(unhints, hint.number)
 }
 
-impl<'a> Turns<'a> {
+impl<'u, 'a> Turns<'u, 'a> {
     /// No decision yet.
-    pub fn new(alloc: Global, testing: LiveTesting<'a>) -> Turns<'a>
+    pub fn new(alloc: Global, testing: LiveTesting<'u, 'a>) -> Turns<'u, 'a>
         ensures { result ≡ record { basis = testing.entry.basis; outcome = record { decisions = []; suite = testing.entry.suite } } }
     {
         Turns {
@@ -62,7 +62,7 @@ impl<'a> Turns<'a> {
     }
 
     /// The testing so far.
-    pub fn testing(&self) -> &LiveTesting<'a>
+    pub fn testing(&self) -> &LiveTesting<'u, 'a>
         ensures { result.now ≡ moment_of self.now }
     {
         &self.testing

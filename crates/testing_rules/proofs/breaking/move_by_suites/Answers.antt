@@ -1,5 +1,6 @@
 use Rattle.std.proofs.Common.{◌≡◌, ◌∙◌, ap, List, ℕ}
 use Rattle.testing_install.specs.Among.{after_change}
+use Rattle.testing_rules.specs.JudgedRows.{lent}
 use Rattle.testing_rules.specs.declared.suite.RowIn.{RowIn}
 use Rattle.testing_rules.specs.Drafts.{rows_after}
 use Rattle.testing_rules.specs.Moves.{move_group}
@@ -14,7 +15,7 @@ pub returns-clause-moved : goal.returns-clause-moved
 returns-clause-moved c =
     let s = c.args.suites in
     let us = c.args.unstable.sources.now in
-    let unstable = c.args.unstable.rows.now in
+    let unstable = lent c.args.unstable.rows.now in
     let group = c.args.group.now in
     let t = c.args.testing.now in
     let leaving = c.in_ok-change.change.leaving.items in
@@ -30,7 +31,7 @@ pub returns-clause-live : goal.returns-clause-live
 returns-clause-live c =
     let s = c.args.suites in
     let us = c.args.unstable.sources.now in
-    let unstable = c.args.unstable.rows.now in
+    let unstable = lent c.args.unstable.rows.now in
     let group = c.args.group.now in
     let t = c.args.testing.now in
     let leaving = c.in_ok-change.change.leaving.items in

@@ -1,4 +1,5 @@
 use Rattle.std.proofs.Common.{◌≡◌, ◌∙◌, ap, Option}
+use Rattle.testing_rules.specs.JudgedRows.{lent}
 use Rattle.testing_rules.specs.declared.update.Offender.{Offender}
 use Rattle.testing_rules.specs.Moves.{move_group, offender_of}
 use Rattle.testing_rules.specs.Tried.{first_told}
@@ -11,7 +12,7 @@ returns-clause-offender c =
     let s = c.args.suites.now in
     let archs = c.args.archs.now in
     let us = c.args.unstable.sources.now in
-    let unstable = c.args.unstable.rows.now in
+    let unstable = lent c.args.unstable.rows.now in
     let group = c.args.group.now in
     let t = c.args.testing.now in
     let leaving = c.in_ok-change.change.leaving.items in

@@ -25,9 +25,10 @@ returns-clause-rows c =
     let builds = unboxed c.args.builds.now in
     let archs = c.args.archs.now in
     let k = c.loop-place.place in
+    let all : ℕ × Text = (16, codes "all") in
     c.in_ok-push_built_on-2.ensures
-    ∙ ap (λ xs. xs ++ built_on builds _) c.loop-place.invariant
-    ∙ built-last builds archs _ k (omega arith)
+    ∙ ap (λ xs. xs ++ built_on builds all) c.loop-place.invariant
+    ∙ built-last builds archs all k (omega arith)
 
 pub returns-clause-ordered : goal.returns-clause-ordered
 returns-clause-ordered c = λ order.

@@ -16,7 +16,7 @@ loop-bug-preserved c = λ q.
     let below : i < length xs = omega arith in
     let own = λ (x : BugIn). bytes_eq q x.source in
     let old = group_at c.loop-bug.groups q in
-    let named = c.in_ok-name.ensures.ok ∙ c.as_str.ensures ∙ ap (λ (x : BugIn). x.source) c.bug-item.is in
+    let named = c.as_str.ensures ∙ ap (λ (x : BugIn). x.source) c.bug-item.is in
     grouped-more own xs i d below old (group_at c.note.new.groups q) (c.loop-bug.invariant q)
     (c.in_ok-note.ensures q
     ∙ ap (λ s. cond (bytes_eq q s) (old ++ c.in_ok-copy.field-0 ∷ []) old) named

@@ -1,10 +1,9 @@
-use Rattle.std.proofs.Common.{◌≡◌, ◌++◌, filter}
+use Rattle.std.proofs.Common.{◌≡◌, take, filter}
 use Rattle.std.specs.Str.{bytes_eq}
-use Rattle.std.specs.Vec.Iter.{into_iter_items}
 use Rattle.testing_rules.specs.Words.{Text}
 use Rattle.testing_rules.specs.BySource.{group_at}
 use Rattle.testing_rules.proofs.by_source.rows_by_source.Given as goal
 
--- those so far, and those that are left
+-- those so far
 abbrev pub invariant-loop-row : goal.invariant-loop-row
-invariant-loop-row l = (q : Text) → group_at l.groups q ++ filter (λ r. bytes_eq q r.binary.source) (into_iter_items l.row-iterator) ≡ filter (λ r. bytes_eq q r.binary.source) l.fn.rows.items
+invariant-loop-row l = (q : Text) → group_at l.groups q ≡ filter (λ r. bytes_eq q r.binary.now.source) (take l.row-index l.rows)

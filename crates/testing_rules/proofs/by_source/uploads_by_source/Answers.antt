@@ -16,7 +16,7 @@ loop-upload-preserved c = λ q.
     let below : i < length xs = omega arith in
     let own = λ (x : UploadIn). bytes_eq q x.source in
     let old = group_at c.loop-upload.groups q in
-    let named = c.in_ok-name.ensures.ok ∙ c.as_str.ensures ∙ ap (λ (x : UploadIn). x.source) c.upload-item.is in
+    let named = c.as_str.ensures ∙ ap (λ (x : UploadIn). x.source) c.upload-item.is in
     grouped-more own xs i d below old (group_at c.note.new.groups q) (c.loop-upload.invariant q)
     (c.in_ok-note.ensures q
     ∙ ap (λ s. cond (bytes_eq q s) (old ++ c.in_ok-copy.field-0 ∷ []) old) named

@@ -4,6 +4,7 @@ use Rattle.std.specs.Option.{option_map_or}
 use Rattle.std.proofs.lemmas.List.{take_more}
 use Rattle.testing_rules.specs.declared.suite.RowIn.{RowIn}
 use Rattle.testing_rules.specs.Changes.{gives_way_to, stands_for, AreThose}
+use Rattle.testing_rules.specs.JudgedRows.{row_of}
 use Rattle.testing_rules.proofs.Changing.{those_more, giving_way_among}
 use Rattle.testing_rules.proofs.change.giving_way.Goals as goal
 
@@ -17,7 +18,7 @@ loop-place-preserved c =
     let j = get_or coming i 0 in
     let below : i < length coming = omega arith in
     let before = c.loop-place.leaving.items in
-    let row = c.row-row.result.now in
+    let row = row_of c.row-row.result in
     let places = c.of_name-places.result.now in
     let at : slice_get pool j ≡ Some row = c.row-row.ensures in
     let as_test : (k : ℕ) → test j k ≡ stands_for pool stands row k = λ k. ap (λ (m : Option RowIn). option_map_or (λ (r : RowIn). stands_for pool stands r k) m false) at in

@@ -24,7 +24,7 @@ pub loop-name-preserved : goal.loop-name-preserved
 loop-name-preserved c =
     let group = c.args.group.now in
     let us = c.args.unstable.sources.now in
-    let built = c.args.unstable.rows.now in
+    let built = lent c.args.unstable.rows.now in
     let i = c.loop-name.name-index in
     let d = c.name-item.result in
     let below : i < length group = omega arith in

@@ -9,6 +9,6 @@ use Rattle.testing_rules.proofs.lent_rows.put_current.Given as goal
 abbrev pub invariant-loop-row : goal.invariant-loop-row
 invariant-loop-row l =
     record {
-      so_far : lent l.rows.items ≡ with_rows (filter (is_current l.upload) (take l.row-index l.built)) (lent l.fn.rows.items);
+      so_far : lent l.rows.items ≡ with_rows (filter (is_current l.upload) (lent (take l.row-index l.built))) (lent l.fn.rows.items);
       ordered : AreByKey (lent l.rows.items);
     }

@@ -2,6 +2,7 @@ use Rattle.std.proofs.Common.{◌≡◌, ◌∙◌, ap, ap₂, List, [], filter}
 use Rattle.std.specs.List.{flat_map}
 use Rattle.testing_rules.specs.declared.update.Decision.{Decision}
 use Rattle.testing_rules.specs.Runs.{Moment, Run, go_on}
+use Rattle.testing_rules.specs.JudgedRows.{lent}
 use Rattle.testing_rules.specs.Suite.{Suite}
 use Rattle.testing_rules.specs.Unstable.{built_rows, is_standing}
 use Rattle.testing_rules.specs.Updates.{Outcome, in_turn, remove_item, removals_of, move_easy, move_singles, wait_all}
@@ -15,8 +16,8 @@ returns c =
     let es = c.args.excuses.now in
     let us = c.deref.result.now in
     let sources : us ≡ facts.sources = c.deref.ensures.value ∙ c.in_ok-sources.ensures ∙ c.sources.ensures.sources in
-    let rs = c.deref-2.result.now in
-    let rows : rs ≡ built_rows archs facts.rows = c.deref-2.ensures.value ∙ c.in_ok-rows.ensures.rows ∙ ap (built_rows archs) c.rows.ensures.rows in
+    let rs = lent c.deref-2.result.now in
+    let rows : rs ≡ built_rows archs facts.rows = ap lent c.deref-2.ensures.value ∙ c.in_ok-rows.ensures.rows ∙ ap (built_rows archs) c.rows.ensures.rows in
     let start : Moment → Run = λ m. record { basis = m.basis; outcome = record { decisions = []; suite = m.suite } } in
     let run =
     c.in_ok-waits.ensures

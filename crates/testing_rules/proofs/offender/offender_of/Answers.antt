@@ -3,7 +3,7 @@ use Rattle.std.specs.Option.{option_copied}
 use Rattle.testing_rules.specs.Moves.{offender_on}
 use Rattle.testing_rules.specs.Words.{Text}
 use Rattle.testing_rules.specs.declared.update.Offender.{Offender}
-use Rattle.testing_rules.specs.JudgedRows.{answers}
+use Rattle.testing_rules.specs.JudgedRows.{answers, lent}
 use Rattle.testing_rules.proofs.Failing.{first_of-next, first_of-found, offender_on-none, offender_on-some}
 use Rattle.testing_rules.proofs.offender.offender_of.Goals as goal
 
@@ -13,9 +13,9 @@ loop-arch-preserved c =
     let below : c.loop-arch.arch < length a.archs.now = omega arith in
     let before = ap answers c.deref.ensures.value ∙ c.in_ok-before.ensures in
     let after = ap answers c.deref-in-loop-arch.ensures.value ∙ c.in_ok-after.ensures in
-    let none = offender_on-none c.loop-arch.arch a.group.now a.old.now a.new.now (answers c.deref.result.now) (answers c.deref-in-loop-arch.result.now) before after
+    let none = offender_on-none c.loop-arch.arch a.group.now (lent a.old.now) (lent a.new.now) (answers c.deref.result.now) (answers c.deref-in-loop-arch.result.now) before after
     (sym c.first_failing.ensures ∙ ap option_copied c.in_default.is) in
-    first_of-next (offender_on a.old.now a.new.now a.group.now) (length a.archs.now) c.loop-arch.arch below none ∙ c.loop-arch.invariant
+    first_of-next (offender_on (lent a.old.now) (lent a.new.now) a.group.now) (length a.archs.now) c.loop-arch.arch below none ∙ c.loop-arch.invariant
 
 pub returns-in-Some : goal.returns-in-Some
 returns-in-Some c =
@@ -23,8 +23,8 @@ returns-in-Some c =
     let below : c.loop-arch.arch < length a.archs.now = omega arith in
     let before = ap answers c.deref.ensures.value ∙ c.in_ok-before.ensures in
     let after = ap answers c.deref-in-loop-arch.ensures.value ∙ c.in_ok-after.ensures in
-    let some = offender_on-some c.loop-arch.arch a.group.now a.old.now a.new.now (answers c.deref.result.now) (answers c.deref-in-loop-arch.result.now) c.in-Some.name.now before after
+    let some = offender_on-some c.loop-arch.arch a.group.now (lent a.old.now) (lent a.new.now) (answers c.deref.result.now) (answers c.deref-in-loop-arch.result.now) c.in-Some.name.now before after
     (sym c.first_failing.ensures ∙ ap option_copied c.in-Some.is) in
     let as_offender : Text → Option Offender = λ n. Some (record { arch = c.loop-arch.arch; «package» = n }) in
     ap as_offender c.in_ok-package.ensures
-    ∙ sym (first_of-found (offender_on a.old.now a.new.now a.group.now) (length a.archs.now) c.loop-arch.arch _ below some) ∙ c.loop-arch.invariant
+    ∙ sym (first_of-found (offender_on (lent a.old.now) (lent a.new.now) a.group.now) (length a.archs.now) c.loop-arch.arch _ below some) ∙ c.loop-arch.invariant

@@ -1,5 +1,5 @@
 use Rattle.std.proofs.Common.{◌∙◌, ap, ◌++◌, ◌∷◌, []}
-use Rattle.testing_rules.proofs.Suites.{range_more}
+use Rattle.testing_rules.proofs.Parts.{range_more}
 use Rattle.testing_rules.proofs.standing.first_places.Goals as goal
 
 pub loop-place-preserved : goal.loop-place-preserved

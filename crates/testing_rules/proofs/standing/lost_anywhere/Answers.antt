@@ -1,9 +1,11 @@
-use Rattle.std.proofs.Common.{arith, ◌≡◌, ◌∙◌, sym, ap, subst, ◌<◌, length, Some, None}
+use Rattle.std.proofs.Common.{arith, ◌≡◌, ◌∙◌, sym, ap, subst, ◌<◌, Bool, List, length, Some, None}
 use Rattle.std.specs.Prelude.{option_map}
 use Rattle.std.specs.List.{slice_get}
 use Rattle.std.specs.Option.{option_copied}
-use Rattle.testing_install.specs.Suite.{Standing}
+use Rattle.testing_install.specs.Closed.{marked}
 use Rattle.testing_rules.specs.declared.update.Offender.{Offender}
+use Rattle.testing_rules.specs.Parts.{Part}
+use Rattle.testing_rules.specs.Standing.{IsOn, IsSuiteOn}
 use Rattle.testing_rules.specs.Tried.{told_on}
 use Rattle.testing_rules.specs.Trials.{IsFirstLost}
 use Rattle.testing_rules.specs.Words.{Text}
@@ -21,8 +23,10 @@ returns-in-Some-clause-first c = λ stands tells are told.
     let below : arch < c.args.archs = c.loop-arch-test.true in
     let within : arch < length suites = omega (arith, below, c.requires.archs) in
     let name = option_copied c.in_ok-name.field-0 in
-    let first : (suite : Standing) → slice_get suites arch ≡ Some suite → IsFirstLost arch pool suite.there leaving coming name =
-    subst (λ ss. (suite : Standing) → slice_get ss arch ≡ Some suite → IsFirstLost arch pool suite.there leaving coming name) c.loop-arch.invariant.same c.in_ok-name.ensures.first in
+    let Told : List Part → Type 0 =
+    λ ss. (suite : Part) → slice_get ss arch ≡ Some suite → (stands there : List Bool) → IsSuiteOn arch pool stands suite → length there ≡ length pool
+    → IsOn arch pool (marked stands) (marked there) → IsFirstLost arch pool there leaving coming name in
+    let first : Told suites = subst Told c.loop-arch.invariant.same c.in_ok-name.ensures.first in
     let is = told_at pool stands suites leaving coming tells arch name are told within first in
     let as_offender : Text → Offender = λ n. record { arch = arch; «package» = n } in
     let some : tells arch ≡ Some c.in-Some.name.now = sym is ∙ ap option_copied c.in-Some.is in
@@ -41,8 +45,10 @@ loop-arch-preserved c = record {
       let below : arch < c.args.archs = c.loop-arch-test.true in
       let within : arch < length suites = omega (arith, below, c.requires.archs) in
       let name = option_copied c.in_ok-name.field-0 in
-      let first : (suite : Standing) → slice_get suites arch ≡ Some suite → IsFirstLost arch pool suite.there leaving coming name =
-      subst (λ ss. (suite : Standing) → slice_get ss arch ≡ Some suite → IsFirstLost arch pool suite.there leaving coming name) c.loop-arch.invariant.same c.in_ok-name.ensures.first in
+      let Told : List Part → Type 0 =
+      λ ss. (suite : Part) → slice_get ss arch ≡ Some suite → (stands there : List Bool) → IsSuiteOn arch pool stands suite → length there ≡ length pool
+      → IsOn arch pool (marked stands) (marked there) → IsFirstLost arch pool there leaving coming name in
+      let first : Told suites = subst Told c.loop-arch.invariant.same c.in_ok-name.ensures.first in
       let is = told_at pool stands suites leaving coming tells arch name are told within first in
       let as_offender : Text → Offender = λ n. record { arch = arch; «package» = n } in
       let none : tells arch ≡ None = sym is ∙ ap option_copied c.in_default.is in

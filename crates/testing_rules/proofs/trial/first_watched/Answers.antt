@@ -2,6 +2,7 @@ use Rattle.std.proofs.Common.{arith, ◌≡◌, ◌∙◌, sym, ap, ◌+◌, ◌
 use Rattle.std.specs.List.{slice_get, filter_map}
 use Rattle.std.specs.Option.{option_copied}
 use Rattle.testing_rules.specs.declared.suite.RowIn.{RowIn}
+use Rattle.testing_rules.specs.JudgedRows.{row_of}
 use Rattle.testing_rules.specs.Moves.{is_watched_on}
 use Rattle.testing_rules.specs.Trials.{names_at}
 use Rattle.testing_rules.specs.Words.{Text, text_cmp, least, first_of_two}
@@ -18,7 +19,7 @@ loop-place-preserved c =
     let places = c.args.places.now in
     let i = c.loop-place.place-index in
     let below : i < length places = omega arith in
-    let row = c.row-row.result.now in
+    let row = row_of c.row-row.result in
     let name : RowIn → Text = λ r. r.binary.name in
     let test : RowIn → Bool = is_watched_on arch in
     let rows = filter_map (slice_get pool) (take i places) in

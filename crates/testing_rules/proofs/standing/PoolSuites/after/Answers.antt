@@ -2,11 +2,8 @@ use Rattle.std.proofs.Common.{◌≡◌, ◌∙◌, sym, ap, subst, ◌<◌, len
 use Rattle.std.specs.List.{All}
 use Rattle.testing_install.proofs.Marking.{length-with_all}
 use Rattle.testing_rules.specs.Standing.{AreSuites, PoolState}
-use Rattle.testing_rules.proofs.Suites.{over_of, length-after, flags_are}
+use Rattle.testing_rules.proofs.Suites.{length-after, flags_are}
 use Rattle.testing_rules.proofs.standing.PoolSuites.after.Goals as goal
-
-pub change_all-requires-clause-over : goal.change_all-requires-clause-over
-change_all-requires-clause-over c = over_of c.self.inside.pool c.self.inside.stands.items c.self.inside.suites.items c.self.invariant.each
 
 pub set_flags-requires-2 : goal.set_flags-requires-2
 set_flags-requires-2 c =
@@ -25,6 +22,6 @@ invariant_of-result c =
     c.deref.ensures.value c.deref-2.ensures.value c.set_flags.ensures c.set_flags-2.ensures in
     record {
       long = ap length flags ∙ length-after leaving coming old ∙ c.self.invariant.long;
-      count = sym c.in_ok-change_all.ensures.count;
-      each = subst (λ fs. AreSuites c.self.inside.pool fs c.change_all.new.suites.items) (sym flags) (c.in_ok-change_all.ensures.each old c.self.invariant.long c.self.invariant.each);
+      count = sym c.in_ok-suites.ensures.count;
+      each = subst (λ fs. AreSuites c.self.inside.pool fs c.in_ok-suites.suites.items) (sym flags) (c.in_ok-suites.ensures.each c.self.inside.pool old c.self.invariant.long c.self.invariant.each);
     }

@@ -3,6 +3,7 @@ use Rattle.std.specs.List.{range_with_len}
 use Rattle.testing_install.specs.Among.{after_change}
 use Rattle.testing_install.specs.Closed.{marked}
 use Rattle.testing_rules.specs.declared.suite.RowIn.{RowIn}
+use Rattle.testing_rules.specs.JudgedRows.{lent}
 use Rattle.testing_rules.specs.Standing.{PoolState}
 use Rattle.testing_rules.specs.Tried.{IsWithin}
 use Rattle.testing_rules.proofs.Suites.{firsts_within, firsts_stand, if_ok_weaker}
@@ -14,8 +15,8 @@ after-requires c =
     let rows = ap (λ (s : PoolState). s.rows) c.in_ok-empty.ensures ∙ c.in_ok-pool.ensures in
     let leaving = c.new-2.result.items in
     subst (λ (pool : List RowIn). IsWithin pool leaving c.in_ok-first_places.field-0.items) (sym rows)
-    (subst (λ ks. IsWithin (before ++ c.args.unstable.now) leaving ks) (sym c.in_ok-first_places.ensures)
-    (firsts_within before c.args.unstable.now leaving c.new-2.ensures.items))
+    (subst (λ ks. IsWithin (before ++ (lent c.args.unstable.now)) leaving ks) (sym c.in_ok-first_places.ensures)
+    (firsts_within before (lent c.args.unstable.now) leaving c.new-2.ensures.items))
 
 pub returns-clause-stands : goal.returns-clause-stands
 returns-clause-stands c =
