@@ -1,10 +1,9 @@
 -- New tables read as an office writes them, and hold nothing.
-use Rattle.std.proofs.Common.{◌≡◌, ◌≤◌, ◌<◌, ◌∷◌, [], ℕ, List, length, filter_map, Option, Some, None, refl, sym, ap, subst, ◌∙◌, arith}
-use Rattle.std.specs.FinMap.{FinMap, get, len, empty, from_entries, entries, len-empty, len-entries, get-empty}
+use Rattle.std.proofs.Common.{◌≡◌, [], ℕ, List, length, filter_map, Option, Some, None, refl, sym, ap, subst, ◌∙◌, arith}
+use Rattle.std.specs.FinMap.{get, len, empty, from_entries, entries, len-empty, len-entries, get-empty}
 use Rattle.std.specs.declared.cmp.Ordering.{Ordering}
 use Rattle.std.proofs.lemmas.List.{nil_from_length}
 use Rattle.std.specs.Str.{IsUtf8}
-use Rattle.sqlite.specs.Order.{Row}
 use Rattle.sqlite.specs.Tree.{Trees}
 use Rattle.office_mail.specs.Kept.{Place, place_cmp}
 use Rattle.office_mail.specs.Lists.{Lists}
@@ -19,9 +18,9 @@ use Rattle.office_store.specs.Fresh.{IsEmptyFor}
 use Rattle.office_store.proofs.SetupRoundTrip.{text_utf8}
 use Rattle.office_store.specs.Content.{no_content}
 use Rattle.office_store.specs.Creating.{IsBlank}
-use Rattle.office_store.specs.Tables.{kept_rows, said_in, run_map}
+use Rattle.office_store.specs.Tables.{kept_rows}
 use Rattle.office_store.specs.Entries.{source_map, entry_map}
-use Rattle.office_store.specs.Holdings.{content_in, count_said, reports_to, suite_in, source_at, row_at}
+use Rattle.office_store.specs.Holdings.{content_in, reports_to, suite_in, source_at, row_at}
 use Rattle.office_store.specs.Legible.{IsLegible, IsWhole, SaysOnce, AreReported, AreNamed}
 
 -- what the office says in new tables

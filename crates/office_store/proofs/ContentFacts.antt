@@ -127,14 +127,14 @@ module _ (setup : Lists) (db next : Trees) (run : ℕ) (done : Finished) (it : F
   pub kept_after : (content_in setup next).kept ≡ (content_in setup db).kept
   kept_after = ap kept_rows it.writes.mail
 
-  sources_named : IsGiven setup (content_in setup db) done.testing → AllByRecursion (λ s. source_at setup (kept_rows (db 1)) (source_entry s) ≡ Some s) done.testing.sources
+  pub sources_named : IsGiven setup (content_in setup db) done.testing → AllByRecursion (λ s. source_at setup (kept_rows (db 1)) (source_entry s) ≡ Some s) done.testing.sources
   unfolding suite_in
   sources_named given = each_contained (λ s. source_at setup (kept_rows (db 1)) (source_entry s) ≡ Some s) done.testing.sources (λ s c. elim (given.sources s c) [
     | inl old ↦ old_source setup (kept_rows (db 1)) (source_map (db 4)) s old
     | inr new ↦ given_source setup (kept_rows (db 1)) s new
   ])
 
-  rows_named : IsGiven setup (content_in setup db) done.testing → AllByRecursion (λ r. row_at setup (kept_rows (db 1)) (row_entry r) ≡ Some r) done.testing.rows
+  pub rows_named : IsGiven setup (content_in setup db) done.testing → AllByRecursion (λ r. row_at setup (kept_rows (db 1)) (row_entry r) ≡ Some r) done.testing.rows
   unfolding suite_in
   rows_named given = each_contained (λ r. row_at setup (kept_rows (db 1)) (row_entry r) ≡ Some r) done.testing.rows (λ r c. elim (given.rows r c) [
     | inl old ↦ old_row setup (kept_rows (db 1)) (entry_map (db 6)) r old

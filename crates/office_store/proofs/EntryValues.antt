@@ -115,7 +115,7 @@ module _ {K V X : Type 0} {R : K → K → Ordering} (total : IsTotalOrder R) (e
   put_in xs = fold (λ zs x. put_by key R x zs) [] xs
 
   module _ (table rows : List Row) (xs : List X) (same : IsPermutation (map columns table) rows) (named : map read rows ≡ map Some xs) where
-    entries_put : map entry (put_in xs) ≡ entries (last_of total exact (empty {R = R}) (map entry xs))
+    pub entries_put : map entry (put_in xs) ≡ entries (last_of total exact (empty {R = R}) (map entry xs))
     entries_put = put_all_entries total exact key val xs [] empty (sym (empty_of (entries (empty {R = R})) (sym (len-entries empty) ∙ len-empty R V)))
 
     full_put : length (put_in xs) ≡ length xs → IsFull total exact (empty {R = R}) (map entry xs)

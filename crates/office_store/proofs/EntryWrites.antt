@@ -1,5 +1,5 @@
 -- What the statements on testing make of its tables.
-use Rattle.std.proofs.Common.{◌≡◌, ◌<◌, ℕ, ℤ, pos, List, [], ◌∷◌, Some, None, Option, Ok, refl, ap, subst, ◌∙◌, cond, true, nat_lt, arith}
+use Rattle.std.proofs.Common.{◌≡◌, ◌<◌, ℕ, ℤ, pos, List, [], ◌∷◌, filter_map, Some, None, Option, Ok, refl, ap, subst, ◌∙◌, cond, true, nat_lt, arith}
 use Rattle.std.proofs.lemmas.Bool.Decides.{nat_tests}
 use Rattle.sqlite.specs.declared.types.Value.{Value}
 use Rattle.sqlite.specs.declared.types.Value.TheVariants.{Null, Int, Real, Text, Blob}
@@ -25,9 +25,12 @@ use Rattle.office_store.specs.Tables.{small_of, small_in, text_in}
 use Rattle.office_store.specs.Entries.{integer_in, source_by, source_in, ClearsSources, AddsSource, row_by, entry_in, ClearsRows, AddsRow}
 use Rattle.office_store.proofs.Compiled.{plain_query}
 use Rattle.office_store.proofs.WriteLemmas.{Inserted, inserts_one, cast_null, cast_int}
-use Rattle.office_store.proofs.DeleteLemmas.{Deleted, deletes_some}
+use Rattle.office_store.proofs.DeleteLemmas.{Deleted, deletes_some, nothing_left}
 use Rattle.office_store.proofs.KeepLemmas.{apart, unindexed, five}
 use Rattle.office_store.proofs.RunWrites.{none_said}
+use Rattle.testing_rules.proofs.Orders.{text_order}
+use Rattle.office_store.proofs.SettingLemmas.{text_exact, row_order, row_exact}
+use Rattle.office_store.proofs.Whole.{whole_reads}
 
 -- fewer than 2 ^ 32
 abbrev pub Fits32 : ℕ → Type 0
@@ -77,9 +80,13 @@ clears_sources old new count has h =
     let made = deletes_some office_schema 3 source_table old.step_limit (mode_of old) [] text old.now.trees [] went_on.tally new.now refl refl refl (λ olds. refl) done in
     (made.0, cleared old.now.trees new.now.trees made.1)
   where
+    gone : (db next : Trees) → Deleted office_schema source_table [] [] db next → filter_map source_in (next 4) ≡ []
+    gone db next it = none_said source_in (next 4) (λ row e there says. let id = source_id row e says in it.gone row id.0 (it.had row there) id.1 refl there)
+
     cleared : (db next : Trees) → Deleted office_schema source_table [] [] db next → ClearsSources db next
     cleared db next it = record {
-      none = none_said source_in (next 4) (λ row e there says. let id = source_id row e says in it.gone row id.0 (it.had row there) id.1 refl there);
+      none = gone db next it;
+      left = λ whole. nothing_left source_in (db 4) (next 4) it.had (whole_reads text_order text_exact source_in (db 4) whole) (gone db next it);
       rest = five (next 0) (next 1) (next 3) (next 4) (next 6) (db 0) (db 1) (db 3) (next 4) (db 6)
           (it.others 0 (apart 0 4 refl) (unindexed 0 refl refl refl))
           (it.others 1 (apart 1 4 refl) (unindexed 1 refl refl refl))
@@ -159,9 +166,13 @@ clears_rows old new count has h =
     let made = deletes_some office_schema 4 entry_table old.step_limit (mode_of old) [] text old.now.trees [] went_on.tally new.now refl refl refl (λ olds. refl) done in
     (made.0, cleared old.now.trees new.now.trees made.1)
   where
+    gone : (db next : Trees) → Deleted office_schema entry_table [] [] db next → filter_map entry_in (next 6) ≡ []
+    gone db next it = none_said entry_in (next 6) (λ row e there says. let id = entry_id row e says in it.gone row id.0 (it.had row there) id.1 refl there)
+
     cleared : (db next : Trees) → Deleted office_schema entry_table [] [] db next → ClearsRows db next
     cleared db next it = record {
-      none = none_said entry_in (next 6) (λ row e there says. let id = entry_id row e says in it.gone row id.0 (it.had row there) id.1 refl there);
+      none = gone db next it;
+      left = λ whole. nothing_left entry_in (db 6) (next 6) it.had (whole_reads row_order row_exact entry_in (db 6) whole) (gone db next it);
       rest = five (next 0) (next 1) (next 3) (next 4) (next 6) (db 0) (db 1) (db 3) (db 4) (next 6)
           (it.others 0 (apart 0 6 refl) (unindexed 0 refl refl refl))
           (it.others 1 (apart 1 6 refl) (unindexed 1 refl refl refl))

@@ -33,7 +33,7 @@ bytes_are (Real x) t h = absurd (let e = h in cc)
 bytes_are (Text s) t h = absurd (let e = h in cc)
 bytes_are (Blob b) t h = let e : b ≡ t = cc in ap Blob e
 
-parts_by : (s n : Option ℕ) (t : Option (List ℕ)) (p : Place) (text : List ℕ) → letter_by s n t ≡ Some (p, text) → (s ≡ Some p.0) × (n ≡ Some p.1) × (t ≡ Some text)
+pub parts_by : (s n : Option ℕ) (t : Option (List ℕ)) (p : Place) (text : List ℕ) → letter_by s n t ≡ Some (p, text) → (s ≡ Some p.0) × (n ≡ Some p.1) × (t ≡ Some text)
 parts_by None n t p text h = absurd (let e = h in cc)
 parts_by (Some s) None t p text h = absurd (let e = h in cc)
 parts_by (Some s) (Some n) None p text h = absurd (let e = h in cc)

@@ -33,3 +33,12 @@ pub mod ReportFacts
 pub mod ContentFacts
 pub mod BlankFacts
 pub mod Whole
+pub mod ReportReads
+pub mod NamedReads
+pub mod LoadFacts
+pub mod LoadLemmas
+pub mod WholeWrites
+pub mod LegibleKeep
+pub mod LegibleFinish
+pub mod KeeperFacts
+pub mod EmptyTesting

@@ -106,7 +106,7 @@ pub run_number : (row : Row) (run : ℕ) (reports : Reports) → run_in row ≡ 
 unfolding run_in
 run_number row run reports h = number_is _ _ (number_by (number_in (column row 0)) (text_in (column row 2)) (text_in (column row 3)) run reports h)
 
-at_run : (run : ℕ) (row : Row) (k : ℕ) (reports : Reports) → run_in row ≡ Some (k, reports) → eq_by_cmp nat_cmp run k ≡ is_run run row
+pub at_run : (run : ℕ) (row : Row) (k : ℕ) (reports : Reports) → run_in row ≡ Some (k, reports) → eq_by_cmp nat_cmp run k ≡ is_run run row
 at_run run row k reports h = nat_is run k ∙ sym (rw (run_number row k reports h) (int_is k run))
 
 run_at : (run : ℕ) (rows : List Row) → get (run_map rows) run ≡ find nat_cmp run (filter_map run_in (filter (is_run run) rows))

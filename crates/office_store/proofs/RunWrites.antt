@@ -1,5 +1,5 @@
 -- What the steps of a finished run make of the tables.
-use Rattle.std.proofs.Common.{◌≡◌, inl, inr, ℕ, pos, List, [], ◌∷◌, Bool, true, false, cond, filter_map, Some, None, Option, Ok, refl, sym, ap, subst, ◌∙◌}
+use Rattle.std.proofs.Common.{◌≡◌, inl, inr, ℕ, pos, List, [], ◌∷◌, Bool, true, false, cond, filter_map, length, Some, None, Option, Ok, IsSome, refl, sym, ap, subst, ◌∙◌, arith}
 use Rattle.std.proofs.lemmas.Bool.{or_parts, true≢false}
 use Rattle.std.proofs.lemmas.Cmp.{nat_cmp_total, tied_itself}
 use Rattle.std.specs.List.{cons_option}
@@ -26,14 +26,15 @@ use Rattle.office_store.specs.declared.values.Reports.{Reports}
 use Rattle.office_store.specs.declared.values.Said.{Said}
 use Rattle.office_store.specs.Layout.{office_schema, run, office}
 use Rattle.office_store.specs.Texts.{add_run_text, clear_office_text, add_office_text}
-use Rattle.office_store.specs.Tables.{Rows, number_in, text_in, run_in, run_map, office_by, office_in, said_in, AddsRun, Silences, SaysMore, RecordsRun}
+use Rattle.office_store.specs.Tables.{Rows, number_in, text_in, run_in, run_map, office_by, office_in, said_in, IsWhole, SaysAlone, AddsRun, Silences, SaysMore, RecordsRun}
 use Rattle.office_store.proofs.Compiled.{plain_query}
 use Rattle.office_store.proofs.WriteLemmas.{Inserted, inserts_one, cast_int}
-use Rattle.office_store.proofs.DeleteLemmas.{Deleted, deletes_some}
+use Rattle.office_store.proofs.DeleteLemmas.{Deleted, deletes_some, nothing_left}
 use Rattle.office_store.proofs.KeyedFacts.{tied, map_put, put_found}
 use Rattle.office_store.proofs.LetterFacts.{number_is}
 use Rattle.office_store.proofs.KeepLemmas.{apart, unindexed, five}
 use Rattle.office_store.proofs.RunLemmas.{run_says, run_number, office_says}
+use Rattle.office_store.proofs.WholeWrites.{whole_put}
 
 -- ---- reports
 
@@ -116,16 +117,30 @@ office_id : (row : Row) (e : ℕ × Said) → office_in row ≡ Some e → rowid
 unfolding office_in
 office_id row e h = number_is _ _ (id_by (number_in (column row 0)) (number_in (column row 2)) (text_in (column row 3)) (number_in (column row 4)) e.0 e.1 h)
 
+alone_reads : (o : Option (ℕ × Said)) → IsSome (find nat_cmp 1 (cons_option o [])) → (e : ℕ × Said) × (o ≡ Some e)
+alone_reads None some = absurd (let e = some in cc)
+alone_reads (Some e) some = (e, refl)
+
+-- the only row reads
+reads_alone : (rows : List Row) → SaysAlone rows → (row : Row) → Has rows row → (e : ℕ × Said) × (office_in row ≡ Some e)
+reads_alone [] alone row there = absurd there
+reads_alone (r ∷ []) alone row (inl same) = let s = alone_reads (office_in r) alone.1 in (s.0, ap office_in same ∙ s.1)
+reads_alone (r ∷ []) alone row (inr there) = absurd there
+reads_alone (r ∷ more ∷ rows) alone row there = absurd (omega (arith, alone.0))
+
 silenced : (db next : Trees) → Deleted office_schema office [] [] db next → Silences db next
-silenced db next it = record {
-  none = none_said office_in (next 0) (λ row e there says. it.gone row (pos e.0) (it.had row there) (office_id row e says) refl there);
-  rest = five (next 0) (next 1) (next 3) (next 4) (next 6) (next 0) (db 1) (db 3) (db 4) (db 6)
-      refl
-      (it.others 1 (apart 1 0 refl) (unindexed 1 refl refl refl))
-      (it.others 3 (apart 3 0 refl) (unindexed 3 refl refl refl))
-      (it.others 4 (apart 4 0 refl) (unindexed 4 refl refl refl))
-      (it.others 6 (apart 6 0 refl) (unindexed 6 refl refl refl));
-}
+silenced db next it =
+    let none : filter_map office_in (next 0) ≡ [] = none_said office_in (next 0) (λ row e there says. it.gone row (pos e.0) (it.had row there) (office_id row e says) refl there) in
+    record {
+      none = none;
+      left = λ alone. nothing_left office_in (db 0) (next 0) it.had (reads_alone (db 0) alone) none;
+      rest = five (next 0) (next 1) (next 3) (next 4) (next 6) (next 0) (db 1) (db 3) (db 4) (db 6)
+          refl
+          (it.others 1 (apart 1 0 refl) (unindexed 1 refl refl refl))
+          (it.others 3 (apart 3 0 refl) (unindexed 3 refl refl refl))
+          (it.others 4 (apart 4 0 refl) (unindexed 4 refl refl refl))
+          (it.others 6 (apart 6 0 refl) (unindexed 6 refl refl refl));
+    }
 
 pub silences : (old new : State) (count : ℕ) → old.now.schema ≡ office_schema → Executes clear_office_text [] old new (Ok count) → (new.now.schema ≡ office_schema) × Silences old.now.trees new.now.trees
 silences old new count has h =
@@ -197,7 +212,10 @@ records a b c d number reports said first second third =
     let new : get (run_map (a 3)) number ≡ None = get-from_entries nat_cmp_total (filter_map run_in (a 3)) number ∙ free in
     let runs : d 3 ≡ put_row first.row (a 3) = ap (λ (r : Rows). r.runs) third.put ∙ ap (λ (r : Rows). r.runs) second.rest ∙ ap (λ (r : Rows). r.runs) first.put in
     let office : d 0 ≡ put_row third.row (c 0) = ap (λ (r : Rows). r.office) third.put in
+    let said_before : b 0 ≡ a 0 = ap (λ (r : Rows). r.office) first.put in
     record {
+      once = λ alone. ap length (office ∙ ap (put_row third.row) (second.left (subst SaysAlone (sym said_before) alone)));
+      whole = λ whole. subst (λ rows. IsWhole (run_map rows) rows) (sym runs) (whole_put nat_cmp_total nat_cmp-IsAntisymmetric run_in first.row number reports (a 3) first.says first.free new whole);
       reported = ap run_map runs ∙ map_put nat_cmp_total nat_cmp-IsAntisymmetric run_in first.row number reports (a 3) first.says first.free new;
       new = new;
       says = ap said_in office ∙ put_found nat_cmp_total nat_cmp-IsAntisymmetric office_in third.row 1 said 1 (c 0) third.says third.free (ap (find nat_cmp 1) second.none);

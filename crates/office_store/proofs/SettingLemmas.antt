@@ -6,7 +6,7 @@ use Rattle.std.specs.Cmp.{IsTotalOrder}
 use Rattle.std.specs.declared.cmp.Ordering.{Ordering}
 use Rattle.std.specs.declared.cmp.Ordering.TheVariants.{Less}
 use Rattle.std.specs.Ordering.{eq_by_cmp, is_eq, nat_cmp}
-use Rattle.std.specs.FinMap.{IsAntisymmetric, find, get, insert, from_entries, get-from_entries, from_entries_push, slice_cmp-IsAntisymmetric, nat_cmp-IsAntisymmetric}
+use Rattle.std.specs.FinMap.{IsAntisymmetric, find, get, insert, from_entries, get-from_entries, from_entries_push, len-empty, slice_cmp-IsAntisymmetric, nat_cmp-IsAntisymmetric}
 use Rattle.std.proofs.lemmas.Cmp.{nat_cmp_total, on_total, then_total, eq_by_cmp_equiv}
 use Rattle.std.proofs.lemmas.List.{map-append, take-append-drop, take_more, drop_more}
 use Rattle.std.proofs.lemmas.Map.Lookups.{exact_pairs}
@@ -19,14 +19,16 @@ use Rattle.testing_rules.specs.Words.{Text, text_cmp}
 use Rattle.testing_rules.specs.Moves.{row_cmp, row_key}
 use Rattle.testing_rules.specs.InOrder.{AreByName, AreByKey}
 use Rattle.testing_rules.proofs.Orders.{text_order}
-use Rattle.office_store.specs.Tables.{Rows}
+use Rattle.office_mail.specs.Kept.{Place}
+use Rattle.office_store.specs.Tables.{Rows, IsWhole}
 use Rattle.office_store.specs.Entries.{source_in, source_map, source_entry, ClearsSources, AddsSource, SetsSources, entry_in, entry_map, row_entry, ClearsRows, AddsRow, SetsRows}
 use Rattle.office_store.proofs.KeyedFacts.{map_put}
+use Rattle.office_store.proofs.WholeWrites.{whole_put}
 use Rattle.office_store.proofs.KeepLemmas.{five}
 
 -- ---- an entry comes after those below it
 
-not_tied : {K : Type 0} {R : K → K → Ordering} → IsTotalOrder R → (a b : K) → R a b ≡ Less → eq_by_cmp R b a ≡ false
+pub not_tied : {K : Type 0} {R : K → K → Ordering} → IsTotalOrder R → (a b : K) → R a b ≡ Less → eq_by_cmp R b a ≡ false
 not_tied total a b less = (eq_by_cmp_equiv total).symm b a ∙ ap is_eq less
 
 module _ {K V : Type 0} {R : K → K → Ordering} (total : IsTotalOrder R) where
@@ -52,20 +54,36 @@ module _ {X K V : Type 0} {R : K → K → Ordering} (total : IsTotalOrder R) (e
       ap (map entry) (sym (take-append-drop i xs) ∙ ap (λ l. take i xs ++ l) (drop_more xs i x within))
       ∙ map-append entry (take i xs) (get_or xs i x ∷ drop (i + 1) xs)
 
+  unseen : (xs : List X) (i : ℕ) → i < length xs → (x : X) → x ≡ get_or xs i x → IsStrictlySortedBy R (map (λ (e : K × V). e.0) (map entry xs)) → find R (entry x).0 (map entry (take i xs)) ≡ None
+  unseen xs i within x is sorted =
+      let e : K × V = entry (get_or xs i x) in
+      let front : List (K × V) = map entry (take i xs) in
+      let order : IsStrictlySortedBy R (map (λ (y : K × V). y.0) (front ++ e ∷ map entry (drop (i + 1) xs))) = subst (λ (l : List (K × V)). IsStrictlySortedBy R (map (λ (y : K × V). y.0) l)) (cut xs i x within) sorted in
+      ap (λ y. find R (entry y).0 front) is ∙ free_before total front e (map entry (drop (i + 1) xs)) order
+
+  -- the next entry's key is new to the table
+  next_free : (xs : List X) (i : ℕ) (x : X) (rows : List Row) → i < length xs → x ≡ get_or xs i x → IsStrictlySortedBy R (map (λ (e : K × V). e.0) (map entry xs))
+      → from_entries {R = R} (filter_map read rows) ≡ from_entries (map entry (take i xs)) → get (from_entries {R = R} (filter_map read rows)) (entry x).0 ≡ None
+  next_free xs i x rows within is sorted so_far = ap (λ m. get m (entry x).0) so_far ∙ get-from_entries total (map entry (take i xs)) (entry x).0 ∙ unseen xs i within x is sorted
+
   pub one_more : (xs : List X) (i : ℕ) (x : X) (row : Row) (rows : List Row) → i < length xs → x ≡ get_or xs i x → IsStrictlySortedBy R (map (λ (e : K × V). e.0) (map entry xs))
       → from_entries {R = R} (filter_map read rows) ≡ from_entries (map entry (take i xs)) → read row ≡ Some (entry x) → is_taken rows row ≡ false
       → from_entries {R = R} (filter_map read (put_row row rows)) ≡ from_entries (map entry (take (i + 1) xs))
   one_more xs i x row rows within is sorted so_far said fresh =
-      let says : read row ≡ Some (entry (get_or xs i x)) = said ∙ ap (λ y. Some (entry y)) is in
-      let e : K × V = entry (get_or xs i x) in
+      let e : K × V = entry x in
       let front : List (K × V) = map entry (take i xs) in
-      let order : IsStrictlySortedBy R (map (λ (y : K × V). y.0) (front ++ e ∷ map entry (drop (i + 1) xs))) = subst (λ (l : List (K × V)). IsStrictlySortedBy R (map (λ (y : K × V). y.0) l)) (cut xs i x within) sorted in
-      let unseen : find R e.0 front ≡ None = free_before total front e (map entry (drop (i + 1) xs)) order in
-      let free : get (from_entries {R = R} (filter_map read rows)) e.0 ≡ None = ap (λ m. get m e.0) so_far ∙ get-from_entries total front e.0 ∙ unseen in
-      map_put total exact read row e.0 e.1 rows says fresh free
+      map_put total exact read row e.0 e.1 rows said fresh (next_free xs i x rows within is sorted so_far)
       ∙ ap (λ m. insert m e.0 e.1) so_far
-      ∙ sym (from_entries_push total exact front e.0 e.1 unseen)
+      ∙ sym (from_entries_push total exact front e.0 e.1 (unseen xs i within x is sorted))
+      ∙ ap (λ (y : X). from_entries {R = R} (front ++ entry y ∷ [])) is
       ∙ ap (λ l. from_entries {R = R} l) (sym (map-append entry (take i xs) (get_or xs i x ∷ [])) ∙ ap (map entry) (sym (take_more xs i x within)))
+
+  -- a table that is whole stays so
+  pub whole_more : (xs : List X) (i : ℕ) (x : X) (row : Row) (rows : List Row) → i < length xs → x ≡ get_or xs i x → IsStrictlySortedBy R (map (λ (e : K × V). e.0) (map entry xs))
+      → from_entries {R = R} (filter_map read rows) ≡ from_entries (map entry (take i xs)) → read row ≡ Some (entry x) → is_taken rows row ≡ false
+      → IsWhole (from_entries {R = R} (filter_map read rows)) rows → IsWhole (from_entries {R = R} (filter_map read (put_row row rows))) (put_row row rows)
+  whole_more xs i x row rows within is sorted so_far said fresh whole =
+      whole_put total exact read row (entry x).0 (entry x).1 rows said fresh (next_free xs i x rows within is sorted so_far) whole
 
 -- ---- sources
 
@@ -73,15 +91,21 @@ pub text_exact : IsAntisymmetric text_cmp
 text_exact = slice_cmp-IsAntisymmetric nat_cmp-IsAntisymmetric
 
 pub sources_start : (db next : Trees) → ClearsSources db next → SetsSources db next []
-sources_start db next it = record { has = ap from_entries it.none; rest = it.rest }
+sources_start db next it = record {
+  has = ap from_entries it.none;
+  whole = λ was. subst (λ rows. IsWhole (source_map rows) rows) (sym (it.left was)) (len-empty text_cmp Place);
+  rest = it.rest;
+}
 
 pub sources_step : (a b c : Trees) (xs : List SourceIn) (i : ℕ) (x : SourceIn) (name : List ℕ) → AreByName xs → i < length xs → x ≡ get_or xs i x → name ≡ x.name → SetsSources a b (take i xs) → AddsSource b c name x.sender x.number
     → SetsSources a c (take (i + 1) xs)
 sources_step a b c xs i x name ordered within is named set added =
     let table : c 4 ≡ put_row added.row (b 4) = ap (λ (r : Rows). r.sources) added.put in
+    let sorted = subst (IsStrictlySortedBy text_cmp) (sym (same_keys source_entry (λ s. s.name) (λ s. refl) xs)) ordered in
+    let says = added.says ∙ ap (λ n. Some (n, (x.sender, x.number))) named in
     record {
-      has = ap source_map table ∙ one_more text_order text_exact source_in source_entry xs i x added.row (b 4) within is
-          (subst (IsStrictlySortedBy text_cmp) (sym (same_keys source_entry (λ s. s.name) (λ s. refl) xs)) ordered) set.has (added.says ∙ ap (λ n. Some (n, (x.sender, x.number))) named) added.free;
+      has = ap source_map table ∙ one_more text_order text_exact source_in source_entry xs i x added.row (b 4) within is sorted set.has says added.free;
+      whole = λ was. subst (λ rows. IsWhole (source_map rows) rows) (sym table) (whole_more text_order text_exact source_in source_entry xs i x added.row (b 4) within is sorted set.has says added.free (set.whole was));
       rest = five (c 0) (c 1) (c 3) (c 4) (c 6) (a 0) (a 1) (a 3) (c 4) (a 6)
           (ap (λ (r : Rows). r.office) added.put ∙ ap (λ (r : Rows). r.office) set.rest)
           (ap (λ (r : Rows). r.mail) added.put ∙ ap (λ (r : Rows). r.mail) set.rest)
@@ -99,15 +123,21 @@ pub row_exact : IsAntisymmetric row_cmp
 row_exact = exact_pairs nat_cmp text_cmp nat_cmp-IsAntisymmetric text_exact
 
 pub rows_start : (db next : Trees) → ClearsRows db next → SetsRows db next []
-rows_start db next it = record { has = ap from_entries it.none; rest = it.rest }
+rows_start db next it = record {
+  has = ap from_entries it.none;
+  whole = λ was. subst (λ rows. IsWhole (entry_map rows) rows) (sym (it.left was)) (len-empty row_cmp (Place × ℕ));
+  rest = it.rest;
+}
 
 pub rows_step : (a b c : Trees) (xs : List RowIn) (i : ℕ) (x : RowIn) (name : List ℕ) → AreByKey xs → i < length xs → x ≡ get_or xs i x → name ≡ x.binary.name → SetsRows a b (take i xs)
     → AddsRow b c x.arch name x.sender x.number x.place → SetsRows a c (take (i + 1) xs)
 rows_step a b c xs i x name ordered within is named set added =
     let table : c 6 ≡ put_row added.row (b 6) = ap (λ (r : Rows). r.rows) added.put in
+    let sorted = subst (IsStrictlySortedBy row_cmp) (sym (same_keys row_entry row_key (λ r. refl) xs)) ordered in
+    let says = added.says ∙ ap (λ n. Some ((x.arch, n), ((x.sender, x.number), x.place))) named in
     record {
-      has = ap entry_map table ∙ one_more row_order row_exact entry_in row_entry xs i x added.row (b 6) within is
-          (subst (IsStrictlySortedBy row_cmp) (sym (same_keys row_entry row_key (λ r. refl) xs)) ordered) set.has (added.says ∙ ap (λ n. Some ((x.arch, n), ((x.sender, x.number), x.place))) named) added.free;
+      has = ap entry_map table ∙ one_more row_order row_exact entry_in row_entry xs i x added.row (b 6) within is sorted set.has says added.free;
+      whole = λ was. subst (λ rows. IsWhole (entry_map rows) rows) (sym table) (whole_more row_order row_exact entry_in row_entry xs i x added.row (b 6) within is sorted set.has says added.free (set.whole was));
       rest = five (c 0) (c 1) (c 3) (c 4) (c 6) (a 0) (a 1) (a 3) (a 4) (c 6)
           (ap (λ (r : Rows). r.office) added.put ∙ ap (λ (r : Rows). r.office) set.rest)
           (ap (λ (r : Rows). r.mail) added.put ∙ ap (λ (r : Rows). r.mail) set.rest)

@@ -1,18 +1,16 @@
 -- A shelf of mail.
-use Rattle.std.proofs.Common.{◌≡◌, ◌≤◌, ◌<◌, ◌+◌, ◌-◌, ℕ, suc, Bool, cond, Option, Some, None, List, [], ◌∷◌, ◌++◌, filter_map, length, refl, sym, ap, ◌∙◌, arith, append_assoc}
-use Rattle.std.specs.List.{range_with_len, cons_option}
+use Rattle.std.proofs.Common.{◌≡◌, ◌≤◌, ◌+◌, ℕ, Bool, cond, Option, Some, List, [], ◌∷◌, ◌++◌, length, refl, sym, ap, ◌∙◌, arith}
 use Rattle.std.specs.FinMap.{get, find, insert, get-from_entries, get-insert}
 use Rattle.std.specs.Map.{lookup}
 use Rattle.std.specs.BTreeMap.{is_at}
 use Rattle.std.specs.Ordering.{eq_by_cmp}
 use Rattle.std.proofs.lemmas.Cmp.{eq_by_cmp_equiv}
-use Rattle.std.proofs.lemmas.List.{length-append, append-nil}
+use Rattle.std.proofs.lemmas.List.{length-append}
 use Rattle.testing_rules.specs.Suite.{Suite}
 use Rattle.office_mail.specs.Lists.{Lists}
 use Rattle.office_mail.specs.Kept.{Kept, Place, place_cmp}
 use Rattle.office_mail.proofs.KeptFacts.{places_total, same_kept}
-use Rattle.office_store.specs.declared.values.Letter.{Letter}
-use Rattle.office_store.specs.Content.{Content, letter_at, letters_within}
+use Rattle.office_store.specs.Content.{Content}
 use Rattle.office_store.specs.Given.{KnowsArchs}
 use Rattle.office_store.specs.declared.values.Reports.{Reports}
 use Rattle.office_store.specs.Shelf.{IsShelf, kept_in}
@@ -44,29 +42,3 @@ shelf_finished setup runs more reports new run few pushed next fits known = reco
 -- a content with this mail
 abbrev pub with_kept : Kept → List Reports → Suite → Content
 with_kept kept runs testing = record { kept = kept; reports = runs; testing = testing }
-
--- ---- letters of a range of numbers
-
-module _ {A : Type 0} (read : ℕ → Option A) (letters : List A) where
-  abbrev Rest : ℕ → ℕ → List A
-  Rest number to = filter_map read (range_with_len number (to + 1 - number))
-
-  one_fewer : (number to : ℕ) → number < to + 1 → to + 1 - number ≡ suc (to + 1 - (number + 1))
-  one_fewer number to h = omega (arith, h)
-
-  joined : (o : Option A) (rest : List A) → (letters ++ cons_option o []) ++ rest ≡ letters ++ cons_option o rest
-  joined None rest = append_assoc letters [] rest
-  joined (Some x) rest = append_assoc letters (x ∷ []) rest
-
-  pub letters_step : (more : List A) (number to : ℕ) → number < to + 1 → more ≡ letters ++ cons_option (read number) [] → more ++ Rest (number + 1) to ≡ letters ++ Rest number to
-  letters_step more number to h pushed =
-      ap (λ xs. xs ++ Rest (number + 1) to) pushed ∙ joined (read number) (Rest (number + 1) to)
-      ∙ ap (λ n. letters ++ filter_map read (range_with_len number n)) (sym (one_fewer number to h))
-
-  pub letters_end : (number to : ℕ) → to + 1 ≤ number → letters ≡ letters ++ Rest number to
-  letters_end number to h = let none : to + 1 - number ≡ 0 = omega (arith, h) in rw none (sym (append-nil letters))
-
--- before the first number, all are left
-pub letters_begin : (kept : Kept) (sender from to : ℕ) (letters : List Letter) → letters ≡ [] → letters ++ filter_map (letter_at kept sender) (range_with_len from (to + 1 - from)) ≡ letters_within kept sender from to
-unfolding letters_within
-letters_begin kept sender from to letters none = ap (λ l. l ++ filter_map (letter_at kept sender) (range_with_len from (to + 1 - from))) none

@@ -1,15 +1,16 @@
 -- Tables of which each row has an entry of its own.
 use Rattle.std.proofs.Common.{◌≡◌, ◌≤◌, ◌+◌, inl, inr, ℕ, List, [], ◌∷◌, filter, filter_map, length, Bool, true, false, cond, Option, Some, None, refl, sym, ap, ◌∙◌, arith, is_some}
+use Rattle.std.proofs.lemmas.Cmp.{tied_itself}
 use Rattle.std.specs.Cmp.{IsTotalOrder}
 use Rattle.std.specs.List.{cons_option}
 use Rattle.std.specs.declared.cmp.Ordering.{Ordering}
-use Rattle.std.specs.Ordering.{eq_by_cmp}
+use Rattle.std.specs.Ordering.{eq_by_cmp, is_eq}
 use Rattle.std.specs.FinMap.{FinMap, IsAntisymmetric, get, insert, len, from_entries, contains_key, get-insert, len-insert, len-empty}
 use Rattle.sqlite.specs.Order.{Row}
 use Rattle.sqlite_rules.specs.Lists.{Has}
-use Rattle.office_mail.specs.Kept.{Place, place_cmp}
 use Rattle.office_mail.proofs.KeptFacts.{places_total, exact_places}
-use Rattle.office_store.specs.Tables.{letter_in, kept_rows, is_at, AreLetters, AreApart}
+use Rattle.office_store.specs.Tables.{letter_in, kept_rows, AreLetters, AreApart, IsCrowded}
+use Rattle.office_store.specs.Legible.{IsWhole}
 use Rattle.office_store.proofs.LetterFacts.{at_place}
 use Rattle.office_store.proofs.KeyedFacts.{tied}
 
@@ -57,39 +58,68 @@ module _ {K V : Type 0} {R : K → K → Ordering} (total : IsTotalOrder R) (exa
   whole_reads (r ∷ rows) whole row (inl same) = let s = whole_step r rows whole in (s.0, ap read same ∙ s.1)
   whole_reads (r ∷ rows) whole row (inr there) = whole_reads rows (whole_step r rows whole).3 row there
 
+  -- what stands under another key stays when one is put in under a free one
+  past : (m : FinMap R V) (f : K × V) (q : K) (v : V) → get m f.0 ≡ None → get m q ≡ Some v → get (insert m f.0 f.1) q ≡ Some v
+  past m f q v none there = get-insert total m f.0 f.1 q ∙ under (eq_by_cmp R q f.0) refl
+    where
+      under : (b : Bool) → eq_by_cmp R q f.0 ≡ b → cond b (Some f.1) (get m q) ≡ Some v
+      under true is = absurd (let e : Some v ≡ None = sym there ∙ ap (get m) (exact q f.0 (tied (R q f.0) is)) ∙ none in cc)
+      under false is = there
+
+  -- each row's value is the one that stands under its key
+  pub whole_gets : (rows : List Row) → len (map_of rows) ≡ length rows → (row : Row) (e : K × V) → Has rows row → read row ≡ Some e → get (map_of rows) e.0 ≡ Some e.1
+  whole_gets [] whole row e there is = absurd there
+  whole_gets (r ∷ rows) whole row e (inl same) is =
+      ap (λ o. get (from_entries {R = R} (cons_option o (filter_map read rows))) e.0) (ap read (sym same) ∙ is)
+      ∙ get-insert total (map_of rows) e.0 e.1 e.0
+      ∙ ap (λ b. cond b (Some e.1) (get (map_of rows) e.0)) (ap is_eq (tied_itself total e.0))
+  whole_gets (r ∷ rows) whole row e (inr there) is =
+      let s = whole_step r rows whole in
+      ap (λ o. get (from_entries {R = R} (cons_option o (filter_map read rows))) e.0) s.1 ∙ past (map_of rows) s.0 e.0 e.1 s.2 (whole_gets rows s.3 row e there is)
+
+  -- ---- the rows of one key
+
+  module _ (key : K) (here : Row → Bool) (is_here : (row : Row) (p : K) (v : V) → read row ≡ Some (p, v) → eq_by_cmp R key p ≡ here row) where
+    none_here : (rows : List Row) → len (map_of rows) ≡ length rows → get (map_of rows) key ≡ None → length (filter here rows) ≡ 0
+    none_here [] whole free = refl
+    none_here (row ∷ rows) whole free =
+        let s = whole_step row rows whole in
+        go s (here row) refl (none_here rows s.3)
+      where
+        go : ((e : K × V) × (read row ≡ Some e) × (get (map_of rows) e.0 ≡ None) × (len (map_of rows) ≡ length rows)) → (b : Bool) → here row ≡ b
+            → (get (map_of rows) key ≡ None → length (filter here rows) ≡ 0) → length (cond b (row ∷ filter here rows) (filter here rows)) ≡ 0
+        go s b is before =
+            let split : get (map_of (row ∷ rows)) key ≡ cond (eq_by_cmp R key s.0.0) (Some s.0.1) (get (map_of rows) key) =
+            ap (λ o. get (from_entries {R = R} (cons_option o (filter_map read rows))) key) s.1 ∙ get-insert total (map_of rows) s.0.0 s.0.1 key in
+            let same : eq_by_cmp R key s.0.0 ≡ b = is_here row s.0.0 s.0.1 s.1 ∙ is in
+            under b (ap (λ t. cond t (Some s.0.1) (get (map_of rows) key)) (sym same) ∙ sym split ∙ free)
+          where
+            under : (t : Bool) → cond t (Some s.0.1) (get (map_of rows) key) ≡ None → length (cond t (row ∷ filter here rows) (filter here rows)) ≡ 0
+            under true none = absurd (let e = none in cc)
+            under false none = before none
+
+    -- no key has two rows
+    pub one_here : (rows : List Row) → len (map_of rows) ≡ length rows → length (filter here rows) ≤ 1
+    one_here [] whole = omega arith
+    one_here (row ∷ rows) whole =
+        let s = whole_step row rows whole in
+        go s (here row) refl (one_here rows s.3)
+      where
+        go : ((e : K × V) × (read row ≡ Some e) × (get (map_of rows) e.0 ≡ None) × (len (map_of rows) ≡ length rows)) → (b : Bool) → here row ≡ b
+            → length (filter here rows) ≤ 1 → length (cond b (row ∷ filter here rows) (filter here rows)) ≤ 1
+        go s false is before = before
+        go s true is before =
+            let same : key ≡ s.0.0 = exact key s.0.0 (tied (R key s.0.0) (is_here row s.0.0 s.0.1 s.1 ∙ is)) in
+            omega (arith, none_here rows s.3 (ap (get (map_of rows)) same ∙ s.2))
+
 -- ---- mail
 
-module _ (sender number : ℕ) where
-  none_at : (rows : List Row) → len (kept_rows rows) ≡ length rows → get (kept_rows rows) (sender, number) ≡ None → length (filter (is_at sender number) rows) ≡ 0
-  none_at [] whole free = refl
-  none_at (row ∷ rows) whole free =
-      let s = whole_step places_total exact_places letter_in row rows whole in
-      go s (is_at sender number row) refl (none_at rows s.3)
-    where
-      go : ((e : Place × List ℕ) × (letter_in row ≡ Some e) × (get (kept_rows rows) e.0 ≡ None) × (len (kept_rows rows) ≡ length rows)) → (b : Bool) → is_at sender number row ≡ b
-          → (get (kept_rows rows) (sender, number) ≡ None → length (filter (is_at sender number) rows) ≡ 0) → length (cond b (row ∷ filter (is_at sender number) rows) (filter (is_at sender number) rows)) ≡ 0
-      go s b is before =
-          let split : get (kept_rows (row ∷ rows)) (sender, number) ≡ cond (eq_by_cmp place_cmp (sender, number) s.0.0) (Some s.0.1) (get (kept_rows rows) (sender, number)) =
-          ap (λ o. get (from_entries {R = place_cmp} (cons_option o (filter_map letter_in rows))) (sender, number)) s.1 ∙ get-insert places_total (kept_rows rows) s.0.0 s.0.1 (sender, number) in
-          let tied : eq_by_cmp place_cmp (sender, number) s.0.0 ≡ b = at_place sender number row s.0.0 s.0.1 s.1 ∙ is in
-          at b (ap (λ t. cond t (Some s.0.1) (get (kept_rows rows) (sender, number))) (sym tied) ∙ sym split ∙ free)
-        where
-          at : (t : Bool) → cond t (Some s.0.1) (get (kept_rows rows) (sender, number)) ≡ None → length (cond t (row ∷ filter (is_at sender number) rows) (filter (is_at sender number) rows)) ≡ 0
-          at true none = absurd (let e = none in cc)
-          at false none = before none
-
-  one_at : (rows : List Row) → len (kept_rows rows) ≡ length rows → length (filter (is_at sender number) rows) ≤ 1
-  one_at [] whole = omega arith
-  one_at (row ∷ rows) whole =
-      let s = whole_step places_total exact_places letter_in row rows whole in
-      go s (is_at sender number row) refl (one_at rows s.3)
-    where
-      go : ((e : Place × List ℕ) × (letter_in row ≡ Some e) × (get (kept_rows rows) e.0 ≡ None) × (len (kept_rows rows) ≡ length rows)) → (b : Bool) → is_at sender number row ≡ b
-          → length (filter (is_at sender number) rows) ≤ 1 → length (cond b (row ∷ filter (is_at sender number) rows) (filter (is_at sender number) rows)) ≤ 1
-      go s false is before = before
-      go s true is before =
-          let same : (sender, number) ≡ s.0.0 = exact_places (sender, number) s.0.0 (tied (place_cmp (sender, number) s.0.0) (at_place sender number row s.0.0 s.0.1 s.1 ∙ is)) in
-          omega (arith, none_at rows s.3 (ap (get (kept_rows rows)) same ∙ s.2))
-
 pub letters_apart : (rows : List Row) → len (kept_rows rows) ≡ length rows → AreLetters rows × AreApart rows
-letters_apart rows whole = (λ row there. whole_reads places_total exact_places letter_in rows whole row there, λ sender number. one_at sender number rows whole)
+letters_apart rows whole = (
+  λ row there. whole_reads places_total exact_places letter_in rows whole row there,
+  λ sender number. one_here places_total exact_places letter_in (sender, number) _ (at_place sender number) rows whole,
+)
+
+-- mail of which each row has a place of its own is as an office keeps it
+pub not_crowded : (rows : List Row) → IsWhole (kept_rows rows) rows → IsCrowded rows → ⊥
+not_crowded rows whole crowded = let kept = letters_apart rows whole in crowded kept.0 kept.1

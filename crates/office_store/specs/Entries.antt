@@ -11,7 +11,7 @@ use Rattle.testing_rules.specs.declared.suite.RowIn.{RowIn}
 use Rattle.testing_rules.specs.Words.{text_cmp}
 use Rattle.testing_rules.specs.Moves.{row_cmp, row_key}
 use Rattle.office_mail.specs.Kept.{Place}
-use Rattle.office_store.specs.Tables.{rows_in, small_in, text_in}
+use Rattle.office_store.specs.Tables.{IsWhole, rows_in, small_in, text_in}
 
 -- an integer
 abbrev pub integer_in : Value → Option ℤ
@@ -46,9 +46,10 @@ source_map rows = from_entries (filter_map source_in rows)
 abbrev pub source_entry : SourceIn → List ℕ × Place
 source_entry s = (s.name, (s.sender, s.number))
 
--- the table has no source any more, and the other tables stand
+-- the table has no source any more, nothing is left of a whole one, and the other tables stand
 pub record ClearsSources (db next : Trees) : Type 0 where
   pub none : filter_map source_in (next 4) ≡ []
+  pub left : IsWhole (source_map (db 4)) (db 4) → next 4 ≡ []
   pub rest : rows_in next ≡ record { office = db 0; mail = db 1; runs = db 3; sources = next 4; rows = db 6 }
 
 -- one source's row was put in, with a rowid of its own, and the other tables stand
@@ -58,9 +59,10 @@ pub record AddsSource (db next : Trees) (name : List ℕ) (sender number : ℕ) 
   pub free : is_taken (db 4) row ≡ false
   pub put : rows_in next ≡ record { office = db 0; mail = db 1; runs = db 3; sources = put_row row (db 4); rows = db 6 }
 
--- the table has these sources alone, and the other tables stand
+-- the table has these sources alone, it stays whole, and the other tables stand
 pub record SetsSources (db next : Trees) (sources : List SourceIn) : Type 0 where
   pub has : source_map (next 4) ≡ from_entries (map source_entry sources)
+  pub whole : IsWhole (source_map (db 4)) (db 4) → IsWhole (source_map (next 4)) (next 4)
   pub rest : rows_in next ≡ record { office = db 0; mail = db 1; runs = db 3; sources = next 4; rows = db 6 }
 
 -- ---- rows
@@ -90,9 +92,10 @@ entry_map rows = from_entries (filter_map entry_in rows)
 abbrev pub row_entry : RowIn → (ℕ × List ℕ) × (Place × ℕ)
 row_entry r = (row_key r, ((r.sender, r.number), r.place))
 
--- the table has no row any more, and the other tables stand
+-- the table has no row any more, nothing is left of a whole one, and the other tables stand
 pub record ClearsRows (db next : Trees) : Type 0 where
   pub none : filter_map entry_in (next 6) ≡ []
+  pub left : IsWhole (entry_map (db 6)) (db 6) → next 6 ≡ []
   pub rest : rows_in next ≡ record { office = db 0; mail = db 1; runs = db 3; sources = db 4; rows = next 6 }
 
 -- one row was put in, with a rowid of its own, and the other tables stand
@@ -102,7 +105,8 @@ pub record AddsRow (db next : Trees) (arch : ℕ) (name : List ℕ) (sender numb
   pub free : is_taken (db 6) row ≡ false
   pub put : rows_in next ≡ record { office = db 0; mail = db 1; runs = db 3; sources = db 4; rows = put_row row (db 6) }
 
--- the table has these rows alone, and the other tables stand
+-- the table has these rows alone, it stays whole, and the other tables stand
 pub record SetsRows (db next : Trees) (rows : List RowIn) : Type 0 where
   pub has : entry_map (next 6) ≡ from_entries (map row_entry rows)
+  pub whole : IsWhole (entry_map (db 6)) (db 6) → IsWhole (entry_map (next 6)) (next 6)
   pub rest : rows_in next ≡ record { office = db 0; mail = db 1; runs = db 3; sources = db 4; rows = next 6 }

@@ -1,11 +1,11 @@
 -- What a finished run makes of the tables.
-use Rattle.std.specs.Prelude.{◌≡◌, ℕ, map, Some, None}
+use Rattle.std.specs.Prelude.{◌≡◌, ℕ, length, map, Some, None}
 use Rattle.std.specs.FinMap.{get, insert, from_entries}
 use Rattle.sqlite.specs.Tree.{Trees}
 use Rattle.office_store.specs.declared.values.Finished.{Finished}
 use Rattle.office_store.specs.declared.values.Said.{Said}
 use Rattle.office_store.specs.Content.{reports_in}
-use Rattle.office_store.specs.Tables.{said_in, run_map}
+use Rattle.office_store.specs.Tables.{IsWhole, SaysAlone, said_in, run_map}
 use Rattle.office_store.specs.Entries.{source_map, source_entry, entry_map, row_entry}
 
 -- the office says so many runs instead, and else the same
@@ -13,7 +13,7 @@ abbrev pub with_count : ℕ → Said → Said
 with_count run said = record { schema = said.schema; setup = said.setup; finished = run }
 
 -- The run is finished with its reports, which it hadn't before, beside the earlier ones; the tables of testing have
--- exactly the new entries; the office says this; and the mail stands.
+-- exactly the new entries; the office says this; the mail stands; and tables that are whole stay so.
 pub record WritesRun (db next : Trees) (run : ℕ) (done : Finished) (said : Said) : Type 0 where
   pub reported : run_map (next 3) ≡ insert (run_map (db 3)) run (reports_in done)
   pub new : get (run_map (db 3)) run ≡ None
@@ -21,6 +21,10 @@ pub record WritesRun (db next : Trees) (run : ℕ) (done : Finished) (said : Sai
   pub rows : entry_map (next 6) ≡ from_entries (map row_entry done.testing.rows)
   pub says : said_in (next 0) ≡ Some said
   pub mail : next 1 ≡ db 1
+  pub once : SaysAlone (db 0) → length (next 0) ≡ 1
+  pub whole_runs : IsWhole (run_map (db 3)) (db 3) → IsWhole (run_map (next 3)) (next 3)
+  pub whole_sources : IsWhole (source_map (db 4)) (db 4) → IsWhole (source_map (next 4)) (next 4)
+  pub whole_rows : IsWhole (entry_map (db 6)) (db 6) → IsWhole (entry_map (next 6)) (next 6)
 
 -- the same, where the office says what it said but for the count
 pub record FinishesRun (db next : Trees) (run : ℕ) (done : Finished) : Type 0 where

@@ -1,21 +1,17 @@
 -- Tables that read as an office writes them.
 use Rattle.std.specs.Prelude.{◌≡◌, ◌<◌, ◌≤◌, ℕ, List, length, Some, IsSome}
-use Rattle.std.specs.FinMap.{FinMap, get, len}
+use Rattle.std.specs.FinMap.{get}
 use Rattle.std.specs.Str.{IsUtf8}
-use Rattle.std.specs.declared.cmp.Ordering.{Ordering}
 use Rattle.sqlite.specs.Order.{Row}
 use Rattle.sqlite.specs.Tree.{Trees}
 use Rattle.office_mail.specs.Kept.{Place}
 use Rattle.office_mail.specs.Lists.{Lists}
 use Rattle.office_store.specs.declared.values.Reports.{Reports}
 use Rattle.office_store.specs.declared.values.Said.{Said}
+pub use Rattle.office_store.specs.Tables.{IsWhole}
 use Rattle.office_store.specs.Tables.{kept_rows, said_in, run_map}
 use Rattle.office_store.specs.Entries.{source_map, entry_map}
 use Rattle.office_store.specs.Holdings.{source_at, row_at}
-
--- each row of a table has an entry of its own: it reads, and no two have one key
-abbrev pub IsWhole : {K V : Type 0} {R : K → K → Ordering} → FinMap R V → List Row → Type 0
-IsWhole map rows = len map ≡ length rows
 
 -- the office's only row says so
 pub record SaysOnce (rows : List Row) : Type 0 where

@@ -1,7 +1,9 @@
 -- The tables of an office, and what they say.
-use Rattle.std.specs.Ordering.{is_eq, nat_cmp}
-use Rattle.std.specs.Prelude.{◌≡◌, ◌≤◌, ◌⊎◌, ◌&&◌, Bool, length, filter, filter_map, ℕ, pos, negsuc, List, [], ◌∷◌, Option, Some, None, IsTrue, false, nat_lt, if◌then◌else◌}
-use Rattle.std.specs.FinMap.{FinMap, find, get, insert, from_entries}
+use Rattle.std.specs.Ordering.{is_eq, is_ge, is_le, nat_cmp}
+use Rattle.std.specs.declared.cmp.Ordering.{Ordering}
+use Rattle.std.specs.Prelude.{◌≡◌, ◌≤◌, ◌<◌, ◌+◌, ◌⊎◌, ◌&&◌, Bool, Contains, length, filter, filter_map, ℕ, pos, negsuc, List, [], ◌∷◌, Option, Some, None, IsTrue, IsSome, true, false, nat_lt, nat_le, if◌then◌else◌}
+use Rattle.std.specs.FinMap.{FinMap, find, get, insert, len, from_entries}
+use Rattle.office_store.specs.declared.values.Letter.{Letter}
 use Rattle.office_store.specs.declared.values.Reports.{Reports}
 use Rattle.office_store.specs.declared.values.Said.{Said}
 use Rattle.sqlite_rules.specs.Lists.{Has}
@@ -54,6 +56,10 @@ pub record Rows : Type 0 where
   pub runs : List Row
   pub sources : List Row
   pub rows : List Row
+
+-- each row of a table has an entry of its own: it reads, and no two have one key
+abbrev pub IsWhole : {K V : Type 0} {R : K → K → Ordering} → FinMap R V → List Row → Type 0
+IsWhole map rows = len map ≡ length rows
 
 -- where the tables stand
 abbrev pub rows_in : Trees → Rows
@@ -110,6 +116,27 @@ is_at sender number row = is_eq (value_cmp (column row 1) (Int (pos sender))) &&
 abbrev pub letter_columns : Row → Row
 letter_columns row = column row 1 ∷ column row 2 ∷ column row 3 ∷ []
 
+-- the row compares, as SQL does, as one with this place and a number from one to another
+abbrev pub is_between : ℕ → ℕ → ℕ → Row → Bool
+is_between sender from to row = is_eq (value_cmp (column row 1) (Int (pos sender))) && (is_ge (value_cmp (column row 2) (Int (pos from))) && is_le (value_cmp (column row 2) (Int (pos to))))
+
+-- what a shown row of mail says
+unfoldable pub shown_letter : Row → Option (Place × List ℕ)
+shown_letter row = letter_by (number_in (column row 0)) (number_in (column row 1)) (bytes_in (column row 2))
+
+-- each shown row has this sender's place, a number and a text
+abbrev pub ShowsLetters : ℕ → List Row → Type 0
+ShowsLetters sender rows = (row : Row) → Contains rows row → (number : ℕ) × (text : List ℕ) × (number < 4_294_967_296) × (row ≡ Int (pos sender) ∷ Int (pos number) ∷ Blob text ∷ [])
+
+-- a letter of this sender, as the table of mail has it
+abbrev pub letter_entry : ℕ → Letter → Place × List ℕ
+letter_entry sender letter = ((sender, letter.number), letter.text)
+
+-- whether the first letter's number is from this one on, and each other is above the one before
+abbrev pub rises_from : ℕ → List Letter → Bool
+rises_from least [] = true
+rises_from least (letter ∷ letters) = nat_le least letter.number && rises_from (letter.number + 1) letters
+
 -- what a look-up makes of the rows that it is shown: the text of the only one, or none
 abbrev pub IsOnly : ℕ → ℕ → Option (List ℕ) → List Row → Type 0
 IsOnly sender number None rows = rows ≡ []
@@ -160,6 +187,10 @@ office_in row = office_by (number_in (column row 0)) (number_in (column row 2)) 
 abbrev pub said_in : List Row → Option Said
 said_in rows = find nat_cmp 1 (filter_map office_in rows)
 
+-- one row says what the office says of itself, and there is no other
+abbrev pub SaysAlone : List Row → Type 0
+SaysAlone rows = (length rows ≡ 1) × IsSome (said_in rows)
+
 -- what is shown of a row of the office: all but its copy of the rowid
 abbrev pub office_columns : Row → Row
 office_columns row = column row 0 ∷ column row 2 ∷ column row 3 ∷ column row 4 ∷ []
@@ -208,9 +239,10 @@ pub record AddsRun (db next : Trees) (number : ℕ) (reports : Reports) : Type 0
   pub free : is_taken (db 3) row ≡ false
   pub put : rows_in next ≡ record { office = db 0; mail = db 1; runs = put_row row (db 3); sources = db 4; rows = db 6 }
 
--- the office says nothing any more, and the other tables stand
+-- the office says nothing any more, nothing is left of a row that said it alone, and the other tables stand
 pub record Silences (db next : Trees) : Type 0 where
   pub none : filter_map office_in (next 0) ≡ []
+  pub left : SaysAlone (db 0) → next 0 ≡ []
   pub rest : rows_in next ≡ record { office = next 0; mail = db 1; runs = db 3; sources = db 4; rows = db 6 }
 
 -- a row of the office was put in, with a rowid of its own, and the other tables stand
@@ -220,11 +252,14 @@ pub record SaysMore (db next : Trees) (said : Said) : Type 0 where
   pub free : is_taken (db 0) row ≡ false
   pub put : rows_in next ≡ record { office = put_row row (db 0); mail = db 1; runs = db 3; sources = db 4; rows = db 6 }
 
--- a run is in the tables: its reports stand beside the earlier ones, the office says this, and mail and testing stand
+-- a run is in the tables: its reports stand beside the earlier ones, the office says this, and mail and testing stand;
+-- the table of runs stays whole, and that of the office one row
 pub record RecordsRun (db next : Trees) (number : ℕ) (reports : Reports) (said : Said) : Type 0 where
   pub reported : run_map (next 3) ≡ insert (run_map (db 3)) number reports
   pub new : get (run_map (db 3)) number ≡ None
+  pub whole : IsWhole (run_map (db 3)) (db 3) → IsWhole (run_map (next 3)) (next 3)
   pub says : said_in (next 0) ≡ Some said
+  pub once : SaysAlone (db 0) → length (next 0) ≡ 1
   pub mail : next 1 ≡ db 1
   pub sources : next 4 ≡ db 4
   pub rows : next 6 ≡ db 6

@@ -41,7 +41,7 @@ abbrev pub rows_text : List ℕ
 rows_text = codes "SELECT rowid, arch, name, sender, number, place FROM testing_row"
 
 abbrev pub load_text : List ℕ
-load_text = codes "SELECT number, body FROM mail WHERE sender = ?1 AND number >= ?2 AND number <= ?3"
+load_text = codes "SELECT sender, number, body FROM mail WHERE sender = ?1 AND number >= ?2 AND number <= ?3"
 
 -- ---- the definitions of the tables
 

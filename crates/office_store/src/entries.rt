@@ -12,6 +12,7 @@ ghost use Rattle.sqlite.specs.State.{HasCleanDisk};
 ghost use Rattle.office_mail.specs.Read.{read};
 ghost use Rattle.office_store.specs.Given.{IsArchPlace, KnowsArchs, upload_in, binary_in};
 ghost use Rattle.office_store.specs.Tables.{IsTrusted, Lasts, IsOurs, IsCrowded, Same, kept_rows};
+ghost use Rattle.office_store.specs.Legible.{IsWhole, AreNamed};
 ghost use Rattle.office_store.specs.Entries.{source_in, source_columns, source_map, entry_in, entry_columns, entry_map};
 ghost use Rattle.office_store.specs.Holdings.{own_by, message_at as kept_message, source_as, source_of, row_as, row_of, is_arch_place, ReadsEach, put_all_sources, put_all_rows, IsGathered, suite_in};
 
@@ -388,6 +389,7 @@ pub(crate) fn testing<S: Alter>(
     ensures lasts { Lasts (state S.Store conn.old) (state S.Store conn.new) }
     ensures open { HasCleanDisk (state S.Store conn.new) → IsTrusted (state S.Store conn.old) → OnOk result (IsTrusted (state S.Store conn.new)) }
     ensures same { IsTrusted (state S.Store conn.new) → Same (state S.Store conn.old) (state S.Store conn.new) }
+    ensures bad { IsTrusted (state S.Store conn.new) → IsWhole (kept_rows ((state S.Store conn.new).now.trees 1)) ((state S.Store conn.new).now.trees 1) → AreNamed setup.now (state S.Store conn.new).now.trees → result ≢ Err (KeepFault.Store Cause.BadRow) }
     ensures known { IfOk result (λ testing. KnowsArchs setup.now.archs testing.rows) }
     ensures value { IsTrusted (state S.Store conn.new) → IfOk result (λ testing. testing ≡ suite_in setup.now (kept_rows ((state S.Store conn.new).now.trees 1)) (source_map ((state S.Store conn.new).now.trees 4)) (entry_map ((state S.Store conn.new).now.trees 6))) }
 {

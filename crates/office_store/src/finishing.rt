@@ -1,8 +1,10 @@
 //! A finished run, in one transaction over the tables.
 ghost use Rattle.std.specs.Prelude.{◌≡◌, ◌≢◌, Err, Some, OnOk, OnErr};
+ghost use Rattle.std.specs.Str.{IsUtf8};
 ghost use Rattle.sqlite.specs.Held.{state};
 ghost use Rattle.sqlite.specs.State.{HasCleanDisk};
 ghost use Rattle.office_store.specs.Tables.{IsTrusted, Lasts, IsOurs, IsInside, WentOn, said_in};
+ghost use Rattle.office_store.specs.Legible.{SaysOnce};
 ghost use Rattle.testing_rules.specs.InOrder.{IsInOrder};
 ghost use Rattle.office_store.specs.Finishing.{WritesRun, FinishesRun, with_count};
 
@@ -26,6 +28,7 @@ fn write_run<S: Alter>(
     ensures open { HasCleanDisk (state S.Store tx.new.conn.now) → IsTrusted (state S.Store tx.old.conn.now) → OnOk result (IsTrusted (state S.Store tx.new.conn.now)) }
     ensures on { IsTrusted (state S.Store tx.new.conn.now) → OnOk result (WentOn (state S.Store tx.old.conn.now) (state S.Store tx.new.conn.now)) }
     ensures ordered { OnOk result (IsInOrder done.now.testing.sources done.now.testing.rows) }
+    ensures texts { OnOk result (IsUtf8 done.now.excuses × IsUtf8 done.now.updates) }
     ensures done { IsTrusted (state S.Store tx.new.conn.now) → OnOk result (WritesRun (state S.Store tx.old.conn.now).now.trees (state S.Store tx.new.conn.now).now.trees run done.now (with_count run said.now)) }
     ensures err { IsTrusted (state S.Store tx.new.conn.now) → OnErr result ((state S.Store tx.new.conn.now).committed ≡ (state S.Store tx.old.conn.now).committed) }
 {
@@ -52,6 +55,7 @@ fn commit_run<S: Alter>(
     ensures ours { IsTrusted (state S.Store conn.new) → IsOurs (state S.Store conn.new) }
     ensures bad { result ≢ Err (KeepFault.Store Cause.BadRow) }
     ensures ordered { OnOk result (IsInOrder done.now.testing.sources done.now.testing.rows) }
+    ensures texts { OnOk result (IsUtf8 done.now.excuses × IsUtf8 done.now.updates) }
     ensures done { IsTrusted (state S.Store conn.new) → OnOk result (WritesRun (state S.Store conn.old).now.trees (state S.Store conn.new).now.trees run done.now (with_count run said.now)) }
     ensures err { IsTrusted (state S.Store conn.new) → OnErr result ((state S.Store conn.new).now ≡ (state S.Store conn.old).now) }
 {
@@ -75,7 +79,9 @@ pub(crate) fn finish<S: Alter>(
     ensures lasts { Lasts (state S.Store conn.old) (state S.Store conn.new) }
     ensures open { HasCleanDisk (state S.Store conn.new) → IsTrusted (state S.Store conn.old) → OnOk result (IsTrusted (state S.Store conn.new)) }
     ensures ours { IsTrusted (state S.Store conn.new) → IsOurs (state S.Store conn.new) }
+    ensures bad { IsTrusted (state S.Store conn.new) → SaysOnce ((state S.Store conn.old).now.trees 0) → result ≢ Err (KeepFault.Store Cause.BadRow) }
     ensures ordered { OnOk result (IsInOrder done.now.testing.sources done.now.testing.rows) }
+    ensures texts { OnOk result (IsUtf8 done.now.excuses × IsUtf8 done.now.updates) }
     ensures done { IsTrusted (state S.Store conn.new) → OnOk result (FinishesRun (state S.Store conn.old).now.trees (state S.Store conn.new).now.trees run done.now) }
     ensures err { IsTrusted (state S.Store conn.new) → OnErr result ((state S.Store conn.new).now ≡ (state S.Store conn.old).now) }
 {

@@ -1,14 +1,13 @@
 //! The table of mail.
-ghost use Rattle.std.specs.Prelude.{◌≡◌, ◌≢◌, ◌∷◌, [], List, ℕ, Err, pos, map, filter, IfOk, OnOk, OnErr, ◌++◌};
-ghost use Rattle.std.specs.List.{cons_option};
+ghost use Rattle.std.specs.Prelude.{◌≡◌, ◌≢◌, ◌≤◌, ◌<◌, ◌∷◌, [], List, ℕ, true, Some, Err, pos, nat_eq, map, filter, length, IfOk, OnOk, OnErr};
 ghost use Rattle.std.specs.List.Sorted.{IsPermutation};
-ghost use Rattle.office_store.specs.Content.{letter_at, letters_within};
-ghost use Rattle.std.specs.FinMap.{get, insert};
+ghost use Rattle.office_store.specs.Content.{letters_within};
+ghost use Rattle.std.specs.FinMap.{get};
 ghost use Rattle.sqlite.specs.Order.{column};
 ghost use Rattle.sqlite.specs.declared.types.Value.TheVariants.{Int, Blob};
 ghost use Rattle.sqlite.specs.Held.{state};
 ghost use Rattle.sqlite.specs.State.{HasCleanDisk};
-ghost use Rattle.office_store.specs.Tables.{IsTrusted, Lasts, IsOurs, IsInside, WentOn, Same, AddsLetter, IsCrowded, IsOnly, is_at, letter_columns, kept_rows, rows_in};
+ghost use Rattle.office_store.specs.Tables.{IsTrusted, Lasts, IsOurs, IsInside, WentOn, Same, AddsLetter, IsCrowded, IsOnly, is_at, is_between, letter_columns, shown_letter, letter_entry, ShowsLetters, rises_from, kept_rows};
 
 use crate::faults::{Cause, KeepFault, unread};
 use crate::values::{Letter, MailText};
@@ -75,27 +74,85 @@ pub fn find<S: Alter>(
     only_text(rows.as_slice(), sender, number)
 }
 
-/// The letter under a number comes in, where there is one.
-fn push_letter<S: Alter>(
+/// The rows of mail with this sender's place and a number from one to another, in any order.
+fn letters_between<S: Alter>(
     conn: &mut Connection<S>,
-    letters: &mut Vec<Letter>,
     sender: u32,
-    number: u32,
-) -> Result<(), KeepFault>
+    from: u32,
+    to: u32,
+) -> Result<Vec<Row>, Error>
     requires ours { IsTrusted (state S.Store conn.old) → IsOurs (state S.Store conn.old) }
     ensures before { IsTrusted (state S.Store conn.new) → IsTrusted (state S.Store conn.old) }
     ensures lasts { Lasts (state S.Store conn.old) (state S.Store conn.new) }
     ensures open { HasCleanDisk (state S.Store conn.new) → IsTrusted (state S.Store conn.old) → OnOk result (IsTrusted (state S.Store conn.new)) }
     ensures same { IsTrusted (state S.Store conn.new) → Same (state S.Store conn.old) (state S.Store conn.new) }
-    ensures pushed { IsTrusted (state S.Store conn.new) → OnOk result (letters.new.items ≡ letters.old.items ++ cons_option (letter_at (kept_rows ((state S.Store conn.new).now.trees 1)) sender number) []) }
+    ensures rows { IsTrusted (state S.Store conn.new) → IfOk result (λ rows. IsPermutation (map letter_columns (filter (is_between sender from to) ((state S.Store conn.new).now.trees 1))) rows.items) }
 {
-    if let Some(text) = find(conn, sender, number)? {
-        letters.push(Letter { number, text })?;
-    }
-    Ok(())
+    conn.query_all(
+        "SELECT sender, number, body FROM mail WHERE sender = ?1 AND number >= ?2 AND number <= ?3",
+        params![sender, from, to],
+    )
 }
 
-/// The kept numbers of a sender from one number to another with their texts, by number. Each number is looked up.
+/// The letter in a shown row, where it is of this sender.
+fn letter_in(row: &Row, sender: u32) -> Result<Letter, KeepFault>
+    ensures ok { IfOk result (λ letter. (column row.now 0 ≡ Int (pos sender)) × (column row.now 1 ≡ Int (pos letter.number)) × (column row.now 2 ≡ Blob letter.text)) }
+    ensures bad { result ≡ Err (KeepFault.Store Cause.BadRow) → (number : ℕ) (text : List ℕ) → number < 4_294_967_296 → row.now ≢ Int (pos sender) ∷ Int (pos number) ∷ Blob text ∷ [] }
+{
+    let from: u32 = row.get(0).map_err(unread)?;
+    if from != sender {
+        return Err(KeepFault::Store(Cause::BadRow));
+    }
+    let number: u32 = row.get(1).map_err(unread)?;
+    let bytes: Vec<u8> = row.get(2).map_err(unread)?;
+    Ok(Letter {
+        number,
+        text: MailText::of(bytes),
+    })
+}
+
+/// The letters in these rows, in their order.
+fn letters_in(alloc: Global, rows: &[Row], sender: u32) -> Result<Vec<Letter>, KeepFault>
+    ensures ok { IfOk result (λ letters. map shown_letter rows.now ≡ map Some (map (letter_entry sender) letters.items)) }
+    ensures bad { result ≡ Err (KeepFault.Store Cause.BadRow) → ShowsLetters sender rows.now → ⊥ }
+{
+    let mut letters = Vec::new(alloc);
+    'rows: for row in rows {
+        let letter = letter_in(row, sender)?;
+        letters.push(letter)?;
+    }
+    Ok(letters)
+}
+
+/// Whether each letter's number is above the one before.
+fn are_rising(letters: &[Letter]) -> bool
+    ensures { result ≡ rises_from 0 letters.now }
+{
+    let mut least = 0u64;
+    'letters: for letter in letters {
+        if (letter.number as u64) < least {
+            return false;
+        }
+        least = letter.number as u64 + 1;
+    }
+    true
+}
+
+/// These letters by their numbers. Where two have one number, the table is no office's.
+fn by_number(letters: Vec<Letter>) -> Result<Vec<Letter>, KeepFault>
+    ensures same { IfOk result (λ sorted. IsPermutation letters.items sorted.items) }
+    ensures rising { IfOk result (λ sorted. rises_from 0 sorted.items ≡ true) }
+    ensures bad { result ≡ Err (KeepFault.Store Cause.BadRow) → ((number : ℕ) → length (filter (λ l. nat_eq l.number number) letters.items) ≤ 1) → ⊥ }
+{
+    let mut sorted = letters;
+    sorted.sort_unstable_by_key(|letter| letter.number);
+    if !are_rising(sorted.as_slice()) {
+        return Err(KeepFault::Store(Cause::BadRow));
+    }
+    Ok(sorted)
+}
+
+/// The kept numbers of a sender from one number to another with their texts, by number, as one statement finds them.
 pub fn load<S: Alter>(
     alloc: Global,
     conn: &mut Connection<S>,
@@ -108,14 +165,12 @@ pub fn load<S: Alter>(
     ensures lasts { Lasts (state S.Store conn.old) (state S.Store conn.new) }
     ensures open { HasCleanDisk (state S.Store conn.new) → IsTrusted (state S.Store conn.old) → OnOk result (IsTrusted (state S.Store conn.new)) }
     ensures same { IsTrusted (state S.Store conn.new) → Same (state S.Store conn.old) (state S.Store conn.new) }
+    ensures bad { IsTrusted (state S.Store conn.new) → result ≡ Err (KeepFault.Store Cause.BadRow) → IsCrowded ((state S.Store conn.new).now.trees 1) }
     ensures loaded { IsTrusted (state S.Store conn.new) → IfOk result (λ letters. letters.items ≡ letters_within (kept_rows ((state S.Store conn.new).now.trees 1)) sender from to) }
 {
-    let mut letters = Vec::new(alloc);
-    let end = to as u64 + 1;
-    'numbers: for number in from as u64..end {
-        push_letter(conn, &mut letters, sender, number as u32)?;
-    }
-    Ok(letters)
+    let rows = letters_between(conn, sender, from, to)?;
+    let letters = letters_in(alloc, rows.as_slice(), sender)?;
+    by_number(letters)
 }
 
 /// Adds one text to the mail.

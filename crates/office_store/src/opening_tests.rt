@@ -1,4 +1,6 @@
-use crate::{Finished, OpenFault, Tables};
+ghost use Rattle.std.specs.Prelude.{◌≡◌, []};
+
+use crate::{Finished, Keeper, OpenFault, Tables};
 use deb_control::Text;
 use office_mail::Setup;
 use sqlite::{Alter, Connection};
@@ -56,13 +58,16 @@ fn keep_in<S: Alter>(alloc: Global, conn: Connection<S>, setup: &Setup) -> (bool
     }
 }
 
-/// Finishes the first run of an office's tables, and whether that went well.
+/// Finishes the first run of an office's tables with nothing in testing, and whether that went well.
+#[tactic(auto, using(crate::proofs::EmptyTesting::none_known, crate::proofs::EmptyTesting::none_given))]
 fn finish_in<S: Alter>(
     alloc: Global,
     conn: Connection<S>,
     setup: &Setup,
     done: &Finished,
-) -> (bool, Connection<S>) {
+) -> (bool, Connection<S>)
+    requires { done.now.testing ≡ record { sources = []; rows = [] } }
+{
     match Tables::open(alloc, conn, setup) {
         Ok(mut tables) => {
             let finished = match tables.finished() {
@@ -104,12 +109,23 @@ fn find_in<S: Alter>(alloc: Global, conn: Connection<S>, setup: &Setup) -> (bool
     }
 }
 
-/// Whether the tables are told to be those of another setup.
-fn is_other<S: Alter>(alloc: Global, conn: Connection<S>, setup: &Setup) -> (bool, Connection<S>) {
+/// Why the tables aren't opened for a setup, if they aren't.
+fn refused_in<S: Alter>(
+    alloc: Global,
+    conn: Connection<S>,
+    setup: &Setup,
+) -> (Option<OpenFault>, Connection<S>) {
     match Tables::open(alloc, conn, setup) {
-        Ok(tables) => (false, tables.into_connection()),
-        Err((fault, conn)) => (fault == OpenFault::OtherSetup, conn),
+        Ok(tables) => (None, tables.into_connection()),
+        Err((fault, conn)) => (Some(fault), conn),
     }
+}
+
+/// Writes another schema number into an office's tables, and whether that went well.
+fn renumber<S: Alter>(conn: Connection<S>) -> (bool, Connection<S>) {
+    let mut conn = conn;
+    let written = conn.execute("UPDATE office SET schema = 7", &[]).is_ok();
+    (written, conn)
 }
 
 #[test]
@@ -123,12 +139,15 @@ fn an_office_is_opened_again(rt: HostRuntime) -> Result<(), Fail> {
         updates: Text::from_str(alloc, "update 1")?,
     };
     let (kept, conn) = keep_in(alloc, Connection::open_in_memory(alloc)?, &setup);
-    let (other, conn) = is_other(alloc, conn, &smaller);
+    let (other, conn) = refused_in(alloc, conn, &smaller);
     let (finished, conn) = finish_in(alloc, conn, &setup, &done);
     let (found, conn) = find_in(alloc, conn, &setup);
     let (reported, conn) = reports_in(alloc, conn, &setup);
+    let (written, conn) = renumber(conn);
+    let (unknown, conn) = refused_in(alloc, conn, &setup);
     drop(conn);
-    assert!(rt; kept && other && found);
+    assert!(rt; kept && other == Some(OpenFault::OtherSetup) && found);
     assert!(rt; finished && reported);
+    assert!(rt; written && unknown == Some(OpenFault::UnknownSchema));
     Ok(())
 }

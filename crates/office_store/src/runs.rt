@@ -1,12 +1,13 @@
 //! The tables of the office and of its finished runs.
-ghost use Rattle.std.specs.Prelude.{◌≡◌, ◌≢◌, ◌<◌, Err, ◌∷◌, [], Some, pos, map, filter, IfOk, OnOk, OnErr};
+ghost use Rattle.std.specs.Prelude.{◌≡◌, ◌≢◌, ◌<◌, ℕ, Err, ◌∷◌, [], Some, pos, map, filter, IfOk, OnOk, OnErr};
 ghost use Rattle.std.specs.List.Sorted.{IsPermutation};
 ghost use Rattle.std.specs.FinMap.{get};
 ghost use Rattle.std.specs.Str.{IsUtf8};
-ghost use Rattle.office_store.specs.Legible.{SaysOnce};
+ghost use Rattle.office_store.specs.Legible.{SaysOnce, AreReported};
 ghost use Rattle.office_store.specs.Content.{item_from_one};
 ghost use Rattle.office_store.specs.Holdings.{reports_to, count_said};
 ghost use Rattle.office_store.specs.declared.values.Said.{Said as SaidNow};
+ghost use Rattle.office_store.specs.declared.values.Reports.{Reports as ReportsNow};
 ghost use Rattle.sqlite.specs.Order.{column};
 ghost use Rattle.sqlite.specs.declared.types.Value.TheVariants.{Int, Text as Words};
 ghost use Rattle.sqlite.specs.Held.{state};
@@ -90,6 +91,7 @@ pub fn finished<S: Alter>(conn: &mut Connection<S>) -> Result<u32, KeepFault>
 
 /// The reports in the row of a run.
 fn reports_in(row: &Row, run: u32) -> Result<Reports, KeepFault>
+    ensures bad { result ≡ Err (KeepFault.Store Cause.BadRow) → (reports : ReportsNow) → IsUtf8 reports.excuses → IsUtf8 reports.updates → row.now ≢ Int (pos run) ∷ Words reports.excuses ∷ Words reports.updates ∷ [] }
     ensures ok { IfOk result (λ r. (column row.now 0 ≡ Int (pos run)) × (column row.now 1 ≡ Words r.excuses) × (column row.now 2 ≡ Words r.updates)) }
 {
     let number: u32 = row.get(0).map_err(unread)?;
@@ -107,6 +109,8 @@ fn reports_in(row: &Row, run: u32) -> Result<Reports, KeepFault>
 /// The reports of the only row, if there is one.
 fn only_reports(rows: &[Row], run: u32) -> Result<Option<Reports>, KeepFault>
     ensures ok { IfOk result (λ reports. IsOnlyRun run reports rows.now) }
+    ensures none { result ≡ Err (KeepFault.Store Cause.BadRow) → rows.now ≢ [] }
+    ensures one { result ≡ Err (KeepFault.Store Cause.BadRow) → (reports : ReportsNow) → IsUtf8 reports.excuses → IsUtf8 reports.updates → rows.now ≢ (Int (pos run) ∷ Words reports.excuses ∷ Words reports.updates ∷ []) ∷ [] }
 {
     match rows {
         [] => Ok(None),
@@ -138,6 +142,7 @@ fn recorded<S: Alter>(conn: &mut Connection<S>, run: u32) -> Result<Option<Repor
     ensures open { HasCleanDisk (state S.Store conn.new) → IsTrusted (state S.Store conn.old) → OnOk result (IsTrusted (state S.Store conn.new)) }
     ensures same { IsTrusted (state S.Store conn.new) → Same (state S.Store conn.old) (state S.Store conn.new) }
     ensures value { IsTrusted (state S.Store conn.new) → IfOk result (λ reports. reports ≡ get (run_map ((state S.Store conn.new).now.trees 3)) run) }
+    ensures bad { IsTrusted (state S.Store conn.new) → (finished : ℕ) → AreReported ((state S.Store conn.new).now.trees 3) finished → result ≢ Err (KeepFault.Store Cause.BadRow) }
 {
     let rows = run_rows(conn, run)?;
     only_reports(rows.as_slice(), run)
@@ -150,6 +155,7 @@ pub fn reports<S: Alter>(conn: &mut Connection<S>, run: u32) -> Result<Option<Re
     ensures lasts { Lasts (state S.Store conn.old) (state S.Store conn.new) }
     ensures open { HasCleanDisk (state S.Store conn.new) → IsTrusted (state S.Store conn.old) → OnOk result (IsTrusted (state S.Store conn.new)) }
     ensures same { IsTrusted (state S.Store conn.new) → Same (state S.Store conn.old) (state S.Store conn.new) }
+    ensures bad { IsTrusted (state S.Store conn.new) → (once : SaysOnce ((state S.Store conn.new).now.trees 0)) → AreReported ((state S.Store conn.new).now.trees 3) once.said.finished → result ≢ Err (KeepFault.Store Cause.BadRow) }
     ensures value { IsTrusted (state S.Store conn.new) → IfOk result (λ reports. reports ≡ item_from_one run (reports_to (run_map ((state S.Store conn.new).now.trees 3)) (count_said (said_rows ((state S.Store conn.new).now.trees 0))))) }
 {
     if run == 0 {

@@ -1,6 +1,6 @@
 use Rattle.std.proofs.Common.{◌∙◌}
 use Rattle.sqlite.specs.Held.{state}
-use Rattle.office_store.proofs.SettingLemmas.{rows_step}
+use Rattle.office_store.proofs.SettingLemmas.{rows_start, rows_step}
 use Rattle.office_store.proofs.StateLemmas.{lasts_then, clean_before}
 use Rattle.office_store.proofs.testing.set_rows.Goals as goal
 
@@ -28,3 +28,15 @@ returns-clause-lasts g c = c.rows.invariant.lasts
 
 pub returns-clause-open : goal.returns-clause-open
 returns-clause-open g c clean trusted = c.rows.invariant.still clean trusted
+
+pub rows-init : goal.rows-init
+rows-init g c = record {
+  same = c.in_ok-clear_rows.ensures.same_reference;
+  lasts = c.in_ok-clear_rows.ensures.lasts;
+  still = λ clean trusted. c.in_ok-clear_rows.ensures.open clean trusted;
+  so_far = λ trusted. record {
+    before = c.in_ok-clear_rows.ensures.before trusted;
+    on = c.in_ok-clear_rows.ensures.on trusted;
+    changed = rows_start (state g.S.Store c.args.tx.now.conn.now).now.trees (state g.S.Store c.clear_rows.new.tx.conn.now).now.trees (c.in_ok-clear_rows.ensures.cleared trusted);
+  };
+}

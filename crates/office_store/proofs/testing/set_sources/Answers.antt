@@ -1,6 +1,6 @@
 use Rattle.std.proofs.Common.{◌∙◌}
 use Rattle.sqlite.specs.Held.{state}
-use Rattle.office_store.proofs.SettingLemmas.{sources_step}
+use Rattle.office_store.proofs.SettingLemmas.{sources_start, sources_step}
 use Rattle.office_store.proofs.StateLemmas.{lasts_then, clean_before}
 use Rattle.office_store.proofs.testing.set_sources.Goals as goal
 
@@ -28,3 +28,15 @@ returns-clause-lasts g c = c.sources.invariant.lasts
 
 pub returns-clause-open : goal.returns-clause-open
 returns-clause-open g c clean trusted = c.sources.invariant.still clean trusted
+
+pub sources-init : goal.sources-init
+sources-init g c = record {
+  same = c.in_ok-clear_sources.ensures.same_reference;
+  lasts = c.in_ok-clear_sources.ensures.lasts;
+  still = λ clean trusted. c.in_ok-clear_sources.ensures.open clean trusted;
+  so_far = λ trusted. record {
+    before = c.in_ok-clear_sources.ensures.before trusted;
+    on = c.in_ok-clear_sources.ensures.on trusted;
+    changed = sources_start (state g.S.Store c.args.tx.now.conn.now).now.trees (state g.S.Store c.clear_sources.new.tx.conn.now).now.trees (c.in_ok-clear_sources.ensures.cleared trusted);
+  };
+}

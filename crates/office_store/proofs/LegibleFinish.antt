@@ -1,0 +1,129 @@
+-- A finished run leaves the tables legible.
+use Rattle.std.proofs.Common.{◌≡◌, ◌≤◌, ◌<◌, ◌+◌, inl, inr, ℕ, List, [], ◌∷◌, map, length, Bool, true, false, cond, nat_eq, Some, IsSome, IsUtf8, Result, Ok, Err, OnOk, OnErr, is_some, refl, sym, ap, subst, ◌∙◌, arith}
+use Rattle.std.proofs.lemmas.Bool.Decides.{nat_tests}
+use Rattle.std.proofs.lemmas.Cmp.{nat_cmp_total}
+use Rattle.std.specs.List.{AllByRecursion}
+use Rattle.std.specs.Ordering.{nat_cmp, eq_by_cmp}
+use Rattle.std.specs.FinMap.{get, get-insert, get-from_entries}
+use Rattle.sqlite.specs.Tree.{Trees}
+use Rattle.sqlite.specs.Effect.{Database}
+use Rattle.sqlite_rules.specs.Lists.{Has}
+use Rattle.testing_rules.specs.declared.suite.SourceIn.{SourceIn}
+use Rattle.testing_rules.specs.declared.suite.RowIn.{RowIn}
+use Rattle.testing_rules.proofs.Orders.{text_order}
+use Rattle.office_mail.specs.Lists.{Lists}
+use Rattle.office_mail.specs.Kept.{Kept, Place}
+use Rattle.office_store.specs.declared.values.Finished.{Finished}
+use Rattle.office_store.specs.declared.values.Reports.{Reports}
+use Rattle.office_store.specs.declared.values.Said.{Said}
+use Rattle.office_store.specs.Content.{reports_in}
+use Rattle.office_store.specs.Given.{IsGiven}
+use Rattle.office_store.specs.Tables.{IsWhole, kept_rows, said_in, run_map}
+use Rattle.office_store.specs.Entries.{source_map, source_entry, entry_map, row_entry}
+use Rattle.office_store.specs.Finishing.{with_count, FinishesRun}
+use Rattle.office_store.specs.Holdings.{source_at, row_at, count_said, content_in}
+use Rattle.office_store.specs.Legible.{SaysOnce, AreReported, AreNamed, IsLegible}
+use Rattle.office_store.proofs.LetterFacts.{nat_is}
+use Rattle.office_store.proofs.SettingLemmas.{text_exact, row_order, row_exact}
+use Rattle.office_store.proofs.EntryMaps.{from_first}
+use Rattle.office_store.proofs.EntryValues.{has_map}
+use Rattle.office_store.proofs.ReportFacts.{length_reports}
+use Rattle.office_store.proofs.ContentFacts.{sources_named, rows_named}
+
+each_has : {X : Type 0} (P : X → Type 0) (xs : List X) (x : X) → AllByRecursion P xs → Has xs x → P x
+each_has P [] x all there = absurd there
+each_has P (y ∷ xs) x all (inl same) = subst P (sym same) all.0
+each_has P (y ∷ xs) x all (inr there) = each_has P xs x all.1 there
+
+-- a run up to the new one that isn't the new one is an earlier one
+earlier : (k run n : ℕ) → nat_eq run k ≡ false → k ≤ run → run ≡ n + 1 → k ≤ n
+earlier k run n other within next = grind (arith, nat_tests)
+
+same_value : {X : Type 0} {x y : X} → Some x ≡ Some y → x ≡ y
+same_value e = cc
+
+module _ (setup : Lists) (db next : Trees) (run : ℕ) (done : Finished) (it : FinishesRun db next run done) (was : IsLegible setup db) where
+  same_said : it.said ≡ was.office.said
+  same_said = same_value (sym it.said_is ∙ was.office.is)
+
+  abbrev says_now : run < 4_294_967_296 → SaysOnce (next 0)
+  says_now fits = record {
+    said = with_count run it.said;
+    is = it.writes.says;
+    once = it.writes.once (was.office.once, ap is_some was.office.is);
+    schema = subst (λ (s : Said). s.schema < 4_294_967_296) (sym same_said) was.office.schema;
+    finished = fits;
+    setup = subst (λ (s : Said). IsUtf8 s.setup) (sym same_said) was.office.setup;
+  }
+
+  next_run : run ≡ length (content_in setup db).reports + 1 → run ≡ was.office.said.finished + 1
+  next_run is = is ∙ ap (λ k. k + 1) (length_reports (run_map (db 3)) (count_said (said_in (db 0))) ∙ ap count_said was.office.is)
+
+  run_at : (k : ℕ) → get (run_map (next 3)) k ≡ cond (eq_by_cmp nat_cmp k run) (Some (reports_in done)) (get (run_map (db 3)) k)
+  run_at k = ap (λ m. get m k) it.writes.reported ∙ get-insert nat_cmp_total (run_map (db 3)) run (reports_in done) k
+
+  reported_each : run ≡ was.office.said.finished + 1 → (k : ℕ) → 1 ≤ k → k ≤ run → IsSome (get (run_map (next 3)) k)
+  reported_each is k low high = subst IsSome (sym (run_at k)) (go (eq_by_cmp nat_cmp k run) refl)
+    where
+      go : (b : Bool) → eq_by_cmp nat_cmp k run ≡ b → IsSome (cond b (Some (reports_in done)) (get (run_map (db 3)) k))
+      go true same = refl
+      go false other = was.runs.each k low (earlier k run was.office.said.finished (sym (nat_is k run) ∙ other) high is)
+
+  reported_texts : IsUtf8 done.excuses → IsUtf8 done.updates → (k : ℕ) (reports : Reports) → get (run_map (next 3)) k ≡ Some reports → IsUtf8 reports.excuses × IsUtf8 reports.updates
+  reported_texts excuses updates k reports found = go (eq_by_cmp nat_cmp k run) (sym (run_at k) ∙ found)
+    where
+      go : (b : Bool) → cond b (Some (reports_in done)) (get (run_map (db 3)) k) ≡ Some reports → IsUtf8 reports.excuses × IsUtf8 reports.updates
+      go true is =
+          let same : reports_in done ≡ reports = same_value is in
+          (subst (λ (r : Reports). IsUtf8 r.excuses) same excuses, subst (λ (r : Reports). IsUtf8 r.updates) same updates)
+      go false is = was.runs.texts k reports is
+
+  reported_now : run ≡ length (content_in setup db).reports + 1 → IsUtf8 done.excuses → IsUtf8 done.updates → AreReported (next 3) run
+  reported_now is excuses updates = record {
+    whole = it.writes.whole_runs was.runs.whole;
+    each = reported_each (next_run is);
+    texts = reported_texts excuses updates;
+  }
+
+  kept_still : kept_rows (db 1) ≡ kept_rows (next 1)
+  kept_still = ap kept_rows (sym it.writes.mail)
+
+  source_named : IsGiven setup (content_in setup db) done.testing → (name : List ℕ) (p : Place) → get (source_map (next 4)) name ≡ Some p → IsSome (source_at setup (kept_rows (next 1)) (name, p))
+  source_named given name p found =
+      let there = from_first text_order text_exact (map source_entry done.testing.sources) name p (sym (ap (λ m. get m name) it.writes.sources ∙ get-from_entries text_order (map source_entry done.testing.sources) name) ∙ found) in
+      let s = has_map source_entry done.testing.sources (name, p) there in
+      let is : source_at setup (kept_rows (db 1)) (source_entry s.0) ≡ Some s.0 =
+      each_has (λ (x : SourceIn). source_at setup (kept_rows (db 1)) (source_entry x) ≡ Some x) done.testing.sources s.0 (sources_named setup db next run done it given) s.1 in
+      subst (λ (k : Kept). IsSome (source_at setup k (name, p))) kept_still (ap is_some (ap (source_at setup (kept_rows (db 1))) s.2 ∙ is))
+
+  row_named : IsGiven setup (content_in setup db) done.testing → (key : ℕ × List ℕ) (value : Place × ℕ) → get (entry_map (next 6)) key ≡ Some value → IsSome (row_at setup (kept_rows (next 1)) (key, value))
+  row_named given key value found =
+      let there = from_first row_order row_exact (map row_entry done.testing.rows) key value (sym (ap (λ m. get m key) it.writes.rows ∙ get-from_entries row_order (map row_entry done.testing.rows) key) ∙ found) in
+      let r = has_map row_entry done.testing.rows (key, value) there in
+      let is : row_at setup (kept_rows (db 1)) (row_entry r.0) ≡ Some r.0 =
+      each_has (λ (x : RowIn). row_at setup (kept_rows (db 1)) (row_entry x) ≡ Some x) done.testing.rows r.0 (rows_named setup db next run done it given) r.1 in
+      subst (λ (k : Kept). IsSome (row_at setup k (key, value))) kept_still (ap is_some (ap (row_at setup (kept_rows (db 1))) r.2 ∙ is))
+
+  named_now : IsGiven setup (content_in setup db) done.testing → AreNamed setup next
+  named_now given = record {
+    sources = it.writes.whole_sources was.testing.sources;
+    source = source_named given;
+    rows = it.writes.whole_rows was.testing.rows;
+    row = row_named given;
+  }
+
+-- the tables stay legible
+pub finish_legible : (setup : Lists) (db next : Trees) (run : ℕ) (done : Finished) → FinishesRun db next run done → run < 4_294_967_296 → IsUtf8 done.excuses → IsUtf8 done.updates → run ≡ length (content_in setup db).reports + 1
+    → IsGiven setup (content_in setup db) done.testing → IsLegible setup db → IsLegible setup next
+finish_legible setup db next run done it fits excuses updates is given was = record {
+  office = says_now setup db next run done it was fits;
+  mail = subst (λ rows. IsWhole (kept_rows rows) rows) (sym it.writes.mail) was.mail;
+  runs = reported_now setup db next run done it was is excuses updates;
+  testing = named_now setup db next run done it was given;
+}
+
+-- the same of a call that may have failed
+pub finish_legible_on : {T E : Type 0} (given : Result T E) (setup : Lists) (old new : Database) (run : ℕ) (done : Finished) → OnOk given (FinishesRun old.trees new.trees run done) → OnErr given (new ≡ old) → OnOk given (IsUtf8 done.excuses × IsUtf8 done.updates)
+    → run < 4_294_967_296 → run ≡ length (content_in setup old.trees).reports + 1 → IsGiven setup (content_in setup old.trees) done.testing → IsLegible setup old.trees → IsLegible setup new.trees
+finish_legible_on (Ok v) setup old new run done it err texts fits is gives was = finish_legible setup old.trees new.trees run done it fits texts.0 texts.1 is gives was
+finish_legible_on (Err e) setup old new run done it err texts fits is gives was = subst (λ (d : Database). IsLegible setup d.trees) (sym err) was
