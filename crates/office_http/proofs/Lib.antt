@@ -20,3 +20,5 @@ pub mod WalkFacts
 pub mod RunFacts
 pub mod GivenFacts
 pub mod LastFacts
+pub mod LetterFacts
+pub mod LookFacts

@@ -4,6 +4,7 @@ pub mod Counted
 pub mod Delivered
 pub mod Ending
 pub mod Lasting
+pub mod Looking
 pub mod Losses
 pub mod Outcome
 pub mod Output

@@ -1,21 +1,21 @@
 //! The covered messages of a run, taken from the store.
 #![tactic(auto, using(crate::proofs::LastFacts::lasting))]
 
-ghost use Rattle.std.specs.Prelude.{is_ok, ◌≡◌, ◌++◌, IfOk, IfErr, OnOk, length, option_to_list};
+ghost use Rattle.std.specs.Prelude.{◌≡◌, ◌+◌, ◌<◌, ◌≤◌, ◌++◌, IfOk, IfErr, OnOk, length, option_to_list};
 ghost use Rattle.testing_rules.specs.Covered.{Covered};
 ghost use Rattle.testing_rules.specs.StandsFor.{StandsFor};
 ghost use Rattle.testing_rules.specs.Suite.{Suite};
 ghost use Rattle.office_mail.specs.Runs.{cover_of};
-ghost use Rattle.office_http.specs.Counted.{Counted};
-ghost use Rattle.office_http.specs.Lasting.{Lasts};
+ghost use Rattle.office_http.specs.Looking.{Looks};
 ghost use Rattle.office_http.specs.Outcome.{item_at};
-ghost use Rattle.office_http.specs.Walk.{said_at, said_by, said_within};
+ghost use Rattle.office_http.specs.Walk.{said_by, said_in, said_within};
 
 use crate::faults::StoreFault;
 use crate::rules::{cover_of, take_body};
 use crate::stored;
+use crate::stored::{BLOCK, block_end};
 use office_mail::{MailFault, RunOrder, Setup, read_message};
-use office_store::Keeper;
+use office_store::{Keeper, Letter};
 use std::alloc::Global;
 use testing_rules::Facts;
 
@@ -27,12 +27,7 @@ pub fn facts<K: Keeper>(
     orders: &[RunOrder],
 ) -> Result<Facts, StoreFault>
     ensures facts { K.is_trusted keeper.new → IfOk result (λ facts. (t : Suite) → StandsFor facts (said_within setup.now (K.content keeper.old).kept (cover_of orders.now) (length setup.now.senders)) t) }
-    ensures same { K.is_trusted keeper.new → K.content keeper.new ≡ K.content keeper.old }
-    ensures setup { K.setup keeper.new ≡ K.setup keeper.old }
-    ensures before { K.is_trusted keeper.new → K.is_trusted keeper.old }
-    ensures legible { K.is_trusted keeper.new → K.is_legible keeper.old → K.is_legible keeper.new }
-    ensures lasts { Lasts K.Keeper keeper.old keeper.new (is_ok result) }
-    ensures counted { Counted (K.refusals keeper.old) (K.refusals keeper.new) result }
+    ensures looks { Looks K.Keeper keeper.old keeper.new result }
 {
     let mut facts = Facts::new(alloc);
     'senders: for sender in 0..setup.senders().len() {
@@ -52,40 +47,52 @@ fn take_sender<K: Keeper>(
     cover: u32,
 ) -> Result<(), StoreFault>
     ensures taken { K.is_trusted keeper.new → OnOk result ((s : Covered) (t : Suite) → StandsFor facts.old s t → StandsFor facts.new (said_by setup.now (K.content keeper.old).kept sender cover ++ s) t) }
-    ensures same { K.is_trusted keeper.new → K.content keeper.new ≡ K.content keeper.old }
-    ensures setup { K.setup keeper.new ≡ K.setup keeper.old }
-    ensures before { K.is_trusted keeper.new → K.is_trusted keeper.old }
-    ensures legible { K.is_trusted keeper.new → K.is_legible keeper.old → K.is_legible keeper.new }
-    ensures lasts { Lasts K.Keeper keeper.old keeper.new (is_ok result) }
-    ensures counted { Counted (K.refusals keeper.old) (K.refusals keeper.new) result }
+    ensures looks { Looks K.Keeper keeper.old keeper.new result }
 {
-    'numbers: for number in 0..cover {
-        take_place(alloc, setup, keeper, facts, sender, number + 1)?;
+    let mut taken = 0;
+    'loads: while taken < cover {
+        let end = block_end(taken, BLOCK, cover);
+        take_block(alloc, setup, keeper, facts, sender, taken, end)?;
+        taken = end;
     }
     Ok(())
 }
 
-/// The facts take what is said at a place, where a text is kept there.
-fn take_place<K: Keeper>(
+/// The facts, which took what a sender says up to a number, take what it says on up to another.
+fn take_block<K: Keeper>(
     alloc: Global,
     setup: &Setup,
     keeper: &mut K,
     facts: &mut Facts,
     sender: u32,
-    number: u32,
+    taken: u32,
+    end: u32,
 ) -> Result<(), StoreFault>
-    ensures taken { K.is_trusted keeper.new → OnOk result ((s : Covered) (t : Suite) → StandsFor facts.old s t → StandsFor facts.new (said_at setup.now (K.content keeper.old).kept (sender, number) ++ s) t) }
-    ensures same { K.is_trusted keeper.new → K.content keeper.new ≡ K.content keeper.old }
-    ensures setup { K.setup keeper.new ≡ K.setup keeper.old }
-    ensures before { K.is_trusted keeper.new → K.is_trusted keeper.old }
-    ensures legible { K.is_trusted keeper.new → K.is_legible keeper.old → K.is_legible keeper.new }
-    ensures lasts { Lasts K.Keeper keeper.old keeper.new (is_ok result) }
-    ensures counted { Counted (K.refusals keeper.old) (K.refusals keeper.new) result }
+    requires on { taken < end }
+    requires block { end ≤ taken + 256 }
+    ensures taken { K.is_trusted keeper.new → OnOk result ((s : Covered) (t : Suite) → StandsFor facts.old (said_by setup.now (K.content keeper.old).kept sender taken ++ s) t → StandsFor facts.new (said_by setup.now (K.content keeper.old).kept sender end ++ s) t) }
+    ensures looks { Looks K.Keeper keeper.old keeper.new result }
 {
-    match stored::find(keeper, sender, number)? {
-        Some(text) => take_text(alloc, setup, facts, sender, number, text.as_slice()),
-        None => Ok(()),
+    let letters = stored::load(keeper, sender, taken + 1, end)?;
+    take_letters(alloc, setup, facts, sender, &letters)
+}
+
+/// The facts take what letters of a sender say. It fails for want of memory alone.
+fn take_letters(
+    alloc: Global,
+    setup: &Setup,
+    facts: &mut Facts,
+    sender: u32,
+    letters: &[Letter],
+) -> Result<(), StoreFault>
+    ensures taken { OnOk result ((s : Covered) (t : Suite) → StandsFor facts.old s t → StandsFor facts.new (said_in setup.now sender letters.now s) t) }
+    ensures no_store { IfErr result (λ fault. fault ≡ StoreFault.NoMemory) }
+{
+    'letters: for letter in letters {
+        let text = letter.text.as_slice();
+        take_text(alloc, setup, facts, sender, letter.number, text)?;
     }
+    Ok(())
 }
 
 /// The facts take what a text says under its sender and number. It fails for want of memory alone.

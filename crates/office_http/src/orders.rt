@@ -1,17 +1,19 @@
 //! Run orders in the kept mail, and what they wait for.
 #![tactic(auto, using(crate::proofs::LastFacts::lasting))]
 
-ghost use Rattle.std.specs.Prelude.{is_ok, ◌≡◌, ◌≢◌, ℕ, ◌+◌, ◌<◌, ◌≤◌, ◌↔◌, IsTrue, IfOk, IfErr, OnOk, None, length, slice_index};
+ghost use Rattle.std.specs.Prelude.{◌≡◌, ◌≢◌, ℕ, ◌+◌, ◌<◌, ◌≤◌, ◌↔◌, IsTrue, IfOk, IfErr, OnOk, None, length, slice_index};
 ghost use Rattle.std.specs.FinMap.{get};
+ghost use Rattle.office_mail.specs.Kept.{Kept};
 ghost use Rattle.office_mail.specs.Runs.{order_at, order_in, order_in_body};
-ghost use Rattle.office_http.specs.Counted.{Counted};
-ghost use Rattle.office_http.specs.Lasting.{Lasts};
-ghost use Rattle.office_http.specs.Ready.{FirstOrders, HasNumbers, HasEach, HasPlaces, IsReached};
+ghost use Rattle.office_store.specs.Content.{letters_within};
+ghost use Rattle.office_http.specs.Looking.{Looks};
+ghost use Rattle.office_http.specs.Ready.{FirstOrders, GoesOn, HasNumbers, HasEach, HasPlaces, IsReached};
 
 use crate::faults::StoreFault;
 use crate::stored;
+use crate::stored::{BLOCK, block_end};
 use office_mail::{Body, MailFault, Message, RunOrder, Setup, read_message, ready};
-use office_store::Keeper;
+use office_store::{Keeper, Letter};
 use std::alloc::Global;
 
 /// The run order that a kept text is, or none. It fails for want of memory alone.
@@ -54,12 +56,7 @@ pub fn order<K: Keeper>(
     number: u32,
 ) -> Result<Option<RunOrder>, StoreFault>
     ensures order { K.is_trusted keeper.new → IfOk result (λ order. order ≡ order_at setup.now (K.content keeper.old).kept number) }
-    ensures same { K.is_trusted keeper.new → K.content keeper.new ≡ K.content keeper.old }
-    ensures setup { K.setup keeper.new ≡ K.setup keeper.old }
-    ensures before { K.is_trusted keeper.new → K.is_trusted keeper.old }
-    ensures legible { K.is_trusted keeper.new → K.is_legible keeper.old → K.is_legible keeper.new }
-    ensures lasts { Lasts K.Keeper keeper.old keeper.new (is_ok result) }
-    ensures counted { Counted (K.refusals keeper.old) (K.refusals keeper.new) result }
+    ensures looks { Looks K.Keeper keeper.old keeper.new result }
 {
     match stored::find(keeper, setup.runs(), number)? {
         Some(text) => read_order(alloc, setup, text.as_slice()),
@@ -79,12 +76,7 @@ pub fn read_orders<K: Keeper>(
     ensures first { K.is_trusted keeper.new → FirstOrders setup.now (K.content keeper.old).kept orders.new.items }
     ensures next { length orders.old.items ≤ run → length orders.new.items ≤ run }
     ensures none { K.is_trusted keeper.new → OnOk result (length orders.new.items < run → order_at setup.now (K.content keeper.old).kept (length orders.new.items + 1) ≡ None) }
-    ensures same { K.is_trusted keeper.new → K.content keeper.new ≡ K.content keeper.old }
-    ensures setup { K.setup keeper.new ≡ K.setup keeper.old }
-    ensures before { K.is_trusted keeper.new → K.is_trusted keeper.old }
-    ensures legible { K.is_trusted keeper.new → K.is_legible keeper.old → K.is_legible keeper.new }
-    ensures lasts { Lasts K.Keeper keeper.old keeper.new (is_ok result) }
-    ensures counted { Counted (K.refusals keeper.old) (K.refusals keeper.new) result }
+    ensures looks { Looks K.Keeper keeper.old keeper.new result }
 {
     'orders: while orders.len() < run as usize {
         let number = orders.len() as u32 + 1;
@@ -103,6 +95,49 @@ pub fn is_within(order: &RunOrder, counts: &[u32]) -> bool
     ready(std::slice::from_ref(order), counts) == 1
 }
 
+/// The number up to which letters go on without a gap behind another number, at most up to an end.
+fn last_in_line(number: u32, end: u32, letters: &[Letter]) -> u32
+    requires on { number ≤ end }
+    ensures within { result ≤ end }
+    ensures goes_on { (kept : Kept) (sender : ℕ) → letters.now ≡ letters_within kept sender (number + 1) end → GoesOn kept sender number result end }
+{
+    let mut last = number;
+    'letters: for letter in letters {
+        if last >= end || letter.number != last + 1 {
+            return last;
+        }
+        last += 1;
+    }
+    last
+}
+
+/// The number up to which a sender's numbers go on without a gap behind another, at most up to the end of a block.
+fn count_block<K: Keeper>(
+    keeper: &mut K,
+    sender: u32,
+    number: u32,
+    end: u32,
+) -> Result<u32, StoreFault>
+    requires on { number < end }
+    requires block { end ≤ number + 256 }
+    ensures within { IfOk result (λ last. last ≤ end) }
+    ensures goes_on { K.is_trusted keeper.new → IfOk result (λ last. GoesOn (K.content keeper.old).kept sender number last end) }
+    ensures looks { Looks K.Keeper keeper.old keeper.new result }
+{
+    let letters = stored::load(keeper, sender, number + 1, end)?;
+    Ok(last_in_line(number, end, &letters))
+}
+
+/// The size of the next block: twice that of the last one, up to the greatest. So not many more texts are loaded than
+/// are counted.
+fn next_size(size: u32) -> u32
+    requires some { 0 < size }
+    ensures some { 0 < result }
+    ensures room { result ≤ 256 }
+{
+    if size < BLOCK / 2 { 2 * size } else { BLOCK }
+}
+
 /// Counts a sender's numbers on from those that are known to be kept, up to a number: it stops before one that isn't.
 fn count_on<K: Keeper>(
     keeper: &mut K,
@@ -113,19 +148,18 @@ fn count_on<K: Keeper>(
     requires known { K.is_trusted keeper.old → HasNumbers (K.content keeper.old).kept sender known }
     ensures each { K.is_trusted keeper.new → IfOk result (λ count. HasNumbers (K.content keeper.old).kept sender count) }
     ensures gap { K.is_trusted keeper.new → IfOk result (λ count. count < cover → get (K.content keeper.old).kept (sender, count + 1) ≡ None) }
-    ensures same { K.is_trusted keeper.new → K.content keeper.new ≡ K.content keeper.old }
-    ensures setup { K.setup keeper.new ≡ K.setup keeper.old }
-    ensures before { K.is_trusted keeper.new → K.is_trusted keeper.old }
-    ensures legible { K.is_trusted keeper.new → K.is_legible keeper.old → K.is_legible keeper.new }
-    ensures lasts { Lasts K.Keeper keeper.old keeper.new (is_ok result) }
-    ensures counted { Counted (K.refusals keeper.old) (K.refusals keeper.new) result }
+    ensures looks { Looks K.Keeper keeper.old keeper.new result }
 {
     let mut count = known;
-    'numbers: while count < cover {
-        if stored::find(keeper, sender, count + 1)?.is_none() {
-            return Ok(count);
+    let mut size = 1;
+    'loads: while count < cover {
+        let end = block_end(count, size, cover);
+        let last = count_block(keeper, sender, count, end)?;
+        if last < end {
+            return Ok(last);
         }
-        count += 1;
+        count = end;
+        size = next_size(size);
     }
     Ok(count)
 }
@@ -154,12 +188,7 @@ fn reach<K: Keeper>(
     ensures each { K.is_trusted keeper.new → HasEach (K.content keeper.old).kept counts.new.items }
     ensures gap { K.is_trusted keeper.new → OnOk result (slice_index counts.new.items sender < cover → get (K.content keeper.old).kept (sender, slice_index counts.new.items sender + 1) ≡ None) }
     ensures others { (s : ℕ) → s ≢ sender → slice_index counts.new.items s ≡ slice_index counts.old.items s }
-    ensures same { K.is_trusted keeper.new → K.content keeper.new ≡ K.content keeper.old }
-    ensures setup { K.setup keeper.new ≡ K.setup keeper.old }
-    ensures before { K.is_trusted keeper.new → K.is_trusted keeper.old }
-    ensures legible { K.is_trusted keeper.new → K.is_legible keeper.old → K.is_legible keeper.new }
-    ensures lasts { Lasts K.Keeper keeper.old keeper.new (is_ok result) }
-    ensures counted { Counted (K.refusals keeper.old) (K.refusals keeper.new) result }
+    ensures looks { Looks K.Keeper keeper.old keeper.new result }
 {
     make_room(counts, sender)?;
     let place = sender as usize;
@@ -178,12 +207,7 @@ fn reach_all<K: Keeper>(
     requires each { K.is_trusted keeper.old → HasEach (K.content keeper.old).kept counts.old.items }
     ensures each { K.is_trusted keeper.new → HasEach (K.content keeper.old).kept counts.new.items }
     ensures reached { K.is_trusted keeper.new → OnOk result ((s : ℕ) → s < length setup.now.senders → IsReached (K.content keeper.old).kept order.now.covers counts.new.items s) }
-    ensures same { K.is_trusted keeper.new → K.content keeper.new ≡ K.content keeper.old }
-    ensures setup { K.setup keeper.new ≡ K.setup keeper.old }
-    ensures before { K.is_trusted keeper.new → K.is_trusted keeper.old }
-    ensures legible { K.is_trusted keeper.new → K.is_legible keeper.old → K.is_legible keeper.new }
-    ensures lasts { Lasts K.Keeper keeper.old keeper.new (is_ok result) }
-    ensures counted { Counted (K.refusals keeper.old) (K.refusals keeper.new) result }
+    ensures looks { Looks K.Keeper keeper.old keeper.new result }
 {
     'senders: for sender in 0..setup.senders().len() {
         let cover = stated_for(order, sender);
@@ -202,12 +226,7 @@ pub fn is_there<K: Keeper>(
     requires each { K.is_trusted keeper.old → HasEach (K.content keeper.old).kept counts.old.items }
     ensures each { K.is_trusted keeper.new → HasEach (K.content keeper.old).kept counts.new.items }
     ensures there { K.is_trusted keeper.new → HasPlaces setup.now (K.content keeper.old).kept → IfOk result (λ there. IsTrue there ↔ HasEach (K.content keeper.old).kept order.now.covers) }
-    ensures same { K.is_trusted keeper.new → K.content keeper.new ≡ K.content keeper.old }
-    ensures setup { K.setup keeper.new ≡ K.setup keeper.old }
-    ensures before { K.is_trusted keeper.new → K.is_trusted keeper.old }
-    ensures legible { K.is_trusted keeper.new → K.is_legible keeper.old → K.is_legible keeper.new }
-    ensures lasts { Lasts K.Keeper keeper.old keeper.new (is_ok result) }
-    ensures counted { Counted (K.refusals keeper.old) (K.refusals keeper.new) result }
+    ensures looks { Looks K.Keeper keeper.old keeper.new result }
 {
     reach_all(setup, keeper, order, counts)?;
     Ok(is_within(order, counts))

@@ -7,6 +7,7 @@ ghost use Rattle.office_mail.specs.Runs.{IsReady, IsReadyCount};
 ghost use Rattle.office_store.specs.Given.{AreOwnTexts, IsGiven, KnowsArchs};
 ghost use Rattle.office_http.specs.Counted.{Counted};
 ghost use Rattle.office_http.specs.Lasting.{Lasts};
+ghost use Rattle.office_http.specs.Looking.{Looks};
 ghost use Rattle.office_http.specs.Outcome.{outcome_of};
 ghost use Rattle.office_http.specs.Ready.{FirstOrders, HasEach, HasPlaces, IsCounted};
 ghost use Rattle.office_http.specs.State.{IsOffice};
@@ -35,12 +36,7 @@ fn follows<K: Keeper>(
     ensures each { K.is_trusted keeper.new → HasEach (K.content keeper.old).kept counts.new.items }
     ensures ready { K.is_trusted keeper.new → HasPlaces setup.now (K.content keeper.old).kept → IsReady setup.now (K.content keeper.old).kept run → IfOk result (λ ready. IsTrue ready ↔ IsReady setup.now (K.content keeper.old).kept (run + 1)) }
     ensures below { IfOk result (λ ready. IsTrue ready → run < 999_999_999) }
-    ensures same { K.is_trusted keeper.new → K.content keeper.new ≡ K.content keeper.old }
-    ensures setup { K.setup keeper.new ≡ K.setup keeper.old }
-    ensures before { K.is_trusted keeper.new → K.is_trusted keeper.old }
-    ensures legible { K.is_trusted keeper.new → K.is_legible keeper.old → K.is_legible keeper.new }
-    ensures lasts { Lasts K.Keeper keeper.old keeper.new (is_ok result) }
-    ensures counted { Counted (K.refusals keeper.old) (K.refusals keeper.new) result }
+    ensures looks { Looks K.Keeper keeper.old keeper.new result }
 {
     if run >= GREATEST {
         return Ok(false);
@@ -62,12 +58,7 @@ pub fn ready_count<K: Keeper>(
     requires each { K.is_trusted keeper.old → HasEach (K.content keeper.old).kept counts.old.items }
     ensures each { K.is_trusted keeper.new → HasEach (K.content keeper.old).kept counts.new.items }
     ensures ready { K.is_trusted keeper.new → HasPlaces setup.now (K.content keeper.old).kept → IsReady setup.now (K.content keeper.old).kept finished → IfOk result (λ count. IsReadyCount setup.now (K.content keeper.old).kept count) }
-    ensures same { K.is_trusted keeper.new → K.content keeper.new ≡ K.content keeper.old }
-    ensures setup { K.setup keeper.new ≡ K.setup keeper.old }
-    ensures before { K.is_trusted keeper.new → K.is_trusted keeper.old }
-    ensures legible { K.is_trusted keeper.new → K.is_legible keeper.old → K.is_legible keeper.new }
-    ensures lasts { Lasts K.Keeper keeper.old keeper.new (is_ok result) }
-    ensures counted { Counted (K.refusals keeper.old) (K.refusals keeper.new) result }
+    ensures looks { Looks K.Keeper keeper.old keeper.new result }
 {
     let mut count = finished;
     'runs: while follows(alloc, setup, keeper, counts, count)? {
@@ -91,12 +82,7 @@ fn next_is_ready<K: Keeper>(
     ensures ready { K.is_trusted keeper.new → IsOffice setup.now (K.content keeper.old) → IfOk result (λ ready. IsTrue ready ↔ IsReady setup.now (K.content keeper.old).kept (finished + 1)) }
     ensures below { IfOk result (λ ready. IsTrue ready → finished < 999_999_999) }
     ensures there { IfOk result (λ ready. IsTrue ready → finished < length orders.new.items) }
-    ensures same { K.is_trusted keeper.new → K.content keeper.new ≡ K.content keeper.old }
-    ensures setup { K.setup keeper.new ≡ K.setup keeper.old }
-    ensures before { K.is_trusted keeper.new → K.is_trusted keeper.old }
-    ensures legible { K.is_trusted keeper.new → K.is_legible keeper.old → K.is_legible keeper.new }
-    ensures lasts { Lasts K.Keeper keeper.old keeper.new (is_ok result) }
-    ensures counted { Counted (K.refusals keeper.old) (K.refusals keeper.new) result }
+    ensures looks { Looks K.Keeper keeper.old keeper.new result }
 {
     if finished >= GREATEST {
         return Ok(false);
@@ -123,12 +109,7 @@ fn next_outcome<K: Keeper>(
     ensures watched { K.is_trusted keeper.new → AllWatchedWork setup.now.archs (K.content keeper.old).testing.rows → IfOk result (λ left. AllWatchedWork setup.now.archs left.testing.rows) }
     ensures known { K.is_trusted keeper.new → IfOk result (λ left. KnowsArchs setup.now.archs left.testing.rows) }
     ensures given { K.is_trusted keeper.new → AreOwnTexts setup.now (K.content keeper.old).kept → IfOk result (λ left. IsGiven setup.now (K.content keeper.old) left.testing) }
-    ensures same { K.is_trusted keeper.new → K.content keeper.new ≡ K.content keeper.old }
-    ensures setup { K.setup keeper.new ≡ K.setup keeper.old }
-    ensures before { K.is_trusted keeper.new → K.is_trusted keeper.old }
-    ensures legible { K.is_trusted keeper.new → K.is_legible keeper.old → K.is_legible keeper.new }
-    ensures lasts { Lasts K.Keeper keeper.old keeper.new (is_ok result) }
-    ensures counted { Counted (K.refusals keeper.old) (K.refusals keeper.new) result }
+    ensures looks { Looks K.Keeper keeper.old keeper.new result }
 {
     let Some(date) = latest_day(orders) else {
         unreachable!()

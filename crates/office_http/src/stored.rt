@@ -1,16 +1,35 @@
 //! Calls of a store, whose faults are told as the office tells them.
 #![tactic(auto, using(crate::proofs::LastFacts::lasting))]
 
-ghost use Rattle.std.specs.Prelude.{is_ok, ◌≡◌, ◌+◌, ◌++◌, ◌∷◌, [], None, IfOk, OnOk, OnErr, length};
+ghost use Rattle.std.specs.Prelude.{is_ok, ◌≡◌, ◌+◌, ◌<◌, ◌≤◌, ◌++◌, ◌∷◌, [], None, IfOk, OnOk, OnErr, length};
 ghost use Rattle.std.specs.FinMap.{get, insert};
-ghost use Rattle.office_store.specs.Content.{with_text, with_run, reports_in, item_from_one};
+ghost use Rattle.office_store.specs.Content.{with_text, with_run, reports_in, item_from_one, letters_within};
 ghost use Rattle.office_store.specs.Given.{AreOwnTexts, IsGiven, KnowsArchs};
 ghost use Rattle.office_http.specs.Counted.{Counted};
 ghost use Rattle.office_http.specs.Lasting.{Lasts};
+ghost use Rattle.office_http.specs.Looking.{Looks};
 
 use crate::faults::StoreFault;
-use office_store::{Finished, Keeper, MailText, Reports};
+use office_store::{Finished, Keeper, Letter, MailText, Reports};
 use testing_rules::Testing;
+
+/// How many numbers of a sender are loaded at once, at most. So many texts of the greatest size take 17 MB.
+pub const BLOCK: u32 = 256;
+
+/// The end of a block behind a number: so many numbers on, or the last one.
+pub fn block_end(number: u32, size: u32, last: u32) -> u32
+    requires some { 0 < size }
+    requires ahead { number < last }
+    ensures on { number < result }
+    ensures size { result ≤ number + size }
+    ensures within { result ≤ last }
+{
+    if last - number > size {
+        number + size
+    } else {
+        last
+    }
+}
 
 /// The kept text, or none.
 pub fn find<K: Keeper>(
@@ -19,14 +38,23 @@ pub fn find<K: Keeper>(
     number: u32,
 ) -> Result<Option<MailText>, StoreFault>
     ensures found { K.is_trusted keeper.new → IfOk result (λ text. text ≡ get (K.content keeper.old).kept (sender, number)) }
-    ensures same { K.is_trusted keeper.new → K.content keeper.new ≡ K.content keeper.old }
-    ensures setup { K.setup keeper.new ≡ K.setup keeper.old }
-    ensures before { K.is_trusted keeper.new → K.is_trusted keeper.old }
-    ensures legible { K.is_trusted keeper.new → K.is_legible keeper.old → K.is_legible keeper.new }
-    ensures lasts { Lasts K.Keeper keeper.old keeper.new (is_ok result) }
-    ensures counted { Counted (K.refusals keeper.old) (K.refusals keeper.new) result }
+    ensures looks { Looks K.Keeper keeper.old keeper.new result }
 {
     Ok(keeper.find(sender, number)?)
+}
+
+/// The kept numbers of a sender from one to another with their texts, by number: at most a block of them.
+pub fn load<K: Keeper>(
+    keeper: &mut K,
+    sender: u32,
+    from: u32,
+    to: u32,
+) -> Result<Vec<Letter>, StoreFault>
+    requires block { to < from + 256 }
+    ensures loaded { K.is_trusted keeper.new → IfOk result (λ letters. letters.items ≡ letters_within (K.content keeper.old).kept sender from to) }
+    ensures looks { Looks K.Keeper keeper.old keeper.new result }
+{
+    Ok(keeper.load(sender, from, to)?)
 }
 
 /// Keeps a text under a free number.
@@ -54,12 +82,7 @@ pub fn keep<K: Keeper>(
 /// How many runs are finished.
 pub fn finished<K: Keeper>(keeper: &mut K) -> Result<u32, StoreFault>
     ensures value { K.is_trusted keeper.new → IfOk result (λ n. n ≡ length (K.content keeper.old).reports) }
-    ensures same { K.is_trusted keeper.new → K.content keeper.new ≡ K.content keeper.old }
-    ensures setup { K.setup keeper.new ≡ K.setup keeper.old }
-    ensures before { K.is_trusted keeper.new → K.is_trusted keeper.old }
-    ensures legible { K.is_trusted keeper.new → K.is_legible keeper.old → K.is_legible keeper.new }
-    ensures lasts { Lasts K.Keeper keeper.old keeper.new (is_ok result) }
-    ensures counted { Counted (K.refusals keeper.old) (K.refusals keeper.new) result }
+    ensures looks { Looks K.Keeper keeper.old keeper.new result }
 {
     Ok(keeper.finished()?)
 }
@@ -86,12 +109,7 @@ pub fn finish<K: Keeper>(keeper: &mut K, run: u32, done: &Finished) -> Result<()
 /// The two reports of a finished run; none of another.
 pub fn reports<K: Keeper>(keeper: &mut K, run: u32) -> Result<Option<Reports>, StoreFault>
     ensures value { K.is_trusted keeper.new → IfOk result (λ reports. reports ≡ item_from_one run (K.content keeper.old).reports) }
-    ensures same { K.is_trusted keeper.new → K.content keeper.new ≡ K.content keeper.old }
-    ensures setup { K.setup keeper.new ≡ K.setup keeper.old }
-    ensures before { K.is_trusted keeper.new → K.is_trusted keeper.old }
-    ensures legible { K.is_trusted keeper.new → K.is_legible keeper.old → K.is_legible keeper.new }
-    ensures lasts { Lasts K.Keeper keeper.old keeper.new (is_ok result) }
-    ensures counted { Counted (K.refusals keeper.old) (K.refusals keeper.new) result }
+    ensures looks { Looks K.Keeper keeper.old keeper.new result }
 {
     Ok(keeper.reports(run)?)
 }
@@ -100,12 +118,7 @@ pub fn reports<K: Keeper>(keeper: &mut K, run: u32) -> Result<Option<Reports>, S
 pub fn testing<K: Keeper>(keeper: &mut K) -> Result<Testing, StoreFault>
     ensures value { K.is_trusted keeper.new → IfOk result (λ testing. testing ≡ (K.content keeper.old).testing) }
     ensures archs { IfOk result (λ testing. KnowsArchs (K.setup keeper.new).archs testing.rows) }
-    ensures same { K.is_trusted keeper.new → K.content keeper.new ≡ K.content keeper.old }
-    ensures setup { K.setup keeper.new ≡ K.setup keeper.old }
-    ensures before { K.is_trusted keeper.new → K.is_trusted keeper.old }
-    ensures legible { K.is_trusted keeper.new → K.is_legible keeper.old → K.is_legible keeper.new }
-    ensures lasts { Lasts K.Keeper keeper.old keeper.new (is_ok result) }
-    ensures counted { Counted (K.refusals keeper.old) (K.refusals keeper.new) result }
+    ensures looks { Looks K.Keeper keeper.old keeper.new result }
 {
     Ok(keeper.testing()?)
 }

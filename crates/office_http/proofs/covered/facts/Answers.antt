@@ -1,11 +1,11 @@
-use Rattle.std.proofs.Common.{true, ℕ, ◌++◌, length, sym, ap, subst, ◌∙◌, refl, arith}
+use Rattle.std.proofs.Common.{ℕ, ◌++◌, length, sym, ap, subst, arith}
 use Rattle.testing_rules.specs.Covered.{Covered}
 use Rattle.testing_rules.specs.StandsFor.{StandsFor}
 use Rattle.office_mail.specs.Runs.{cover_of}
 use Rattle.office_store.specs.Content.{Content}
 use Rattle.office_http.specs.Walk.{said_by, said_within}
 use Rattle.office_http.proofs.WalkFacts.{said_within-more, said_within-none}
-use Rattle.office_http.proofs.LastFacts.{lasts_none, lasts_then}
+use Rattle.office_http.proofs.LookFacts.{looked_none, looked_then}
 use Rattle.office_http.proofs.covered.facts.Goals as goal
 
 pub senders-init : goal.senders-init
@@ -13,12 +13,7 @@ senders-init g c =
     let content : Content = g.K.Keeper.content c.args.keeper.now in
     record {
       facts = λ trusted t. subst (λ (l : Covered). StandsFor c.new-facts.result l t) (sym (said_within-none c.args.setup.now content.kept (cover_of c.args.orders.now))) (c.new-facts.ensures t);
-      same = λ trusted. refl;
-      setup = refl;
-      before = λ trusted. trusted;
-      legible = λ trusted was. was;
-      lasts = lasts_none g.K.Keeper c.args.keeper.now true;
-      counted = refl;
+      looks = looked_none g.K.Keeper c.args.keeper.now;
     }
 
 pub senders-preserved : goal.senders-preserved
@@ -33,17 +28,12 @@ senders-preserved g c =
     let before : Covered = said_within setup content.kept covers n in
     record {
       facts = λ trusted t.
-          let earlier = next.before trusted in
+          let earlier = next.looks.before trusted in
           subst (λ (l : Covered). StandsFor c.take_sender.new.facts l t) (said_within-more setup content.kept covers n)
           (subst (λ (k : ℕ). StandsFor c.take_sender.new.facts (said_by setup content.kept n k ++ before) t) c.cover_of-cover.ensures
-          (subst (λ (m : Content). StandsFor c.take_sender.new.facts (said_by setup m.kept n c.cover_of-cover.result ++ before) t) (so.same earlier)
+          (subst (λ (m : Content). StandsFor c.take_sender.new.facts (said_by setup m.kept n c.cover_of-cover.result ++ before) t) (so.looks.same earlier)
           (next.taken trusted before t (so.facts earlier t))));
-      same = λ trusted. next.same trusted ∙ so.same (next.before trusted);
-      setup = next.setup ∙ so.setup;
-      before = λ trusted. so.before (next.before trusted);
-      legible = λ trusted was. next.legible trusted (so.legible (next.before trusted) was);
-      lasts = lasts_then g.K.Keeper c.args.keeper.now c.senders.keeper c.take_sender.new.keeper true so.lasts next.lasts;
-      counted = next.counted ∙ so.counted;
+      looks = looked_then g.K.Keeper c.args.keeper.now c.senders.keeper c.take_sender.new.keeper so.looks next.looks;
     }
 
 pub returns-clause-facts : goal.returns-clause-facts

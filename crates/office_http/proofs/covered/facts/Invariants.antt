@@ -1,9 +1,8 @@
-use Rattle.std.proofs.Common.{true, ◌≡◌}
 use Rattle.testing_rules.specs.Suite.{Suite}
 use Rattle.testing_rules.specs.StandsFor.{StandsFor}
 use Rattle.office_mail.specs.Runs.{cover_of}
 use Rattle.office_http.specs.Walk.{said_within}
-use Rattle.office_http.specs.Lasting.{Lasts}
+use Rattle.office_http.proofs.LookFacts.{Looked}
 use Rattle.office_http.proofs.covered.facts.Given as goal
 
 abbrev pub invariant-senders : goal.invariant-senders
@@ -12,10 +11,5 @@ invariant-senders g l =
     let content = g.K.Keeper.content in
     record {
       facts : trusted l.keeper → (t : Suite) → StandsFor l.facts (said_within l.setup (content l.fn.keeper).kept (cover_of l.orders) l.sender) t;
-      same : trusted l.keeper → content l.keeper ≡ content l.fn.keeper;
-      setup : g.K.Keeper.setup l.keeper ≡ g.K.Keeper.setup l.fn.keeper;
-      before : trusted l.keeper → trusted l.fn.keeper;
-      legible : trusted l.keeper → g.K.Keeper.is_legible l.fn.keeper → g.K.Keeper.is_legible l.keeper;
-      lasts : Lasts g.K.Keeper l.fn.keeper l.keeper true;
-      counted : g.K.Keeper.refusals l.keeper ≡ g.K.Keeper.refusals l.fn.keeper;
+      looks : Looked g.K.Keeper l.fn.keeper l.keeper;
     }

@@ -4,7 +4,7 @@ use Rattle.office_mail.specs.declared.message.RunOrder.{RunOrder}
 use Rattle.office_mail.specs.Runs.{order_at}
 use Rattle.office_http.specs.Ready.{FirstOrders}
 use Rattle.office_http.proofs.ReadyCount.{FirstOrders-more}
-use Rattle.office_http.proofs.LastFacts.{lasts_then}
+use Rattle.office_http.proofs.LookFacts.{looked_then}
 use Rattle.office_http.proofs.orders.read_orders.Goals as goal
 
 pub orders-preserved : goal.orders-preserved
@@ -17,16 +17,11 @@ orders-preserved g c =
     let orders : List RunOrder = c.orders.orders.items in
     record {
       first = λ trusted.
-          let earlier = next.before trusted in
+          let earlier = next.looks.before trusted in
           let here : c.len-in-orders.result + 1 ≡ length orders + 1 = omega (arith, c.len-in-orders.ensures) in
           let at : order_at setup mid.kept (length orders + 1) ≡ Some c.in-Some.order = ap (order_at setup mid.kept) (sym here) ∙ sym (next.order trusted) ∙ c.in-Some.is in
           subst (FirstOrders setup kept) (sym c.in_ok-push.ensures.items)
-          (FirstOrders-more setup kept orders c.in-Some.order (so.first earlier) (subst (λ content. order_at setup content.kept (length orders + 1) ≡ Some c.in-Some.order) (so.same earlier) at));
+          (FirstOrders-more setup kept orders c.in-Some.order (so.first earlier) (subst (λ content. order_at setup content.kept (length orders + 1) ≡ Some c.in-Some.order) (so.looks.same earlier) at));
       next = λ low. omega (arith, so.next low, ap length c.in_ok-push.ensures.items, length-append orders (c.in-Some.order ∷ []), c.orders-test.true, c.len.ensures);
-      same = λ trusted. next.same trusted ∙ so.same (next.before trusted);
-      setup = next.setup ∙ so.setup;
-      before = λ trusted. so.before (next.before trusted);
-      legible = λ trusted was. next.legible trusted (so.legible (next.before trusted) was);
-      lasts = lasts_then g.K.Keeper c.args.keeper.now c.orders.keeper c.order.new.keeper true so.lasts next.lasts;
-      counted = next.counted ∙ so.counted;
+      looks = looked_then g.K.Keeper c.args.keeper.now c.orders.keeper c.order.new.keeper so.looks next.looks;
     }

@@ -14,7 +14,7 @@ returns-in-Some-clause-kept g c = λ trusted.
     let old : Content = g.K.Keeper.content c.args.keeper.now in
     let found = c.in_ok-kept.ensures in
     let taken : get old.kept (place_of message) ≡ Some c.in-Some.kept = sym (found.found trusted) ∙ c.in-Some.is in
-    on_ok c.compare.result (ap (λ (m : Content). m.kept) (found.same trusted) ∙ kept_from-stored setup old.kept text c.in-Some.kept message c.requires.read taken)
+    on_ok c.compare.result (ap (λ (m : Content). m.kept) (found.looks.same trusted) ∙ kept_from-stored setup old.kept text c.in-Some.kept message c.requires.read taken)
 
 pub returns-in_ok-keep-in-None-clause-kept : goal.returns-in_ok-keep-in-None-clause-kept
 returns-in_ok-keep-in-None-clause-kept g c = λ trusted.
@@ -26,7 +26,7 @@ returns-in_ok-keep-in-None-clause-kept g c = λ trusted.
     let found = c.in_ok-kept.ensures in
     let earlier = put.before trusted in
     let free : get old.kept (place_of message) ≡ None = sym (found.found earlier) ∙ c.in-None.is in
-    put.mail trusted ∙ ap (λ (m : Content). insert m.kept (place_of message) text) (found.same earlier) ∙ sym (kept_from-free setup old.kept text message c.requires.read free)
+    put.mail trusted ∙ ap (λ (m : Content). insert m.kept (place_of message) text) (found.looks.same earlier) ∙ sym (kept_from-free setup old.kept text message c.requires.read free)
 
 pub returns-in_ok-keep-in-None-clause-within : goal.returns-in_ok-keep-in-None-clause-within
 returns-in_ok-keep-in-None-clause-within g c = λ trusted.
@@ -39,7 +39,7 @@ returns-in_ok-keep-in-None-clause-within g c = λ trusted.
     let found = c.in_ok-kept.ensures in
     let earlier = put.before trusted in
     let free : get old.kept (place_of message) ≡ None = sym (found.found earlier) ∙ c.in-None.is in
-    Within-put setup old.kept new.kept text message c.requires.read free (put.mail trusted ∙ ap (λ (m : Content). insert m.kept (place_of message) text) (found.same earlier))
+    Within-put setup old.kept new.kept text message c.requires.read free (put.mail trusted ∙ ap (λ (m : Content). insert m.kept (place_of message) text) (found.looks.same earlier))
 
 pub returns-in_ok-keep-in-None-clause-office : goal.returns-in_ok-keep-in-None-clause-office
 returns-in_ok-keep-in-None-clause-office g c = λ trusted legible office.
@@ -52,5 +52,5 @@ returns-in_ok-keep-in-None-clause-office g c = λ trusted legible office.
     let found = c.in_ok-kept.ensures in
     let earlier = put.before trusted in
     let free : get old.kept (place_of message) ≡ None = sym (found.found earlier) ∙ c.in-None.is in
-    let is : new ≡ with_text old message.sender message.number text = put.kept trusted (found.legible earlier legible) ∙ ap (λ (m : Content). with_text m message.sender message.number text) (found.same earlier) in
+    let is : new ≡ with_text old message.sender message.number text = put.kept trusted (found.looks.legible earlier legible) ∙ ap (λ (m : Content). with_text m message.sender message.number text) (found.looks.same earlier) in
     IsOffice-kept setup old new text message office c.requires.read free c.requires.place is

@@ -13,8 +13,8 @@ returns-in-Some-clause-ready g c = λ trusted places ready.
     let setup = c.args.setup.now in
     let kept = (g.K.Keeper.content c.args.keeper.now).kept in
     let there = c.is_there.ensures in
-    let earlier = there.before trusted in
+    let earlier = there.looks.before trusted in
     let order = c.in-Some.order in
     let at : order_at setup kept (c.args.run + 1) ≡ Some order = sym (c.in_ok-order.ensures.order earlier) ∙ c.in-Some.is in
     ready_after setup kept c.args.run order c.is_there.result ready at
-    (subst (λ content. HasPlaces setup content.kept → IfOk c.is_there.result (λ there. IsTrue there ↔ HasEach content.kept order.covers)) (c.in_ok-order.ensures.same earlier) (there.there trusted) places)
+    (subst (λ content. HasPlaces setup content.kept → IfOk c.is_there.result (λ there. IsTrue there ↔ HasEach content.kept order.covers)) (c.in_ok-order.ensures.looks.same earlier) (there.there trusted) places)

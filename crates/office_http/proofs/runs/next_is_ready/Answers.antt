@@ -15,9 +15,9 @@ returns-in-Some-clause-ready g c = λ trusted office.
     let setup = c.args.setup.now in
     let content : Content = g.K.Keeper.content c.args.keeper.now in
     let there = c.is_there.ensures in
-    let earlier = there.before trusted in
+    let earlier = there.looks.before trusted in
     let read = c.in_ok-read_orders.ensures in
-    let first = read.before earlier in
+    let first = read.looks.before earlier in
     let n = c.args.finished in
     let orders : List RunOrder = c.read_orders.new.orders.items in
     let order = c.in-Some.order.now in
@@ -26,4 +26,4 @@ returns-in-Some-clause-ready g c = λ trusted office.
     let more : n < length orders = subst (λ (xs : List RunOrder). n < length xs) c.deref.ensures.value c.in-Some.ensures.lookup.3.0 in
     let at : order ≡ get_or orders n order = subst (λ (xs : List RunOrder). order ≡ get_or xs n order) c.deref.ensures.value c.in-Some.ensures.lookup.1 in
     ready_after_last setup content.kept orders n order c.is_there.result ready (read.first earlier) few more at
-    (subst (λ (m : Content). HasPlaces setup m.kept → IfOk c.is_there.result (λ there. IsTrue there ↔ HasEach m.kept order.covers)) (read.same earlier) (there.there trusted) office.places)
+    (subst (λ (m : Content). HasPlaces setup m.kept → IfOk c.is_there.result (λ there. IsTrue there ↔ HasEach m.kept order.covers)) (read.looks.same earlier) (there.there trusted) office.places)

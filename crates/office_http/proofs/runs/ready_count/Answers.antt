@@ -10,8 +10,8 @@ returns-clause-ready g c = λ trusted places ready.
     let setup = c.args.setup.now in
     let content : Content = g.K.Keeper.content c.args.keeper.now in
     let next = c.in_ok-follows.ensures in
-    let earlier = next.before trusted in
+    let earlier = next.looks.before trusted in
     let n = c.runs.count in
     let here = c.runs.invariant.ready earlier places ready in
-    let answer = subst (λ (m : Content). HasPlaces setup m.kept → IsReady setup m.kept n → (IsTrue c.in_ok-follows.field-0 ↔ IsReady setup m.kept (n + 1))) (c.runs.invariant.same earlier) (next.ready trusted) places here in
+    let answer = subst (λ (m : Content). HasPlaces setup m.kept → IsReady setup m.kept n → (IsTrue c.in_ok-follows.field-0 ↔ IsReady setup m.kept (n + 1))) (c.runs.invariant.looks.same earlier) (next.ready trusted) places here in
     ready_count setup content.kept n here (λ more. absurd (cc (c.if-branch.false, answer.1 more)))
