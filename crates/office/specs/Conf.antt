@@ -21,5 +21,5 @@ status_of_fault TooMany = 3
 
 -- the exit status where there is no setup: 4 where its file can't be read
 abbrev pub status_of_conf : ConfFault → ℕ
-status_of_conf Unreadable = 4
+status_of_conf (Unreadable kind) = 4
 status_of_conf (Refused fault) = status_of_fault fault

@@ -1,3 +1,4 @@
 pub mod Compare
 pub mod Conf
 pub mod Service
+pub mod Store

@@ -16,24 +16,25 @@ const ENOUGH: u64 = 65_537;
 /// Why there is no setup in a file.
 #[derive(Clone, Copy, Debug, PartialEq, Eq, Error)]
 pub enum ConfFault {
-    #[error("the file can't be read")]
-    Unreadable,
+    #[error("the file can't be read: {0}")]
+    Unreadable(io::ErrorKind),
     #[error("the setup is refused: {0}")]
     Refused(SetupFault),
 }
 
 /// The setup in a file. Of a file that is too long for a setup no more is read than shows it.
 pub fn read_setup(rt: &HostRuntime, path: &str) -> Result<Setup, ConfFault> {
-    let Ok(file) = fs::open(rt, path) else {
-        return Err(ConfFault::Unreadable);
-    };
-    let Ok(text) = read_front(rt.alloc(), file) else {
-        return Err(ConfFault::Unreadable);
-    };
+    let file = fs::open(rt, path).map_err(unreadable)?;
+    let text = read_front(rt.alloc(), file).map_err(unreadable)?;
     match Setup::parse(rt.alloc(), &text) {
         Ok(setup) => Ok(setup),
         Err(fault) => Err(ConfFault::Refused(fault)),
     }
+}
+
+/// The fault of a file that can't be opened or read.
+fn unreadable(fault: io::Error) -> ConfFault {
+    ConfFault::Unreadable(fault.kind())
 }
 
 /// What a reader gives, but for what stands beyond the longest setup and one byte more.
@@ -60,7 +61,7 @@ pub fn conf_status(fault: &ConfFault) -> u8
     ensures { result ≡ status_of_conf fault.now }
 {
     match fault {
-        ConfFault::Unreadable => 4,
+        ConfFault::Unreadable(_) => 4,
         ConfFault::Refused(fault) => setup_status(fault),
     }
 }

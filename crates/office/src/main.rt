@@ -11,24 +11,29 @@ mod promotion_rows;
 #[cfg(test)]
 mod rows;
 mod service;
+mod store;
+#[cfg(test)]
+mod stored_rows;
 
 use compare::compare;
 use conf::{conf_status, read_setup};
 use office_http::{Office, Replayed, WriteFault, replay, replay_status};
 use office_mail::{FromRead, Setup, ToWrite};
-use office_store::{Keeper, Plain};
+use office_store::{Keeper, Plain, Tables};
 use office_words::{Words, WordsFault, read_words, words_status};
 use service::{serve, service_status};
+use sqlite::{File, FileStore, Unknown};
 use std::alloc::{AllocError, Global};
 use std::env;
 use std::env::Args;
 use std::io::{BufWriter, Write};
 use std::process::ExitCode;
+use store::{StoreFault, close_store, open_store, store_status};
 
 /// The exit status where the words can't be read as texts.
 const USAGE: u8 = 2;
 
-/// The exit status where memory ran out, or a store can't be opened.
+/// The exit status where memory ran out.
 const FAILED: u8 = 4;
 
 /// What is done in an office, once its store is there.
@@ -114,7 +119,7 @@ fn out_of_memory(rt: &HostRuntime) -> u8 {
 fn run_for(rt: &HostRuntime, conf: &str, db: Option<&str>, task: Task) -> u8 {
     match read_setup(rt, conf) {
         Ok(setup) => match db {
-            Some(path) => no_store_yet(rt, path),
+            Some(path) => run_stored(rt, path, setup, task),
             None => run_in_memory(rt, setup, task),
         },
         Err(fault) => {
@@ -124,10 +129,30 @@ fn run_for(rt: &HostRuntime, conf: &str, db: Option<&str>, task: Task) -> u8 {
     }
 }
 
-/// Says that no store is opened in a file.
-fn no_store_yet(rt: &HostRuntime, path: &str) -> u8 {
-    let _ = eprintln!(rt; "office: {path}: a store in a file can't be opened yet: leave --db out");
-    FAILED
+/// Does a task in an office whose store is in a file.
+fn run_stored(rt: &HostRuntime, path: &str, setup: Setup, task: Task) -> u8 {
+    match open_store(rt, path, Unknown, &setup) {
+        Ok(tables) => {
+            let mut office = Office::new(rt.alloc(), setup, tables);
+            let status = run_over(rt, &mut office, task);
+            end_store(rt, path, office.into_keeper(), status)
+        }
+        Err(fault) => tell_store(rt, path, &fault),
+    }
+}
+
+/// Closes the store of a task that ended with a status, and gives the exit status.
+fn end_store(rt: &HostRuntime, path: &str, tables: Tables<FileStore<File>>, status: u8) -> u8 {
+    match close_store(tables) {
+        Ok(()) => status,
+        Err(fault) => tell_store(rt, path, &fault),
+    }
+}
+
+/// Says on standard error what a store in a file was refused for, and gives the exit status.
+fn tell_store(rt: &HostRuntime, path: &str, fault: &StoreFault) -> u8 {
+    let _ = eprintln!(rt; "office: {path}: {fault}");
+    store_status(fault)
 }
 
 /// Does a task in an office whose store is in memory.
@@ -184,7 +209,7 @@ fn tell_replay(rt: &HostRuntime, replayed: &Result<Replayed, WriteFault>) {
             }
             if replayed.lost {
                 eprintln!(rt;
-                    "office: memory ran out, and mail or a text was lost: deliver the same bag again"
+                    "office: memory ran out or the store failed, and mail or a text was lost: deliver the same bag again"
                 )
             } else {
                 Ok(())

@@ -1,8 +1,10 @@
 //! Worked rows of the whole office: bags of mail, what a replay of each prints, and its exit status.
 
+use crate::store::open_tables;
 use office_http::{Office, replay, replay_status};
 use office_mail::{FromRead, Setup, ToWrite};
-use office_store::Plain;
+use office_store::{Keeper, Plain};
+use sqlite::Connection;
 use std::alloc::Global;
 use std::test::Fail;
 
@@ -42,13 +44,34 @@ pub fn new_office(alloc: Global) -> Result<Office<Plain>, Fail> {
     Ok(Office::new(alloc, setup, plain))
 }
 
-/// What a replay of a bag in a new office prints, and its exit status.
-pub fn replayed(alloc: Global, bag: &[u8]) -> Result<(Vec<u8>, u8), Fail> {
-    let mut office = new_office(alloc)?;
+/// What a replay of a bag in an office prints, and its exit status.
+pub fn replayed_in<K: Keeper>(alloc: Global, office: &mut Office<K>, bag: &[u8]) -> (Vec<u8>, u8) {
     let mut output = Vec::new(alloc);
     let mut writer = ToWrite::new(&mut output);
-    let replayed = replay(&mut office, FromRead::new(bag), &mut writer);
-    Ok((output, replay_status(&replayed)))
+    let replayed = replay(office, FromRead::new(bag), &mut writer);
+    (output, replay_status(&replayed))
+}
+
+/// The same in a new office over tables of sqlite in memory.
+fn replayed_in_tables(alloc: Global, bag: &[u8]) -> Result<(Vec<u8>, u8), Fail> {
+    let setup = Setup::parse(alloc, SETUP.as_bytes())?;
+    let conn = Connection::open_in_memory(alloc)?;
+    let tables = open_tables(alloc, conn, &setup)?;
+    let mut office = Office::new(alloc, setup, tables);
+    let came = replayed_in(alloc, &mut office, bag);
+    drop(office.into_keeper().into_connection());
+    Ok(came)
+}
+
+/// The same in a new office; it fails where a store in memory and tables of sqlite don't give the same.
+pub fn replayed(alloc: Global, bag: &[u8]) -> Result<(Vec<u8>, u8), Fail> {
+    let mut office = new_office(alloc)?;
+    let (output, status) = replayed_in(alloc, &mut office, bag);
+    let (told, told_status) = replayed_in_tables(alloc, bag)?;
+    if told.as_slice() != output.as_slice() || told_status != status {
+        Err("another answer over tables")?
+    }
+    Ok((output, status))
 }
 
 const BLOCK: &str = "From: rt\nNumber: 1\nKind: hint\nHint: block foo\n";

@@ -3,6 +3,9 @@
 ghost use Rattle.std.specs.Prelude.{◌≡◌};
 ghost use Rattle.office.specs.Service.{status_of_service};
 
+#[cfg(test)]
+mod tests;
+
 use office_http::{Office, ServeFault, serve_one};
 use office_mail::{FromRead, ToWrite};
 use office_store::Keeper;
