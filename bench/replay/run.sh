@@ -1,7 +1,7 @@
 #!/bin/sh
 # Times `office replay` on bags of an archive's shape.
 # usage: run.sh OFFICE [SHAPE:SOURCES..]
-# OFFICE is the built program.
+# OFFICE is the built program. With DB=1 in the environment each bag is replayed over a store in a new file.
 set -eu
 here=$(cd "$(dirname "$0")" && pwd)
 office=$1
@@ -13,13 +13,15 @@ for bag in "$@"; do
     python3 "$here/bag.py" "${bag%:*}" "${bag#*:}" > "$bags/bag"
     setup=$here/setup.conf
     case $bag in both:*) setup=$here/both.conf ;; esac
-    python3 - "$office" "$setup" "$bags/bag" "$bag" << 'PYTHON'
+    rm -f "$bags/store" "$bags/store-wal"
+    python3 - "$office" "$setup" "$bags/bag" "$bag" "${DB:+$bags/store}" << 'PYTHON'
 import resource, subprocess, sys, time
-office, setup, bag, name = sys.argv[1:]
+office, setup, bag, name, store = sys.argv[1:]
+words = [office, "replay", "--conf", setup] + (["--db", store] if store else [])
 messages = sum(line.startswith(b"mail ") for line in open(bag, "rb"))
 began = time.monotonic()
 with open(bag, "rb") as given:
-    told = subprocess.run([office, "replay", "--conf", setup], stdin=given, stdout=subprocess.PIPE)
+    told = subprocess.run(words, stdin=given, stdout=subprocess.PIPE)
 seconds = time.monotonic() - began
 held = sum(line.startswith(b"held ") for line in told.stdout.splitlines())
 ready = [line for line in told.stdout.splitlines() if line.startswith(b"ready ")]

@@ -1,19 +1,31 @@
 #!/bin/sh
 # Reads an office's store by the stock sqlite3, and tells what it finds.
 #
-# Usage: tests/peers/store.sh FILE, where FILE is a store that office_store's `Tables` wrote and that
-# is closed. Debian's package sqlite3 is needed.
+# Usage: tests/peers/store.sh FILE, where FILE is a store that no office has open; or
+# tests/peers/store.sh --by OFFICE, where OFFICE is the built program, which then writes a store of
+# examples/archive.bag to be read. Debian's package sqlite3 is needed.
 #
 # The file must pass PRAGMA integrity_check and foreign_key_check, have the five tables of the
 # office, each STRICT and with no column that may be null, and one row of the office, with id 1 and
 # schema number 0. The exit status is 1 where any of these fails.
 set -eu
 
-if [ $# -ne 1 ] || [ ! -f "$1" ]; then
-    echo "usage: $0 FILE" >&2
+usage() {
+    echo "usage: $0 FILE, or $0 --by OFFICE" >&2
     exit 2
+}
+
+if [ $# -eq 2 ] && [ "$1" = --by ]; then
+    examples=$(cd "$(dirname "$0")/../../examples" && pwd)
+    folder=$(mktemp -d)
+    trap 'rm -rf "$folder"' EXIT
+    file=$folder/store
+    "$2" replay --conf "$examples/setup.conf" --db "$file" < "$examples/archive.bag" > /dev/null
+elif [ $# -eq 1 ] && [ -f "$1" ]; then
+    file=$1
+else
+    usage
 fi
-file=$1
 failed=0
 
 ask() {

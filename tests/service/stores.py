@@ -1,0 +1,178 @@
+#!/usr/bin/env python3
+"""Stores in files: an office that is stopped and started, replays in parts, and files that are refused.
+
+  stores.py PROGRAM [PORT]
+
+PROGRAM is the built program, `crates/office/out/office`. It replays examples/archive.bag, reads what is kept by Python's
+sqlite3, and writes in a folder of its own. Exit status 0 where each store was as it should be.
+"""
+import hashlib
+import os
+import signal
+import sqlite3
+import subprocess
+import sys
+import tempfile
+import urllib.error
+import urllib.request
+
+EXAMPLES = os.path.join(os.path.dirname(os.path.abspath(__file__)), "..", "..", "examples")
+ARCHIVE = os.path.join(EXAMPLES, "archive")
+program = os.path.abspath(sys.argv[1])
+port = int(sys.argv[2]) if len(sys.argv) > 2 else 18732
+faults = []
+tried = 0
+
+
+def want(what, due, got):
+    global tried
+    tried += 1
+    if due != got:
+        faults.append("%s: due %r, got %r" % (what, due, got))
+
+
+def bytes_of(path):
+    with open(path, "rb") as f:
+        return f.read()
+
+
+MESSAGES = [bytes_of(os.path.join(ARCHIVE, name)) for name in sorted(os.listdir(ARCHIVE))]
+
+
+def bag_of(texts):
+    return b"".join(b"mail %d\n" % len(text) + text for text in texts)
+
+
+def replay(conf, db, bag):
+    words = [program, "replay", "--conf", conf] + (["--db", db] if db is not None else [])
+    ran = subprocess.run(words, input=bag, stdout=subprocess.PIPE, stderr=subprocess.PIPE, timeout=60)
+    return ran.stdout, ran.returncode, ran.stderr.decode()
+
+
+def testing_in(output):
+    return output[output.index(b"testing "):]
+
+
+def asked(db, words):
+    with sqlite3.connect(db) as reader:
+        found = reader.execute(words).fetchall()
+    reader.close()
+    return found
+
+
+class Service:
+    """The service over a store, which is ended by force."""
+
+    def __init__(self, conf, db):
+        words = [program, "serve", "--conf", conf, "--port", str(port), "--db", db]
+        self.process = subprocess.Popen(words, stdout=subprocess.PIPE, stderr=subprocess.PIPE)
+        want("first line", b"listening %d\n" % port, self.process.stdout.readline())
+
+    def ask(self, path, body=None):
+        try:
+            with urllib.request.urlopen("http://127.0.0.1:%d%s" % (port, path), body, timeout=20) as reply:
+                return reply.read()
+        except urllib.error.HTTPError as refused:
+            return refused.read()
+
+    def kill(self):
+        self.process.send_signal(signal.SIGKILL)
+        self.process.communicate()
+
+
+def parts(folder, conf):
+    """A bag in parts, and twice, over a store: as at once."""
+    whole, status, _ = replay(conf, None, bag_of(MESSAGES))
+    want("status of the whole", 0, status)
+    for cut in range(len(MESSAGES) + 1):
+        db = os.path.join(folder, "parts-%d" % cut)
+        first, first_status, _ = replay(conf, db, bag_of(MESSAGES[:cut]))
+        second, second_status, _ = replay(conf, db, bag_of(MESSAGES[cut:]))
+        want("statuses, cut at %d" % cut, (0, 0), (first_status, second_status))
+        want("testing, cut at %d" % cut, testing_in(whole), testing_in(second))
+        reports = asked(db, "SELECT excuses || updates FROM run ORDER BY number")
+        want("reports, cut at %d" % cut, whole[whole.index(b"excuses 1"):whole.index(b"testing ")],
+             "".join(text for text, in reports).encode())
+        want("database, cut at %d" % cut, [("ok",)], asked(db, "PRAGMA integrity_check"))
+        want("keys, cut at %d" % cut, [], asked(db, "PRAGMA foreign_key_check"))
+        again, _, _ = replay(conf, db, bag_of(MESSAGES))
+        want("replies to all again, cut at %d" % cut, whole[:whole.index(b"ready ")], again[:again.index(b"ready ")])
+        want("all again, cut at %d" % cut, testing_in(whole), testing_in(again))
+
+
+def ended_by_force(folder, conf):
+    """A service that is ended by force after each message goes on where it was."""
+    db = os.path.join(folder, "service")
+    whole, _, _ = replay(conf, None, bag_of(MESSAGES))
+    for text, line in zip(MESSAGES, whole.splitlines(True)):
+        service = Service(conf, db)
+        want("a message", line, service.ask("/mail", text))
+        service.kill()
+    service = Service(conf, db)
+    want("the first message again", whole.splitlines(True)[0], service.ask("/mail", MESSAGES[0]))
+    want("status", b"ready 2 finished 2\n", service.ask("/status"))
+    told = b"".join(service.ask(path) for path in ("/excuses/1", "/update/1", "/excuses/2", "/update/2", "/testing"))
+    want("the texts", whole[whole.index(b"excuses 1"):], told)
+    in_use = replay(conf, db, b"")
+    want("in use", (b"", 4), in_use[:2])
+    want("in use, told", True, "end the program that has it open" in in_use[2])
+    service.kill()
+
+
+def refused(folder, conf):
+    """Files that are no store of this setup are refused, each with its sentence, and stay as they were."""
+    made = os.path.join(folder, "made")
+    replay(conf, made, bag_of(MESSAGES))
+    smaller = os.path.join(folder, "smaller.conf")
+    with open(smaller, "wb") as f:
+        f.write(bytes_of(conf).replace(b"amd64 arm64", b"amd64"))
+
+    def changed(name, words):
+        path = os.path.join(folder, name)
+        with open(path, "wb") as f:
+            f.write(bytes_of(made))
+        asked(path, words)
+        return path
+
+    plain = os.path.join(folder, "plain")
+    with open(plain, "wb") as f:
+        f.write(b"this is no database\n")
+    cut = os.path.join(folder, "cut")
+    with open(cut, "wb") as f:
+        f.write(bytes_of(made)[:20000])
+    other = os.path.join(folder, "other")
+    asked(other, "CREATE TABLE other(a INTEGER)")
+    rows = [
+        ("another setup", smaller, made, "made for another setup"),
+        ("a schema number", conf, changed("schema", "UPDATE office SET schema = 7"), "other tables"),
+        ("a table more", conf, changed("more", "CREATE TABLE other(a INTEGER) STRICT"), "other tables"),
+        ("a setup that can't be read", conf, changed("setup", "UPDATE office SET setup = 'x'"), "other tables"),
+        ("another database", conf, other, "other tables"),
+        ("no database", conf, plain, "not a database"),
+        ("a database that is cut", conf, cut, "malformed"),
+        ("a folder", conf, folder, "unable to open"),
+        ("no such folder", conf, os.path.join(folder, "none", "store"), "unable to open"),
+        ("no name", conf, "", "unable to open"),
+    ]
+    for what, setup, path, told in rows:
+        before = hashlib.sha256(bytes_of(path)).digest() if os.path.isfile(path) else None
+        output, status, sentence = replay(setup, path, bag_of(MESSAGES))
+        after = hashlib.sha256(bytes_of(path)).digest() if os.path.isfile(path) else None
+        want(what, (b"", 4), (output, status))
+        want(what + ", told", True, sentence.startswith("office: %s: " % path) and told in sentence)
+        want(what + ", its file", before, after)
+
+
+def main():
+    conf = os.path.join(EXAMPLES, "setup.conf")
+    with tempfile.TemporaryDirectory() as folder:
+        parts(folder, conf)
+        ended_by_force(folder, conf)
+        refused(folder, conf)
+    for fault in faults:
+        print("FAIL", fault)
+    print("%d tried, %d faults" % (tried, len(faults)))
+    sys.exit(1 if faults else 0)
+
+
+main()
