@@ -37,8 +37,8 @@ pub struct RowIn {
 /// A row that is lent: its binary stands in testing or among the builds of unstable.
 #[derive(Clone, Copy)]
 pub struct LentRow<'a> {
-    pub arch: u32,
     pub binary: &'a Binary,
+    pub arch: u32,
     pub sender: u32,
     pub number: u32,
     pub place: u32,
