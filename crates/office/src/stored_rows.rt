@@ -12,6 +12,7 @@ use office_store::Tables;
 use sqlite::{Connection, Error, ErrorCode, FileStore, Files, Options};
 use sqlite_disk::Memory;
 use std::alloc::Global;
+use std::process::Abort;
 use std::test::Fail;
 
 /// A setup with an architecture less.
@@ -117,37 +118,48 @@ fn refused_in(alloc: Global, files: Files<Memory>, conf: &str) -> Result<Option<
     }
 }
 
+/// Replays a bag of these texts in an office over files that are opened and closed again: it prints this, and ends with
+/// status 0.
+fn expect_over(
+    rt: &impl Abort,
+    alloc: Global,
+    files: Files<Memory>,
+    texts: &[&str],
+    due: &str,
+) -> Result<Files<Memory>, Fail>
+    requires { IsTrue (memory_is_usable files.log) × IsTrue (memory_is_usable files.db) }
+    ensures { IfOk result (λ left. IsTrue (memory_is_usable left.log) × IsTrue (memory_is_usable left.db)) }
+{
+    let bag = bag_of(alloc, texts)?;
+    let (output, status, left) = replayed_over(alloc, files, &bag)?;
+    assert!(rt;
+        status == 0 && output.as_slice() == due.as_bytes(),
+        "due: {due}"
+    );
+    Ok(left)
+}
+
+const WAITING: &str = "held ftp 1\nheld bd 1\nready 0 finished 0\ntesting 0\n";
+
+const FINISHED: &str =
+    "held clock 1\nready 1 finished 1\nexcuses 1 2025-03-06\nfoo - 1.0-1\n age 5 of 5\n candidate\nupdate 1 2025-03-06\naccept foo 1.0-1\ntesting 1\nsource foo 1.0-1\nbinary amd64 foo 1.0-1 foo\n";
+
+const AGAIN: &str =
+    "held ftp 1\nrefused OtherText\nheld clock 1\nready 1 finished 1\ntesting 1\nsource foo 1.0-1\nbinary amd64 foo 1.0-1 foo\n";
+
+const SECOND: &str =
+    "held clock 2\nready 2 finished 2\nexcuses 2 2025-03-07\nupdate 2 2025-03-07\ntesting 2\nsource foo 1.0-1\nbinary amd64 foo 1.0-1 foo\n";
+
 /// Half a bag, the other half after the files were opened again, and mail that repeats what was kept: each answer is that
 /// of one office, and so are the reports. Another setup is refused.
 #[test]
 fn an_office_goes_on(rt: HostRuntime) -> Result<(), Fail> {
     let alloc = rt.alloc();
-    let rows: [(&[&str], &str); 4] = [
-        (
-            &[UPLOAD, BUILD],
-            "held ftp 1\nheld bd 1\nready 0 finished 0\ntesting 0\n",
-        ),
-        (
-            &[RUN],
-            "held clock 1\nready 1 finished 1\nexcuses 1 2025-03-06\nfoo - 1.0-1\n age 5 of 5\n candidate\nupdate 1 2025-03-06\naccept foo 1.0-1\ntesting 1\nsource foo 1.0-1\nbinary amd64 foo 1.0-1 foo\n",
-        ),
-        (
-            &[UPLOAD, OTHER_DAY, RUN],
-            "held ftp 1\nrefused OtherText\nheld clock 1\nready 1 finished 1\ntesting 1\nsource foo 1.0-1\nbinary amd64 foo 1.0-1 foo\n",
-        ),
-        (
-            &[SECOND_RUN],
-            "held clock 2\nready 2 finished 2\nexcuses 2 2025-03-07\nupdate 2 2025-03-07\ntesting 2\nsource foo 1.0-1\nbinary amd64 foo 1.0-1 foo\n",
-        ),
-    ];
-    let mut files = no_files(alloc);
-    'rows: for (row, (texts, due)) in rows.iter().enumerate() {
-        let bag = bag_of(alloc, texts)?;
-        let (output, status, left) = replayed_over(alloc, files, &bag)?;
-        files = left;
-        assert_eq!(rt; output.as_slice(), due.as_bytes(), "at {row}");
-        assert_eq!(rt; status, 0, "at {row}");
-    }
+    let files = no_files(alloc);
+    let files = expect_over(&rt, alloc, files, &[UPLOAD, BUILD], WAITING)?;
+    let files = expect_over(&rt, alloc, files, &[RUN], FINISHED)?;
+    let files = expect_over(&rt, alloc, files, &[UPLOAD, OTHER_DAY, RUN], AGAIN)?;
+    let files = expect_over(&rt, alloc, files, &[SECOND_RUN], SECOND)?;
     let (excuses, update, files) = reports_over(alloc, files)?;
     assert_eq!(rt; excuses.as_str(), EXCUSES);
     assert_eq!(rt; update.as_str(), UPDATE);
