@@ -9,7 +9,8 @@ ghost use Rattle.deb_control.specs.declared.fault.BinaryField.TheVariants.{Sourc
 
 use crate::fault::{BinaryFault, BinaryField, RelationFault};
 use crate::grammar::{
-    is_lower_or_digit, is_package_name, is_qualifier_char, parse_version, read_version, split_name,
+    is_lower_or_digit, is_package_name, is_qualifier_char, parse_version, read_clauses,
+    read_version, split_name,
 };
 use crate::owned::Text;
 use crate::paragraphs::Paragraph;
@@ -69,8 +70,8 @@ impl Binary {
             return Err(BinaryFault::BadName(BinaryField::Architecture));
         }
         let (source, source_version) = read_source(alloc, paragraph, package, version_text)?;
-        let before = read_clauses(alloc, paragraph, BinaryField::PreDepends)?;
-        let depends = read_clauses(alloc, paragraph, BinaryField::Depends)?;
+        let before = clauses_of(alloc, paragraph, BinaryField::PreDepends)?;
+        let depends = clauses_of(alloc, paragraph, BinaryField::Depends)?;
         let provides = read_provisions(alloc, paragraph)?;
         Ok(Binary {
             name: Text::from_str(alloc, package)?,
@@ -78,7 +79,7 @@ impl Binary {
             architecture: Text::from_str(alloc, architecture)?,
             source,
             source_version,
-            clauses: joined(before, depends)?,
+            clauses: Clauses::new(alloc, joined(before, depends)?)?,
             provides,
         })
     }
@@ -93,7 +94,7 @@ impl Binary {
             architecture: self.architecture.copy(alloc)?,
             source: self.source.copy(alloc)?,
             source_version: self.source_version.copy(alloc)?,
-            clauses: self.clauses.copy(alloc)?,
+            clauses: self.clauses.copy()?,
             provides: self.provides.copy(alloc)?,
         })
     }
@@ -196,15 +197,15 @@ fn source_with(alloc: Global, name: &str, version: &str) -> Result<(Text, Versio
     Ok((Text::from_str(alloc, name)?, version))
 }
 
-/// The clauses of a field.
-fn read_clauses(
+/// The clauses of a field, one by one.
+fn clauses_of(
     alloc: Global,
     paragraph: &Paragraph<'_>,
     field: BinaryField,
-) -> Result<Clauses, BinaryFault>
-    ensures { Gives result (of_field field (clauses_in (optional paragraph.now field))) }
+) -> Result<Vec<Clause>, BinaryFault>
+    ensures { GivesBy (λ v. v.items) result (of_field field (clauses_in (optional paragraph.now field))) }
 {
-    in_field(field, Clauses::parse(alloc, optional(paragraph, field)))
+    in_field(field, read_clauses(alloc, optional(paragraph, field)))
 }
 
 /// The provisions.
@@ -218,11 +219,11 @@ fn read_provisions(alloc: Global, paragraph: &Paragraph<'_>) -> Result<Provision
 }
 
 /// Clauses, and then more.
-fn joined(before: Clauses, after: Clauses) -> Result<Clauses, AllocError>
-    ensures { IfOk result (λ c. c ≡ before ++ after) }
+fn joined(before: Vec<Clause>, after: Vec<Clause>) -> Result<Vec<Clause>, AllocError>
+    ensures { IfOk result (λ all. all.items ≡ before.items ++ after.items) }
 {
-    let mut all = before.into_vec();
-    let mut more = after.into_vec();
+    let mut all = before;
+    let mut more = after;
     all.append(&mut more)?;
-    Ok(Clauses::new(all))
+    Ok(all)
 }

@@ -16,19 +16,27 @@ use std::alloc::{AllocError, Global};
 impl Clauses {
     /// The clauses of a text, as the value of a field `Depends`, or its first fault from the left. An item of white alone
     /// between two commas is skipped, and the qualifier of a name, as `:any`, is left out.
-    #[tactic(auto, unfolding(crate::specs::Relations::clauses_in))]
     pub fn parse(alloc: Global, text: &str) -> Result<Clauses, RelationFault>
         ensures { Gives result (clauses_in text.now) }
     {
-        let items = parts(alloc, text, ',')?;
-        let mut clauses = Vec::new(alloc);
-        'items: for item in &items {
-            if !is_all_white(item.as_bytes()) {
-                clauses.push(read_clause(alloc, item)?)?;
-            }
-        }
-        Ok(Clauses::new(clauses))
+        let clauses = read_clauses(alloc, text)?;
+        Ok(Clauses::new(alloc, clauses)?)
     }
+}
+
+/// The clauses of a text one by one, or its first fault from the left.
+#[tactic(auto, unfolding(crate::specs::Relations::clauses_in))]
+pub fn read_clauses(alloc: Global, text: &str) -> Result<Vec<Clause>, RelationFault>
+    ensures { GivesBy (λ v. v.items) result (clauses_in text.now) }
+{
+    let items = parts(alloc, text, ',')?;
+    let mut clauses = Vec::new(alloc);
+    'items: for item in &items {
+        if !is_all_white(item.as_bytes()) {
+            clauses.push(read_clause(alloc, item)?)?;
+        }
+    }
+    Ok(clauses)
 }
 
 impl Provisions {

@@ -9,6 +9,7 @@ use deb_version::{NoMemory, Version};
 use std::alloc::{AllocError, Global};
 use std::cmp::Ordering;
 use std::marker::Model;
+use std::rc::Rc;
 
 /// How a version is compared with the one that a relation states (Debian Policy 7.1).
 #[derive(Clone, Copy, Debug, PartialEq, Eq)]
@@ -184,10 +185,10 @@ fn copy_alternatives(
     Ok(copies)
 }
 
-/// Clauses, each of which is to be met (Debian Policy 7.1, 7.2). Contracts see the list of them.
+/// Clauses, each of which is to be met (Debian Policy 7.1, 7.2). Contracts see the list of them. Copies share them.
 #[derive(Drop)]
 pub struct Clauses {
-    clauses: Vec<Clause>,
+    clauses: Rc<Vec<Clause>>,
 }
 
 impl Model for Clauses {
@@ -196,48 +197,32 @@ impl Model for Clauses {
 
     ghost Value = { List (List Alternative) };
 
-    ghost view = { λ a. a.clauses.items };
+    ghost view = { λ a. a.clauses.value.items };
 }
 
 impl Clauses {
-    /// These clauses. It takes no memory.
-    pub fn new(clauses: Vec<Clause>) -> Clauses
-        ensures { result ≡ clauses.items }
+    /// These clauses.
+    pub fn new(alloc: Global, clauses: Vec<Clause>) -> Result<Clauses, AllocError>
+        ensures { IfOk result (λ c. c ≡ clauses.items) }
     {
-        Clauses { clauses }
+        let clauses = Rc::new(alloc, clauses)?;
+        Ok(Clauses { clauses })
     }
 
     /// The clauses, in the order in which they are written.
     pub fn as_slice(&self) -> &[Clause]
         ensures { result.now ≡ self.now }
     {
-        self.clauses.as_slice()
+        self.clauses.as_ref().as_slice()
     }
 
-    /// The clauses as a vector. It takes no memory.
-    pub fn into_vec(self) -> Vec<Clause>
-        ensures { result.items ≡ self }
-    {
-        self.clauses
-    }
-
-    /// Equal clauses.
-    pub fn copy(&self, alloc: Global) -> Result<Clauses, NoMemory>
+    /// Equal clauses, which are shared.
+    pub fn copy(&self) -> Result<Clauses, NoMemory>
         ensures { IfOk result (λ c. c ≡ self.now) }
     {
-        let clauses = copy_clauses(alloc, &self.clauses)?;
+        let clauses = self.clauses.clone()?;
         Ok(Clauses { clauses })
     }
-}
-
-fn copy_clauses(alloc: Global, clauses: &[Clause]) -> Result<Vec<Clause>, NoMemory>
-    ensures { IfOk result (λ v. v.items ≡ clauses.now) }
-{
-    let mut copies = Vec::with_capacity(alloc, clauses.len())?;
-    'each: for clause in clauses {
-        copies.push(clause.copy(alloc)?)?;
-    }
-    Ok(copies)
 }
 
 /// What a package provides (Debian Policy 7.5). Contracts see the list of provisions.

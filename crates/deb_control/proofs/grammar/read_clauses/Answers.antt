@@ -5,8 +5,8 @@ use Rattle.std.proofs.lemmas.Result.{err_from_is_err_and}
 use Rattle.deb_control.specs.Text.{is_white}
 use Rattle.deb_control.specs.Relations.{each_in, items, clause_in, clauses_in}
 use Rattle.deb_control.proofs.Each.{texts, not_white, then_append, begins_with_none, each_step, each_fails, each_ends, item_in_front, white_in_front, fails_as, nowhere}
-use Rattle.deb_control.proofs.relation.Clauses.parse.Goals as goal
-use Rattle.deb_control.proofs.relation.Clauses.parse.Goals.{then-not-is_all_white+in_ok-read_clause+in_ok-push, else-not-is_all_white}
+use Rattle.deb_control.proofs.grammar.read_clauses.Goals as goal
+use Rattle.deb_control.proofs.grammar.read_clauses.Goals.{then-not-is_all_white+in_ok-read_clause+in_ok-push, else-not-is_all_white}
 
 pub items-init : goal.items-init
 items-init c = rw c.new-clauses.ensures.items (begins_with_none (each_in clause_in (filter not_white (texts c.deref-item-items.result.now))))
@@ -45,4 +45,4 @@ unfolding clauses_in items
 returns c =
     let xs = c.deref-item-items.result.now in
     let all : clauses_in c.args.text.now ≡ each_in clause_in (filter not_white (texts xs)) = ap (λ ts. each_in clause_in (filter not_white ts)) (sym (ap texts c.deref-item-items.ensures.value ∙ c.in_ok-items.ensures)) in
-    all ∙ sym c.items.invariant ∙ each_ends clause_in c.items.clauses.items _ (ap (λ ts. filter not_white (texts ts)) (drop_all c.items.item-index xs c.items-test.false)) ∙ ap Ok (sym c.new.ensures)
+    all ∙ sym c.items.invariant ∙ each_ends clause_in c.items.clauses.items _ (ap (λ ts. filter not_white (texts ts)) (drop_all c.items.item-index xs c.items-test.false))
