@@ -1,6 +1,4 @@
-use Rattle.std.proofs.Common.{◌≡◌, ℕ, zero, suc, ◌+◌, ◌<◌, ◌≤◌, Bool, true, ◌||◌, List, [], ◌∷◌, ◌++◌, length, map, get_or, drop, Some, None, Vec, get_or-drop, length-drop, Global, sym, ap, ◌∙◌, subst, inl, inr, arith}
-use Rattle.std.specs.Borrow.{Bor}
-use Rattle.std.specs.BTreeMap.{BTreeMap}
+use Rattle.std.proofs.Common.{◌≡◌, ℕ, zero, suc, ◌+◌, ◌<◌, ◌≤◌, Bool, true, ◌||◌, List, [], ◌∷◌, ◌++◌, length, map, get_or, drop, Some, None, get_or-drop, length-drop, sym, ap, ◌∙◌, subst, inl, inr, arith}
 use Rattle.std.specs.List.{slice_get, All, AllWithin, Contains, list_any}
 use Rattle.std.specs.Str.{bytes_eq}
 use Rattle.std.proofs.lemmas.Option.{slice_get_within, get_or_from_slice_get}
@@ -12,7 +10,7 @@ use Rattle.deb_control.specs.declared.relation.Alternative.{Alternative}
 use Rattle.deb_control.specs.declared.relation.Clause.{Clause}
 use Rattle.testing_install.specs.Satisfies.{fits, is_itself, is_provided, gives, satisfies}
 use Rattle.testing_install.specs.Closed.{IsMet}
-use Rattle.testing_install.specs.Index.{bears, places_at, IsIndex}
+use Rattle.testing_install.specs.Index.{bears, PlacesByName, places_at, IsIndex}
 use Rattle.testing_install.specs.Claims.{tagged, claims_from}
 use Rattle.testing_install.specs.Ground.{Misses}
 
@@ -55,7 +53,7 @@ misses_places rows set a places n out h = record { each = λ k row c at on does.
 pub record IsUnsatisfied (rows : List Binary) (set : ℕ → Bool) (a : Alternative) : Type 0 where
   pub each : (k : ℕ) (row : Binary) → slice_get rows k ≡ Some row → set k ≡ true → satisfies row a ≡ true → ⊥
 
-pub unsatisfied : (rows : List Binary) (map : BTreeMap (Bor (List ℕ)) (Vec ℕ Global)) (set : ℕ → Bool) (a : Alternative) (places : List ℕ) (name : List ℕ) → IsIndex rows map → places ≡ places_at map name → name ≡ a.name → Misses rows set a places → IsUnsatisfied rows set a
+pub unsatisfied : (rows : List Binary) (map : PlacesByName) (set : ℕ → Bool) (a : Alternative) (places : List ℕ) (name : List ℕ) → IsIndex rows map → places ≡ places_at map name → name ≡ a.name → Misses rows set a places → IsUnsatisfied rows set a
 unsatisfied rows map set a places name index e named misses = record {
   each = λ k row at on does.
       let there = index.complete a.name k row at (satisfies_bears row a does) in

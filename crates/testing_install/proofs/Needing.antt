@@ -1,11 +1,5 @@
 -- Who needs a name.
-use Rattle.std.proofs.Common.{◌≡◌, ℕ, ◌+◌, ◌<◌, ◌≤◌, Bool, true, false, ◌||◌, List, [], ◌∷◌, ◌++◌, length, get_or, take, Some, None, Vec, Global, sym, ap, ◌∙◌, subst, inl, inr, arith}
-use Rattle.std.specs.Borrow.{Bor}
-use Rattle.std.specs.BTreeMap.{is_at}
-use Rattle.std.specs.Map.{lookup}
-use Rattle.std.specs.Option.{option_map_or}
-use Rattle.std.specs.Ordering.{nat_cmp}
-use Rattle.std.specs.Cmp.Lexicographic.{slice_cmp}
+use Rattle.std.proofs.Common.{◌≡◌, ℕ, ◌+◌, ◌<◌, ◌≤◌, Bool, true, false, ◌||◌, List, [], ◌∷◌, ◌++◌, length, get_or, take, Some, None, sym, ap, ◌∙◌, subst, inl, inr, arith}
 use Rattle.std.specs.Str.{bytes_eq}
 use Rattle.std.specs.List.{slice_get, All, Contains, list_any, flat_map}
 use Rattle.std.proofs.lemmas.Option.{slice_get_within, same_Some}
@@ -21,29 +15,29 @@ use Rattle.deb_control.specs.declared.relation.Provision.{Provision}
 use Rattle.deb_control.specs.declared.relation.Alternative.{Alternative}
 use Rattle.deb_control.specs.declared.relation.Clause.{Clause}
 use Rattle.testing_install.specs.Satisfies.{satisfies, meets}
-use Rattle.testing_install.specs.Index.{bears, places_at}
+use Rattle.testing_install.specs.Index.{bears, PlacesByName, places_at}
 use Rattle.testing_install.specs.Among.{may_need}
 use Rattle.testing_install.specs.Needers.{names, needs_name, IsNotedAt, IsNeeders, places_for}
-use Rattle.testing_install.proofs.Indexing.{Places, IsAdded, added_stays, added_here, added_within}
+use Rattle.testing_install.proofs.Indexing.{places_none, IsAdded, added_stays, added_here, added_within}
 use Rattle.testing_install.proofs.Finding.{any_true, any_at, satisfies_bears}
 use Rattle.testing_install.proofs.Members.{members_from_all, contains_part, part_contains}
 
 -- places at names that pass
 
-pub noted_none : (map : Places) (place : ℕ) → IsNotedAt (λ q. false) map map place
+pub noted_none : (map : PlacesByName) (place : ℕ) → IsNotedAt (λ q. false) map map place
 noted_none map place = record { stays = λ q k c. c; noted = λ q e. absurd (false≢true e); within = λ q n h all. all }
 
-noted_as : (f g : List ℕ → Bool) (old new : Places) (place : ℕ) → ((q : List ℕ) → g q ≡ f q) → IsNotedAt f old new place → IsNotedAt g old new place
+noted_as : (f g : List ℕ → Bool) (old new : PlacesByName) (place : ℕ) → ((q : List ℕ) → g q ≡ f q) → IsNotedAt f old new place → IsNotedAt g old new place
 noted_as f g old new place same n = record { stays = n.stays; noted = λ q e. n.noted q (sym (same q) ∙ e); within = n.within }
 
-noted_then : (f g : List ℕ → Bool) (old mid new : Places) (place : ℕ) → IsNotedAt f old mid place → IsNotedAt g mid new place → IsNotedAt (λ q. f q || g q) old new place
+noted_then : (f g : List ℕ → Bool) (old mid new : PlacesByName) (place : ℕ) → IsNotedAt f old mid place → IsNotedAt g mid new place → IsNotedAt (λ q. f q || g q) old new place
 noted_then f g old mid new place n m = record {
   stays = λ q k c. m.stays q k (n.stays q k c);
   noted = λ q e. elim (or_cases (f q) (g q) e) [ inl before ↦ m.stays q place (n.noted q before) | inr now ↦ m.noted q now ];
   within = λ q b h all. m.within q b h (n.within q b h all);
 }
 
-pub noted_added : (old new : Places) (name : List ℕ) (place : ℕ) → IsAdded old new name place → IsNotedAt (λ q. bytes_eq name q) old new place
+pub noted_added : (old new : PlacesByName) (name : List ℕ) (place : ℕ) → IsAdded old new name place → IsNotedAt (λ q. bytes_eq name q) old new place
 noted_added old new name place a = record {
   stays = λ q k c. added_stays old new name q place k a c;
   noted = λ q e. added_here old new name q place a e;
@@ -51,7 +45,7 @@ noted_added old new name place a = record {
 }
 
 -- the names of one alternative more
-pub noted_alternative : (clause : Clause) (old mid new : Places) (place i : ℕ) (a : Alternative) (read : List Alternative) → read ≡ clause → i < length read → a ≡ get_or read i a → IsNotedAt (names (take i clause)) old mid place → IsAdded mid new a.name place → IsNotedAt (names (take (i + 1) clause)) old new place
+pub noted_alternative : (clause : Clause) (old mid new : PlacesByName) (place i : ℕ) (a : Alternative) (read : List Alternative) → read ≡ clause → i < length read → a ≡ get_or read i a → IsNotedAt (names (take i clause)) old mid place → IsAdded mid new a.name place → IsNotedAt (names (take (i + 1) clause)) old new place
 noted_alternative clause old mid new place i a read are h at n added =
     let within : i < length clause = rw (ap length are) at h in
     let is_read : get_or clause i a ≡ a = sym (at ∙ ap (λ l. get_or l i a) are) in
@@ -59,7 +53,7 @@ noted_alternative clause old mid new place i a read are h at n added =
     (λ q. list_any_more (λ b. bytes_eq b.name q) clause i a within ∙ ap (λ b. names (take i clause) q || bytes_eq b.name q) is_read)
     (noted_then (names (take i clause)) (λ q. bytes_eq a.name q) old mid new place n (noted_added mid new a.name place added))
 
-pub noted_alternatives : (clause : Clause) (old new : Places) (place n : ℕ) → length clause ≤ n → IsNotedAt (names (take n clause)) old new place → IsNotedAt (names clause) old new place
+pub noted_alternatives : (clause : Clause) (old new : PlacesByName) (place n : ℕ) → length clause ≤ n → IsNotedAt (names (take n clause)) old new place → IsNotedAt (names clause) old new place
 noted_alternatives clause old new place n h noted = subst (λ c. IsNotedAt (names c) old new place) (take_all n clause h) noted
 
 -- a clause of the first n names it
@@ -67,7 +61,7 @@ abbrev pub needs_among : ℕ → List Clause → List ℕ → Bool
 needs_among n clauses name = list_any (λ clause. names clause name) (take n clauses)
 
 -- the names of one clause more
-pub noted_clause : (clauses : List Clause) (old mid new : Places) (place i : ℕ) (c : Clause) (read : List Clause) → read ≡ clauses → i < length read → c ≡ get_or read i c → IsNotedAt (needs_among i clauses) old mid place → IsNotedAt (names c) mid new place → IsNotedAt (needs_among (i + 1) clauses) old new place
+pub noted_clause : (clauses : List Clause) (old mid new : PlacesByName) (place i : ℕ) (c : Clause) (read : List Clause) → read ≡ clauses → i < length read → c ≡ get_or read i c → IsNotedAt (needs_among i clauses) old mid place → IsNotedAt (names c) mid new place → IsNotedAt (needs_among (i + 1) clauses) old new place
 noted_clause clauses old mid new place i c read are h at n noted =
     let within : i < length clauses = rw (ap length are) at h in
     let is_read : get_or clauses i c ≡ c = sym (at ∙ ap (λ l. get_or l i c) are) in
@@ -75,23 +69,21 @@ noted_clause clauses old mid new place i c read are h at n noted =
     (λ q. list_any_more (λ b. names b q) clauses i c within ∙ ap (λ b. needs_among i clauses q || names b q) is_read)
     (noted_then (needs_among i clauses) (names c) old mid new place n noted)
 
-pub noted_clauses : (row : Binary) (old new : Places) (place n : ℕ) → length row.clauses ≤ n → IsNotedAt (needs_among n row.clauses) old new place → IsNotedAt (needs_name row) old new place
+pub noted_clauses : (row : Binary) (old new : PlacesByName) (place n : ℕ) → length row.clauses ≤ n → IsNotedAt (needs_among n row.clauses) old new place → IsNotedAt (needs_name row) old new place
 noted_clauses row old new place n h noted = subst (λ cs. IsNotedAt (λ q. list_any (λ clause. names clause q) cs) old new place) (take_all n row.clauses h) noted
 
 -- after the first n rows
-pub record IsNeedersTo (rows : List Binary) (map : Places) (n : ℕ) : Type 0 where
+pub record IsNeedersTo (rows : List Binary) (map : PlacesByName) (n : ℕ) : Type 0 where
   pub within : (q : List ℕ) → All (λ k. k < length rows) (places_at map q)
   pub complete : (q : List ℕ) (k : ℕ) (row : Binary) → k < n → slice_get rows k ≡ Some row → needs_name row q ≡ true → Contains (places_at map q) k
 
-pub needers_none : (rows : List Binary) (map : Places) → map.entries ≡ [] → IsNeedersTo rows map 0
+pub needers_none : (rows : List Binary) (map : PlacesByName) → map.entries ≡ [] → IsNeedersTo rows map 0
 needers_none rows map e = record {
-  within = λ q k d h.
-      let none : places_at map q ≡ [] = ap (λ es. option_map_or (λ (v : Vec ℕ Global). v.items) (lookup (is_at (λ (k' : Bor (List ℕ)). slice_cmp nat_cmp q k'.now)) es) []) e in
-      absurd (omega (arith, h, ap length none));
+  within = λ q k d h. absurd (omega (arith, h, ap length (places_none map q e)));
   complete = λ q k row h. absurd (omega arith);
 }
 
-pub needers_more : (rows : List Binary) (old new : Places) (n : ℕ) (row : Binary) → slice_get rows n ≡ Some row → IsNeedersTo rows old n → IsNotedAt (needs_name row) old new n → IsNeedersTo rows new (n + 1)
+pub needers_more : (rows : List Binary) (old new : PlacesByName) (n : ℕ) (row : Binary) → slice_get rows n ≡ Some row → IsNeedersTo rows old n → IsNotedAt (needs_name row) old new n → IsNeedersTo rows new (n + 1)
 needers_more rows old new n row at to noted = record {
   within = λ q. noted.within q (length rows) (slice_get_within rows n row at) (to.within q);
   complete = λ q k other h stands e. elim (cases_lt k n) [
@@ -103,7 +95,7 @@ needers_more rows old new n row at to noted = record {
   ];
 }
 
-pub needers_all : (rows : List Binary) (map : Places) (n : ℕ) → IsNeedersTo rows map n → length rows ≤ n → IsNeeders rows map
+pub needers_all : (rows : List Binary) (map : PlacesByName) (n : ℕ) → IsNeedersTo rows map n → length rows ≤ n → IsNeeders rows map
 needers_all rows map n to h = record { within = to.within; complete = λ q k row at e. to.complete q k row (omega (arith, slice_get_within rows k row at)) at e }
 
 -- a row that may need another is among the places of the other's names
@@ -113,7 +105,7 @@ needs_alternative row j i a h l e =
     let same : bytes_eq (get_or (get_or row.clauses j []) i a).name a.name ≡ true = (bytes_eq-Decides (get_or (get_or row.clauses j []) i a).name a.name).1 (ap (λ b. b.name) e) in
     any_true (λ clause. names clause a.name) row.clauses j [] h (any_true (λ b. bytes_eq b.name a.name) (get_or row.clauses j []) i a l same)
 
-in_places : (map : Places) (row : Binary) (name : List ℕ) (k : ℕ) → bears row name ≡ true → Contains (places_at map name) k → Contains (places_for map row) k
+in_places : (map : PlacesByName) (row : Binary) (name : List ℕ) (k : ℕ) → bears row name ≡ true → Contains (places_at map name) k → Contains (places_for map row) k
 in_places map row name k e c = elim (or_cases (bytes_eq row.name name) (list_any (λ p. bytes_eq p.name name) row.provides) e) [
   | inl own ↦ (
       let same : row.name ≡ name = (bytes_eq-Decides row.name name).0 own in
@@ -125,7 +117,7 @@ in_places map row name k e c = elim (or_cases (bytes_eq row.name name) (list_any
       Contains-append_right (places_at map row.name) (flat_map (λ p. places_at map p.name) row.provides) k (contains_part (λ p. places_at map p.name) row.provides f.0 d k f.1 (subst (λ q. Contains (places_at map q) k) (sym same) c)))
 ]
 
-pub needer_found : (rows : List Binary) (map : Places) (row : Binary) → IsNeeders rows map → (k : ℕ) (needer : Binary) → slice_get rows k ≡ Some needer → may_need needer row ≡ true → Contains (places_for map row) k
+pub needer_found : (rows : List Binary) (map : PlacesByName) (row : Binary) → IsNeeders rows map → (k : ℕ) (needer : Binary) → slice_get rows k ≡ Some needer → may_need needer row ≡ true → Contains (places_for map row) k
 needer_found rows map row index k needer at need =
     let c = any_at (λ clause. meets row clause) needer.clauses need in
     let clause : Clause = get_or needer.clauses c.0 [] in
@@ -137,14 +129,14 @@ needer_found rows map row index k needer at need =
     in_places map row a.name k (satisfies_bears row a (f.2 d)) (index.complete a.name k needer at (needs_alternative needer c.0 f.0 a c.1 within e))
 
 -- and those places are places of rows
-pub places_for_within : (rows : List Binary) (map : Places) (row : Binary) → IsNeeders rows map → (k : ℕ) → Contains (places_for map row) k → k < length rows
+pub places_for_within : (rows : List Binary) (map : PlacesByName) (row : Binary) → IsNeeders rows map → (k : ℕ) → Contains (places_for map row) k → k < length rows
 places_for_within rows map row index k c = elim (Contains-append_cases (places_at map row.name) (flat_map (λ p. places_at map p.name) row.provides) k c) [
   | inl own ↦ members_from_all (length rows) (places_at map row.name) (index.within row.name) k own
   | inr given ↦ part_contains (λ n. n < length rows) (λ p. places_at map p.name) row.provides (λ p n at. members_from_all (length rows) (places_at map p.name) (index.within p.name) n at) k given
 ]
 
 -- the places so far, and those of one provision more
-pub found_more : (map : Places) (row : Binary) (old new : List ℕ) (i : ℕ) (p : Provision) (name : List ℕ) (read : List Provision) → read ≡ row.provides → i < length read → p ≡ get_or read i p → name ≡ p.name → new ≡ old ++ places_at map name → old ≡ places_at map row.name ++ flat_map (λ q. places_at map q.name) (take i row.provides) → new ≡ places_at map row.name ++ flat_map (λ q. places_at map q.name) (take (i + 1) row.provides)
+pub found_more : (map : PlacesByName) (row : Binary) (old new : List ℕ) (i : ℕ) (p : Provision) (name : List ℕ) (read : List Provision) → read ≡ row.provides → i < length read → p ≡ get_or read i p → name ≡ p.name → new ≡ old ++ places_at map name → old ≡ places_at map row.name ++ flat_map (λ q. places_at map q.name) (take i row.provides) → new ≡ places_at map row.name ++ flat_map (λ q. places_at map q.name) (take (i + 1) row.provides)
 found_more map row old new i p name read are h at named added so_far =
     let f : Provision → List ℕ = λ q. places_at map q.name in
     let within : i < length row.provides = rw (ap length are) at h in
@@ -154,8 +146,8 @@ found_more map row old new i p name read are h at named added so_far =
     added ∙ ap (λ q. old ++ places_at map q) named ∙ ap (λ xs. xs ++ places_at map p.name) so_far ∙ append_assoc (places_at map row.name) (flat_map f (take i row.provides)) (places_at map p.name) ∙ ap (λ xs. places_at map row.name ++ xs) (sym more)
 
 -- what was found, as a list
-pub found_within : (rows : List Binary) (map : Places) (row : Binary) (places found : List ℕ) (n : ℕ) → IsNeeders rows map → found ≡ places → places ≡ places_for map row → length rows ≡ n → (k : ℕ) → Contains found k → k < n
+pub found_within : (rows : List Binary) (map : PlacesByName) (row : Binary) (places found : List ℕ) (n : ℕ) → IsNeeders rows map → found ≡ places → places ≡ places_for map row → length rows ≡ n → (k : ℕ) → Contains found k → k < n
 found_within rows map row places found n index same are e k c = omega (arith, places_for_within rows map row index k (subst (λ xs. Contains xs k) (same ∙ are) c))
 
-pub found_all : (rows : List Binary) (map : Places) (row : Binary) (places found : List ℕ) → IsNeeders rows map → found ≡ places → places ≡ places_for map row → (k : ℕ) (needer : Binary) → slice_get rows k ≡ Some needer → may_need needer row ≡ true → Contains found k
+pub found_all : (rows : List Binary) (map : PlacesByName) (row : Binary) (places found : List ℕ) → IsNeeders rows map → found ≡ places → places ≡ places_for map row → (k : ℕ) (needer : Binary) → slice_get rows k ≡ Some needer → may_need needer row ≡ true → Contains found k
 found_all rows map row places found index same are k needer at need = subst (λ xs. Contains xs k) (sym (same ∙ are)) (needer_found rows map row index k needer at need)

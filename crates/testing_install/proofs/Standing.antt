@@ -7,7 +7,10 @@ use Rattle.std.proofs.lemmas.List.{length-replicate}
 use Rattle.deb_control.specs.declared.binary.Binary.{Binary}
 use Rattle.testing_install.specs.Closed.{IsClosed, IsInside, IsInstallable, marked}
 use Rattle.testing_install.specs.Among.{IsLost, IsInstallableAmong, IsListOf}
-use Rattle.testing_install.specs.Suite.{IsRight, IsChanged}
+use Rattle.testing_install.specs.Index.{PlacesByName, IsIndex}
+use Rattle.testing_install.specs.Needers.{IsNeeders}
+use Rattle.testing_install.specs.Suite.{IsRight, IsChanged, IsSuite}
+use Rattle.testing_install.specs.Tracked.{Tracked}
 use Rattle.testing_install.proofs.Members.{in_filter, from_filter}
 use Rattle.testing_install.proofs.Sweeping.{met_by_larger}
 use Rattle.testing_install.proofs.Marking.{mark_within}
@@ -17,6 +20,10 @@ no_mark : (n k : ℕ) → marked (replicate n false) k ≡ false
 no_mark zero k = refl
 no_mark (suc n) zero = refl
 no_mark (suc n) (suc k) = no_mark n k
+
+-- no place of n
+abbrev pub none_of : ℕ → Tracked
+none_of n = record { current = replicate n false; kept = replicate n false }
 
 -- where no row is there, none is installable
 pub right_none : (rows : List Binary) (n : ℕ) → length rows ≡ n → IsRight rows (replicate n false) (replicate n false)
@@ -29,6 +36,13 @@ right_none rows n e = record {
     greatest = λ other closed within k h on. within k h on;
   };
 }
+
+-- a suite in which no row is there
+pub suite_none : (rows : List Binary) (bearers needers : PlacesByName) (there installable : Tracked) (n m : ℕ) → IsIndex rows bearers → IsNeeders rows needers → n ≡ length rows → m ≡ length rows → there ≡ none_of n → installable ≡ none_of m → IsSuite rows bearers needers there installable
+suite_none rows bearers needers there installable n m borne needed en em et ei =
+    let same : installable ≡ none_of n = ei ∙ ap none_of (em ∙ sym en) in
+    let begun : IsSuite rows bearers needers (none_of n) (none_of n) = record { graph = record { borne = borne; needed = needed }; right = right_none rows n (sym en); there_kept = refl; installable_kept = refl } in
+    subst (λ t. IsSuite rows bearers needers t installable) (sym et) (subst (λ t. IsSuite rows bearers needers (none_of n) t) (sym same) begun)
 
 -- the marks are exactly the installable rows
 pub right_exact : (rows : List Binary) (there installable : List Bool) → IsRight rows there installable → (k : ℕ) → (marked installable k ≡ true) ↔ IsInstallableAmong rows (marked there) k

@@ -1,12 +1,9 @@
-use Rattle.std.specs.Prelude.{◌≡◌, ℕ, ◌<◌, Bool, true, List, length, ◌++◌, Some, Contains, Vec}
+use Rattle.std.specs.Prelude.{◌≡◌, ℕ, ◌<◌, Bool, true, List, length, ◌++◌, Some, Contains}
 use Rattle.std.specs.List.{slice_get, list_any, flat_map, All}
 use Rattle.std.specs.Str.{bytes_eq}
-use Rattle.std.specs.BTreeMap.{BTreeMap}
-use Rattle.std.specs.Borrow.{Bor}
-use Rattle.std.specs.declared.alloc.Global.{Global}
 use Rattle.deb_control.specs.declared.binary.Binary.{Binary}
 use Rattle.deb_control.specs.declared.relation.Clause.{Clause}
-use Rattle.testing_install.specs.Index.{places_at, IsIndex}
+use Rattle.testing_install.specs.Index.{PlacesByName, places_at, IsIndex}
 
 -- an alternative of the clause has the name
 abbrev pub names : Clause → List ℕ → Bool
@@ -17,21 +14,21 @@ abbrev pub needs_name : Binary → List ℕ → Bool
 needs_name row name = list_any (λ clause. names clause name) row.clauses
 
 -- the new map has what the old one had, and the place at each name that passes, and no place besides
-pub record IsNotedAt (passes : List ℕ → Bool) (old new : BTreeMap (Bor (List ℕ)) (Vec ℕ Global)) (place : ℕ) : Type 0 where
+pub record IsNotedAt (passes : List ℕ → Bool) (old new : PlacesByName) (place : ℕ) : Type 0 where
   pub stays : (name : List ℕ) (k : ℕ) → Contains (places_at old name) k → Contains (places_at new name) k
   pub noted : (name : List ℕ) → passes name ≡ true → Contains (places_at new name) place
   pub within : (name : List ℕ) (n : ℕ) → place < n → All (λ k. k < n) (places_at old name) → All (λ k. k < n) (places_at new name)
 
 -- the places at each name are places of rows, and every row with a clause that names it is among them
-pub record IsNeeders (rows : List Binary) (map : BTreeMap (Bor (List ℕ)) (Vec ℕ Global)) : Type 0 where
+pub record IsNeeders (rows : List Binary) (map : PlacesByName) : Type 0 where
   pub within : (name : List ℕ) → All (λ k. k < length rows) (places_at map name)
   pub complete : (name : List ℕ) (k : ℕ) (row : Binary) → slice_get rows k ≡ Some row → needs_name row name ≡ true → Contains (places_at map name) k
 
 -- the places at each name that the row bears
-abbrev pub places_for : BTreeMap (Bor (List ℕ)) (Vec ℕ Global) → Binary → List ℕ
+abbrev pub places_for : PlacesByName → Binary → List ℕ
 places_for map row = places_at map row.name ++ flat_map (λ p. places_at map p.name) row.provides
 
 -- the first map has who bears each name, and the second who needs it
-pub record IsGraph (rows : List Binary) (bearers needers : BTreeMap (Bor (List ℕ)) (Vec ℕ Global)) : Type 0 where
+pub record IsGraph (rows : List Binary) (bearers needers : PlacesByName) : Type 0 where
   pub borne : IsIndex rows bearers
   pub needed : IsNeeders rows needers

@@ -1,10 +1,8 @@
-use Rattle.std.specs.Prelude.{◌≡◌, ℕ, Bool, true, false, ◌⊎◌, List, length, Vec, Contains}
-use Rattle.std.specs.BTreeMap.{BTreeMap}
-use Rattle.std.specs.Borrow.{Bor}
-use Rattle.std.specs.declared.alloc.Global.{Global}
+use Rattle.std.specs.Prelude.{◌≡◌, ℕ, Bool, true, false, ◌⊎◌, List, length, Contains}
 use Rattle.deb_control.specs.declared.binary.Binary.{Binary}
 use Rattle.testing_install.specs.Among.{IsGreatestAmong}
 use Rattle.testing_install.specs.Closed.{marked}
+use Rattle.testing_install.specs.Index.{PlacesByName}
 use Rattle.testing_install.specs.Needers.{IsGraph}
 use Rattle.testing_install.specs.Tracked.{Tracked}
 
@@ -27,7 +25,7 @@ pub record IsChanged (rows : List Binary) (old_there old_installable there insta
   pub broken : (k : ℕ) → Contains lost k → (marked there k ≡ true) × (marked installable k ≡ false)
 
 -- the suite is right, and nothing is left to be kept or undone
-pub record IsSuite (rows : List Binary) (bearers needers : BTreeMap (Bor (List ℕ)) (Vec ℕ Global)) (there installable : Tracked) : Type 0 where
+pub record IsSuite (rows : List Binary) (bearers needers : PlacesByName) (there installable : Tracked) : Type 0 where
   pub graph : IsGraph rows bearers needers
   pub right : IsRight rows there.current installable.current
   pub there_kept : there.kept ≡ there.current

@@ -7,10 +7,9 @@ ghost use Rattle.testing_install.specs.Rows.{binaries};
 ghost use Rattle.testing_install.specs.Satisfies.{satisfies};
 
 use crate::Row;
-use crate::index::places;
+use crate::index::{PlacesByName, places};
 use crate::satisfies::satisfies;
 use deb_control::{Alternative, Binary, Clause};
-use std::collections::BTreeMap;
 
 // The first of the places whose row is marked and satisfies the alternative.
 fn find_among(
@@ -62,7 +61,7 @@ fn next_start(
 fn find_behind(
     rows: &[Row],
     marks: &[bool],
-    bearers: &BTreeMap<&str, Vec<usize>>,
+    bearers: &PlacesByName<'_>,
     clause: &Clause,
     lost: Option<usize>,
 ) -> Option<usize>
@@ -89,7 +88,7 @@ fn find_behind(
 fn find_first(
     rows: &[Row],
     marks: &[bool],
-    bearers: &BTreeMap<&str, Vec<usize>>,
+    bearers: &PlacesByName<'_>,
     clause: &Clause,
 ) -> Option<usize>
     requires marks { length marks.now ≡ length rows.now }
@@ -111,7 +110,7 @@ fn find_first(
 pub fn find(
     rows: &[Row],
     marks: &[bool],
-    bearers: &BTreeMap<&str, Vec<usize>>,
+    bearers: &PlacesByName<'_>,
     clause: &Clause,
     lost: Option<usize>,
 ) -> Option<usize>

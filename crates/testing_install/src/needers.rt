@@ -4,15 +4,15 @@ ghost use Rattle.testing_install.specs.Needers.{IsNotedAt, IsNeeders, names, nee
 ghost use Rattle.testing_install.specs.Rows.{binaries};
 
 use crate::Row;
-use crate::index::{note, places};
+use crate::index::{PlacesByName, note, places};
 use deb_control::{Binary, Clause};
 use deb_version::NoMemory;
 use std::alloc::Global;
-use std::collections::BTreeMap;
+use std::collections::HashMap;
 
 // Adds a place at each name that the clause has.
 fn note_clause<'a>(
-    needers: &mut BTreeMap<&'a str, Vec<usize>>,
+    needers: &mut PlacesByName<'a>,
     clause: &'a Clause,
     place: usize,
 ) -> Result<(), NoMemory>
@@ -26,7 +26,7 @@ fn note_clause<'a>(
 
 // Adds the place of a row at each name that its clauses have.
 fn note_needs<'a>(
-    needers: &mut BTreeMap<&'a str, Vec<usize>>,
+    needers: &mut PlacesByName<'a>,
     binary: &'a Binary,
     place: usize,
 ) -> Result<(), NoMemory>
@@ -39,13 +39,10 @@ fn note_needs<'a>(
 }
 
 /// The places of the rows at each name that their clauses have.
-pub fn needers_of<'a>(
-    alloc: Global,
-    rows: &[Row<'a>],
-) -> Result<BTreeMap<&'a str, Vec<usize>>, NoMemory>
+pub fn needers_of<'a>(alloc: Global, rows: &[Row<'a>]) -> Result<PlacesByName<'a>, NoMemory>
     ensures { IfOk result (λ map. IsNeeders (binaries rows.now) map) }
 {
-    let mut needers = BTreeMap::new(alloc);
+    let mut needers = HashMap::new(alloc);
     for (place, row) in rows.iter().enumerate() {
         note_needs(&mut needers, row.binary, place)?;
     }
@@ -55,7 +52,7 @@ pub fn needers_of<'a>(
 // Adds the places at the name.
 fn add_places(
     found: &mut Vec<usize>,
-    needers: &BTreeMap<&str, Vec<usize>>,
+    needers: &PlacesByName<'_>,
     name: &str,
 ) -> Result<(), NoMemory>
     ensures { OnOk result (found.new.items ≡ found.old.items ++ places_at needers.now name.now) }
@@ -67,7 +64,7 @@ fn add_places(
 /// The places of the rows whose clauses have a name that the row bears.
 pub fn needers_on(
     alloc: Global,
-    needers: &BTreeMap<&str, Vec<usize>>,
+    needers: &PlacesByName<'_>,
     row: &Binary,
 ) -> Result<Vec<usize>, NoMemory>
     ensures { IfOk result (λ found. found.items ≡ places_for needers.now row.now) }

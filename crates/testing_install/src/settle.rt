@@ -10,20 +10,20 @@ ghost use Rattle.testing_install.specs.Settling.{suspects, IsSized, IsSettling};
 
 use crate::Row;
 use crate::find::find;
+use crate::index::PlacesByName;
 use crate::marks::Marks;
 use crate::needers::needers_on;
 use crate::satisfies::meets;
 use deb_control::{Binary, Clause};
 use deb_version::NoMemory;
 use std::alloc::Global;
-use std::collections::BTreeMap;
 
 /// Rows, and by name who bears it and who needs it.
 #[derive(Drop)]
 pub struct Graph<'a> {
     pub rows: Vec<Row<'a>>,
-    pub bearers: BTreeMap<&'a str, Vec<usize>>,
-    pub needers: BTreeMap<&'a str, Vec<usize>>,
+    pub bearers: PlacesByName<'a>,
+    pub needers: PlacesByName<'a>,
 }
 
 /// Rows that are no longer marked.
