@@ -1,30 +1,28 @@
 -- What the suites tell of a change is what it breaks, and once it is made they show the rows after it.
-use Rattle.std.specs.Prelude.{ℕ, zero, suc, ◌<◌, true, false, nat_lt, not, List, [], ◌∷◌, ◌++◌, filter, length, Option}
-use Rattle.std.specs.List.{slice_get}
-use Rattle.std.specs.Str.{bytes_eq}
-use Rattle.std.proofs.Common.{◌≡◌, refl, sym, ap, ◌∙◌, subst, arith}
+use Rattle.std.specs.Prelude.{ℕ, zero, suc, ◌<◌, true, false, nat_lt, List, [], ◌∷◌, ◌++◌, length, Option}
+use Rattle.std.specs.List.{slice_get, list_all}
+use Rattle.std.proofs.Common.{◌≡◌, refl, sym, ◌∙◌, subst, arith}
 use Rattle.std.proofs.lemmas.Bool.Decides.{nat_tests}
 use Rattle.std.proofs.lemmas.Option.{slice_get_within}
 use Rattle.testing_install.specs.Among.{after_change}
 use Rattle.testing_install.specs.Closed.{marked}
 use Rattle.testing_rules.specs.declared.facts.UploadIn.{UploadIn}
 use Rattle.testing_rules.specs.declared.suite.RowIn.{RowIn}
-use Rattle.testing_rules.specs.declared.suite.SourceIn.{SourceIn}
 use Rattle.testing_rules.specs.Changes.{has, IsMoveOf}
-use Rattle.testing_rules.specs.Drafts.{rows_after, sources_after}
 use Rattle.testing_rules.specs.FactOrder.{IsUnstableOrder}
 use Rattle.testing_rules.specs.InOrder.{AreByKey}
 use Rattle.testing_rules.specs.Moves.{first_failing, judged_on, move_group, remove_source}
-use Rattle.testing_rules.specs.Standing.{IsShown, IsLive, PoolState}
+use Rattle.testing_rules.specs.Standing.{IsShown, IsLive, PoolState, standing}
 use Rattle.testing_rules.specs.Suite.{Suite}
 use Rattle.testing_rules.specs.Tried.{Tells, IsWithin, IsRemovalOf}
+use Rattle.testing_rules.specs.Wanted.{is_wanted, wanted_rows}
 use Rattle.testing_rules.specs.Words.{Text}
 use Rattle.testing_rules.proofs.Arranging.{move_of_places}
-use Rattle.testing_rules.proofs.Drafting.{rows_moved, rows_removed}
 use Rattle.testing_rules.proofs.Flags.{flags_after}
 use Rattle.testing_rules.proofs.Judging.{trial_tells}
 use Rattle.testing_rules.proofs.Lost.{IsChange, at_place, contains_at}
 use Rattle.testing_rules.proofs.Moving.{IsMove, after_flags, moved_change, removed_change}
+use Rattle.testing_rules.proofs.Showing.{is_standing}
 use Rattle.testing_rules.proofs.Suites.{shown-alike}
 
 -- the first failing rows, architecture by architecture
@@ -32,14 +30,16 @@ abbrev pub failing : List Text → List RowIn → List RowIn → ℕ → Option 
 failing group old new arch = first_failing arch group (judged_on arch old) (judged_on arch new)
 
 module _ (s : PoolState) (archs : List Text) (sources : List UploadIn) (unstable : List RowIn) (group : List Text) (leaving coming : List ℕ) (t : Suite)
-    (order : IsUnstableOrder sources unstable) (live : IsLive s archs unstable t.rows) (moves : IsMoveOf s.rows s.stands s.first sources group leaving coming) where
+    (order : IsUnstableOrder sources unstable) (live : IsLive s archs unstable t.rows) (moves : IsMoveOf s.rows s.stands s.first sources group leaving coming)
+    (offered : list_all (is_wanted s.settled) group ≡ true) where
   is_move : IsMove s.rows (marked s.stands) sources unstable group (has leaving) (has coming)
   is_move =
-      let here : IsMoveOf (live.before ++ unstable) s.stands s.first sources group leaving coming = subst (λ pool. IsMoveOf pool s.stands s.first sources group leaving coming) live.pooled moves in
-      let there : IsMoveOf (live.before ++ unstable) s.stands (length live.before) sources group leaving coming =
-      subst (λ n. IsMoveOf (live.before ++ unstable) s.stands n sources group leaving coming) live.begins here in
-      subst (λ pool. IsMove pool (marked s.stands) sources unstable group (has leaving) (has coming)) (sym live.pooled)
-      (move_of_places live.before unstable s.stands sources group leaving coming there)
+      let pool = live.before ++ wanted_rows s.settled unstable in
+      let here : IsMoveOf pool s.stands s.first sources group leaving coming = subst (λ rows. IsMoveOf rows s.stands s.first sources group leaving coming) live.pooled moves in
+      let there : IsMoveOf pool s.stands (length live.before) sources group leaving coming =
+      subst (λ n. IsMoveOf pool s.stands n sources group leaving coming) live.begins here in
+      subst (λ rows. IsMove rows (marked s.stands) sources unstable group (has leaving) (has coming)) (sym live.pooled)
+      (move_of_places live.before unstable s.settled s.stands sources group leaving coming there offered)
 
   change : IsChange s.rows group (marked s.stands) (after_flags (marked s.stands) (has leaving) (has coming)) (has coming) t.rows (move_group sources unstable group t).rows
   change = moved_change s.rows (marked s.stands) sources unstable group (has leaving) (has coming) t order.by_key live.shown is_move
@@ -51,7 +51,7 @@ module _ (s : PoolState) (archs : List Text) (sources : List UploadIn) (unstable
         trial_tells arch s.rows group s.stands there leaving coming t.rows (move_group sources unstable group t).rows long within.coming_within fresh change on name told;
   }
 
-  pub move_live : (new : PoolState) → length s.stands ≡ length s.rows → new ≡ record { rows = s.rows; first = s.first; stands = after_change leaving coming s.stands; archs = s.archs }
+  pub move_live : (new : PoolState) → length s.stands ≡ length s.rows → new ≡ record { rows = s.rows; settled = s.settled; first = s.first; stands = after_change leaving coming s.stands; archs = s.archs }
       → IsLive new archs unstable (move_group sources unstable group t).rows
   move_live new long e = subst (λ n. IsLive n archs unstable (move_group sources unstable group t).rows) (sym e) (record {
     count = live.count;
@@ -62,22 +62,10 @@ module _ (s : PoolState) (archs : List Text) (sources : List UploadIn) (unstable
         (λ k h. flags_after leaving coming s.stands k (omega (arith, h, long)));
   })
 
-  -- the rows after the change are those after the move
-  pub move_rows : rows_after s.rows leaving coming t.rows ≡ (move_group sources unstable group t).rows
-  move_rows =
-      let here : IsMoveOf (live.before ++ unstable) s.stands s.first sources group leaving coming = subst (λ pool. IsMoveOf pool s.stands s.first sources group leaving coming) live.pooled moves in
-      let there : IsMoveOf (live.before ++ unstable) s.stands (length live.before) sources group leaving coming =
-      subst (λ n. IsMoveOf (live.before ++ unstable) s.stands n sources group leaving coming) live.begins here in
-      let shown = subst (λ pool. IsShown pool (marked s.stands) t.rows) live.pooled live.shown in
-      subst (λ pool. rows_after pool leaving coming t.rows ≡ (move_group sources unstable group t).rows) (sym live.pooled)
-      (rows_moved live.before unstable s.stands sources group leaving coming there t order.by_key shown)
-
-  -- and with the sources it is the testing after the move
-  pub move_made : (between new : Suite) → between ≡ record { sources = t.sources; rows = rows_after s.rows leaving coming t.rows }
-      → new ≡ record { sources = sources_after sources group between.sources; rows = between.rows } → new ≡ move_group sources unstable group t
-  move_made between new b n =
-      n ∙ ap (λ (x : Suite). record { sources = sources_after sources group x.sources; rows = x.rows }) b
-      ∙ ap (λ rs. record { sources = sources_after sources group t.sources; rows = rs }) move_rows
+  -- what stands then are the rows after the move
+  pub move_stands : (new : PoolState) → length s.stands ≡ length s.rows → new ≡ record { rows = s.rows; settled = s.settled; first = s.first; stands = after_change leaving coming s.stands; archs = s.archs }
+      → (move_group sources unstable group t).rows ≡ standing new
+  move_stands new long e = is_standing new (move_group sources unstable group t).rows (move_live new long e).shown
 
 module _ (s : PoolState) (name : Text) (leaving : List ℕ) (t : Suite) (shown : IsShown s.rows (marked s.stands) t.rows) (removal : IsRemovalOf s.rows s.stands name leaving) where
   change_by_removal : IsChange s.rows [] (marked s.stands) (after_flags (marked s.stands) (has leaving) (has [])) (has []) t.rows (remove_source name t).rows
@@ -93,7 +81,7 @@ module _ (s : PoolState) (name : Text) (leaving : List ℕ) (t : Suite) (shown :
       none h = let never : ⊥ = cc in absurd never
 
   pub removal_live : (archs : List Text) (unstable : List RowIn) (new : PoolState) → IsLive s archs unstable t.rows → length s.stands ≡ length s.rows
-      → new ≡ record { rows = s.rows; first = s.first; stands = after_change leaving [] s.stands; archs = s.archs }
+      → new ≡ record { rows = s.rows; settled = s.settled; first = s.first; stands = after_change leaving [] s.stands; archs = s.archs }
       → IsLive new archs unstable (remove_source name t).rows
   removal_live archs unstable new live long e = subst (λ n. IsLive n archs unstable (remove_source name t).rows) (sym e) (record {
     count = live.count;
@@ -104,13 +92,11 @@ module _ (s : PoolState) (name : Text) (leaving : List ℕ) (t : Suite) (shown :
         (λ k h. flags_after leaving [] s.stands k (omega (arith, h, long)));
   })
 
-  pub removal_made : (coming : List ℕ) → coming ≡ [] → (between new : Suite) → between ≡ record { sources = t.sources; rows = rows_after s.rows leaving coming t.rows }
-      → new ≡ record { sources = filter (λ x. not (bytes_eq x.name name)) between.sources; rows = between.rows } → new ≡ remove_source name t
-  removal_made coming none between new b n =
-      n ∙ ap (λ (x : Suite). record { sources = filter (λ (q : SourceIn). not (bytes_eq q.name name)) x.sources; rows = x.rows }) b
-      ∙ ap (λ ks. record { sources = filter (λ (q : SourceIn). not (bytes_eq q.name name)) t.sources; rows = rows_after s.rows leaving ks t.rows }) none
-      ∙ ap (λ rs. record { sources = filter (λ (q : SourceIn). not (bytes_eq q.name name)) t.sources; rows = rs })
-      (rows_removed s.rows s.stands name leaving t shown removal.exact removal.stood)
+  -- what stands then are the rows after the removal
+  pub removal_stands : (archs : List Text) (unstable : List RowIn) (new : PoolState) → IsLive s archs unstable t.rows → length s.stands ≡ length s.rows
+      → new ≡ record { rows = s.rows; settled = s.settled; first = s.first; stands = after_change leaving [] s.stands; archs = s.archs }
+      → (remove_source name t).rows ≡ standing new
+  removal_stands archs unstable new live long e = is_standing new (remove_source name t).rows (removal_live archs unstable new live long e).shown
 
 -- Before a run testing's rows stand, and unstable's behind them don't.
 
@@ -135,7 +121,7 @@ shown_before before unstable by_key = record {
   all = λ k r at h. contains_at before k r (sym (front before unstable k (nat_lt_below k (length before) h)) ∙ at);
 }
 
-pub live_before : (s : PoolState) (archs : List Text) (before unstable : List RowIn) → AreByKey before → s.rows ≡ before ++ unstable → s.first ≡ length before → s.archs ≡ length archs
+pub live_before : (s : PoolState) (archs : List Text) (before unstable : List RowIn) → AreByKey before → s.rows ≡ before ++ wanted_rows s.settled unstable → s.first ≡ length before → s.archs ≡ length archs
     → ((k : ℕ) → k < length s.rows → marked s.stands k ≡ nat_lt k (length before)) → IsLive s archs unstable before
 live_before s archs before unstable by_key rows first count stands = record {
   count = count;
@@ -143,5 +129,5 @@ live_before s archs before unstable by_key rows first count stands = record {
   pooled = rows;
   begins = first;
   shown = shown-alike s.rows (λ k. nat_lt k (length before)) (marked s.stands) before
-      (subst (λ pool. IsShown pool (λ k. nat_lt k (length before)) before) (sym rows) (shown_before before unstable by_key)) stands;
+      (subst (λ pool. IsShown pool (λ k. nat_lt k (length before)) before) (sym rows) (shown_before before (wanted_rows s.settled unstable) by_key)) stands;
 }

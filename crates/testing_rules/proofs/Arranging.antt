@@ -1,6 +1,6 @@
 -- The places that come and leave by a move are its flags.
 use Rattle.std.specs.Prelude.{ℕ, zero, suc, ◌+◌, ◌≤◌, ◌==◌, Bool, true, false, ◌&&◌, nat_le, List, [], ◌∷◌, ◌++◌, Contains, Option, Some, None, length}
-use Rattle.std.specs.List.{slice_get}
+use Rattle.std.specs.List.{slice_get, list_all}
 use Rattle.std.specs.Option.{option_map_or}
 use Rattle.std.specs.Str.{bytes_eq}
 use Rattle.std.proofs.Common.{◌≡◌, refl, sym, ap, ◌∙◌, arith, inl, inr, ◌⊎◌}
@@ -14,10 +14,14 @@ use Rattle.testing_rules.specs.declared.suite.RowIn.{RowIn}
 use Rattle.testing_rules.specs.Changes.{comes_at, stands_of, stands_for, gives_way_to, has, IsMoveOf}
 use Rattle.testing_rules.specs.Moves.{is_same_key, is_row_of, row_key}
 use Rattle.testing_rules.specs.Unstable.{is_current}
+use Rattle.testing_rules.specs.Wanted.{is_wanted, wanted_rows}
 use Rattle.testing_rules.specs.Words.{Text}
 use Rattle.testing_rules.proofs.Changing.{row_that_comes, row_that_stands, row_that_gives_way}
 use Rattle.testing_rules.proofs.Lost.{any_of, some_of, contains_at, at_place, key_of_same}
-use Rattle.testing_rules.proofs.Moving.{IsMove}
+use Rattle.testing_rules.proofs.Least.{from_filter, to_filter}
+use Rattle.testing_rules.proofs.Members.{none_among}
+use Rattle.testing_rules.proofs.Moving.{IsMove, source_of_group}
+use Rattle.testing_rules.proofs.Sets.{first_or_rest}
 
 both : (a b : Bool) → a ≡ true → b ≡ true → (a && b) ≡ true
 both a b h k = ap (λ x. x && b) h ∙ k
@@ -25,6 +29,10 @@ both a b h k = ap (λ x. x && b) h ∙ k
 first_of_both : (a b : Bool) → (a && b) ≡ true → a ≡ true
 first_of_both true b h = refl
 first_of_both false b h = absurd (false≢true h)
+
+second_of_both : (a b : Bool) → (a && b) ≡ true → b ≡ true
+second_of_both true b h = h
+second_of_both false b h = absurd (false≢true h)
 
 pub at_some_of : {A : Type 0} (test : A → Bool) (m : Option A) → option_map_or test m false ≡ true → (r : A) × (m ≡ Some r) × (test r ≡ true)
 at_some_of test None h = absurd (false≢true h)
@@ -58,10 +66,22 @@ same_key_of : (q r : RowIn) → row_key q ≡ row_key r → is_same_key q r ≡ 
 same_key_of q r e =
     both (q.arch == r.arch) (bytes_eq q.binary.name r.binary.name) (eq-eqb q.arch r.arch (ap (λ (p : ℕ × Text). p.0) e)) ((bytes_eq-Decides q.binary.name r.binary.name).1 (ap (λ (p : ℕ × Text). p.1) e))
 
-module _ (old unstable : List RowIn) (stands : List Bool) (sources : List UploadIn) (group : List Text) (leaving coming : List ℕ)
-    (m : IsMoveOf (old ++ unstable) stands (length old) sources group leaving coming) where
+-- what all of some elements pass, each of them does
+one_of_all : {A : Type 0} (test : A → Bool) (xs : List A) (x : A) → list_all test xs ≡ true → Contains xs x → test x ≡ true
+one_of_all test [] x h c = none_among x c
+one_of_all test (y ∷ xs) x h c = elim (first_or_rest y xs x c) [
+  | inl own ↦ ap test (sym own) ∙ first_of_both (test y) (list_all test xs) h
+  | inr rest ↦ one_of_all test xs x (second_of_both (test y) (list_all test xs) h) rest
+]
+
+-- the pool has, behind the rows before the run, those of unstable whose source is none of the settled ones, and the group names none of these
+module _ (old unstable : List RowIn) (settled : List Text) (stands : List Bool) (sources : List UploadIn) (group : List Text) (leaving coming : List ℕ)
+    (m : IsMoveOf (old ++ wanted_rows settled unstable) stands (length old) sources group leaving coming) (offered : list_all (is_wanted settled) group ≡ true) where
   abbrev pool : List RowIn
-  pool = old ++ unstable
+  pool = old ++ wanted_rows settled unstable
+
+  abbrev is_kept : RowIn → Bool
+  is_kept r = is_wanted settled r.binary.source
 
   abbrev first : ℕ
   first = length old
@@ -85,10 +105,11 @@ module _ (old unstable : List RowIn) (stands : List Bool) (sources : List Upload
         let a = m.arriving.sound k (from_has coming k h) in
         let r = row_that_comes pool first a.0 k a.2 in
         let from : first ≤ k = le_from first k (first_of_both (nat_le first k) _ a.2) in
-        (r.0, a.0, r.1, behind old unstable k r.0 from r.1, a.1, r.2);
+        (r.0, a.0, r.1, (from_filter is_kept unstable r.0 (behind old (wanted_rows settled unstable) k r.0 from r.1)).0, a.1, r.2);
     coming_all = λ r u c d current.
-        let k = first + c.0 in
-        let at = ahead old unstable c.0 r k refl (at_place unstable r c) in
+        let kept = to_filter is_kept unstable r c (one_of_all (is_wanted settled) group r.binary.source offered (source_of_group sources group u r d current)) in
+        let k = first + kept.0 in
+        let at = ahead old (wanted_rows settled unstable) kept.0 r k refl (at_place (wanted_rows settled unstable) r kept) in
         let comes : comes_at pool first u k ≡ true = both (nat_le first k) _ (le_to first k (omega arith)) (ap (λ o. option_map_or (is_current u) o false) at ∙ current) in
         (k, at, to_has coming k (m.arriving.complete u k d comes));
     leaves = λ k r at h. leaves_by k r at (m.only k (from_has leaving k h));

@@ -39,7 +39,7 @@ module _ (leaving coming : List ℕ) (there : List Bool) (k : ℕ) (h : k < leng
   flags_after = with_those (has coming k) refl
 
 -- a flag that is up is in the list
-marked_within : (xs : List Bool) (k : ℕ) → marked xs k ≡ true → k < length xs
+pub marked_within : (xs : List Bool) (k : ℕ) → marked xs k ≡ true → k < length xs
 marked_within [] k h = absurd (false≢true h)
 marked_within (x ∷ xs) zero h = omega arith
 marked_within (x ∷ xs) (suc k) h = omega (arith, marked_within xs k h)

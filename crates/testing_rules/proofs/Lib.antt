@@ -53,9 +53,9 @@ pub mod ByName
 pub mod Suites
 pub mod BuiltOrder
 pub mod Alive
+pub mod Showing
 pub mod KeyPlaces
 pub mod Mapped
-pub mod WithoutKeys
-pub mod Drafting
 pub mod Giving
 pub mod Lending
+pub mod Settling

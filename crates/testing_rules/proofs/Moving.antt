@@ -52,7 +52,7 @@ puts_keep_at : (x r : RowIn) (base : List RowIn) → (x ≡ r) ⊎ IsOther x r �
 puts_keep_at x r base (inl own) c = subst (λ z. Contains (put_row x base) z) own (put_has x base)
 puts_keep_at x r base (inr other) c = put_keeps x r base other c
 
-pub puts_keep : (xs base : List RowIn) (r : RowIn) → AreOthers xs r → Contains base r → Contains (puts xs base) r
+puts_keep : (xs base : List RowIn) (r : RowIn) → AreOthers xs r → Contains base r → Contains (puts xs base) r
 puts_keep [] base r o c = c
 puts_keep (x ∷ xs) base r o c = puts_keep xs (put_row x base) r (λ y d. o y (tail_of x xs y d)) (puts_keep_at x r base (o x (head_of x xs)) c)
 
@@ -100,13 +100,18 @@ any_of test (y ∷ xs) x c h = elim (first_or_rest y xs x c) [
   | inr rest ↦ right_of (test y) (list_any test xs) (any_of test xs x rest h)
 ]
 
--- a current row of a source that the group names is a row of the group
-row_of_group : (sources : List UploadIn) (group : List Text) (u : UploadIn) (r : RowIn) → Contains (group_sources sources group) u → is_current u r ≡ true → is_row_of group r ≡ true
-row_of_group sources group u r c current =
+-- a current row of a source that the group names has a name of the group as its source
+pub source_of_group : (sources : List UploadIn) (group : List Text) (u : UploadIn) (r : RowIn) → Contains (group_sources sources group) u → is_current u r ≡ true → Contains group r.binary.source
+source_of_group sources group u r c current =
     let g = given_by (source_in sources) group u c in
     let same = (bytes_eq-Decides r.binary.source u.source).0 (first_of_both (is_of_source u r) _ current) in
     let of_name = (bytes_eq-Decides u.source g.0).0 (found_passes (λ (v : UploadIn). bytes_eq v.source g.0) sources u g.2) in
-    any_of (bytes_eq r.binary.source) group g.0 g.1 ((bytes_eq-Decides r.binary.source g.0).1 (same ∙ of_name))
+    subst (Contains group) (sym (same ∙ of_name)) g.1
+
+-- and so it is a row of the group
+row_of_group : (sources : List UploadIn) (group : List Text) (u : UploadIn) (r : RowIn) → Contains (group_sources sources group) u → is_current u r ≡ true → is_row_of group r ≡ true
+row_of_group sources group u r c current =
+    any_of (bytes_eq r.binary.source) group r.binary.source (source_of_group sources group u r c current) ((bytes_eq-Decides r.binary.source r.binary.source).1 refl)
 
 -- what stands after a change by flags
 abbrev pub after_flags : (ℕ → Bool) → (ℕ → Bool) → (ℕ → Bool) → ℕ → Bool

@@ -1,45 +1,35 @@
 -- The index of texts by their places.
-use Rattle.std.proofs.Common.{◌≡◌, ℕ, ◌+◌, ◌<◌, ◌≤◌, Bool, true, cond, List, [], ◌∷◌, ◌++◌, length, get_or, Some, Vec, Global, sym, ap, ◌∙◌, subst, inl, inr, arith}
-use Rattle.std.specs.Borrow.{Bor}
-use Rattle.std.specs.BTreeMap.{BTreeMap, is_at}
-use Rattle.std.specs.Map.{lookup}
-use Rattle.std.specs.Option.{option_map_or}
-use Rattle.std.specs.Ordering.{nat_cmp}
-use Rattle.std.specs.Cmp.Lexicographic.{slice_cmp}
+use Rattle.std.proofs.Common.{◌≡◌, ℕ, ◌+◌, ◌<◌, ◌≤◌, Bool, true, cond, List, [], ◌∷◌, ◌++◌, length, get_or, Some, sym, ap, ◌∙◌, subst, inl, inr, arith}
 use Rattle.std.specs.Str.{bytes_eq}
 use Rattle.std.specs.List.{slice_get, All, Contains}
 use Rattle.std.proofs.lemmas.Option.{slice_get_within, same_Some}
 use Rattle.std.proofs.lemmas.Bool.{cases_lt, cases_Bool}
 use Rattle.std.proofs.lemmas.List.Elements.{All-append, Contains-append_left, Contains-push}
 use Rattle.std.proofs.lemmas.Slice.Eq.{bytes_eq-Decides}
-use Rattle.testing_install.specs.Index.{places_at}
+use Rattle.testing_install.specs.Index.{PlacesByName, places_at}
+use Rattle.testing_install.proofs.Indexing.{places_none}
 use Rattle.testing_rules.specs.Words.{Text}
 use Rattle.testing_rules.specs.Pools.{IsTextIndex}
 
-abbrev pub Places : Type 0
-Places = BTreeMap (Bor (List ℕ)) (Vec ℕ Global)
-
 -- the new map has what the old one had, and one place more at a text
-pub record IsAdded (old new : Places) (text : Text) (place : ℕ) : Type 0 where
+pub record IsAdded (old new : PlacesByName) (text : Text) (place : ℕ) : Type 0 where
   pub each : (q : Text) → places_at new q ≡ cond (bytes_eq q text) (places_at old q ++ place ∷ []) (places_at old q)
 
 all_push : (xs : List ℕ) (k n : ℕ) → k < n → All (λ x. x < n) xs → All (λ x. x < n) (xs ++ k ∷ [])
 all_push xs k n h all = All-append (λ x. x < n) xs (k ∷ []) all (λ j d l. let first : j ≡ 0 = omega arith in subst (λ i. get_or (k ∷ []) i d < n) (sym first) h)
 
 -- after the first n texts
-pub record IsIndexTo (texts : List Text) (index : Places) (n : ℕ) : Type 0 where
+pub record IsIndexTo (texts : List Text) (index : PlacesByName) (n : ℕ) : Type 0 where
   pub within : (q : Text) → All (λ k. k < length texts) (places_at index q)
   pub complete : (k : ℕ) (q : Text) → k < n → slice_get texts k ≡ Some q → Contains (places_at index q) k
 
-pub index_none : (texts : List Text) (index : Places) → index.entries ≡ [] → IsIndexTo texts index 0
+pub index_none : (texts : List Text) (index : PlacesByName) → index.entries ≡ [] → IsIndexTo texts index 0
 index_none texts index e = record {
-  within = λ q k d h.
-      let none : places_at index q ≡ [] = ap (λ es. option_map_or (λ (v : Vec ℕ Global). v.items) (lookup (is_at (λ (k' : Bor (List ℕ)). slice_cmp nat_cmp q k'.now)) es) []) e in
-      absurd (omega (arith, h, ap length none));
+  within = λ q k d h. absurd (omega (arith, h, ap length (places_none index q e)));
   complete = λ k q h. absurd (omega arith);
 }
 
-module _ (texts : List Text) (old new : Places) (n : ℕ) (text : Text) (at : slice_get texts n ≡ Some text) (to : IsIndexTo texts old n) (added : IsAdded old new text n) where
+module _ (texts : List Text) (old new : PlacesByName) (n : ℕ) (text : Text) (at : slice_get texts n ≡ Some text) (to : IsIndexTo texts old n) (added : IsAdded old new text n) where
   by_test : (q : Text) (b : Bool) → bytes_eq q text ≡ b → places_at new q ≡ cond b (places_at old q ++ n ∷ []) (places_at old q)
   by_test q b e = added.each q ∙ ap (λ b. cond b (places_at old q ++ n ∷ []) (places_at old q)) e
 
@@ -70,5 +60,5 @@ module _ (texts : List Text) (old new : Places) (n : ℕ) (text : Text) (at : sl
     ];
   }
 
-pub index_all : (texts : List Text) (index : Places) (n : ℕ) → IsIndexTo texts index n → length texts ≤ n → IsTextIndex texts index
+pub index_all : (texts : List Text) (index : PlacesByName) (n : ℕ) → IsIndexTo texts index n → length texts ≤ n → IsTextIndex texts index
 index_all texts index n to h = record { within = to.within; complete = λ k q at. to.complete k q (omega (arith, slice_get_within texts k q at)) at }

@@ -1,5 +1,5 @@
 -- The suites of the architectures, before and after a change.
-use Rattle.std.specs.Prelude.{ℕ, zero, suc, ◌+◌, ◌<◌, ◌≤◌, Bool, true, false, ◌&&◌, ◌||◌, not, nat_lt, List, [], ◌∷◌, ◌++◌, Contains, Option, Some, None, map, filter, length, replicate, slice_set, Result, IfOk, OnOk}
+use Rattle.std.specs.Prelude.{ℕ, zero, suc, ◌+◌, ◌<◌, ◌≤◌, Bool, true, false, ◌&&◌, ◌||◌, not, nat_lt, List, [], ◌∷◌, ◌++◌, Contains, Option, Some, None, map, filter, length, replicate, slice_set, Result, IfOk}
 use Rattle.std.specs.Prelude.{Ok, Err}
 use Rattle.std.specs.List.{All, slice_get, list_any, range_with_len}
 use Rattle.std.specs.Option.{option_map_or}
@@ -311,11 +311,3 @@ pub flags_are : (old between new : List Bool) (leaving coming gone came : List �
     → between ≡ with_all false gone old → new ≡ with_all true came between → new ≡ after_change leaving coming old
 flags_are old between new leaving coming gone came g c b n =
     n ∙ ap (λ ks. with_all true ks between) c ∙ ap (λ fs. with_all true coming fs) (b ∙ ap (λ ks. with_all false ks old) g)
-
-pub if_ok_four : {A E : Type 0} (P Q R S Whole : A → Type 0) (r : Result A E) → ((x : A) → P x → Q x → R x → S x → Whole x) → IfOk r P → IfOk r Q → IfOk r R → IfOk r S → IfOk r Whole
-if_ok_four P Q R S Whole (Ok x) f p q a s = f x p q a s
-if_ok_four P Q R S Whole (Err e) f p q a s = p
-
-pub on_ok_always : {A E P : Type 0} (r : Result A E) → P → OnOk r P
-on_ok_always (Ok x) h = h
-on_ok_always (Err e) h = tt

@@ -9,6 +9,7 @@ pub mod Excuses
 pub mod FactLists
 pub mod FactOrder
 pub mod Given
+pub mod Held
 pub mod InOrder
 pub mod JudgedRows
 pub mod Laws
@@ -32,4 +33,5 @@ pub mod Unstable
 pub mod Updates
 pub mod Watched
 pub mod Words
-pub mod Drafts
+pub mod AfterMoves
+pub mod Wanted

@@ -1,10 +1,8 @@
 -- Rows that may stand in testing during a run, by place, and where those of a text are.
-use Rattle.std.specs.Prelude.{◌≡◌, ℕ, ◌<◌, List, map, length, Some, Contains, Vec}
+use Rattle.std.specs.Prelude.{◌≡◌, ℕ, ◌<◌, List, map, length, Some, Contains}
 use Rattle.std.specs.List.{All, slice_get}
-use Rattle.std.specs.BTreeMap.{BTreeMap}
 use Rattle.std.specs.Borrow.{Bor}
-use Rattle.std.specs.declared.alloc.Global.{Global}
-use Rattle.testing_install.specs.Index.{places_at}
+use Rattle.testing_install.specs.Index.{PlacesByName, places_at}
 use Rattle.testing_rules.specs.declared.suite.RowIn.{RowIn}
 use Rattle.testing_rules.specs.Words.{Text}
 
@@ -20,11 +18,11 @@ abbrev pub names_of : List RowIn → List Text
 names_of rows = map (λ r. r.binary.name) rows
 
 -- the map has at each text its places among the texts, and no place beyond them
-pub record IsTextIndex (texts : List Text) (index : BTreeMap (Bor Text) (Vec ℕ Global)) : Type 0 where
+pub record IsTextIndex (texts : List Text) (index : PlacesByName) : Type 0 where
   pub within : (text : Text) → All (λ k. k < length texts) (places_at index text)
   pub complete : (k : ℕ) (text : Text) → slice_get texts k ≡ Some text → Contains (places_at index text) k
 
 -- the two maps are the indexes of the rows by source and by name
-pub record IsPool (rows : List RowIn) (by_source by_name : BTreeMap (Bor Text) (Vec ℕ Global)) : Type 0 where
+pub record IsPool (rows : List RowIn) (by_source by_name : PlacesByName) : Type 0 where
   pub sources : IsTextIndex (sources_of rows) by_source
   pub names : IsTextIndex (names_of rows) by_name

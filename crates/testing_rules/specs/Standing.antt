@@ -1,14 +1,14 @@
 -- Which rows of a pool stand in testing, and the suite of each architecture.
-use Rattle.std.specs.Prelude.{◌≡◌, ℕ, Bool, true, ◌&&◌, List, ◌++◌, map, filter, length, Option, Some, None, Contains}
+use Rattle.std.specs.Prelude.{◌≡◌, ℕ, Bool, true, ◌&&◌, List, [], ◌++◌, map, filter, length, Some, Contains}
 use Rattle.std.specs.List.{slice_get, range_with_len}
 use Rattle.testing_install.specs.Closed.{marked}
-use Rattle.testing_rules.specs.declared.facts.UploadIn.{UploadIn}
 use Rattle.testing_rules.specs.declared.suite.RowIn.{RowIn}
-use Rattle.testing_rules.specs.FactOrder.{IsUnstableOrder}
+use Rattle.testing_rules.specs.AfterMoves.{with_rows, rows_at}
 use Rattle.testing_rules.specs.InOrder.{AreByKey}
 use Rattle.testing_rules.specs.Moves.{is_row_on}
 use Rattle.testing_rules.specs.Parts.{Part, package_at}
 use Rattle.testing_rules.specs.Trials.{is_place_on}
+use Rattle.testing_rules.specs.Wanted.{AreInOrder, wanted_rows}
 use Rattle.testing_rules.specs.Words.{Text}
 
 -- the rows are those of the pool that stand, in order
@@ -40,33 +40,34 @@ pub record AreOver (pool : List RowIn) (suites : List Part) : Type 0 where
 pub record AreSuites (pool : List RowIn) (stands : List Bool) (suites : List Part) : Type 0 where
   pub each : (arch : ℕ) (suite : Part) → slice_get suites arch ≡ Some suite → IsSuiteOn arch pool stands suite
 
--- a pool's rows, the place at which unstable's begin, which rows stand, and the number of the architectures
+-- the places whose flags are set
+abbrev pub set_places : List Bool → List ℕ
+set_places flags = filter (marked flags) (range_with_len 0 (length flags))
+
+-- a pool's rows, the names of the sources whose unstable rows it leaves out, the place at which unstable's rows begin,
+-- which rows stand, and the number of the architectures
 pub record PoolState : Type 0 where
   pub rows : List RowIn
+  pub settled : List Text
   pub first : ℕ
   pub stands : List Bool
   pub archs : ℕ
 
--- there is a flag for each row, and for each architecture its suite
-pub record IsPoolState (pool : List RowIn) (stands : List Bool) (archs : ℕ) (suites : List Part) : Type 0 where
+-- the rows of a pool that stand, each put under its key
+unfoldable pub standing : PoolState → List RowIn
+standing s = with_rows (rows_at s.rows (set_places s.stands)) []
+
+-- there is a flag for each row, and for each architecture its suite; the names of the sources that are left out are in order
+pub record IsPoolState (pool : List RowIn) (settled : List Text) (stands : List Bool) (archs : ℕ) (suites : List Part) : Type 0 where
+  pub ordered : AreInOrder settled
   pub long : length stands ≡ length pool
   pub count : archs ≡ length suites
   pub each : AreSuites pool stands suites
 
--- testing's rows are those that stand of a pool of rows before the run, with unstable's behind them
+-- testing's rows are those that stand of a pool of rows before the run, with unstable's behind them that may come
 pub record IsLive (s : PoolState) (archs : List Text) (unstable rows : List RowIn) : Type 0 where
   pub count : s.archs ≡ length archs
   pub before : List RowIn
-  pub pooled : s.rows ≡ before ++ unstable
+  pub pooled : s.rows ≡ before ++ wanted_rows s.settled unstable
   pub begins : s.first ≡ length before
   pub shown : IsShown s.rows (marked s.stands) rows
-
--- where there is a pool
-abbrev pub AreLive : Option PoolState → List Text → List RowIn → List RowIn → Type 0
-AreLive None archs unstable rows = Unit {0}
-AreLive (Some s) archs unstable rows = IsLive s archs unstable rows
-
--- a run's testing: unstable is in order, and where there is a pool, its rows that stand are testing's
-pub record IsLiveTesting (suites : Option PoolState) (archs : List Text) (sources : List UploadIn) (unstable rows : List RowIn) : Type 0 where
-  pub order : IsUnstableOrder sources unstable
-  pub live : AreLive suites archs unstable rows

@@ -4,7 +4,7 @@ ghost use Rattle.std.specs.Prelude.{◌≡◌, length, not, filter, OnOk, OnErr,
 ghost use Rattle.std.specs.List.Sorted.{IsBinarySearchResult, IsSearchInRange};
 ghost use Rattle.std.specs.Str.{bytes_eq};
 ghost use Rattle.testing_rules.specs.Boxed.{unboxed};
-ghost use Rattle.testing_rules.specs.Drafts.{sources_after};
+ghost use Rattle.testing_rules.specs.AfterMoves.{sources_after};
 ghost use Rattle.testing_rules.specs.FactOrder.{AreBySource};
 ghost use Rattle.testing_rules.specs.InOrder.{AreByName};
 ghost use Rattle.testing_rules.specs.Moves as rules;
@@ -85,17 +85,6 @@ pub fn boxes_of(alloc: Global, sources: &[SourceIn]) -> Result<Vec<Box<SourceIn>
         boxes.push(Box::new(alloc, source.copy(alloc)?)?)?;
     }
     Ok(boxes)
-}
-
-/// Equal sources in boxes of their own.
-pub fn copy_boxes(alloc: Global, boxes: &[Box<SourceIn>]) -> Result<Vec<Box<SourceIn>>, NoMemory>
-    ensures { IfOk result (λ copies. unboxed copies.items ≡ unboxed boxes.now) }
-{
-    let mut copies = Vec::new(alloc);
-    for source in boxes {
-        copies.push(Box::new(alloc, source.copy(alloc)?)?)?;
-    }
-    Ok(copies)
 }
 
 /// Equal sources out of boxes.

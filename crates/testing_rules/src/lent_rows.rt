@@ -1,10 +1,9 @@
 //! Rows that are lent, in the order of testing: a change moves places and copies no row.
 
 ghost use Rattle.std.specs.Prelude.{◌≡◌, ◌<◌, length, not, filter, OnOk, OnErr, IfOk};
-ghost use Rattle.std.specs.List.{All, flat_map};
+ghost use Rattle.std.specs.List.{All};
 ghost use Rattle.std.specs.List.Sorted.{IsBinarySearchResult, IsSearchInRange};
-ghost use Rattle.std.specs.Str.{bytes_eq};
-ghost use Rattle.testing_rules.specs.Drafts.{without_key, without_keys, with_rows, rows_at};
+ghost use Rattle.testing_rules.specs.AfterMoves.{with_rows, rows_at, moved_rows, rows_without};
 ghost use Rattle.testing_rules.specs.FactOrder.{AreBySource};
 ghost use Rattle.testing_rules.specs.InOrder.{AreByKey};
 ghost use Rattle.testing_rules.specs.JudgedRows.{lent, row_of};
@@ -56,17 +55,6 @@ fn put_row<'a>(rows: &mut Vec<LentRow<'a>>, row: &LentRow<'a>) -> Result<(), NoM
     Ok(())
 }
 
-/// Takes out the row of the key of the other.
-fn take_key(rows: &mut Vec<LentRow>, other: &LentRow)
-    requires { AreByKey (lent rows.old.items) }
-    ensures rows { lent rows.new.items ≡ without_key (row_of other.now) (lent rows.old.items) }
-    ensures ordered { AreByKey (lent rows.new.items) }
-{
-    if let Ok(place) = place_of_key(rows, other) {
-        rows.remove(place);
-    }
-}
-
 /// Puts in the rows of a pool at some places, each under its key.
 pub fn put_rows<'a>(
     rows: &mut Vec<LentRow<'a>>,
@@ -83,19 +71,6 @@ pub fn put_rows<'a>(
         put_row(rows, &row)?;
     }
     Ok(())
-}
-
-/// Takes out the rows of the keys of those of a pool at some places.
-pub fn take_rows(rows: &mut Vec<LentRow>, pool: &Pool, places: &[usize])
-    requires order { AreByKey (lent rows.old.items) }
-    requires places { All (λ k. k < length pool.now) places.now }
-    ensures rows { lent rows.new.items ≡ without_keys (rows_at pool.now places.now) (lent rows.old.items) }
-    ensures ordered { AreByKey (lent rows.new.items) }
-{
-    for place in places {
-        let row = pool.row(*place);
-        take_key(rows, &row);
-    }
 }
 
 /// Puts in the current rows of a source, each under its key.
@@ -142,8 +117,8 @@ pub fn moved_rows<'a>(
 ) -> Result<Vec<LentRow<'a>>, NoMemory>
     requires sources { AreBySource unstable.sources.now }
     requires order { AreByKey (lent rows.now) }
-    ensures rows { IfOk result (λ moved. lent moved.items ≡ with_rows (flat_map (λ u. filter (unstable_words.is_current u) (lent unstable.entry.rows.now)) (rules.group_sources unstable.entry.sources.now group.now)) (filter (λ r. not (rules.is_row_of group.now r)) (lent rows.now))) }
-    ensures ordered { IfOk result (λ moved. AreByKey (lent moved.items)) }
+    ensures rows { IfOk result (λ new. lent new.items ≡ moved_rows unstable.entry.sources.now (lent unstable.entry.rows.now) group.now (lent rows.now)) }
+    ensures ordered { IfOk result (λ new. AreByKey (lent new.items)) }
 {
     let mut moved = other_rows(alloc, rows, group)?;
     for name in group {
@@ -160,7 +135,7 @@ pub fn rows_without<'a>(
     rows: &[LentRow<'a>],
     name: &str,
 ) -> Result<Vec<LentRow<'a>>, NoMemory>
-    ensures { IfOk result (λ kept. lent kept.items ≡ filter (λ r. not (bytes_eq r.binary.source name.now)) (lent rows.now)) }
+    ensures { IfOk result (λ kept. lent kept.items ≡ rows_without name.now (lent rows.now)) }
 {
     let mut kept = Vec::new(alloc);
     for row in rows {
@@ -169,17 +144,6 @@ pub fn rows_without<'a>(
         }
     }
     Ok(kept)
-}
-
-/// The rows, lent.
-pub fn loans_of<'a>(alloc: Global, rows: &'a [RowIn]) -> Result<Vec<LentRow<'a>>, NoMemory>
-    ensures { IfOk result (λ loans. lent loans.items ≡ rows.now) }
-{
-    let mut loans = Vec::new(alloc);
-    for row in rows {
-        loans.push(row.lend())?;
-    }
-    Ok(loans)
 }
 
 /// The same rows, lent once more.

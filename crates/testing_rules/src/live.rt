@@ -8,43 +8,45 @@ ghost use Rattle.testing_rules.specs.JudgedRows.{lent};
 ghost use Rattle.testing_rules.specs.Runs.{after_move, broken_by_move, after_removal, broken_by_removal};
 
 use crate::archs::Archs;
+use crate::boxed_sources::{boxes_of, copy_boxed, move_sources, place_of_name, take_source};
 use crate::breaking;
-use crate::breaking::suites_of;
-use crate::draft::Draft;
 use crate::facts::UploadIn;
+use crate::lent_rows::copy_lent;
+use crate::live_rows::LiveRows;
 use crate::moves::Unstable;
-use crate::standing::PoolSuites;
-use crate::suite::Testing;
+use crate::suite::{SourceIn, Testing};
 use crate::update::Offender;
 use deb_control::Text;
 use deb_version::{NoMemory, Version};
 use std::alloc::Global;
 use std::marker::Model;
+use std::mem;
 
-/// Testing while a run changes it, beside what the run goes by: the architectures and unstable.
-/// A change is first judged, and testing stays; then it is made. The suites judge it by what it touches; there are none
-/// after an error, that is where memory ran out while a change was made.
+/// Testing while a run changes it, beside what the run goes by: the architectures and unstable. The sources stand by
+/// name. A change is first judged, and testing stays; then it is made. The suites judge it by what it touches; there are
+/// none after an error, that is where memory ran out while a change was made.
 #[derive(Drop)]
 pub struct LiveTesting<'u, 'a> {
     archs: &'u Archs,
     unstable: Unstable<'u, 'a>,
-    testing: Draft<'a>,
-    suites: Option<PoolSuites<'a>>,
+    sources: Vec<Box<SourceIn>>,
+    rows: LiveRows<'a>,
 }
 
 impl<'u, 'a> Model for LiveTesting<'u, 'a> {
+    ghost use Rattle.testing_rules.specs.Boxed.{unboxed};
+    ghost use Rattle.testing_rules.specs.Held.{held, IsLiveTesting};
     ghost use Rattle.testing_rules.specs.JudgedRows.{lent};
     ghost use Rattle.testing_rules.specs.Runs.{Moment};
-    ghost use Rattle.testing_rules.specs.Standing.{IsLiveTesting};
 
     ghost Value = { Moment };
 
     ghost view = { λ a. record {
       basis = record { archs = a.archs.now; sources = a.unstable.sources.now; rows = lent a.unstable.rows.now };
-      suite = a.testing;
+      suite = record { sources = unboxed a.sources.items; rows = held a.rows };
     } };
 
-    ghost invariant = { λ a. IsLiveTesting a.suites a.archs.now a.unstable.sources.now (lent a.unstable.rows.now) a.testing.rows };
+    ghost invariant = { λ a. IsLiveTesting a.rows a.archs.now a.unstable.sources.now (lent a.unstable.rows.now) (unboxed a.sources.items) };
 }
 
 impl<'u, 'a> LiveTesting<'u, 'a> {
@@ -62,12 +64,13 @@ impl<'u, 'a> LiveTesting<'u, 'a> {
           suite = testing.now;
         }) }
     {
-        let suites = suites_of(alloc, archs, unstable, testing)?;
+        let rows = LiveRows::new(alloc, archs, unstable, testing)?;
+        let sources = boxes_of(alloc, testing.sources())?;
         Ok(LiveTesting {
             archs,
             unstable,
-            testing: Draft::of(alloc, testing)?,
-            suites: Some(suites),
+            sources,
+            rows,
         })
     }
 
@@ -75,7 +78,10 @@ impl<'u, 'a> LiveTesting<'u, 'a> {
     pub fn version_of(&self, name: &str) -> Option<&Version>
         ensures { option_copied result ≡ excuses.testing_version self.now.suite name.now }
     {
-        self.testing.version_of(name)
+        match place_of_name(&self.sources, name) {
+            Ok(place) => Some(&self.sources[place].version),
+            Err(_) => None,
+        }
     }
 
     /// Unstable's sources.
@@ -95,22 +101,16 @@ impl<'u, 'a> LiveTesting<'u, 'a> {
         ensures same { self.new ≡ self.old }
         ensures offender { IfOk result (λ o. o ≡ broken_by_move group.now self.old) }
     {
-        breaking::broken_by_move(
-            alloc,
-            &mut self.suites,
-            self.archs,
-            self.unstable,
-            group,
-            &self.testing,
-        )
+        breaking::broken_by_move(alloc, &mut self.rows, self.archs, self.unstable, group)
     }
 
     /// Moves a group.
     pub fn move_group(&mut self, alloc: Global, group: &[Text]) -> Result<(), NoMemory>
         ensures { OnOk result (self.new ≡ after_move group.now self.old) }
     {
-        let suites = self.suites.take();
-        self.suites = breaking::move_group(alloc, suites, self.unstable, group, &mut self.testing)?;
+        let rows = mem::replace(&mut self.rows, LiveRows::Listed(Vec::new(alloc)));
+        move_sources(alloc, &mut self.sources, self.unstable.sources, group)?;
+        self.rows = rows.moved(alloc, self.unstable, group)?;
         Ok(())
     }
 
@@ -123,22 +123,16 @@ impl<'u, 'a> LiveTesting<'u, 'a> {
         ensures same { self.new ≡ self.old }
         ensures offender { IfOk result (λ o. o ≡ broken_by_removal name.now self.old) }
     {
-        breaking::broken_by_removal(
-            alloc,
-            &mut self.suites,
-            self.archs,
-            self.unstable,
-            name,
-            &self.testing,
-        )
+        breaking::broken_by_removal(alloc, &mut self.rows, self.archs, self.unstable, name)
     }
 
     /// Removes a source.
     pub fn remove(&mut self, alloc: Global, name: &str) -> Result<(), NoMemory>
         ensures { OnOk result (self.new ≡ after_removal name.now self.old) }
     {
-        let suites = self.suites.take();
-        self.suites = breaking::remove_source(alloc, suites, name, &mut self.testing)?;
+        let rows = mem::replace(&mut self.rows, LiveRows::Listed(Vec::new(alloc)));
+        take_source(&mut self.sources, name);
+        self.rows = rows.without(alloc, name)?;
         Ok(())
     }
 
@@ -149,11 +143,14 @@ impl<'u, 'a> LiveTesting<'u, 'a> {
         let LiveTesting {
             archs: _,
             unstable: _,
-            testing,
-            suites,
+            sources,
+            rows,
         } = self;
+        let list = rows.list(alloc)?;
         // The suites are the larger part, and go before testing is copied.
-        drop(suites);
-        testing.to_testing(alloc)
+        drop(rows);
+        let sources = copy_boxed(alloc, &sources)?;
+        let rows = copy_lent(alloc, &list)?;
+        Ok(Testing::of(sources, rows))
     }
 }

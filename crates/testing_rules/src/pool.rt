@@ -11,15 +11,18 @@ ghost use Rattle.testing_rules.specs.Pools.{lent_texts, sources_of, names_of, Is
 use crate::suite::{LentRow, RowIn};
 use deb_version::NoMemory;
 use std::alloc::Global;
-use std::collections::BTreeMap;
+use std::collections::HashMap;
 use std::marker::Model;
+
+/// Places of rows by a text of theirs.
+type PlacesByText<'a> = HashMap<&'a str, Vec<usize>>;
 
 /// The rows, and their places by the source that they name and by the package's name.
 #[derive(Drop)]
 pub struct Pool<'a> {
     rows: Vec<LentRow<'a>>,
-    by_source: BTreeMap<&'a str, Vec<usize>>,
-    by_name: BTreeMap<&'a str, Vec<usize>>,
+    by_source: PlacesByText<'a>,
+    by_name: PlacesByText<'a>,
 }
 
 impl<'a> Model for Pool<'a> {
@@ -36,11 +39,7 @@ impl<'a> Model for Pool<'a> {
 }
 
 /// Adds a place at the end of those at the text.
-fn note<'a>(
-    index: &mut BTreeMap<&'a str, Vec<usize>>,
-    text: &'a str,
-    place: usize,
-) -> Result<(), NoMemory>
+fn note<'a>(index: &mut PlacesByText<'a>, text: &'a str, place: usize) -> Result<(), NoMemory>
     ensures { OnOk result ((q : List ℕ) → places_at index.new q
         ≡ (if bytes_eq q text.now then places_at index.old q ++ place ∷ [] else places_at index.old q)) }
 {
@@ -49,10 +48,10 @@ fn note<'a>(
 }
 
 /// The places of each text.
-fn index_of<'a>(alloc: Global, texts: &[&'a str]) -> Result<BTreeMap<&'a str, Vec<usize>>, NoMemory>
+fn index_of<'a>(alloc: Global, texts: &[&'a str]) -> Result<PlacesByText<'a>, NoMemory>
     ensures { IfOk result (λ index. IsTextIndex (lent_texts texts.now) index) }
 {
-    let mut index = BTreeMap::new(alloc);
+    let mut index = HashMap::new(alloc);
     for (place, text) in texts.iter().enumerate() {
         note(&mut index, text, place)?;
     }
@@ -60,7 +59,7 @@ fn index_of<'a>(alloc: Global, texts: &[&'a str]) -> Result<BTreeMap<&'a str, Ve
 }
 
 /// The places at a text.
-fn places<'p>(index: &'p BTreeMap<&str, Vec<usize>>, text: &str) -> &'p [usize]
+fn places<'p>(index: &'p PlacesByText<'_>, text: &str) -> &'p [usize]
     ensures { result.now ≡ places_at index.now text.now }
 {
     match index.get(text) {

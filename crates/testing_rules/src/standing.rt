@@ -1,26 +1,30 @@
 //! Which rows of a pool stand in testing during a run, and the suite of each architecture.
 
 ghost use Rattle.std.specs.Prelude.{◌≡◌, ℕ, ◌++◌, ◌<◌, true, false, Bool, nat_lt, length, replicate, [], IfOk, option_copied, Some, List, Option};
-ghost use Rattle.std.specs.List.{All, slice_get, range_with_len};
+ghost use Rattle.std.specs.List.{All, list_all, slice_get, range_with_len};
 ghost use Rattle.testing_install.specs.Among.{with_all, after_change};
 ghost use Rattle.testing_install.specs.Closed.{marked};
 ghost use Rattle.testing_rules.specs.Changes.{has, IsMoveOf};
 ghost use Rattle.testing_rules.specs.FactOrder.{AreBySource};
 ghost use Rattle.testing_rules.specs.JudgedRows.{lent};
 ghost use Rattle.testing_rules.specs.Parts.{Part};
-ghost use Rattle.testing_rules.specs.Standing.{IsOn, IsSuiteOn, AreOver, AreSuites};
+ghost use Rattle.testing_rules.specs.Pools.{lent_texts};
+ghost use Rattle.testing_rules.specs.Standing.{IsOn, IsSuiteOn, AreOver, AreSuites, set_places, standing};
 ghost use Rattle.testing_rules.specs.Tried.{first_told, Tells, IsWithin, IsRemovalOf};
 ghost use Rattle.testing_rules.specs.Trials.{IsFirstLost};
+ghost use Rattle.testing_rules.specs.Wanted.{AreInOrder, is_wanted, wanted_rows};
 ghost use Rattle.testing_rules.specs.Words.{Text as Word};
 ghost use Rattle.testing_rules.specs.declared.suite.RowIn.{RowIn as ARow};
 
 use crate::arch_suite::ArchSuite;
 use crate::change::{Change, change_by_move, change_by_removal};
 use crate::facts::UploadIn;
+use crate::lent_rows::put_rows;
 use crate::pool::Pool;
 use crate::suite::{LentRow, RowIn};
 use crate::trial::first_lost;
 use crate::update::Offender;
+use crate::wanted::{are_wanted, wanted_rows};
 use deb_control::Text;
 use deb_version::NoMemory;
 use std::alloc::Global;
@@ -56,6 +60,19 @@ fn first_places(alloc: Global, count: usize) -> Result<Vec<usize>, NoMemory>
     let mut places = Vec::new(alloc);
     for place in 0..count {
         places.push(place)?;
+    }
+    Ok(places)
+}
+
+/// The places whose flags are set.
+fn set_places(alloc: Global, flags: &[bool]) -> Result<Vec<usize>, NoMemory>
+    ensures { IfOk result (λ places. places.items ≡ set_places flags.now) }
+{
+    let mut places = Vec::new(alloc);
+    for place in 0..flags.len() {
+        if flags[place] {
+            places.push(place)?;
+        }
     }
     Ok(places)
 }
@@ -139,10 +156,11 @@ fn changed<'a>(
 }
 
 /// The rows that may stand in testing during a run, which of them stand, and the suite of each architecture. A change
-/// is tried, and made, in time about what it touches.
+/// is tried, and made, in time about what it touches. Unstable's rows of the settled sources are left out.
 #[derive(Drop)]
 pub struct PoolSuites<'a> {
     pool: Pool<'a>,
+    settled: Vec<&'a str>,
     first: usize,
     archs: u32,
     stands: Vec<bool>,
@@ -150,13 +168,20 @@ pub struct PoolSuites<'a> {
 }
 
 impl<'a> Model for PoolSuites<'a> {
+    ghost use Rattle.testing_rules.specs.Pools.{lent_texts};
     ghost use Rattle.testing_rules.specs.Standing.{PoolState, IsPoolState};
 
     ghost Value = { PoolState };
 
-    ghost view = { λ s. record { rows = s.pool; first = s.first; stands = s.stands.items; archs = s.archs } };
+    ghost view = { λ s. record {
+      rows = s.pool;
+      settled = lent_texts s.settled.items;
+      first = s.first;
+      stands = s.stands.items;
+      archs = s.archs;
+    } };
 
-    ghost invariant = { λ s. IsPoolState s.pool s.stands.items s.archs s.suites.items };
+    ghost invariant = { λ s. IsPoolState s.pool (lent_texts s.settled.items) s.stands.items s.archs s.suites.items };
 }
 
 impl<'a> PoolSuites<'a> {
@@ -165,14 +190,23 @@ impl<'a> PoolSuites<'a> {
         alloc: Global,
         archs: u32,
         pool: Pool<'a>,
+        settled: Vec<&'a str>,
         first: usize,
     ) -> Result<PoolSuites<'a>, NoMemory>
-        ensures { IfOk result (λ s. s ≡ record { rows = pool.entry; first = first; stands = replicate (length pool.entry) false; archs = archs }) }
+        requires { AreInOrder (lent_texts settled.items) }
+        ensures { IfOk result (λ s. s ≡ record {
+          rows = pool.entry;
+          settled = lent_texts settled.entry.items;
+          first = first;
+          stands = replicate (length pool.entry) false;
+          archs = archs;
+        }) }
     {
         let stands = vec![in alloc; false; pool.len()]?;
         let suites = empty_suites(alloc, archs, &pool)?;
         Ok(PoolSuites {
             pool,
+            settled,
             first,
             archs,
             stands,
@@ -180,20 +214,25 @@ impl<'a> PoolSuites<'a> {
         })
     }
 
-    /// The rows before the run, which stand, and behind them unstable's, which don't.
+    /// The rows before the run, which stand, and behind them those of unstable that may come, which don't: all but the
+    /// rows of the settled sources.
     pub fn new(
         alloc: Global,
         archs: u32,
         before: &'a [RowIn],
+        settled: Vec<&'a str>,
         unstable: &[LentRow<'a>],
     ) -> Result<PoolSuites<'a>, NoMemory>
-        ensures rows { IfOk result (λ s. s.rows ≡ before.now ++ lent unstable.now) }
+        requires { AreInOrder (lent_texts settled.items) }
+        ensures rows { IfOk result (λ s. s.rows ≡ before.now ++ wanted_rows s.settled (lent unstable.now)) }
+        ensures settled { IfOk result (λ s. s.settled ≡ lent_texts settled.entry.items) }
         ensures first { IfOk result (λ s. s.first ≡ length before.now) }
         ensures archs { IfOk result (λ s. s.archs ≡ archs) }
         ensures stands { IfOk result (λ s. (k : ℕ) → k < length s.rows → marked s.stands k ≡ nat_lt k (length before.now)) }
     {
-        let pool = Pool::new(alloc, before, unstable)?;
-        let empty = PoolSuites::empty(alloc, archs, pool, before.len())?;
+        let wanted = wanted_rows(alloc, &settled, unstable)?;
+        let pool = Pool::new(alloc, before, &wanted)?;
+        let empty = PoolSuites::empty(alloc, archs, pool, settled, before.len())?;
         let change = Change {
             leaving: Vec::new(alloc),
             coming: first_places(alloc, before.len())?,
@@ -201,11 +240,21 @@ impl<'a> PoolSuites<'a> {
         empty.after(alloc, &change)
     }
 
-    /// The rows that may stand.
-    pub fn pool(&self) -> &Pool<'a>
-        ensures { result.now ≡ self.now.rows }
+    /// The rows that stand, by architecture and name.
+    pub fn rows(&self, alloc: Global) -> Result<Vec<LentRow<'a>>, NoMemory>
+        ensures { IfOk result (λ rows. lent rows.items ≡ standing self.now) }
     {
-        &self.pool
+        let places = set_places(alloc, &self.stands)?;
+        let mut rows = Vec::new(alloc);
+        put_rows(&mut rows, &self.pool, &places)?;
+        Ok(rows)
+    }
+
+    /// The rows of each source of the group may come: none of them is settled.
+    pub fn offers(&self, group: &[Text]) -> bool
+        ensures { result ≡ list_all (is_wanted self.now.settled) group.now }
+    {
+        are_wanted(&self.settled, group)
     }
 
     /// The rows that come by a move of the group, and those that leave.
@@ -257,6 +306,7 @@ impl<'a> PoolSuites<'a> {
         requires { IsWithin self.rows change.now.leaving.items change.now.coming.items }
         ensures state { IfOk result (λ s. s ≡ record {
           rows = self.entry.rows;
+          settled = self.entry.settled;
           first = self.entry.first;
           stands = after_change change.now.leaving.items change.now.coming.items self.entry.stands;
           archs = self.entry.archs;
@@ -265,6 +315,7 @@ impl<'a> PoolSuites<'a> {
     {
         let PoolSuites {
             pool,
+            settled,
             first,
             archs,
             mut stands,
@@ -275,6 +326,7 @@ impl<'a> PoolSuites<'a> {
         set_flags(&mut stands, &change.coming, true);
         Ok(PoolSuites {
             pool,
+            settled,
             first,
             archs,
             stands,

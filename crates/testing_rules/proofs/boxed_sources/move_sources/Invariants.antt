@@ -1,6 +1,6 @@
 use Rattle.std.proofs.Common.{◌≡◌, take}
 use Rattle.testing_rules.specs.Boxed.{unboxed}
-use Rattle.testing_rules.specs.Drafts.{sources_after}
+use Rattle.testing_rules.specs.AfterMoves.{sources_after}
 use Rattle.testing_rules.specs.InOrder.{AreByName}
 use Rattle.testing_rules.proofs.boxed_sources.move_sources.Given as goal
 

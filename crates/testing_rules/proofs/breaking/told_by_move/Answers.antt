@@ -1,7 +1,9 @@
-use Rattle.std.proofs.Common.{◌≡◌, ◌∙◌, ap, Option}
+use Rattle.std.proofs.Common.{◌≡◌, ◌∙◌, sym, ap, Option, []}
 use Rattle.testing_rules.specs.JudgedRows.{lent}
 use Rattle.testing_rules.specs.declared.update.Offender.{Offender}
 use Rattle.testing_rules.specs.Moves.{move_group, offender_of}
+use Rattle.testing_rules.specs.Standing.{standing}
+use Rattle.testing_rules.specs.Suite.{Suite}
 use Rattle.testing_rules.specs.Tried.{first_told}
 use Rattle.testing_rules.proofs.Alive.{failing, move_told}
 use Rattle.testing_rules.proofs.Suites.{if_ok_weaker}
@@ -14,12 +16,12 @@ returns-clause-offender c =
     let us = c.args.unstable.sources.now in
     let unstable = lent c.args.unstable.rows.now in
     let group = c.args.group.now in
-    let t = c.args.testing.now in
+    let t : Suite = record { sources = []; rows = standing s } in
     let leaving = c.in_ok-change.change.leaving.items in
     let coming = c.in_ok-change.change.coming.items in
     let new = move_group us unstable group t in
     let tells = failing group t.rows new.rows in
-    let told = move_told s archs us unstable group leaving coming t c.requires.order c.requires.live c.in_ok-change.ensures.moves c.in_ok-change.ensures.within
-    (c.is_fresh.ensures c.if-not-is_fresh.false) in
+    let told = move_told s archs us unstable group leaving coming t c.requires.order c.requires.live c.in_ok-change.ensures.moves (sym c.offers.ensures ∙ c.if-not-offers.false)
+    c.in_ok-change.ensures.within (c.is_fresh.ensures c.if-not-is_fresh.false) in
     if_ok_weaker _ (λ (o : Option Offender). o ≡ offender_of archs t.rows new.rows group) c.first_lost.result
     (λ o first. first tells told ∙ ap (λ n. first_told n tells) c.requires.live.count) c.first_lost.ensures.first

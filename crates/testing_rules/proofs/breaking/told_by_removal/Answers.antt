@@ -1,6 +1,8 @@
 use Rattle.std.proofs.Common.{◌≡◌, ◌∙◌, sym, ap, subst, [], Option}
 use Rattle.testing_rules.specs.declared.update.Offender.{Offender}
 use Rattle.testing_rules.specs.Moves.{remove_source, offender_of}
+use Rattle.testing_rules.specs.Standing.{standing}
+use Rattle.testing_rules.specs.Suite.{Suite}
 use Rattle.testing_rules.specs.Tried.{first_told, IsWithin, Tells}
 use Rattle.testing_rules.proofs.Alive.{failing, removal_told}
 use Rattle.testing_rules.proofs.Suites.{if_ok_weaker}
@@ -11,7 +13,7 @@ returns-clause-offender c =
     let s = c.args.suites.now in
     let archs = c.args.archs.now in
     let name = c.args.name.now in
-    let t = c.args.testing.now in
+    let t : Suite = record { sources = []; rows = standing s } in
     let leaving = c.in_ok-change.change.leaving.items in
     let none = c.in_ok-change.ensures.none in
     let new = remove_source name t in

@@ -1,6 +1,6 @@
 use Rattle.std.proofs.Common.{◌≡◌, take, filter, not}
 use Rattle.std.specs.List.{flat_map}
-use Rattle.testing_rules.specs.Drafts.{with_rows}
+use Rattle.testing_rules.specs.AfterMoves.{with_rows}
 use Rattle.testing_rules.specs.InOrder.{AreByKey}
 use Rattle.testing_rules.specs.JudgedRows.{lent}
 use Rattle.testing_rules.specs.Moves.{group_sources, is_row_of}

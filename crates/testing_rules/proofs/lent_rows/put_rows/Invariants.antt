@@ -1,5 +1,5 @@
 use Rattle.std.proofs.Common.{◌≡◌, take}
-use Rattle.testing_rules.specs.Drafts.{with_rows, rows_at}
+use Rattle.testing_rules.specs.AfterMoves.{with_rows, rows_at}
 use Rattle.testing_rules.specs.InOrder.{AreByKey}
 use Rattle.testing_rules.specs.JudgedRows.{lent}
 use Rattle.testing_rules.proofs.lent_rows.put_rows.Given as goal

@@ -4,19 +4,42 @@ use Rattle.testing_install.specs.Among.{after_change}
 use Rattle.testing_install.specs.Closed.{marked}
 use Rattle.testing_rules.specs.declared.suite.RowIn.{RowIn}
 use Rattle.testing_rules.specs.JudgedRows.{lent}
+use Rattle.testing_rules.specs.Pools.{lent_texts}
 use Rattle.testing_rules.specs.Standing.{PoolState}
 use Rattle.testing_rules.specs.Tried.{IsWithin}
+use Rattle.testing_rules.specs.Wanted.{wanted_rows}
 use Rattle.testing_rules.proofs.Suites.{firsts_within, firsts_stand, if_ok_weaker}
 use Rattle.testing_rules.proofs.standing.PoolSuites.new.Goals as goal
 
 pub after-requires : goal.after-requires
 after-requires c =
     let before = c.args.before.now in
+    let behind = lent c.deref-2.result.now in
     let rows = ap (λ (s : PoolState). s.rows) c.in_ok-empty.ensures ∙ c.in_ok-pool.ensures in
     let leaving = c.new-2.result.items in
     subst (λ (pool : List RowIn). IsWithin pool leaving c.in_ok-first_places.field-0.items) (sym rows)
-    (subst (λ ks. IsWithin (before ++ (lent c.args.unstable.now)) leaving ks) (sym c.in_ok-first_places.ensures)
-    (firsts_within before (lent c.args.unstable.now) leaving c.new-2.ensures.items))
+    (subst (λ ks. IsWithin (before ++ behind) leaving ks) (sym c.in_ok-first_places.ensures) (firsts_within before behind leaving c.new-2.ensures.items))
+
+pub returns-clause-rows : goal.returns-clause-rows
+returns-clause-rows c =
+    let before = c.args.before.now in
+    let unstable = lent c.args.unstable.now in
+    let empty = c.in_ok-empty.empty in
+    let made : PoolState = record {
+      rows = empty.rows;
+      settled = empty.settled;
+      first = empty.first;
+      stands = after_change c.new-2.result.items c.in_ok-first_places.field-0.items empty.stands;
+      archs = empty.archs;
+    } in
+    if_ok_weaker (λ (s : PoolState). s ≡ made) (λ (s : PoolState). s.rows ≡ before ++ wanted_rows s.settled unstable) c.after.result
+    (λ s e.
+    let names : s.settled ≡ lent_texts c.deref.result.now =
+    ap (λ (s : PoolState). s.settled) e ∙ ap (λ (s : PoolState). s.settled) c.in_ok-empty.ensures ∙ ap lent_texts (sym c.deref.ensures.value) in
+    ap (λ (s : PoolState). s.rows) e ∙ ap (λ (s : PoolState). s.rows) c.in_ok-empty.ensures ∙ c.in_ok-pool.ensures
+    ∙ ap (λ rs. before ++ lent rs) c.deref-2.ensures.value ∙ ap (λ rs. before ++ rs) c.in_ok-wanted.ensures
+    ∙ ap (λ ns. before ++ wanted_rows ns unstable) (sym names))
+    c.after.ensures.state
 
 pub returns-clause-stands : goal.returns-clause-stands
 returns-clause-stands c =
@@ -25,7 +48,13 @@ returns-clause-stands c =
     let empty = c.in_ok-empty.empty in
     let leaving = c.new-2.result.items in
     let coming = c.in_ok-first_places.field-0.items in
-    let made : PoolState = record { rows = empty.rows; first = empty.first; stands = after_change leaving coming empty.stands; archs = empty.archs } in
+    let made : PoolState = record {
+      rows = empty.rows;
+      settled = empty.settled;
+      first = empty.first;
+      stands = after_change leaving coming empty.stands;
+      archs = empty.archs;
+    } in
     if_ok_weaker (λ (s : PoolState). s ≡ made) (λ (s : PoolState). (k : ℕ) → k < length s.rows → marked s.stands k ≡ nat_lt k n) c.after.result
     (λ s e k h.
     let rows : length s.rows ≡ total = ap (λ (s : PoolState). length s.rows) e ∙ ap (λ (s : PoolState). length s.rows) c.in_ok-empty.ensures in
