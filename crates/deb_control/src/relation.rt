@@ -142,10 +142,12 @@ impl Model for Clause {
 }
 
 impl Clause {
-    /// The clause of these alternatives. It takes no memory.
+    /// The clause of these alternatives. It takes no memory, and what room is left over in the vector is given back.
     pub fn new(alternatives: Vec<Alternative>) -> Clause
         ensures { result ≡ alternatives.items }
     {
+        let mut alternatives = alternatives;
+        alternatives.shrink_to_fit();
         Clause { alternatives }
     }
 
@@ -201,10 +203,12 @@ impl Model for Clauses {
 }
 
 impl Clauses {
-    /// These clauses.
+    /// These clauses. What room is left over in the vector is given back.
     pub fn new(alloc: Global, clauses: Vec<Clause>) -> Result<Clauses, AllocError>
         ensures { IfOk result (λ c. c ≡ clauses.items) }
     {
+        let mut clauses = clauses;
+        clauses.shrink_to_fit();
         let clauses = Rc::new(alloc, clauses)?;
         Ok(Clauses { clauses })
     }
