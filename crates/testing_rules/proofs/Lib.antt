@@ -59,3 +59,6 @@ pub mod Mapped
 pub mod Giving
 pub mod Lending
 pub mod Settling
+pub mod Lifted
+pub mod Blocking
+pub mod Merging

@@ -1,11 +1,12 @@
 -- Lists seen through a function of their elements.
-use Rattle.std.specs.Prelude.{ℕ, ◌<◌, List, [], ◌∷◌, ◌++◌, length, take, drop, get_or, map, Result, Ok, Err}
-use Rattle.std.proofs.Common.{◌≡◌, sym, ap, ◌∙◌, subst, arith}
-use Rattle.std.specs.List.{insert}
+use Rattle.std.specs.Prelude.{ℕ, ◌-◌, ◌<◌, ◌≤◌, true, Some, option_map, List, [], ◌∷◌, ◌++◌, length, take, drop, get_or, map, Result, Ok, Err}
+use Rattle.std.proofs.Common.{◌≡◌, refl, sym, ap, ◌∙◌, subst, arith}
+use Rattle.std.specs.List.{insert, slice_get}
 use Rattle.std.specs.List.Sorted.{IsBinarySearchResult, IsSearchInRange}
 use Rattle.std.specs.declared.cmp.Ordering.{Ordering}
 use Rattle.std.specs.declared.cmp.Ordering.TheVariants.{Less, Equal, Greater}
-use Rattle.std.specs.Ordering.{ordering_index}
+use Rattle.std.specs.Ordering.{is_lt, ordering_index}
+use Rattle.std.proofs.lemmas.Option.{slice_get-map, get_or_from_slice_get}
 use Rattle.std.proofs.lemmas.List.{map-append, get_or-map, length-map, take-map, drop-map}
 
 module _ {A B : Type 0} (f : A → B) where
@@ -37,3 +38,25 @@ module _ {A B : Type 0} (f : A → B) where
 
   pub mapped-bound : (xs : List A) (r : Result ℕ ℕ) → IsSearchInRange r (length xs) → IsSearchInRange r (length (map f xs))
   mapped-bound xs r h = subst (IsSearchInRange r) (sym (length-map xs f)) h
+
+  -- where the last element is below, so are all, and what is searched belongs behind them
+  pub mapped-last : (ord : B → Ordering) (xs : List A) (x : A) → slice_get xs (length xs - 1) ≡ Some x → is_lt (ord (f x)) ≡ true → IsBinarySearchResult ord (map f xs) (Err (length (map f xs)))
+  mapped-last ord xs x at low = λ up. (
+    λ j d l m.
+        let last = length xs - 1 in
+        let here : get_or (map f xs) last d ≡ f x = get_or_from_slice_get (map f xs) last (f x) d (slice_get-map f xs last ∙ ap (option_map f) at) in
+        let under : last < length (map f xs) = omega (arith, m, length-map xs f) in
+        let most : ordering_index (ord (get_or (map f xs) last d)) ≡ 0 = ap (λ y. ordering_index (ord y)) here ∙ ap ordering_index (is_less (ord (f x)) low) in
+        is_least (ord (get_or (map f xs) j d)) (omega (arith, most, up j last d (omega (arith, m, length-map xs f)) under)),
+    λ j d l m. absurd (omega (arith, l, m)),
+  )
+    where
+      is_less : (r : Ordering) → is_lt r ≡ true → r ≡ Less
+      is_less Less h = refl
+      is_less Equal h = let never : ⊥ = cc in absurd never
+      is_less Greater h = let never : ⊥ = cc in absurd never
+
+      is_least : (r : Ordering) → ordering_index r ≤ 0 → r ≡ Less
+      is_least Less h = refl
+      is_least Equal h = absurd (omega (arith, h))
+      is_least Greater h = absurd (omega (arith, h))

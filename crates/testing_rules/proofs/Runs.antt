@@ -1,15 +1,13 @@
 -- The steps of a run's loops.
-use Rattle.std.specs.Prelude.{ℕ, ◌+◌, ◌<◌, ◌≤◌, Bool, true, false, List, [], ◌∷◌, ◌++◌, Option, Some, None, length, take, drop, get_or, map, filter, find}
+use Rattle.std.specs.Prelude.{ℕ, ◌+◌, ◌<◌, ◌≤◌, Bool, true, false, List, ◌++◌, None, length, take, drop, get_or, map, filter, find}
 use Rattle.std.specs.List.{flat_map, position_or_len}
-use Rattle.std.proofs.Common.{◌≡◌, refl, sym, ap, ◌∙◌}
+use Rattle.std.proofs.Common.{◌≡◌, ap}
 use Rattle.testing_rules.specs.declared.excuse.Excuse.{Excuse}
-use Rattle.testing_rules.specs.declared.update.Offender.{Offender}
 use Rattle.testing_rules.specs.Suite.{Suite}
-use Rattle.testing_rules.specs.Words.{Text}
-use Rattle.testing_rules.specs.Runs.{Basis, Moment, Run, go_on, moment_of}
-use Rattle.testing_rules.specs.Updates.{Outcome, then_do, in_turn, decide, accepted, offender_alone, moved_alone, is_allowed_alone, move_circle, wait, wait_all, waits}
+use Rattle.testing_rules.specs.Runs.{Basis, Run, go_on}
+use Rattle.testing_rules.specs.Updates.{Outcome, in_turn, decide, accepted, offender_alone, moved_alone, is_allowed_alone, move_circle, wait}
 use Rattle.testing_rules.proofs.InTurn.{turn-next, turns-over, hint-next, hint-skipped, hints-over, passing-next, passing-skipped, passing-over}
-use Rattle.testing_rules.proofs.Circle.{circle-next, circle-over, wait-none, in_turn-wait}
+use Rattle.testing_rules.proofs.Circle.{circle-next, circle-over, wait-none}
 
 -- the run with another outcome
 abbrev with_outcome : Run → Outcome → Run

@@ -1,5 +1,6 @@
 pub mod Archs
 pub mod Changes
+pub mod Blocks
 pub mod Boxed
 pub mod BySource
 pub mod Covered

@@ -1,6 +1,5 @@
 -- What a run goes by, and how far it has come.
-use Rattle.std.specs.Prelude.{List, [], ◌∷◌, Option}
-use Rattle.testing_rules.specs.declared.excuse.Excuse.{Excuse}
+use Rattle.std.specs.Prelude.{List, [], Option}
 use Rattle.testing_rules.specs.declared.facts.UploadIn.{UploadIn}
 use Rattle.testing_rules.specs.declared.suite.RowIn.{RowIn}
 use Rattle.testing_rules.specs.declared.update.Decision.{Decision}

@@ -80,20 +80,20 @@ pub fn move_sources(
 pub fn boxes_of(alloc: Global, sources: &[SourceIn]) -> Result<Vec<Box<SourceIn>>, NoMemory>
     ensures { IfOk result (λ boxes. unboxed boxes.items ≡ sources.now) }
 {
-    let mut boxes = Vec::new(alloc);
+    let mut boxes = Vec::with_capacity(alloc, sources.len())?;
     for source in sources {
         boxes.push(Box::new(alloc, source.copy(alloc)?)?)?;
     }
     Ok(boxes)
 }
 
-/// Equal sources out of boxes.
-pub fn copy_boxed(alloc: Global, boxes: &[Box<SourceIn>]) -> Result<Vec<SourceIn>, NoMemory>
-    ensures { IfOk result (λ sources. sources.items ≡ unboxed boxes.now) }
+/// The sources out of their boxes.
+pub fn out_of_boxes(alloc: Global, boxes: Vec<Box<SourceIn>>) -> Result<Vec<SourceIn>, NoMemory>
+    ensures { IfOk result (λ sources. sources.items ≡ unboxed boxes.items) }
 {
-    let mut sources = Vec::new(alloc);
+    let mut sources = Vec::with_capacity(alloc, boxes.len())?;
     for source in boxes {
-        sources.push(source.copy(alloc)?)?;
+        sources.push(Box::into_inner(source))?;
     }
     Ok(sources)
 }

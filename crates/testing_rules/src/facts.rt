@@ -10,12 +10,10 @@ ghost use Rattle.testing_rules.specs.Suite.{Suite};
 ghost use Rattle.testing_rules.specs.Taken.{with_upload, with_drop, with_greatest, with_builds, with_bug, stands_beside};
 ghost use Rattle.testing_rules.specs.declared.facts.UploadIn.{UploadIn as AnUpload};
 
+use crate::build_blocks::BuildBlocks;
 use crate::entry::{Entry, entry_of};
 use crate::item::{Hint, Item, Severity, Urgency, copy_version};
-use crate::taken::{
-    boxed_builds, later_delays, put_bug, put_builds, put_drop, put_hint, put_unhint, put_upload,
-    take_rows,
-};
+use crate::taken::{later_delays, put_bug, put_drop, put_hint, put_unhint, put_upload};
 use deb_control::{Binary, Text};
 use deb_version::{NoMemory, Version};
 use jiff::civil::Date;
@@ -103,7 +101,7 @@ pub struct Facts {
     alloc: Global,
     sources: Vec<Box<UploadIn>>,
     uploads: Vec<UploadIn>,
-    rows: Vec<Box<BuildIn>>,
+    rows: BuildBlocks,
     drops: Vec<DropIn>,
     bugs: Vec<BugIn>,
     hints: Vec<HintIn>,
@@ -121,7 +119,7 @@ impl Model for Facts {
     ghost view = { λ a. record {
       sources = unboxed a.sources.items;
       uploads = a.uploads.items;
-      rows = unboxed a.rows.items;
+      rows = a.rows;
       drops = a.drops.items;
       bugs = a.bugs.items;
       hints = a.hints.items;
@@ -129,7 +127,7 @@ impl Model for Facts {
       delays = a.delays;
     } };
 
-    ghost invariant = { λ a. IsFactOrder (unboxed a.sources.items) (unboxed a.rows.items) a.drops.items a.bugs.items };
+    ghost invariant = { λ a. IsFactOrder (unboxed a.sources.items) a.rows a.drops.items a.bugs.items };
 }
 
 impl Facts {
@@ -143,7 +141,7 @@ impl Facts {
             alloc,
             sources: Vec::new(alloc),
             uploads: Vec::new(alloc),
-            rows: Vec::new(alloc),
+            rows: BuildBlocks::new(alloc),
             drops: Vec::new(alloc),
             bugs: Vec::new(alloc),
             hints: Vec::new(alloc),
@@ -168,11 +166,11 @@ impl Facts {
     }
 
     /// Unstable's rows, by architecture and name.
-    pub(crate) fn rows(&self) -> &[Box<BuildIn>]
-        ensures rows { unboxed result.now ≡ self.now.rows }
-        ensures ordered { AreByPair (unboxed result.now) }
+    pub(crate) fn rows(&self) -> &BuildBlocks
+        ensures rows { result.now ≡ self.now.rows }
+        ensures ordered { AreByPair result.now }
     {
-        self.rows.as_slice()
+        &self.rows
     }
 
     /// The states of the bugs, by bug number.
@@ -259,7 +257,7 @@ impl Facts {
     {
         let kept = drop.copy(self.alloc)?;
         put_drop(&mut self.drops, kept)?;
-        take_rows(&mut self.rows, &drop);
+        self.rows.take(&drop);
         Ok(())
     }
 
@@ -277,9 +275,7 @@ impl Facts {
         ensures ok { OnOk result (self.new ≡ record self.old { rows = with_builds (stands_beside self.old.drops) builds.items self.old.rows }) }
         ensures err { OnErr result (self.new ≡ self.old) }
     {
-        let boxed = boxed_builds(self.alloc, builds)?;
-        self.rows.reserve(boxed.len())?;
-        put_builds(&mut self.rows, &self.drops, boxed);
+        self.rows.put(self.alloc, &self.drops, builds)?;
         Ok(())
     }
 }

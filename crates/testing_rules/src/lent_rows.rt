@@ -1,14 +1,16 @@
 //! Rows that are lent, in the order of testing: a change moves places and copies no row.
 
-ghost use Rattle.std.specs.Prelude.{◌≡◌, ◌<◌, length, not, filter, OnOk, OnErr, IfOk};
-ghost use Rattle.std.specs.List.{All};
+ghost use Rattle.std.specs.Prelude.{◌≡◌, ◌<◌, ◌≤◌, true, length, drop, not, filter, Some, Err, OnOk, OnErr, IfOk};
+ghost use Rattle.std.specs.List.{All, slice_get};
 ghost use Rattle.std.specs.List.Sorted.{IsBinarySearchResult, IsSearchInRange};
+ghost use Rattle.std.specs.declared.cmp.Ordering.TheVariants.{Less};
 ghost use Rattle.testing_rules.specs.AfterMoves.{with_rows, rows_at, moved_rows, rows_without};
 ghost use Rattle.testing_rules.specs.FactOrder.{AreBySource};
 ghost use Rattle.testing_rules.specs.InOrder.{AreByKey};
 ghost use Rattle.testing_rules.specs.JudgedRows.{lent, row_of};
 ghost use Rattle.testing_rules.specs.Moves as rules;
 ghost use Rattle.testing_rules.specs.Unstable as unstable_words;
+ghost use Rattle.testing_rules.specs.declared.suite.RowIn.{RowIn as ARow};
 
 use crate::facts::UploadIn;
 use crate::moves::{Unstable, source_in};
@@ -29,11 +31,24 @@ fn order_rows(row: &LentRow, other: &LentRow) -> Ordering
     row.arch.cmp(&other.arch).then(names)
 }
 
-/// Where the rows have the key of the row, or else where it belongs.
+/// The row's key is above that of the last row.
+fn is_behind(rows: &[LentRow], row: &LentRow) -> bool
+    ensures { result ≡ true → IsBinarySearchResult (λ r. rules.row_cmp (rules.row_key r) (rules.row_key (row_of row.now))) (lent rows.now) (Err (length (lent rows.now))) }
+{
+    match rows.last() {
+        Some(last) => order_rows(last, row).is_lt(),
+        None => true,
+    }
+}
+
+/// Where the rows have the key of the row, or else where it belongs. A row that belongs behind them is not searched for.
 fn place_of_key(rows: &[LentRow], row: &LentRow) -> Result<usize, usize>
     ensures bound { IsSearchInRange result (length (lent rows.now)) }
     ensures found { IsBinarySearchResult (λ r. rules.row_cmp (rules.row_key r) (rules.row_key (row_of row.now))) (lent rows.now) result }
 {
+    if is_behind(rows, row) {
+        return Err(rows.len());
+    }
     rows.binary_search_by(
         |other: &LentRow| -> Ordering
             ensures { result ≡ rules.row_cmp (rules.row_key (row_of other.now)) (rules.row_key (row_of row.entry.now)) }
@@ -71,6 +86,78 @@ pub fn put_rows<'a>(
         put_row(rows, &row)?;
     }
     Ok(())
+}
+
+/// Puts in rows, each under its key.
+fn put_lent<'a>(rows: &mut Vec<LentRow<'a>>, others: &[LentRow<'a>]) -> Result<(), NoMemory>
+    requires { AreByKey (lent rows.old.items) }
+    ensures ok { OnOk result (lent rows.new.items ≡ with_rows (lent others.now) (lent rows.old.items)) }
+    ensures ordered { AreByKey (lent rows.new.items) }
+{
+    for other in others {
+        put_row(rows, other)?;
+    }
+    Ok(())
+}
+
+/// How many rows stand before the first whose key is above the row's.
+fn count_before(rows: &[LentRow], row: &LentRow) -> usize
+    ensures bound { result ≤ length rows.now }
+    ensures above { (r : ARow) → slice_get (lent rows.now) result ≡ Some r → rules.row_cmp (rules.row_key (row_of row.now)) (rules.row_key r) ≡ Less }
+{
+    for place in 0..rows.len() {
+        if order_rows(row, &rows[place]).is_lt() {
+            return place;
+        }
+    }
+    rows.len()
+}
+
+/// Puts in the row, and before it those of the others from a place on whose keys aren't above its own. Gives the place
+/// at which the rest of them begins.
+fn put_turn<'a>(
+    rows: &mut Vec<LentRow<'a>>,
+    others: &[LentRow<'a>],
+    from: usize,
+    row: &LentRow<'a>,
+) -> Result<usize, NoMemory>
+    requires order { AreByKey (lent rows.old.items) }
+    requires others { AreByKey (lent others.now) }
+    requires from { from ≤ length others.now }
+    ensures ok { IfOk result (λ next. with_rows (drop next (lent others.now)) (lent rows.new.items)
+        ≡ rules.put_row (row_of row.now) (with_rows (drop from (lent others.now)) (lent rows.old.items))) }
+    ensures bound { IfOk result (λ next. next ≤ length others.now) }
+    ensures ordered { AreByKey (lent rows.new.items) }
+{
+    let (_, left) = others.split_at(from);
+    let count = count_before(left, row);
+    let (before, _) = left.split_at(count);
+    put_lent(rows, before)?;
+    put_row(rows, row)?;
+    Ok(from + count)
+}
+
+/// Rows with those of a pool at some places put in, each under its key. Where those of the pool are in order too, both
+/// are merged: each row comes behind those before it, and no row is moved.
+pub fn merged_rows<'a>(
+    alloc: Global,
+    rows: &[LentRow<'a>],
+    pool: &Pool<'a>,
+    places: &[usize],
+) -> Result<Vec<LentRow<'a>>, NoMemory>
+    requires order { AreByKey (lent rows.now) }
+    requires places { All (λ k. k < length pool.now) places.now }
+    ensures { IfOk result (λ merged. lent merged.items ≡ with_rows (rows_at pool.now places.now) (lent rows.now)) }
+{
+    let mut merged = Vec::with_capacity(alloc, rows.len().saturating_add(places.len()))?;
+    let mut next = 0;
+    for place in places {
+        let row = pool.row(*place);
+        next = put_turn(&mut merged, rows, next, &row)?;
+    }
+    let (_, left) = rows.split_at(next);
+    put_lent(&mut merged, left)?;
+    Ok(merged)
 }
 
 /// Puts in the current rows of a source, each under its key.
@@ -150,7 +237,7 @@ pub fn rows_without<'a>(
 pub fn copy_loans<'a>(alloc: Global, rows: &[LentRow<'a>]) -> Result<Vec<LentRow<'a>>, NoMemory>
     ensures { IfOk result (λ loans. lent loans.items ≡ lent rows.now) }
 {
-    let mut loans = Vec::new(alloc);
+    let mut loans = Vec::with_capacity(alloc, rows.len())?;
     for row in rows {
         loans.push(*row)?;
     }
@@ -161,7 +248,7 @@ pub fn copy_loans<'a>(alloc: Global, rows: &[LentRow<'a>]) -> Result<Vec<LentRow
 pub fn copy_lent(alloc: Global, rows: &[LentRow]) -> Result<Vec<RowIn>, NoMemory>
     ensures { IfOk result (λ copies. copies.items ≡ lent rows.now) }
 {
-    let mut copies = Vec::new(alloc);
+    let mut copies = Vec::with_capacity(alloc, rows.len())?;
     for row in rows {
         copies.push(row.copy(alloc)?)?;
     }

@@ -5,6 +5,7 @@ mod arch_suite;
 mod archs;
 mod boxed_sources;
 mod breaking;
+mod build_blocks;
 mod built;
 mod by_source;
 mod change;

@@ -8,7 +8,7 @@ ghost use Rattle.testing_rules.specs.JudgedRows.{lent};
 ghost use Rattle.testing_rules.specs.Runs.{after_move, broken_by_move, after_removal, broken_by_removal};
 
 use crate::archs::Archs;
-use crate::boxed_sources::{boxes_of, copy_boxed, move_sources, place_of_name, take_source};
+use crate::boxed_sources::{boxes_of, move_sources, out_of_boxes, place_of_name, take_source};
 use crate::breaking;
 use crate::facts::UploadIn;
 use crate::lent_rows::copy_lent;
@@ -24,7 +24,7 @@ use std::mem;
 
 /// Testing while a run changes it, beside what the run goes by: the architectures and unstable. The sources stand by
 /// name. A change is first judged, and testing stays; then it is made. The suites judge it by what it touches; there are
-/// none after an error, that is where memory ran out while a change was made.
+/// none after a move of a source whose rows they leave out, and where memory ran out while a change was made.
 #[derive(Drop)]
 pub struct LiveTesting<'u, 'a> {
     archs: &'u Archs,
@@ -149,8 +149,8 @@ impl<'u, 'a> LiveTesting<'u, 'a> {
         let list = rows.list(alloc)?;
         // The suites are the larger part, and go before testing is copied.
         drop(rows);
-        let sources = copy_boxed(alloc, &sources)?;
+        let sources = out_of_boxes(alloc, sources)?;
         let rows = copy_lent(alloc, &list)?;
-        Ok(Testing::of(sources, rows))
+        Testing::of(alloc, sources, rows)
     }
 }

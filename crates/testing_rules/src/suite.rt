@@ -13,6 +13,7 @@ use deb_version::{NoMemory, Version};
 use std::alloc::{AllocError, Global};
 use std::cmp::Ordering;
 use std::marker::Model;
+use std::rc::Rc;
 
 /// A source in testing, and the message that gave it.
 #[derive(Drop)]
@@ -46,12 +47,12 @@ pub struct LentRow<'a> {
 
 /// The sources by name, and the rows by architecture and name.
 #[derive(Drop)]
-pub struct Testing {
+struct SuiteEntries {
     sources: Vec<SourceIn>,
     rows: Vec<RowIn>,
 }
 
-impl Model for Testing {
+impl Model for SuiteEntries {
     ghost use Rattle.testing_rules.specs.Suite.{Suite};
     ghost use Rattle.testing_rules.specs.InOrder.{IsInOrder};
 
@@ -60,6 +61,22 @@ impl Model for Testing {
     ghost view = { λ a. record { sources = a.sources.items; rows = a.rows.items } };
 
     ghost invariant = { λ a. IsInOrder a.sources.items a.rows.items };
+}
+
+/// The sources by name, and the rows by architecture and name. Copies share them; one that is changed while it shares
+/// them gets its own first. The empty suite holds none.
+#[derive(Drop)]
+pub struct Testing {
+    alloc: Global,
+    entries: Option<Rc<SuiteEntries>>,
+}
+
+impl Model for Testing {
+    ghost use Rattle.testing_rules.specs.Suite.{Suite, suite_of};
+
+    ghost Value = { Suite };
+
+    ghost view = { λ a. suite_of a.entries };
 }
 
 impl SourceIn {
@@ -193,7 +210,7 @@ fn put_row(rows: &mut Vec<RowIn>, row: RowIn) -> Result<(), AllocError>
 fn copy_sources(alloc: Global, sources: &[SourceIn]) -> Result<Vec<SourceIn>, NoMemory>
     ensures { IfOk result (λ copies. copies.items ≡ sources.now) }
 {
-    let mut copies = Vec::new(alloc);
+    let mut copies = Vec::with_capacity(alloc, sources.len())?;
     for source in sources {
         copies.push(source.copy(alloc)?)?;
     }
@@ -203,21 +220,136 @@ fn copy_sources(alloc: Global, sources: &[SourceIn]) -> Result<Vec<SourceIn>, No
 fn copy_rows(alloc: Global, rows: &[RowIn]) -> Result<Vec<RowIn>, NoMemory>
     ensures { IfOk result (λ copies. copies.items ≡ rows.now) }
 {
-    let mut copies = Vec::new(alloc);
+    let mut copies = Vec::with_capacity(alloc, rows.len())?;
     for row in rows {
         copies.push(row.copy(alloc)?)?;
     }
     Ok(copies)
 }
 
+impl SuiteEntries {
+    /// No entry.
+    fn new(alloc: Global) -> SuiteEntries
+        ensures { result ≡ record { sources = []; rows = [] } }
+    {
+        SuiteEntries {
+            sources: Vec::new(alloc),
+            rows: Vec::new(alloc),
+        }
+    }
+
+    fn sources(&self) -> &[SourceIn]
+        ensures entries { result.now ≡ self.now.sources }
+        ensures ordered { AreByName result.now }
+    {
+        self.sources.as_slice()
+    }
+
+    fn rows(&self) -> &[RowIn]
+        ensures entries { result.now ≡ self.now.rows }
+        ensures ordered { AreByKey result.now }
+    {
+        self.rows.as_slice()
+    }
+
+    /// Puts a source under its name, and the rest stays.
+    fn set_source(&mut self, source: SourceIn) -> Result<(), NoMemory>
+        ensures ok { OnOk result (self.new ≡ record { sources = moves.put_source source self.old.sources; rows = self.old.rows }) }
+        ensures err { OnErr result (self.new ≡ self.old) }
+    {
+        Ok(put_source(&mut self.sources, source)?)
+    }
+
+    /// Puts a row under its architecture and name, and the rest stays.
+    fn set_row(&mut self, row: RowIn) -> Result<(), NoMemory>
+        ensures ok { OnOk result (self.new ≡ record { sources = self.old.sources; rows = moves.put_row row self.old.rows }) }
+        ensures err { OnErr result (self.new ≡ self.old) }
+    {
+        Ok(put_row(&mut self.rows, row)?)
+    }
+
+    /// Equal entries.
+    fn copy(&self, alloc: Global) -> Result<SuiteEntries, NoMemory>
+        ensures { IfOk result (λ copies. copies ≡ self.now) }
+    {
+        let sources = copy_sources(alloc, &self.sources)?;
+        let rows = copy_rows(alloc, &self.rows)?;
+        Ok(SuiteEntries { sources, rows })
+    }
+}
+
+/// Entries with a source alone.
+fn first_source(alloc: Global, source: SourceIn) -> Result<Rc<SuiteEntries>, NoMemory>
+    ensures { IfOk result (λ entries. entries.value ≡ record { sources = moves.put_source source []; rows = [] }) }
+{
+    let mut entries = SuiteEntries::new(alloc);
+    entries.set_source(source)?;
+    let shared = Rc::new(alloc, entries)?;
+    Ok(shared)
+}
+
+/// Entries with a row alone.
+fn first_row(alloc: Global, row: RowIn) -> Result<Rc<SuiteEntries>, NoMemory>
+    ensures { IfOk result (λ entries. entries.value ≡ record { sources = []; rows = moves.put_row row [] }) }
+{
+    let mut entries = SuiteEntries::new(alloc);
+    entries.set_row(row)?;
+    let shared = Rc::new(alloc, entries)?;
+    Ok(shared)
+}
+
+/// Puts a source under its name, into a copy of the entries where others share them.
+fn put_shared_source(
+    alloc: Global,
+    entries: &mut Rc<SuiteEntries>,
+    source: SourceIn,
+) -> Result<(), NoMemory>
+    ensures ok { OnOk result (entries.new.value ≡ record { sources = moves.put_source source entries.old.value.sources; rows = entries.old.value.rows }) }
+    ensures err { OnErr result (entries.new.value ≡ entries.old.value) }
+{
+    match Rc::get_mut(entries) {
+        Some(own) => own.set_source(source),
+        None => {
+            let mut own = entries.copy(alloc)?;
+            own.set_source(source)?;
+            *entries = Rc::new(alloc, own)?;
+            Ok(())
+        }
+    }
+}
+
+/// Puts a row under its architecture and name, into a copy of the entries where others share them.
+fn put_shared_row(alloc: Global, entries: &mut Rc<SuiteEntries>, row: RowIn) -> Result<(), NoMemory>
+    ensures ok { OnOk result (entries.new.value ≡ record { sources = entries.old.value.sources; rows = moves.put_row row entries.old.value.rows }) }
+    ensures err { OnErr result (entries.new.value ≡ entries.old.value) }
+{
+    match Rc::get_mut(entries) {
+        Some(own) => own.set_row(row),
+        None => {
+            let mut own = entries.copy(alloc)?;
+            own.set_row(row)?;
+            *entries = Rc::new(alloc, own)?;
+            Ok(())
+        }
+    }
+}
+
 impl Testing {
     /// The suite of these entries, which are in order.
-    pub(crate) fn of(sources: Vec<SourceIn>, rows: Vec<RowIn>) -> Testing
+    pub(crate) fn of(
+        alloc: Global,
+        sources: Vec<SourceIn>,
+        rows: Vec<RowIn>,
+    ) -> Result<Testing, NoMemory>
         requires sources { AreByName sources.items }
         requires rows { AreByKey rows.items }
-        ensures { result ≡ record { sources = sources.items; rows = rows.items } }
+        ensures { IfOk result (λ testing. testing ≡ record { sources = sources.items; rows = rows.items }) }
     {
-        Testing { sources, rows }
+        let entries = Rc::new(alloc, SuiteEntries { sources, rows })?;
+        Ok(Testing {
+            alloc,
+            entries: Some(entries),
+        })
     }
 
     /// The empty suite.
@@ -225,8 +357,8 @@ impl Testing {
         ensures { result ≡ record { sources = []; rows = [] } }
     {
         Testing {
-            sources: Vec::new(alloc),
-            rows: Vec::new(alloc),
+            alloc,
+            entries: None,
         }
     }
 
@@ -235,7 +367,10 @@ impl Testing {
         ensures entries { result.now ≡ self.now.sources }
         ensures ordered { AreByName result.now }
     {
-        self.sources.as_slice()
+        match &self.entries {
+            Some(entries) => entries.as_ref().sources(),
+            None => &[],
+        }
     }
 
     /// The rows by place of the architecture, with `all` last, and then in byte order of their
@@ -244,7 +379,10 @@ impl Testing {
         ensures entries { result.now ≡ self.now.rows }
         ensures ordered { AreByKey result.now }
     {
-        self.rows.as_slice()
+        match &self.entries {
+            Some(entries) => entries.as_ref().rows(),
+            None => &[],
+        }
     }
 
     /// Puts a source under its name, and the rest stays.
@@ -252,7 +390,13 @@ impl Testing {
         ensures ok { OnOk result (self.new ≡ record { sources = moves.put_source source self.old.sources; rows = self.old.rows }) }
         ensures err { OnErr result (self.new ≡ self.old) }
     {
-        Ok(put_source(&mut self.sources, source)?)
+        match &mut self.entries {
+            Some(entries) => put_shared_source(self.alloc, entries, source),
+            None => {
+                self.entries = Some(first_source(self.alloc, source)?);
+                Ok(())
+            }
+        }
     }
 
     /// Puts a row under its architecture and name, and the rest stays.
@@ -260,15 +404,23 @@ impl Testing {
         ensures ok { OnOk result (self.new ≡ record { sources = self.old.sources; rows = moves.put_row row self.old.rows }) }
         ensures err { OnErr result (self.new ≡ self.old) }
     {
-        Ok(put_row(&mut self.rows, row)?)
+        match &mut self.entries {
+            Some(entries) => put_shared_row(self.alloc, entries, row),
+            None => {
+                self.entries = Some(first_row(self.alloc, row)?);
+                Ok(())
+            }
+        }
     }
 
-    /// An equal suite.
+    /// An equal suite, which shares the entries.
     pub fn copy(&self, alloc: Global) -> Result<Testing, NoMemory>
         ensures { IfOk result (λ t. t ≡ self.now) }
     {
-        let sources = copy_sources(alloc, &self.sources)?;
-        let rows = copy_rows(alloc, &self.rows)?;
-        Ok(Testing { sources, rows })
+        let entries = match &self.entries {
+            Some(entries) => Some(entries.clone()?),
+            None => None,
+        };
+        Ok(Testing { alloc, entries })
     }
 }

@@ -1,6 +1,6 @@
 //! One more message, in the lists of facts.
 
-ghost use Rattle.std.specs.Prelude.{◌≡◌, ◌<◌, ◌≤◌, ◌+◌, OnOk, OnErr, IfOk, length, vec_len, vec_capacity};
+ghost use Rattle.std.specs.Prelude.{◌≡◌, ◌<◌, ◌≤◌, ◌+◌, OnOk, OnErr, length, vec_len, vec_capacity};
 ghost use Rattle.std.specs.Ordering.{nat_cmp};
 ghost use Rattle.std.specs.List.Sorted.{IsBinarySearchResult, IsSearchInRange};
 ghost use Rattle.testing_rules.specs.Boxed.{unboxed};
@@ -16,7 +16,6 @@ use crate::select::{
     upload_order,
 };
 use deb_version::NoMemory;
-use std::alloc::Global;
 use std::cmp::Ordering;
 
 /// Where a list takes an element: over the one at a place, before it, or nowhere.
@@ -165,7 +164,7 @@ pub fn put_bug(bugs: &mut Vec<BugIn>, bug: BugIn) -> Result<(), NoMemory>
 }
 
 /// The order of a build's architecture and name beside these.
-fn order_pair(build: &BuildIn, arch: &str, name: &str) -> Ordering
+pub fn order_pair(build: &BuildIn, arch: &str, name: &str) -> Ordering
     ensures { result ≡ pair_order (pair_of build.now) (arch.now, name.now) }
 {
     let names = build.binary.name.as_str().cmp(name);
@@ -203,7 +202,7 @@ fn slot_of_build(rows: &[Box<BuildIn>], build: &BuildIn) -> Slot
 }
 
 /// A build joins the rows, where its own has none before it. There is room for it.
-fn put_build(rows: &mut Vec<Box<BuildIn>>, build: Box<BuildIn>)
+pub fn put_build(rows: &mut Vec<Box<BuildIn>>, build: Box<BuildIn>)
     requires order { AreByPair (unboxed rows.old.items) }
     requires room { vec_len rows.old < vec_capacity rows.old }
     ensures items { unboxed rows.new.items ≡ taken.with_build build.value (unboxed rows.old.items) }
@@ -229,7 +228,7 @@ fn outlives(drop: &DropIn, build: &BuildIn) -> bool
 }
 
 /// The build stands beside all of the drops.
-fn stands_beside(drops: &[DropIn], build: &BuildIn) -> bool
+pub fn stands_beside(drops: &[DropIn], build: &BuildIn) -> bool
     requires { AreDropsByPair drops.now }
     ensures { result ≡ taken.stands_beside drops.now build.now }
 {
@@ -240,36 +239,12 @@ fn stands_beside(drops: &[DropIn], build: &BuildIn) -> bool
     }
 }
 
-/// The builds in boxes.
-pub fn boxed_builds(alloc: Global, builds: Vec<BuildIn>) -> Result<Vec<Box<BuildIn>>, NoMemory>
-    ensures { IfOk result (λ boxes. unboxed boxes.items ≡ builds.items) }
-{
-    let mut boxes = Vec::new(alloc);
-    for build in builds {
-        boxes.push(Box::new(alloc, build)?)?;
-    }
-    Ok(boxes)
-}
-
-/// The builds of one message join the rows, each where it stands. There is room for them.
-pub fn put_builds(rows: &mut Vec<Box<BuildIn>>, drops: &[DropIn], builds: Vec<Box<BuildIn>>)
-    requires order { AreByPair (unboxed rows.old.items) }
-    requires drops { AreDropsByPair drops.now }
-    requires room { vec_len rows.old + vec_len builds ≤ vec_capacity rows.old }
-    ensures { unboxed rows.new.items ≡ taken.with_builds (taken.stands_beside drops.now) (unboxed builds.items) (unboxed rows.old.items) }
-{
-    let mut left = builds;
-    'builds: while let Some(build) = left.pop() {
-        if stands_beside(drops, &build) {
-            put_build(rows, build);
-        }
-    }
-}
-
 /// The rows lose the one that the drop takes, if there is one.
-pub fn take_rows(rows: &mut Vec<Box<BuildIn>>, drop: &DropIn)
+pub fn take_row(rows: &mut Vec<Box<BuildIn>>, drop: &DropIn)
     requires { AreByPair (unboxed rows.old.items) }
-    ensures { unboxed rows.new.items ≡ taken.with_drop drop.now (unboxed rows.old.items) }
+    ensures items { unboxed rows.new.items ≡ taken.with_drop drop.now (unboxed rows.old.items) }
+    ensures len { vec_len rows.new ≤ vec_len rows.old }
+    ensures capacity { vec_capacity rows.new ≡ vec_capacity rows.old }
 {
     if let Ok(i) = place_of_pair(rows, drop.arch.as_str(), drop.name.as_str()) {
         if !outlives(drop, &rows[i]) {

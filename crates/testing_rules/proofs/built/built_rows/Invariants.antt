@@ -1,10 +1,9 @@
 use Rattle.std.proofs.Common.{◌≡◌, take}
 use Rattle.std.specs.List.{enumerate_from, flat_map}
-use Rattle.testing_rules.specs.Boxed.{unboxed}
 use Rattle.testing_rules.specs.JudgedRows.{lent}
 use Rattle.testing_rules.specs.Unstable.{built_on}
 use Rattle.testing_rules.proofs.built.built_rows.Given as goal
 
 -- those of the architectures so far
 abbrev pub invariant-loop-place : goal.invariant-loop-place
-invariant-loop-place l = lent l.rows.items ≡ flat_map (built_on (unboxed l.builds)) (take l.place (enumerate_from 0 l.archs))
+invariant-loop-place l = lent l.rows.items ≡ flat_map (built_on l.builds) (take l.place (enumerate_from 0 l.archs))

@@ -1,9 +1,9 @@
 use Rattle.std.proofs.Common.{◌≡◌, ◌++◌, take}
-use Rattle.testing_rules.specs.Boxed.{unboxed}
+use Rattle.testing_rules.specs.Blocks.{joined}
 use Rattle.testing_rules.specs.JudgedRows.{lent}
 use Rattle.testing_rules.specs.Unstable.{built_on}
 use Rattle.testing_rules.proofs.built.push_built_on.Given as goal
 
--- those so far
-abbrev pub invariant-loop-build : goal.invariant-loop-build
-invariant-loop-build l = lent l.rows.items ≡ lent l.fn.rows.items ++ built_on (unboxed (take l.build-index l.builds)) (l.place, l.arch)
+-- those of the blocks so far
+abbrev pub invariant-loop-block : goal.invariant-loop-block
+invariant-loop-block l = lent l.rows.items ≡ lent l.fn.rows.items ++ built_on (joined (take l.block-index l.blocks)) (l.place, l.arch)

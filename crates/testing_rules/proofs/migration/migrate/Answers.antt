@@ -1,4 +1,4 @@
-use Rattle.std.proofs.Common.{sym, ap, ◌∙◌, subst}
+use Rattle.std.proofs.Common.{sym, ap, subst}
 use Rattle.testing_rules.specs.Suite.{Suite}
 use Rattle.testing_rules.specs.Unstable.{built_rows}
 use Rattle.testing_rules.specs.Updates.{Outcome}

@@ -1,4 +1,4 @@
-use Rattle.std.proofs.Common.{◌≡◌, sym, ap, ap₂, ◌∙◌, subst, List}
+use Rattle.std.proofs.Common.{sym, ap, ap₂, ◌∙◌, subst, List}
 use Rattle.testing_rules.specs.declared.suite.RowIn.{RowIn}
 use Rattle.testing_rules.specs.declared.suite.SourceIn.{SourceIn}
 use Rattle.testing_rules.specs.AfterMoves.{rows_without}

@@ -1,5 +1,5 @@
 use Rattle.std.specs.List.Sorted.{IsStrictlySortedBy}
-use Rattle.testing_rules.proofs.suite.Testing.new.Goals as goal
+use Rattle.testing_rules.proofs.suite.SuiteEntries.new.Goals as goal
 
 pub invariant_of-result : goal.invariant_of-result
 unfolding IsStrictlySortedBy

@@ -1,7 +1,7 @@
 use Rattle.std.proofs.Common.{sym, subst}
 use Rattle.testing_rules.specs.InOrder.{AreByName}
 use Rattle.testing_rules.proofs.Ordered.{by_name-put}
-use Rattle.testing_rules.proofs.suite.Testing.set_source.Goals as goal
+use Rattle.testing_rules.proofs.suite.SuiteEntries.set_source.Goals as goal
 
 pub invariant_of-self-2 : goal.invariant_of-self-2
 invariant_of-self-2 c =

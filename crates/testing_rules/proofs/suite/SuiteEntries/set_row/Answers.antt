@@ -1,7 +1,7 @@
 use Rattle.std.proofs.Common.{sym, subst}
 use Rattle.testing_rules.specs.InOrder.{AreByKey}
 use Rattle.testing_rules.proofs.Ordered.{by_key-put}
-use Rattle.testing_rules.proofs.suite.Testing.set_row.Goals as goal
+use Rattle.testing_rules.proofs.suite.SuiteEntries.set_row.Goals as goal
 
 pub invariant_of-self-2 : goal.invariant_of-self-2
 invariant_of-self-2 c =

@@ -8,10 +8,10 @@ use Rattle.testing_rules.proofs.MoreMail.{pair_total}
 use Rattle.testing_rules.proofs.Unboxed.{unboxed-at, unboxed-length, unboxed-remove}
 use Rattle.testing_rules.proofs.KeyOrder.{searchable}
 use Rattle.testing_rules.proofs.KeySlots.{kept-found, kept-missing, outlives-other}
-use Rattle.testing_rules.proofs.taken.take_rows.Goals as goal
+use Rattle.testing_rules.proofs.taken.take_row.Goals as goal
 
-pub returns-then-not-outlives : goal.returns-then-not-outlives
-returns-then-not-outlives c =
+pub returns-then-not-outlives-clause-items : goal.returns-then-not-outlives-clause-items
+returns-then-not-outlives-clause-items c =
     let d = c.args.drop.now in
     let bs = c.args.rows.now.items in
     let xs = unboxed bs in
@@ -25,8 +25,8 @@ returns-then-not-outlives c =
     let stays : outlives d (get_or xs i box.value) ≡ false = ap (outlives d) (read ∙ sym c.deref-in-Ok.ensures) ∙ sym c.outlives.ensures ∙ c.if-not-outlives.true in
     ap unboxed c.remove.ensures.items ∙ unboxed-remove bs i ∙ sym (kept ∙ ap (λ t. cond t xs (remove xs i)) stays)
 
-pub returns-else-not-outlives : goal.returns-else-not-outlives
-returns-else-not-outlives c =
+pub returns-else-not-outlives-clause-items : goal.returns-else-not-outlives-clause-items
+returns-else-not-outlives-clause-items c =
     let d = c.args.drop.now in
     let bs = c.args.rows.now.items in
     let xs = unboxed bs in
@@ -40,8 +40,8 @@ returns-else-not-outlives c =
     let stays : outlives d (get_or xs i box.value) ≡ true = ap (outlives d) (read ∙ sym c.deref-in-Ok.ensures) ∙ sym c.outlives.ensures ∙ c.if-not-outlives.false in
     sym (kept ∙ ap (λ t. cond t xs (remove xs i)) stays)
 
-pub returns-in_default : goal.returns-in_default
-returns-in_default c =
+pub returns-in_default-clause-items : goal.returns-in_default-clause-items
+returns-in_default-clause-items c =
     let d = c.args.drop.now in
     let xs = unboxed c.args.rows.now.items in
     let found = rw (c.deref.ensures.value, c.as_str.ensures, c.as_str-2.ensures) at c.in_default.ensures.found in
