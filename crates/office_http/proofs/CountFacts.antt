@@ -33,7 +33,7 @@ FirstOrders-later setup small large orders within first = record {
   each = λ j low high. let some = first.each j low high in subst IsSome (sym (order_at-later setup small large j within some)) some;
 }
 
-some_later : (small large : Kept) (p : Place) → Within small large → IsSome (get small p) → IsSome (get large p)
+pub some_later : (small large : Kept) (p : Place) → Within small large → IsSome (get small p) → IsSome (get large p)
 some_later small large p within some = subst IsSome (sym (within p some)) some
 
 -- later mail and a finished run leave what is counted

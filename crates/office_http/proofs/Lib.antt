@@ -22,3 +22,4 @@ pub mod GivenFacts
 pub mod LastFacts
 pub mod LetterFacts
 pub mod LookFacts
+pub mod TakenFacts

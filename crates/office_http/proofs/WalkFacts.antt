@@ -67,7 +67,7 @@ at_option : {A : Type 0} (o : Option A) (x : A) → o ≡ Some x → Contains (o
 at_option None x e = absurd (cc (e))
 at_option (Some y) x e = at_front y x [] (some_same y x e)
 
-by_place : (setup : Lists) (kept : Kept) (sender n : ℕ) (m : CoveredItem) → Contains (said_by setup kept sender n) m → (k : ℕ) × (1 ≤ k) × (k ≤ n) × (item_of setup (sender, k) (get kept (sender, k)) ≡ Some m)
+pub by_place : (setup : Lists) (kept : Kept) (sender n : ℕ) (m : CoveredItem) → Contains (said_by setup kept sender n) m → (k : ℕ) × (1 ≤ k) × (k ≤ n) × (item_of setup (sender, k) (get kept (sender, k)) ≡ Some m)
 unfolding said_by said_at
 by_place setup kept sender zero m c = none_among m c
 by_place setup kept sender (suc n) m c = elim (Contains-append_cases (option_to_list (item_of setup (sender, suc n) (get kept (sender, suc n)))) (said_by setup kept sender n) m c) [
@@ -75,7 +75,7 @@ by_place setup kept sender (suc n) m c = elim (Contains-append_cases (option_to_
   | inr among ↦ let rest = by_place setup kept sender n m among in (rest.0, rest.1, omega (arith, rest.2), rest.3)
 ]
 
-place_by : (setup : Lists) (kept : Kept) (sender n k : ℕ) (m : CoveredItem) → 1 ≤ k → k ≤ n → item_of setup (sender, k) (get kept (sender, k)) ≡ Some m → Contains (said_by setup kept sender n) m
+pub place_by : (setup : Lists) (kept : Kept) (sender n k : ℕ) (m : CoveredItem) → 1 ≤ k → k ≤ n → item_of setup (sender, k) (get kept (sender, k)) ≡ Some m → Contains (said_by setup kept sender n) m
 unfolding said_by said_at
 place_by setup kept sender zero k m low high is = absurd (omega arith)
 place_by setup kept sender (suc n) k m low high is = ⊎_elim
@@ -93,7 +93,7 @@ within_place setup kept covers (suc n) m c = elim (Contains-append_cases (said_b
   | inr among ↦ let rest = within_place setup kept covers n m among in (rest.0, record { sender = omega (arith, rest.1.sender); low = rest.1.low; high = rest.1.high; is = rest.1.is })
 ]
 
-place_within : (setup : Lists) (kept : Kept) (covers : ℕ → ℕ) (n : ℕ) (m : CoveredItem) (p : Place) → IsSaid setup kept covers n m p → Contains (said_within setup kept covers n) m
+pub place_within : (setup : Lists) (kept : Kept) (covers : ℕ → ℕ) (n : ℕ) (m : CoveredItem) (p : Place) → IsSaid setup kept covers n m p → Contains (said_within setup kept covers n) m
 unfolding said_within
 place_within setup kept covers zero m p said = absurd (omega (arith, said.sender))
 place_within setup kept covers (suc n) m p said = ⊎_elim
@@ -104,7 +104,7 @@ place_within setup kept covers (suc n) m p said = ⊎_elim
     (subst (λ (s : ℕ). Contains (said_by setup kept s (covers s)) m) own (place_by setup kept p.0 (covers p.0) p.1 m said.low said.high said.is)))
     (cases_lt p.0 n)
 
-one_of_each : (setup : Lists) (kept : Kept) (covers : ℕ → ℕ) (n : ℕ) → HasOneOfEach (said_within setup kept covers n)
+pub one_of_each : (setup : Lists) (kept : Kept) (covers : ℕ → ℕ) (n : ℕ) → HasOneOfEach (said_within setup kept covers n)
 one_of_each setup kept covers n = λ m o cm co sender number.
     let p = within_place setup kept covers n m cm in
     let q = within_place setup kept covers n o co in

@@ -3,6 +3,7 @@ pub mod Carried
 pub mod Counted
 pub mod Delivered
 pub mod Ending
+pub mod Known
 pub mod Lasting
 pub mod Looking
 pub mod Losses

@@ -12,6 +12,7 @@ ghost use Rattle.office_http.specs.Lasting.{Lasts};
 ghost use Rattle.office_http.specs.Outcome.{testing_after, testing_text};
 ghost use Rattle.office_http.specs.State.{IsSound, state_of, answer_to, AnswersDelivery, reports_at};
 
+use crate::covered::KnownFacts;
 use crate::faults::{DeliverFault, Held, Progress, StoreFault};
 use crate::posting::deliver;
 use crate::runs::{ready_count, settle};
@@ -24,7 +25,7 @@ use std::marker::Model;
 use testing_rules::Testing;
 
 /// An office over a store, of which its contracts speak. Beside it stand for each sender how many numbers are known to be
-/// kept, and the run orders that were read.
+/// kept, the run orders that were read, and the facts of the mail that the last run covered.
 #[derive(Drop)]
 pub struct Office<K: Keeper> {
     alloc: Global,
@@ -32,17 +33,21 @@ pub struct Office<K: Keeper> {
     keeper: K,
     counts: Vec<u32>,
     orders: Vec<RunOrder>,
+    known: Option<KnownFacts>,
 }
 
 impl<K: Keeper> Model for Office<K> {
-    ghost use Rattle.std.specs.Prelude.{◌≡◌};
+    ghost use Rattle.std.specs.Prelude.{◌≡◌, IfSome};
+    ghost use Rattle.office_http.specs.Known.{AreKnown};
     ghost use Rattle.office_http.specs.Ready.{IsCounted};
 
     ghost Value = { K };
 
     ghost view = { λ a. a.keeper };
 
-    ghost invariant = { λ a. (K.setup a.keeper ≡ a.setup) × (K.is_trusted a.keeper → IsCounted a.setup (K.content a.keeper) a.counts.items a.orders.items) };
+    ghost invariant = { λ a. (K.setup a.keeper ≡ a.setup)
+        × (K.is_trusted a.keeper → IsCounted a.setup (K.content a.keeper) a.counts.items a.orders.items)
+        × (K.is_trusted a.keeper → IfSome a.known (λ known. AreKnown a.setup (K.content a.keeper).kept known)) };
 }
 
 impl<K: Keeper> Office<K> {
@@ -57,6 +62,7 @@ impl<K: Keeper> Office<K> {
             keeper,
             counts: Vec::new(alloc),
             orders: Vec::new(alloc),
+            known: None,
         }
     }
 
@@ -70,6 +76,7 @@ impl<K: Keeper> Office<K> {
             keeper,
             counts: _,
             orders: _,
+            known: _,
         } = self;
         keeper
     }
@@ -146,6 +153,7 @@ impl<K: Keeper> Office<K> {
             &mut self.keeper,
             &mut self.counts,
             &mut self.orders,
+            &mut self.known,
         )?;
         Ok(Progress {
             ready: finished,

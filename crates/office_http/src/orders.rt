@@ -165,7 +165,7 @@ fn count_on<K: Keeper>(
 }
 
 /// Makes room for a sender's count, 0 at first. It fails for want of memory alone; no count changes.
-fn make_room(counts: &mut Vec<u32>, sender: u32) -> Result<(), StoreFault>
+pub fn make_room(counts: &mut Vec<u32>, sender: u32) -> Result<(), StoreFault>
     ensures same { (s : ℕ) → slice_index counts.new.items s ≡ slice_index counts.old.items s }
     ensures room { OnOk result (sender < length counts.new.items) }
     ensures no_store { IfErr result (λ fault. fault ≡ StoreFault.NoMemory) }

@@ -1,7 +1,6 @@
-use Rattle.testing_rules.specs.Suite.{Suite}
-use Rattle.testing_rules.specs.StandsFor.{StandsFor}
+use Rattle.std.proofs.Common.{◌≡◌, ◌<◌, ◌≤◌, ℕ, slice_index}
 use Rattle.office_mail.specs.Runs.{cover_of}
-use Rattle.office_http.specs.Walk.{said_within}
+use Rattle.office_http.specs.Known.{FactsStand}
 use Rattle.office_http.proofs.LookFacts.{Looked}
 use Rattle.office_http.proofs.covered.facts.Given as goal
 
@@ -10,6 +9,8 @@ invariant-senders g l =
     let trusted = g.K.Keeper.is_trusted in
     let content = g.K.Keeper.content in
     record {
-      facts : trusted l.keeper → (t : Suite) → StandsFor l.facts (said_within l.setup (content l.fn.keeper).kept (cover_of l.orders) l.sender) t;
+      stand : trusted l.keeper → FactsStand l.setup (content l.fn.keeper).kept l.known;
+      done : (s : ℕ) → s < l.sender → slice_index l.known.taken.items s ≡ cover_of l.orders s;
+      ahead : (s : ℕ) → slice_index l.known.taken.items s ≤ cover_of l.orders s;
       looks : Looked g.K.Keeper l.fn.keeper l.keeper;
     }

@@ -1,9 +1,7 @@
-use Rattle.std.proofs.Common.{ℕ, ◌++◌, sym, subst, arith}
-use Rattle.testing_rules.specs.Covered.{Covered}
+use Rattle.std.proofs.Common.{ℕ, ◌++◌, subst, arith}
 use Rattle.testing_rules.specs.StandsFor.{StandsFor}
 use Rattle.office_store.specs.Content.{Content}
 use Rattle.office_http.specs.Walk.{said_by}
-use Rattle.office_http.proofs.WalkFacts.{said_by-none}
 use Rattle.office_http.proofs.LookFacts.{looked_none, looked_then}
 use Rattle.office_http.proofs.covered.take_sender.Goals as goal
 
@@ -11,8 +9,8 @@ pub loads-init : goal.loads-init
 loads-init g c =
     let content : Content = g.K.Keeper.content c.args.keeper.now in
     record {
-      within = omega arith;
-      taken = λ trusted s t h. subst (λ (l : Covered). StandsFor c.args.facts.now (l ++ s) t) (sym (said_by-none c.args.setup.now content.kept c.args.sender)) h;
+      within = c.requires.within;
+      taken = λ trusted s t h. h;
       looks = looked_none g.K.Keeper c.args.keeper.now;
     }
 

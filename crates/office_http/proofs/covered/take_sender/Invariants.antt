@@ -12,7 +12,7 @@ invariant-loads g l =
     let content = g.K.Keeper.content in
     record {
       within : l.taken ≤ l.cover;
-      taken : trusted l.keeper → (s : Covered) (t : Suite) → StandsFor l.fn.facts s t → StandsFor l.facts (said_by l.setup (content l.fn.keeper).kept l.sender l.taken ++ s) t;
+      taken : trusted l.keeper → (s : Covered) (t : Suite) → StandsFor l.fn.facts (said_by l.setup (content l.fn.keeper).kept l.sender l.fn.taken ++ s) t → StandsFor l.facts (said_by l.setup (content l.fn.keeper).kept l.sender l.taken ++ s) t;
       looks : Looked g.K.Keeper l.fn.keeper l.keeper;
     }
 

@@ -1,13 +1,20 @@
-use Rattle.std.proofs.Common.{◌≡◌, ◌+◌, List, length, sym, ap, subst, ◌∙◌, arith}
+use Rattle.std.proofs.Common.{◌≡◌, ◌+◌, List, Option, IfSome, length, sym, ap, subst, ◌∙◌, arith}
+use Rattle.std.specs.FinMap.{get}
+use Rattle.std.proofs.lemmas.List.{length_push}
 use Rattle.office_mail.specs.declared.message.RunOrder.{RunOrder}
+use Rattle.office_mail.specs.Kept.{Kept}
 use Rattle.office_mail.specs.Lists.{Lists}
 use Rattle.office_mail.specs.Runs.{IsReady}
 use Rattle.office_store.specs.Content.{Content, with_run}
 use Rattle.office_store.specs.Given.{AreOwnTexts}
+use Rattle.office_http.specs.declared.covered.KnownFacts.{KnownFacts}
+use Rattle.office_http.specs.Known.{FactsStand}
 use Rattle.office_http.specs.Outcome.{outcome_of}
-use Rattle.office_http.specs.Ready.{FirstOrders}
+use Rattle.office_http.specs.Ready.{FirstOrders, HasEach}
 use Rattle.office_http.specs.State.{IsOffice}
+use Rattle.office_http.proofs.CountFacts.{IsCounted-later}
 use Rattle.office_http.proofs.FinishFacts.{IsOffice-finished}
+use Rattle.office_http.proofs.TakenFacts.{if_known-counted, if_stand}
 use Rattle.office_http.proofs.runs.finish_next.Goals as goal
 
 pub returns-clause-office : goal.returns-clause-office
@@ -63,3 +70,61 @@ returns-clause-legible g c = λ trusted legible office.
     let lists : g.K.Keeper.setup c.next_outcome.new.keeper ≡ setup = at2.looks.setup ∙ at1.looks.setup ∙ c.requires.lists in
     let own : AreOwnTexts (g.K.Keeper.setup c.next_outcome.new.keeper) late.kept = subst (λ (u : Lists). AreOwnTexts u late.kept) (sym lists) (subst (λ (m : Content). AreOwnTexts setup m.kept) (sym same) office.texts) in
     at3.legible trusted (at2.looks.legible t2 (at1.looks.legible t1 legible)) own
+
+pub next_outcome-requires-clause-known : goal.next_outcome-requires-clause-known
+next_outcome-requires-clause-known g c = λ trusted.
+    let setup = c.args.setup.now in
+    let content = g.K.Keeper.content in
+    let before : Option KnownFacts = c.args.known.now in
+    let at1 = c.in_ok-next_is_ready.ensures in
+    let was = if_stand setup (content c.args.keeper.now).kept before (c.requires.facts (at1.looks.before trusted)) in
+    subst (λ (o : Option KnownFacts). IfSome o (λ known. FactsStand setup (content c.next_is_ready.new.keeper).kept known)) (sym c.take.ensures.value)
+    (subst (λ (m : Content). IfSome before (λ known. FactsStand setup m.kept known)) (sym (at1.looks.same trusted)) was)
+
+pub returns-clause-known : goal.returns-clause-known
+returns-clause-known g c = λ trusted.
+    let content = g.K.Keeper.content in
+    let old : Content = content c.args.keeper.now in
+    let late : Content = content c.next_outcome.new.keeper in
+    let new : Content = content c.finish.new.keeper in
+    let at3 = c.in_ok-finish.ensures in
+    let t2 = at3.before trusted in
+    let at2 = c.in_ok-done.ensures in
+    let t1 = at2.looks.before t2 in
+    let at1 = c.in_ok-next_is_ready.ensures in
+    let same : late ≡ old = at2.looks.same t2 ∙ at1.looks.same t1 in
+    let kept : new.kept ≡ old.kept = at3.mail trusted ∙ ap (λ (m : Content). m.kept) same in
+    let more = ap length (at3.reports trusted) ∙ length_push late.reports _ in
+    IsCounted-later c.args.setup.now old new c.next_is_ready.new.counts.items c.next_is_ready.new.orders.items (λ p some. ap (λ (k : Kept). get k p) kept)
+    (omega (arith, more, ap (λ (m : Content). length m.reports) same)) (at1.known t1)
+
+pub returns-clause-facts : goal.returns-clause-facts
+returns-clause-facts g c = λ trusted.
+    let setup = c.args.setup.now in
+    let content = g.K.Keeper.content in
+    let old : Content = content c.args.keeper.now in
+    let mid : Content = content c.next_is_ready.new.keeper in
+    let late : Content = content c.next_outcome.new.keeper in
+    let new : Content = content c.finish.new.keeper in
+    let at3 = c.in_ok-finish.ensures in
+    let t2 = at3.before trusted in
+    let at2 = c.in_ok-done.ensures in
+    let t1 = at2.looks.before t2 in
+    let at1 = c.in_ok-next_is_ready.ensures in
+    let kept : new.kept ≡ mid.kept = at3.mail trusted ∙ ap (λ (m : Content). m.kept) (at2.looks.same t2) in
+    let was : new.kept ≡ old.kept = kept ∙ ap (λ (m : Content). m.kept) (at1.looks.same t1) in
+    let numbers : HasEach new.kept c.deref-2.result.now = subst (HasEach new.kept) (sym c.deref-2.ensures.value) (subst (λ (k : Kept). HasEach k c.next_is_ready.new.counts.items) (sym was) (at1.known t1).numbers) in
+    if_known-counted setup new.kept c.deref-2.result.now c.in_ok-done.facts c.counted.result
+    (subst (λ (k : Kept). FactsStand setup k c.in_ok-done.facts) (sym kept) (at2.facts t2)) numbers c.counted.ensures.same c.counted.ensures.within
+
+pub returns-clause-reports : goal.returns-clause-reports
+returns-clause-reports g c = λ trusted.
+    let content = g.K.Keeper.content in
+    let late : Content = content c.next_outcome.new.keeper in
+    let at3 = c.in_ok-finish.ensures in
+    let t2 = at3.before trusted in
+    let at2 = c.in_ok-done.ensures in
+    let t1 = at2.looks.before t2 in
+    let at1 = c.in_ok-next_is_ready.ensures in
+    let same = ap (λ (m : Content). length m.reports) (at2.looks.same t2 ∙ at1.looks.same t1) in
+    omega (arith, ap length (at3.reports trusted) ∙ length_push late.reports _, same, c.requires.finished (at1.looks.before t1))

@@ -13,10 +13,10 @@ pub returns-clause-outcome : goal.returns-clause-outcome
 returns-clause-outcome g c = λ trusted office first size same.
     let setup = c.args.setup.now in
     let content : Content = g.K.Keeper.content c.args.keeper.now in
-    let facts = c.in_ok-facts.facts in
+    let facts = c.in_ok-facts.facts.facts in
     let earlier = c.in_ok-testing.ensures.looks.before trusted in
     let testing : c.in_ok-testing.testing ≡ content.testing = c.in_ok-testing.ensures.value trusted ∙ ap (λ (m : Content). m.testing) (c.in_ok-facts.ensures.looks.same earlier) in
-    next_run setup content c.args.orders.now c.args.run c.in-Some.date facts c.in_ok-testing.testing c.in_ok-run_rules.field-0 office first size same testing c.in-Some.ensures (c.in_ok-facts.ensures.facts earlier) c.in_ok-run_rules.ensures.ok
+    next_run setup content c.args.orders.now c.args.run c.in-Some.date facts c.in_ok-testing.testing c.in_ok-left.left office first size same testing c.in-Some.ensures (c.in_ok-facts.ensures.facts earlier) c.in_ok-left.ensures.ok
 
 pub returns-clause-given : goal.returns-clause-given
 returns-clause-given g c = λ trusted own.
@@ -27,8 +27,8 @@ returns-clause-given g c = λ trusted own.
     let t : Suite = c.in_ok-testing.testing in
     let earlier = c.in_ok-testing.ensures.looks.before trusted in
     let testing : t ≡ content.testing = c.in_ok-testing.ensures.value trusted ∙ ap (λ (m : Content). m.testing) (c.in_ok-facts.ensures.looks.same earlier) in
-    given_by_mail setup content covers n t c.in_ok-run_rules.field-0.testing own testing
-    (c.in_ok-run_rules.ensures.given (said_within setup content.kept covers n) (c.in_ok-facts.ensures.facts earlier t))
+    given_by_mail setup content covers n t c.in_ok-left.left.testing own testing
+    (c.in_ok-left.ensures.given (said_within setup content.kept covers n) (c.in_ok-facts.ensures.facts earlier t))
 
 pub returns-clause-known : goal.returns-clause-known
 returns-clause-known g c = λ trusted.
@@ -39,5 +39,8 @@ returns-clause-known g c = λ trusted.
     let earlier = c.in_ok-testing.ensures.looks.before trusted in
     let lists : g.K.Keeper.setup c.testing.new.keeper ≡ setup = c.in_ok-testing.ensures.looks.setup ∙ c.in_ok-facts.ensures.looks.setup ∙ c.requires.lists in
     let s : Covered = said_within setup content.kept covers (length setup.senders) in
-    known_by_mail setup (g.K.Keeper.setup c.testing.new.keeper).archs s t c.in_ok-run_rules.field-0.testing (ap (λ (u : Lists). u.archs) lists) c.in_ok-testing.ensures.archs
-    (c.in_ok-run_rules.ensures.given s (c.in_ok-facts.ensures.facts earlier t))
+    known_by_mail setup (g.K.Keeper.setup c.testing.new.keeper).archs s t c.in_ok-left.left.testing (ap (λ (u : Lists). u.archs) lists) c.in_ok-testing.ensures.archs
+    (c.in_ok-left.ensures.given s (c.in_ok-facts.ensures.facts earlier t))
+
+pub returns-clause-facts : goal.returns-clause-facts
+returns-clause-facts g c = λ trusted. c.in_ok-facts.ensures.known (c.in_ok-testing.ensures.looks.before trusted)
