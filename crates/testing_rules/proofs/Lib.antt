@@ -45,6 +45,7 @@ pub mod Arranging
 pub mod Trying
 pub mod Flags
 pub mod Judging
+pub mod NewsGroups
 pub mod OwnPart
 pub mod KeyOrder
 pub mod Unboxed

@@ -1,15 +1,8 @@
 -- Of a ground only what is about a source tells on its excuse.
-use Rattle.std.specs.Prelude.{ℕ, ◌+◌, ◌<◌, ◌==◌, Bool, true, false, cond, not, ◌&&◌, ◌||◌, nat_lt, List, [], ◌∷◌, ◌++◌, length, take, get_or, map, filter, fold, Option, unwrap_or, Vec}
+use Rattle.std.specs.Prelude.{ℕ, ◌+◌, ◌<◌, ◌==◌, Bool, true, false, cond, not, ◌&&◌, ◌||◌, nat_lt, List, [], ◌∷◌, ◌++◌, length, take, get_or, map, filter, fold, Option, unwrap_or, IsTrue}
 use Rattle.std.proofs.Common.{◌≡◌, refl, sym, ap, ◌∙◌, append_assoc, append-nil}
 use Rattle.std.specs.List.{list_any}
 use Rattle.std.specs.Str.{bytes_eq}
-use Rattle.std.specs.Option.{option_map_or}
-use Rattle.std.specs.BTreeMap.{BTreeMap, is_at}
-use Rattle.std.specs.Map.{lookup}
-use Rattle.std.specs.Borrow.{Bor}
-use Rattle.std.specs.Ordering.{nat_cmp}
-use Rattle.std.specs.Cmp.Lexicographic.{slice_cmp}
-use Rattle.std.specs.declared.alloc.Global.{Global}
 use Rattle.std.proofs.lemmas.Bool.{false≢true}
 use Rattle.std.proofs.lemmas.List.{take_more}
 use Rattle.std.proofs.lemmas.List.Elements.{filter-append}
@@ -19,6 +12,7 @@ use Rattle.testing_rules.specs.declared.facts.BugIn.{BugIn}
 use Rattle.testing_rules.specs.declared.facts.HintIn.{HintIn}
 use Rattle.testing_rules.specs.declared.facts.Delays.{Delays}
 use Rattle.testing_rules.specs.declared.suite.RowIn.{RowIn}
+use Rattle.testing_rules.specs.declared.by_source.News.{News}
 use Rattle.testing_rules.specs.declared.excuse.Excuse.{Excuse}
 use Rattle.testing_rules.specs.declared.excuse.Reason.{Reason}
 use Rattle.testing_rules.specs.declared.excuse.Reason.TheVariants.{TooYoung, NewBug, NoBinaries, MissingOn, Blocked, RemovalAsked}
@@ -27,7 +21,7 @@ use Rattle.testing_rules.specs.Words.{Text, only_if}
 use Rattle.testing_rules.specs.Suite.{Suite}
 use Rattle.testing_rules.specs.Unstable.{is_of_source, is_current}
 use Rattle.testing_rules.specs.Excuses.{Ground, more_urgent, days_of, counts, hinted_days, days_needed, age_of, is_new_bug, has_row_on, has_current_on, is_missing_on, has_current, is_blocked, is_removal_asked, reasons_of, excuse_on, excuses_on, testing_version, is_news}
-use Rattle.testing_rules.specs.BySource.{group_at, part_of, excuses_by}
+use Rattle.testing_rules.specs.BySource.{part_of, told_of, news_of, is_among, excuses_by}
 use Rattle.testing_rules.proofs.MoreMail.{filter-same}
 use Rattle.testing_rules.proofs.Grounds.{map-same}
 
@@ -153,12 +147,38 @@ module _ (places : List ℕ) (g : Ground) (testing : Option Text) (u : UploadIn)
       ap (λ n. told n (reasons_of places part.rows part.bugs g.hints testing (nat_lt (age_of g.date u) n) u)) same_days
       ∙ ap (told (days_needed g.delays g.hints g.uploads testing u)) (same_reasons (nat_lt (age_of g.date u) (days_needed g.delays g.hints g.uploads testing u)))
 
+named_first : (b : Bool) (name : Text) (rest : Bool) → b ≡ true → IsTrue (b || rest)
+named_first true name rest h = refl
+named_first false name rest h = absurd (false≢true h)
+
+named_later : (b rest : Bool) → IsTrue rest → IsTrue (b || rest)
+named_later true rest h = refl
+named_later false rest h = h
+
+bytes_eq-itself : (a : Text) → bytes_eq a a ≡ true
+bytes_eq-itself a = (bytes_eq-Decides a a).1 refl
+
 -- so the excuses over grounds of the sources are those over the whole
-pub excuses-by_parts : (places : List ℕ) (g : Ground) (by : Text → Ground) → ((name : Text) → by name ≡ part_of g name)
-    → (t : Suite) (sources : List UploadIn) → excuses_by places by t sources ≡ excuses_on places g t sources
-excuses-by_parts places g by h t sources =
-    map-same _ _ (λ u. ap (λ p. excuse_on places p (testing_version t u.source) u) (h u.source) ∙ own-part places g (testing_version t u.source) u)
-    (filter (λ u. is_news (testing_version t u.source) u.version) sources)
+module _ (places : List ℕ) (g : Ground) (by : Text → Ground) where
+  by_parts : (news : List News) → ((name : Text) → IsTrue (is_among news name) → by name ≡ part_of g name)
+      → excuses_by places by (map told_of news) ≡ excuses_by places (λ _. g) (map told_of news)
+  by_parts [] h = refl
+  by_parts (n ∷ news) h =
+      let u = n.upload.now in
+      let own : excuse_on places (by u.source) (told_of n).1 u ≡ excuse_on places g (told_of n).1 u =
+          ap (λ p. excuse_on places p (told_of n).1 u) (h u.source (named_first _ u.source (is_among news u.source) (bytes_eq-itself u.source))) ∙ own-part places g (told_of n).1 u in
+      ap (λ e. e ∷ excuses_by places by (map told_of news)) own
+      ∙ ap (λ es. excuse_on places g (told_of n).1 u ∷ es) (by_parts news (λ name among. h name (named_later _ (is_among news name) among)))
+
+  each_over : (t : Suite) (sources : List UploadIn)
+      → excuses_by places (λ _. g) (map (λ (v : UploadIn). (v, testing_version t v.source)) sources) ≡ map (λ u. excuse_on places g (testing_version t u.source) u) sources
+  each_over t [] = refl
+  each_over t (u ∷ sources) = ap (λ es. excuse_on places g (testing_version t u.source) u ∷ es) (each_over t sources)
+
+  pub excuses-by_parts : (news : List News) (t : Suite) (sources : List UploadIn) → map told_of news ≡ news_of t sources
+      → ((name : Text) → IsTrue (is_among news name) → by name ≡ part_of g name) → excuses_by places by (map told_of news) ≡ excuses_on places g t sources
+  excuses-by_parts news t sources are h =
+      by_parts news h ∙ ap (excuses_by places (λ _. g)) are ∙ each_over t (filter (λ u. is_news (testing_version t u.source) u.version) sources)
 
 -- a ground of its parts
 pub part-is : (g : Ground) (name : Text) {rows : List RowIn} {bugs : List BugIn} {hints : List HintIn} {uploads : List UploadIn} {delays : Delays}
@@ -166,7 +186,3 @@ pub part-is : (g : Ground) (name : Text) {rows : List RowIn} {bugs : List BugIn}
     → uploads ≡ filter (λ u. bytes_eq name u.source) g.uploads → delays ≡ g.delays
     → part_of g name ≡ record { rows = rows; bugs = bugs; hints = hints; uploads = uploads; delays = delays; date = g.date }
 part-is g name er eb eh eu ed = rw (er, eb, eh, eu, ed) refl
-
--- an empty map has nothing of a source
-pub group-none : {A : Type 0} (groups : BTreeMap (Bor Text) (Vec A Global)) (q : Text) → groups.entries ≡ [] → group_at groups q ≡ []
-group-none {A} groups q e = ap (λ es. option_map_or (λ (v : Vec A Global). v.items) (lookup (is_at (λ (k : Bor Text). slice_cmp nat_cmp q k.now)) es) []) e

@@ -1,16 +1,17 @@
--- What a run has of each source, found by the source's name.
-use Rattle.std.specs.Prelude.{ℕ, List, [], Vec, map, filter}
-use Rattle.std.specs.Option.{option_map_or}
+-- What a run has of each source that is news, found by the source's name.
+use Rattle.std.specs.Prelude.{ℕ, Bool, cond, List, [], ◌∷◌, ◌++◌, Option, Vec, map, filter, unwrap_or, option_map, option_copied}
+use Rattle.std.specs.List.{list_any}
 use Rattle.std.specs.Str.{bytes_eq}
-use Rattle.std.specs.BTreeMap.{BTreeMap, get_by}
+use Rattle.std.specs.HashMap.{HashMap, get_by}
 use Rattle.std.specs.Borrow.{Bor}
-use Rattle.std.specs.Cmp.Lexicographic.{slice_cmp}
-use Rattle.std.specs.Ordering.{nat_cmp}
 use Rattle.std.specs.declared.alloc.Global.{Global}
+use Rattle.std.specs.declared.hash.FoldHasher.{FoldHasher}
+use Rattle.std.specs.declared.hash.BuildHasherDefault.{BuildHasherDefault}
 use Rattle.jiff.specs.declared.civil.dates.Date.{Date}
 use Rattle.testing_rules.specs.declared.facts.UploadIn.{UploadIn}
 use Rattle.testing_rules.specs.declared.excuse.Excuse.{Excuse}
 use Rattle.testing_rules.specs.declared.by_source.Grouped.{Grouped}
+use Rattle.testing_rules.specs.declared.by_source.News.{News}
 use Rattle.testing_rules.specs.Words.{Text}
 use Rattle.testing_rules.specs.Suite.{Suite}
 use Rattle.testing_rules.specs.FactLists.{FactLists}
@@ -18,9 +19,21 @@ use Rattle.testing_rules.specs.JudgedRows.{lent}
 use Rattle.testing_rules.specs.Unstable.{built_rows, is_standing}
 use Rattle.testing_rules.specs.Excuses.{Ground, excuse_on, testing_version, is_news, delays_in_force}
 
+-- items of each source, by its name
+abbrev pub Groups : Type 0 → Type 0
+Groups A = HashMap (Bor Text) (Vec A Global) (BuildHasherDefault FoldHasher)
+
+-- the group of a source, if it has one
+abbrev pub slot_at : {A : Type 0} → Groups A → Text → Option (List A)
+slot_at groups name = option_map (λ v. v.items) (get_by (λ k. bytes_eq name k.now) groups)
+
 -- what the map has of a source
-abbrev pub group_at : {A : Type 0} → BTreeMap (Bor Text) (Vec A Global) → Text → List A
-group_at groups name = option_map_or (λ v. v.items) (get_by (λ k. slice_cmp nat_cmp name k.now) groups) []
+abbrev pub group_at : {A : Type 0} → Groups A → Text → List A
+group_at groups name = unwrap_or (slot_at groups name) []
+
+-- a source's group once an item that may be its own has come
+abbrev pub joined_by : {A : Type 0} → Bool → A → Option (List A) → Option (List A)
+joined_by is_own item slot = cond is_own (option_map (λ items. items ++ item ∷ []) slot) slot
 
 -- what is known of a source
 abbrev pub ground_at : Grouped → Text → Ground
@@ -55,7 +68,22 @@ ground_from archs f date = record {
   date = date;
 }
 
--- the excuses, where each source has a ground of its own
-abbrev pub excuses_by : List ℕ → (Text → Ground) → Suite → List UploadIn → List Excuse
-excuses_by places known t sources =
-    map (λ u. excuse_on places (known u.source) (testing_version t u.source) u) (filter (λ u. is_news (testing_version t u.source) u.version) sources)
+-- a source that is news, and testing's version of it
+abbrev pub told_of : News → UploadIn × Option Text
+told_of n = (n.upload.now, option_copied n.testing)
+
+-- the sources that are news, each with testing's version of it
+abbrev pub news_of : Suite → List UploadIn → List (UploadIn × Option Text)
+news_of t sources = map (λ u. (u, testing_version t u.source)) (filter (λ u. is_news (testing_version t u.source) u.version) sources)
+
+-- one of the sources that are news has the name
+abbrev pub is_among : List News → Text → Bool
+is_among news name = list_any (λ n. bytes_eq name n.upload.now.source) news
+
+-- the excuse of a source that is news, where each has a ground of its own
+abbrev pub excuse_by : List ℕ → (Text → Ground) → UploadIn × Option Text → Excuse
+excuse_by places known news = excuse_on places (known news.0.source) news.1 news.0
+
+-- the excuses of such sources
+abbrev pub excuses_by : List ℕ → (Text → Ground) → List (UploadIn × Option Text) → List Excuse
+excuses_by places known news = map (excuse_by places known) news

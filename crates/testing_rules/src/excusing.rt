@@ -1,8 +1,8 @@
 //! The excuses of a run.
 
-ghost use Rattle.std.specs.Prelude.{◌≡◌, IfOk, filter, option_copied};
+ghost use Rattle.std.specs.Prelude.{◌≡◌, IfOk, IsTrue, filter, map, option_copied};
 ghost use Rattle.testing_rules.specs.Boxed.{unboxed};
-ghost use Rattle.testing_rules.specs.BySource.{excuses_by, ground_at, ground_from, part_of};
+ghost use Rattle.testing_rules.specs.BySource.{excuse_by, excuses_by, ground_at, ground_from, is_among, news_of, part_of, told_of};
 ghost use Rattle.testing_rules.specs.Covered.{Covered};
 ghost use Rattle.testing_rules.specs.StandsFor.{StandsFor};
 ghost use Rattle.testing_rules.specs.Excuses as rules;
@@ -13,7 +13,7 @@ ghost use Rattle.testing_rules.specs.Words.{Text};
 use crate::archs::Archs;
 use crate::built::built_rows;
 use crate::by_source::{
-    Found, Grouped, bugs_by_source, found_of, rows_by_source, uploads_by_source,
+    Found, Grouped, News, bugs_by_source, found_of, rows_by_source, uploads_by_source,
 };
 use crate::days::{age_of, days_needed, delays_in_force, is_news};
 use crate::excuse::{Excuse, Excuses};
@@ -78,42 +78,76 @@ fn excuse_on(
     })
 }
 
-/// An excuse for each source that is above testing's version or isn't in testing.
+/// A source, with testing's version of it.
+fn told<'a>(upload: &'a UploadIn, testing: Option<&'a Version>) -> News<'a>
+    ensures { told_of result ≡ (upload.now, option_copied testing.entry) }
+{
+    News { upload, testing }
+}
+
+/// The sources that are above testing's version or aren't in testing.
+fn news_of<'a>(
+    alloc: Global,
+    testing: &'a Testing,
+    sources: &'a [Box<UploadIn>],
+) -> Result<Vec<News<'a>>, NoMemory>
+    ensures { IfOk result (λ news. map told_of news.items ≡ news_of testing.now (unboxed sources.now)) }
+{
+    let mut news = Vec::new(alloc);
+    'sources: for upload in sources {
+        let version = testing_version(testing, upload.source.as_str());
+        if is_news(version, &upload.version) {
+            news.push(told(upload, version))?;
+        }
+    }
+    Ok(news)
+}
+
+/// The excuse of a source that is news.
+fn excuse_of(
+    alloc: Global,
+    archs: &Archs,
+    grouped: &Grouped,
+    source: &News,
+) -> Result<Excuse, NoMemory>
+    ensures { IfOk result (λ e. e ≡ excuse_by (place_numbers archs.now) (ground_at grouped.now) (told_of source.now)) }
+{
+    let found = found_of(grouped, source.upload.source.as_str());
+    excuse_on(alloc, archs, &found, source.testing, source.upload)
+}
+
+/// The excuse of each source that is news.
 fn excuses_on(
     alloc: Global,
     archs: &Archs,
     grouped: &Grouped,
-    testing: &Testing,
-    sources: &[Box<UploadIn>],
+    news: &[News],
 ) -> Result<Vec<Excuse>, NoMemory>
-    ensures { IfOk result (λ es. es.items ≡ excuses_by (place_numbers archs.now) (ground_at grouped.now) testing.now (unboxed sources.now)) }
+    ensures { IfOk result (λ es. es.items ≡ excuses_by (place_numbers archs.now) (ground_at grouped.now) (map told_of news.now)) }
 {
     let mut excuses = Vec::new(alloc);
-    'sources: for upload in sources {
-        let version = testing_version(testing, upload.source.as_str());
-        if is_news(version, &upload.version) {
-            let found = found_of(grouped, upload.source.as_str());
-            excuses.push(excuse_on(alloc, archs, &found, version, upload)?)?;
-        }
+    for source in news {
+        excuses.push(excuse_of(alloc, archs, grouped, source)?)?;
     }
     Ok(excuses)
 }
 
-/// What the facts give to each source.
+/// What the facts give to each source that is news.
 fn group_facts<'a>(
     alloc: Global,
     archs: &Archs,
     facts: &'a Facts,
     date: Date,
+    news: &[News<'a>],
 ) -> Result<Grouped<'a>, NoMemory>
-    ensures { IfOk result (λ g. (name : Text) → ground_at g name ≡ part_of (ground_from archs.now facts.now date) name) }
+    ensures { IfOk result (λ g. (name : Text) → IsTrue (is_among news.now name) → ground_at g name ≡ part_of (ground_from archs.now facts.now date) name) }
 {
     let rows = built_rows(alloc, archs, facts.rows())?;
     Ok(Grouped {
-        rows: rows_by_source(alloc, &rows)?,
-        bugs: bugs_by_source(alloc, facts.bugs())?,
+        rows: rows_by_source(alloc, news, &rows)?,
+        bugs: bugs_by_source(alloc, news, facts.bugs())?,
         hints: standing(alloc, facts.hints(), facts.unhints())?,
-        uploads: uploads_by_source(alloc, facts.uploads())?,
+        uploads: uploads_by_source(alloc, news, facts.uploads())?,
         delays: delays_in_force(facts.delays()),
         date,
     })
@@ -129,7 +163,8 @@ pub fn excuses(
 ) -> Result<Excuses, NoMemory>
     ensures { IfOk result (λ es. (s : Covered) → StandsFor facts.now s testing.now → es ≡ rules.excuses_of archs.now s testing.now date) }
 {
-    let grouped = group_facts(alloc, archs, facts, date)?;
-    let excuses = excuses_on(alloc, archs, &grouped, testing, facts.sources())?;
+    let news = news_of(alloc, testing, facts.sources())?;
+    let grouped = group_facts(alloc, archs, facts, date, &news)?;
+    let excuses = excuses_on(alloc, archs, &grouped, &news)?;
     Ok(Excuses::of(excuses))
 }

@@ -1,23 +1,14 @@
-use Rattle.std.proofs.Common.{arith, ◌∙◌, ap, ◌<◌, ◌∷◌, [], ◌++◌, length, get_or, cond}
+use Rattle.std.proofs.Common.{arith, ◌∙◌, ap}
 use Rattle.std.specs.Str.{bytes_eq}
 use Rattle.testing_rules.specs.declared.facts.UploadIn.{UploadIn}
-use Rattle.testing_rules.specs.BySource.{group_at}
-use Rattle.testing_rules.proofs.OwnPart.{grouped-more, group-none}
+use Rattle.testing_rules.specs.BySource.{slot_at, joined_by, is_among}
+use Rattle.testing_rules.proofs.NewsGroups.{joined}
 use Rattle.testing_rules.proofs.by_source.uploads_by_source.Goals as goal
-
-pub loop-upload-init : goal.loop-upload-init
-loop-upload-init c = λ q. group-none c.new-groups.result q c.new-groups.ensures.empty
 
 pub loop-upload-preserved : goal.loop-upload-preserved
 loop-upload-preserved c = λ q.
-    let xs = c.args.uploads.now in
-    let i = c.loop-upload.upload-index in
-    let d = c.upload-item.result in
-    let below : i < length xs = omega arith in
+    let uploads = c.args.uploads.now in
     let own = λ (x : UploadIn). bytes_eq q x.source in
-    let old = group_at c.loop-upload.groups q in
-    let named = c.as_str.ensures ∙ ap (λ (x : UploadIn). x.source) c.upload-item.is in
-    grouped-more own xs i d below old (group_at c.note.new.groups q) (c.loop-upload.invariant q)
-    (c.in_ok-note.ensures q
-    ∙ ap (λ s. cond (bytes_eq q s) (old ++ c.in_ok-copy.field-0 ∷ []) old) named
-    ∙ ap (λ x. cond (own (get_or xs i d)) (old ++ x ∷ []) old) (c.in_ok-copy.ensures ∙ c.upload-item.is))
+    let old = slot_at c.loop-upload.groups q in
+    joined own uploads c.loop-upload.upload-index c.upload-item.result (omega arith) (is_among c.args.news.now q) old (slot_at c.join_upload.new.groups q) (c.loop-upload.invariant q)
+    (c.in_ok-join_upload.ensures q ∙ ap (λ (x : UploadIn). joined_by (own x) x old) c.upload-item.is)

@@ -1,8 +1,8 @@
-use Rattle.std.proofs.Common.{ap, ◌∙◌}
+use Rattle.std.proofs.Common.{ap, ◌∙◌, sym, subst, map, IsTrue}
 use Rattle.testing_rules.specs.Boxed.{unboxed}
 use Rattle.testing_rules.specs.Unstable.{place_numbers}
 use Rattle.testing_rules.specs.Excuses.{excuses_on}
-use Rattle.testing_rules.specs.BySource.{ground_at, ground_from}
+use Rattle.testing_rules.specs.BySource.{excuses_by, ground_at, ground_from, is_among, told_of}
 use Rattle.testing_rules.proofs.OwnPart.{excuses-by_parts}
 use Rattle.testing_rules.proofs.Grounds.{same-excuses}
 use Rattle.testing_rules.proofs.excusing.excuses.Goals as goal
@@ -14,8 +14,11 @@ returns c = λ s h.
     let t = c.args.testing.now in
     let places = place_numbers archs in
     let g = ground_from archs f c.args.date in
+    let known = ground_at c.in_ok-grouped.grouped in
     c.of.ensures
     ∙ c.in_ok-excuses.ensures
-    ∙ excuses-by_parts places g (ground_at c.in_ok-grouped.grouped) c.in_ok-grouped.ensures t (unboxed c.sources.result.now)
+    ∙ ap (λ news. excuses_by places known (map told_of news)) c.deref-2.ensures.value
+    ∙ excuses-by_parts places g known c.in_ok-news.news.items t (unboxed c.sources.result.now) c.in_ok-news.ensures
+    (λ name among. c.in_ok-grouped.ensures name (subst (λ news. IsTrue (is_among news name)) (sym c.deref.ensures.value) among))
     ∙ ap (excuses_on places g t) c.sources.ensures.sources
     ∙ same-excuses archs f s t c.args.date h
