@@ -265,16 +265,16 @@ fn is_named(archs: &Archs, arch: u32, binary: &Binary, name: &[u8]) -> bool
             && archs.name(arch) == binary.architecture.as_str())
 }
 
-/// The row that a build gives for an entry, where it has a binary of that name and architecture at its place.
-fn row_named(
+/// The row that a binary gives for an entry, where it is of that name and architecture.
+fn row_in(
     alloc: Global,
     archs: &Archs,
-    message: Message,
+    binary: Option<&Binary>,
     entry: &RowEntry<'_>,
 ) -> Result<Option<RowIn>, NoMemory>
-    ensures named { IfOk result (λ row. row ≡ row_as archs.now entry.now.arch entry.now.name.now entry.now.sender entry.now.number entry.now.place (binary_in entry.now.place message.body)) }
+    ensures named { IfOk result (λ row. row ≡ row_as archs.now entry.now.arch entry.now.name.now entry.now.sender entry.now.number entry.now.place (option_copied binary.entry)) }
 {
-    let Some(binary) = binary_at(&message, entry.place) else {
+    let Some(binary) = binary else {
         return Ok(None);
     };
     if !is_named(archs, entry.arch, binary, entry.name) {
@@ -287,6 +287,18 @@ fn row_named(
         number: entry.number,
         place: entry.place,
     }))
+}
+
+/// The row that a build gives for an entry, where it has a binary of that name and architecture at its place.
+fn row_named(
+    alloc: Global,
+    archs: &Archs,
+    message: Message,
+    entry: &RowEntry<'_>,
+) -> Result<Option<RowIn>, NoMemory>
+    ensures named { IfOk result (λ row. row ≡ row_as archs.now entry.now.arch entry.now.name.now entry.now.sender entry.now.number entry.now.place (binary_in entry.now.place message.body)) }
+{
+    row_in(alloc, archs, binary_at(&message, entry.place), entry)
 }
 
 /// The row of testing that a shown row names.
