@@ -4,16 +4,8 @@
 
 mod compare;
 mod conf;
-#[cfg(test)]
-mod http_rows;
-#[cfg(test)]
-mod promotion_rows;
-#[cfg(test)]
-mod rows;
 mod service;
 mod store;
-#[cfg(test)]
-mod stored_rows;
 
 use compare::compare;
 use conf::{conf_status, read_setup};

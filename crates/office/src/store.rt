@@ -11,6 +11,9 @@ ghost use Rattle.office_store.specs.Opening.{IsOpened};
 ghost use Rattle.office_store.specs.Tables.{IsTrusted};
 ghost use Rattle.office.specs.Store.{FindsStore, status_of_store, told};
 
+#[cfg(test)]
+mod tests;
+
 use office_mail::Setup;
 use office_store::{Cause, OpenFault, Tables};
 use sqlite::{Alter, Connection, ErrorCode, FileFrom, FileStore, Start};

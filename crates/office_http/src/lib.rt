@@ -25,6 +25,3 @@ pub use office::Office;
 pub use replays::{Replayed, replay, replay_bag, replay_status};
 pub use replies::{Delivery, Mark, WriteFault};
 pub use serve::{ServeFault, Served, serve_one};
-
-#[cfg(test)]
-mod tests;

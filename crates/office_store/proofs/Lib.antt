@@ -41,4 +41,3 @@ pub mod WholeWrites
 pub mod LegibleKeep
 pub mod LegibleFinish
 pub mod KeeperFacts
-pub mod EmptyTesting

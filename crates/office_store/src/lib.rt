@@ -23,8 +23,3 @@ pub use memory::Plain;
 pub use on_sqlite::Tables;
 pub use opening::OpenFault;
 pub use values::{Finished, Letter, MailText, Reports};
-
-#[cfg(test)]
-mod opening_tests;
-#[cfg(test)]
-mod tests;

@@ -1,11 +1,16 @@
 // A client of the service on loopback, and the words that start a service.
 use super::{listen, serve_next};
-use crate::rows::new_office;
+use office_http::Office;
+use office_mail::Setup;
+use office_store::Plain;
 use office_words::{Words, WordsFault, read_words};
 use std::io;
 use std::io::Write;
 use std::net::TcpStream;
 use std::test::Fail;
+
+const SETUP: &str =
+    "Architectures: amd64\n\nSender: ftp\nRole: upload\n\nSender: bd\nRole: build\n\nSender: bts\nRole: bugs\n\nSender: rt\nRole: release\n\nSender: clock\nRole: runs\n";
 
 const STATUS: &[u8] = b"GET /status HTTP/1.1\r\nHost: x\r\n\r\n";
 
@@ -16,7 +21,9 @@ const NOTHING_READY: &str =
 /// reply to its end.
 #[test]
 fn a_client_on_loopback(rt: HostRuntime) -> Result<(), Fail> {
-    let mut office = new_office(rt.alloc())?;
+    let setup = Setup::parse(rt.alloc(), SETUP.as_bytes())?;
+    let plain = Plain::new(rt.alloc(), &setup)?;
+    let mut office = Office::new(rt.alloc(), setup, plain);
     let listener = listen(&rt, 0)?;
     let mut client = TcpStream::connect(&rt, listener.local_addr()?)?;
     client.write_all(STATUS)?;

@@ -1,6 +1,6 @@
 //! Worked rows of excuses and moves: mail, and what a replay of it shows.
 
-use crate::rows::{bag_of, replayed};
+use crate::replaying::{bag_of, replayed};
 use std::alloc::Global;
 use std::process::Abort;
 use std::test::Fail;

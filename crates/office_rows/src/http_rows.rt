@@ -1,6 +1,6 @@
 //! Worked rows over HTTP: requests, one connection each, and their whole replies.
 
-use crate::rows::new_office;
+use crate::setup::new_office;
 use office_http::{Office, serve_one};
 use office_mail::{FromRead, ToWrite};
 use office_store::Plain;

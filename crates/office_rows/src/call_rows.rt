@@ -1,32 +1,12 @@
-use super::*;
-use office_mail::{BagFault, Field, FromRead, MailFault, Setup, ToWrite};
-use office_store::Plain;
-use std::alloc::Global;
+//! Calls of an office one by one, and replays whose writer or reader fails.
+
+use crate::messages::{BLOCK, BLOCK_RUN};
+use crate::setup::new_office;
+use office_http::{DeliverFault, Held, Progress, Replayed, replay, replay_status};
+use office_mail::{BagFault, Field, FromRead, MailFault, ToWrite};
 use std::io;
 use std::io::{Read, Write};
 use std::test::Fail;
-
-const SETUP: &str = "Architectures: amd64 arm64
-
-Sender: ftp
-Role: upload
-
-Sender: bd
-Role: build
-
-Sender: bts
-Role: bugs
-
-Sender: rt
-Role: release
-
-Sender: clock
-Role: runs
-";
-
-const HINT: &str = "From: rt\nNumber: 1\nKind: hint\nHint: block foo\n";
-
-const RUN: &str = "From: clock\nNumber: 1\nKind: run\nDay: 2025-03-06\nCovers: rt 1\n";
 
 const BAG: &str = "mail 46\nFrom: rt\nNumber: 1\nKind: hint\nHint: block foo\n\
     mail 61\nFrom: clock\nNumber: 1\nKind: run\nDay: 2025-03-06\nCovers: rt 1\n";
@@ -34,15 +14,9 @@ const BAG: &str = "mail 46\nFrom: rt\nNumber: 1\nKind: hint\nHint: block foo\n\
 const OUTPUT: &str = "held rt 1\nheld clock 1\nready 1 finished 1\n\
     excuses 1 2025-03-06\nupdate 1 2025-03-06\ntesting 1\n";
 
-fn office(alloc: Global) -> Result<Office<Plain>, Fail> {
-    let setup = Setup::parse(alloc, SETUP.as_bytes())?;
-    let plain = Plain::new(alloc, &setup)?;
-    Ok(Office::new(alloc, setup, plain))
-}
-
 #[test]
 fn a_run_after_its_mail(rt: HostRuntime) -> Result<(), Fail> {
-    let mut office = office(rt.alloc())?;
+    let mut office = new_office(rt.alloc())?;
     let run = Held {
         sender: 4,
         number: 1,
@@ -53,9 +27,9 @@ fn a_run_after_its_mail(rt: HostRuntime) -> Result<(), Fail> {
     };
     let missing = DeliverFault::Mail(MailFault::MissingField(Field::From));
     let deliveries: [(&str, Result<Held, DeliverFault>); 5] = [
-        (RUN, Ok(run)),
-        (HINT, Ok(hint)),
-        (HINT, Ok(hint)),
+        (BLOCK_RUN, Ok(run)),
+        (BLOCK, Ok(hint)),
+        (BLOCK, Ok(hint)),
         (
             "From: rt\nNumber: 1\nKind: hint\nHint: block bar\n",
             Err(DeliverFault::OtherText),
@@ -120,7 +94,7 @@ impl Write for Halting {
 #[test]
 fn a_writer_that_fails(rt: HostRuntime) -> Result<(), Fail> {
     for (fails_at, status) in [(1, 4), (2, 4), (8, 4), (14, 4), (20, 4), (0, 0)] {
-        let mut office = office(rt.alloc())?;
+        let mut office = new_office(rt.alloc())?;
         let mut writer = Halting {
             taken: Vec::new(rt.alloc()),
             calls: 0,
@@ -178,7 +152,7 @@ fn a_bag_that_is_refused(rt: HostRuntime) -> Result<(), Fail> {
         ),
     ];
     for (fails_at, fault, output) in rows {
-        let mut office = office(rt.alloc())?;
+        let mut office = new_office(rt.alloc())?;
         let reader = Broken {
             bytes: &BAG.as_bytes()[..100],
             calls: 0,

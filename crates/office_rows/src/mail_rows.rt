@@ -1,82 +1,8 @@
-//! Worked rows of the whole office: bags of mail, what a replay of each prints, and its exit status.
+//! Worked rows of mail: bags, what a replay of each prints, and its exit status.
 
-use crate::store::open_tables;
-use office_http::{Office, replay, replay_status};
-use office_mail::{FromRead, Setup, ToWrite};
-use office_store::{Keeper, Plain};
-use sqlite::Connection;
-use std::alloc::Global;
+use crate::messages::{BLOCK, BLOCK_RUN, BUILD, OTHER_DAY, RUN, UPLOAD};
+use crate::replaying::{bag_of, replayed};
 use std::test::Fail;
-
-pub const SETUP: &str = "Architectures: amd64 arm64
-
-Sender: ftp
-Role: upload
-
-Sender: bd
-Role: build
-
-Sender: bts
-Role: bugs
-
-Sender: rt
-Role: release
-
-Sender: clock
-Role: runs
-";
-
-/// The bag of these texts, each behind its line.
-pub fn bag_of(alloc: Global, texts: &[&str]) -> Result<Vec<u8>, Fail> {
-    let mut bag = Vec::new(alloc);
-    for text in texts {
-        let line = format!(in alloc; "mail {}\n", text.len())?;
-        bag.extend_from_slice(line.as_bytes())?;
-        bag.extend_from_slice(text.as_bytes())?;
-    }
-    Ok(bag)
-}
-
-/// An office for the setup, over a store in memory.
-pub fn new_office(alloc: Global) -> Result<Office<Plain>, Fail> {
-    let setup = Setup::parse(alloc, SETUP.as_bytes())?;
-    let plain = Plain::new(alloc, &setup)?;
-    Ok(Office::new(alloc, setup, plain))
-}
-
-/// What a replay of a bag in an office prints, and its exit status.
-pub fn replayed_in<K: Keeper>(alloc: Global, office: &mut Office<K>, bag: &[u8]) -> (Vec<u8>, u8) {
-    let mut output = Vec::new(alloc);
-    let mut writer = ToWrite::new(&mut output);
-    let replayed = replay(office, FromRead::new(bag), &mut writer);
-    (output, replay_status(&replayed))
-}
-
-/// The same in a new office over tables of sqlite in memory.
-fn replayed_in_tables(alloc: Global, bag: &[u8]) -> Result<(Vec<u8>, u8), Fail> {
-    let setup = Setup::parse(alloc, SETUP.as_bytes())?;
-    let conn = Connection::open_in_memory(alloc)?;
-    let tables = open_tables(alloc, conn, &setup)?;
-    let mut office = Office::new(alloc, setup, tables);
-    let came = replayed_in(alloc, &mut office, bag);
-    drop(office.into_keeper().into_connection());
-    Ok(came)
-}
-
-/// The same in a new office; it fails where a store in memory and tables of sqlite don't give the same.
-pub fn replayed(alloc: Global, bag: &[u8]) -> Result<(Vec<u8>, u8), Fail> {
-    let mut office = new_office(alloc)?;
-    let (output, status) = replayed_in(alloc, &mut office, bag);
-    let (told, told_status) = replayed_in_tables(alloc, bag)?;
-    if told.as_slice() != output.as_slice() || told_status != status {
-        Err("another answer over tables")?
-    }
-    Ok((output, status))
-}
-
-const BLOCK: &str = "From: rt\nNumber: 1\nKind: hint\nHint: block foo\n";
-
-const BLOCK_RUN: &str = "From: clock\nNumber: 1\nKind: run\nDay: 2025-03-06\nCovers: rt 1\n";
 
 const FIRST_RUN: &str =
     "ready 1 finished 1\nexcuses 1 2025-03-06\nupdate 1 2025-03-06\ntesting 1\n";
@@ -91,22 +17,11 @@ const FOO_MOVES: &str =
 const FOO_WAITS: &str =
     "ready 2 finished 2\nexcuses 1 2025-03-05\nfoo - 1.0-1\n age 4 of 5\n too young\n not a candidate\nupdate 1 2025-03-05\nexcuses 2 2025-03-06\nfoo - 1.0-1\n age 5 of 5\n candidate\nupdate 2 2025-03-06\naccept foo 1.0-1\ntesting 2\nsource foo 1.0-1\nbinary amd64 foo 1.0-1 foo\n";
 
-const UPLOAD: &str =
-    "From: ftp\nNumber: 1\nKind: upload\nSource: foo\nVersion: 1.0-1\nUrgency: medium\nDay: 2025-03-01\n";
-
-const BUILD: &str =
-    "From: bd\nNumber: 1\nKind: build\n\nPackage: foo\nVersion: 1.0-1\nArchitecture: amd64\n";
-
-const RUN: &str = "From: clock\nNumber: 1\nKind: run\nDay: 2025-03-06\nCovers: ftp 1, bd 1\n";
-
 const EARLY_RUN: &str = "From: clock\nNumber: 1\nKind: run\nDay: 2025-03-05\nCovers: ftp 1, bd 1\n";
 
 const LATE_RUN: &str = "From: clock\nNumber: 1\nKind: run\nDay: 2025-03-06\nCovers: ftp 2, bd 1\n";
 
 const SECOND_RUN: &str = "From: clock\nNumber: 2\nKind: run\nDay: 2025-03-06\nCovers:\n";
-
-const OTHER_DAY: &str =
-    "From: ftp\nNumber: 1\nKind: upload\nSource: foo\nVersion: 1.0-1\nUrgency: medium\nDay: 2025-03-02\n";
 
 const NO_VERSION: &str =
     "From: ftp\nNumber: 1\nKind: upload\nSource: foo\nUrgency: medium\nDay: 2025-03-01\n";

@@ -1,25 +1,10 @@
-use crate::{KeepFault, Keeper, Plain, Tables, keep_if_free};
+//! The first text of a number stands, in each store.
+
+use crate::setup::SMALLER;
 use office_mail::Setup;
+use office_store::{KeepFault, Keeper, Plain, Tables, keep_if_free};
 use sqlite::Connection;
 use std::test::Fail;
-
-const SETUP: &str = "Architectures: amd64
-
-Sender: ftp
-Role: upload
-
-Sender: bd
-Role: build
-
-Sender: bts
-Role: bugs
-
-Sender: rt
-Role: release
-
-Sender: clock
-Role: runs
-";
 
 /// Whether the first text of a number stands, and no later one.
 fn first_stands<K: Keeper>(keeper: &mut K) -> Result<bool, KeepFault> {
@@ -36,7 +21,7 @@ fn first_stands<K: Keeper>(keeper: &mut K) -> Result<bool, KeepFault> {
 #[test]
 fn the_first_text_stands(rt: HostRuntime) -> Result<(), Fail> {
     let alloc = rt.alloc();
-    let setup = Setup::parse(alloc, SETUP.as_bytes())?;
+    let setup = Setup::parse(alloc, SMALLER.as_bytes())?;
     let mut plain = Plain::new(alloc, &setup)?;
     let in_memory = first_stands(&mut plain)?;
     let in_tables = match Tables::open(alloc, Connection::open_in_memory(alloc)?, &setup) {

@@ -1,48 +1,15 @@
+//! An office's tables, opened again after each step, and for another setup.
+
 ghost use Rattle.std.specs.Prelude.{◌≡◌, []};
 
-use crate::{Finished, Keeper, OpenFault, Tables};
+use crate::setup::{SETUP, SMALLER};
 use deb_control::Text;
 use office_mail::Setup;
+use office_store::{Finished, Keeper, OpenFault, Tables};
 use sqlite::{Alter, Connection};
 use std::alloc::Global;
 use std::test::Fail;
 use testing_rules::Testing;
-
-const SETUP: &str = "Architectures: amd64 arm64
-
-Sender: ftp
-Role: upload
-
-Sender: bd
-Role: build
-
-Sender: bts
-Role: bugs
-
-Sender: rt
-Role: release
-
-Sender: clock
-Role: runs
-";
-
-const SMALLER: &str = "Architectures: amd64
-
-Sender: ftp
-Role: upload
-
-Sender: bd
-Role: build
-
-Sender: bts
-Role: bugs
-
-Sender: rt
-Role: release
-
-Sender: clock
-Role: runs
-";
 
 /// Keeps a text in an office's tables where none stands, and whether that went well.
 fn keep_in<S: Alter>(alloc: Global, conn: Connection<S>, setup: &Setup) -> (bool, Connection<S>) {

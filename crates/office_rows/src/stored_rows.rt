@@ -3,32 +3,18 @@
 ghost use Rattle.std.specs.Prelude.{◌≡◌, IsTrue, IfOk};
 ghost use Rattle.sqlite_disk.specs.Memory.{memory_is_usable};
 
-use crate::rows::{SETUP, bag_of, replayed_in};
-use crate::store::{StoreFault, open_tables, store_status};
+use crate::messages::{BUILD, OTHER_DAY, RUN, UPLOAD};
+use crate::replaying::{bag_of, replayed_in};
+use crate::setup::{SETUP, SMALLER, open_tables};
 use deb_control::Text;
 use office_http::Office;
 use office_mail::Setup;
-use office_store::Tables;
-use sqlite::{Connection, Error, ErrorCode, FileStore, Files, Options};
+use office_store::{OpenFault, Tables};
+use sqlite::{Connection, Error, FileStore, Files, Options};
 use sqlite_disk::Memory;
 use std::alloc::Global;
 use std::process::Abort;
 use std::test::Fail;
-
-/// A setup with an architecture less.
-const SMALLER: &str =
-    "Architectures: amd64\n\nSender: ftp\nRole: upload\n\nSender: bd\nRole: build\n\nSender: bts\nRole: bugs\n\nSender: rt\nRole: release\n\nSender: clock\nRole: runs\n";
-
-const UPLOAD: &str =
-    "From: ftp\nNumber: 1\nKind: upload\nSource: foo\nVersion: 1.0-1\nUrgency: medium\nDay: 2025-03-01\n";
-
-const BUILD: &str =
-    "From: bd\nNumber: 1\nKind: build\n\nPackage: foo\nVersion: 1.0-1\nArchitecture: amd64\n";
-
-const RUN: &str = "From: clock\nNumber: 1\nKind: run\nDay: 2025-03-06\nCovers: ftp 1, bd 1\n";
-
-const OTHER_DAY: &str =
-    "From: ftp\nNumber: 1\nKind: upload\nSource: foo\nVersion: 1.0-1\nUrgency: medium\nDay: 2025-03-02\n";
 
 const EXCUSES: &str = "excuses 1 2025-03-06\nfoo - 1.0-1\n age 5 of 5\n candidate\n";
 
@@ -51,23 +37,23 @@ fn open_in(
     alloc: Global,
     files: Files<Memory>,
     setup: &Setup,
-) -> Result<Tables<FileStore<Memory>>, StoreFault>
+) -> Result<Tables<FileStore<Memory>>, OpenFault>
     requires { IsTrue (memory_is_usable files.log) × IsTrue (memory_is_usable files.db) }
     ensures { IfOk result (λ tables. tables.1.0 ≡ setup.now) }
 {
     match Connection::open_files(alloc, files, Options::new(1)) {
         Ok(conn) => open_tables(alloc, conn, setup),
-        Err((error, _left)) => Err(StoreFault::Unopened(error)),
+        Err((error, _left)) => Err(OpenFault::from(error)),
     }
 }
 
 /// The files of tables that are closed.
-fn close_in(tables: Tables<FileStore<Memory>>) -> Result<Files<Memory>, StoreFault>
+fn close_in(tables: Tables<FileStore<Memory>>) -> Result<Files<Memory>, Error>
     ensures { IfOk result (λ files. IsTrue (memory_is_usable files.log) × IsTrue (memory_is_usable files.db)) }
 {
     match tables.into_connection().close_files() {
         Ok(files) => Ok(files),
-        Err((error, _store)) => Err(StoreFault::Unclosed(error)),
+        Err((error, _store)) => Err(error),
     }
 }
 
@@ -105,7 +91,7 @@ fn reports_over(alloc: Global, files: Files<Memory>) -> Result<(Text, Text, File
 }
 
 /// Why no store is opened in files for a setup, if none is.
-fn refused_in(alloc: Global, files: Files<Memory>, conf: &str) -> Result<Option<StoreFault>, Fail>
+fn refused_in(alloc: Global, files: Files<Memory>, conf: &str) -> Result<Option<OpenFault>, Fail>
     requires { IsTrue (memory_is_usable files.log) × IsTrue (memory_is_usable files.db) }
 {
     let setup = Setup::parse(alloc, conf.as_bytes())?;
@@ -165,33 +151,7 @@ fn an_office_goes_on(rt: HostRuntime) -> Result<(), Fail> {
     assert_eq!(rt; update.as_str(), UPDATE);
     assert_eq!(rt;
         refused_in(alloc, files, SMALLER)?,
-        Some(StoreFault::OtherSetup)
+        Some(OpenFault::OtherSetup)
     );
-    Ok(())
-}
-
-/// Each fault of a store as a sentence; all end with status 4.
-#[test]
-fn faults_of_a_store(rt: HostRuntime) -> Result<(), Fail> {
-    let alloc = rt.alloc();
-    let rows = [
-        (
-            StoreFault::Unopened(Error::SqliteFailure(ErrorCode::DatabaseBusy)),
-            "the store can't be opened: database is locked: end the program that has it open",
-        ),
-        (
-            StoreFault::OtherSetup,
-            "the store was made for another setup: name that setup, or another file",
-        ),
-        (
-            StoreFault::Failed(Error::SqliteFailure(ErrorCode::DiskFull)),
-            "the store failed: database or disk is full: make room on the disk, and start again",
-        ),
-    ];
-    'rows: for (fault, due) in rows {
-        let text = format!(in alloc; "{fault}")?;
-        assert_eq!(rt; text.as_str(), due);
-        assert_eq!(rt; store_status(&fault), 4, "at {due}");
-    }
     Ok(())
 }
