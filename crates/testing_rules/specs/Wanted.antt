@@ -28,11 +28,11 @@ abbrev pub AreInOrder : List Text → Type 0
 AreInOrder names = IsStrictlySortedBy text_cmp names
 
 -- names that are looked up by their hash
-abbrev pub Names : Type 0
-Names = HashSet (Bor Text) (BuildHasherDefault FoldHasher)
+abbrev pub NameSet : Type 0
+NameSet = HashSet (Bor Text) (BuildHasherDefault FoldHasher)
 
 -- the names that such a set has, in some order
-abbrev pub names_in : Names → List Text
+abbrev pub names_in : NameSet → List Text
 names_in set = lent_texts set.keys
 
 -- a source is wanted where it is none of the settled ones

@@ -23,7 +23,7 @@ use crate::pool::Pool;
 use crate::suite::{LentRow, RowIn};
 use crate::trial::first_lost;
 use crate::update::Offender;
-use crate::wanted::{Names, are_wanted, wanted_rows};
+use crate::wanted::{NameSet, are_wanted, wanted_rows};
 use deb_control::Text;
 use deb_version::NoMemory;
 use std::alloc::Global;
@@ -166,7 +166,7 @@ fn changed<'a>(
 #[derive(Drop)]
 pub struct PoolSuites<'a> {
     pool: Pool<'a>,
-    settled: Names<'a>,
+    settled: NameSet<'a>,
     first: usize,
     archs: u32,
     stands: Vec<bool>,
@@ -196,7 +196,7 @@ impl<'a> PoolSuites<'a> {
         alloc: Global,
         archs: u32,
         pool: Pool<'a>,
-        settled: Names<'a>,
+        settled: NameSet<'a>,
         first: usize,
     ) -> Result<PoolSuites<'a>, NoMemory>
         ensures { IfOk result (λ s. s ≡ record {
@@ -225,7 +225,7 @@ impl<'a> PoolSuites<'a> {
         alloc: Global,
         archs: u32,
         before: &'a [RowIn],
-        settled: Names<'a>,
+        settled: NameSet<'a>,
         unstable: &[LentRow<'a>],
     ) -> Result<PoolSuites<'a>, NoMemory>
         ensures rows { IfOk result (λ s. s.rows ≡ before.now ++ wanted_rows s.settled (lent unstable.now)) }
