@@ -63,3 +63,4 @@ pub mod Settling
 pub mod Lifted
 pub mod Blocking
 pub mod Merging
+pub mod Hinted

@@ -8,7 +8,7 @@ use Rattle.testing_rules.specs.InOrder.{AreByKey}
 use Rattle.testing_rules.specs.Moves.{is_row_on}
 use Rattle.testing_rules.specs.Parts.{Part, package_at}
 use Rattle.testing_rules.specs.Trials.{is_place_on}
-use Rattle.testing_rules.specs.Wanted.{AreInOrder, wanted_rows}
+use Rattle.testing_rules.specs.Wanted.{wanted_rows}
 use Rattle.testing_rules.specs.Words.{Text}
 
 -- the rows are those of the pool that stand, in order
@@ -57,9 +57,8 @@ pub record PoolState : Type 0 where
 unfoldable pub standing : PoolState → List RowIn
 standing s = with_rows (rows_at s.rows (set_places s.stands)) []
 
--- there is a flag for each row, and for each architecture its suite; the names of the sources that are left out are in order
-pub record IsPoolState (pool : List RowIn) (settled : List Text) (stands : List Bool) (archs : ℕ) (suites : List Part) : Type 0 where
-  pub ordered : AreInOrder settled
+-- there is a flag for each row, and for each architecture its suite
+pub record IsPoolState (pool : List RowIn) (stands : List Bool) (archs : ℕ) (suites : List Part) : Type 0 where
   pub long : length stands ≡ length pool
   pub count : archs ≡ length suites
   pub each : AreSuites pool stands suites

@@ -22,6 +22,7 @@ mod live;
 mod live_rows;
 mod migration;
 mod moves;
+mod near;
 mod offender;
 mod pool;
 mod reasons;

@@ -17,7 +17,7 @@ use crate::lent_rows::{copy_loans, moved_rows, rows_without};
 use crate::moves::Unstable;
 use crate::standing::PoolSuites;
 use crate::suite::{LentRow, Testing};
-use crate::wanted::settled_names;
+use crate::wanted::{set_of, settled_names};
 use deb_control::Text;
 use deb_version::NoMemory;
 use std::alloc::Global;
@@ -101,7 +101,8 @@ impl<'a> LiveRows<'a> {
         ensures live { IfOk result (λ new. AreLive new archs.now (lent unstable.entry.rows.now)) }
         ensures by_key { IfOk result (λ new. AreByKey (held new)) }
     {
-        let settled = settled_names(alloc, unstable.sources, testing.sources())?;
+        let names = settled_names(alloc, unstable.sources, testing.sources())?;
+        let settled = set_of(alloc, &names)?;
         let rows = testing.rows();
         let suites = PoolSuites::new(alloc, archs.len(), rows, settled, unstable.rows)?;
         Ok(LiveRows::Pooled(suites))

@@ -8,11 +8,10 @@ ghost use Rattle.testing_rules.specs.Changes.{has, IsMoveOf};
 ghost use Rattle.testing_rules.specs.FactOrder.{AreBySource};
 ghost use Rattle.testing_rules.specs.JudgedRows.{lent};
 ghost use Rattle.testing_rules.specs.Parts.{Part};
-ghost use Rattle.testing_rules.specs.Pools.{lent_texts};
 ghost use Rattle.testing_rules.specs.Standing.{IsOn, IsSuiteOn, AreOver, AreSuites, set_places, standing};
 ghost use Rattle.testing_rules.specs.Tried.{first_told, Tells, IsWithin, IsRemovalOf};
 ghost use Rattle.testing_rules.specs.Trials.{IsFirstLost};
-ghost use Rattle.testing_rules.specs.Wanted.{AreInOrder, is_wanted, wanted_rows};
+ghost use Rattle.testing_rules.specs.Wanted.{is_wanted, names_in, wanted_rows};
 ghost use Rattle.testing_rules.specs.Words.{Text as Word};
 ghost use Rattle.testing_rules.specs.declared.suite.RowIn.{RowIn as ARow};
 
@@ -24,7 +23,7 @@ use crate::pool::Pool;
 use crate::suite::{LentRow, RowIn};
 use crate::trial::first_lost;
 use crate::update::Offender;
-use crate::wanted::{are_wanted, wanted_rows};
+use crate::wanted::{NameSet, are_wanted, wanted_rows};
 use deb_control::Text;
 use deb_version::NoMemory;
 use std::alloc::Global;
@@ -167,7 +166,7 @@ fn changed<'a>(
 #[derive(Drop)]
 pub struct PoolSuites<'a> {
     pool: Pool<'a>,
-    settled: Vec<&'a str>,
+    settled: NameSet<'a>,
     first: usize,
     archs: u32,
     stands: Vec<bool>,
@@ -175,20 +174,20 @@ pub struct PoolSuites<'a> {
 }
 
 impl<'a> Model for PoolSuites<'a> {
-    ghost use Rattle.testing_rules.specs.Pools.{lent_texts};
     ghost use Rattle.testing_rules.specs.Standing.{PoolState, IsPoolState};
+    ghost use Rattle.testing_rules.specs.Wanted.{names_in};
 
     ghost Value = { PoolState };
 
     ghost view = { λ s. record {
       rows = s.pool;
-      settled = lent_texts s.settled.items;
+      settled = names_in s.settled;
       first = s.first;
       stands = s.stands.items;
       archs = s.archs;
     } };
 
-    ghost invariant = { λ s. IsPoolState s.pool (lent_texts s.settled.items) s.stands.items s.archs s.suites.items };
+    ghost invariant = { λ s. IsPoolState s.pool s.stands.items s.archs s.suites.items };
 }
 
 impl<'a> PoolSuites<'a> {
@@ -197,13 +196,12 @@ impl<'a> PoolSuites<'a> {
         alloc: Global,
         archs: u32,
         pool: Pool<'a>,
-        settled: Vec<&'a str>,
+        settled: NameSet<'a>,
         first: usize,
     ) -> Result<PoolSuites<'a>, NoMemory>
-        requires { AreInOrder (lent_texts settled.items) }
         ensures { IfOk result (λ s. s ≡ record {
           rows = pool.entry;
-          settled = lent_texts settled.entry.items;
+          settled = names_in settled.entry;
           first = first;
           stands = replicate (length pool.entry) false;
           archs = archs;
@@ -227,12 +225,11 @@ impl<'a> PoolSuites<'a> {
         alloc: Global,
         archs: u32,
         before: &'a [RowIn],
-        settled: Vec<&'a str>,
+        settled: NameSet<'a>,
         unstable: &[LentRow<'a>],
     ) -> Result<PoolSuites<'a>, NoMemory>
-        requires { AreInOrder (lent_texts settled.items) }
         ensures rows { IfOk result (λ s. s.rows ≡ before.now ++ wanted_rows s.settled (lent unstable.now)) }
-        ensures settled { IfOk result (λ s. s.settled ≡ lent_texts settled.entry.items) }
+        ensures settled { IfOk result (λ s. s.settled ≡ names_in settled.entry) }
         ensures first { IfOk result (λ s. s.first ≡ length before.now) }
         ensures archs { IfOk result (λ s. s.archs ≡ archs) }
         ensures stands { IfOk result (λ s. (k : ℕ) → k < length s.rows → marked s.stands k ≡ nat_lt k (length before.now)) }

@@ -1,34 +1,46 @@
 //! Sources that may move in a run: testing doesn't have them at their unstable version.
 
-ghost use Rattle.std.specs.Prelude.{◌≡◌, length, IfOk};
+ghost use Rattle.std.specs.Prelude.{◌≡◌, false, IfOk, option_copied};
 ghost use Rattle.std.specs.List.{list_all};
-ghost use Rattle.std.specs.List.Sorted.{IsBinarySearchResult, IsSearchInRange};
+ghost use Rattle.std.specs.Option.{option_map_or};
 ghost use Rattle.testing_rules.specs.FactOrder.{AreBySource};
 ghost use Rattle.testing_rules.specs.InOrder.{AreByName};
 ghost use Rattle.testing_rules.specs.JudgedRows.{lent};
 ghost use Rattle.testing_rules.specs.Pools.{lent_texts};
 ghost use Rattle.testing_rules.specs.Wanted as rules;
-ghost use Rattle.testing_rules.specs.Wanted.{AreInOrder};
-ghost use Rattle.testing_rules.specs.Words.{text_cmp};
+ghost use Rattle.testing_rules.specs.Wanted.{AreInOrder, names_in};
+ghost use Rattle.testing_rules.specs.Words.{Text as Word, is_same_version};
 
 use crate::facts::UploadIn;
-use crate::moves::source_in;
+use crate::moves::source_near;
 use crate::select::is_same_version;
 use crate::suite::{LentRow, SourceIn};
 use deb_control::Text;
 use deb_version::NoMemory;
 use std::alloc::Global;
-use std::cmp::Ordering;
+use std::collections::HashSet;
 
-/// Testing's source stands there at its unstable version.
-fn is_settled(sources: &[UploadIn], source: &SourceIn) -> bool
-    requires { AreBySource sources.now }
-    ensures { result ≡ rules.is_settled sources.now source.now }
+/// Names that are looked up by their hash.
+pub type NameSet<'a> = HashSet<&'a str>;
+
+/// Testing's source stands there at the version of this upload.
+fn is_at(upload: Option<&UploadIn>, source: &SourceIn) -> bool
+    ensures { result ≡ option_map_or (λ u. is_same_version u.version source.now.version) (option_copied upload.entry) false }
 {
-    match source_in(sources, source.name.as_str()) {
+    match upload {
         Some(upload) => is_same_version(&upload.version, &source.version),
         None => false,
     }
+}
+
+/// Testing's source stands there at its unstable version, which is looked for at the place first; and the place for the
+/// next one.
+fn is_settled(sources: &[UploadIn], source: &SourceIn, place: usize) -> (bool, usize)
+    requires { AreBySource sources.now }
+    ensures { result.0 ≡ rules.is_settled sources.now source.now }
+{
+    let (upload, next) = source_near(sources, source.name.as_str(), place);
+    (is_at(upload, source), next)
 }
 
 /// The names of testing's sources that stand there at their unstable version.
@@ -43,41 +55,35 @@ pub fn settled_names<'a>(
     ensures ordered { IfOk result (λ names. AreInOrder (lent_texts names.items)) }
 {
     let mut names = Vec::new(alloc);
+    let mut place = 0;
     for source in testing {
-        if is_settled(sources, source) {
+        let (settled, next) = is_settled(sources, source, place);
+        place = next;
+        if settled {
             names.push(source.name.as_str())?;
         }
     }
     Ok(names)
 }
 
-/// Where the names have the name, or else where it belongs.
-fn place_of(names: &[&str], name: &str) -> Result<usize, usize>
-    ensures bound { IsSearchInRange result (length names.now) }
-    ensures found { IsBinarySearchResult (λ n. text_cmp n.now name.now) names.now result }
+/// The names as a set.
+pub fn set_of<'a>(alloc: Global, names: &[&'a str]) -> Result<NameSet<'a>, NoMemory>
+    ensures { IfOk result (λ set. (name : Word) → rules.is_wanted (names_in set) name ≡ rules.is_wanted (lent_texts names.now) name) }
 {
-    names.binary_search_by(
-        |other: &&str| -> Ordering
-            ensures { result ≡ text_cmp other.now.now name.entry.now }
-        { (*other).cmp(name) },
-    )
+    let set = names.iter().copied().collect(alloc)?;
+    Ok(set)
 }
 
 /// The source is none of the settled ones.
-fn is_wanted(settled: &[&str], name: &str) -> bool
-    requires { AreInOrder (lent_texts settled.now) }
-    ensures { result ≡ rules.is_wanted (lent_texts settled.now) name.now }
+fn is_wanted(settled: &NameSet, name: &str) -> bool
+    ensures { result ≡ rules.is_wanted (names_in settled.now) name.now }
 {
-    match place_of(settled, name) {
-        Ok(_) => false,
-        Err(_) => true,
-    }
+    !settled.contains(name)
 }
 
 /// Each of the sources is none of the settled ones.
-pub fn are_wanted(settled: &[&str], group: &[Text]) -> bool
-    requires { AreInOrder (lent_texts settled.now) }
-    ensures { result ≡ list_all (rules.is_wanted (lent_texts settled.now)) group.now }
+pub fn are_wanted(settled: &NameSet, group: &[Text]) -> bool
+    ensures { result ≡ list_all (rules.is_wanted (names_in settled.now)) group.now }
 {
     'group: for name in group {
         if !is_wanted(settled, name.as_str()) {
@@ -90,11 +96,10 @@ pub fn are_wanted(settled: &[&str], group: &[Text]) -> bool
 /// The rows of the sources that are none of the settled ones.
 pub fn wanted_rows<'a>(
     alloc: Global,
-    settled: &[&str],
+    settled: &NameSet,
     rows: &[LentRow<'a>],
 ) -> Result<Vec<LentRow<'a>>, NoMemory>
-    requires { AreInOrder (lent_texts settled.now) }
-    ensures { IfOk result (λ wanted. lent wanted.items ≡ rules.wanted_rows (lent_texts settled.now) (lent rows.now)) }
+    ensures { IfOk result (λ wanted. lent wanted.items ≡ rules.wanted_rows (names_in settled.now) (lent rows.now)) }
 {
     let mut wanted = Vec::new(alloc);
     for row in rows {

@@ -1,9 +1,8 @@
 use Rattle.std.proofs.Common.{◌≡◌, drop}
 use Rattle.std.specs.List.{list_all}
-use Rattle.testing_rules.specs.Pools.{lent_texts}
-use Rattle.testing_rules.specs.Wanted.{is_wanted}
+use Rattle.testing_rules.specs.Wanted.{is_wanted, names_in}
 use Rattle.testing_rules.proofs.wanted.are_wanted.Given as goal
 
 -- the rest decides
 abbrev pub invariant-group : goal.invariant-group
-invariant-group l = list_all (is_wanted (lent_texts l.settled)) (drop l.name-index l.group) ≡ list_all (is_wanted (lent_texts l.settled)) l.group
+invariant-group l = list_all (is_wanted (names_in l.settled)) (drop l.name-index l.group) ≡ list_all (is_wanted (names_in l.settled)) l.group

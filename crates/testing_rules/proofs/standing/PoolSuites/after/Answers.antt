@@ -21,7 +21,6 @@ invariant_of-result c =
     let flags = flags_are old c.set_flags.new.flags.items c.set_flags-2.new.flags.items leaving coming c.deref.result.now c.deref-2.result.now
     c.deref.ensures.value c.deref-2.ensures.value c.set_flags.ensures c.set_flags-2.ensures in
     record {
-      ordered = c.self.invariant.ordered;
       long = ap length flags ∙ length-after leaving coming old ∙ c.self.invariant.long;
       count = sym c.in_ok-suites.ensures.count;
       each = subst (λ fs. AreSuites c.self.inside.pool fs c.in_ok-suites.suites.items) (sym flags) (c.in_ok-suites.ensures.each c.self.inside.pool old c.self.invariant.long c.self.invariant.each);

@@ -4,17 +4,16 @@ use Rattle.testing_install.specs.Among.{after_change}
 use Rattle.testing_install.specs.Closed.{marked}
 use Rattle.testing_rules.specs.declared.suite.RowIn.{RowIn}
 use Rattle.testing_rules.specs.JudgedRows.{lent}
-use Rattle.testing_rules.specs.Pools.{lent_texts}
 use Rattle.testing_rules.specs.Standing.{PoolState}
 use Rattle.testing_rules.specs.Tried.{IsWithin}
-use Rattle.testing_rules.specs.Wanted.{wanted_rows}
+use Rattle.testing_rules.specs.Wanted.{names_in, wanted_rows}
 use Rattle.testing_rules.proofs.Suites.{firsts_within, firsts_stand, if_ok_weaker}
 use Rattle.testing_rules.proofs.standing.PoolSuites.new.Goals as goal
 
 pub after-requires : goal.after-requires
 after-requires c =
     let before = c.args.before.now in
-    let behind = lent c.deref-2.result.now in
+    let behind = lent c.deref.result.now in
     let rows = ap (λ (s : PoolState). s.rows) c.in_ok-empty.ensures ∙ c.in_ok-pool.ensures in
     let leaving = c.new-2.result.items in
     subst (λ (pool : List RowIn). IsWithin pool leaving c.in_ok-first_places.field-0.items) (sym rows)
@@ -34,10 +33,10 @@ returns-clause-rows c =
     } in
     if_ok_weaker (λ (s : PoolState). s ≡ made) (λ (s : PoolState). s.rows ≡ before ++ wanted_rows s.settled unstable) c.after.result
     (λ s e.
-    let names : s.settled ≡ lent_texts c.deref.result.now =
-    ap (λ (s : PoolState). s.settled) e ∙ ap (λ (s : PoolState). s.settled) c.in_ok-empty.ensures ∙ ap lent_texts (sym c.deref.ensures.value) in
+    let names : s.settled ≡ names_in c.args.settled =
+    ap (λ (s : PoolState). s.settled) e ∙ ap (λ (s : PoolState). s.settled) c.in_ok-empty.ensures in
     ap (λ (s : PoolState). s.rows) e ∙ ap (λ (s : PoolState). s.rows) c.in_ok-empty.ensures ∙ c.in_ok-pool.ensures
-    ∙ ap (λ rs. before ++ lent rs) c.deref-2.ensures.value ∙ ap (λ rs. before ++ rs) c.in_ok-wanted.ensures
+    ∙ ap (λ rs. before ++ lent rs) c.deref.ensures.value ∙ ap (λ rs. before ++ rs) c.in_ok-wanted.ensures
     ∙ ap (λ ns. before ++ wanted_rows ns unstable) (sym names))
     c.after.ensures.state
 

@@ -4,8 +4,8 @@ use Rattle.std.proofs.lemmas.List.Elements.{All-take, All-drop}
 use Rattle.testing_rules.specs.AfterMoves.{with_rows, rows_at}
 use Rattle.testing_rules.specs.InOrder.{AreByKey}
 use Rattle.testing_rules.specs.JudgedRows.{lent}
-use Rattle.testing_rules.specs.Pools.{lent_texts}
 use Rattle.testing_rules.specs.Standing.{set_places, standing}
+use Rattle.testing_rules.specs.Wanted.{names_in}
 use Rattle.testing_rules.proofs.Showing.{by_key-none, set_places-within, standing_at, rows-in_turn}
 use Rattle.testing_rules.proofs.Suites.{if_ok_weaker}
 use Rattle.testing_rules.proofs.standing.PoolSuites.rows.Goals as goal
@@ -44,7 +44,7 @@ returns c =
     let made : with_rows (rows_at pool c.places_around.result.1.now) (lent c.deref-3.result.now) ≡ standing c.args.self.now =
     ap (with_rows (rows_at pool c.places_around.result.1.now)) first ∙ ap (λ ks. with_rows (rows_at pool ks) (with_rows (rows_at pool (take parts.0 all)) [])) parts.2
     ∙ rows-in_turn pool all parts.0
-    ∙ standing_at pool (lent_texts c.self.inside.settled.items) c.self.inside.first stands c.self.inside.archs all (places ∙ ap set_places c.deref.ensures.value)
+    ∙ standing_at pool (names_in c.self.inside.settled) c.self.inside.first stands c.self.inside.archs all (places ∙ ap set_places c.deref.ensures.value)
     ∙ ap standing c.self.view_is in
     if_ok_weaker (λ rows. lent rows.items ≡ with_rows (rows_at pool c.places_around.result.1.now) (lent c.deref-3.result.now)) (λ rows. lent rows.items ≡ standing c.args.self.now) c.merged_rows.result
     (λ rows is. is ∙ made) c.merged_rows.ensures

@@ -2,7 +2,7 @@ use Rattle.std.proofs.Common.{sym, ap, ◌∙◌, Some}
 use Rattle.testing_rules.specs.declared.facts.UploadIn.{UploadIn}
 use Rattle.testing_rules.proofs.Orders.{text_order}
 use Rattle.testing_rules.proofs.KeyOrder.{searchable, find-at, find-none}
-use Rattle.testing_rules.proofs.moves.source_in.Goals as goal
+use Rattle.testing_rules.proofs.moves.source_by_halves.Goals as goal
 
 pub returns-in-Ok : goal.returns-in-Ok
 returns-in-Ok c =
@@ -13,4 +13,4 @@ pub returns-in-Err : goal.returns-in-Err
 returns-in-Err c =
     let name = c.args.name.now in
     let xs = c.args.sources.now in
-    sym (find-none (λ (u : UploadIn). u.source) name xs c.in-Err.field-0 (c.in-Err.ensures.found (searchable (λ (u : UploadIn). u.source) text_order xs c.requires name)))
+    sym (find-none (λ (u : UploadIn). u.source) name xs c.in-Err.place (c.in-Err.ensures.found (searchable (λ (u : UploadIn). u.source) text_order xs c.requires name)))
