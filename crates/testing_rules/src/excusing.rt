@@ -19,23 +19,13 @@ use crate::days::{age_of, days_needed, delays_in_force, is_news};
 use crate::excuse::{Excuse, Excuses};
 use crate::facts::{Facts, HintIn, UnhintIn, UploadIn};
 use crate::item::copy_version;
+use crate::near::testing_version_near;
 use crate::reasons::{Known, reasons_of};
-use crate::suite::{Testing, place_of_name};
+use crate::suite::Testing;
 use crate::turns::is_standing;
 use deb_version::{NoMemory, Version};
 use jiff::civil::Date;
 use std::alloc::Global;
-
-/// The source's version in testing.
-pub(crate) fn testing_version<'a>(testing: &'a Testing, name: &str) -> Option<&'a Version>
-    ensures { option_copied result ≡ rules.testing_version testing.now name.now }
-{
-    let sources = testing.sources();
-    match place_of_name(sources, name) {
-        Ok(place) => Some(&sources[place].version),
-        Err(_) => None,
-    }
-}
 
 /// The standing ones of the hints.
 fn standing(alloc: Global, hints: &[HintIn], unhints: &[UnhintIn]) -> Result<Vec<HintIn>, NoMemory>
@@ -94,8 +84,10 @@ fn news_of<'a>(
     ensures { IfOk result (λ news. map told_of news.items ≡ news_of testing.now (unboxed sources.now)) }
 {
     let mut news = Vec::new(alloc);
+    let mut next = 0;
     'sources: for upload in sources {
-        let version = testing_version(testing, upload.source.as_str());
+        let (version, after) = testing_version_near(testing, upload.source.as_str(), next);
+        next = after;
         if is_news(version, &upload.version) {
             news.push(told(upload, version))?;
         }
