@@ -166,7 +166,7 @@ module _ (places : List ℕ) (g : Ground) (by : Text → Ground) where
   by_parts (n ∷ news) h =
       let u = n.upload.now in
       let own : excuse_on places (by u.source) (told_of n).1 u ≡ excuse_on places g (told_of n).1 u =
-          ap (λ p. excuse_on places p (told_of n).1 u) (h u.source (named_first _ u.source (is_among news u.source) (bytes_eq-itself u.source))) ∙ own-part places g (told_of n).1 u in
+      ap (λ p. excuse_on places p (told_of n).1 u) (h u.source (named_first _ u.source (is_among news u.source) (bytes_eq-itself u.source))) ∙ own-part places g (told_of n).1 u in
       ap (λ e. e ∷ excuses_by places by (map told_of news)) own
       ∙ ap (λ es. excuse_on places g (told_of n).1 u ∷ es) (by_parts news (λ name among. h name (named_later _ (is_among news name) among)))
 

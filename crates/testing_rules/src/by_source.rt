@@ -61,10 +61,7 @@ pub struct Grouped<'a> {
 }
 
 /// A source has a group: the one that it had, or else an empty one.
-fn open<'a, T: Drop>(
-    groups: &mut HashMap<&'a str, Vec<T>>,
-    name: &'a str,
-) -> Result<(), NoMemory>
+fn open<'a, T: Drop>(groups: &mut HashMap<&'a str, Vec<T>>, name: &'a str) -> Result<(), NoMemory>
     ensures { OnOk result ((q : Text) → slot_at groups.new q ≡ (if bytes_eq q name.now then Some (group_at groups.old q) else slot_at groups.old q)) }
 {
     let _ = groups.entry(name)?.or_default();

@@ -1,4 +1,5 @@
 use Rattle.std.proofs.Common.{◌≡◌, ◌∙◌, sym, ap, Option, []}
+use Rattle.std.proofs.lemmas.Result.{IfOk-from_err}
 use Rattle.testing_rules.specs.JudgedRows.{lent}
 use Rattle.testing_rules.specs.declared.update.Offender.{Offender}
 use Rattle.testing_rules.specs.Moves.{move_group, offender_of}
@@ -25,3 +26,6 @@ returns-clause-offender c =
     c.in_ok-change.ensures.within (c.is_fresh.ensures c.if-not-is_fresh.false) in
     if_ok_weaker _ (λ (o : Option Offender). o ≡ offender_of archs t.rows new.rows group) c.first_lost.result
     (λ o first. first tells told ∙ ap (λ n. first_told n tells) c.requires.live.count) c.first_lost.ensures.first
+
+pub returns-in_err-change-clause-offender : goal.returns-in_err-change-clause-offender
+returns-in_err-change-clause-offender c = IfOk-from_err c.from_residual.result _ c.from_residual.ensures.0

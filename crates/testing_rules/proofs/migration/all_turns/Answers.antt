@@ -1,4 +1,5 @@
 use Rattle.std.proofs.Common.{◌≡◌, ◌∙◌, ap, ap₂, List, [], filter}
+use Rattle.std.proofs.lemmas.Result.{IfOk-from_err}
 use Rattle.std.specs.List.{flat_map}
 use Rattle.testing_rules.specs.declared.update.Decision.{Decision}
 use Rattle.testing_rules.specs.Runs.{Moment, Run, go_on}
@@ -33,3 +34,27 @@ returns c =
     ap₂ as_outcome c.in_ok-parts.ensures.decisions c.in_ok-parts.ensures.testing
     ∙ ap (λ (r : Run). r.outcome) run
     ∙ all_steps-are archs es c.args.testing.now sources rows c.hints.ensures c.unhints.ensures c.hints-2.ensures c.unhints-2.ensures
+
+pub returns-in_err-rows : goal.returns-in_err-rows
+returns-in_err-rows c = IfOk-from_err c.from_residual.result _ c.from_residual.ensures.0
+
+pub returns-in_err-sources : goal.returns-in_err-sources
+returns-in_err-sources c = IfOk-from_err c.from_residual-in_err-sources.result _ c.from_residual-in_err-sources.ensures.0
+
+pub returns-in_err-new : goal.returns-in_err-new
+returns-in_err-new c = IfOk-from_err c.from_residual-in_err-new.result _ c.from_residual-in_err-new.ensures.0
+
+pub returns-in_err-removals : goal.returns-in_err-removals
+returns-in_err-removals c = IfOk-from_err c.from_residual-in_err-removals.result _ c.from_residual-in_err-removals.ensures.0
+
+pub returns-in_err-groups : goal.returns-in_err-groups
+returns-in_err-groups c = IfOk-from_err c.from_residual-in_err-groups.result _ c.from_residual-in_err-groups.ensures.0
+
+pub returns-in_err-move_singles : goal.returns-in_err-move_singles
+returns-in_err-move_singles c = IfOk-from_err c.from_residual-in_err-move_singles.result _ c.from_residual-in_err-move_singles.ensures.0
+
+pub returns-in_err-waits : goal.returns-in_err-waits
+returns-in_err-waits c = IfOk-from_err c.from_residual-in_err-waits.result _ c.from_residual-in_err-waits.ensures.0
+
+pub returns-in_err-parts : goal.returns-in_err-parts
+returns-in_err-parts c = IfOk-from_err c.from_residual-in_err-parts.result _ c.from_residual-in_err-parts.ensures.0

@@ -1,4 +1,5 @@
 use Rattle.std.proofs.Common.{◌∙◌, sym, ap, subst, length}
+use Rattle.std.proofs.lemmas.Result.{IfOk-from_err, on_err_weaker}
 use Rattle.testing_install.specs.Among.{after_change}
 use Rattle.testing_rules.specs.Parts.{AreNumbers, IsAfter}
 use Rattle.testing_rules.proofs.Numbers.{numbers_within, part_after, after_numbers, on_ok_weaker}
@@ -31,3 +32,14 @@ returns-clause-there c =
     subst (λ p. IsAfter p leaving coming there) c.self.view_is
     (after_numbers own suite leaving coming left came (subst (λ ks. AreNumbers ks leaving left) c.deref.ensures.value c.in_ok-left.ensures) (subst (λ ks. AreNumbers ks coming came) c.deref-2.ensures.value c.in_ok-came.ensures)
     there (is ∙ ap (λ ks. after_change ks c.deref-4.result.now suite.there) c.deref-3.ensures.value ∙ ap (λ ks. after_change left ks suite.there) c.deref-4.ensures.value))) c.change.ensures.there
+
+pub returns-in_err-left-clause-there : goal.returns-in_err-left-clause-there
+returns-in_err-left-clause-there c = IfOk-from_err c.from_residual.result _ c.from_residual.ensures.0
+
+pub returns-in_err-came-clause-there : goal.returns-in_err-came-clause-there
+returns-in_err-came-clause-there c = IfOk-from_err c.from_residual-in_err-came.result _ c.from_residual-in_err-came.ensures.0
+
+pub returns-clause-err : goal.returns-clause-err
+returns-clause-err c =
+    on_err_weaker c.change.result (λ same.
+    ap (λ s. record { places = c.self.inside.places.items; suite = s }) same ∙ c.self.view_is) c.change.ensures.err

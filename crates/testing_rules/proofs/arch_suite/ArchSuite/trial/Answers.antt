@@ -1,6 +1,7 @@
 use Rattle.std.proofs.Common.{◌∙◌, sym, ap, subst, ℕ, ◌<◌, List, length, map}
 use Rattle.std.specs.Prelude.{◌↔◌, Contains, slice_index}
 use Rattle.std.specs.List.{All}
+use Rattle.std.proofs.lemmas.Result.{IfOk-from_err}
 use Rattle.testing_install.specs.Among.{IsLost, after_change}
 use Rattle.testing_install.specs.Closed.{marked}
 use Rattle.testing_rules.specs.Parts.{AreNumbers, AreLostFrom}
@@ -53,3 +54,12 @@ returns-clause-lost c =
     (lost_numbers own suite leaving coming left came left_are came_are c.self.invariant lost exact places.items
     (is ∙ ap (λ ks. map (slice_index ks) c.deref-6.result.now) c.deref-5.ensures.value ∙ ap (map (slice_index own)) c.deref-6.ensures.value)))
     c.places_of.ensures
+
+pub returns-in_err-left-clause-lost : goal.returns-in_err-left-clause-lost
+returns-in_err-left-clause-lost c = IfOk-from_err c.from_residual.result _ c.from_residual.ensures.0
+
+pub returns-in_err-came-clause-lost : goal.returns-in_err-came-clause-lost
+returns-in_err-came-clause-lost c = IfOk-from_err c.from_residual-in_err-came.result _ c.from_residual-in_err-came.ensures.0
+
+pub returns-in_err-lost-clause-lost : goal.returns-in_err-lost-clause-lost
+returns-in_err-lost-clause-lost c = IfOk-from_err c.from_residual-in_err-lost.result _ c.from_residual-in_err-lost.ensures.0

@@ -1,4 +1,5 @@
 use Rattle.std.proofs.Common.{arith, ◌≡◌, ◌∙◌, sym, ap, subst, ◌<◌, ◌++◌, [], false, nat_lt, length, ℕ, List, replicate}
+use Rattle.std.proofs.lemmas.Result.{IfOk-from_err}
 use Rattle.std.specs.List.{range_with_len}
 use Rattle.testing_install.specs.Among.{after_change}
 use Rattle.testing_install.specs.Closed.{marked}
@@ -63,3 +64,27 @@ returns-clause-stands c =
     ∙ ap (λ (s : PoolState). after_change [] (range_with_len 0 n) s.stands) c.in_ok-empty.ensures in
     ap (λ fs. marked fs k) flags ∙ firsts_stand n total k (omega (arith, h, rows)))
     c.after.ensures.state
+
+pub returns-in_err-wanted-clause-rows : goal.returns-in_err-wanted-clause-rows
+returns-in_err-wanted-clause-rows c = IfOk-from_err c.from_residual.result _ c.from_residual.ensures.0
+
+pub returns-in_err-wanted-clause-stands : goal.returns-in_err-wanted-clause-stands
+returns-in_err-wanted-clause-stands c = IfOk-from_err c.from_residual.result _ c.from_residual.ensures.0
+
+pub returns-in_err-pool-clause-rows : goal.returns-in_err-pool-clause-rows
+returns-in_err-pool-clause-rows c = IfOk-from_err c.from_residual-in_err-pool.result _ c.from_residual-in_err-pool.ensures.0
+
+pub returns-in_err-pool-clause-stands : goal.returns-in_err-pool-clause-stands
+returns-in_err-pool-clause-stands c = IfOk-from_err c.from_residual-in_err-pool.result _ c.from_residual-in_err-pool.ensures.0
+
+pub returns-in_err-empty-clause-rows : goal.returns-in_err-empty-clause-rows
+returns-in_err-empty-clause-rows c = IfOk-from_err c.from_residual-in_err-empty.result _ c.from_residual-in_err-empty.ensures.0
+
+pub returns-in_err-empty-clause-stands : goal.returns-in_err-empty-clause-stands
+returns-in_err-empty-clause-stands c = IfOk-from_err c.from_residual-in_err-empty.result _ c.from_residual-in_err-empty.ensures.0
+
+pub returns-in_err-first_places-clause-rows : goal.returns-in_err-first_places-clause-rows
+returns-in_err-first_places-clause-rows c = IfOk-from_err c.from_residual-in_err-first_places.result _ c.from_residual-in_err-first_places.ensures.0
+
+pub returns-in_err-first_places-clause-stands : goal.returns-in_err-first_places-clause-stands
+returns-in_err-first_places-clause-stands c = IfOk-from_err c.from_residual-in_err-first_places.result _ c.from_residual-in_err-first_places.ensures.0
