@@ -1,4 +1,5 @@
 use Rattle.std.proofs.Common.{◌≡◌, ◌∙◌, sym, ap, subst, ℕ, ◌+◌, ◌++◌, ◌∷◌, [], take, get_or}
+use Rattle.std.proofs.lemmas.Result.{IfOk-from_err}
 use Rattle.std.specs.Prelude.{Option}
 use Rattle.std.proofs.lemmas.List.{take_more}
 use Rattle.testing_rules.specs.Parts.{AreNumbers, IsNumberOf}
@@ -29,3 +30,6 @@ loop-place-preserved c =
           subst (AreNumbers own (take (i + 1) places)) (sym items) (subst (λ ks. AreNumbers own ks before) (sym more)
           (numbers_same own done before c.loop-place.invariant place (told _ w.in_default.is)))
     ]
+
+pub returns-in_err-push : goal.returns-in_err-push
+returns-in_err-push c = IfOk-from_err c.from_residual.result _ c.from_residual.ensures.0

@@ -1,4 +1,5 @@
 use Rattle.std.proofs.Common.{arith, ◌∙◌, sym, ap, ◌<◌, length, Some, Option}
+use Rattle.std.proofs.lemmas.Result.{IfOk-from_err}
 use Rattle.std.specs.Option.{option_copied}
 use Rattle.testing_rules.specs.Moves.{offender_on}
 use Rattle.testing_rules.specs.Words.{Text}
@@ -28,3 +29,12 @@ returns-in-Some c =
     let as_offender : Text → Option Offender = λ n. Some (record { arch = c.loop-arch.arch; «package» = n }) in
     ap as_offender c.in_ok-package.ensures
     ∙ sym (first_of-found (offender_on (lent a.old.now) (lent a.new.now) a.group.now) (length a.archs.now) c.loop-arch.arch _ below some) ∙ c.loop-arch.invariant
+
+pub returns-in_err-before : goal.returns-in_err-before
+returns-in_err-before c = IfOk-from_err c.from_residual.result _ c.from_residual.ensures.0
+
+pub returns-in_err-after : goal.returns-in_err-after
+returns-in_err-after c = IfOk-from_err c.from_residual-in_err-after.result _ c.from_residual-in_err-after.ensures.0
+
+pub returns-in_err-package : goal.returns-in_err-package
+returns-in_err-package c = IfOk-from_err c.from_residual-in_err-package.result _ c.from_residual-in_err-package.ensures.0
