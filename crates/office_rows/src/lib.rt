@@ -2,6 +2,7 @@
 //! beside the program, so that the libraries below are proved once.
 #![tactic(auto)]
 
+pub mod bags;
 #[cfg(test)]
 mod call_rows;
 #[cfg(test)]

@@ -1,7 +1,8 @@
 //! Worked rows of mail: bags, what a replay of each prints, and its exit status.
 
+use crate::bags::bag_of;
 use crate::messages::{BLOCK, BLOCK_RUN, BUILD, OTHER_DAY, RUN, UPLOAD};
-use crate::replaying::{bag_of, replayed};
+use crate::replaying::replayed;
 use std::test::Fail;
 
 const FIRST_RUN: &str =

@@ -1,6 +1,7 @@
 //! Worked rows of excuses and moves: mail, and what a replay of it shows.
 
-use crate::replaying::{bag_of, replayed};
+use crate::bags::bag_of;
+use crate::replaying::replayed;
 use std::alloc::Global;
 use std::process::Abort;
 use std::test::Fail;

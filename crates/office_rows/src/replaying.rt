@@ -1,4 +1,4 @@
-//! Bags of mail, and what comes of their replays.
+//! What comes of replays.
 
 use crate::setup::{SETUP, new_office, open_tables};
 use office_http::{Office, replay, replay_status};
@@ -7,17 +7,6 @@ use office_store::Keeper;
 use sqlite::Connection;
 use std::alloc::Global;
 use std::test::Fail;
-
-/// The bag of these texts, each behind its line.
-pub fn bag_of(alloc: Global, texts: &[&str]) -> Result<Vec<u8>, Fail> {
-    let mut bag = Vec::new(alloc);
-    for text in texts {
-        let line = format!(in alloc; "mail {}\n", text.len())?;
-        bag.extend_from_slice(line.as_bytes())?;
-        bag.extend_from_slice(text.as_bytes())?;
-    }
-    Ok(bag)
-}
 
 /// What a replay of a bag in an office prints, and its exit status.
 pub fn replayed_in<K: Keeper>(alloc: Global, office: &mut Office<K>, bag: &[u8]) -> (Vec<u8>, u8) {

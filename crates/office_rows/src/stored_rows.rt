@@ -3,8 +3,9 @@
 ghost use Rattle.std.specs.Prelude.{◌≡◌, IsTrue, IfOk};
 ghost use Rattle.sqlite_disk.specs.Memory.{memory_is_usable};
 
+use crate::bags::bag_of;
 use crate::messages::{BUILD, OTHER_DAY, RUN, UPLOAD};
-use crate::replaying::{bag_of, replayed_in};
+use crate::replaying::replayed_in;
 use crate::setup::{SETUP, SMALLER, open_tables};
 use deb_control::Text;
 use office_http::Office;
