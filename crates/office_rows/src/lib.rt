@@ -1,5 +1,5 @@
 //! Tests alone: worked rows of the whole office, and of its store, through public calls. They stand
-//! beside the program, so that the libraries below are proved once.
+//! beside the program, so that the libraries below are not proved once more for them.
 #![tactic(auto)]
 
 pub mod bags;

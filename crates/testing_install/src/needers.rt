@@ -12,6 +12,7 @@ use std::collections::HashMap;
 
 // Adds a place at each name that the clause has.
 fn note_clause<'a>(
+    alloc: Global,
     needers: &mut PlacesByName<'a>,
     clause: &'a Clause,
     place: usize,
@@ -19,13 +20,14 @@ fn note_clause<'a>(
     ensures { OnOk result (IsNotedAt (names clause.now) needers.old needers.new place) }
 {
     for alternative in clause.as_slice() {
-        note(needers, alternative.name.as_str(), place)?;
+        note(alloc, needers, alternative.name.as_str(), place)?;
     }
     Ok(())
 }
 
 // Adds the place of a row at each name that its clauses have.
 fn note_needs<'a>(
+    alloc: Global,
     needers: &mut PlacesByName<'a>,
     binary: &'a Binary,
     place: usize,
@@ -33,7 +35,7 @@ fn note_needs<'a>(
     ensures { OnOk result (IsNotedAt (needs_name binary.now) needers.old needers.new place) }
 {
     for clause in binary.clauses.as_slice() {
-        note_clause(needers, clause, place)?;
+        note_clause(alloc, needers, clause, place)?;
     }
     Ok(())
 }
@@ -44,7 +46,7 @@ pub fn needers_of<'a>(alloc: Global, rows: &[Row<'a>]) -> Result<PlacesByName<'a
 {
     let mut needers = HashMap::new(alloc);
     for (place, row) in rows.iter().enumerate() {
-        note_needs(&mut needers, row.binary, place)?;
+        note_needs(alloc, &mut needers, row.binary, place)?;
     }
     Ok(needers)
 }

@@ -10,12 +10,13 @@ ghost use Rattle.testing_rules.specs.Pools.{lent_texts, sources_of, names_of, Is
 
 use crate::suite::{LentRow, RowIn};
 use deb_version::NoMemory;
+use smallvec::SmallVec;
 use std::alloc::Global;
 use std::collections::HashMap;
 use std::marker::Model;
 
 /// Places of rows by a text of theirs.
-type PlacesByText<'a> = HashMap<&'a str, Vec<usize>>;
+type PlacesByText<'a> = HashMap<&'a str, SmallVec<usize, 2>>;
 
 /// The rows, and their places by the source that they name and by the package's name.
 #[derive(Drop)]
@@ -39,11 +40,19 @@ impl<'a> Model for Pool<'a> {
 }
 
 /// Adds a place at the end of those at the text.
-fn note<'a>(index: &mut PlacesByText<'a>, text: &'a str, place: usize) -> Result<(), NoMemory>
+fn note<'a>(
+    alloc: Global,
+    index: &mut PlacesByText<'a>,
+    text: &'a str,
+    place: usize,
+) -> Result<(), NoMemory>
     ensures { OnOk result ((q : List ℕ) → places_at index.new q
         ≡ (if bytes_eq q text.now then places_at index.old q ++ place ∷ [] else places_at index.old q)) }
 {
-    index.entry(text)?.or_default().push(place)?;
+    index
+        .entry(text)?
+        .or_insert(SmallVec::new(alloc))
+        .push(place)?;
     Ok(())
 }
 
@@ -53,7 +62,7 @@ fn index_of<'a>(alloc: Global, texts: &[&'a str]) -> Result<PlacesByText<'a>, No
 {
     let mut index = HashMap::new(alloc);
     for (place, text) in texts.iter().enumerate() {
-        note(&mut index, text, place)?;
+        note(alloc, &mut index, text, place)?;
     }
     Ok(index)
 }
