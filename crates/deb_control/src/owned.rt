@@ -3,22 +3,22 @@
 ghost use Rattle.std.specs.Prelude.{◌≡◌, IfOk};
 ghost use Rattle.std.specs.String.{string_bytes};
 
-use deb_version::InlineText;
 use std::alloc::{AllocError, Global};
 use std::marker::Model;
 
 /// A text. Contracts see its bytes.
 #[derive(Debug, Drop)]
 pub struct Text {
-    text: InlineText,
+    text: String,
 }
 
 impl Model for Text {
     ghost use Rattle.std.specs.Prelude.{List, ℕ};
+    ghost use Rattle.std.specs.String.{string_bytes};
 
     ghost Value = { List ℕ };
 
-    ghost view = { λ a. a.text };
+    ghost view = { λ a. string_bytes a.text };
 }
 
 impl Text {
@@ -26,7 +26,7 @@ impl Text {
     pub fn from_str(alloc: Global, text: &str) -> Result<Text, AllocError>
         ensures { IfOk result (λ t. t ≡ text.now) }
     {
-        let text = InlineText::from_str(alloc, text)?;
+        let text = String::from_str(alloc, text)?;
         Ok(Text { text })
     }
 
@@ -34,9 +34,14 @@ impl Text {
     pub fn from_string(text: String) -> Text
         ensures { result ≡ string_bytes text }
     {
-        Text {
-            text: InlineText::from_string(text),
-        }
+        Text { text }
+    }
+
+    /// The text as a string. It takes no memory.
+    pub fn into_string(self) -> String
+        ensures { string_bytes result ≡ self }
+    {
+        self.text
     }
 
     /// The text as a slice.

@@ -1,7 +1,6 @@
 pub mod Digits
 pub mod Key
 pub mod Front
-pub mod InlineText
 pub mod Text
 pub mod Split
 pub mod Order

@@ -9,7 +9,6 @@ ghost use Rattle.std.specs.Cmp.{IsTotalOrder};
 ghost use Rattle.deb_version.specs.Order.{version_cmp};
 
 mod faults;
-mod inline_text;
 mod lent;
 mod parts;
 mod split;
@@ -17,7 +16,6 @@ mod split;
 mod tests;
 
 pub use faults::{CompareFault, NoMemory, VersionFault};
-pub use inline_text::InlineText;
 pub use lent::compare_texts;
 use split::{Split, order_split, split_text};
 use std::alloc::Global;
@@ -27,20 +25,21 @@ use std::marker::Model;
 /// A version, `[epoch:]upstream[-revision]` (Debian Policy 5.6.12). Contracts see its text, a list of bytes.
 #[derive(Drop)]
 pub struct Version {
-    text: InlineText,
+    text: String,
     split: Split,
 }
 
 impl Model for Version {
     ghost use Rattle.std.specs.Prelude.{List, ℕ};
+    ghost use Rattle.std.specs.String.{string_bytes};
     ghost use Rattle.deb_version.specs.Text.{IsVersion};
     ghost use Rattle.deb_version.specs.Split.{IsSplit};
 
     ghost Value = { List ℕ };
 
-    ghost view = { λ v. v.text };
+    ghost view = { λ v. string_bytes v.text };
 
-    ghost invariant = { λ v. IsVersion v.text × IsSplit v.text v.split.epoch v.split.start v.split.upstream_len };
+    ghost invariant = { λ v. IsVersion (string_bytes v.text) × IsSplit (string_bytes v.text) v.split.epoch v.split.start v.split.upstream_len };
 }
 
 impl Version {
@@ -53,7 +52,7 @@ impl Version {
         ensures fault { IfErr result (λ e. e ≡ unwrap_or (version_fault text.now) VersionFault.NoMemory) }
     {
         let split = split_text(text.as_bytes())?;
-        let text = InlineText::from_str(alloc, text).map_err(|_| VersionFault::NoMemory)?;
+        let text = String::from_str(alloc, text).map_err(|_| VersionFault::NoMemory)?;
         Ok(Version { text, split })
     }
 
@@ -63,9 +62,9 @@ impl Version {
         ensures { result ≡ version_cmp self.now other.now }
     {
         order_split(
-            self.text.as_str().as_bytes(),
+            self.text.as_bytes(),
             self.split,
-            other.text.as_str().as_bytes(),
+            other.text.as_bytes(),
             other.split,
         )
     }
@@ -82,7 +81,7 @@ impl Version {
     pub fn copy(&self, alloc: Global) -> Result<Version, NoMemory>
         ensures { IfOk result (λ v. v ≡ self.now) }
     {
-        let text = InlineText::from_str(alloc, self.text())?;
+        let text = String::from_str(alloc, self.text())?;
         Ok(Version {
             text,
             split: self.split,
