@@ -55,6 +55,7 @@ pub mod Suites
 pub mod BuiltOrder
 pub mod Alive
 pub mod Showing
+pub mod OneSort
 pub mod KeyPlaces
 pub mod Mapped
 pub mod Giving
@@ -62,5 +63,4 @@ pub mod Lending
 pub mod Settling
 pub mod Lifted
 pub mod Blocking
-pub mod Merging
 pub mod Hinted

@@ -1,20 +1,16 @@
 -- What stands of a pool is what its flags show.
-use Rattle.std.specs.Prelude.{ℕ, ◌<◌, Bool, true, List, [], Contains, Some, length, take, drop}
+use Rattle.std.specs.Prelude.{ℕ, ◌<◌, Bool, true, List, [], Contains, Some, length}
 use Rattle.std.specs.List.{All, slice_get, range_with_len}
 use Rattle.std.specs.List.Sorted.{IsStrictlySortedBy}
 use Rattle.std.proofs.Common.{◌≡◌, sym, ap, ◌∙◌, arith, inl, inr}
-use Rattle.std.proofs.lemmas.List.{take-append-drop}
-use Rattle.std.proofs.lemmas.List.Elements.{filter_map-append}
 use Rattle.std.proofs.lemmas.List.FromFn.{length-range_with_len, get_or-range_with_len}
 use Rattle.testing_install.specs.Closed.{marked}
 use Rattle.testing_rules.specs.declared.suite.RowIn.{RowIn}
 use Rattle.testing_rules.specs.AfterMoves.{with_rows, rows_at}
 use Rattle.testing_rules.specs.InOrder.{AreByKey}
-use Rattle.testing_rules.specs.Moves.{put_row}
 use Rattle.testing_rules.specs.Standing.{IsShown, PoolState, set_places, standing}
 use Rattle.testing_rules.specs.Words.{Text}
 use Rattle.testing_rules.proofs.Flags.{marked_within, bounded_members}
-use Rattle.testing_rules.proofs.Grouping.{fold-append}
 use Rattle.testing_rules.proofs.Least.{from_filter, to_filter}
 use Rattle.testing_rules.proofs.Members.{none_among}
 use Rattle.testing_rules.proofs.Moving.{puts_from, puts_have, AreOthers}
@@ -39,16 +35,6 @@ pub standing_at : (pool : List RowIn) (settled : List Text) (first : ℕ) (stand
     → with_rows (rows_at pool places) [] ≡ standing (record { rows = pool; settled = settled; first = first; stands = stands; archs = archs })
 unfolding standing
 standing_at pool settled first stands archs places e = ap (λ ks. with_rows (rows_at pool ks) []) e
-
--- those at the first places, and then those at the others
-pub rows-in_turn : (pool : List RowIn) (places : List ℕ) (n : ℕ) → with_rows (rows_at pool (drop n places)) (with_rows (rows_at pool (take n places)) []) ≡ with_rows (rows_at pool places) []
-rows-in_turn pool places n =
-    let put_in : List RowIn → RowIn → List RowIn = λ xs r. put_row r xs in
-    let front = take n places in
-    let back = drop n places in
-    sym (fold-append put_in [] (rows_at pool front) (rows_at pool back))
-    ∙ ap (λ rs. with_rows rs []) (sym (filter_map-append (slice_get pool) front back))
-    ∙ ap (λ ks. with_rows (rows_at pool ks) []) (take-append-drop n places)
 
 pub standing-by_key : (s : PoolState) → AreByKey (standing s)
 unfolding standing

@@ -135,7 +135,7 @@ rising_all : (x : RowIn) (rows : List RowIn) → AllByRecursion (λ k. row_cmp (
 rising_all x [] h = tt
 rising_all x (y ∷ rows) h = (h.0, rising_all x rows h.1)
 
-rising : (rows : List RowIn) → AreByKey rows → Rises (on_total row_key row_order) rows
+pub rising : (rows : List RowIn) → AreByKey rows → Rises (on_total row_key row_order) rows
 unfolding IsStrictlySortedBy
 rising [] h = tt
 rising (x ∷ rows) h = (rising_all x rows h.0, rising rows h.1)

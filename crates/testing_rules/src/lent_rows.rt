@@ -1,16 +1,15 @@
 //! Rows that are lent, in the order of testing: a change moves places and copies no row.
 
-ghost use Rattle.std.specs.Prelude.{◌≡◌, ◌<◌, ◌≤◌, true, length, drop, not, filter, Some, Err, OnOk, OnErr, IfOk};
-ghost use Rattle.std.specs.List.{All, slice_get};
+ghost use Rattle.std.specs.Prelude.{◌≡◌, ◌<◌, true, length, [], not, filter, Err, OnOk, OnErr, IfOk};
+ghost use Rattle.std.specs.List.{All};
 ghost use Rattle.std.specs.List.Sorted.{IsBinarySearchResult, IsSearchInRange};
-ghost use Rattle.std.specs.declared.cmp.Ordering.TheVariants.{Less};
 ghost use Rattle.testing_rules.specs.AfterMoves.{with_rows, rows_at, moved_rows, rows_without};
 ghost use Rattle.testing_rules.specs.FactOrder.{AreBySource};
 ghost use Rattle.testing_rules.specs.InOrder.{AreByKey};
 ghost use Rattle.testing_rules.specs.JudgedRows.{lent, row_of};
 ghost use Rattle.testing_rules.specs.Moves as rules;
+ghost use Rattle.testing_rules.specs.SameMessages.{SameElements};
 ghost use Rattle.testing_rules.specs.Unstable as unstable_words;
-ghost use Rattle.testing_rules.specs.declared.suite.RowIn.{RowIn as ARow};
 
 use crate::facts::UploadIn;
 use crate::moves::{Unstable, source_in};
@@ -71,7 +70,7 @@ fn put_row<'a>(rows: &mut Vec<LentRow<'a>>, row: &LentRow<'a>) -> Result<(), NoM
 }
 
 /// Puts in the rows of a pool at some places, each under its key.
-pub fn put_rows<'a>(
+fn put_rows<'a>(
     rows: &mut Vec<LentRow<'a>>,
     pool: &Pool<'a>,
     places: &[usize],
@@ -88,76 +87,66 @@ pub fn put_rows<'a>(
     Ok(())
 }
 
-/// Puts in rows, each under its key.
-fn put_lent<'a>(rows: &mut Vec<LentRow<'a>>, others: &[LentRow<'a>]) -> Result<(), NoMemory>
-    requires { AreByKey (lent rows.old.items) }
-    ensures ok { OnOk result (lent rows.new.items ≡ with_rows (lent others.now) (lent rows.old.items)) }
-    ensures ordered { AreByKey (lent rows.new.items) }
-{
-    for other in others {
-        put_row(rows, other)?;
-    }
-    Ok(())
-}
-
-/// How many rows stand before the first whose key is above the row's.
-fn count_before(rows: &[LentRow], row: &LentRow) -> usize
-    ensures bound { result ≤ length rows.now }
-    ensures above { (r : ARow) → slice_get (lent rows.now) result ≡ Some r → rules.row_cmp (rules.row_key (row_of row.now)) (rules.row_key r) ≡ Less }
-{
-    for place in 0..rows.len() {
-        if order_rows(row, &rows[place]).is_lt() {
-            return place;
-        }
-    }
-    rows.len()
-}
-
-/// Puts in the row, and before it those of the others from a place on whose keys aren't above its own. Gives the place
-/// at which the rest of them begins.
-fn put_turn<'a>(
-    rows: &mut Vec<LentRow<'a>>,
-    others: &[LentRow<'a>],
-    from: usize,
-    row: &LentRow<'a>,
-) -> Result<usize, NoMemory>
-    requires order { AreByKey (lent rows.old.items) }
-    requires others { AreByKey (lent others.now) }
-    requires from { from ≤ length others.now }
-    ensures ok { IfOk result (λ next. with_rows (drop next (lent others.now)) (lent rows.new.items)
-        ≡ rules.put_row (row_of row.now) (with_rows (drop from (lent others.now)) (lent rows.old.items))) }
-    ensures bound { IfOk result (λ next. next ≤ length others.now) }
-    ensures ordered { AreByKey (lent rows.new.items) }
-{
-    let (_, left) = others.split_at(from);
-    let count = count_before(left, row);
-    let (before, _) = left.split_at(count);
-    put_lent(rows, before)?;
-    put_row(rows, row)?;
-    Ok(from + count)
-}
-
-/// Rows with those of a pool at some places put in, each under its key. Where those of the pool are in order too, both
-/// are merged: each row comes behind those before it, and no row is moved.
-pub fn merged_rows<'a>(
+/// The rows of a pool at some places, as the places stand.
+fn rows_at<'a>(
     alloc: Global,
-    rows: &[LentRow<'a>],
     pool: &Pool<'a>,
     places: &[usize],
 ) -> Result<Vec<LentRow<'a>>, NoMemory>
-    requires order { AreByKey (lent rows.now) }
-    requires places { All (λ k. k < length pool.now) places.now }
-    ensures { IfOk result (λ merged. lent merged.items ≡ with_rows (rows_at pool.now places.now) (lent rows.now)) }
+    requires { All (λ k. k < length pool.now) places.now }
+    ensures { IfOk result (λ rows. lent rows.items ≡ rows_at pool.now places.now) }
 {
-    let mut merged = Vec::with_capacity(alloc, rows.len().saturating_add(places.len()))?;
-    let mut next = 0;
+    let mut rows = Vec::with_capacity(alloc, places.len())?;
     for place in places {
         let row = pool.row(*place);
-        next = put_turn(&mut merged, rows, next, &row)?;
+        rows.push(row)?;
     }
-    let (_, left) = rows.split_at(next);
-    put_lent(&mut merged, left)?;
-    Ok(merged)
+    Ok(rows)
+}
+
+/// Brings rows into the order of their keys. Stretches that are in order already are kept as they are, and merged.
+fn sort_rows(rows: &mut Vec<LentRow>) -> Result<(), NoMemory>
+    ensures { SameElements (lent rows.old.items) (lent rows.new.items) }
+{
+    rows.sort_by(
+        |row: &LentRow, other: &LentRow| -> Ordering
+            ensures { result ≡ rules.row_cmp (rules.row_key (row_of row.now)) (rules.row_key (row_of other.now)) }
+        { order_rows(row, other) },
+    )?;
+    Ok(())
+}
+
+/// Each row's key is above that of the row before it.
+fn are_by_key(rows: &[LentRow]) -> bool
+    ensures { result ≡ true → AreByKey (lent rows.now) }
+{
+    for place in 0..rows.len() {
+        let (before, _) = rows.split_at(place);
+        if !is_behind(before, &rows[place]) {
+            return false;
+        }
+    }
+    true
+}
+
+/// The rows of a pool at some places, each put under its key: of those with one key the last. Rows of different keys
+/// are sorted, and only where two have one key are they put in one after the other. The one error is want of memory.
+pub fn rows_in_order<'a>(
+    alloc: Global,
+    pool: &Pool<'a>,
+    places: &[usize],
+) -> Result<Vec<LentRow<'a>>, NoMemory>
+    requires { All (λ k. k < length pool.now) places.now }
+    ensures { IfOk result (λ rows. lent rows.items ≡ with_rows (rows_at pool.now places.now) []) }
+{
+    let mut rows = rows_at(alloc, pool, places)?;
+    sort_rows(&mut rows)?;
+    if are_by_key(&rows) {
+        return Ok(rows);
+    }
+    rows.clear();
+    put_rows(&mut rows, pool, places)?;
+    Ok(rows)
 }
 
 /// Puts in the current rows of a source, each under its key.

@@ -1,6 +1,6 @@
 //! Which rows of a pool stand in testing during a run, and the suite of each architecture.
 
-ghost use Rattle.std.specs.Prelude.{◌≡◌, ℕ, ◌++◌, ◌<◌, true, false, Bool, nat_lt, length, take, drop, replicate, [], IfOk, option_copied, Some, List, Option};
+ghost use Rattle.std.specs.Prelude.{◌≡◌, ℕ, ◌++◌, ◌<◌, true, false, Bool, nat_lt, length, replicate, [], IfOk, option_copied, Some, List, Option};
 ghost use Rattle.std.specs.List.{All, list_all, slice_get, range_with_len};
 ghost use Rattle.testing_install.specs.Among.{with_all, after_change};
 ghost use Rattle.testing_install.specs.Closed.{marked};
@@ -18,7 +18,7 @@ ghost use Rattle.testing_rules.specs.declared.suite.RowIn.{RowIn as ARow};
 use crate::arch_suite::ArchSuite;
 use crate::change::{Change, change_by_move, change_by_removal};
 use crate::facts::UploadIn;
-use crate::lent_rows::{merged_rows, put_rows};
+use crate::lent_rows::rows_in_order;
 use crate::pool::Pool;
 use crate::suite::{LentRow, RowIn};
 use crate::trial::first_lost;
@@ -74,13 +74,6 @@ fn set_places(alloc: Global, flags: &[bool]) -> Result<Vec<usize>, NoMemory>
         }
     }
     Ok(places)
-}
-
-/// The places below one and those behind, where they stand in order.
-fn places_around(places: &[usize], first: usize) -> (&[usize], &[usize])
-    ensures { (n : ℕ) × (result.0.now ≡ take n places.now) × (result.1.now ≡ drop n places.now) }
-{
-    places.split_at(places.partition_point(|place| *place < first))
 }
 
 /// The suite of each architecture over the pool's rows on it, with no row there yet.
@@ -249,10 +242,7 @@ impl<'a> PoolSuites<'a> {
         ensures { IfOk result (λ rows. lent rows.items ≡ standing self.now) }
     {
         let places = set_places(alloc, &self.stands)?;
-        let (before, behind) = places_around(&places, self.first);
-        let mut rows = Vec::with_capacity(alloc, before.len())?;
-        put_rows(&mut rows, &self.pool, before)?;
-        merged_rows(alloc, &rows, &self.pool, behind)
+        rows_in_order(alloc, &self.pool, &places)
     }
 
     /// The rows of each source of the group may come: none of them is settled.
