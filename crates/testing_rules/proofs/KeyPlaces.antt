@@ -11,13 +11,13 @@ use Rattle.testing_rules.specs.Words.{put_by}
 use Rattle.testing_rules.proofs.KeyOrder.{below_at, turned, searchable}
 
 module _ {A K : Type 0} (key : A → K) {cmp : K → K → Ordering} (o : IsTotalOrder cmp) (x : A) where
-  pub behind : (y : A) (ys : List A) → cmp (key x) (key y) ≡ Greater → put_by key cmp x (y ∷ ys) ≡ y ∷ put_by key cmp x ys
+  behind : (y : A) (ys : List A) → cmp (key x) (key y) ≡ Greater → put_by key cmp x (y ∷ ys) ≡ y ∷ put_by key cmp x ys
   behind y ys e = rw (put_by, e) refl
 
-  pub ahead : (y : A) (ys : List A) → cmp (key x) (key y) ≡ Less → put_by key cmp x (y ∷ ys) ≡ x ∷ y ∷ ys
+  ahead : (y : A) (ys : List A) → cmp (key x) (key y) ≡ Less → put_by key cmp x (y ∷ ys) ≡ x ∷ y ∷ ys
   ahead y ys e = rw (put_by, e) refl
 
-  pub level : (y : A) (ys : List A) → cmp (key x) (key y) ≡ Equal → put_by key cmp x (y ∷ ys) ≡ x ∷ ys
+  level : (y : A) (ys : List A) → cmp (key x) (key y) ≡ Equal → put_by key cmp x (y ∷ ys) ≡ x ∷ ys
   level y ys e = rw (put_by, e) refl
 
   put_over : (xs : List A) (i : ℕ) (d : A) → IsStrictlySortedBy cmp (map key xs) → i < length xs → cmp (key (get_or xs i d)) (key x) ≡ Equal
