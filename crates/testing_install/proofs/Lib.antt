@@ -16,3 +16,4 @@ pub mod Marking
 pub mod Reviving
 pub mod Needing
 pub mod Standing
+pub mod Sharing

@@ -1,8 +1,8 @@
 -- What setting marks does.
-use Rattle.std.proofs.Common.{◌≡◌, ℕ, zero, suc, ◌+◌, ◌<◌, Bool, true, false, cond, ◌⊎◌, List, [], ◌∷◌, ◌++◌, length, get_or, set, drop, ◌≤◌, sym, refl, ap, ap₂, ◌∙◌, subst, inl, inr, arith}
+use Rattle.std.proofs.Common.{◌≡◌, ℕ, zero, suc, ◌+◌, ◌<◌, Bool, true, false, cond, ◌⊎◌, List, [], ◌∷◌, ◌++◌, length, get_or, set, drop, take, replicate, ◌-◌, ◌≤◌, sym, refl, ap, ap₂, ◌∙◌, subst, inl, inr, arith}
 use Rattle.std.specs.List.{Contains, count_by}
 use Rattle.std.proofs.lemmas.Bool.{cases_eq, false≢true}
-use Rattle.std.proofs.lemmas.List.{length-set, get_or-set_same, get_or-set_other, get_or_default, drop_more, drop_all}
+use Rattle.std.proofs.lemmas.List.{length-set, get_or-set_same, get_or-set_other, get_or_default, drop_more, drop_all, take_all, length-append}
 use Rattle.std.proofs.lemmas.List.Elements.{Contains-append_left, Contains-push, Contains-push_cases}
 use Rattle.std.proofs.lemmas.List.Sums.{sum_by-set}
 use Rattle.testing_install.specs.Closed.{marked}
@@ -73,6 +73,32 @@ same_list [] [] e h = refl
 same_list [] (y ∷ ys) e h = absurd (omega (arith, e))
 same_list (x ∷ xs) [] e h = absurd (omega (arith, e))
 same_list (x ∷ xs) (y ∷ ys) e h = ap₂ (λ z zs. z ∷ zs) (h zero) (same_list xs ys (omega (arith, e)) (λ k. h (suc k)))
+
+-- marks of more rows, where those behind have none
+
+pub marked_longer : (xs : List Bool) (n k : ℕ) → marked (xs ++ replicate n false) k ≡ marked xs k
+marked_longer [] zero k = refl
+marked_longer [] (suc n) zero = refl
+marked_longer [] (suc n) (suc k) = marked_longer [] n k
+marked_longer (x ∷ xs) n zero = refl
+marked_longer (x ∷ xs) n (suc k) = marked_longer xs n k
+
+-- what `resize` gives
+pub grown_to : (xs ys : List Bool) (n len : ℕ) → ys ≡ take n xs ++ replicate (n - len) false → len ≡ length xs → length xs ≤ n → ys ≡ xs ++ replicate (n - length xs) false
+grown_to xs ys n len e long h = e ∙ ap (λ zs. zs ++ replicate (n - len) false) (take_all n xs h) ∙ ap (λ l. xs ++ replicate (n - l) false) long
+
+pub tracked_longer : (current kept new_current new_kept : List Bool) (touched : List ℕ) (n : ℕ) → new_current ≡ current ++ replicate (n - length current) false → new_kept ≡ kept ++ replicate (n - length kept) false → IsTracked current kept touched → IsTracked new_current new_kept touched
+tracked_longer current kept new_current new_kept touched n ec ek t =
+    let behind : List Bool = replicate (n - length current) false in
+    let same : new_kept ≡ kept ++ behind = ek ∙ ap (λ l. kept ++ replicate (n - l) false) (sym t.long) in
+    record {
+      long = omega (arith, ap length ec, ap length same, length-append current behind, length-append kept behind, t.long);
+      touched_in = λ k c. omega (arith, t.touched_in k c, ap length ec, length-append current behind);
+      same = λ k. elim (t.same k) [
+        | inl e ↦ inl (ap (λ xs. marked xs k) ec ∙ marked_longer current (n - length current) k ∙ e ∙ sym (ap (λ xs. marked xs k) same ∙ marked_longer kept (n - length current) k))
+        | inr c ↦ inr c
+      ];
+    }
 
 -- the way back
 

@@ -18,7 +18,7 @@ use Rattle.testing_install.specs.Satisfies.{satisfies, meets}
 use Rattle.testing_install.specs.Index.{bears, PlacesByName, places_at}
 use Rattle.testing_install.specs.Among.{may_need}
 use Rattle.testing_install.specs.Needers.{names, needs_name, IsNotedAt, IsNeeders, places_for}
-use Rattle.testing_install.proofs.Indexing.{places_none, IsAdded, added_stays, added_here, added_within}
+use Rattle.testing_install.proofs.Indexing.{IsAdded, added_stays, added_here, added_within}
 use Rattle.testing_install.proofs.Finding.{any_true, any_at, satisfies_bears}
 use Rattle.testing_install.proofs.Members.{members_from_all, contains_part, part_contains}
 
@@ -77,9 +77,9 @@ pub record IsNeedersTo (rows : List Binary) (map : PlacesByName) (n : ℕ) : Typ
   pub within : (q : List ℕ) → All (λ k. k < length rows) (places_at map q)
   pub complete : (q : List ℕ) (k : ℕ) (row : Binary) → k < n → slice_get rows k ≡ Some row → needs_name row q ≡ true → Contains (places_at map q) k
 
-pub needers_none : (rows : List Binary) (map : PlacesByName) → map.entries ≡ [] → IsNeedersTo rows map 0
+pub needers_none : (rows : List Binary) (map : PlacesByName) → ((q : List ℕ) → places_at map q ≡ []) → IsNeedersTo rows map 0
 needers_none rows map e = record {
-  within = λ q k d h. absurd (omega (arith, h, ap length (places_none map q e)));
+  within = λ q k d h. absurd (omega (arith, h, ap length (e q)));
   complete = λ q k row h. absurd (omega arith);
 }
 

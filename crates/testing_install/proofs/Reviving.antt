@@ -1,5 +1,5 @@
 -- Rows get their marks back that may be installable again after a change; and a whole change.
-use Rattle.std.proofs.Common.{◌≡◌, ℕ, ◌+◌, ◌<◌, ◌≤◌, Bool, true, false, ◌⊎◌, List, [], ◌∷◌, ◌++◌, length, get_or, set, Some, None, sym, refl, ap, ◌∙◌, subst, ⊎_elim, inl, inr, arith}
+use Rattle.std.proofs.Common.{◌≡◌, ℕ, ◌+◌, ◌<◌, ◌≤◌, Bool, true, false, ◌⊎◌, List, [], ◌∷◌, ◌++◌, length, get_or, set, Some, None, Global, sym, refl, ap, ◌∙◌, subst, ⊎_elim, inl, inr, arith}
 use Rattle.std.specs.List.{slice_get, All, Contains}
 use Rattle.std.proofs.lemmas.Option.{same_Some}
 use Rattle.std.proofs.lemmas.Bool.{cases_Bool, cases_eq, cases_lt, false≢true}
@@ -10,9 +10,9 @@ use Rattle.testing_install.specs.Closed.{marked}
 use Rattle.testing_install.specs.Among.{with_all, may_need}
 use Rattle.testing_install.specs.Settling.{IsSettling, IsSized, IsReviving, IsRevived}
 use Rattle.testing_install.specs.Suite.{IsRight, IsChanged}
-use Rattle.testing_install.specs.declared.Row.{Row}
-use Rattle.testing_install.specs.Rows.{binaries}
-use Rattle.testing_install.proofs.Places.{binary_at, length-binaries}
+use Rattle.std.specs.declared.rc.Rc.{Rc}
+use Rattle.testing_install.specs.Rows.{shared}
+use Rattle.testing_install.proofs.Sharing.{shared_at, length-shared}
 use Rattle.testing_install.proofs.Members.{members_from_all, contains_first, contains_cons, contains_none}
 use Rattle.testing_install.proofs.Marking.{length-with_all, with_stays, with_here, with_elsewhere}
 use Rattle.testing_install.proofs.Restarting.{restart}
@@ -140,11 +140,11 @@ reviving_more rows there old start marks new fresh new_fresh places next row n s
 }
 
 -- the row of a fresh place, as it was read
-pub fresh_row : (rows : List Row) (fresh : List ℕ) (next place : ℕ) (row : Row) → next < length fresh → place ≡ get_or fresh next place → All (λ k. k < length rows) fresh → row ≡ get_or rows place row → (d : ℕ) → slice_get (binaries rows) (get_or fresh next d) ≡ Some row.binary.now
-fresh_row rows fresh next place row h read all at d =
+pub fresh_row : (rows : List (Rc Binary Global)) (fresh : List ℕ) (next place : ℕ) (row : Rc Binary Global) (binary : Binary) → next < length fresh → place ≡ get_or fresh next place → All (λ k. k < length rows) fresh → row ≡ get_or rows place row → binary ≡ row.value → (d : ℕ) → slice_get (shared rows) (get_or fresh next d) ≡ Some binary
+fresh_row rows fresh next place row binary h read all at is d =
     let same : get_or fresh next d ≡ place = get_or_default fresh next d place h ∙ sym read in
     let within : place < length rows = omega (arith, all next place h, read) in
-    ap (λ p. slice_get (binaries rows) p) same ∙ binary_at rows place row within at
+    ap (λ p. slice_get (shared rows) p) same ∙ shared_at rows place row binary within at is
 
 -- a whole change
 
@@ -283,8 +283,8 @@ pub bounded_by : (m n : ℕ) (xs : List ℕ) → All (λ k. k < m) xs → m ≡ 
 bounded_by m n xs all e k d h = omega (arith, all k d h, e)
 
 -- the places of a change, one by one
-pub places_in : (rows : List Row) (xs : List ℕ) → All (λ k. k < length rows) xs → (k : ℕ) → Contains xs k → k < length (binaries rows)
-places_in rows xs all k c = omega (arith, members_from_all (length rows) xs all k c, length-binaries rows)
+pub places_in : (rows : List (Rc Binary Global)) (xs : List ℕ) → All (λ k. k < length rows) xs → (k : ℕ) → Contains xs k → k < length (shared rows)
+places_in rows xs all k c = omega (arith, members_from_all (length rows) xs all k c, length-shared rows)
 
 -- the steps of a change, one after the other
 pub reviving_begun : (rows : List Binary) (t m : List Bool) (leaving coming : List ℕ) → IsRight rows t m → ((k : ℕ) → Contains leaving k → k < length rows) → ((k : ℕ) → Contains coming k → k < length rows) → (there m_now : List Bool) (fresh : List ℕ) → there ≡ with_all true coming (with_all false leaving t) → m_now ≡ with_all true coming (with_all false leaving m) → fresh ≡ coming → IsReviving rows (marked there) (marked m) m_now m_now fresh 0

@@ -1,48 +1,99 @@
 -- A suite is right as it begins, and what it says is what the definition says.
-use Rattle.std.proofs.Common.{◌≡◌, ℕ, zero, suc, ◌<◌, ◌↔◌, Bool, true, false, ◌&&◌, ◌||◌, not, filter, ◌⊎◌, eqb, List, length, get_or, replicate, Some, sym, refl, ap, ◌∙◌, subst, ⊎_elim, inl, inr, arith}
+use Rattle.std.proofs.Common.{◌≡◌, ℕ, zero, suc, ◌-◌, ◌<◌, ◌↔◌, Bool, true, false, ◌&&◌, ◌||◌, not, filter, ◌⊎◌, eqb, List, [], ◌++◌, length, get_or, replicate, Some, sym, refl, ap, ◌∙◌, subst, ⊎_elim, inl, inr, arith}
 use Rattle.std.specs.List.{slice_get, Contains}
 use Rattle.std.proofs.lemmas.Option.{slice_get_within, same_Some}
 use Rattle.std.proofs.lemmas.Bool.{cases_Bool, false≢true, or_cases, or_right, and_parts, cases_eq, not-true, eq-eqb, eqb-true}
-use Rattle.std.proofs.lemmas.List.{length-replicate}
+use Rattle.std.proofs.lemmas.List.{length-replicate, length-append}
 use Rattle.deb_control.specs.declared.binary.Binary.{Binary}
 use Rattle.testing_install.specs.Closed.{IsClosed, IsInside, IsInstallable, marked}
-use Rattle.testing_install.specs.Among.{IsLost, IsInstallableAmong, IsListOf}
-use Rattle.testing_install.specs.Index.{PlacesByName, IsIndex}
-use Rattle.testing_install.specs.Needers.{IsNeeders}
+use Rattle.testing_install.specs.Among.{IsLost, IsInstallableAmong, IsListOf, IsGreatestAmong}
+use Rattle.testing_install.specs.Index.{PlacesByName}
+use Rattle.testing_install.specs.Needers.{IsGraph}
 use Rattle.testing_install.specs.Suite.{IsRight, IsChanged, IsSuite}
-use Rattle.testing_install.specs.Tracked.{Tracked}
+use Rattle.testing_install.specs.Tracked.{Tracked, longer}
 use Rattle.testing_install.proofs.Members.{in_filter, from_filter}
 use Rattle.testing_install.proofs.Sweeping.{met_by_larger}
-use Rattle.testing_install.proofs.Marking.{mark_within}
+use Rattle.testing_install.proofs.Marking.{mark_within, marked_longer}
+use Rattle.testing_install.proofs.Sharing.{slice_get_before}
 use Rattle.testing_install.proofs.Counting.{slice_get_some}
 
-no_mark : (n k : ℕ) → marked (replicate n false) k ≡ false
-no_mark zero k = refl
-no_mark (suc n) zero = refl
-no_mark (suc n) (suc k) = no_mark n k
+-- a suite of no rows
+pub suite_empty : (rows : List Binary) (bearers needers : PlacesByName) (there installable : Tracked) → rows ≡ [] → there ≡ record { current = []; kept = [] } → installable ≡ record { current = []; kept = [] } → IsGraph [] bearers needers → IsSuite rows bearers needers there installable
+suite_empty rows bearers needers there installable er et ei graph =
+    let none : Tracked = record { current = []; kept = [] } in
+    let begun : IsSuite [] bearers needers none none = record {
+      graph = graph;
+      right = record {
+        there_len = refl;
+        installable_len = refl;
+        greatest = record {
+          inside = λ k on. on;
+          closed = λ k row at on. absurd (false≢true on);
+          greatest = λ other closed within k h. absurd (omega (arith, h));
+        };
+      };
+      there_kept = refl;
+      installable_kept = refl;
+    } in
+    subst (λ rs. IsSuite rs bearers needers there installable) (sym er) (subst (λ t. IsSuite [] bearers needers t installable) (sym et) (subst (λ t. IsSuite [] bearers needers none t) (sym ei) begun))
 
--- no place of n
-abbrev pub none_of : ℕ → Tracked
-none_of n = record { current = replicate n false; kept = replicate n false }
+-- more rows behind, none of which is there
+module _ (rows more : List Binary) (there installable : List Bool) (n : ℕ) (right : IsRight rows there installable) where
+  in_front : (k : ℕ) (row : Binary) → k < length rows → slice_get (rows ++ more) k ≡ Some row → slice_get rows k ≡ Some row
+  in_front k row h at = sym (slice_get_before rows more k h) ∙ at
 
--- where no row is there, none is installable
-pub right_none : (rows : List Binary) (n : ℕ) → length rows ≡ n → IsRight rows (replicate n false) (replicate n false)
-right_none rows n e = record {
-  there_len = length-replicate n false ∙ sym e;
-  installable_len = length-replicate n false ∙ sym e;
-  greatest = record {
-    inside = λ k on. on;
-    closed = λ k row at on. absurd (false≢true (sym (no_mark n k) ∙ on));
-    greatest = λ other closed within k h on. within k h on;
-  };
-}
+  below : (k : ℕ) → marked (there ++ replicate n false) k ≡ true → k < length rows
+  below k on = omega (arith, mark_within there k (sym (marked_longer there n k) ∙ on), right.there_len)
 
--- a suite in which no row is there
-pub suite_none : (rows : List Binary) (bearers needers : PlacesByName) (there installable : Tracked) (n m : ℕ) → IsIndex rows bearers → IsNeeders rows needers → n ≡ length rows → m ≡ length rows → there ≡ none_of n → installable ≡ none_of m → IsSuite rows bearers needers there installable
-suite_none rows bearers needers there installable n m borne needed en em et ei =
-    let same : installable ≡ none_of n = ei ∙ ap none_of (em ∙ sym en) in
-    let begun : IsSuite rows bearers needers (none_of n) (none_of n) = record { graph = record { borne = borne; needed = needed }; right = right_none rows n (sym en); there_kept = refl; installable_kept = refl } in
-    subst (λ t. IsSuite rows bearers needers t installable) (sym et) (subst (λ t. IsSuite rows bearers needers (none_of n) t) (sym same) begun)
+  -- a closed set of all the rows that is inside those that are there is one of the rows in front
+  front_closed : (other : ℕ → Bool) → IsClosed (rows ++ more) other → IsInside (rows ++ more) other (marked (there ++ replicate n false)) → IsClosed rows other
+  front_closed other closed within k row at on i d h =
+      let m = closed k row (slice_get_before rows more k (slice_get_within rows k row at) ∙ at) on i d h in
+      let here = below m.0 (within m.0 (slice_get_within (rows ++ more) m.0 m.1 m.2) m.3) in
+      (m.0, m.1, in_front m.0 m.1 here m.2, m.3, m.4)
+
+  greatest_longer : IsGreatestAmong (rows ++ more) (marked (there ++ replicate n false)) (marked (installable ++ replicate n false))
+  greatest_longer = record {
+    inside = λ k on. marked_longer there n k ∙ right.greatest.inside k (sym (marked_longer installable n k) ∙ on);
+    closed = λ k row at on i d h.
+        let was : marked installable k ≡ true = sym (marked_longer installable n k) ∙ on in
+        let here : k < length rows = omega (arith, mark_within installable k was, right.installable_len) in
+        let m = right.greatest.closed k row (in_front k row here at) was i d h in
+        (m.0, m.1, slice_get_before rows more m.0 (slice_get_within rows m.0 m.1 m.2) ∙ m.2, marked_longer installable n m.0 ∙ m.3, m.4);
+    greatest = λ other closed within k h on.
+        let inside : IsInside rows other (marked there) = λ j l o. sym (marked_longer there n j) ∙ within j (omega (arith, l, length-append rows more)) o in
+        marked_longer installable n k ∙ right.greatest.greatest other (front_closed other closed within) inside k (below k (within k h on)) on;
+  }
+
+  pub right_longer : n ≡ length more → IsRight (rows ++ more) (there ++ replicate n false) (installable ++ replicate n false)
+  right_longer e = record {
+    there_len = omega (arith, length-append there (replicate n false), length-append rows more, length-replicate n false, right.there_len, e);
+    installable_len = omega (arith, length-append installable (replicate n false), length-append rows more, length-replicate n false, right.installable_len, e);
+    greatest = greatest_longer;
+  }
+
+-- the marks behind are as many as the new rows
+pub behind : (rows more all : List Binary) (marks : List Bool) (m : ℕ) → all ≡ rows ++ more → m ≡ length all → length marks ≡ length rows → m - length marks ≡ length more
+behind rows more all marks m are size long = omega (arith, size, long, ap length are, length-append rows more)
+
+pub suite_longer : (rows more all : List Binary) (b0 n0 b1 n1 : PlacesByName) (there installable there1 installable1 : Tracked) (m m1 : ℕ) → all ≡ rows ++ more → m ≡ length all → m1 ≡ length all → IsSuite rows b0 n0 there installable → (IsGraph rows b0 n0 → IsGraph all b1 n1) → there1 ≡ longer m there → installable1 ≡ longer m1 installable → IsSuite all b1 n1 there1 installable1
+suite_longer rows more all b0 n0 b1 n1 there installable there1 installable1 m m1 are size size1 s graph et ei =
+    let n : ℕ = length more in
+    let t : there.current ++ replicate (m - length there.current) false ≡ there.current ++ replicate n false = ap (λ k. there.current ++ replicate k false) (behind rows more all there.current m are size s.right.there_len) in
+    let i : installable.current ++ replicate (m1 - length installable.current) false ≡ installable.current ++ replicate n false = ap (λ k. installable.current ++ replicate k false) (behind rows more all installable.current m1 are size1 s.right.installable_len) in
+    let right : IsRight (rows ++ more) (there.current ++ replicate n false) (installable.current ++ replicate n false) = right_longer rows more there.current installable.current n s.right refl in
+    let right_all : IsRight all (longer m there).current (longer m1 installable).current = subst (λ rs. IsRight rs (longer m there).current (longer m1 installable).current) (sym are) (subst (λ xs. IsRight (rows ++ more) xs (longer m1 installable).current) (sym t) (subst (λ xs. IsRight (rows ++ more) (there.current ++ replicate n false) xs) (sym i) right)) in
+    let begun : IsSuite all b1 n1 (longer m there) (longer m1 installable) = record {
+      graph = graph s.graph;
+      right = right_all;
+      there_kept = ap (λ xs. xs ++ replicate (m - length xs) false) s.there_kept;
+      installable_kept = ap (λ xs. xs ++ replicate (m1 - length xs) false) s.installable_kept;
+    } in
+    subst (λ x. IsSuite all b1 n1 x installable1) (sym et) (subst (λ x. IsSuite all b1 n1 (longer m there) x) (sym ei) begun)
+
+-- which rows are there, with so many behind
+pub there_longer : (rows more all : List Binary) (marks : List Bool) (m n : ℕ) → all ≡ rows ++ more → m ≡ length all → length marks ≡ length rows → length more ≡ n → marks ++ replicate (m - length marks) false ≡ marks ++ replicate n false
+there_longer rows more all marks m n are size long new = ap (λ k. marks ++ replicate k false) (behind rows more all marks m are size long ∙ new)
 
 -- the marks are exactly the installable rows
 pub right_exact : (rows : List Binary) (there installable : List Bool) → IsRight rows there installable → (k : ℕ) → (marked installable k ≡ true) ↔ IsInstallableAmong rows (marked there) k

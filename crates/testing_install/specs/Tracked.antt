@@ -1,4 +1,4 @@
-use Rattle.std.specs.Prelude.{◌≡◌, ℕ, ◌<◌, Bool, ◌⊎◌, false, List, length, Contains, slice_index_or}
+use Rattle.std.specs.Prelude.{◌≡◌, ℕ, ◌<◌, ◌-◌, Bool, ◌⊎◌, false, List, ◌++◌, length, replicate, Contains, slice_index_or}
 
 -- the places of a set as it is, and as it was when it was last kept
 pub record Tracked : Type 0 where
@@ -12,6 +12,10 @@ undone t = record { current = t.kept; kept = t.kept }
 -- as the set is, from now on the one to come back to
 abbrev pub confirmed : Tracked → Tracked
 confirmed t = record { current = t.current; kept = t.current }
+
+-- the set among so many rows, where none of those behind is in it
+abbrev pub longer : ℕ → Tracked → Tracked
+longer rows t = record { current = t.current ++ replicate (rows - length t.current) false; kept = t.kept ++ replicate (rows - length t.kept) false }
 
 -- the two lists differ at the touched places alone, which are places of both
 pub record IsTracked (current kept : List Bool) (touched : List ℕ) : Type 0 where

@@ -5,13 +5,14 @@ ghost use Rattle.std.specs.List.{All, count_by};
 ghost use Rattle.testing_install.specs.Among.{IsGreatestAmong, IsLost, after_change};
 ghost use Rattle.testing_install.specs.Closed.{marked};
 ghost use Rattle.testing_install.specs.Needers.{IsGraph};
-ghost use Rattle.testing_install.specs.Rows.{binaries};
+ghost use Rattle.testing_install.specs.Rows.{shared};
 ghost use Rattle.testing_install.specs.Settling.{IsReviving, IsRevived};
 ghost use Rattle.testing_install.specs.Suite.{IsRight, IsChanged};
 
+use crate::graph::Graph;
 use crate::marks::{Marks, set_all};
 use crate::needers::needers_on;
-use crate::settle::{Falls, Graph, look_at, take_turns};
+use crate::settle::{Falls, look_at, take_turns};
 use deb_version::NoMemory;
 use std::alloc::Global;
 
@@ -81,19 +82,19 @@ fn revive(
     marks: &mut Marks,
     fresh: &mut Vec<usize>,
 ) -> Result<(), NoMemory>
-    requires graph { IsGraph (binaries graph.now.rows.items) graph.now.bearers graph.now.needers }
+    requires graph { IsGraph (shared graph.now.rows.items) graph.now.bearers graph.now.needers }
     requires there { length there.now ≡ length graph.now.rows.items }
     requires marks { length marks.old.current ≡ length graph.now.rows.items }
     requires fresh { All (λ k. k < length graph.now.rows.items) fresh.old.items }
     ensures kept { marks.new.kept ≡ marks.old.kept }
     ensures long { OnOk result (length marks.new.current ≡ length graph.now.rows.items) }
     ensures fresh { OnOk result (All (λ k. k < length graph.now.rows.items) fresh.new.items) }
-    ensures revived { OnOk result ((old : ℕ → Bool) → IsReviving (binaries graph.now.rows.items) (marked there.now) old marks.old.current marks.old.current fresh.old.items 0
-        → IsReviving (binaries graph.now.rows.items) (marked there.now) old marks.old.current marks.new.current fresh.new.items (length fresh.new.items)) }
+    ensures revived { OnOk result ((old : ℕ → Bool) → IsReviving (shared graph.now.rows.items) (marked there.now) old marks.old.current marks.old.current fresh.old.items 0
+        → IsReviving (shared graph.now.rows.items) (marked there.now) old marks.old.current marks.new.current fresh.new.items (length fresh.new.items)) }
 {
     let mut next = 0;
     'revivals: while next < fresh.len() {
-        let needers = needers_on(alloc, &graph.needers, graph.rows[fresh[next]].binary)?;
+        let needers = needers_on(alloc, &graph.needers, graph.rows[fresh[next]].as_ref())?;
         revive_among(there, marks, fresh, &needers)?;
         next += 1;
     }
@@ -109,14 +110,14 @@ pub fn change(
     leaving: &[usize],
     coming: &[usize],
 ) -> Result<Vec<usize>, NoMemory>
-    requires graph { IsGraph (binaries graph.now.rows.items) graph.now.bearers graph.now.needers }
-    requires right { IsRight (binaries graph.now.rows.items) there.old.current marks.old.current }
+    requires graph { IsGraph (shared graph.now.rows.items) graph.now.bearers graph.now.needers }
+    requires right { IsRight (shared graph.now.rows.items) there.old.current marks.old.current }
     requires leaving { All (λ k. k < length graph.now.rows.items) leaving.now }
     requires coming { All (λ k. k < length graph.now.rows.items) coming.now }
     ensures there_kept { there.new.kept ≡ there.old.kept }
     ensures marks_kept { marks.new.kept ≡ marks.old.kept }
     ensures there { OnOk result (there.new.current ≡ after_change leaving.now coming.now there.old.current) }
-    ensures changed { IfOk result (λ lost. IsChanged (binaries graph.now.rows.items) there.old.current marks.old.current there.new.current marks.new.current lost.items) }
+    ensures changed { IfOk result (λ lost. IsChanged (shared graph.now.rows.items) there.old.current marks.old.current there.new.current marks.new.current lost.items) }
 {
     set_all(there, leaving, false)?;
     set_all(marks, leaving, false)?;
@@ -167,8 +168,8 @@ pub fn lost_by(
     leaving: &[usize],
     coming: &[usize],
 ) -> Result<Vec<usize>, NoMemory>
-    requires graph { IsGraph (binaries graph.now.rows.items) graph.now.bearers graph.now.needers }
-    requires right { IsRight (binaries graph.now.rows.items) there.old.current marks.old.current }
+    requires graph { IsGraph (shared graph.now.rows.items) graph.now.bearers graph.now.needers }
+    requires right { IsRight (shared graph.now.rows.items) there.old.current marks.old.current }
     requires there { there.old.kept ≡ there.old.current }
     requires marks { marks.old.kept ≡ marks.old.current }
     requires leaving { All (λ k. k < length graph.now.rows.items) leaving.now }
@@ -176,7 +177,7 @@ pub fn lost_by(
     ensures there_kept { there.new.kept ≡ there.old.kept }
     ensures marks_kept { marks.new.kept ≡ marks.old.kept }
     ensures lost { IfOk result (λ lost. (k : ℕ) → Contains lost.items k
-        ↔ IsLost (binaries graph.now.rows.items) (marked there.old.current) (marked (after_change leaving.now coming.now there.old.current)) k) }
+        ↔ IsLost (shared graph.now.rows.items) (marked there.old.current) (marked (after_change leaving.now coming.now there.old.current)) k) }
 {
     let fallen = change(alloc, graph, there, marks, leaving, coming)?;
     let lost = newly_lost(alloc, there, marks, &fallen)?;

@@ -7,7 +7,7 @@ ghost use Rattle.testing_install.specs.Rows.{binaries};
 ghost use Rattle.testing_install.specs.Satisfies.{satisfies};
 
 use crate::Row;
-use crate::index::{PlacesByName, places};
+use crate::index::NameIndex;
 use crate::satisfies::satisfies;
 use deb_control::{Alternative, Binary, Clause};
 
@@ -61,7 +61,7 @@ fn next_start(
 fn find_behind(
     rows: &[Row],
     marks: &[bool],
-    bearers: &PlacesByName<'_>,
+    bearers: &NameIndex,
     clause: &Clause,
     lost: Option<usize>,
 ) -> Option<usize>
@@ -75,7 +75,7 @@ fn find_behind(
     for alternative in clause.as_slice() {
         start = next_start(start, lost, row.binary, alternative);
         if let Some(start) = start {
-            let left = places_from(places(bearers, alternative.name.as_str()), start);
+            let left = places_from(bearers.places(alternative.name.as_str()), start);
             if let Some(place) = find_among(rows, marks, left, alternative) {
                 return Some(place);
             }
@@ -85,19 +85,14 @@ fn find_behind(
 }
 
 // The first marked row that meets the clause, in the order of its alternatives.
-fn find_first(
-    rows: &[Row],
-    marks: &[bool],
-    bearers: &PlacesByName<'_>,
-    clause: &Clause,
-) -> Option<usize>
+fn find_first(rows: &[Row], marks: &[bool], bearers: &NameIndex, clause: &Clause) -> Option<usize>
     requires marks { length marks.now ≡ length rows.now }
     requires index { IsIndex (binaries rows.now) bearers.now }
     ensures some { IfSome result (λ k. MeetsAt (binaries rows.now) (marked marks.now) clause.now k) }
     ensures none { IfNone result (IsMet (binaries rows.now) (marked marks.now) clause.now → ⊥) }
 {
     for alternative in clause.as_slice() {
-        let named = places(bearers, alternative.name.as_str());
+        let named = bearers.places(alternative.name.as_str());
         if let Some(place) = find_among(rows, marks, named, alternative) {
             return Some(place);
         }
@@ -110,7 +105,7 @@ fn find_first(
 pub fn find(
     rows: &[Row],
     marks: &[bool],
-    bearers: &PlacesByName<'_>,
+    bearers: &NameIndex,
     clause: &Clause,
     lost: Option<usize>,
 ) -> Option<usize>

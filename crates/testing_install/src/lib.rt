@@ -5,13 +5,14 @@
 //! slower, are for the tests.
 //!
 //! A `Suite` holds rows of which some are there, and tries changes of these: what a trial costs depends on what the
-//! change touches, and not on the size of the suite.
+//! change touches, and not on the size of the suite. It takes more rows behind its own at the cost of the new ones.
 #![tactic(auto)]
 
 mod change;
 mod claims;
 mod counted;
 mod find;
+mod graph;
 mod index;
 pub mod laws;
 mod marks;
@@ -30,6 +31,7 @@ mod work;
 
 pub use counted::{Counted, installable, installable_counted};
 use deb_control::Binary;
+pub use index::NameIndex;
 pub use suite::Suite;
 
 /// A row of testing: a binary package on an architecture.

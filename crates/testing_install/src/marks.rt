@@ -1,7 +1,7 @@
-ghost use Rattle.std.specs.Prelude.{◌≡◌, ℕ, ◌<◌, false, length, replicate, OnOk, OnErr, IfOk, slice_set, slice_index_or};
+ghost use Rattle.std.specs.Prelude.{◌≡◌, ℕ, ◌<◌, ◌≤◌, false, [], length, OnOk, OnErr, IfOk, slice_set, slice_index_or};
 ghost use Rattle.testing_install.specs.Among.{with_all};
 ghost use Rattle.testing_install.specs.Closed.{marked};
-ghost use Rattle.testing_install.specs.Tracked.{Tracked, undone, confirmed};
+ghost use Rattle.testing_install.specs.Tracked.{Tracked, undone, confirmed, longer};
 ghost use Rattle.std.specs.List.{All};
 
 use deb_version::NoMemory;
@@ -27,16 +27,34 @@ impl Model for Marks {
 }
 
 impl Marks {
-    /// No row is marked.
-    pub fn none(alloc: Global, rows: usize) -> Result<Marks, NoMemory>
-        ensures { IfOk result (λ m. m ≡ record { current = replicate rows false; kept = replicate rows false }) }
+    /// Marks of no rows.
+    pub fn empty(alloc: Global) -> Marks
+        ensures { result ≡ record { current = []; kept = [] } }
     {
-        let current = vec![in alloc; false; rows]?;
-        let kept = vec![in alloc; false; rows]?;
+        Marks {
+            current: Vec::new(alloc),
+            kept: Vec::new(alloc),
+            touched: Vec::new(alloc),
+        }
+    }
+
+    /// The marks of more rows, so many in all, of which the new ones have none. Nothing is left to be kept or undone
+    /// where nothing was.
+    pub fn longer(self, rows: usize) -> Result<Marks, NoMemory>
+        requires { length self.current ≤ rows }
+        ensures { IfOk result (λ m. m ≡ longer rows self) }
+    {
+        let Marks {
+            mut current,
+            mut kept,
+            touched,
+        } = self;
+        current.resize(rows, false)?;
+        kept.resize(rows, false)?;
         Ok(Marks {
             current,
             kept,
-            touched: Vec::new(alloc),
+            touched,
         })
     }
 

@@ -1,35 +1,32 @@
 ghost use Rattle.std.specs.Prelude.{◌≡◌, ◌++◌, ℕ, List, OnOk, IfOk};
 ghost use Rattle.testing_install.specs.Index.{places_at};
-ghost use Rattle.testing_install.specs.Needers.{IsNotedAt, IsNeeders, names, needs_name, places_for};
-ghost use Rattle.testing_install.specs.Rows.{binaries};
+ghost use Rattle.testing_install.specs.Needers.{IsNotedAt, names, needs_name, places_for};
 
-use crate::Row;
-use crate::index::{PlacesByName, note, places};
+use crate::index::NameIndex;
 use deb_control::{Binary, Clause};
 use deb_version::NoMemory;
 use std::alloc::Global;
-use std::collections::HashMap;
 
 // Adds a place at each name that the clause has.
-fn note_clause<'a>(
+fn note_clause(
     alloc: Global,
-    needers: &mut PlacesByName<'a>,
-    clause: &'a Clause,
+    needers: &mut NameIndex,
+    clause: &Clause,
     place: usize,
 ) -> Result<(), NoMemory>
     ensures { OnOk result (IsNotedAt (names clause.now) needers.old needers.new place) }
 {
     for alternative in clause.as_slice() {
-        note(alloc, needers, alternative.name.as_str(), place)?;
+        needers.note(alloc, alternative.name.as_str(), place)?;
     }
     Ok(())
 }
 
-// Adds the place of a row at each name that its clauses have.
-fn note_needs<'a>(
+/// Adds the place of a row at each name that its clauses have.
+pub fn note_needs(
     alloc: Global,
-    needers: &mut PlacesByName<'a>,
-    binary: &'a Binary,
+    needers: &mut NameIndex,
+    binary: &Binary,
     place: usize,
 ) -> Result<(), NoMemory>
     ensures { OnOk result (IsNotedAt (needs_name binary.now) needers.old needers.new place) }
@@ -40,35 +37,16 @@ fn note_needs<'a>(
     Ok(())
 }
 
-/// The places of the rows at each name that their clauses have.
-pub fn needers_of<'a>(alloc: Global, rows: &[Row<'a>]) -> Result<PlacesByName<'a>, NoMemory>
-    ensures { IfOk result (λ map. IsNeeders (binaries rows.now) map) }
-{
-    let mut needers = HashMap::new(alloc);
-    for (place, row) in rows.iter().enumerate() {
-        note_needs(alloc, &mut needers, row.binary, place)?;
-    }
-    Ok(needers)
-}
-
 // Adds the places at the name.
-fn add_places(
-    found: &mut Vec<usize>,
-    needers: &PlacesByName<'_>,
-    name: &str,
-) -> Result<(), NoMemory>
+fn add_places(found: &mut Vec<usize>, needers: &NameIndex, name: &str) -> Result<(), NoMemory>
     ensures { OnOk result (found.new.items ≡ found.old.items ++ places_at needers.now name.now) }
 {
-    found.extend_from_slice(places(needers, name))?;
+    found.extend_from_slice(needers.places(name))?;
     Ok(())
 }
 
 /// The places of the rows whose clauses have a name that the row bears.
-pub fn needers_on(
-    alloc: Global,
-    needers: &PlacesByName<'_>,
-    row: &Binary,
-) -> Result<Vec<usize>, NoMemory>
+pub fn needers_on(alloc: Global, needers: &NameIndex, row: &Binary) -> Result<Vec<usize>, NoMemory>
     ensures { IfOk result (λ found. found.items ≡ places_for needers.now row.now) }
 {
     let mut found = Vec::new(alloc);

@@ -5,26 +5,16 @@ ghost use Rattle.std.specs.List.{All, count_by};
 ghost use Rattle.std.specs.Option.{option_copied};
 ghost use Rattle.testing_install.specs.Closed.{IsMet, marked};
 ghost use Rattle.testing_install.specs.Needers.{IsGraph};
-ghost use Rattle.testing_install.specs.Rows.{binaries};
+ghost use Rattle.testing_install.specs.Rows.{shared};
 ghost use Rattle.testing_install.specs.Settling.{suspects, IsSized, IsSettling};
 
-use crate::Row;
-use crate::find::find;
-use crate::index::PlacesByName;
+use crate::graph::{Graph, is_met};
 use crate::marks::Marks;
 use crate::needers::needers_on;
 use crate::satisfies::meets;
 use deb_control::{Binary, Clause};
 use deb_version::NoMemory;
 use std::alloc::Global;
-
-/// Rows, and by name who bears it and who needs it.
-#[derive(Drop)]
-pub struct Graph<'a> {
-    pub rows: Vec<Row<'a>>,
-    pub bearers: PlacesByName<'a>,
-    pub needers: PlacesByName<'a>,
-}
 
 /// Rows that are no longer marked.
 #[derive(Drop)]
@@ -45,25 +35,12 @@ fn is_suspect(lost: Option<&Binary>, clause: &Clause) -> bool
     }
 }
 
-// Some marked row meets the clause.
-fn is_met(graph: &Graph, marks: &[bool], clause: &Clause) -> bool
-    requires graph { IsGraph (binaries graph.now.rows.items) graph.now.bearers graph.now.needers }
-    requires marks { length marks.now ≡ length graph.now.rows.items }
-    ensures yes { result ≡ true → IsMet (binaries graph.now.rows.items) (marked marks.now) clause.now }
-    ensures no { result ≡ false → IsMet (binaries graph.now.rows.items) (marked marks.now) clause.now → ⊥ }
-{
-    match find(&graph.rows, marks, &graph.bearers, clause, None) {
-        Some(_) => true,
-        None => false,
-    }
-}
-
 // The clause isn't suspect, or is met.
 fn is_sure(graph: &Graph, marks: &[bool], clause: &Clause, lost: Option<&Binary>) -> bool
-    requires graph { IsGraph (binaries graph.now.rows.items) graph.now.bearers graph.now.needers }
+    requires graph { IsGraph (shared graph.now.rows.items) graph.now.bearers graph.now.needers }
     requires marks { length marks.now ≡ length graph.now.rows.items }
-    ensures yes { result ≡ true → suspects (option_copied lost.entry) clause.now ≡ true → IsMet (binaries graph.now.rows.items) (marked marks.now) clause.now }
-    ensures no { result ≡ false → IsMet (binaries graph.now.rows.items) (marked marks.now) clause.now → ⊥ }
+    ensures yes { result ≡ true → suspects (option_copied lost.entry) clause.now ≡ true → IsMet (shared graph.now.rows.items) (marked marks.now) clause.now }
+    ensures no { result ≡ false → IsMet (shared graph.now.rows.items) (marked marks.now) clause.now → ⊥ }
 {
     if !is_suspect(lost, clause) {
         return true;
@@ -73,10 +50,10 @@ fn is_sure(graph: &Graph, marks: &[bool], clause: &Clause, lost: Option<&Binary>
 
 // Each suspect clause of the package is met.
 fn is_upheld(graph: &Graph, marks: &[bool], binary: &Binary, lost: Option<&Binary>) -> bool
-    requires graph { IsGraph (binaries graph.now.rows.items) graph.now.bearers graph.now.needers }
+    requires graph { IsGraph (shared graph.now.rows.items) graph.now.bearers graph.now.needers }
     requires marks { length marks.now ≡ length graph.now.rows.items }
-    ensures yes { result ≡ true → All (λ clause. suspects (option_copied lost.entry) clause ≡ true → IsMet (binaries graph.now.rows.items) (marked marks.now) clause) binary.now.clauses }
-    ensures no { result ≡ false → All (IsMet (binaries graph.now.rows.items) (marked marks.now)) binary.now.clauses → ⊥ }
+    ensures yes { result ≡ true → All (λ clause. suspects (option_copied lost.entry) clause ≡ true → IsMet (shared graph.now.rows.items) (marked marks.now) clause) binary.now.clauses }
+    ensures no { result ≡ false → All (IsMet (shared graph.now.rows.items) (marked marks.now)) binary.now.clauses → ⊥ }
 {
     for clause in binary.clauses.as_slice() {
         if !is_sure(graph, marks, clause, lost) {
@@ -108,21 +85,21 @@ fn look(
     place: usize,
     lost: Option<&Binary>,
 ) -> Result<(), NoMemory>
-    requires graph { IsGraph (binaries graph.now.rows.items) graph.now.bearers graph.now.needers }
+    requires graph { IsGraph (shared graph.now.rows.items) graph.now.bearers graph.now.needers }
     requires place { place < length graph.now.rows.items }
-    requires sized { IsSized (binaries graph.now.rows.items) marks.old.current falls.old.waiting.items }
+    requires sized { IsSized (shared graph.now.rows.items) marks.old.current falls.old.waiting.items }
     ensures kept { marks.new.kept ≡ marks.old.kept }
-    ensures sized { OnOk result (IsSized (binaries graph.now.rows.items) marks.new.current falls.new.waiting.items) }
+    ensures sized { OnOk result (IsSized (shared graph.now.rows.items) marks.new.current falls.new.waiting.items) }
     ensures measure { OnOk result (length falls.new.waiting.items + count_by (λ b. b) marks.new.current
         ≡ length falls.old.waiting.items + count_by (λ b. b) marks.old.current) }
     ensures step { OnOk result ((there : ℕ → Bool) (first : List Bool) (todo : List ℕ)
-        → IsSettling (binaries graph.now.rows.items) there first marks.old.current falls.old.waiting.items falls.old.fallen.items (place ∷ todo) (option_copied lost.entry)
-        → IsSettling (binaries graph.now.rows.items) there first marks.new.current falls.new.waiting.items falls.new.fallen.items todo (option_copied lost.entry)) }
+        → IsSettling (shared graph.now.rows.items) there first marks.old.current falls.old.waiting.items falls.old.fallen.items (place ∷ todo) (option_copied lost.entry)
+        → IsSettling (shared graph.now.rows.items) there first marks.new.current falls.new.waiting.items falls.new.fallen.items todo (option_copied lost.entry)) }
 {
     if !marks.current()[place] {
         return Ok(());
     }
-    if is_upheld(graph, marks.current(), graph.rows[place].binary, lost) {
+    if is_upheld(graph, marks.current(), graph.rows[place].as_ref(), lost) {
         return Ok(());
     }
     fall(marks, falls, place)?;
@@ -137,16 +114,16 @@ pub fn look_at(
     places: &[usize],
     lost: Option<&Binary>,
 ) -> Result<(), NoMemory>
-    requires graph { IsGraph (binaries graph.now.rows.items) graph.now.bearers graph.now.needers }
+    requires graph { IsGraph (shared graph.now.rows.items) graph.now.bearers graph.now.needers }
     requires places { All (λ k. k < length graph.now.rows.items) places.now }
-    requires sized { IsSized (binaries graph.now.rows.items) marks.old.current falls.old.waiting.items }
+    requires sized { IsSized (shared graph.now.rows.items) marks.old.current falls.old.waiting.items }
     ensures kept { marks.new.kept ≡ marks.old.kept }
-    ensures sized { OnOk result (IsSized (binaries graph.now.rows.items) marks.new.current falls.new.waiting.items) }
+    ensures sized { OnOk result (IsSized (shared graph.now.rows.items) marks.new.current falls.new.waiting.items) }
     ensures measure { OnOk result (length falls.new.waiting.items + count_by (λ b. b) marks.new.current
         ≡ length falls.old.waiting.items + count_by (λ b. b) marks.old.current) }
     ensures step { OnOk result ((there : ℕ → Bool) (first : List Bool)
-        → IsSettling (binaries graph.now.rows.items) there first marks.old.current falls.old.waiting.items falls.old.fallen.items places.now (option_copied lost.entry)
-        → IsSettling (binaries graph.now.rows.items) there first marks.new.current falls.new.waiting.items falls.new.fallen.items [] (option_copied lost.entry)) }
+        → IsSettling (shared graph.now.rows.items) there first marks.old.current falls.old.waiting.items falls.old.fallen.items places.now (option_copied lost.entry)
+        → IsSettling (shared graph.now.rows.items) there first marks.new.current falls.new.waiting.items falls.new.fallen.items [] (option_copied lost.entry)) }
 {
     for place in places {
         look(graph, marks, falls, *place, lost)?;
@@ -161,17 +138,17 @@ pub fn take_turns(
     marks: &mut Marks,
     falls: &mut Falls,
 ) -> Result<(), NoMemory>
-    requires graph { IsGraph (binaries graph.now.rows.items) graph.now.bearers graph.now.needers }
-    requires sized { IsSized (binaries graph.now.rows.items) marks.old.current falls.old.waiting.items }
+    requires graph { IsGraph (shared graph.now.rows.items) graph.now.bearers graph.now.needers }
+    requires sized { IsSized (shared graph.now.rows.items) marks.old.current falls.old.waiting.items }
     ensures kept { marks.new.kept ≡ marks.old.kept }
     ensures empty { OnOk result (falls.new.waiting.items ≡ []) }
-    ensures sized { OnOk result (IsSized (binaries graph.now.rows.items) marks.new.current falls.new.waiting.items) }
+    ensures sized { OnOk result (IsSized (shared graph.now.rows.items) marks.new.current falls.new.waiting.items) }
     ensures step { OnOk result ((there : ℕ → Bool) (first : List Bool)
-        → IsSettling (binaries graph.now.rows.items) there first marks.old.current falls.old.waiting.items falls.old.fallen.items [] None
-        → IsSettling (binaries graph.now.rows.items) there first marks.new.current falls.new.waiting.items falls.new.fallen.items [] None) }
+        → IsSettling (shared graph.now.rows.items) there first marks.old.current falls.old.waiting.items falls.old.fallen.items [] None
+        → IsSettling (shared graph.now.rows.items) there first marks.new.current falls.new.waiting.items falls.new.fallen.items [] None) }
 {
     while let Some(place) = falls.waiting.pop() {
-        let row = graph.rows[place].binary;
+        let row = graph.rows[place].as_ref();
         let needers = needers_on(alloc, &graph.needers, row)?;
         look_at(graph, marks, falls, &needers, Some(row))?;
     }

@@ -1,58 +1,68 @@
-ghost use Rattle.std.specs.Prelude.{◌≡◌, ℕ, ◌<◌, ◌↔◌, Bool, true, false, length, replicate, IfOk, OnOk, OnErr, Contains};
+ghost use Rattle.std.specs.Prelude.{◌≡◌, ℕ, ◌<◌, ◌↔◌, Bool, true, false, List, [], ◌++◌, length, replicate, IfOk, OnOk, OnErr, Contains};
 ghost use Rattle.std.specs.List.{All};
 ghost use Rattle.testing_install.specs.Among.{IsInstallableAmong, IsLost, after_change};
 ghost use Rattle.testing_install.specs.Closed.{marked};
-ghost use Rattle.testing_install.specs.Rows.{binaries};
+ghost use Rattle.testing_install.specs.Rows.{shared};
 
-use crate::Row;
 use crate::change::{change, lost_by};
-use crate::index::index_of;
+use crate::graph::{Graph, empty_graph, with_rows};
 use crate::marks::Marks;
-use crate::needers::needers_of;
-use crate::settle::Graph;
+use deb_control::Binary;
 use deb_version::NoMemory;
 use std::alloc::Global;
 use std::marker::Model;
+use std::rc::Rc;
 
 /// The rows of one architecture that may be in a suite, which of them are there, and which of these are installable
 /// among those that are there (Debian Policy 7.1, 7.2 and 7.5).
 ///
-/// The rows are given once and named by their places; a change says which leave and which come. It costs what it
-/// touches: the rows that leave or come, those with a clause that names one of these, and so on from each row whose
-/// answer changes; not the size of the suite.
+/// The rows are named by their places, which stay when more rows are added behind them; a change says which leave and
+/// which come. It costs what it touches: the rows that leave or come, those with a clause that names one of these, and so
+/// on from each row whose answer changes; not the size of the suite.
 #[derive(Drop)]
-pub struct Suite<'a> {
-    graph: Graph<'a>,
+pub struct Suite {
+    graph: Graph,
     there: Marks,
     installable: Marks,
 }
 
-impl<'a> Model for Suite<'a> {
-    ghost use Rattle.testing_install.specs.Rows.{binaries};
+impl Model for Suite {
+    ghost use Rattle.testing_install.specs.Rows.{shared};
     ghost use Rattle.testing_install.specs.Suite.{Standing, IsSuite};
 
     ghost Value = { Standing };
 
-    ghost view = { λ s. record { rows = binaries s.graph.rows.items; there = s.there.current } };
+    ghost view = { λ s. record { rows = shared s.graph.rows.items; there = s.there.current } };
 
-    ghost invariant = { λ s. IsSuite (binaries s.graph.rows.items) s.graph.bearers s.graph.needers s.there s.installable };
+    ghost invariant = { λ s. IsSuite (shared s.graph.rows.items) s.graph.bearers s.graph.needers s.there s.installable };
 }
 
-impl<'a> Suite<'a> {
-    /// A suite in which none of the rows is there yet. The one error is want of memory.
-    pub fn new(alloc: Global, rows: Vec<Row<'a>>) -> Result<Suite<'a>, NoMemory>
-        ensures rows { IfOk result (λ s. s.rows ≡ binaries rows.entry.items) }
-        ensures there { IfOk result (λ s. s.there ≡ replicate (length rows.entry.items) false) }
+impl Suite {
+    /// A suite of no rows.
+    pub fn new(alloc: Global) -> Suite
+        ensures { result ≡ record { rows = []; there = [] } }
     {
-        let there = Marks::none(alloc, rows.len())?;
-        let installable = Marks::none(alloc, rows.len())?;
-        let bearers = index_of(alloc, &rows)?;
-        let needers = needers_of(alloc, &rows)?;
-        let graph = Graph {
-            rows,
-            bearers,
-            needers,
-        };
+        Suite {
+            graph: empty_graph(alloc),
+            there: Marks::empty(alloc),
+            installable: Marks::empty(alloc),
+        }
+    }
+
+    /// The suite with more rows behind its own, none of which is there yet. It takes the time that the new rows need,
+    /// whatever it has. The one error is want of memory.
+    pub fn with_rows(self, alloc: Global, rows: Vec<Rc<Binary>>) -> Result<Suite, NoMemory>
+        ensures rows { IfOk result (λ s. s.rows ≡ self.rows ++ shared rows.items) }
+        ensures there { IfOk result (λ s. s.there ≡ self.there ++ replicate (length rows.items) false) }
+    {
+        let Suite {
+            graph,
+            there,
+            installable,
+        } = self;
+        let graph = with_rows(alloc, graph, rows)?;
+        let there = there.longer(graph.rows.len())?;
+        let installable = installable.longer(graph.rows.len())?;
         Ok(Suite {
             graph,
             there,

@@ -19,7 +19,7 @@ fn binary(alloc: Global, text: &str) -> Result<Binary, Fail> {
 }
 
 // A row for each package.
-pub fn rows_of<'a>(alloc: Global, binaries: &'a [Binary]) -> Result<Vec<Row<'a>>, Fail> {
+fn rows_of<'a>(alloc: Global, binaries: &'a [Binary]) -> Result<Vec<Row<'a>>, Fail> {
     let mut rows = Vec::new(alloc);
     for binary in binaries {
         rows.push(Row { binary })?;

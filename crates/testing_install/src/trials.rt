@@ -1,7 +1,8 @@
-use crate::tests::{drawn_row, rows_of};
+use crate::tests::drawn_row;
 use crate::{Row, Suite, installable};
 use deb_control::Binary;
 use std::alloc::Global;
+use std::rc::Rc;
 use std::test::Fail;
 
 // Which rows are there, and which of them are installable as they are judged anew.
@@ -12,13 +13,15 @@ struct Judged {
 }
 
 // The rows that are there, judged anew.
-fn judged_anew(alloc: Global, suite: &Suite, binaries: &[Binary]) -> Result<Judged, Fail> {
+fn judged_anew(alloc: Global, suite: &Suite, binaries: &[Rc<Binary>]) -> Result<Judged, Fail> {
     let mut rows = Vec::new(alloc);
     let mut there = Vec::new(alloc);
-    for (place, binary) in binaries.iter().enumerate() {
+    for (place, binary) in binaries.iter().take(suite.len()).enumerate() {
         there.push(suite.is_there(place))?;
         if suite.is_there(place) {
-            rows.push(Row { binary })?;
+            rows.push(Row {
+                binary: binary.as_ref(),
+            })?;
         }
     }
     let answers = installable(alloc, &rows)?;
@@ -64,14 +67,30 @@ fn drawn(bits: u64) -> u64 {
 }
 
 // Packages whose needs are read off drawn numbers.
-fn drawn_rows(alloc: Global, count: u64, seed: u64) -> Result<Vec<Binary>, Fail> {
+fn drawn_rows(alloc: Global, count: u64, seed: u64) -> Result<Vec<Rc<Binary>>, Fail> {
     let mut bits = seed;
     let mut binaries = Vec::new(alloc);
     for place in 0..count {
         bits = drawn(bits);
-        binaries.push(drawn_row(alloc, place & 3, bits)?)?;
+        binaries.push(Rc::new(alloc, drawn_row(alloc, place & 3, bits)?)?)?;
     }
     Ok(binaries)
+}
+
+// The suite with those of the packages more that stand from its end to a place.
+fn with_rows_to(
+    alloc: Global,
+    suite: Suite,
+    binaries: &[Rc<Binary>],
+    end: usize,
+) -> Result<Suite, Fail> {
+    let mut rows = Vec::new(alloc);
+    for place in suite.len()..end {
+        if let Some(binary) = binaries.get(place) {
+            rows.push(binary.clone()?)?;
+        }
+    }
+    Ok(suite.with_rows(alloc, rows)?)
 }
 
 // What a suite says in a series of changes, and what is so as its rows are judged anew.
@@ -84,35 +103,49 @@ struct Outcome {
 }
 
 // Changes that are drawn, each of which is tried first.
-fn series(alloc: Global, binaries: &[Binary], seed: u64) -> Result<Outcome, Fail> {
-    let mut suite = Suite::new(alloc, rows_of(alloc, binaries)?)?;
+fn turns(
+    alloc: Global,
+    suite: &mut Suite,
+    binaries: &[Rc<Binary>],
+    seed: u64,
+    outcome: &mut Outcome,
+) -> Result<(), Fail> {
+    let mut bits = seed;
+    for _turn in 0..20 {
+        bits = drawn(bits);
+        let count = suite.len();
+        if count == 0 {
+            return Ok(());
+        }
+        let leaving = [(bits >> 30) as usize % count];
+        let coming = [(bits >> 36) as usize % count, (bits >> 42) as usize % count];
+        let before = judged_anew(alloc, suite, binaries)?;
+        let mut lost = suite.trial(alloc, &leaving, &coming)?;
+        lost.sort()?;
+        outcome.lost.extend_from_slice(&lost)?;
+        outcome.said.extend_from_slice(&answers_of(alloc, suite)?)?;
+        outcome.judged.extend_from_slice(&before.installable)?;
+        suite.change(alloc, &leaving, &coming)?;
+        let after = judged_anew(alloc, suite, binaries)?;
+        outcome
+            .lost_anew
+            .extend_from_slice(&lost_anew(alloc, &before, &after)?)?;
+    }
+    Ok(())
+}
+
+// Changes among the first of the packages, and then, as the others come behind them, among all.
+fn series(alloc: Global, binaries: &[Rc<Binary>], seed: u64) -> Result<Outcome, Fail> {
     let mut outcome = Outcome {
         said: Vec::new(alloc),
         judged: Vec::new(alloc),
         lost: Vec::new(alloc),
         lost_anew: Vec::new(alloc),
     };
-    let mut bits = seed;
-    for _turn in 0..30 {
-        bits = drawn(bits);
-        let count = suite.len();
-        if count == 0 {
-            return Ok(outcome);
-        }
-        let leaving = [(bits >> 30) as usize % count];
-        let coming = [(bits >> 36) as usize % count, (bits >> 42) as usize % count];
-        let before = judged_anew(alloc, &suite, binaries)?;
-        let mut lost = suite.trial(alloc, &leaving, &coming)?;
-        lost.sort()?;
-        outcome.lost.extend_from_slice(&lost)?;
-        outcome.said.extend_from_slice(&answers_of(alloc, &suite)?)?;
-        outcome.judged.extend_from_slice(&before.installable)?;
-        suite.change(alloc, &leaving, &coming)?;
-        let after = judged_anew(alloc, &suite, binaries)?;
-        outcome
-            .lost_anew
-            .extend_from_slice(&lost_anew(alloc, &before, &after)?)?;
-    }
+    let mut suite = with_rows_to(alloc, Suite::new(alloc), binaries, 6)?;
+    turns(alloc, &mut suite, binaries, seed, &mut outcome)?;
+    let mut suite = with_rows_to(alloc, suite, binaries, binaries.len())?;
+    turns(alloc, &mut suite, binaries, drawn(seed), &mut outcome)?;
     Ok(outcome)
 }
 

@@ -7,7 +7,7 @@ ghost use Rattle.testing_install.specs.Progress.{IsWork};
 use crate::Row;
 use crate::claims::Claim;
 use crate::find::find;
-use crate::index::PlacesByName;
+use crate::index::NameIndex;
 use crate::state::State;
 use deb_version::NoMemory;
 use std::alloc::Global;
@@ -17,7 +17,7 @@ use std::alloc::Global;
 pub struct Ground<'a, 'r> {
     pub rows: &'r [Row<'a>],
     pub claims: Vec<Claim<'a>>,
-    pub bearers: PlacesByName<'a>,
+    pub bearers: NameIndex,
 }
 
 // Looks at a claim, which may have rested on a lost row: it rests on a marked row from now on, or its row loses its mark.

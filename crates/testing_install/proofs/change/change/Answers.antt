@@ -1,27 +1,27 @@
 use Rattle.std.proofs.Common.{arith, ◌∙◌, ap, true, false, ◌≡◌, length}
 use Rattle.testing_install.proofs.Marking.{length-with_all}
-use Rattle.testing_install.proofs.Places.{length-binaries}
+use Rattle.testing_install.proofs.Sharing.{length-shared}
 use Rattle.testing_install.proofs.Reviving.{reviving_begun, changed, places_in, bounded_by}
 use Rattle.testing_install.specs.Among.{with_all}
-use Rattle.testing_install.specs.Rows.{binaries}
+use Rattle.testing_install.specs.Rows.{shared}
 use Rattle.testing_install.specs.Closed.{marked}
 use Rattle.testing_install.proofs.change.change.Goals as goal
 
 pub set_all-requires-3 : goal.set_all-requires-3
-set_all-requires-3 c = bounded_by _ _ c.args.coming.now c.requires.coming (omega (arith, ap length c.in_ok-set_all.ensures.set, length-with_all false c.args.leaving.now c.args.there.now.current, c.requires.right.there_len, length-binaries c.args.graph.now.rows.items))
+set_all-requires-3 c = bounded_by _ _ c.args.coming.now c.requires.coming (omega (arith, ap length c.in_ok-set_all.ensures.set, length-with_all false c.args.leaving.now c.args.there.now.current, c.requires.right.there_len, length-shared c.args.graph.now.rows.items))
 
 pub set_all-requires-4 : goal.set_all-requires-4
-set_all-requires-4 c = bounded_by _ _ c.args.coming.now c.requires.coming (omega (arith, ap length c.in_ok-set_all-2.ensures.set, length-with_all false c.args.leaving.now c.args.marks.now.current, c.requires.right.installable_len, length-binaries c.args.graph.now.rows.items))
+set_all-requires-4 c = bounded_by _ _ c.args.coming.now c.requires.coming (omega (arith, ap length c.in_ok-set_all-2.ensures.set, length-with_all false c.args.leaving.now c.args.marks.now.current, c.requires.right.installable_len, length-shared c.args.graph.now.rows.items))
 
 pub revive-requires-clause-there : goal.revive-requires-clause-there
-revive-requires-clause-there c = omega (arith, ap length c.current.ensures, ap length c.in_ok-set_all-3.ensures.set, ap length c.in_ok-set_all.ensures.set, length-with_all true c.args.coming.now c.set_all.new.marks.current, length-with_all false c.args.leaving.now c.args.there.now.current, c.requires.right.there_len, length-binaries c.args.graph.now.rows.items)
+revive-requires-clause-there c = omega (arith, ap length c.current.ensures, ap length c.in_ok-set_all-3.ensures.set, ap length c.in_ok-set_all.ensures.set, length-with_all true c.args.coming.now c.set_all.new.marks.current, length-with_all false c.args.leaving.now c.args.there.now.current, c.requires.right.there_len, length-shared c.args.graph.now.rows.items)
 
 pub revive-requires-clause-marks : goal.revive-requires-clause-marks
-revive-requires-clause-marks c = omega (arith, ap length c.in_ok-set_all-4.ensures.set, ap length c.in_ok-set_all-2.ensures.set, length-with_all true c.args.coming.now c.set_all-2.new.marks.current, length-with_all false c.args.leaving.now c.args.marks.now.current, c.requires.right.installable_len, length-binaries c.args.graph.now.rows.items)
+revive-requires-clause-marks c = omega (arith, ap length c.in_ok-set_all-4.ensures.set, ap length c.in_ok-set_all-2.ensures.set, length-with_all true c.args.coming.now c.set_all-2.new.marks.current, length-with_all false c.args.leaving.now c.args.marks.now.current, c.requires.right.installable_len, length-shared c.args.graph.now.rows.items)
 
 pub returns-clause-changed : goal.returns-clause-changed
 returns-clause-changed c =
-    let rows = binaries c.args.graph.now.rows.items in
+    let rows = shared c.args.graph.now.rows.items in
     let there : c.set_all-3.new.marks.current ≡ with_all true c.args.coming.now (with_all false c.args.leaving.now c.args.there.now.current) = c.in_ok-set_all-3.ensures.set ∙ ap (λ xs. with_all true c.args.coming.now xs) c.in_ok-set_all.ensures.set in
     let marks : c.set_all-4.new.marks.current ≡ with_all true c.args.coming.now (with_all false c.args.leaving.now c.args.marks.now.current) = c.in_ok-set_all-4.ensures.set ∙ ap (λ xs. with_all true c.args.coming.now xs) c.in_ok-set_all-2.ensures.set in
     let leaving = places_in c.args.graph.now.rows.items c.args.leaving.now c.requires.leaving in

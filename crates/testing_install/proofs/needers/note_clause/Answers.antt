@@ -8,7 +8,7 @@ loop-alternative-init c = noted_none _ _
 
 pub loop-alternative-preserved : goal.loop-alternative-preserved
 loop-alternative-preserved c =
-    let added : IsAdded c.loop-alternative.needers c.note.new.bearers c.as_str.result.now c.args.place = record { each = c.in_ok-note.ensures } in
+    let added : IsAdded c.loop-alternative.needers c.note.new.self c.as_str.result.now c.args.place = c.in_ok-note.ensures in
     noted_alternative _ _ _ _ _ _ _ _ c.as_slice-alternative-items.ensures c.loop-alternative-test.true c.alternative-item.is c.loop-alternative.invariant (added_at _ _ _ _ _ c.as_str.ensures added)
 
 pub returns : goal.returns

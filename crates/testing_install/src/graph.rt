@@ -1,0 +1,108 @@
+//! Rows that are shared, by what they bear and by what they need.
+
+ghost use Rattle.std.specs.Prelude.{◌≡◌, ℕ, ◌≤◌, ◌<◌, true, false, List, [], ◌++◌, length, OnOk, IfOk};
+ghost use Rattle.std.specs.List.{All};
+ghost use Rattle.deb_control.specs.declared.binary.Binary.{Binary};
+ghost use Rattle.testing_install.specs.Closed.{IsMet, marked};
+ghost use Rattle.testing_install.specs.Ground.{Misses, IsHit};
+ghost use Rattle.testing_install.specs.Needers.{IsGraph};
+ghost use Rattle.testing_install.specs.Rows.{shared};
+
+use crate::index::{NameIndex, note_row};
+use crate::needers::note_needs;
+use crate::satisfies::satisfies;
+use deb_control::{Alternative, Binary, Clause};
+use deb_version::NoMemory;
+use std::alloc::Global;
+use std::rc::Rc;
+
+/// Rows, and by name who bears it and who needs it.
+#[derive(Drop)]
+pub struct Graph {
+    pub rows: Vec<Rc<Binary>>,
+    pub bearers: NameIndex,
+    pub needers: NameIndex,
+}
+
+/// A graph of no rows.
+pub fn empty_graph(alloc: Global) -> Graph
+    ensures rows { result.rows.items ≡ [] }
+    ensures graph { IsGraph [] result.bearers result.needers }
+{
+    Graph {
+        rows: Vec::new(alloc),
+        bearers: NameIndex::new(alloc),
+        needers: NameIndex::new(alloc),
+    }
+}
+
+// Notes what the rows from a place on bear and need, where that of those before it is noted.
+fn note_rows(
+    alloc: Global,
+    rows: &[Rc<Binary>],
+    first: usize,
+    bearers: &mut NameIndex,
+    needers: &mut NameIndex,
+) -> Result<(), NoMemory>
+    ensures { OnOk result ((old more : List Binary) → shared rows.now ≡ old ++ more → length old ≡ first
+        → IsGraph old bearers.old needers.old → IsGraph (shared rows.now) bearers.new needers.new) }
+{
+    for place in first..rows.len() {
+        let row = rows[place].as_ref();
+        note_row(alloc, bearers, row, place)?;
+        note_needs(alloc, needers, row, place)?;
+    }
+    Ok(())
+}
+
+/// The graph with more rows behind its own.
+pub fn with_rows(alloc: Global, graph: Graph, rows: Vec<Rc<Binary>>) -> Result<Graph, NoMemory>
+    ensures rows { IfOk result (λ g. shared g.rows.items ≡ shared graph.rows.items ++ shared rows.items) }
+    ensures graph { IfOk result (λ g. IsGraph (shared graph.rows.items) graph.bearers graph.needers → IsGraph (shared g.rows.items) g.bearers g.needers) }
+{
+    let Graph {
+        rows: mut all,
+        mut bearers,
+        mut needers,
+    } = graph;
+    let mut more = rows;
+    let first = all.len();
+    all.append(&mut more)?;
+    note_rows(alloc, &all, first, &mut bearers, &mut needers)?;
+    Ok(Graph {
+        rows: all,
+        bearers,
+        needers,
+    })
+}
+
+// Some marked row among the places satisfies the alternative.
+fn is_satisfied(graph: &Graph, marks: &[bool], places: &[usize], alternative: &Alternative) -> bool
+    requires marks { length marks.now ≡ length graph.now.rows.items }
+    requires places { All (λ k. k < length graph.now.rows.items) places.now }
+    ensures yes { result ≡ true → (k : ℕ) × IsHit (shared graph.now.rows.items) (marked marks.now) alternative.now k }
+    ensures no { result ≡ false → Misses (shared graph.now.rows.items) (marked marks.now) alternative.now places.now }
+{
+    for place in places {
+        if marks[*place] && satisfies(graph.rows[*place].as_ref(), alternative) {
+            return true;
+        }
+    }
+    false
+}
+
+/// Some marked row meets the clause.
+pub fn is_met(graph: &Graph, marks: &[bool], clause: &Clause) -> bool
+    requires graph { IsGraph (shared graph.now.rows.items) graph.now.bearers graph.now.needers }
+    requires marks { length marks.now ≡ length graph.now.rows.items }
+    ensures yes { result ≡ true → IsMet (shared graph.now.rows.items) (marked marks.now) clause.now }
+    ensures no { result ≡ false → IsMet (shared graph.now.rows.items) (marked marks.now) clause.now → ⊥ }
+{
+    for alternative in clause.as_slice() {
+        let named = graph.bearers.places(alternative.name.as_str());
+        if is_satisfied(graph, marks, named, alternative) {
+            return true;
+        }
+    }
+    false
+}
