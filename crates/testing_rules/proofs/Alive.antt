@@ -1,24 +1,25 @@
 -- What the suites tell of a change is what it breaks, and once it is made they show the rows after it.
-use Rattle.std.specs.Prelude.{ℕ, zero, suc, ◌<◌, true, false, nat_lt, List, [], ◌∷◌, ◌++◌, length, Option}
+use Rattle.std.specs.Prelude.{ℕ, zero, suc, ◌<◌, Bool, true, false, nat_lt, List, [], ◌∷◌, ◌++◌, length, replicate, Option}
 use Rattle.std.specs.List.{slice_get, list_all}
 use Rattle.std.proofs.Common.{◌≡◌, refl, sym, ◌∙◌, subst, arith}
 use Rattle.std.proofs.lemmas.Bool.Decides.{nat_tests}
 use Rattle.std.proofs.lemmas.Option.{slice_get_within}
 use Rattle.testing_install.specs.Among.{after_change}
 use Rattle.testing_install.specs.Closed.{marked}
+use Rattle.testing_install.proofs.Marking.{marked_longer}
 use Rattle.testing_rules.specs.declared.facts.UploadIn.{UploadIn}
 use Rattle.testing_rules.specs.declared.suite.RowIn.{RowIn}
 use Rattle.testing_rules.specs.Changes.{has, IsMoveOf}
 use Rattle.testing_rules.specs.FactOrder.{IsUnstableOrder}
 use Rattle.testing_rules.specs.InOrder.{AreByKey}
 use Rattle.testing_rules.specs.Moves.{first_failing, judged_on, move_group, remove_source}
-use Rattle.testing_rules.specs.Standing.{IsShown, IsLive, PoolState, standing}
+use Rattle.testing_rules.specs.Standing.{IsShown, IsLive, KeptState, PoolState, standing}
 use Rattle.testing_rules.specs.Suite.{Suite}
 use Rattle.testing_rules.specs.Tried.{Tells, IsWithin, IsRemovalOf}
 use Rattle.testing_rules.specs.Wanted.{is_wanted, wanted_rows}
 use Rattle.testing_rules.specs.Words.{Text}
 use Rattle.testing_rules.proofs.Arranging.{move_of_places}
-use Rattle.testing_rules.proofs.Flags.{flags_after}
+use Rattle.testing_rules.proofs.Flags.{flags_after, marked_within}
 use Rattle.testing_rules.proofs.Judging.{trial_tells}
 use Rattle.testing_rules.proofs.Lost.{IsChange, at_place, contains_at}
 use Rattle.testing_rules.proofs.Moving.{IsMove, after_flags, moved_change, removed_change}
@@ -121,13 +122,30 @@ shown_before before unstable by_key = record {
   all = λ k r at h. contains_at before k r (sym (front before unstable k (nat_lt_below k (length before) h)) ∙ at);
 }
 
-pub live_before : (s : PoolState) (archs : List Text) (before unstable : List RowIn) → AreByKey before → s.rows ≡ before ++ wanted_rows s.settled unstable → s.first ≡ length before → s.archs ≡ length archs
-    → ((k : ℕ) → k < length s.rows → marked s.stands k ≡ nat_lt k (length before)) → IsLive s archs unstable before
-live_before s archs before unstable by_key rows first count stands = record {
-  count = count;
-  before = before;
-  pooled = rows;
-  begins = first;
-  shown = shown-alike s.rows (λ k. nat_lt k (length before)) (marked s.stands) before
-      (subst (λ pool. IsShown pool (λ k. nat_lt k (length before)) before) (sym rows) (shown_before before (wanted_rows s.settled unstable) by_key)) stands;
+-- rows behind those of a pool, none of which stands, show no more
+pub shown_longer : (pool more : List RowIn) (stands : List Bool) (rows : List RowIn) → length stands ≡ length pool → IsShown pool (marked stands) rows
+    → IsShown (pool ++ more) (marked (stands ++ replicate (length more) false)) rows
+shown_longer pool more stands rows long shown = record {
+  by_key = shown.by_key;
+  within = λ r c.
+      let w = shown.within r c in
+      (w.0, front pool more w.0 (slice_get_within pool w.0 r w.1) ∙ w.1, marked_longer stands (length more) w.0 ∙ w.2);
+  all = λ k r at h.
+      let up : marked stands k ≡ true = sym (marked_longer stands (length more) k) ∙ h in
+      shown.all k r (sym (front pool more k (omega (arith, marked_within stands k up, long))) ∙ at) up;
 }
+
+pub live_before : (s : PoolState) (archs : List Text) (kept : KeptState) (unstable rows : List RowIn) → IsShown kept.rows (marked kept.stands) rows → length kept.stands ≡ length kept.rows
+    → s.rows ≡ kept.rows ++ wanted_rows s.settled unstable → s.first ≡ length kept.rows → s.archs ≡ length archs
+    → s.stands ≡ kept.stands ++ replicate (length (wanted_rows s.settled unstable)) false → IsLive s archs unstable rows
+live_before s archs kept unstable rows shown long pooled first count stands =
+    let more = wanted_rows s.settled unstable in
+    let flags = kept.stands ++ replicate (length more) false in
+    let before : IsShown (kept.rows ++ more) (marked flags) rows = shown_longer kept.rows more kept.stands rows long shown in
+    record {
+      count = count;
+      before = kept.rows;
+      pooled = pooled;
+      begins = first;
+      shown = subst (λ pool. IsShown pool (marked s.stands) rows) (sym pooled) (subst (λ fs. IsShown (kept.rows ++ more) (marked fs) rows) (sym stands) before);
+    }

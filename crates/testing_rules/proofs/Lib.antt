@@ -21,6 +21,7 @@ pub mod Members
 pub mod Carried
 pub mod Numbers
 pub mod Parts
+pub mod MorePlaces
 pub mod Urgent
 pub mod Grounds
 pub mod SlotFacts
@@ -52,6 +53,7 @@ pub mod Unboxed
 pub mod KeySlots
 pub mod ByName
 pub mod Suites
+pub mod Extending
 pub mod BuiltOrder
 pub mod Alive
 pub mod Showing

@@ -23,7 +23,6 @@ use Rattle.testing_rules.specs.Unstable.{is_of_source, is_current}
 use Rattle.testing_rules.specs.Excuses.{Ground, more_urgent, days_of, counts, hinted_days, days_needed, age_of, is_new_bug, has_row_on, has_current_on, is_missing_on, has_current, is_blocked, is_removal_asked, reasons_of, excuse_on, excuses_on, testing_version, is_news}
 use Rattle.testing_rules.specs.BySource.{part_of, told_of, news_of, is_among, excuses_by}
 use Rattle.testing_rules.proofs.MoreMail.{filter-same}
-use Rattle.testing_rules.proofs.Grounds.{map-same}
 
 -- The steps of loops that group.
 

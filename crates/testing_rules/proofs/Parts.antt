@@ -1,14 +1,13 @@
 -- The pool's rows that are on one architecture, by their numbers and by their places.
-use Rattle.std.specs.Prelude.{ℕ, zero, suc, ◌+◌, ◌<◌, Bool, true, false, List, [], ◌∷◌, ◌++◌, length, Contains, Option, Some, map, filter, replicate, option_map}
+use Rattle.std.specs.Prelude.{ℕ, zero, suc, ◌+◌, ◌-◌, ◌<◌, ◌≤◌, Bool, true, false, List, [], ◌∷◌, ◌++◌, length, Contains, Option, Some, map, filter, option_map}
 use Rattle.std.specs.List.{All, slice_get, range_with_len}
 use Rattle.std.specs.Option.{option_map_or}
 use Rattle.std.proofs.Common.{◌≡◌, sym, ap, ◌∙◌, subst, arith}
-use Rattle.std.proofs.lemmas.List.{length-map, length-replicate}
+use Rattle.std.proofs.lemmas.List.{length-map}
 use Rattle.std.proofs.lemmas.List.FromFn.{length-range_with_len, get_or-range_with_len}
 use Rattle.std.proofs.lemmas.List.Kept.{AllPairs-filter}
 use Rattle.std.proofs.lemmas.Option.{same_Some, slice_get_within, slice_get-map}
 use Rattle.deb_control.specs.declared.binary.Binary.{Binary}
-use Rattle.testing_install.specs.Suite.{Standing}
 use Rattle.testing_install.proofs.Counting.{slice_get_some}
 use Rattle.testing_rules.specs.declared.suite.RowIn.{RowIn}
 use Rattle.testing_rules.specs.Moves.{is_row_on}
@@ -29,6 +28,12 @@ pub range_more : (n : ℕ) → range_with_len 0 n ++ n ∷ [] ≡ range_with_len
 range_more n =
     ap (λ k. range_with_len 0 n ++ k ∷ []) (let e : n ≡ 0 + n = omega arith in e) ∙ range_next 0 n
     ∙ ap (range_with_len 0) (let e : suc n ≡ n + 1 = omega arith in e)
+
+-- the places from one on, one more
+pub range_behind : (from k : ℕ) → from ≤ k → range_with_len from (k - from) ++ k ∷ [] ≡ range_with_len from ((k + 1) - from)
+range_behind from k h =
+    ap (λ j. range_with_len from (k - from) ++ j ∷ []) (let e : k ≡ from + (k - from) = omega (arith, h) in e) ∙ range_next from (k - from)
+    ∙ ap (range_with_len from) (let e : suc (k - from) ≡ (k + 1) - from = omega (arith, h) in e)
 
 -- those of the first places that pass a test ascend
 pub ascending_filter : (test : ℕ → Bool) (n : ℕ) → AreAscending (filter test (range_with_len 0 n))
@@ -81,14 +86,3 @@ module _ (arch : ℕ) (pool : List RowIn) (suite : Part) (over : IsOver arch poo
   number_of_row k r at on =
       let c = subst (λ ks. Contains ks k) (sym over.places) (place_of_row arch pool k r at on) in
       (c.0, at_place suite.places k c)
-
--- a suite of the packages at these places
-pub made_over : (arch : ℕ) (pool : List RowIn) (own : List ℕ) (packages : List Binary) (suite : Standing) (n : ℕ) → own ≡ filter (is_place_on arch pool) (range_with_len 0 (length pool))
-    → map (λ b. Some b) packages ≡ map (package_at pool) own → suite.rows ≡ packages → suite.there ≡ replicate n false → n ≡ length packages
-    → IsOver arch pool (record { places = own; suite = suite }) × (suite.there ≡ replicate (length own) false)
-made_over arch pool own packages suite n places rows same there e =
-    let long : n ≡ length own = e ∙ sym (length-map packages (λ (b : Binary). Some b)) ∙ ap length rows ∙ length-map own (package_at pool) in
-    let none : suite.there ≡ replicate (length own) false = there ∙ ap (λ m. replicate m false) long in (
-      record { places = places; rows = ap (map (λ b. Some b)) same ∙ rows; long = ap length none ∙ length-replicate (length own) false },
-      none,
-    )

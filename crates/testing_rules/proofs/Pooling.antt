@@ -1,64 +1,45 @@
--- The index of texts by their places.
-use Rattle.std.proofs.Common.{◌≡◌, ℕ, ◌+◌, ◌<◌, ◌≤◌, Bool, true, cond, List, [], ◌∷◌, ◌++◌, length, get_or, Some, sym, ap, ◌∙◌, subst, inl, inr, arith}
+-- The indexes of a pool's rows, by their places.
+use Rattle.std.proofs.Common.{◌≡◌, ℕ, ◌+◌, List, [], ◌∷◌, ◌++◌, length, Some, sym, ap, ◌∙◌, subst, inl, inr, arith}
 use Rattle.std.specs.Str.{bytes_eq}
-use Rattle.std.specs.List.{slice_get, All, Contains}
-use Rattle.std.proofs.lemmas.Option.{slice_get_within, same_Some}
-use Rattle.std.proofs.lemmas.Bool.{cases_lt, cases_Bool}
-use Rattle.std.proofs.lemmas.List.Elements.{All-append, Contains-append_left, Contains-push}
+use Rattle.std.specs.List.{slice_get, Contains}
+use Rattle.std.proofs.lemmas.Option.{slice_get_within, slice_get_read, same_Some}
+use Rattle.std.proofs.lemmas.Bool.{cases_lt}
+use Rattle.std.proofs.lemmas.List.{length-append, length-map, map-append, get_or_at}
 use Rattle.std.proofs.lemmas.Slice.Eq.{bytes_eq-Decides}
 use Rattle.testing_install.specs.Index.{PlacesByName, places_at}
-use Rattle.testing_install.proofs.Indexing.{places_none}
+use Rattle.testing_install.specs.Needers.{IsNotedAt}
+use Rattle.testing_install.proofs.Sharing.{slice_get_before}
+use Rattle.testing_rules.specs.declared.suite.RowIn.{RowIn}
 use Rattle.testing_rules.specs.Words.{Text}
-use Rattle.testing_rules.specs.Pools.{IsTextIndex}
+use Rattle.testing_rules.specs.Pools.{IsTextIndex, IsPool, sources_of, names_of}
 
--- the new map has what the old one had, and one place more at a text
-pub record IsAdded (old new : PlacesByName) (text : Text) (place : ℕ) : Type 0 where
-  pub each : (q : Text) → places_at new q ≡ cond (bytes_eq q text) (places_at old q ++ place ∷ []) (places_at old q)
+-- one text more, whose place is noted
+module _ (texts : List Text) (text : Text) (old new : PlacesByName) (n : ℕ) (long : n ≡ length texts) (to : IsTextIndex texts old) (noted : IsNotedAt (λ q. bytes_eq q text) old new n) where
+  size : length (texts ++ text ∷ []) ≡ n + 1
+  size = omega (arith, length-append texts (text ∷ []), long)
 
-all_push : (xs : List ℕ) (k n : ℕ) → k < n → All (λ x. x < n) xs → All (λ x. x < n) (xs ++ k ∷ [])
-all_push xs k n h all = All-append (λ x. x < n) xs (k ∷ []) all (λ j d l. let first : j ≡ 0 = omega arith in subst (λ i. get_or (k ∷ []) i d < n) (sym first) h)
+  last : slice_get (texts ++ text ∷ []) n ≡ Some text
+  last = slice_get_read (texts ++ text ∷ []) (n + 1) n text (sym size) (omega arith) (sym (get_or_at texts text [] text n (sym long)))
 
--- after the first n texts
-pub record IsIndexTo (texts : List Text) (index : PlacesByName) (n : ℕ) : Type 0 where
-  pub within : (q : Text) → All (λ k. k < length texts) (places_at index q)
-  pub complete : (k : ℕ) (q : Text) → k < n → slice_get texts k ≡ Some q → Contains (places_at index q) k
-
-pub index_none : (texts : List Text) (index : PlacesByName) → index.entries ≡ [] → IsIndexTo texts index 0
-index_none texts index e = record {
-  within = λ q k d h. absurd (omega (arith, h, ap length (places_none index q e)));
-  complete = λ k q h. absurd (omega arith);
-}
-
-module _ (texts : List Text) (old new : PlacesByName) (n : ℕ) (text : Text) (at : slice_get texts n ≡ Some text) (to : IsIndexTo texts old n) (added : IsAdded old new text n) where
-  by_test : (q : Text) (b : Bool) → bytes_eq q text ≡ b → places_at new q ≡ cond b (places_at old q ++ n ∷ []) (places_at old q)
-  by_test q b e = added.each q ∙ ap (λ b. cond b (places_at old q ++ n ∷ []) (places_at old q)) e
-
-  stays : (q : Text) (k : ℕ) → Contains (places_at old q) k → Contains (places_at new q) k
-  stays q k c = elim (cases_Bool (bytes_eq q text)) [
-    | inl same ↦ subst (λ xs. Contains xs k) (sym (by_test q true same)) (Contains-append_left (places_at old q) (n ∷ []) k c)
-    | inr differs ↦ subst (λ xs. Contains xs k) (sym (added.each q ∙ ap (λ b. cond b (places_at old q ++ n ∷ []) (places_at old q)) differs)) c
-  ]
-
-  here : (q : Text) → text ≡ q → Contains (places_at new q) n
-  here q e = subst (λ xs. Contains xs n) (sym (by_test q true ((bytes_eq-Decides q text).1 (sym e)))) (Contains-push (places_at old q) n)
-
-  bounded : (q : Text) → All (λ k. k < length texts) (places_at new q)
-  bounded q = elim (cases_Bool (bytes_eq q text)) [
-    | inl same ↦ subst (All (λ k. k < length texts)) (sym (by_test q true same)) (all_push (places_at old q) n (length texts) (slice_get_within texts n text at) (to.within q))
-    | inr differs ↦ subst (All (λ k. k < length texts)) (sym (added.each q ∙ ap (λ b. cond b (places_at old q ++ n ∷ []) (places_at old q)) differs)) (to.within q)
-  ]
-
-  pub index_more : IsIndexTo texts new (n + 1)
-  index_more = record {
-    within = bounded;
-    complete = λ k q h stands. elim (cases_lt k n) [
-      | inl l ↦ stays q k (to.complete k q l stands)
+  index_behind : IsTextIndex (texts ++ text ∷ []) new
+  index_behind = record {
+    within = λ q. noted.within q (length (texts ++ text ∷ [])) (omega (arith, size)) (λ k d h. omega (arith, to.within q k d h, size, long));
+    complete = λ k q at. elim (cases_lt k n) [
+      | inl l ↦ noted.stays q k (to.complete k q (sym (slice_get_before texts (text ∷ []) k (omega (arith, l, long))) ∙ at))
       | inr g ↦ (
-          let same : k ≡ n = omega arith in
-          let alike : text ≡ q = same_Some text q (sym at ∙ ap (slice_get texts) (sym same) ∙ stands) in
-          subst (Contains (places_at new q)) (sym same) (here q alike))
+          let same : k ≡ n = omega (arith, g, slice_get_within (texts ++ text ∷ []) k q at, size) in
+          let alike : text ≡ q = same_Some text q (sym last ∙ ap (slice_get (texts ++ text ∷ [])) (sym same) ∙ at) in
+          subst (Contains (places_at new q)) (sym same) (noted.noted q ((bytes_eq-Decides q text).1 (sym alike))))
     ];
   }
 
-pub index_all : (texts : List Text) (index : PlacesByName) (n : ℕ) → IsIndexTo texts index n → length texts ≤ n → IsTextIndex texts index
-index_all texts index n to h = record { within = to.within; complete = λ k q at. to.complete k q (omega (arith, slice_get_within texts k q at)) at }
+-- one row more
+pub pool_behind : (rows : List RowIn) (row : RowIn) (s0 n0 s1 n1 : PlacesByName) (place : ℕ) → place ≡ length rows → IsPool rows s0 n0
+    → IsNotedAt (λ q. bytes_eq q row.binary.source) s0 s1 place → IsNotedAt (λ q. bytes_eq q row.binary.name) n0 n1 place → IsPool (rows ++ row ∷ []) s1 n1
+pool_behind rows row s0 n0 s1 n1 place e p sourced named =
+    let source : RowIn → Text = λ r. r.binary.source in
+    let name : RowIn → Text = λ r. r.binary.name in
+    record {
+      sources = subst (λ ts. IsTextIndex ts s1) (sym (map-append source rows (row ∷ []))) (index_behind (sources_of rows) row.binary.source s0 s1 place (e ∙ sym (length-map rows source)) p.sources sourced);
+      names = subst (λ ts. IsTextIndex ts n1) (sym (map-append name rows (row ∷ []))) (index_behind (names_of rows) row.binary.name n0 n1 place (e ∙ sym (length-map rows name)) p.names named);
+    }

@@ -2,14 +2,13 @@
 use Rattle.std.specs.Prelude.{ℕ, ◌<◌, Bool, true, List, [], Contains, Some, length}
 use Rattle.std.specs.List.{All, slice_get, range_with_len}
 use Rattle.std.specs.List.Sorted.{IsStrictlySortedBy}
-use Rattle.std.proofs.Common.{◌≡◌, ap, arith, inl, inr}
+use Rattle.std.proofs.Common.{◌≡◌, refl, arith, inl, inr}
 use Rattle.std.proofs.lemmas.List.FromFn.{length-range_with_len, get_or-range_with_len}
 use Rattle.testing_install.specs.Closed.{marked}
 use Rattle.testing_rules.specs.declared.suite.RowIn.{RowIn}
 use Rattle.testing_rules.specs.AfterMoves.{with_rows, rows_at}
 use Rattle.testing_rules.specs.InOrder.{AreByKey}
 use Rattle.testing_rules.specs.Standing.{IsShown, PoolState, set_places, standing}
-use Rattle.testing_rules.specs.Words.{Text}
 use Rattle.testing_rules.proofs.Flags.{marked_within, bounded_members}
 use Rattle.testing_rules.proofs.Least.{from_filter, to_filter}
 use Rattle.testing_rules.proofs.Members.{none_among}
@@ -31,10 +30,9 @@ set_places-within flags n long = bounded_members n (set_places flags) (λ k c.
     omega (arith, long, marked_within flags k up))
 
 -- what stands of a pool, by the places whose flags are set
-pub standing_at : (pool : List RowIn) (settled : List Text) (first : ℕ) (stands : List Bool) (archs : ℕ) (places : List ℕ) → places ≡ set_places stands
-    → with_rows (rows_at pool places) [] ≡ standing (record { rows = pool; settled = settled; first = first; stands = stands; archs = archs })
+pub standing_at : (s : PoolState) → with_rows (rows_at s.rows (set_places s.stands)) [] ≡ standing s
 unfolding standing
-standing_at pool settled first stands archs places e = ap (λ ks. with_rows (rows_at pool ks) []) e
+standing_at s = refl
 
 pub standing-by_key : (s : PoolState) → AreByKey (standing s)
 unfolding standing

@@ -8,7 +8,7 @@ use Rattle.std.proofs.Common.{◌≡◌, refl, sym, ap, ap₂, ◌∙◌, subst,
 use Rattle.std.proofs.lemmas.Bool.{cases_Bool, cases_eq, cases_lt, false≢true}
 use Rattle.std.proofs.lemmas.Bool.Decides.{nat_tests}
 use Rattle.std.proofs.lemmas.List.FromFn.{length-range_with_len, get_or-range_with_len}
-use Rattle.std.proofs.lemmas.List.{length-append, length-set, get_or-replicate}
+use Rattle.std.proofs.lemmas.List.{length-set, get_or-replicate}
 use Rattle.std.proofs.lemmas.Option.{same_Some, slice_get_within}
 use Rattle.testing_install.specs.Among.{after_change, with_all}
 use Rattle.testing_install.specs.Closed.{marked}
@@ -249,12 +249,13 @@ firsts_stand n total k h =
     or-false true = refl
     or-false false = refl
 
-pub firsts_within : (before unstable : List RowIn) (leaving : List ℕ) → leaving ≡ [] → IsWithin (before ++ unstable) leaving (range_with_len 0 (length before))
-firsts_within before unstable leaving none = record {
-  leaving_within = subst (λ ks. All (λ k. k < length (before ++ unstable)) ks) (sym none) (bounded_members (length (before ++ unstable)) [] (λ k c. none_among k c));
-  coming_within = bounded_members (length (before ++ unstable)) (range_with_len 0 (length before)) (λ k c.
-      let below : c.0 < length before = omega (arith, c.1, length-range_with_len 0 (length before)) in
-      omega (arith, below, get_or-range_with_len 0 (length before) c.0 k below, c.2, length-append before unstable));
+-- the first places are a pool's where it has as many rows
+pub firsts_within : (pool : List RowIn) (n : ℕ) (leaving coming : List ℕ) → n ≤ length pool → leaving ≡ [] → coming ≡ range_with_len 0 n → IsWithin pool leaving coming
+firsts_within pool n leaving coming h none firsts = record {
+  leaving_within = subst (λ ks. All (λ k. k < length pool) ks) (sym none) (bounded_members (length pool) [] (λ k c. none_among k c));
+  coming_within = subst (λ ks. All (λ k. k < length pool) ks) (sym firsts) (bounded_members (length pool) (range_with_len 0 n) (λ k c.
+      let below : c.0 < n = omega (arith, c.1, length-range_with_len 0 n) in
+      omega (arith, h, below, get_or-range_with_len 0 n c.0 k below, c.2)));
 }
 
 -- What leaves by a removal.

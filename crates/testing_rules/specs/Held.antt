@@ -7,14 +7,13 @@ use Rattle.testing_rules.specs.declared.suite.RowIn.{RowIn}
 use Rattle.testing_rules.specs.declared.suite.SourceIn.{SourceIn}
 use Rattle.testing_rules.specs.FactOrder.{IsUnstableOrder}
 use Rattle.testing_rules.specs.InOrder.{IsInOrder}
-use Rattle.testing_rules.specs.JudgedRows.{lent}
 use Rattle.testing_rules.specs.Standing.{IsLive, standing}
 use Rattle.testing_rules.specs.Words.{Text}
 
 -- the rows
 abbrev pub held : LiveRows → List RowIn
 held (Pooled s) = standing s
-held (Listed rows) = lent rows.items
+held (Listed rows) = rows.items
 
 -- where they stand of a pool, it is one of rows before the run and of unstable's, for these architectures
 abbrev pub AreLive : LiveRows → List Text → List RowIn → Type 0

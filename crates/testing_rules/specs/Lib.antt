@@ -13,6 +13,7 @@ pub mod Given
 pub mod Held
 pub mod InOrder
 pub mod JudgedRows
+pub mod Kept
 pub mod Laws
 pub mod LentItems
 pub mod Moves

@@ -44,6 +44,12 @@ pub record AreSuites (pool : List RowIn) (stands : List Bool) (suites : List Par
 abbrev pub set_places : List Bool → List ℕ
 set_places flags = filter (marked flags) (range_with_len 0 (length flags))
 
+-- a pool's rows, which of them stand, and the number of the architectures
+pub record KeptState : Type 0 where
+  pub rows : List RowIn
+  pub stands : List Bool
+  pub archs : ℕ
+
 -- a pool's rows, the names of the sources whose unstable rows it leaves out, the place at which unstable's rows begin,
 -- which rows stand, and the number of the architectures
 pub record PoolState : Type 0 where
@@ -58,7 +64,7 @@ unfoldable pub standing : PoolState → List RowIn
 standing s = with_rows (rows_at s.rows (set_places s.stands)) []
 
 -- there is a flag for each row, and for each architecture its suite
-pub record IsPoolState (pool : List RowIn) (stands : List Bool) (archs : ℕ) (suites : List Part) : Type 0 where
+pub record IsKeptState (pool : List RowIn) (stands : List Bool) (archs : ℕ) (suites : List Part) : Type 0 where
   pub long : length stands ≡ length pool
   pub count : archs ≡ length suites
   pub each : AreSuites pool stands suites

@@ -1,18 +1,20 @@
 //! The suite of one architecture, over the pool's rows that are on it.
 
-ghost use Rattle.std.specs.Prelude.{◌≡◌, ◌<◌, false, length, map, filter, replicate, slice_index, Some, IfOk, OnOk, OnErr};
+ghost use Rattle.std.specs.Prelude.{◌≡◌, ◌<◌, ◌≤◌, ◌-◌, ◌++◌, [], Bool, List, false, length, take, map, filter, replicate, slice_index, Some, IfOk, OnOk, OnErr};
 ghost use Rattle.std.specs.List.{All, range_with_len};
-ghost use Rattle.testing_install.specs.Rows.{binaries};
+ghost use Rattle.testing_install.specs.Rows.{shared};
 ghost use Rattle.testing_rules.specs.Parts.{AreAscending, AreNumbers, IsNumberOf, IsAfter, AreLostFrom, package_at};
-ghost use Rattle.testing_rules.specs.Standing.{IsOver};
+ghost use Rattle.testing_rules.specs.Standing.{IsOver, IsSuiteOn};
 ghost use Rattle.testing_rules.specs.Trials.{is_place_on};
 
 use crate::offender::is_row_on;
 use crate::pool::Pool;
+use deb_control::Binary;
 use deb_version::NoMemory;
 use std::alloc::Global;
 use std::marker::Model;
-use testing_install::{Row, Suite};
+use std::rc::Rc;
+use testing_install::Suite;
 
 /// The row at the place is on the architecture.
 fn is_place_on(arch: u32, pool: &Pool, place: usize) -> bool
@@ -22,12 +24,13 @@ fn is_place_on(arch: u32, pool: &Pool, place: usize) -> bool
     is_row_on(arch, &pool.row(place))
 }
 
-/// The places of the pool's rows that are on the architecture.
-fn places_on(alloc: Global, arch: u32, pool: &Pool) -> Result<Vec<usize>, NoMemory>
-    ensures { IfOk result (λ places. places.items ≡ filter (is_place_on arch pool.now) (range_with_len 0 (length pool.now))) }
+/// The places, from one on, of the pool's rows that are on the architecture.
+fn places_on(alloc: Global, arch: u32, pool: &Pool, from: usize) -> Result<Vec<usize>, NoMemory>
+    requires { from ≤ length pool.now }
+    ensures { IfOk result (λ places. places.items ≡ filter (is_place_on arch pool.now) (range_with_len from (length pool.now - from))) }
 {
     let mut places = Vec::new(alloc);
-    for place in 0..pool.len() {
+    for place in from..pool.len() {
         if is_place_on(arch, pool, place) {
             places.push(place)?;
         }
@@ -35,21 +38,16 @@ fn places_on(alloc: Global, arch: u32, pool: &Pool) -> Result<Vec<usize>, NoMemo
     Ok(places)
 }
 
-/// The packages of the rows at the places.
-fn packages_at<'a>(
-    alloc: Global,
-    pool: &Pool<'a>,
-    places: &[usize],
-) -> Result<Vec<Row<'a>>, NoMemory>
+/// The packages of the rows at the places, shared.
+fn packages_at(alloc: Global, pool: &Pool, places: &[usize]) -> Result<Vec<Rc<Binary>>, NoMemory>
     requires { All (λ k. k < length pool.now) places.now }
-    ensures { IfOk result (λ rows. map (λ b. Some b) (binaries rows.items) ≡ map (package_at pool.now) places.now) }
+    ensures { IfOk result (λ packages. map (λ b. Some b) (shared packages.items) ≡ map (package_at pool.now) places.now) }
 {
-    let mut rows = Vec::new(alloc);
+    let mut packages = Vec::new(alloc);
     for place in places {
-        let row = pool.row(*place);
-        rows.push(Row { binary: row.binary })?;
+        packages.push(pool.package(*place)?)?;
     }
-    Ok(rows)
+    Ok(packages)
 }
 
 /// The number of the place among those that ascend, where it is one of them.
@@ -89,12 +87,12 @@ fn places_of(alloc: Global, own: &[usize], numbers: &[usize]) -> Result<Vec<usiz
 /// A suite of the pool's rows that are on one architecture, and their places in the pool, by which it is asked. So it
 /// costs what these rows cost, and not what the pool costs.
 #[derive(Drop)]
-pub struct ArchSuite<'a> {
+pub struct ArchSuite {
     places: Vec<usize>,
-    suite: Suite<'a>,
+    suite: Suite,
 }
 
-impl<'a> Model for ArchSuite<'a> {
+impl Model for ArchSuite {
     ghost use Rattle.testing_rules.specs.Parts.{Part, IsPart};
 
     ghost Value = { Part };
@@ -104,15 +102,36 @@ impl<'a> Model for ArchSuite<'a> {
     ghost invariant = { λ s. IsPart s.places.items s.suite };
 }
 
-impl<'a> ArchSuite<'a> {
-    /// The suite of the rows on the architecture, of which none is there yet.
-    pub fn new(alloc: Global, arch: u32, pool: &Pool<'a>) -> Result<ArchSuite<'a>, NoMemory>
-        ensures over { IfOk result (λ s. IsOver arch pool.now s) }
-        ensures none { IfOk result (λ s. s.suite.there ≡ replicate (length s.places) false) }
+impl ArchSuite {
+    /// The suite of no row.
+    pub fn new(alloc: Global) -> ArchSuite
+        ensures { result ≡ record { places = []; suite = record { rows = []; there = [] } } }
     {
-        let places = places_on(alloc, arch, pool)?;
-        let rows = packages_at(alloc, pool, &places)?;
-        let suite = Suite::new(alloc, rows)?;
+        ArchSuite {
+            places: Vec::new(alloc),
+            suite: Suite::new(alloc),
+        }
+    }
+
+    /// The suite with those of the pool's rows from a place on that are on the architecture, of which none is there yet.
+    pub fn with_rows(
+        self,
+        alloc: Global,
+        arch: u32,
+        pool: &Pool,
+        from: usize,
+    ) -> Result<ArchSuite, NoMemory>
+        requires from { from ≤ length pool.now }
+        requires over { IsOver arch (take from pool.now) self }
+        ensures over { IfOk result (λ s. IsOver arch pool.now s) }
+        ensures suite { IfOk result (λ s. (stands : List Bool) → length stands ≡ from → IsSuiteOn arch (take from pool.now) stands self
+            → IsSuiteOn arch pool.now (stands ++ replicate (length pool.now - from) false) s) }
+    {
+        let ArchSuite { mut places, suite } = self;
+        let more = places_on(alloc, arch, pool, from)?;
+        let packages = packages_at(alloc, pool, &more)?;
+        let suite = suite.with_rows(alloc, packages)?;
+        places.extend_from_slice(&more)?;
         Ok(ArchSuite { places, suite })
     }
 

@@ -72,7 +72,7 @@ fn put_row<'a>(rows: &mut Vec<LentRow<'a>>, row: &LentRow<'a>) -> Result<(), NoM
 /// Puts in the rows of a pool at some places, each under its key.
 fn put_rows<'a>(
     rows: &mut Vec<LentRow<'a>>,
-    pool: &Pool<'a>,
+    pool: &'a Pool,
     places: &[usize],
 ) -> Result<(), NoMemory>
     requires order { AreByKey (lent rows.old.items) }
@@ -90,7 +90,7 @@ fn put_rows<'a>(
 /// The rows of a pool at some places, as the places stand.
 fn rows_at<'a>(
     alloc: Global,
-    pool: &Pool<'a>,
+    pool: &'a Pool,
     places: &[usize],
 ) -> Result<Vec<LentRow<'a>>, NoMemory>
     requires { All (λ k. k < length pool.now) places.now }
@@ -133,7 +133,7 @@ fn are_by_key(rows: &[LentRow]) -> bool
 /// are sorted, and only where two have one key are they put in one after the other. The one error is want of memory.
 pub fn rows_in_order<'a>(
     alloc: Global,
-    pool: &Pool<'a>,
+    pool: &'a Pool,
     places: &[usize],
 ) -> Result<Vec<LentRow<'a>>, NoMemory>
     requires { All (λ k. k < length pool.now) places.now }
@@ -222,13 +222,13 @@ pub fn rows_without<'a>(
     Ok(kept)
 }
 
-/// The same rows, lent once more.
-pub fn copy_loans<'a>(alloc: Global, rows: &[LentRow<'a>]) -> Result<Vec<LentRow<'a>>, NoMemory>
-    ensures { IfOk result (λ loans. lent loans.items ≡ lent rows.now) }
+/// The rows, lent.
+pub fn lend_rows(alloc: Global, rows: &[RowIn]) -> Result<Vec<LentRow<'_>>, NoMemory>
+    ensures { IfOk result (λ loans. lent loans.items ≡ rows.now) }
 {
     let mut loans = Vec::with_capacity(alloc, rows.len())?;
     for row in rows {
-        loans.push(*row)?;
+        loans.push(row.lend())?;
     }
     Ok(loans)
 }

@@ -16,6 +16,7 @@ mod excusing;
 mod facts;
 mod groups;
 mod item;
+mod kept;
 pub mod laws;
 mod lent_rows;
 mod live;

@@ -5,13 +5,14 @@ ghost use Rattle.testing_rules.specs.Excuses as excuses;
 ghost use Rattle.testing_rules.specs.FactOrder.{AreBySource};
 ghost use Rattle.testing_rules.specs.InOrder.{AreByKey};
 ghost use Rattle.testing_rules.specs.JudgedRows.{lent};
+ghost use Rattle.testing_rules.specs.Kept.{AreKept};
 ghost use Rattle.testing_rules.specs.Runs.{after_move, broken_by_move, after_removal, broken_by_removal};
 
 use crate::archs::Archs;
 use crate::boxed_sources::{boxes_of, move_sources, out_of_boxes, place_of_name, take_source};
 use crate::breaking;
 use crate::facts::UploadIn;
-use crate::lent_rows::copy_lent;
+use crate::kept::KeptSuites;
 use crate::live_rows::LiveRows;
 use crate::moves::Unstable;
 use crate::suite::{SourceIn, Testing};
@@ -50,13 +51,15 @@ impl<'u, 'a> Model for LiveTesting<'u, 'a> {
 }
 
 impl<'u, 'a> LiveTesting<'u, 'a> {
-    /// Testing as it is before the run.
+    /// Testing as it is before the run, with the suites that are kept of its rows.
     pub fn new(
         alloc: Global,
         archs: &'u Archs,
         unstable: Unstable<'u, 'a>,
         testing: &'a Testing,
+        kept: Option<KeptSuites>,
     ) -> Result<LiveTesting<'u, 'a>, NoMemory>
+        requires kept { AreKept kept testing.now.rows }
         requires sources { AreBySource unstable.sources.now }
         requires rows { AreByKey (lent unstable.rows.now) }
         ensures { IfOk result (λ live. live ≡ record {
@@ -64,7 +67,7 @@ impl<'u, 'a> LiveTesting<'u, 'a> {
           suite = testing.now;
         }) }
     {
-        let rows = LiveRows::new(alloc, archs, unstable, testing)?;
+        let rows = LiveRows::new(alloc, archs, unstable, testing, kept)?;
         let sources = boxes_of(alloc, testing.sources())?;
         Ok(LiveTesting {
             archs,
@@ -146,11 +149,8 @@ impl<'u, 'a> LiveTesting<'u, 'a> {
             sources,
             rows,
         } = self;
-        let list = rows.list(alloc)?;
-        // The suites are the larger part, and go before testing is copied.
-        drop(rows);
         let sources = out_of_boxes(alloc, sources)?;
-        let rows = copy_lent(alloc, &list)?;
-        Testing::of(alloc, sources, rows)
+        let (rows, kept) = rows.into_parts(alloc)?;
+        Testing::of(alloc, sources, rows, kept)
     }
 }

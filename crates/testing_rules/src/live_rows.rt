@@ -2,21 +2,24 @@
 
 ghost use Rattle.std.specs.Prelude.{◌≡◌, true, IfOk, List};
 ghost use Rattle.std.specs.List.{list_all};
+ghost use Rattle.testing_install.specs.Closed.{marked};
 ghost use Rattle.testing_rules.specs.AfterMoves.{moved_rows, rows_without};
 ghost use Rattle.testing_rules.specs.FactOrder.{AreBySource, IsUnstableOrder};
 ghost use Rattle.testing_rules.specs.Held.{held, AreLive};
 ghost use Rattle.testing_rules.specs.InOrder.{AreByKey};
 ghost use Rattle.testing_rules.specs.JudgedRows.{lent};
-ghost use Rattle.testing_rules.specs.Standing.{IsLive, standing};
+ghost use Rattle.testing_rules.specs.Kept.{AreKept};
+ghost use Rattle.testing_rules.specs.Standing.{IsLive, IsShown, standing};
 ghost use Rattle.testing_rules.specs.Wanted.{is_wanted};
 ghost use Rattle.testing_rules.specs.Words.{Text as Word};
 ghost use Rattle.testing_rules.specs.declared.suite.RowIn.{RowIn as ARow};
 
 use crate::archs::Archs;
-use crate::lent_rows::{copy_loans, moved_rows, rows_without};
+use crate::kept::KeptSuites;
+use crate::lent_rows::{copy_lent, lend_rows, moved_rows, rows_without};
 use crate::moves::Unstable;
 use crate::standing::PoolSuites;
-use crate::suite::{LentRow, Testing};
+use crate::suite::{LentRow, RowIn, Testing};
 use crate::wanted::{set_of, settled_names};
 use deb_control::Text;
 use deb_version::NoMemory;
@@ -27,7 +30,7 @@ use std::alloc::Global;
 #[derive(Drop)]
 pub enum LiveRows<'a> {
     Pooled(PoolSuites<'a>),
-    Listed(Vec<LentRow<'a>>),
+    Listed(Vec<RowIn>),
 }
 
 /// The suites once a group has moved.
@@ -46,6 +49,56 @@ fn moved_suites<'a>(
 {
     let change = suites.change_by_move(alloc, unstable.sources, group)?;
     suites.after(alloc, &change)
+}
+
+/// Equal rows after the move of a group.
+fn copies_moved<'a>(
+    alloc: Global,
+    rows: &[LentRow<'a>],
+    unstable: Unstable<'_, 'a>,
+    group: &[Text],
+) -> Result<Vec<RowIn>, NoMemory>
+    requires sources { AreBySource unstable.sources.now }
+    requires order { AreByKey (lent rows.now) }
+    ensures rows { IfOk result (λ new. new.items ≡ moved_rows unstable.entry.sources.now (lent unstable.entry.rows.now) group.now (lent rows.now)) }
+    ensures ordered { IfOk result (λ new. AreByKey new.items) }
+{
+    let moved = moved_rows(alloc, rows, unstable, group)?;
+    let copies = copy_lent(alloc, &moved)?;
+    Ok(copies)
+}
+
+/// A list of rows after the move of a group.
+fn list_moved<'a>(
+    alloc: Global,
+    rows: &'a [RowIn],
+    unstable: Unstable<'_, 'a>,
+    group: &[Text],
+) -> Result<Vec<RowIn>, NoMemory>
+    requires sources { AreBySource unstable.sources.now }
+    requires order { AreByKey rows.now }
+    ensures rows { IfOk result (λ new. new.items ≡ moved_rows unstable.entry.sources.now (lent unstable.entry.rows.now) group.now rows.now) }
+    ensures ordered { IfOk result (λ new. AreByKey new.items) }
+{
+    let rows = lend_rows(alloc, rows)?;
+    let moved = copies_moved(alloc, &rows, unstable, group)?;
+    Ok(moved)
+}
+
+/// The rows of a pool that stand, as a list after the move of a group.
+fn standing_moved<'a>(
+    alloc: Global,
+    suites: &'a PoolSuites<'_>,
+    unstable: Unstable<'_, 'a>,
+    group: &[Text],
+) -> Result<Vec<RowIn>, NoMemory>
+    requires { AreBySource unstable.sources.now }
+    ensures rows { IfOk result (λ new. new.items ≡ moved_rows unstable.entry.sources.now (lent unstable.entry.rows.now) group.now (standing suites.now)) }
+    ensures ordered { IfOk result (λ new. AreByKey new.items) }
+{
+    let rows = suites.rows(alloc)?;
+    let moved = copies_moved(alloc, &rows, unstable, group)?;
+    Ok(moved)
 }
 
 /// The rows of a pool after the move of a group. They are a list from then on where the suites leave out rows of one of
@@ -67,9 +120,8 @@ fn moved_from_pool<'a>(
         let suites = moved_suites(alloc, suites, unstable, group)?;
         Ok(LiveRows::Pooled(suites))
     } else {
-        let rows = suites.rows(alloc)?;
-        let rows = moved_rows(alloc, &rows, unstable, group)?;
-        Ok(LiveRows::Listed(rows))
+        let moved = standing_moved(alloc, &suites, unstable, group)?;
+        Ok(LiveRows::Listed(moved))
     }
 }
 
@@ -88,6 +140,50 @@ fn suites_without<'a>(
     suites.after(alloc, &change)
 }
 
+/// A list of the rows of other sources.
+fn list_without(alloc: Global, rows: &[RowIn], name: &str) -> Result<Vec<RowIn>, NoMemory>
+    ensures { IfOk result (λ left. left.items ≡ rows_without name.now rows.now) }
+{
+    let rows = lend_rows(alloc, rows)?;
+    let left = rows_without(alloc, &rows, name)?;
+    let copies = copy_lent(alloc, &left)?;
+    Ok(copies)
+}
+
+/// The suites that are kept of the rows, or new ones: where there are none, where they are of another number of
+/// architectures, and where more than half of their rows no longer stand.
+fn kept_or_new(
+    alloc: Global,
+    archs: u32,
+    rows: &[RowIn],
+    kept: Option<KeptSuites>,
+) -> Result<KeptSuites, NoMemory>
+    requires order { AreByKey rows.now }
+    requires kept { AreKept kept rows.now }
+    ensures archs { IfOk result (λ suites. suites.archs ≡ archs) }
+    ensures shown { IfOk result (λ suites. IsShown suites.rows (marked suites.stands) rows.now) }
+{
+    match kept {
+        Some(kept) => {
+            if kept.archs() == archs && kept.len() / 2 <= rows.len() {
+                Ok(kept)
+            } else {
+                KeptSuites::of(alloc, archs, rows)
+            }
+        }
+        None => KeptSuites::of(alloc, archs, rows),
+    }
+}
+
+/// A list of the rows that stand.
+fn standing_rows(alloc: Global, suites: &PoolSuites<'_>) -> Result<Vec<RowIn>, NoMemory>
+    ensures { IfOk result (λ rows. rows.items ≡ standing suites.now) }
+{
+    let rows = suites.rows(alloc)?;
+    let copies = copy_lent(alloc, &rows)?;
+    Ok(copies)
+}
+
 impl<'a> LiveRows<'a> {
     /// The rows before a run. To them those of unstable may come whose source isn't in testing at its unstable version.
     pub fn new(
@@ -95,16 +191,18 @@ impl<'a> LiveRows<'a> {
         archs: &Archs,
         unstable: Unstable<'_, 'a>,
         testing: &'a Testing,
+        kept: Option<KeptSuites>,
     ) -> Result<LiveRows<'a>, NoMemory>
-        requires { AreBySource unstable.sources.now }
+        requires kept { AreKept kept testing.now.rows }
+        requires sources { AreBySource unstable.sources.now }
         ensures rows { IfOk result (λ new. held new ≡ testing.now.rows) }
         ensures live { IfOk result (λ new. AreLive new archs.now (lent unstable.entry.rows.now)) }
         ensures by_key { IfOk result (λ new. AreByKey (held new)) }
     {
         let names = settled_names(alloc, unstable.sources, testing.sources())?;
         let settled = set_of(alloc, &names)?;
-        let rows = testing.rows();
-        let suites = PoolSuites::new(alloc, archs.len(), rows, settled, unstable.rows)?;
+        let kept = kept_or_new(alloc, archs.len(), testing.rows(), kept)?;
+        let suites = PoolSuites::new(alloc, kept, settled, unstable.rows)?;
         Ok(LiveRows::Pooled(suites))
     }
 
@@ -126,8 +224,8 @@ impl<'a> LiveRows<'a> {
         match self {
             LiveRows::Pooled(suites) => moved_from_pool(alloc, suites, unstable, group),
             LiveRows::Listed(rows) => {
-                let rows = moved_rows(alloc, &rows, unstable, group)?;
-                Ok(LiveRows::Listed(rows))
+                let moved = list_moved(alloc, &rows, unstable, group)?;
+                Ok(LiveRows::Listed(moved))
             }
         }
     }
@@ -147,19 +245,33 @@ impl<'a> LiveRows<'a> {
                 Ok(LiveRows::Pooled(suites))
             }
             LiveRows::Listed(rows) => {
-                let rows = rows_without(alloc, &rows, name)?;
-                Ok(LiveRows::Listed(rows))
+                let left = list_without(alloc, &rows, name)?;
+                Ok(LiveRows::Listed(left))
             }
         }
     }
 
     /// A list of the rows.
-    pub fn list(&self, alloc: Global) -> Result<Vec<LentRow<'a>>, NoMemory>
+    pub fn list(&self, alloc: Global) -> Result<Vec<LentRow<'_>>, NoMemory>
         ensures { IfOk result (λ rows. lent rows.items ≡ held self.now) }
     {
         match self {
             LiveRows::Pooled(suites) => suites.rows(alloc),
-            LiveRows::Listed(rows) => copy_loans(alloc, rows),
+            LiveRows::Listed(rows) => lend_rows(alloc, rows),
+        }
+    }
+
+    /// The rows, and the suites that are kept of them, where there are any.
+    pub fn into_parts(self, alloc: Global) -> Result<(Vec<RowIn>, Option<KeptSuites>), NoMemory>
+        ensures rows { IfOk result (λ parts. parts.0.items ≡ held self.entry) }
+        ensures kept { IfOk result (λ parts. (archs : List Word) (unstable : List ARow) → AreLive self.entry archs unstable → AreKept parts.1 (held self.entry)) }
+    {
+        match self {
+            LiveRows::Pooled(suites) => {
+                let rows = standing_rows(alloc, &suites)?;
+                Ok((rows, Some(suites.into_kept())))
+            }
+            LiveRows::Listed(rows) => Ok((rows, None)),
         }
     }
 }

@@ -3,6 +3,7 @@
 ghost use Rattle.std.specs.Prelude.{◌≡◌, IfOk, OnErr};
 ghost use Rattle.testing_rules.specs.Covered.{Covered};
 ghost use Rattle.testing_rules.specs.Excuses.{excuses_of};
+ghost use Rattle.testing_rules.specs.Kept.{AreKept};
 ghost use Rattle.testing_rules.specs.StandsFor.{StandsFor};
 ghost use Rattle.testing_rules.specs.Unstable as unstable_words;
 ghost use Rattle.testing_rules.specs.Updates.{IsUpdate, update_by};
@@ -12,6 +13,7 @@ use crate::archs::Archs;
 use crate::built::built_rows;
 use crate::excuse::{Excuse, Excuses};
 use crate::facts::{Facts, copy_uploads};
+use crate::kept::KeptSuites;
 use crate::live::LiveTesting;
 use crate::moves::Unstable;
 use crate::suite::Testing;
@@ -28,7 +30,9 @@ fn all_turns<'a>(
     facts: &'a Facts,
     excuses: &[Excuse],
     testing: &'a Testing,
+    kept: Option<KeptSuites>,
 ) -> Result<(Vec<Decision>, Testing), NoMemory>
+    requires { AreKept kept testing.now.rows }
     ensures { IfOk result (λ o. record { decisions = o.0.items; suite = o.1 } ≡ update_by archs.now facts.now.sources (unstable_words.built_rows archs.now facts.now.rows) facts.now.hints facts.now.unhints excuses.now testing.now) }
 {
     let rows = built_rows(alloc, archs, facts.rows())?;
@@ -37,7 +41,10 @@ fn all_turns<'a>(
         sources: &sources,
         rows: &rows,
     };
-    let mut turns = Turns::new(alloc, LiveTesting::new(alloc, archs, unstable, testing)?);
+    let mut turns = Turns::new(
+        alloc,
+        LiveTesting::new(alloc, archs, unstable, testing, kept)?,
+    );
     turns.removals(alloc, facts.hints(), facts.unhints())?;
     turns.groups(alloc, excuses, facts.hints(), facts.unhints())?;
     turns.move_singles(alloc, excuses)?;
@@ -61,7 +68,8 @@ pub fn migrate(
     ensures watched { AllWatchedWork archs.now testing.old.rows → AllWatchedWork archs.now testing.new.rows }
     ensures err { OnErr result (testing.new ≡ testing.old) }
 {
-    let (decisions, after) = all_turns(alloc, archs, facts, excuses.as_slice(), testing)?;
+    let kept = testing.take_kept();
+    let (decisions, after) = all_turns(alloc, archs, facts, excuses.as_slice(), testing, kept)?;
     *testing = after;
     Ok(Update::of(decisions))
 }

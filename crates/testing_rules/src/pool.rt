@@ -1,138 +1,136 @@
-//! Rows that may stand in testing during a run, by place.
+//! Rows that may stand in testing, by place.
 
-ghost use Rattle.std.specs.Prelude.{◌≡◌, ℕ, List, ◌∷◌, ◌++◌, [], ◌<◌, length, Some, Contains, OnOk, IfOk, if◌then◌else◌};
+ghost use Rattle.std.specs.Prelude.{◌≡◌, ℕ, ◌∷◌, ◌++◌, [], ◌<◌, length, Some, Contains, OnOk, IfOk};
 ghost use Rattle.std.specs.List.{All, slice_get};
-ghost use Rattle.std.specs.Str.{bytes_eq};
-ghost use Rattle.testing_install.specs.Index.{places_at};
 ghost use Rattle.testing_rules.specs.declared.suite.RowIn.{RowIn as ARow};
 ghost use Rattle.testing_rules.specs.JudgedRows.{lent, row_of};
-ghost use Rattle.testing_rules.specs.Pools.{lent_texts, sources_of, names_of, IsTextIndex};
+ghost use Rattle.testing_rules.specs.Pools.{IsPool};
 
-use crate::suite::{LentRow, RowIn};
+use crate::suite::LentRow;
+use deb_control::Binary;
 use deb_version::NoMemory;
-use smallvec::SmallVec;
 use std::alloc::Global;
-use std::collections::HashMap;
 use std::marker::Model;
+use std::rc::Rc;
+use testing_install::NameIndex;
 
-/// Places of rows by a text of theirs.
-type PlacesByText<'a> = HashMap<&'a str, SmallVec<usize, 2>>;
+/// A row that a pool keeps. Its package is shared with the suites of the architectures.
+#[derive(Drop)]
+struct PoolRow {
+    arch: u32,
+    binary: Rc<Binary>,
+    sender: u32,
+    number: u32,
+    place: u32,
+}
+
+impl Model for PoolRow {
+    ghost use Rattle.testing_rules.specs.declared.suite.RowIn.{RowIn};
+
+    ghost Value = { RowIn };
+
+    ghost view = { λ r. record { arch = r.arch; binary = r.binary.value; sender = r.sender; number = r.number; place = r.place } };
+}
+
+impl PoolRow {
+    /// A row of one's own that is equal to the lent one.
+    fn of(alloc: Global, row: &LentRow) -> Result<PoolRow, NoMemory>
+        ensures { IfOk result (λ r. r ≡ row_of row.now) }
+    {
+        let binary = Rc::new(alloc, row.binary.copy(alloc)?)?;
+        Ok(PoolRow {
+            arch: row.arch,
+            binary,
+            sender: row.sender,
+            number: row.number,
+            place: row.place,
+        })
+    }
+
+    /// The row, lent.
+    fn lend(&self) -> LentRow<'_>
+        ensures { row_of result ≡ self.now }
+    {
+        LentRow {
+            arch: self.arch,
+            binary: self.binary.as_ref(),
+            sender: self.sender,
+            number: self.number,
+            place: self.place,
+        }
+    }
+
+    /// Its package, shared.
+    fn package(&self) -> Result<Rc<Binary>, NoMemory>
+        ensures { IfOk result (λ binary. binary.value ≡ self.now.binary) }
+    {
+        Ok(self.binary.clone()?)
+    }
+}
 
 /// The rows, and their places by the source that they name and by the package's name.
 #[derive(Drop)]
-pub struct Pool<'a> {
-    rows: Vec<LentRow<'a>>,
-    by_source: PlacesByText<'a>,
-    by_name: PlacesByText<'a>,
+pub struct Pool {
+    rows: Vec<PoolRow>,
+    by_source: NameIndex,
+    by_name: NameIndex,
 }
 
-impl<'a> Model for Pool<'a> {
+impl Model for Pool {
     ghost use Rattle.std.specs.Prelude.{List};
-    ghost use Rattle.testing_rules.specs.JudgedRows.{lent};
     ghost use Rattle.testing_rules.specs.declared.suite.RowIn.{RowIn};
     ghost use Rattle.testing_rules.specs.Pools.{IsPool};
 
     ghost Value = { List RowIn };
 
-    ghost view = { λ p. lent p.rows.items };
+    ghost view = { λ p. p.rows.items };
 
-    ghost invariant = { λ p. IsPool (lent p.rows.items) p.by_source p.by_name };
+    ghost invariant = { λ p. IsPool p.rows.items p.by_source p.by_name };
 }
 
-/// Adds a place at the end of those at the text.
-fn note<'a>(
+/// A row comes behind the others, and its place into both indexes.
+fn add_row(
     alloc: Global,
-    index: &mut PlacesByText<'a>,
-    text: &'a str,
-    place: usize,
+    rows: &mut Vec<PoolRow>,
+    by_source: &mut NameIndex,
+    by_name: &mut NameIndex,
+    row: &LentRow,
 ) -> Result<(), NoMemory>
-    ensures { OnOk result ((q : List ℕ) → places_at index.new q
-        ≡ (if bytes_eq q text.now then places_at index.old q ++ place ∷ [] else places_at index.old q)) }
+    requires { IsPool rows.old.items by_source.old by_name.old }
+    ensures rows { OnOk result (rows.new.items ≡ rows.old.items ++ row_of row.now ∷ []) }
+    ensures indexes { OnOk result (IsPool rows.new.items by_source.new by_name.new) }
 {
-    index
-        .entry(text)?
-        .or_insert(SmallVec::new(alloc))
-        .push(place)?;
+    let place = rows.len();
+    by_source.note(alloc, row.binary.source.as_str(), place)?;
+    by_name.note(alloc, row.binary.name.as_str(), place)?;
+    rows.push(PoolRow::of(alloc, row)?)?;
     Ok(())
 }
 
-/// The places of each text.
-fn index_of<'a>(alloc: Global, texts: &[&'a str]) -> Result<PlacesByText<'a>, NoMemory>
-    ensures { IfOk result (λ index. IsTextIndex (lent_texts texts.now) index) }
-{
-    let mut index = HashMap::new(alloc);
-    for (place, text) in texts.iter().enumerate() {
-        note(alloc, &mut index, text, place)?;
-    }
-    Ok(index)
-}
-
-/// The places at a text.
-fn places<'p>(index: &'p PlacesByText<'_>, text: &str) -> &'p [usize]
-    ensures { result.now ≡ places_at index.now text.now }
-{
-    match index.get(text) {
-        Some(places) => places.as_slice(),
-        None => &[],
-    }
-}
-
-/// The sources that the rows name.
-fn sources_of<'a>(alloc: Global, rows: &[LentRow<'a>]) -> Result<Vec<&'a str>, NoMemory>
-    ensures { IfOk result (λ texts. lent_texts texts.items ≡ sources_of (lent rows.now)) }
-{
-    let mut texts = Vec::new(alloc);
-    for row in rows {
-        texts.push(row.binary.source.as_str())?;
-    }
-    Ok(texts)
-}
-
-/// The names of the rows' packages.
-fn names_of<'a>(alloc: Global, rows: &[LentRow<'a>]) -> Result<Vec<&'a str>, NoMemory>
-    ensures { IfOk result (λ texts. lent_texts texts.items ≡ names_of (lent rows.now)) }
-{
-    let mut texts = Vec::new(alloc);
-    for row in rows {
-        texts.push(row.binary.name.as_str())?;
-    }
-    Ok(texts)
-}
-
-/// Rows behind others, lent.
-fn push_rows<'a>(pool: &mut Vec<LentRow<'a>>, rows: &'a [RowIn]) -> Result<(), NoMemory>
-    ensures { OnOk result (lent pool.new.items ≡ lent pool.old.items ++ rows.now) }
-{
-    for row in rows {
-        pool.push(row.lend())?;
-    }
-    Ok(())
-}
-
-/// Rows that are lent already behind others.
-fn push_lent<'a>(pool: &mut Vec<LentRow<'a>>, rows: &[LentRow<'a>]) -> Result<(), NoMemory>
-    ensures { OnOk result (lent pool.new.items ≡ lent pool.old.items ++ lent rows.now) }
-{
-    for row in rows {
-        pool.push(*row)?;
-    }
-    Ok(())
-}
-
-impl<'a> Pool<'a> {
-    /// Testing's rows, and behind them unstable's.
-    pub fn new(
-        alloc: Global,
-        testing: &'a [RowIn],
-        unstable: &[LentRow<'a>],
-    ) -> Result<Pool<'a>, NoMemory>
-        ensures { IfOk result (λ pool. pool ≡ testing.now ++ lent unstable.now) }
+impl Pool {
+    /// No row yet.
+    pub fn new(alloc: Global) -> Pool
+        ensures { result ≡ [] }
     {
-        let mut rows = Vec::new(alloc);
-        push_rows(&mut rows, testing)?;
-        push_lent(&mut rows, unstable)?;
-        let by_source = index_of(alloc, &sources_of(alloc, &rows)?)?;
-        let by_name = index_of(alloc, &names_of(alloc, &rows)?)?;
+        Pool {
+            rows: Vec::new(alloc),
+            by_source: NameIndex::new(alloc),
+            by_name: NameIndex::new(alloc),
+        }
+    }
+
+    /// The pool with more rows behind its own.
+    pub fn with_rows(self, alloc: Global, more: &[LentRow]) -> Result<Pool, NoMemory>
+        ensures { IfOk result (λ pool. pool ≡ self ++ lent more.now) }
+    {
+        let Pool {
+            mut rows,
+            mut by_source,
+            mut by_name,
+        } = self;
+        for row in more {
+            add_row(alloc, &mut rows, &mut by_source, &mut by_name, row)?;
+        }
         Ok(Pool {
             rows,
             by_source,
@@ -148,26 +146,34 @@ impl<'a> Pool<'a> {
     }
 
     /// The row at the place.
-    pub fn row(&self, place: usize) -> LentRow<'a>
+    pub fn row(&self, place: usize) -> LentRow<'_>
         requires { place < length self.now }
         ensures { slice_get self.now place ≡ Some (row_of result) }
     {
-        self.rows[place]
+        self.rows[place].lend()
     }
 
-    /// The places of the rows that name the source.
+    /// The package of the row at the place, shared.
+    pub fn package(&self, place: usize) -> Result<Rc<Binary>, NoMemory>
+        requires { place < length self.now }
+        ensures { IfOk result (λ binary. (r : ARow) → slice_get self.now place ≡ Some r → binary.value ≡ r.binary) }
+    {
+        self.rows[place].package()
+    }
+
+    /// The places of the rows that name the source, and of some others it may be.
     pub fn of_source(&self, name: &str) -> &[usize]
         ensures within { All (λ k. k < length self.now) result.now }
         ensures complete { (k : ℕ) (r : ARow) → slice_get self.now k ≡ Some r → r.binary.source ≡ name.now → Contains result.now k }
     {
-        places(&self.by_source, name)
+        self.by_source.places(name)
     }
 
-    /// The places of the rows whose package has the name.
+    /// The places of the rows whose package has the name, and of some others it may be.
     pub fn of_name(&self, name: &str) -> &[usize]
         ensures within { All (λ k. k < length self.now) result.now }
         ensures complete { (k : ℕ) (r : ARow) → slice_get self.now k ≡ Some r → r.binary.name ≡ name.now → Contains result.now k }
     {
-        places(&self.by_name, name)
+        self.by_name.places(name)
     }
 }

@@ -5,9 +5,11 @@ ghost use Rattle.std.specs.List.Sorted.{IsBinarySearchResult, IsSearchInRange};
 ghost use Rattle.testing_rules.specs.Moves as moves;
 ghost use Rattle.testing_rules.specs.InOrder.{AreByName, AreByKey};
 ghost use Rattle.testing_rules.specs.JudgedRows.{row_of};
+ghost use Rattle.testing_rules.specs.Kept.{AreKept};
 ghost use Rattle.testing_rules.specs.Places.{IsPlaceFor};
 ghost use Rattle.testing_rules.specs.Words.{text_cmp};
 
+use crate::kept::KeptSuites;
 use deb_control::{Binary, Text};
 use deb_version::{NoMemory, Version};
 use std::alloc::{AllocError, Global};
@@ -64,19 +66,24 @@ impl Model for SuiteEntries {
 }
 
 /// The sources by name, and the rows by architecture and name. Copies share them; one that is changed while it shares
-/// them gets its own first. The empty suite holds none.
+/// them gets its own first. The empty suite holds none. Beside them stand the suites that a run left for the next one:
+/// they cost time and no word of a contract, copies don't have them, and a change of testing drops them.
 #[derive(Drop)]
 pub struct Testing {
     alloc: Global,
     entries: Option<Rc<SuiteEntries>>,
+    kept: Option<KeptSuites>,
 }
 
 impl Model for Testing {
+    ghost use Rattle.testing_rules.specs.Kept.{AreKept};
     ghost use Rattle.testing_rules.specs.Suite.{Suite, suite_of};
 
     ghost Value = { Suite };
 
     ghost view = { λ a. suite_of a.entries };
+
+    ghost invariant = { λ a. AreKept a.kept (suite_of a.entries).rows };
 }
 
 impl SourceIn {
@@ -335,21 +342,32 @@ fn put_shared_row(alloc: Global, entries: &mut Rc<SuiteEntries>, row: RowIn) -> 
 }
 
 impl Testing {
-    /// The suite of these entries, which are in order.
+    /// The suite of these entries, which are in order, and the suites that are kept of its rows.
     pub(crate) fn of(
         alloc: Global,
         sources: Vec<SourceIn>,
         rows: Vec<RowIn>,
+        kept: Option<KeptSuites>,
     ) -> Result<Testing, NoMemory>
         requires sources { AreByName sources.items }
         requires rows { AreByKey rows.items }
+        requires kept { AreKept kept rows.items }
         ensures { IfOk result (λ testing. testing ≡ record { sources = sources.items; rows = rows.items }) }
     {
         let entries = Rc::new(alloc, SuiteEntries { sources, rows })?;
         Ok(Testing {
             alloc,
             entries: Some(entries),
+            kept,
         })
+    }
+
+    /// The suites that are kept of its rows, which it gives up.
+    pub(crate) fn take_kept(&mut self) -> Option<KeptSuites>
+        ensures same { self.new ≡ self.old }
+        ensures kept { AreKept result self.old.rows }
+    {
+        self.kept.take()
     }
 
     /// The empty suite.
@@ -359,6 +377,7 @@ impl Testing {
         Testing {
             alloc,
             entries: None,
+            kept: None,
         }
     }
 
@@ -390,6 +409,7 @@ impl Testing {
         ensures ok { OnOk result (self.new ≡ record { sources = moves.put_source source self.old.sources; rows = self.old.rows }) }
         ensures err { OnErr result (self.new ≡ self.old) }
     {
+        self.kept = None;
         match &mut self.entries {
             Some(entries) => put_shared_source(self.alloc, entries, source),
             None => {
@@ -404,6 +424,7 @@ impl Testing {
         ensures ok { OnOk result (self.new ≡ record { sources = self.old.sources; rows = moves.put_row row self.old.rows }) }
         ensures err { OnErr result (self.new ≡ self.old) }
     {
+        self.kept = None;
         match &mut self.entries {
             Some(entries) => put_shared_row(self.alloc, entries, row),
             None => {
@@ -421,6 +442,20 @@ impl Testing {
             Some(entries) => Some(entries.clone()?),
             None => None,
         };
-        Ok(Testing { alloc, entries })
+        Ok(Testing {
+            alloc,
+            entries,
+            kept: None,
+        })
+    }
+
+    /// An equal suite for the next run, which shares the entries: the suites that the run before left go with it.
+    pub fn share(&mut self) -> Result<Testing, NoMemory>
+        ensures same { self.new ≡ self.old }
+        ensures shared { IfOk result (λ t. t ≡ self.old) }
+    {
+        let mut shared = self.copy(self.alloc)?;
+        shared.kept = self.kept.take();
+        Ok(shared)
     }
 }

@@ -15,7 +15,7 @@ use deb_version::NoMemory;
 use std::alloc::Global;
 
 /// The name of the first watched row at one of the places, in byte order.
-fn first_watched<'a>(arch: u32, pool: &Pool<'a>, places: &[usize]) -> Option<&'a str>
+fn first_watched<'a>(arch: u32, pool: &'a Pool, places: &[usize]) -> Option<&'a str>
     requires { All (λ k. k < length pool.now) places.now }
     ensures { option_copied result ≡ least text_cmp (names_at arch pool.now places.now) }
 {
@@ -34,8 +34,8 @@ fn first_watched<'a>(arch: u32, pool: &Pool<'a>, places: &[usize]) -> Option<&'a
 pub fn first_lost<'a>(
     alloc: Global,
     arch: u32,
-    pool: &Pool<'a>,
-    suite: &mut ArchSuite<'_>,
+    pool: &'a Pool,
+    suite: &mut ArchSuite,
     change: &Change,
 ) -> Result<Option<&'a str>, NoMemory>
     requires { IsOver arch pool.now suite.old }

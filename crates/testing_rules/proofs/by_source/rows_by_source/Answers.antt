@@ -1,4 +1,4 @@
-use Rattle.std.proofs.Common.{arith, ◌∙◌, ap, ◌<◌, ◌≤◌, length, take, filter}
+use Rattle.std.proofs.Common.{arith, ◌∙◌, ap, ◌≤◌, length, take, filter}
 use Rattle.std.proofs.lemmas.List.{take_all}
 use Rattle.std.specs.Str.{bytes_eq}
 use Rattle.testing_rules.specs.declared.suite.LentRow.{LentRow}

@@ -1,15 +1,9 @@
-use Rattle.std.proofs.Common.{sym, ap, subst, ◌∙◌}
-use Rattle.std.proofs.lemmas.Result.{IfOk-from_err}
-use Rattle.testing_rules.specs.InOrder.{AreByKey}
-use Rattle.testing_rules.specs.JudgedRows.{lent}
 use Rattle.testing_rules.proofs.Showing.{standing-by_key}
+use Rattle.std.proofs.lemmas.Result.{IfOk-from_err}
 use Rattle.testing_rules.proofs.live_rows.moved_from_pool.Goals as goal
 
 pub returns-then-offers-clause-by_key : goal.returns-then-offers-clause-by_key
 returns-then-offers-clause-by_key c = standing-by_key c.in_ok-suites.suites
-
-pub moved_rows-requires-clause-order : goal.moved_rows-requires-clause-order
-moved_rows-requires-clause-order c = subst AreByKey (sym (ap lent c.deref.ensures.value ∙ c.in_ok-rows.ensures)) (standing-by_key c.args.suites)
 
 pub returns-then-offers-clause-live : goal.returns-then-offers-clause-live
 returns-then-offers-clause-live c = c.in_ok-suites.ensures.live
@@ -18,16 +12,4 @@ pub returns-in_err-suites : goal.returns-in_err-suites
 returns-in_err-suites c =
     let r = c.from_residual.result in
     let none = c.from_residual.ensures.0 in
-    record { rows = IfOk-from_err r _ none; live = IfOk-from_err r _ none; by_key = IfOk-from_err r _ none }
-
-pub returns-in_err-rows : goal.returns-in_err-rows
-returns-in_err-rows c =
-    let r = c.from_residual-in_err-rows.result in
-    let none = c.from_residual-in_err-rows.ensures.0 in
-    record { rows = IfOk-from_err r _ none; live = IfOk-from_err r _ none; by_key = IfOk-from_err r _ none }
-
-pub returns-in_err-rows-2 : goal.returns-in_err-rows-2
-returns-in_err-rows-2 c =
-    let r = c.from_residual-in_err-rows-2.result in
-    let none = c.from_residual-in_err-rows-2.ensures.0 in
     record { rows = IfOk-from_err r _ none; live = IfOk-from_err r _ none; by_key = IfOk-from_err r _ none }

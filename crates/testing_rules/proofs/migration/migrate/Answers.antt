@@ -10,6 +10,8 @@ pub returns-clause-watched : goal.returns-clause-watched
 returns-clause-watched c = λ h.
     let archs = c.args.archs.now in
     let facts = c.args.facts.now in
+    let before = c.take_kept-kept.new.self in
+    let here = subst (λ (t : Suite). AllWatchedWork archs t.rows) (sym c.take_kept-kept.ensures.same) h in
     let after = ap (λ (o : Outcome). o.suite) c.in_ok-decisions.ensures in
     subst (λ (t : Suite). AllWatchedWork archs t.rows) (sym after)
-    (update-keeps archs facts.sources (built_rows archs facts.rows) facts.hints facts.unhints c.as_slice.result.now c.args.testing.now h)
+    (update-keeps archs facts.sources (built_rows archs facts.rows) facts.hints facts.unhints c.as_slice.result.now before here)

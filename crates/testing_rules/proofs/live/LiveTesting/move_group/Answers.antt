@@ -13,7 +13,7 @@ invariant_of-self c =
       order = c.self.invariant.order;
       in_order = record {
         by_name = c.move_sources.ensures.ordered;
-        by_key = subst (λ l. AreByKey (held l)) (sym c.replace-rows.ensures.after) (subst (λ rows. AreByKey (lent rows)) (sym c.new.ensures.items) by_key-none);
+        by_key = subst (λ l. AreByKey (held l)) (sym c.replace-rows.ensures.after) (subst AreByKey (sym c.new.ensures.items) by_key-none);
       };
       live = subst (λ l. AreLive l archs unstable) (sym c.replace-rows.ensures.after) tt;
     }
@@ -26,7 +26,7 @@ invariant_of-self-in_err-self-inside c =
       order = c.self.invariant.order;
       in_order = record {
         by_name = c.move_sources.ensures.ordered;
-        by_key = subst (λ l. AreByKey (held l)) (sym c.replace-rows.ensures.after) (subst (λ rows. AreByKey (lent rows)) (sym c.new.ensures.items) by_key-none);
+        by_key = subst (λ l. AreByKey (held l)) (sym c.replace-rows.ensures.after) (subst AreByKey (sym c.new.ensures.items) by_key-none);
       };
       live = subst (λ l. AreLive l archs unstable) (sym c.replace-rows.ensures.after) tt;
     }

@@ -17,7 +17,7 @@ invariant_of-self c =
       order = c.self.invariant.order;
       in_order = record {
         by_name = c.take_source.ensures.ordered;
-        by_key = subst (λ l. AreByKey (held l)) (sym c.replace-rows.ensures.after) (subst (λ rows. AreByKey (lent rows)) (sym c.new.ensures.items) by_key-none);
+        by_key = subst (λ l. AreByKey (held l)) (sym c.replace-rows.ensures.after) (subst AreByKey (sym c.new.ensures.items) by_key-none);
       };
       live = subst (λ l. AreLive l archs unstable) (sym c.replace-rows.ensures.after) tt;
     }

@@ -4,7 +4,6 @@ use Rattle.testing_rules.specs.declared.suite.RowIn.{RowIn}
 use Rattle.testing_rules.specs.AfterMoves.{rows_without}
 use Rattle.testing_rules.specs.Held.{held}
 use Rattle.testing_rules.specs.InOrder.{AreByKey}
-use Rattle.testing_rules.specs.JudgedRows.{lent}
 use Rattle.testing_rules.proofs.Ordered.{by_key-kept}
 use Rattle.testing_rules.proofs.Showing.{standing-by_key}
 use Rattle.testing_rules.proofs.live_rows.LiveRows.without.Goals as goal
@@ -12,10 +11,10 @@ use Rattle.testing_rules.proofs.live_rows.LiveRows.without.Goals as goal
 pub returns-in_ok-suites-in-Pooled-clause-by_key : goal.returns-in_ok-suites-in-Pooled-clause-by_key
 returns-in_ok-suites-in-Pooled-clause-by_key c = standing-by_key c.in_ok-suites-in-Pooled.suites
 
-pub returns-in_ok-rows-in-Listed-clause-by_key : goal.returns-in_ok-rows-in-Listed-clause-by_key
-returns-in_ok-rows-in-Listed-clause-by_key c =
+pub returns-in_ok-left-in-Listed-clause-by_key : goal.returns-in_ok-left-in-Listed-clause-by_key
+returns-in_ok-left-in-Listed-clause-by_key c =
     let name = c.args.name.now in
     let keep : RowIn → Bool = λ r. not (bytes_eq r.binary.source name) in
     let rows = c.in-Listed.rows.items in
-    let kept = c.in_ok-rows-in-Listed.ensures ∙ ap (λ rs. rows_without name (lent rs)) c.deref.ensures.value in
-    subst AreByKey (sym kept) (by_key-kept keep (lent rows) (subst (λ l. AreByKey (held l)) c.in-Listed.is c.requires))
+    let left = c.in_ok-left-in-Listed.ensures ∙ ap (rows_without name) c.deref.ensures.value in
+    subst AreByKey (sym left) (by_key-kept keep rows (subst (λ l. AreByKey (held l)) c.in-Listed.is c.requires))
