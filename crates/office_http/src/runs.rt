@@ -119,7 +119,7 @@ fn next_outcome<K: Keeper>(
         unreachable!()
     };
     let facts = facts(alloc, setup, keeper, before, orders)?;
-    let testing = stored::testing(keeper)?;
+    let testing = stored::next_testing(keeper)?;
     let left = run_rules(alloc, setup, run, date, &facts.facts, testing)?;
     Ok((left, facts))
 }
@@ -180,7 +180,7 @@ fn finish_next<K: Keeper>(
         return Ok(false);
     }
     let (done, facts) = next_outcome(alloc, setup, keeper, known.take(), orders, finished + 1)?;
-    stored::finish(keeper, finished + 1, &done)?;
+    stored::finish(keeper, finished + 1, done)?;
     *known = counted(facts, counts);
     Ok(true)
 }

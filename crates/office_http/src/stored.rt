@@ -88,13 +88,13 @@ pub fn finished<K: Keeper>(keeper: &mut K) -> Result<u32, StoreFault>
 }
 
 /// Makes the next run finished.
-pub fn finish<K: Keeper>(keeper: &mut K, run: u32, done: &Finished) -> Result<(), StoreFault>
+pub fn finish<K: Keeper>(keeper: &mut K, run: u32, done: Finished) -> Result<(), StoreFault>
     requires next { K.is_trusted keeper.old → run ≡ length (K.content keeper.old).reports + 1 }
-    requires known { K.is_trusted keeper.old → KnowsArchs (K.setup keeper.old).archs done.now.testing.rows }
-    requires given { K.is_trusted keeper.old → K.is_legible keeper.old → AreOwnTexts (K.setup keeper.old) (K.content keeper.old).kept → IsGiven (K.setup keeper.old) (K.content keeper.old) done.now.testing }
-    ensures done { K.is_trusted keeper.new → K.is_legible keeper.old → AreOwnTexts (K.setup keeper.old) (K.content keeper.old).kept → OnOk result (K.content keeper.new ≡ with_run (K.content keeper.old) done.now) }
+    requires known { K.is_trusted keeper.old → KnowsArchs (K.setup keeper.old).archs done.testing.rows }
+    requires given { K.is_trusted keeper.old → K.is_legible keeper.old → AreOwnTexts (K.setup keeper.old) (K.content keeper.old).kept → IsGiven (K.setup keeper.old) (K.content keeper.old) done.testing }
+    ensures done { K.is_trusted keeper.new → K.is_legible keeper.old → AreOwnTexts (K.setup keeper.old) (K.content keeper.old).kept → OnOk result (K.content keeper.new ≡ with_run (K.content keeper.old) done) }
     ensures mail { K.is_trusted keeper.new → (K.content keeper.new).kept ≡ (K.content keeper.old).kept }
-    ensures reports { K.is_trusted keeper.new → OnOk result ((K.content keeper.new).reports ≡ (K.content keeper.old).reports ++ reports_in done.now ∷ []) }
+    ensures reports { K.is_trusted keeper.new → OnOk result ((K.content keeper.new).reports ≡ (K.content keeper.old).reports ++ reports_in done ∷ []) }
     ensures err { K.is_trusted keeper.new → OnErr result (K.content keeper.new ≡ K.content keeper.old) }
     ensures setup { K.setup keeper.new ≡ K.setup keeper.old }
     ensures before { K.is_trusted keeper.new → K.is_trusted keeper.old }
@@ -102,7 +102,7 @@ pub fn finish<K: Keeper>(keeper: &mut K, run: u32, done: &Finished) -> Result<()
     ensures lasts { Lasts K.Keeper keeper.old keeper.new (is_ok result) }
     ensures counted { Counted (K.refusals keeper.old) (K.refusals keeper.new) result }
 {
-    keeper.finish(run, done)?;
+    keeper.take_finished(run, done)?;
     Ok(())
 }
 
@@ -121,4 +121,13 @@ pub fn testing<K: Keeper>(keeper: &mut K) -> Result<Testing, StoreFault>
     ensures looks { Looks K.Keeper keeper.old keeper.new result }
 {
     Ok(keeper.testing()?)
+}
+
+/// Testing for the next run, as the last finished one left it.
+pub fn next_testing<K: Keeper>(keeper: &mut K) -> Result<Testing, StoreFault>
+    ensures value { K.is_trusted keeper.new → IfOk result (λ testing. testing ≡ (K.content keeper.old).testing) }
+    ensures archs { IfOk result (λ testing. KnowsArchs (K.setup keeper.new).archs testing.rows) }
+    ensures looks { Looks K.Keeper keeper.old keeper.new result }
+{
+    Ok(keeper.next_testing()?)
 }

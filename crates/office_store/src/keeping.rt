@@ -143,6 +143,47 @@ pub trait Keeper {
         ensures legible { is_trusted self.new → is_legible self.old → is_legible self.new }
         ensures bad { is_trusted self.new → is_legible self.old → AreOwnTexts (setup self.old) (content self.old).kept → result ≢ Err (KeepFault.Store Cause.BadRow) }
         ensures counted { Counted (refusals self.old) (refusals self.new) result };
+
+    /// Makes the next run finished, as `finish` does, with what it is handed to keep. A store that needs no more than
+    /// the value itself has no copy to make.
+    fn take_finished(&mut self, run: u32, done: Finished) -> Result<(), KeepFault>
+        requires next { is_trusted self.old → run ≡ length (content self.old).reports + 1 }
+        requires known { is_trusted self.old → KnowsArchs (setup self.old).archs done.testing.rows }
+        requires given { is_trusted self.old → is_legible self.old → AreOwnTexts (setup self.old) (content self.old).kept → IsGiven (setup self.old) (content self.old) done.testing }
+        ensures done { is_trusted self.new → is_legible self.old → AreOwnTexts (setup self.old) (content self.old).kept → OnOk result (content self.new ≡ with_run (content self.old) done) }
+        ensures mail { is_trusted self.new → (content self.new).kept ≡ (content self.old).kept }
+        ensures reports { is_trusted self.new → OnOk result ((content self.new).reports ≡ (content self.old).reports ++ reports_in done ∷ []) }
+        ensures err { is_trusted self.new → OnErr result (content self.new ≡ content self.old) }
+        ensures setup { setup self.new ≡ setup self.old }
+        ensures clean { is_clean self.new → is_clean self.old }
+        ensures faults { disk_faults self.old ≤ disk_faults self.new }
+        ensures before { is_trusted self.new → is_trusted self.old }
+        ensures open { is_clean self.new → is_trusted self.old → OnOk result (is_trusted self.new) }
+        ensures shut { is_clean self.new → is_trusted self.old → is_trusted self.new ⊎ HasRisen (disk_faults self.old) (disk_faults self.new) }
+        ensures legible { is_trusted self.new → is_legible self.old → AreOwnTexts (setup self.old) (content self.old).kept → is_legible self.new }
+        ensures bad { is_trusted self.new → is_legible self.old → AreOwnTexts (setup self.old) (content self.old).kept → result ≢ Err (KeepFault.Store Cause.BadRow) }
+        ensures counted { Counted (refusals self.old) (refusals self.new) result }
+    {
+        self.finish(run, &done)
+    }
+
+    /// The testing suite for the next run, as `testing`: a store that has what speeds that run hands it out along with it.
+    fn next_testing(&mut self) -> Result<Testing, KeepFault>
+        ensures value { is_trusted self.new → IfOk result (λ testing. testing ≡ (content self.old).testing) }
+        ensures archs { IfOk result (λ testing. KnowsArchs (setup self.new).archs testing.rows) }
+        ensures same { is_trusted self.new → content self.new ≡ content self.old }
+        ensures setup { setup self.new ≡ setup self.old }
+        ensures clean { is_clean self.new → is_clean self.old }
+        ensures faults { disk_faults self.old ≤ disk_faults self.new }
+        ensures before { is_trusted self.new → is_trusted self.old }
+        ensures open { is_clean self.new → is_trusted self.old → OnOk result (is_trusted self.new) }
+        ensures shut { is_clean self.new → is_trusted self.old → is_trusted self.new ⊎ HasRisen (disk_faults self.old) (disk_faults self.new) }
+        ensures legible { is_trusted self.new → is_legible self.old → is_legible self.new }
+        ensures bad { is_trusted self.new → is_legible self.old → AreOwnTexts (setup self.old) (content self.old).kept → result ≢ Err (KeepFault.Store Cause.BadRow) }
+        ensures counted { Counted (refusals self.old) (refusals self.new) result }
+    {
+        self.testing()
+    }
 }
 
 /// Keeps a text where its sender's number is free, and says whether it was.

@@ -172,4 +172,19 @@ impl Keeper for Plain {
     fn testing(&mut self) -> Result<Testing, KeepFault> {
         Ok(self.testing.copy(self.alloc)?)
     }
+
+    fn take_finished(&mut self, _run: u32, done: Finished) -> Result<(), KeepFault> {
+        let Finished {
+            testing,
+            excuses,
+            updates,
+        } = done;
+        self.runs.push(Reports { excuses, updates })?;
+        self.testing = testing;
+        Ok(())
+    }
+
+    fn next_testing(&mut self) -> Result<Testing, KeepFault> {
+        Ok(self.testing.share()?)
+    }
 }

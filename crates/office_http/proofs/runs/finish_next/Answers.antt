@@ -6,7 +6,7 @@ use Rattle.office_mail.specs.Kept.{Kept}
 use Rattle.office_mail.specs.Lists.{Lists}
 use Rattle.office_mail.specs.Runs.{IsReady}
 use Rattle.office_store.specs.Content.{Content, with_run}
-use Rattle.office_store.specs.Given.{AreOwnTexts}
+use Rattle.office_store.specs.Given.{AreOwnTexts, IsGiven}
 use Rattle.office_http.specs.declared.covered.KnownFacts.{KnownFacts}
 use Rattle.office_http.specs.Known.{FactsStand}
 use Rattle.office_http.specs.Outcome.{outcome_of}
@@ -80,6 +80,20 @@ next_outcome-requires-clause-known g c = λ trusted.
     let was = if_stand setup (content c.args.keeper.now).kept before (c.requires.facts (at1.looks.before trusted)) in
     subst (λ (o : Option KnownFacts). IfSome o (λ known. FactsStand setup (content c.next_is_ready.new.keeper).kept known)) (sym c.take.ensures.value)
     (subst (λ (m : Content). IfSome before (λ known. FactsStand setup m.kept known)) (sym (at1.looks.same trusted)) was)
+
+pub finish-requires-clause-given : goal.finish-requires-clause-given
+finish-requires-clause-given g c = λ trusted legible own.
+    let setup = c.args.setup.now in
+    let content = g.K.Keeper.content in
+    let mid : Content = content c.next_is_ready.new.keeper in
+    let late : Content = content c.next_outcome.new.keeper in
+    let at1 = c.in_ok-next_is_ready.ensures in
+    let at2 = c.in_ok-done.ensures in
+    let same : late ≡ mid = at2.looks.same trusted in
+    let lists : g.K.Keeper.setup c.next_outcome.new.keeper ≡ setup = at2.looks.setup ∙ at1.looks.setup ∙ c.requires.lists in
+    let texts : AreOwnTexts setup mid.kept = subst (λ (m : Content). AreOwnTexts setup m.kept) same (subst (λ (u : Lists). AreOwnTexts u late.kept) lists own) in
+    let testing = c.in_ok-done.done.testing in
+    subst (λ (u : Lists). IsGiven u late testing) (sym lists) (subst (λ (m : Content). IsGiven setup m testing) (sym same) (at2.given trusted texts))
 
 pub returns-clause-known : goal.returns-clause-known
 returns-clause-known g c = λ trusted.

@@ -37,9 +37,9 @@ returns-clause-known g c = λ trusted.
     let covers : ℕ → ℕ = cover_of c.args.orders.now in
     let t : Suite = c.in_ok-testing.testing in
     let earlier = c.in_ok-testing.ensures.looks.before trusted in
-    let lists : g.K.Keeper.setup c.testing.new.keeper ≡ setup = c.in_ok-testing.ensures.looks.setup ∙ c.in_ok-facts.ensures.looks.setup ∙ c.requires.lists in
+    let lists : g.K.Keeper.setup c.next_testing.new.keeper ≡ setup = c.in_ok-testing.ensures.looks.setup ∙ c.in_ok-facts.ensures.looks.setup ∙ c.requires.lists in
     let s : Covered = said_within setup content.kept covers (length setup.senders) in
-    known_by_mail setup (g.K.Keeper.setup c.testing.new.keeper).archs s t c.in_ok-left.left.testing (ap (λ (u : Lists). u.archs) lists) c.in_ok-testing.ensures.archs
+    known_by_mail setup (g.K.Keeper.setup c.next_testing.new.keeper).archs s t c.in_ok-left.left.testing (ap (λ (u : Lists). u.archs) lists) c.in_ok-testing.ensures.archs
     (c.in_ok-left.ensures.given s (c.in_ok-facts.ensures.facts earlier t))
 
 pub returns-clause-facts : goal.returns-clause-facts
