@@ -51,9 +51,9 @@ pub fn compare(rt: &impl Eprint, v1: &str, op: &str, v2: &str) -> u8
 /// Writes what is refused, and why.
 fn tell(rt: &impl Eprint, v1: &str, op: &str, v2: &str, refusal: Refusal) -> io::Result<()> {
     match refusal {
-        Refusal::UnknownComparison => eprintln!(rt; "office: {op}: {refusal}"),
-        Refusal::Version(CompareFault::First(fault)) => eprintln!(rt; "office: {v1}: {fault}"),
-        Refusal::Version(CompareFault::Second(fault)) => eprintln!(rt; "office: {v2}: {fault}"),
+        Refusal::UnknownComparison => eprintln!(rt; "office: '{op}': {refusal}"),
+        Refusal::Version(CompareFault::First(fault)) => eprintln!(rt; "office: '{v1}': {fault}"),
+        Refusal::Version(CompareFault::Second(fault)) => eprintln!(rt; "office: '{v2}': {fault}"),
     }
 }
 
