@@ -7,7 +7,9 @@ use jiff::civil::Date;
 use office_mail::{Body, Setup, read_message};
 use std::alloc::Global;
 use std::test::Fail;
-use testing_rules::{Facts, RowIn, SourceIn, Testing, excuses, excuses_text, testing_text};
+use testing_rules::{
+    Facts, RowIn, SharedBinary, SourceIn, Testing, excuses, excuses_text, testing_text,
+};
 
 /// On how many architectures testing has foo 1.0-1, the covered mail beside its own, the run's day in
 /// March 2025, and what the excuses say below the heading.
@@ -56,7 +58,7 @@ fn testing_with_foo(alloc: Global, archs: u32) -> Result<Testing, Fail> {
     for arch in 0..archs {
         testing.set_row(RowIn {
             arch,
-            binary: binary_of_foo(alloc)?,
+            binary: SharedBinary::of(alloc, binary_of_foo(alloc)?)?,
             sender: 1,
             number: 1,
             place: 1,

@@ -23,7 +23,7 @@ use office_mail::{Body, MailFault, Message, Setup, read_message};
 use sqlite::types::ValueRef;
 use sqlite::{Alter, Connection, Error, Row};
 use std::alloc::Global;
-use testing_rules::{ALL, Archs, Item, RowIn, SourceIn, Testing};
+use testing_rules::{ALL, Archs, Item, RowIn, SharedBinary, SourceIn, Testing};
 
 /// The message that a text is, where it is of this sender and number.
 fn own_message(
@@ -282,7 +282,7 @@ fn row_in(
     }
     Ok(Some(RowIn {
         arch: entry.arch,
-        binary: binary.copy(alloc)?,
+        binary: SharedBinary::copy_of(alloc, binary)?,
         sender: entry.sender,
         number: entry.number,
         place: entry.place,

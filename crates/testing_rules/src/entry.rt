@@ -6,6 +6,7 @@ ghost use Rattle.testing_rules.specs.Entries as entries;
 
 use crate::facts::{BugIn, BuildIn, Delays, DelaysIn, DropIn, HintIn, UnhintIn, UploadIn};
 use crate::item::{Hint, Item, Severity, Urgency, copy_version};
+use crate::shared_binary::SharedBinary;
 use deb_control::{Binary, Text};
 use deb_version::{NoMemory, Version};
 use jiff::civil::Date;
@@ -72,7 +73,7 @@ fn placed(
     let mut place = 1;
     'binaries: for binary in binaries {
         builds.push(BuildIn {
-            binary: binary.copy(alloc)?,
+            binary: SharedBinary::copy_of(alloc, binary)?,
             sender,
             number,
             place,

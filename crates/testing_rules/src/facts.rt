@@ -13,8 +13,9 @@ ghost use Rattle.testing_rules.specs.declared.facts.UploadIn.{UploadIn as AnUplo
 use crate::build_blocks::BuildBlocks;
 use crate::entry::{Entry, entry_of};
 use crate::item::{Hint, Item, Severity, Urgency, copy_version};
+use crate::shared_binary::SharedBinary;
 use crate::taken::{later_delays, put_bug, put_drop, put_hint, put_unhint, put_upload};
-use deb_control::{Binary, Text};
+use deb_control::Text;
 use deb_version::{NoMemory, Version};
 use jiff::civil::Date;
 use std::alloc::Global;
@@ -34,7 +35,7 @@ pub struct UploadIn {
 /// A build's binary, and its paragraph.
 #[derive(Drop)]
 pub struct BuildIn {
-    pub binary: Binary,
+    pub binary: SharedBinary,
     pub sender: u32,
     pub number: u32,
     pub place: u32,

@@ -29,6 +29,7 @@ mod pool;
 mod reasons;
 mod report;
 mod select;
+mod shared_binary;
 mod singles;
 mod standing;
 mod suite;
@@ -45,5 +46,6 @@ pub use facts::{BugIn, BuildIn, Delays, DelaysIn, DropIn, Facts, HintIn, UnhintI
 pub use item::{Binaries, Hint, HintItem, HintItems, Item, Names, Severity, Urgency};
 pub use migration::migrate;
 pub use report::{excuses_text, testing_text, update_text};
+pub use shared_binary::SharedBinary;
 pub use suite::{RowIn, SourceIn, Testing};
 pub use update::{Decision, Moved, MovedItems, Offender, Update};

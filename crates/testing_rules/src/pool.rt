@@ -6,7 +6,7 @@ ghost use Rattle.testing_rules.specs.declared.suite.RowIn.{RowIn as ARow};
 ghost use Rattle.testing_rules.specs.JudgedRows.{lent, row_of};
 ghost use Rattle.testing_rules.specs.Pools.{IsPool};
 
-use crate::suite::LentRow;
+use crate::suite::{LentRow, RowIn};
 use deb_control::Binary;
 use deb_version::NoMemory;
 use std::alloc::Global;
@@ -14,64 +14,10 @@ use std::marker::Model;
 use std::rc::Rc;
 use testing_install::NameIndex;
 
-/// A row that a pool keeps. Its package is shared with the suites of the architectures.
-#[derive(Drop)]
-struct PoolRow {
-    arch: u32,
-    binary: Rc<Binary>,
-    sender: u32,
-    number: u32,
-    place: u32,
-}
-
-impl Model for PoolRow {
-    ghost use Rattle.testing_rules.specs.declared.suite.RowIn.{RowIn};
-
-    ghost Value = { RowIn };
-
-    ghost view = { λ r. record { arch = r.arch; binary = r.binary.value; sender = r.sender; number = r.number; place = r.place } };
-}
-
-impl PoolRow {
-    /// A row of one's own that is equal to the lent one.
-    fn of(alloc: Global, row: &LentRow) -> Result<PoolRow, NoMemory>
-        ensures { IfOk result (λ r. r ≡ row_of row.now) }
-    {
-        let binary = Rc::new(alloc, row.binary.copy(alloc)?)?;
-        Ok(PoolRow {
-            arch: row.arch,
-            binary,
-            sender: row.sender,
-            number: row.number,
-            place: row.place,
-        })
-    }
-
-    /// The row, lent.
-    fn lend(&self) -> LentRow<'_>
-        ensures { row_of result ≡ self.now }
-    {
-        LentRow {
-            arch: self.arch,
-            binary: self.binary.as_ref(),
-            sender: self.sender,
-            number: self.number,
-            place: self.place,
-        }
-    }
-
-    /// Its package, shared.
-    fn package(&self) -> Result<Rc<Binary>, NoMemory>
-        ensures { IfOk result (λ binary. binary.value ≡ self.now.binary) }
-    {
-        Ok(self.binary.clone()?)
-    }
-}
-
 /// The rows, and their places by the source that they name and by the package's name.
 #[derive(Drop)]
 pub struct Pool {
-    rows: Vec<PoolRow>,
+    rows: Vec<RowIn>,
     by_source: NameIndex,
     by_name: NameIndex,
 }
@@ -91,7 +37,7 @@ impl Model for Pool {
 /// A row comes behind the others, and its place into both indexes.
 fn add_row(
     alloc: Global,
-    rows: &mut Vec<PoolRow>,
+    rows: &mut Vec<RowIn>,
     by_source: &mut NameIndex,
     by_name: &mut NameIndex,
     row: &LentRow,
@@ -103,7 +49,7 @@ fn add_row(
     let place = rows.len();
     by_source.note(alloc, row.binary.source.as_str(), place)?;
     by_name.note(alloc, row.binary.name.as_str(), place)?;
-    rows.push(PoolRow::of(alloc, row)?)?;
+    rows.push(row.copy()?)?;
     Ok(())
 }
 
@@ -158,7 +104,7 @@ impl Pool {
         requires { place < length self.now }
         ensures { IfOk result (λ binary. (r : ARow) → slice_get self.now place ≡ Some r → binary.value ≡ r.binary) }
     {
-        self.rows[place].package()
+        self.rows[place].binary.package()
     }
 
     /// The places of the rows that name the source, and of some others it may be.

@@ -10,7 +10,8 @@ ghost use Rattle.testing_rules.specs.Places.{IsPlaceFor};
 ghost use Rattle.testing_rules.specs.Words.{text_cmp};
 
 use crate::kept::KeptSuites;
-use deb_control::{Binary, Text};
+use crate::shared_binary::SharedBinary;
+use deb_control::Text;
 use deb_version::{NoMemory, Version};
 use std::alloc::{AllocError, Global};
 use std::cmp::Ordering;
@@ -31,7 +32,7 @@ pub struct SourceIn {
 #[derive(Drop)]
 pub struct RowIn {
     pub arch: u32,
-    pub binary: Binary,
+    pub binary: SharedBinary,
     pub sender: u32,
     pub number: u32,
     pub place: u32,
@@ -40,7 +41,7 @@ pub struct RowIn {
 /// A row that is lent: its binary stands in testing or among the builds of unstable.
 #[derive(Clone, Copy)]
 pub struct LentRow<'a> {
-    pub binary: &'a Binary,
+    pub binary: &'a SharedBinary,
     pub arch: u32,
     pub sender: u32,
     pub number: u32,
@@ -116,20 +117,20 @@ impl RowIn {
         }
     }
 
-    /// An equal value.
-    pub fn copy(&self, alloc: Global) -> Result<RowIn, NoMemory>
+    /// An equal value, which shares the binary.
+    pub fn copy(&self) -> Result<RowIn, NoMemory>
         ensures { IfOk result (λ r. r ≡ self.now) }
     {
-        self.lend().copy(alloc)
+        self.lend().copy()
     }
 }
 
 impl LentRow<'_> {
-    /// An equal row.
-    pub fn copy(&self, alloc: Global) -> Result<RowIn, NoMemory>
+    /// An equal row, which shares the binary.
+    pub fn copy(&self) -> Result<RowIn, NoMemory>
         ensures { IfOk result (λ r. r ≡ row_of self.now) }
     {
-        let binary = self.binary.copy(alloc)?;
+        let binary = self.binary.share()?;
         Ok(RowIn {
             arch: self.arch,
             binary,
@@ -229,7 +230,7 @@ fn copy_rows(alloc: Global, rows: &[RowIn]) -> Result<Vec<RowIn>, NoMemory>
 {
     let mut copies = Vec::with_capacity(alloc, rows.len())?;
     for row in rows {
-        copies.push(row.copy(alloc)?)?;
+        copies.push(row.copy()?)?;
     }
     Ok(copies)
 }

@@ -15,6 +15,7 @@ use crate::select::{
     bug_order, build_order, delays_order, drop_order, hint_order, is_above, unhint_order,
     upload_order,
 };
+use deb_control::Binary;
 use deb_version::NoMemory;
 use std::cmp::Ordering;
 
@@ -188,7 +189,7 @@ fn slot_of_build(rows: &[Box<BuildIn>], build: &BuildIn) -> Slot
     requires { AreByPair (unboxed rows.now) }
     ensures { IsSlotFor (unboxed rows.now) build.now (taken.with_build build.now (unboxed rows.now)) result }
 {
-    let binary = &build.binary;
+    let binary: &Binary = &build.binary;
     match place_of_pair(rows, binary.architecture.as_str(), binary.name.as_str()) {
         Ok(i) => {
             let other = &rows[i];
@@ -232,7 +233,7 @@ pub fn stands_beside(drops: &[DropIn], build: &BuildIn) -> bool
     requires { AreDropsByPair drops.now }
     ensures { result ≡ taken.stands_beside drops.now build.now }
 {
-    let binary = &build.binary;
+    let binary: &Binary = &build.binary;
     match place_of_drop(drops, binary.architecture.as_str(), binary.name.as_str()) {
         Ok(i) => outlives(&drops[i], build),
         Err(_) => true,

@@ -9,7 +9,7 @@ use deb_control::{Binary, Paragraphs, Text};
 use deb_version::Version;
 use std::alloc::Global;
 use std::test::Fail;
-use testing_rules::{ALL, RowIn, SourceIn, Testing};
+use testing_rules::{ALL, RowIn, SharedBinary, SourceIn, Testing};
 
 fn binary_of(alloc: Global, row: &Built) -> Result<Binary, Fail> {
     let mut text = String::new(alloc);
@@ -22,7 +22,7 @@ fn binary_of(alloc: Global, row: &Built) -> Result<Binary, Fail> {
 fn row_in(alloc: Global, row: &Built) -> Result<RowIn, Fail> {
     Ok(RowIn {
         arch: if row.arch.is_all() { ALL } else { row.arch.0 },
-        binary: binary_of(alloc, row)?,
+        binary: SharedBinary::of(alloc, binary_of(alloc, row)?)?,
         sender: row.at.sender,
         number: row.at.number,
         place: row.place,

@@ -1,4 +1,5 @@
-use Rattle.std.proofs.Common.{◌∙◌}
+use Rattle.std.proofs.Common.{ap, ◌∙◌}
+use Rattle.deb_control.specs.declared.binary.Binary.{Binary}
 use Rattle.sqlite.specs.Held.{state}
 use Rattle.office_store.proofs.SettingLemmas.{rows_start, rows_step}
 use Rattle.office_store.proofs.StateLemmas.{lasts_then, clean_before}
@@ -16,7 +17,7 @@ rows-preserved g c = record {
         before = so.before;
         on = record { inside = on.inside; committed = on.committed ∙ so.on.committed };
         changed = rows_step (state g.S.Store c.args.tx.now.conn.now).now.trees (state g.S.Store c.rows.tx.conn.now).now.trees (state g.S.Store c.add_row.new.tx.conn.now).now.trees
-            c.args.rows.now c.rows.row-index c.row-item.result c.as_str-name.result.now c.requires.ordered c.rows-test.true c.row-item.is c.as_str-name.ensures so.changed (c.in_ok-add_row.ensures.added trusted);
+            c.args.rows.now c.rows.row-index c.row-item.result c.as_str-name.result.now c.requires.ordered c.rows-test.true c.row-item.is (c.as_str-name.ensures ∙ ap (λ (q : Binary). q.name) c.deref.ensures) so.changed (c.in_ok-add_row.ensures.added trusted);
       };
 }
 

@@ -2,6 +2,7 @@ use Rattle.std.proofs.Common.{arith, ◌≡◌, ◌∙◌, sym, ap, subst, ℕ, 
 use Rattle.std.specs.List.{slice_get}
 use Rattle.std.specs.Option.{option_map_or}
 use Rattle.std.proofs.lemmas.List.{take_more}
+use Rattle.deb_control.specs.declared.binary.Binary.{Binary}
 use Rattle.testing_rules.specs.declared.suite.RowIn.{RowIn}
 use Rattle.testing_rules.specs.Changes.{gives_way_to, stands_for, AreThose}
 use Rattle.testing_rules.specs.JudgedRows.{row_of}
@@ -23,7 +24,7 @@ loop-place-preserved c =
     let at : slice_get pool j ≡ Some row = c.row-row.ensures in
     let as_test : (k : ℕ) → test j k ≡ stands_for pool stands row k = λ k. ap (λ (m : Option RowIn). option_map_or (λ (r : RowIn). stands_for pool stands r k) m false) at in
     let all : (k : ℕ) → test j k ≡ true → Contains places k =
-    λ k h. giving_way_among pool row places (λ p r there e. c.of_name-places.ensures.complete p r there (e ∙ sym c.as_str.ensures)) stands k (sym (as_test k) ∙ h) in
+    λ k h. giving_way_among pool row places (λ p r there e. c.of_name-places.ensures.complete p r there (e ∙ sym (c.as_str.ensures ∙ ap (λ (q : Binary). q.name) c.deref.ensures))) stands k (sym (as_test k) ∙ h) in
     let same : filter (test j) places ≡ filter (stands_for pool stands row) places =
     ap (λ (m : Option RowIn). filter (λ k. option_map_or (λ (r : RowIn). stands_for pool stands r k) m false) places) at in
     let those = those_more test (take i coming) before j places c.loop-place.invariant all in

@@ -13,8 +13,8 @@ binaries-preserved c =
     let below : i < length bs = omega arith in
     let so_far = placed_from 1 n k (take i bs) in (
       c.in_ok-push.ensures.items
-          ∙ ap (λ xs. xs ++ placed_at n k c.in_ok-copy.field-0 c.binaries.place ∷ []) c.binaries.invariant.0
-          ∙ ap (λ b. so_far ++ placed_at n k b c.binaries.place ∷ []) (c.in_ok-copy.ensures ∙ c.binary-item.is)
+          ∙ ap (λ xs. xs ++ placed_at n k c.in_ok-copy_of.field-0 c.binaries.place ∷ []) c.binaries.invariant.0
+          ∙ ap (λ b. so_far ++ placed_at n k b c.binaries.place ∷ []) (c.in_ok-copy_of.ensures ∙ c.binary-item.is)
           ∙ ap (λ p. so_far ++ placed_at n k (get_or bs i d) p ∷ []) c.binaries.invariant.1
           ∙ sym (placed-more n k bs i d below),
       c.in_ok-place.ensures ∙ ap (λ p. p + 1) c.binaries.invariant.1,

@@ -1,6 +1,7 @@
 use Rattle.std.proofs.Common.{arith, ◌≡◌, ◌∙◌, sym, ap, ◌+◌, ◌<◌, Bool, true, false, cond, length, take, filter, map, Some}
 use Rattle.std.specs.List.{slice_get, filter_map}
 use Rattle.std.specs.Option.{option_copied}
+use Rattle.deb_control.specs.declared.binary.Binary.{Binary}
 use Rattle.testing_rules.specs.declared.suite.RowIn.{RowIn}
 use Rattle.testing_rules.specs.JudgedRows.{row_of}
 use Rattle.testing_rules.specs.Moves.{is_watched_on}
@@ -30,7 +31,7 @@ loop-place-preserved c =
     elim c.if-is_watched_on.branch [
       | then-is_watched_on w ↦
           ap option_copied w.first-is
-          ∙ ap (λ n. Some n) (w.first_of_two.ensures ∙ ap (λ n. first_of_two text_cmp (option_copied c.loop-place.first) n) w.as_str.ensures
+          ∙ ap (λ n. Some n) (w.first_of_two.ensures ∙ ap (λ n. first_of_two text_cmp (option_copied c.loop-place.first) n) (w.as_str.ensures ∙ ap (λ (q : Binary). q.name) w.deref.ensures)
           ∙ ap (λ m. first_of_two text_cmp m (name row)) c.loop-place.invariant)
           ∙ sym (step true (sym c.is_watched_on.ensures ∙ w.if-is_watched_on.true))
       | else-is_watched_on w ↦ ap option_copied w.first-is ∙ c.loop-place.invariant ∙ sym (step false (sym c.is_watched_on.ensures ∙ w.if-is_watched_on.false))

@@ -1,0 +1,67 @@
+//! A binary package that rows share.
+
+ghost use Rattle.std.specs.Prelude.{◌≡◌, IfOk};
+
+use deb_control::Binary;
+use deb_version::NoMemory;
+use std::alloc::Global;
+use std::marker::Model;
+use std::ops::Deref;
+use std::rc::Rc;
+
+/// A binary package, of which a build of unstable, the rows of testing and a suite have one value together: a row that
+/// moves or stays costs no copy of its texts.
+#[derive(Drop)]
+pub struct SharedBinary {
+    shared: Rc<Binary>,
+}
+
+impl Model for SharedBinary {
+    ghost use Rattle.deb_control.specs.declared.binary.Binary.{Binary};
+
+    ghost Value = { Binary };
+
+    ghost view = { λ b. b.shared.value };
+}
+
+impl SharedBinary {
+    /// The package, which others may share from here on.
+    pub fn of(alloc: Global, binary: Binary) -> Result<SharedBinary, NoMemory>
+        ensures { IfOk result (λ b. b ≡ binary) }
+    {
+        let shared = Rc::new(alloc, binary)?;
+        Ok(SharedBinary { shared })
+    }
+
+    /// An equal package, which others may share from here on.
+    pub fn copy_of(alloc: Global, binary: &Binary) -> Result<SharedBinary, NoMemory>
+        ensures { IfOk result (λ b. b ≡ binary.now) }
+    {
+        SharedBinary::of(alloc, binary.copy(alloc)?)
+    }
+
+    /// The same package.
+    pub fn share(&self) -> Result<SharedBinary, NoMemory>
+        ensures { IfOk result (λ b. b ≡ self.now) }
+    {
+        let shared = self.shared.clone()?;
+        Ok(SharedBinary { shared })
+    }
+
+    /// The package for a suite, which shares it too.
+    pub(crate) fn package(&self) -> Result<Rc<Binary>, NoMemory>
+        ensures { IfOk result (λ binary. binary.value ≡ self.now) }
+    {
+        Ok(self.shared.clone()?)
+    }
+}
+
+impl Deref for SharedBinary {
+    type Target = Binary;
+
+    ghost deref_gives = { λ x y. y ≡ x };
+
+    fn deref(&self) -> &Binary {
+        self.shared.as_ref()
+    }
+}
