@@ -32,15 +32,15 @@ failing group old new arch = first_failing arch group (judged_on arch old) (judg
 
 module _ (s : PoolState) (archs : List Text) (sources : List UploadIn) (unstable : List RowIn) (group : List Text) (leaving coming : List ℕ) (t : Suite)
     (order : IsUnstableOrder sources unstable) (live : IsLive s archs unstable t.rows) (moves : IsMoveOf s.rows s.stands s.first sources group leaving coming)
-    (offered : list_all (is_wanted s.settled) group ≡ true) where
+    (offered : list_all (is_wanted s.candidates) group ≡ true) where
   is_move : IsMove s.rows (marked s.stands) sources unstable group (has leaving) (has coming)
   is_move =
-      let pool = live.before ++ wanted_rows s.settled unstable in
+      let pool = live.before ++ wanted_rows s.candidates unstable in
       let here : IsMoveOf pool s.stands s.first sources group leaving coming = subst (λ rows. IsMoveOf rows s.stands s.first sources group leaving coming) live.pooled moves in
       let there : IsMoveOf pool s.stands (length live.before) sources group leaving coming =
       subst (λ n. IsMoveOf pool s.stands n sources group leaving coming) live.begins here in
       subst (λ rows. IsMove rows (marked s.stands) sources unstable group (has leaving) (has coming)) (sym live.pooled)
-      (move_of_places live.before unstable s.settled s.stands sources group leaving coming there offered)
+      (move_of_places live.before unstable s.candidates s.stands sources group leaving coming there offered)
 
   change : IsChange s.rows group (marked s.stands) (after_flags (marked s.stands) (has leaving) (has coming)) (has coming) t.rows (move_group sources unstable group t).rows
   change = moved_change s.rows (marked s.stands) sources unstable group (has leaving) (has coming) t order.by_key live.shown is_move
@@ -52,7 +52,7 @@ module _ (s : PoolState) (archs : List Text) (sources : List UploadIn) (unstable
         trial_tells arch s.rows group s.stands there leaving coming t.rows (move_group sources unstable group t).rows long within.coming_within fresh change on name told;
   }
 
-  pub move_live : (new : PoolState) → length s.stands ≡ length s.rows → new ≡ record { rows = s.rows; settled = s.settled; first = s.first; stands = after_change leaving coming s.stands; archs = s.archs }
+  pub move_live : (new : PoolState) → length s.stands ≡ length s.rows → new ≡ record { rows = s.rows; candidates = s.candidates; first = s.first; stands = after_change leaving coming s.stands; archs = s.archs }
       → IsLive new archs unstable (move_group sources unstable group t).rows
   move_live new long e = subst (λ n. IsLive n archs unstable (move_group sources unstable group t).rows) (sym e) (record {
     count = live.count;
@@ -64,7 +64,7 @@ module _ (s : PoolState) (archs : List Text) (sources : List UploadIn) (unstable
   })
 
   -- what stands then are the rows after the move
-  pub move_stands : (new : PoolState) → length s.stands ≡ length s.rows → new ≡ record { rows = s.rows; settled = s.settled; first = s.first; stands = after_change leaving coming s.stands; archs = s.archs }
+  pub move_stands : (new : PoolState) → length s.stands ≡ length s.rows → new ≡ record { rows = s.rows; candidates = s.candidates; first = s.first; stands = after_change leaving coming s.stands; archs = s.archs }
       → (move_group sources unstable group t).rows ≡ standing new
   move_stands new long e = is_standing new (move_group sources unstable group t).rows (move_live new long e).shown
 
@@ -82,7 +82,7 @@ module _ (s : PoolState) (name : Text) (leaving : List ℕ) (t : Suite) (shown :
       none h = let never : ⊥ = cc in absurd never
 
   pub removal_live : (archs : List Text) (unstable : List RowIn) (new : PoolState) → IsLive s archs unstable t.rows → length s.stands ≡ length s.rows
-      → new ≡ record { rows = s.rows; settled = s.settled; first = s.first; stands = after_change leaving [] s.stands; archs = s.archs }
+      → new ≡ record { rows = s.rows; candidates = s.candidates; first = s.first; stands = after_change leaving [] s.stands; archs = s.archs }
       → IsLive new archs unstable (remove_source name t).rows
   removal_live archs unstable new live long e = subst (λ n. IsLive n archs unstable (remove_source name t).rows) (sym e) (record {
     count = live.count;
@@ -95,7 +95,7 @@ module _ (s : PoolState) (name : Text) (leaving : List ℕ) (t : Suite) (shown :
 
   -- what stands then are the rows after the removal
   pub removal_stands : (archs : List Text) (unstable : List RowIn) (new : PoolState) → IsLive s archs unstable t.rows → length s.stands ≡ length s.rows
-      → new ≡ record { rows = s.rows; settled = s.settled; first = s.first; stands = after_change leaving [] s.stands; archs = s.archs }
+      → new ≡ record { rows = s.rows; candidates = s.candidates; first = s.first; stands = after_change leaving [] s.stands; archs = s.archs }
       → (remove_source name t).rows ≡ standing new
   removal_stands archs unstable new live long e = is_standing new (remove_source name t).rows (removal_live archs unstable new live long e).shown
 
@@ -136,10 +136,10 @@ shown_longer pool more stands rows long shown = record {
 }
 
 pub live_before : (s : PoolState) (archs : List Text) (kept : KeptState) (unstable rows : List RowIn) → IsShown kept.rows (marked kept.stands) rows → length kept.stands ≡ length kept.rows
-    → s.rows ≡ kept.rows ++ wanted_rows s.settled unstable → s.first ≡ length kept.rows → s.archs ≡ length archs
-    → s.stands ≡ kept.stands ++ replicate (length (wanted_rows s.settled unstable)) false → IsLive s archs unstable rows
+    → s.rows ≡ kept.rows ++ wanted_rows s.candidates unstable → s.first ≡ length kept.rows → s.archs ≡ length archs
+    → s.stands ≡ kept.stands ++ replicate (length (wanted_rows s.candidates unstable)) false → IsLive s archs unstable rows
 live_before s archs kept unstable rows shown long pooled first count stands =
-    let more = wanted_rows s.settled unstable in
+    let more = wanted_rows s.candidates unstable in
     let flags = kept.stands ++ replicate (length more) false in
     let before : IsShown (kept.rows ++ more) (marked flags) rows = shown_longer kept.rows more kept.stands rows long shown in
     record {

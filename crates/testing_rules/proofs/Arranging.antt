@@ -74,14 +74,14 @@ one_of_all test (y ∷ xs) x h c = elim (first_or_rest y xs x c) [
   | inr rest ↦ one_of_all test xs x (second_of_both (test y) (list_all test xs) h) rest
 ]
 
--- the pool has, behind the rows before the run, those of unstable whose source is none of the settled ones, and the group names none of these
-module _ (old unstable : List RowIn) (settled : List Text) (stands : List Bool) (sources : List UploadIn) (group : List Text) (leaving coming : List ℕ)
-    (m : IsMoveOf (old ++ wanted_rows settled unstable) stands (length old) sources group leaving coming) (offered : list_all (is_wanted settled) group ≡ true) where
+-- the pool has, behind the rows before the run, those of unstable whose source is a candidate, and the group names candidates alone
+module _ (old unstable : List RowIn) (candidates : List Text) (stands : List Bool) (sources : List UploadIn) (group : List Text) (leaving coming : List ℕ)
+    (m : IsMoveOf (old ++ wanted_rows candidates unstable) stands (length old) sources group leaving coming) (offered : list_all (is_wanted candidates) group ≡ true) where
   abbrev pool : List RowIn
-  pool = old ++ wanted_rows settled unstable
+  pool = old ++ wanted_rows candidates unstable
 
   abbrev is_kept : RowIn → Bool
-  is_kept r = is_wanted settled r.binary.source
+  is_kept r = is_wanted candidates r.binary.source
 
   abbrev first : ℕ
   first = length old
@@ -105,11 +105,11 @@ module _ (old unstable : List RowIn) (settled : List Text) (stands : List Bool) 
         let a = m.arriving.sound k (from_has coming k h) in
         let r = row_that_comes pool first a.0 k a.2 in
         let from : first ≤ k = le_from first k (first_of_both (nat_le first k) _ a.2) in
-        (r.0, a.0, r.1, (from_filter is_kept unstable r.0 (behind old (wanted_rows settled unstable) k r.0 from r.1)).0, a.1, r.2);
+        (r.0, a.0, r.1, (from_filter is_kept unstable r.0 (behind old (wanted_rows candidates unstable) k r.0 from r.1)).0, a.1, r.2);
     coming_all = λ r u c d current.
-        let kept = to_filter is_kept unstable r c (one_of_all (is_wanted settled) group r.binary.source offered (source_of_group sources group u r d current)) in
+        let kept = to_filter is_kept unstable r c (one_of_all (is_wanted candidates) group r.binary.source offered (source_of_group sources group u r d current)) in
         let k = first + kept.0 in
-        let at = ahead old (wanted_rows settled unstable) kept.0 r k refl (at_place (wanted_rows settled unstable) r kept) in
+        let at = ahead old (wanted_rows candidates unstable) kept.0 r k refl (at_place (wanted_rows candidates unstable) r kept) in
         let comes : comes_at pool first u k ≡ true = both (nat_le first k) _ (le_to first k (omega arith)) (ap (λ o. option_map_or (is_current u) o false) at ∙ current) in
         (k, at, to_has coming k (m.arriving.complete u k d comes));
     leaves = λ k r at h. leaves_by k r at (m.only k (from_has leaving k h));

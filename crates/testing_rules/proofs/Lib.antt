@@ -62,7 +62,7 @@ pub mod KeyPlaces
 pub mod Mapped
 pub mod Giving
 pub mod Lending
-pub mod Settling
+pub mod Candidates
 pub mod Lifted
 pub mod Blocking
 pub mod Hinted

@@ -50,11 +50,11 @@ pub record KeptState : Type 0 where
   pub stands : List Bool
   pub archs : ℕ
 
--- a pool's rows, the names of the sources whose unstable rows it leaves out, the place at which unstable's rows begin,
+-- a pool's rows, the names of the sources whose unstable rows it has, the place at which unstable's rows begin,
 -- which rows stand, and the number of the architectures
 pub record PoolState : Type 0 where
   pub rows : List RowIn
-  pub settled : List Text
+  pub candidates : List Text
   pub first : ℕ
   pub stands : List Bool
   pub archs : ℕ
@@ -73,6 +73,6 @@ pub record IsKeptState (pool : List RowIn) (stands : List Bool) (archs : ℕ) (s
 pub record IsLive (s : PoolState) (archs : List Text) (unstable rows : List RowIn) : Type 0 where
   pub count : s.archs ≡ length archs
   pub before : List RowIn
-  pub pooled : s.rows ≡ before ++ wanted_rows s.settled unstable
+  pub pooled : s.rows ≡ before ++ wanted_rows s.candidates unstable
   pub begins : s.first ≡ length before
   pub shown : IsShown s.rows (marked s.stands) rows

@@ -59,12 +59,12 @@ pub fn take_source(sources: &mut Vec<Box<SourceIn>>, name: &str)
 pub fn move_sources(
     alloc: Global,
     there: &mut Vec<Box<SourceIn>>,
-    sources: &[UploadIn],
+    sources: &[Box<UploadIn>],
     group: &[Text],
 ) -> Result<(), NoMemory>
-    requires unstable { AreBySource sources.now }
+    requires unstable { AreBySource (unboxed sources.now) }
     requires order { AreByName (unboxed there.old.items) }
-    ensures ok { OnOk result (unboxed there.new.items ≡ sources_after sources.now group.now (unboxed there.old.items)) }
+    ensures ok { OnOk result (unboxed there.new.items ≡ sources_after (unboxed sources.now) group.now (unboxed there.old.items)) }
     ensures ordered { AreByName (unboxed there.new.items) }
 {
     for name in group {

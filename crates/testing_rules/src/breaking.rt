@@ -2,6 +2,7 @@
 
 ghost use Rattle.std.specs.Prelude.{◌≡◌, [], IfOk, length};
 ghost use Rattle.testing_install.specs.Closed.{marked};
+ghost use Rattle.testing_rules.specs.Boxed.{unboxed};
 ghost use Rattle.testing_rules.specs.AfterMoves.{moved_rows, rows_without};
 ghost use Rattle.testing_rules.specs.FactOrder.{AreBySource, IsUnstableOrder};
 ghost use Rattle.testing_rules.specs.Held.{held, AreLive};
@@ -30,10 +31,10 @@ fn broken_by_move_anew<'a>(
     group: &[Text],
     rows: &[LentRow<'a>],
 ) -> Result<Option<Offender>, NoMemory>
-    requires sources { AreBySource unstable.sources.now }
+    requires sources { AreBySource (unboxed unstable.sources.now) }
     requires order { AreByKey (lent rows.now) }
     ensures { IfOk result (λ o. o ≡ rules.offender_of archs.now (lent rows.now)
-        (moved_rows unstable.entry.sources.now (lent unstable.entry.rows.now) group.now (lent rows.now)) group.now) }
+        (moved_rows (unboxed unstable.entry.sources.now) (lent unstable.entry.rows.now) group.now (lent rows.now)) group.now) }
 {
     let moved = moved_rows(alloc, rows, unstable, group)?;
     offender_of(alloc, archs, rows, &moved, group)
@@ -60,9 +61,9 @@ fn broken_by_move_of_standing<'a>(
     unstable: Unstable<'_, 'a>,
     group: &[Text],
 ) -> Result<Option<Offender>, NoMemory>
-    requires { AreBySource unstable.sources.now }
+    requires { AreBySource (unboxed unstable.sources.now) }
     ensures { IfOk result (λ o. o ≡ rules.offender_of archs.now (standing suites.now)
-        (moved_rows unstable.entry.sources.now (lent unstable.entry.rows.now) group.now (standing suites.now)) group.now) }
+        (moved_rows (unboxed unstable.entry.sources.now) (lent unstable.entry.rows.now) group.now (standing suites.now)) group.now) }
 {
     let rows = suites.rows(alloc)?;
     broken_by_move_anew(alloc, archs, unstable, group, &rows)
@@ -77,11 +78,11 @@ fn told_by_move<'a>(
     unstable: Unstable<'_, 'a>,
     group: &[Text],
 ) -> Result<Option<Offender>, NoMemory>
-    requires order { IsUnstableOrder unstable.sources.now (lent unstable.rows.now) }
+    requires order { IsUnstableOrder (unboxed unstable.sources.now) (lent unstable.rows.now) }
     requires live { IsLive suites.old archs.now (lent unstable.rows.now) (standing suites.old) }
     ensures same { suites.new ≡ suites.old }
     ensures offender { IfOk result (λ o. o ≡ rules.offender_of archs.now (standing suites.old)
-        (moved_rows unstable.entry.sources.now (lent unstable.entry.rows.now) group.now (standing suites.old)) group.now) }
+        (moved_rows (unboxed unstable.entry.sources.now) (lent unstable.entry.rows.now) group.now (standing suites.old)) group.now) }
 {
     if !suites.offers(group) {
         return broken_by_move_of_standing(alloc, suites, archs, unstable, group);
@@ -117,12 +118,12 @@ pub fn broken_by_move<'a>(
     unstable: Unstable<'_, 'a>,
     group: &[Text],
 ) -> Result<Option<Offender>, NoMemory>
-    requires order { IsUnstableOrder unstable.sources.now (lent unstable.rows.now) }
+    requires order { IsUnstableOrder (unboxed unstable.sources.now) (lent unstable.rows.now) }
     requires by_key { AreByKey (held rows.old) }
     requires live { AreLive rows.old archs.now (lent unstable.rows.now) }
     ensures same { rows.new ≡ rows.old }
     ensures offender { IfOk result (λ o. o ≡ rules.offender_of archs.now (held rows.old)
-        (moved_rows unstable.entry.sources.now (lent unstable.entry.rows.now) group.now (held rows.old)) group.now) }
+        (moved_rows (unboxed unstable.entry.sources.now) (lent unstable.entry.rows.now) group.now (held rows.old)) group.now) }
 {
     if let LiveRows::Pooled(suites) = rows {
         return told_by_move(alloc, suites, archs, unstable, group);

@@ -2,6 +2,7 @@
 
 ghost use Rattle.std.specs.Prelude.{◌≡◌, [], ◌++◌, ◌<◌, length, filter, OnOk, IfOk};
 ghost use Rattle.std.specs.List.{All};
+ghost use Rattle.testing_rules.specs.Boxed.{unboxed};
 ghost use Rattle.testing_rules.specs.Changes.{comes_at, stands_of, stands_for, gives_way_to, AreThose, IsMoveOf};
 ghost use Rattle.testing_rules.specs.FactOrder.{AreBySource};
 ghost use Rattle.testing_rules.specs.JudgedRows.{row_of};
@@ -69,11 +70,11 @@ fn coming_of(
     alloc: Global,
     pool: &Pool,
     first: usize,
-    sources: &[UploadIn],
+    sources: &[Box<UploadIn>],
     group: &[Text],
 ) -> Result<Vec<usize>, NoMemory>
-    requires { AreBySource sources.now }
-    ensures { IfOk result (λ coming. AreThose (comes_at pool.now first) (group_sources sources.now group.now) coming.items) }
+    requires { AreBySource (unboxed sources.now) }
+    ensures { IfOk result (λ coming. AreThose (comes_at pool.now first) (group_sources (unboxed sources.now) group.now) coming.items) }
 {
     let mut coming = Vec::new(alloc);
     for name in group {
@@ -177,13 +178,13 @@ pub fn change_by_move(
     pool: &Pool,
     stands: &[bool],
     first: usize,
-    sources: &[UploadIn],
+    sources: &[Box<UploadIn>],
     group: &[Text],
 ) -> Result<Change, NoMemory>
-    requires order { AreBySource sources.now }
+    requires order { AreBySource (unboxed sources.now) }
     requires flags { length stands.now ≡ length pool.now }
     ensures within { IfOk result (λ change. IsWithin pool.now change.leaving.items change.coming.items) }
-    ensures moves { IfOk result (λ change. IsMoveOf pool.now stands.now first sources.now group.now change.leaving.items change.coming.items) }
+    ensures moves { IfOk result (λ change. IsMoveOf pool.now stands.now first (unboxed sources.now) group.now change.leaving.items change.coming.items) }
 {
     let coming = coming_of(alloc, pool, first, sources, group)?;
     let mut leaving = standing_of_group(alloc, pool, stands, group)?;

@@ -341,17 +341,3 @@ impl UploadIn {
         })
     }
 }
-
-/// Equal uploads, in order.
-pub(crate) fn copy_uploads(
-    alloc: Global,
-    uploads: &[Box<UploadIn>],
-) -> Result<Vec<UploadIn>, NoMemory>
-    ensures { IfOk result (λ copies. copies.items ≡ unboxed uploads.now) }
-{
-    let mut copies = Vec::new(alloc);
-    for upload in uploads {
-        copies.push(upload.copy(alloc)?)?;
-    }
-    Ok(copies)
-}

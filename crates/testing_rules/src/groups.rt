@@ -3,6 +3,7 @@
 ghost use Rattle.std.specs.Prelude.{◌≡◌, true, length, ◌∷◌, [], ◌++◌, ◌&&◌, not, IfOk, OnOk, option_copied, map, filter, find};
 ghost use Rattle.std.specs.List.Sorted.{IsSearchInRange};
 ghost use Rattle.std.specs.Str.{bytes_eq};
+ghost use Rattle.testing_rules.specs.Boxed.{unboxed};
 ghost use Rattle.testing_rules.specs.FactOrder.{AreBySource};
 ghost use Rattle.testing_rules.specs.Words as words;
 ghost use Rattle.testing_rules.specs.Words.{text_cmp};
@@ -145,9 +146,13 @@ fn push_moved(alloc: Global, items: &mut Vec<Moved>, upload: &UploadIn) -> Resul
 }
 
 /// The sources of a group as they moved.
-fn moved_items(alloc: Global, sources: &[UploadIn], group: &[Text]) -> Result<Vec<Moved>, NoMemory>
-    requires { AreBySource sources.now }
-    ensures { IfOk result (λ items. items.items ≡ map as_moved (group_sources sources.now group.now)) }
+fn moved_items(
+    alloc: Global,
+    sources: &[Box<UploadIn>],
+    group: &[Text],
+) -> Result<Vec<Moved>, NoMemory>
+    requires { AreBySource (unboxed sources.now) }
+    ensures { IfOk result (λ items. items.items ≡ map as_moved (group_sources (unboxed sources.now) group.now)) }
 {
     let mut items = Vec::new(alloc);
     for name in group {

@@ -3,6 +3,7 @@
 ghost use Rattle.std.specs.Prelude.{◌≡◌, ◌<◌, true, length, [], not, filter, Err, OnOk, OnErr, IfOk};
 ghost use Rattle.std.specs.List.{All};
 ghost use Rattle.std.specs.List.Sorted.{IsBinarySearchResult, IsSearchInRange};
+ghost use Rattle.testing_rules.specs.Boxed.{unboxed};
 ghost use Rattle.testing_rules.specs.AfterMoves.{with_rows, rows_at, moved_rows, rows_without};
 ghost use Rattle.testing_rules.specs.FactOrder.{AreBySource};
 ghost use Rattle.testing_rules.specs.InOrder.{AreByKey};
@@ -191,9 +192,9 @@ pub fn moved_rows<'a>(
     unstable: Unstable<'_, 'a>,
     group: &[Text],
 ) -> Result<Vec<LentRow<'a>>, NoMemory>
-    requires sources { AreBySource unstable.sources.now }
+    requires sources { AreBySource (unboxed unstable.sources.now) }
     requires order { AreByKey (lent rows.now) }
-    ensures rows { IfOk result (λ new. lent new.items ≡ moved_rows unstable.entry.sources.now (lent unstable.entry.rows.now) group.now (lent rows.now)) }
+    ensures rows { IfOk result (λ new. lent new.items ≡ moved_rows (unboxed unstable.entry.sources.now) (lent unstable.entry.rows.now) group.now (lent rows.now)) }
     ensures ordered { IfOk result (λ new. AreByKey (lent new.items)) }
 {
     let mut moved = other_rows(alloc, rows, group)?;

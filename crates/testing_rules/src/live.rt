@@ -2,6 +2,7 @@
 
 ghost use Rattle.std.specs.Prelude.{◌≡◌, IfOk, OnOk, option_copied};
 ghost use Rattle.testing_rules.specs.Excuses as excuses;
+ghost use Rattle.testing_rules.specs.Boxed.{unboxed};
 ghost use Rattle.testing_rules.specs.FactOrder.{AreBySource};
 ghost use Rattle.testing_rules.specs.InOrder.{AreByKey};
 ghost use Rattle.testing_rules.specs.JudgedRows.{lent};
@@ -17,6 +18,7 @@ use crate::live_rows::LiveRows;
 use crate::moves::Unstable;
 use crate::suite::{SourceIn, Testing};
 use crate::update::Offender;
+use crate::wanted::NameSet;
 use deb_control::Text;
 use deb_version::{NoMemory, Version};
 use std::alloc::Global;
@@ -43,31 +45,32 @@ impl<'u, 'a> Model for LiveTesting<'u, 'a> {
     ghost Value = { Moment };
 
     ghost view = { λ a. record {
-      basis = record { archs = a.archs.now; sources = a.unstable.sources.now; rows = lent a.unstable.rows.now };
+      basis = record { archs = a.archs.now; sources = unboxed a.unstable.sources.now; rows = lent a.unstable.rows.now };
       suite = record { sources = unboxed a.sources.items; rows = held a.rows };
     } };
 
-    ghost invariant = { λ a. IsLiveTesting a.rows a.archs.now a.unstable.sources.now (lent a.unstable.rows.now) (unboxed a.sources.items) };
+    ghost invariant = { λ a. IsLiveTesting a.rows a.archs.now (unboxed a.unstable.sources.now) (lent a.unstable.rows.now) (unboxed a.sources.items) };
 }
 
 impl<'u, 'a> LiveTesting<'u, 'a> {
-    /// Testing as it is before the run, with the suites that are kept of its rows.
+    /// Testing as it is before the run, the sources that may move, and the suites that are kept of testing's rows.
     pub fn new(
         alloc: Global,
         archs: &'u Archs,
         unstable: Unstable<'u, 'a>,
         testing: &'a Testing,
+        candidates: NameSet<'a>,
         kept: Option<KeptSuites>,
     ) -> Result<LiveTesting<'u, 'a>, NoMemory>
         requires kept { AreKept kept testing.now.rows }
-        requires sources { AreBySource unstable.sources.now }
+        requires sources { AreBySource (unboxed unstable.sources.now) }
         requires rows { AreByKey (lent unstable.rows.now) }
         ensures { IfOk result (λ live. live ≡ record {
-          basis = record { archs = archs.now; sources = unstable.entry.sources.now; rows = lent unstable.entry.rows.now };
+          basis = record { archs = archs.now; sources = unboxed unstable.entry.sources.now; rows = lent unstable.entry.rows.now };
           suite = testing.now;
         }) }
     {
-        let rows = LiveRows::new(alloc, archs, unstable, testing, kept)?;
+        let rows = LiveRows::new(alloc, archs, unstable, testing, candidates, kept)?;
         let sources = boxes_of(alloc, testing.sources())?;
         Ok(LiveTesting {
             archs,
@@ -88,9 +91,9 @@ impl<'u, 'a> LiveTesting<'u, 'a> {
     }
 
     /// Unstable's sources.
-    pub fn unstable_sources(&self) -> &'u [UploadIn]
-        ensures sources { result.now ≡ self.now.basis.sources }
-        ensures ordered { AreBySource result.now }
+    pub fn unstable_sources(&self) -> &'u [Box<UploadIn>]
+        ensures sources { unboxed result.now ≡ self.now.basis.sources }
+        ensures ordered { AreBySource (unboxed result.now) }
     {
         self.unstable.sources
     }

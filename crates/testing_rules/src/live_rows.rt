@@ -3,6 +3,7 @@
 ghost use Rattle.std.specs.Prelude.{◌≡◌, true, IfOk, List};
 ghost use Rattle.std.specs.List.{list_all};
 ghost use Rattle.testing_install.specs.Closed.{marked};
+ghost use Rattle.testing_rules.specs.Boxed.{unboxed};
 ghost use Rattle.testing_rules.specs.AfterMoves.{moved_rows, rows_without};
 ghost use Rattle.testing_rules.specs.FactOrder.{AreBySource, IsUnstableOrder};
 ghost use Rattle.testing_rules.specs.Held.{held, AreLive};
@@ -20,7 +21,7 @@ use crate::lent_rows::{copy_lent, lend_rows, moved_rows, rows_without};
 use crate::moves::Unstable;
 use crate::standing::PoolSuites;
 use crate::suite::{LentRow, RowIn, Testing};
-use crate::wanted::{set_of, settled_names};
+use crate::wanted::NameSet;
 use deb_control::Text;
 use deb_version::NoMemory;
 use std::alloc::Global;
@@ -40,10 +41,10 @@ fn moved_suites<'a>(
     unstable: Unstable<'_, 'a>,
     group: &[Text],
 ) -> Result<PoolSuites<'a>, NoMemory>
-    requires order { IsUnstableOrder unstable.sources.now (lent unstable.rows.now) }
-    requires offered { list_all (is_wanted suites.settled) group.now ≡ true }
+    requires order { IsUnstableOrder (unboxed unstable.sources.now) (lent unstable.rows.now) }
+    requires offered { list_all (is_wanted suites.candidates) group.now ≡ true }
     ensures rows { IfOk result (λ new. (archs : List Word) → IsLive suites.entry archs (lent unstable.entry.rows.now) (standing suites.entry)
-        → standing new ≡ moved_rows unstable.entry.sources.now (lent unstable.entry.rows.now) group.now (standing suites.entry)) }
+        → standing new ≡ moved_rows (unboxed unstable.entry.sources.now) (lent unstable.entry.rows.now) group.now (standing suites.entry)) }
     ensures live { IfOk result (λ new. (archs : List Word) → IsLive suites.entry archs (lent unstable.entry.rows.now) (standing suites.entry)
         → IsLive new archs (lent unstable.entry.rows.now) (standing new)) }
 {
@@ -58,9 +59,9 @@ fn copies_moved<'a>(
     unstable: Unstable<'_, 'a>,
     group: &[Text],
 ) -> Result<Vec<RowIn>, NoMemory>
-    requires sources { AreBySource unstable.sources.now }
+    requires sources { AreBySource (unboxed unstable.sources.now) }
     requires order { AreByKey (lent rows.now) }
-    ensures rows { IfOk result (λ new. new.items ≡ moved_rows unstable.entry.sources.now (lent unstable.entry.rows.now) group.now (lent rows.now)) }
+    ensures rows { IfOk result (λ new. new.items ≡ moved_rows (unboxed unstable.entry.sources.now) (lent unstable.entry.rows.now) group.now (lent rows.now)) }
     ensures ordered { IfOk result (λ new. AreByKey new.items) }
 {
     let moved = moved_rows(alloc, rows, unstable, group)?;
@@ -75,9 +76,9 @@ fn list_moved<'a>(
     unstable: Unstable<'_, 'a>,
     group: &[Text],
 ) -> Result<Vec<RowIn>, NoMemory>
-    requires sources { AreBySource unstable.sources.now }
+    requires sources { AreBySource (unboxed unstable.sources.now) }
     requires order { AreByKey rows.now }
-    ensures rows { IfOk result (λ new. new.items ≡ moved_rows unstable.entry.sources.now (lent unstable.entry.rows.now) group.now rows.now) }
+    ensures rows { IfOk result (λ new. new.items ≡ moved_rows (unboxed unstable.entry.sources.now) (lent unstable.entry.rows.now) group.now rows.now) }
     ensures ordered { IfOk result (λ new. AreByKey new.items) }
 {
     let rows = lend_rows(alloc, rows)?;
@@ -92,8 +93,8 @@ fn standing_moved<'a>(
     unstable: Unstable<'_, 'a>,
     group: &[Text],
 ) -> Result<Vec<RowIn>, NoMemory>
-    requires { AreBySource unstable.sources.now }
-    ensures rows { IfOk result (λ new. new.items ≡ moved_rows unstable.entry.sources.now (lent unstable.entry.rows.now) group.now (standing suites.now)) }
+    requires { AreBySource (unboxed unstable.sources.now) }
+    ensures rows { IfOk result (λ new. new.items ≡ moved_rows (unboxed unstable.entry.sources.now) (lent unstable.entry.rows.now) group.now (standing suites.now)) }
     ensures ordered { IfOk result (λ new. AreByKey new.items) }
 {
     let rows = suites.rows(alloc)?;
@@ -109,9 +110,9 @@ fn moved_from_pool<'a>(
     unstable: Unstable<'_, 'a>,
     group: &[Text],
 ) -> Result<LiveRows<'a>, NoMemory>
-    requires { IsUnstableOrder unstable.sources.now (lent unstable.rows.now) }
+    requires { IsUnstableOrder (unboxed unstable.sources.now) (lent unstable.rows.now) }
     ensures rows { IfOk result (λ new. (archs : List Word) → IsLive suites.entry archs (lent unstable.entry.rows.now) (standing suites.entry)
-        → held new ≡ moved_rows unstable.entry.sources.now (lent unstable.entry.rows.now) group.now (standing suites.entry)) }
+        → held new ≡ moved_rows (unboxed unstable.entry.sources.now) (lent unstable.entry.rows.now) group.now (standing suites.entry)) }
     ensures live { IfOk result (λ new. (archs : List Word) → IsLive suites.entry archs (lent unstable.entry.rows.now) (standing suites.entry)
         → AreLive new archs (lent unstable.entry.rows.now)) }
     ensures by_key { IfOk result (λ new. AreByKey (held new)) }
@@ -185,24 +186,22 @@ fn standing_rows(alloc: Global, suites: &PoolSuites<'_>) -> Result<Vec<RowIn>, N
 }
 
 impl<'a> LiveRows<'a> {
-    /// The rows before a run. To them those of unstable may come whose source isn't in testing at its unstable version.
+    /// The rows before a run. To them those of unstable may come whose source is a candidate.
     pub fn new(
         alloc: Global,
         archs: &Archs,
         unstable: Unstable<'_, 'a>,
         testing: &'a Testing,
+        candidates: NameSet<'a>,
         kept: Option<KeptSuites>,
     ) -> Result<LiveRows<'a>, NoMemory>
-        requires kept { AreKept kept testing.now.rows }
-        requires sources { AreBySource unstable.sources.now }
+        requires { AreKept kept testing.now.rows }
         ensures rows { IfOk result (λ new. held new ≡ testing.now.rows) }
         ensures live { IfOk result (λ new. AreLive new archs.now (lent unstable.entry.rows.now)) }
         ensures by_key { IfOk result (λ new. AreByKey (held new)) }
     {
-        let names = settled_names(alloc, unstable.sources, testing.sources())?;
-        let settled = set_of(alloc, &names)?;
         let kept = kept_or_new(alloc, archs.len(), testing.rows(), kept)?;
-        let suites = PoolSuites::new(alloc, kept, settled, unstable.rows)?;
+        let suites = PoolSuites::new(alloc, kept, candidates, unstable.rows)?;
         Ok(LiveRows::Pooled(suites))
     }
 
@@ -213,10 +212,10 @@ impl<'a> LiveRows<'a> {
         unstable: Unstable<'_, 'a>,
         group: &[Text],
     ) -> Result<LiveRows<'a>, NoMemory>
-        requires order { IsUnstableOrder unstable.sources.now (lent unstable.rows.now) }
+        requires order { IsUnstableOrder (unboxed unstable.sources.now) (lent unstable.rows.now) }
         requires by_key { AreByKey (held self) }
         ensures rows { IfOk result (λ new. (archs : List Word) → AreLive self.entry archs (lent unstable.entry.rows.now)
-            → held new ≡ moved_rows unstable.entry.sources.now (lent unstable.entry.rows.now) group.now (held self.entry)) }
+            → held new ≡ moved_rows (unboxed unstable.entry.sources.now) (lent unstable.entry.rows.now) group.now (held self.entry)) }
         ensures live { IfOk result (λ new. (archs : List Word) → AreLive self.entry archs (lent unstable.entry.rows.now)
             → AreLive new archs (lent unstable.entry.rows.now)) }
         ensures by_key { IfOk result (λ new. AreByKey (held new)) }

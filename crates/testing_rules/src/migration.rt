@@ -12,13 +12,14 @@ ghost use Rattle.testing_rules.specs.Watched.{AllWatchedWork};
 use crate::archs::Archs;
 use crate::built::built_rows;
 use crate::excuse::{Excuse, Excuses};
-use crate::facts::{Facts, copy_uploads};
+use crate::facts::Facts;
 use crate::kept::KeptSuites;
 use crate::live::LiveTesting;
 use crate::moves::Unstable;
 use crate::suite::Testing;
 use crate::turns::Turns;
 use crate::update::{Decision, Update};
+use crate::wanted::candidates;
 use deb_version::NoMemory;
 use jiff::civil::Date;
 use std::alloc::Global;
@@ -28,7 +29,7 @@ fn all_turns<'a>(
     alloc: Global,
     archs: &Archs,
     facts: &'a Facts,
-    excuses: &[Excuse],
+    excuses: &'a [Excuse],
     testing: &'a Testing,
     kept: Option<KeptSuites>,
 ) -> Result<(Vec<Decision>, Testing), NoMemory>
@@ -36,15 +37,13 @@ fn all_turns<'a>(
     ensures { IfOk result (λ o. record { decisions = o.0.items; suite = o.1 } ≡ update_by archs.now facts.now.sources (unstable_words.built_rows archs.now facts.now.rows) facts.now.hints facts.now.unhints excuses.now testing.now) }
 {
     let rows = built_rows(alloc, archs, facts.rows())?;
-    let sources = copy_uploads(alloc, facts.sources())?;
     let unstable = Unstable {
-        sources: &sources,
+        sources: facts.sources(),
         rows: &rows,
     };
-    let mut turns = Turns::new(
-        alloc,
-        LiveTesting::new(alloc, archs, unstable, testing, kept)?,
-    );
+    let candidates = candidates(alloc, excuses)?;
+    let live = LiveTesting::new(alloc, archs, unstable, testing, candidates, kept)?;
+    let mut turns = Turns::new(alloc, live);
     turns.removals(alloc, facts.hints(), facts.unhints())?;
     turns.groups(alloc, excuses, facts.hints(), facts.unhints())?;
     turns.move_singles(alloc, excuses)?;

@@ -4,6 +4,7 @@ ghost use Rattle.std.specs.Prelude.{◌≡◌, ℕ, ◌++◌, true, false, lengt
 ghost use Rattle.std.specs.List.{list_all};
 ghost use Rattle.testing_install.specs.Among.{after_change};
 ghost use Rattle.testing_install.specs.Closed.{marked};
+ghost use Rattle.testing_rules.specs.Boxed.{unboxed};
 ghost use Rattle.testing_rules.specs.Changes.{has, IsMoveOf};
 ghost use Rattle.testing_rules.specs.FactOrder.{AreBySource};
 ghost use Rattle.testing_rules.specs.JudgedRows.{lent};
@@ -24,11 +25,11 @@ use std::alloc::Global;
 use std::marker::Model;
 
 /// The suites over the rows that may stand in testing during a run. Unstable's rows, which begin at the first place, are
-/// there but for those of the settled sources.
+/// there where their source is a candidate.
 #[derive(Drop)]
 pub struct PoolSuites<'a> {
     kept: KeptSuites,
-    settled: NameSet<'a>,
+    candidates: NameSet<'a>,
     first: usize,
 }
 
@@ -40,7 +41,7 @@ impl<'a> Model for PoolSuites<'a> {
 
     ghost view = { λ s. record {
       rows = s.kept.rows;
-      settled = names_in s.settled;
+      candidates = names_in s.candidates;
       first = s.first;
       stands = s.kept.stands;
       archs = s.kept.archs;
@@ -48,27 +49,27 @@ impl<'a> Model for PoolSuites<'a> {
 }
 
 impl<'a> PoolSuites<'a> {
-    /// The rows that the kept suites have, and behind them, none of which stands, those of unstable that may come: all but
-    /// the rows of the settled sources.
+    /// The rows that the kept suites have, and behind them, none of which stands, those of unstable that may come: the rows
+    /// of the candidates.
     pub fn new(
         alloc: Global,
         kept: KeptSuites,
-        settled: NameSet<'a>,
+        candidates: NameSet<'a>,
         unstable: &[LentRow],
     ) -> Result<PoolSuites<'a>, NoMemory>
-        ensures rows { IfOk result (λ s. s.rows ≡ kept.rows ++ wanted_rows s.settled (lent unstable.now)) }
-        ensures settled { IfOk result (λ s. s.settled ≡ names_in settled.entry) }
+        ensures rows { IfOk result (λ s. s.rows ≡ kept.rows ++ wanted_rows s.candidates (lent unstable.now)) }
+        ensures candidates { IfOk result (λ s. s.candidates ≡ names_in candidates.entry) }
         ensures first { IfOk result (λ s. s.first ≡ length kept.rows) }
         ensures archs { IfOk result (λ s. s.archs ≡ kept.archs) }
-        ensures stands { IfOk result (λ s. s.stands ≡ kept.stands ++ replicate (length (wanted_rows s.settled (lent unstable.now))) false) }
+        ensures stands { IfOk result (λ s. s.stands ≡ kept.stands ++ replicate (length (wanted_rows s.candidates (lent unstable.now))) false) }
         ensures long { length kept.stands ≡ length kept.rows }
     {
         let first = kept.len();
-        let wanted = wanted_rows(alloc, &settled, unstable)?;
+        let wanted = wanted_rows(alloc, &candidates, unstable)?;
         let kept = kept.with_rows(alloc, &wanted)?;
         Ok(PoolSuites {
             kept,
-            settled,
+            candidates,
             first,
         })
     }
@@ -87,23 +88,23 @@ impl<'a> PoolSuites<'a> {
         self.kept.rows(alloc)
     }
 
-    /// The rows of each source of the group may come: none of them is settled.
+    /// The rows of each source of the group may come: each is a candidate.
     pub fn offers(&self, group: &[Text]) -> bool
-        ensures { result ≡ list_all (is_wanted self.now.settled) group.now }
+        ensures { result ≡ list_all (is_wanted self.now.candidates) group.now }
     {
-        are_wanted(&self.settled, group)
+        are_wanted(&self.candidates, group)
     }
 
     /// The rows that come by a move of the group, and those that leave.
     pub fn change_by_move(
         &self,
         alloc: Global,
-        sources: &[UploadIn],
+        sources: &[Box<UploadIn>],
         group: &[Text],
     ) -> Result<Change, NoMemory>
-        requires { AreBySource sources.now }
+        requires { AreBySource (unboxed sources.now) }
         ensures within { IfOk result (λ change. IsWithin self.now.rows change.leaving.items change.coming.items) }
-        ensures moves { IfOk result (λ change. IsMoveOf self.now.rows self.now.stands self.now.first sources.now group.now change.leaving.items change.coming.items) }
+        ensures moves { IfOk result (λ change. IsMoveOf self.now.rows self.now.stands self.now.first (unboxed sources.now) group.now change.leaving.items change.coming.items) }
     {
         let stands = self.kept.stands();
         change_by_move(alloc, self.kept.pool(), stands, self.first, sources, group)
@@ -144,7 +145,7 @@ impl<'a> PoolSuites<'a> {
         requires { IsWithin self.rows change.now.leaving.items change.now.coming.items }
         ensures state { IfOk result (λ s. s ≡ record {
           rows = self.entry.rows;
-          settled = self.entry.settled;
+          candidates = self.entry.candidates;
           first = self.entry.first;
           stands = after_change change.now.leaving.items change.now.coming.items self.entry.stands;
           archs = self.entry.archs;
@@ -153,13 +154,13 @@ impl<'a> PoolSuites<'a> {
     {
         let PoolSuites {
             kept,
-            settled,
+            candidates,
             first,
         } = self;
         let kept = kept.after(alloc, change)?;
         Ok(PoolSuites {
             kept,
-            settled,
+            candidates,
             first,
         })
     }

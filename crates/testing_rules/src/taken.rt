@@ -28,7 +28,7 @@ pub enum Slot {
 }
 
 /// Where the sources have the name, or else where it belongs.
-fn place_of_name(sources: &[Box<UploadIn>], name: &str) -> Result<usize, usize>
+pub fn place_of_upload(sources: &[Box<UploadIn>], name: &str) -> Result<usize, usize>
     ensures bound { IsSearchInRange result (length (unboxed sources.now)) }
     ensures found { IsBinarySearchResult (λ u. text_cmp u.source name.now) (unboxed sources.now) result }
 {
@@ -44,7 +44,7 @@ fn slot_of_upload(sources: &[Box<UploadIn>], upload: &UploadIn) -> Slot
     requires { AreBySource (unboxed sources.now) }
     ensures { IsSlotFor (unboxed sources.now) upload.now (taken.with_upload upload.now (unboxed sources.now)) result }
 {
-    match place_of_name(sources, upload.source.as_str()) {
+    match place_of_upload(sources, upload.source.as_str()) {
         Ok(i) => {
             let other = &sources[i];
             if upload_order(other, upload).is_lt() {

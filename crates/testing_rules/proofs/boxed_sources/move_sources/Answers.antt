@@ -12,7 +12,7 @@ use Rattle.testing_rules.proofs.boxed_sources.move_sources.Goals.{in-Some+in_ok-
 pub loop-name-preserved : goal.loop-name-preserved
 loop-name-preserved c =
     let group = c.args.group.now in
-    let us = c.args.sources.now in
+    let us = unboxed c.args.sources.now in
     let i = c.loop-name.name-index in
     let d = c.name-item.result in
     let below : i < length group = omega arith in

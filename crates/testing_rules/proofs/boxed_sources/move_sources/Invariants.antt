@@ -8,6 +8,6 @@ use Rattle.testing_rules.proofs.boxed_sources.move_sources.Given as goal
 abbrev pub invariant-loop-name : goal.invariant-loop-name
 invariant-loop-name l =
     record {
-      so_far : unboxed l.there.items ≡ sources_after l.sources (take l.name-index l.group) (unboxed l.fn.there.items);
+      so_far : unboxed l.there.items ≡ sources_after (unboxed l.sources) (take l.name-index l.group) (unboxed l.fn.there.items);
       ordered : AreByName (unboxed l.there.items);
     }

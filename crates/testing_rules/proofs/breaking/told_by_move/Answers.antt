@@ -1,5 +1,6 @@
 use Rattle.std.proofs.Common.{◌≡◌, ◌∙◌, sym, ap, Option, []}
 use Rattle.std.proofs.lemmas.Result.{IfOk-from_err}
+use Rattle.testing_rules.specs.Boxed.{unboxed}
 use Rattle.testing_rules.specs.JudgedRows.{lent}
 use Rattle.testing_rules.specs.declared.update.Offender.{Offender}
 use Rattle.testing_rules.specs.Moves.{move_group, offender_of}
@@ -14,7 +15,7 @@ pub returns-clause-offender : goal.returns-clause-offender
 returns-clause-offender c =
     let s = c.args.suites.now in
     let archs = c.args.archs.now in
-    let us = c.args.unstable.sources.now in
+    let us = unboxed c.args.unstable.sources.now in
     let unstable = lent c.args.unstable.rows.now in
     let group = c.args.group.now in
     let t : Suite = record { sources = []; rows = standing s } in

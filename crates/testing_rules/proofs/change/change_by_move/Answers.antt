@@ -1,5 +1,6 @@
 use Rattle.std.proofs.Common.{◌∙◌, sym, ap, subst, ◌<◌, ◌++◌, length}
 use Rattle.std.specs.List.{All}
+use Rattle.testing_rules.specs.Boxed.{unboxed}
 use Rattle.testing_rules.specs.Changes.{gives_way_to, AreThose, IsMoveOf}
 use Rattle.testing_rules.specs.Moves.{group_sources}
 use Rattle.testing_rules.proofs.Changing.{coming_within, all_that_leave}
@@ -10,14 +11,14 @@ pub giving_way-requires-clause-places : goal.giving_way-requires-clause-places
 giving_way-requires-clause-places c =
     let pool = c.args.pool.now in
     subst (All (λ k. k < length pool)) (sym c.deref.ensures.value)
-    (coming_within pool c.args.first (group_sources c.args.sources.now c.args.group.now) c.in_ok-coming.coming.items c.in_ok-coming.ensures)
+    (coming_within pool c.args.first (group_sources (unboxed c.args.sources.now) c.args.group.now) c.in_ok-coming.coming.items c.in_ok-coming.ensures)
 
 moved : goal.returns-clause-moves
 moved c =
     let pool = c.args.pool.now in
     let stands = c.args.stands.now in
     let first = c.args.first in
-    let us = c.args.sources.now in
+    let us = unboxed c.args.sources.now in
     let group = c.args.group.now in
     let own = c.in_ok-leaving.leaving.items in
     let given = c.in_ok-giving_way.giving_way.items in
@@ -32,4 +33,4 @@ returns-clause-moves c = moved c
 
 pub returns-clause-within : goal.returns-clause-within
 returns-clause-within c =
-    move_within c.args.pool.now c.args.stands.now c.args.first c.args.sources.now c.args.group.now c.extend_from_slice.new.self.items c.in_ok-coming.coming.items (moved c)
+    move_within c.args.pool.now c.args.stands.now c.args.first (unboxed c.args.sources.now) c.args.group.now c.extend_from_slice.new.self.items c.in_ok-coming.coming.items (moved c)

@@ -1,5 +1,6 @@
 use Rattle.std.proofs.Common.{arith, ◌∙◌, sym, ap, subst, ℕ, ◌+◌, ◌<◌, Bool, ◌++◌, length, take, filter}
 use Rattle.std.specs.Option.{option_copied}
+use Rattle.testing_rules.specs.Boxed.{unboxed}
 use Rattle.testing_rules.specs.declared.facts.UploadIn.{UploadIn}
 use Rattle.testing_rules.specs.Changes.{comes_at, AreThose}
 use Rattle.testing_rules.specs.Moves.{source_in, group_sources}
@@ -11,7 +12,7 @@ use Rattle.testing_rules.proofs.change.coming_of.Goals.{in-Some+in_ok-push_comin
 pub loop-name-preserved : goal.loop-name-preserved
 loop-name-preserved c =
     let group = c.args.group.now in
-    let us = c.args.sources.now in
+    let us = unboxed c.args.sources.now in
     let pool = c.args.pool.now in
     let first = c.args.first in
     let test : UploadIn → ℕ → Bool = comes_at pool first in

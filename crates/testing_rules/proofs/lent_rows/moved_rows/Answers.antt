@@ -1,6 +1,7 @@
 use Rattle.std.proofs.Common.{arith, ◌∙◌, sym, ap, subst, ◌<◌, length, List, Bool, fold, filter, not}
 use Rattle.std.specs.List.{flat_map}
 use Rattle.std.specs.Option.{option_copied}
+use Rattle.testing_rules.specs.Boxed.{unboxed}
 use Rattle.testing_rules.specs.InOrder.{AreByKey}
 use Rattle.testing_rules.specs.JudgedRows.{lent}
 use Rattle.testing_rules.specs.Moves.{source_in, put_row, is_row_of}
@@ -23,7 +24,7 @@ loop-name-init c =
 pub loop-name-preserved : goal.loop-name-preserved
 loop-name-preserved c =
     let group = c.args.group.now in
-    let us = c.args.unstable.sources.now in
+    let us = unboxed c.args.unstable.sources.now in
     let built = lent c.args.unstable.rows.now in
     let i = c.loop-name.name-index in
     let d = c.name-item.result in

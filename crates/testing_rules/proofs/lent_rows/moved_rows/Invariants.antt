@@ -1,5 +1,6 @@
 use Rattle.std.proofs.Common.{◌≡◌, take, filter, not}
 use Rattle.std.specs.List.{flat_map}
+use Rattle.testing_rules.specs.Boxed.{unboxed}
 use Rattle.testing_rules.specs.AfterMoves.{with_rows}
 use Rattle.testing_rules.specs.InOrder.{AreByKey}
 use Rattle.testing_rules.specs.JudgedRows.{lent}
@@ -11,6 +12,6 @@ use Rattle.testing_rules.proofs.lent_rows.moved_rows.Given as goal
 abbrev pub invariant-loop-name : goal.invariant-loop-name
 invariant-loop-name l =
     record {
-      so_far : lent l.moved.items ≡ with_rows (flat_map (λ u. filter (is_current u) (lent l.unstable.rows.now)) (group_sources l.unstable.sources.now (take l.name-index l.group))) (filter (λ r. not (is_row_of l.group r)) (lent l.rows));
+      so_far : lent l.moved.items ≡ with_rows (flat_map (λ u. filter (is_current u) (lent l.unstable.rows.now)) (group_sources (unboxed l.unstable.sources.now) (take l.name-index l.group))) (filter (λ r. not (is_row_of l.group r)) (lent l.rows));
       ordered : AreByKey (lent l.moved.items);
     }

@@ -15,10 +15,9 @@ returns c =
     let archs = c.args.archs.now in
     let facts = c.args.facts.now in
     let es = c.args.excuses.now in
-    let us = c.deref.result.now in
-    let sources : us ≡ facts.sources = c.deref.ensures.value ∙ c.in_ok-sources.ensures ∙ c.sources.ensures.sources in
-    let rs = lent c.deref-2.result.now in
-    let rows : rs ≡ built_rows archs facts.rows = ap lent c.deref-2.ensures.value ∙ c.in_ok-rows.ensures.rows ∙ ap (built_rows archs) c.rows.ensures.rows in
+    let sources = c.sources.ensures.sources in
+    let rs = lent c.deref.result.now in
+    let rows : rs ≡ built_rows archs facts.rows = ap lent c.deref.ensures.value ∙ c.in_ok-rows.ensures.rows ∙ ap (built_rows archs) c.rows.ensures.rows in
     let start : Moment → Run = λ m. record { basis = m.basis; outcome = record { decisions = []; suite = m.suite } } in
     let run =
     c.in_ok-waits.ensures
@@ -29,7 +28,7 @@ returns c =
     ∙ ap (λ (r : Run). go_on r (λ b. in_turn (move_easy b.archs b.sources b.rows es) (filter (is_standing c.unhints-2.result.now) c.hints-2.result.now)))
     (c.in_ok-removals.ensures
     ∙ ap (λ (r : Run). go_on r (λ b. in_turn (remove_item b.archs) (flat_map removals_of (filter (is_standing c.unhints.result.now) c.hints.result.now))))
-    (c.new-turns.ensures ∙ ap start c.in_ok-new.ensures)))) in
+    (c.new-turns.ensures ∙ ap start c.in_ok-live.ensures)))) in
     let as_outcome : List Decision → Suite → Outcome = λ ds s. record { decisions = ds; suite = s } in
     ap₂ as_outcome c.in_ok-parts.ensures.decisions c.in_ok-parts.ensures.testing
     ∙ ap (λ (r : Run). r.outcome) run
@@ -38,11 +37,11 @@ returns c =
 pub returns-in_err-rows : goal.returns-in_err-rows
 returns-in_err-rows c = IfOk-from_err c.from_residual.result _ c.from_residual.ensures.0
 
-pub returns-in_err-sources : goal.returns-in_err-sources
-returns-in_err-sources c = IfOk-from_err c.from_residual-in_err-sources.result _ c.from_residual-in_err-sources.ensures.0
+pub returns-in_err-candidates : goal.returns-in_err-candidates
+returns-in_err-candidates c = IfOk-from_err c.from_residual-in_err-candidates.result _ c.from_residual-in_err-candidates.ensures.0
 
-pub returns-in_err-new : goal.returns-in_err-new
-returns-in_err-new c = IfOk-from_err c.from_residual-in_err-new.result _ c.from_residual-in_err-new.ensures.0
+pub returns-in_err-live : goal.returns-in_err-live
+returns-in_err-live c = IfOk-from_err c.from_residual-in_err-live.result _ c.from_residual-in_err-live.ensures.0
 
 pub returns-in_err-removals : goal.returns-in_err-removals
 returns-in_err-removals c = IfOk-from_err c.from_residual-in_err-removals.result _ c.from_residual-in_err-removals.ensures.0

@@ -5,4 +5,4 @@ use Rattle.testing_rules.proofs.wanted.are_wanted.Given as goal
 
 -- the rest decides
 abbrev pub invariant-group : goal.invariant-group
-invariant-group l = list_all (is_wanted (names_in l.settled)) (drop l.name-index l.group) ≡ list_all (is_wanted (names_in l.settled)) l.group
+invariant-group l = list_all (is_wanted (names_in l.candidates)) (drop l.name-index l.group) ≡ list_all (is_wanted (names_in l.candidates)) l.group

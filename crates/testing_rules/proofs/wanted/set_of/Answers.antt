@@ -6,7 +6,7 @@ use Rattle.std.specs.Str.{bytes_eq}
 use Rattle.std.proofs.lemmas.Iterator.{YieldsList-from_slice}
 use Rattle.std.proofs.lemmas.Iterator.Adapters.{fact_from_collect}
 use Rattle.std.proofs.lemmas.Iterator.Consumers.{YieldsList-from_copied}
-use Rattle.testing_rules.proofs.Settling.{wanted_alike}
+use Rattle.testing_rules.proofs.Candidates.{wanted_alike}
 use Rattle.testing_rules.proofs.wanted.set_of.Goals as goal
 
 pub returns : goal.returns

@@ -5,4 +5,4 @@ use Rattle.testing_rules.proofs.wanted.wanted_rows.Given as goal
 
 -- those so far
 abbrev pub invariant-loop-row : goal.invariant-loop-row
-invariant-loop-row l = lent l.wanted.items ≡ wanted_rows (names_in l.settled) (lent (take l.row-index l.rows))
+invariant-loop-row l = lent l.wanted.items ≡ wanted_rows (names_in l.candidates) (lent (take l.row-index l.rows))

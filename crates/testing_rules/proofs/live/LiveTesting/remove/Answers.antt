@@ -1,4 +1,5 @@
 use Rattle.std.proofs.Common.{sym, ap, ap₂, ◌∙◌, subst, List}
+use Rattle.testing_rules.specs.Boxed.{unboxed}
 use Rattle.testing_rules.specs.declared.suite.RowIn.{RowIn}
 use Rattle.testing_rules.specs.declared.suite.SourceIn.{SourceIn}
 use Rattle.testing_rules.specs.AfterMoves.{rows_without}
@@ -26,7 +27,7 @@ pub returns : goal.returns
 returns c =
     let name = c.args.name.now in
     let archs = c.self.inside.archs.now in
-    let us = c.self.inside.unstable.sources.now in
+    let us = unboxed c.self.inside.unstable.sources.now in
     let unstable = lent c.self.inside.unstable.rows.now in
     let live = subst (λ l. AreLive l archs unstable) (sym c.replace-rows.ensures.value) c.self.invariant.live in
     let left = c.in_ok-self-inside.ensures.rows archs unstable live ∙ ap (λ l. rows_without name (held l)) c.replace-rows.ensures.value in

@@ -7,7 +7,7 @@ use Rattle.testing_rules.proofs.Showing.{is_standing, standing-by_key}
 use Rattle.testing_rules.proofs.live_rows.LiveRows.new.Goals as goal
 
 pub kept_or_new-requires-clause-kept : goal.kept_or_new-requires-clause-kept
-kept_or_new-requires-clause-kept c = subst (AreKept c.args.kept) (sym c.rows.ensures.entries) c.requires.kept
+kept_or_new-requires-clause-kept c = subst (AreKept c.args.kept) (sym c.rows.ensures.entries) c.requires
 
 pub returns-clause-rows : goal.returns-clause-rows
 returns-clause-rows c =

@@ -10,6 +10,6 @@ use Rattle.testing_rules.proofs.standing.PoolSuites.rows.Goals as goal
 pub returns : goal.returns
 returns c =
     let kept = c.self.inside.kept in
-    let s : PoolState = record { rows = kept.rows; settled = names_in c.self.inside.settled; first = c.self.inside.first; stands = kept.stands; archs = kept.archs } in
+    let s : PoolState = record { rows = kept.rows; candidates = names_in c.self.inside.candidates; first = c.self.inside.first; stands = kept.stands; archs = kept.archs } in
     if_ok_weaker (λ rows. lent rows.items ≡ with_rows (rows_at s.rows (set_places s.stands)) []) (λ rows. lent rows.items ≡ standing c.args.self.now) c.rows.result
     (λ rows is. is ∙ standing_at s ∙ ap standing c.self.view_is) c.rows.ensures

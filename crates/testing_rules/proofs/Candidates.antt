@@ -1,5 +1,5 @@
 -- Names in a list and in a set.
-use Rattle.std.specs.Prelude.{Bool, not, ◌||◌, List, [], ◌∷◌}
+use Rattle.std.specs.Prelude.{Bool, ◌||◌, List, [], ◌∷◌}
 use Rattle.std.proofs.Common.{◌≡◌, refl, ap, ◌∙◌, sym}
 use Rattle.std.specs.Borrow.{Bor}
 use Rattle.std.specs.List.{list_any}
@@ -20,10 +20,10 @@ module _ (name : Text) where
       ap (λ b. b || list_any (λ s. bytes_eq s name) (lent_texts names)) (nat_list_eq_equiv.symm n.now name)
       ∙ ap (λ b. bytes_eq name n.now || b) (any_name names)
 
-  -- a source is wanted where no name is its name
-  pub wanted_by_names : (names : List (Bor Text)) → is_wanted (lent_texts names) name ≡ not (list_any is_name names)
-  wanted_by_names names = ap not (any_name names)
+  -- a source is wanted where a name is its name
+  pub wanted_by_names : (names : List (Bor Text)) → is_wanted (lent_texts names) name ≡ list_any is_name names
+  wanted_by_names = any_name
 
   -- two lists of names that agree on a name agree on whether its source is wanted
   pub wanted_alike : (xs ys : List (Bor Text)) → list_any is_name xs ≡ list_any is_name ys → is_wanted (lent_texts xs) name ≡ is_wanted (lent_texts ys) name
-  wanted_alike xs ys e = wanted_by_names xs ∙ ap not e ∙ sym (wanted_by_names ys)
+  wanted_alike xs ys e = wanted_by_names xs ∙ e ∙ sym (wanted_by_names ys)

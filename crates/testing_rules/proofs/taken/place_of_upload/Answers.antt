@@ -3,7 +3,7 @@ use Rattle.std.proofs.lemmas.Fn.{always_returns_same}
 use Rattle.testing_rules.specs.Words.{text_cmp}
 use Rattle.testing_rules.specs.declared.facts.UploadIn.{UploadIn}
 use Rattle.testing_rules.proofs.Unboxed.{unboxed-bound, unboxed-found}
-use Rattle.testing_rules.proofs.taken.place_of_name.Goals as goal
+use Rattle.testing_rules.proofs.taken.place_of_upload.Goals as goal
 
 pub returns-clause-bound : goal.returns-clause-bound
 returns-clause-bound c = unboxed-bound c.args.sources.now c.binary_search_by.result c.binary_search_by.ensures.bound
