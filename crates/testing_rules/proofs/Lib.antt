@@ -66,3 +66,4 @@ pub mod Candidates
 pub mod Lifted
 pub mod Blocking
 pub mod Hinted
+pub mod Merging

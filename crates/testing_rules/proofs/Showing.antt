@@ -21,7 +21,7 @@ pub by_key-none : AreByKey []
 unfolding IsStrictlySortedBy
 by_key-none = tt
 
-range_has : (n k : ℕ) → k < n → Contains (range_with_len 0 n) k
+pub range_has : (n k : ℕ) → k < n → Contains (range_with_len 0 n) k
 range_has n k h = (k, omega (arith, h, length-range_with_len 0 n), omega (arith, get_or-range_with_len 0 n k k h))
 
 pub set_places-within : (flags : List Bool) (n : ℕ) → length flags ≡ n → All (λ k. k < n) (set_places flags)

@@ -22,7 +22,17 @@ pub record IsTextIndex (texts : List Text) (index : PlacesByName) : Type 0 where
   pub within : (text : Text) → All (λ k. k < length texts) (places_at index text)
   pub complete : (k : ℕ) (text : Text) → slice_get texts k ≡ Some text → Contains (places_at index text) k
 
+-- the places below the count, each once or more, in any order
+pub record HasPlaces (count : ℕ) (places : List ℕ) : Type 0 where
+  pub within : All (λ k. k < count) places
+  pub each : (k : ℕ) → k < count → Contains places k
+
 -- the two maps are the indexes of the rows by source and by name
 pub record IsPool (rows : List RowIn) (by_source by_name : PlacesByName) : Type 0 where
   pub sources : IsTextIndex (sources_of rows) by_source
   pub names : IsTextIndex (names_of rows) by_name
+
+-- and a list has the places of the rows
+pub record IsOrderedPool (rows : List RowIn) (by_source by_name : PlacesByName) (order : List ℕ) : Type 0 where
+  pub indexed : IsPool rows by_source by_name
+  pub places : HasPlaces (length rows) order

@@ -1,7 +1,7 @@
 //! The rows of a pool, which of them stand in testing, and the suite of each architecture: what of a run's suites is of no
 //! one run.
 
-ghost use Rattle.std.specs.Prelude.{◌≡◌, ℕ, ◌++◌, ◌-◌, ◌^◌, ◌<◌, ◌≤◌, true, false, Bool, length, take, replicate, [], IfOk, option_copied, Some, List, Option};
+ghost use Rattle.std.specs.Prelude.{◌≡◌, ℕ, ◌++◌, ◌-◌, ◌^◌, ◌<◌, ◌≤◌, true, false, Bool, length, take, replicate, filter, [], IfOk, option_copied, Some, List, Option};
 ghost use Rattle.std.specs.List.{All, slice_get, range_with_len};
 ghost use Rattle.testing_install.specs.Among.{with_all, after_change};
 ghost use Rattle.testing_install.specs.Closed.{marked};
@@ -10,6 +10,7 @@ ghost use Rattle.testing_rules.specs.Changes.{has};
 ghost use Rattle.testing_rules.specs.InOrder.{AreByKey};
 ghost use Rattle.testing_rules.specs.JudgedRows.{lent};
 ghost use Rattle.testing_rules.specs.Parts.{Part};
+ghost use Rattle.testing_rules.specs.SameMessages.{SameElements};
 ghost use Rattle.testing_rules.specs.Standing.{IsOn, IsShown, IsSuiteOn, AreOver, AreSuites, set_places};
 ghost use Rattle.testing_rules.specs.Tried.{first_told, Tells, IsWithin};
 ghost use Rattle.testing_rules.specs.Trials.{IsFirstLost};
@@ -18,7 +19,7 @@ ghost use Rattle.testing_rules.specs.declared.suite.RowIn.{RowIn as ARow};
 
 use crate::arch_suite::ArchSuite;
 use crate::change::Change;
-use crate::lent_rows::{lend_rows, rows_in_order};
+use crate::lent_rows::{are_by_key, lend_rows, rows_at, rows_in_order};
 use crate::pool::Pool;
 use crate::suite::{LentRow, RowIn};
 use crate::trial::first_lost;
@@ -73,6 +74,24 @@ fn set_places(alloc: Global, flags: &[bool]) -> Result<Vec<usize>, NoMemory>
         }
     }
     Ok(places)
+}
+
+/// Those of the places whose flags are set.
+fn set_among(
+    alloc: Global,
+    flags: &[bool],
+    places: &[usize],
+) -> Result<Vec<usize>, NoMemory>
+    requires { All (λ k. k < length flags.now) places.now }
+    ensures { IfOk result (λ up. up.items ≡ filter (marked flags.now) places.now) }
+{
+    let mut up = Vec::with_capacity(alloc, places.len())?;
+    for place in places {
+        if flags[*place] {
+            up.push(*place)?;
+        }
+    }
+    Ok(up)
 }
 
 /// The suite of each architecture over no row.
@@ -277,12 +296,32 @@ impl KeptSuites {
         self.archs
     }
 
-    /// The rows that stand, by architecture and name.
-    pub fn rows(&self, alloc: Global) -> Result<Vec<LentRow<'_>>, NoMemory>
+    /// The rows that stand, in the pool's order.
+    fn rows_in_pool_order(&self, alloc: Global) -> Result<Vec<LentRow<'_>>, NoMemory>
+        ensures { IfOk result (λ rows. SameElements (rows_at self.now.rows (set_places self.now.stands)) (lent rows.items)) }
+    {
+        let places = set_among(alloc, &self.stands, self.pool.order())?;
+        rows_at(alloc, &self.pool, &places)
+    }
+
+    /// The rows that stand, sorted by architecture and name.
+    fn sorted_rows(&self, alloc: Global) -> Result<Vec<LentRow<'_>>, NoMemory>
         ensures { IfOk result (λ rows. lent rows.items ≡ with_rows (rows_at self.now.rows (set_places self.now.stands)) []) }
     {
         let places = set_places(alloc, &self.stands)?;
         rows_in_order(alloc, &self.pool, &places)
+    }
+
+    /// The rows that stand, by architecture and name: as the pool has them in order, or else sorted.
+    pub fn rows(&self, alloc: Global) -> Result<Vec<LentRow<'_>>, NoMemory>
+        ensures { IfOk result (λ rows. lent rows.items ≡ with_rows (rows_at self.now.rows (set_places self.now.stands)) []) }
+    {
+        let rows = self.rows_in_pool_order(alloc)?;
+        if are_by_key(&rows) {
+            Ok(rows)
+        } else {
+            self.sorted_rows(alloc)
+        }
     }
 
     /// None of the rows that come stands already.

@@ -89,7 +89,7 @@ fn put_rows<'a>(
 }
 
 /// The rows of a pool at some places, as the places stand.
-fn rows_at<'a>(
+pub fn rows_at<'a>(
     alloc: Global,
     pool: &'a Pool,
     places: &[usize],
@@ -118,7 +118,7 @@ fn sort_rows(rows: &mut Vec<LentRow>) -> Result<(), NoMemory>
 }
 
 /// Each row's key is above that of the row before it.
-fn are_by_key(rows: &[LentRow]) -> bool
+pub fn are_by_key(rows: &[LentRow]) -> bool
     ensures { result ≡ true → AreByKey (lent rows.now) }
 {
     for place in 0..rows.len() {

@@ -28,6 +28,7 @@ mod offender;
 mod pool;
 mod reasons;
 mod report;
+mod row_order;
 mod select;
 mod shared_binary;
 mod singles;

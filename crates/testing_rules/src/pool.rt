@@ -4,8 +4,9 @@ ghost use Rattle.std.specs.Prelude.{◌≡◌, ℕ, ◌∷◌, ◌++◌, [], ◌
 ghost use Rattle.std.specs.List.{All, slice_get};
 ghost use Rattle.testing_rules.specs.declared.suite.RowIn.{RowIn as ARow};
 ghost use Rattle.testing_rules.specs.JudgedRows.{lent, row_of};
-ghost use Rattle.testing_rules.specs.Pools.{IsPool};
+ghost use Rattle.testing_rules.specs.Pools.{IsPool, HasPlaces};
 
+use crate::row_order::merged;
 use crate::suite::{LentRow, RowIn};
 use deb_control::Binary;
 use deb_version::NoMemory;
@@ -14,24 +15,25 @@ use std::marker::Model;
 use std::rc::Rc;
 use testing_install::NameIndex;
 
-/// The rows, and their places by the source that they name and by the package's name.
+/// The rows, and their places by the source that they name, by the package's name, and in the order of their keys.
 #[derive(Drop)]
 pub struct Pool {
     rows: Vec<RowIn>,
     by_source: NameIndex,
     by_name: NameIndex,
+    order: Vec<usize>,
 }
 
 impl Model for Pool {
     ghost use Rattle.std.specs.Prelude.{List};
     ghost use Rattle.testing_rules.specs.declared.suite.RowIn.{RowIn};
-    ghost use Rattle.testing_rules.specs.Pools.{IsPool};
+    ghost use Rattle.testing_rules.specs.Pools.{IsOrderedPool};
 
     ghost Value = { List RowIn };
 
     ghost view = { λ p. p.rows.items };
 
-    ghost invariant = { λ p. IsPool p.rows.items p.by_source p.by_name };
+    ghost invariant = { λ p. IsOrderedPool p.rows.items p.by_source p.by_name p.order.items };
 }
 
 /// A row comes behind the others, and its place into both indexes.
@@ -62,6 +64,7 @@ impl Pool {
             rows: Vec::new(alloc),
             by_source: NameIndex::new(alloc),
             by_name: NameIndex::new(alloc),
+            order: Vec::new(alloc),
         }
     }
 
@@ -73,14 +76,18 @@ impl Pool {
             mut rows,
             mut by_source,
             mut by_name,
+            order,
         } = self;
+        let from = rows.len();
         for row in more {
             add_row(alloc, &mut rows, &mut by_source, &mut by_name, row)?;
         }
+        let order = merged(alloc, &rows, &order, from)?;
         Ok(Pool {
             rows,
             by_source,
             by_name,
+            order,
         })
     }
 
@@ -89,6 +96,13 @@ impl Pool {
         ensures { result ≡ length self.now }
     {
         self.rows.len()
+    }
+
+    /// The places, in the order of the keys of their rows, as far as that is known.
+    pub fn order(&self) -> &[usize]
+        ensures { HasPlaces (length self.now) result.now }
+    {
+        self.order.as_slice()
     }
 
     /// The row at the place.

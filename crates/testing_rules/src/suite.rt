@@ -162,7 +162,7 @@ fn place_of_source(sources: &[SourceIn], source: &SourceIn) -> Result<usize, usi
 }
 
 /// The order of rows, by architecture and name.
-fn order_rows(row: &RowIn, other: &RowIn) -> Ordering
+pub(crate) fn order_rows(row: &RowIn, other: &RowIn) -> Ordering
     ensures { result ≡ moves.row_cmp (moves.row_key row.now) (moves.row_key other.now) }
 {
     let names = row.binary.name.as_str().cmp(other.binary.name.as_str());

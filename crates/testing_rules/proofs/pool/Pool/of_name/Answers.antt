@@ -13,4 +13,4 @@ returns-clause-complete c = λ k r at e.
     let text_of : RowIn → Text = λ r. r.binary.name in
     let here : slice_get rows k ≡ Some r = subst (λ xs. slice_get xs k ≡ Some r) (sym c.self.view_is) at in
     let text : slice_get (names_of rows) k ≡ Some c.args.name.now = slice_get-map text_of rows k ∙ ap (option_map text_of) here ∙ ap Some e in
-    subst (λ ps. Contains ps k) (sym c.places.ensures) (c.self.invariant.names.complete k c.args.name.now text)
+    subst (λ ps. Contains ps k) (sym c.places.ensures) (c.self.invariant.indexed.names.complete k c.args.name.now text)
