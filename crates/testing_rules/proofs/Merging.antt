@@ -84,8 +84,7 @@ merged_all count from place merged rest end is = record {
 -- places that have them all show what the flags show
 pub same_places : (flags : List Bool) (order : List ℕ) → HasPlaces (length flags) order → SameElements (set_places flags) (filter (marked flags) order)
 same_places flags order has =
-    let all = range_with_len 0 (length flags) in
-    (
+    let all = range_with_len 0 (length flags) in (
       λ k c. let up = (from_filter (marked flags) all k c).1 in to_filter (marked flags) order k (has.each k (marked_within flags k up)) up,
       λ k c. let up = (from_filter (marked flags) order k c).1 in to_filter (marked flags) all k (range_has (length flags) k (marked_within flags k up)) up,
     )

@@ -77,11 +77,7 @@ fn set_places(alloc: Global, flags: &[bool]) -> Result<Vec<usize>, NoMemory>
 }
 
 /// Those of the places whose flags are set.
-fn set_among(
-    alloc: Global,
-    flags: &[bool],
-    places: &[usize],
-) -> Result<Vec<usize>, NoMemory>
+fn set_among(alloc: Global, flags: &[bool], places: &[usize]) -> Result<Vec<usize>, NoMemory>
     requires { All (λ k. k < length flags.now) places.now }
     ensures { IfOk result (λ up. up.items ≡ filter (marked flags.now) places.now) }
 {
