@@ -31,7 +31,7 @@ mod work;
 
 pub use counted::{Counted, installable, installable_counted};
 use deb_control::Binary;
-pub use index::NameIndex;
+pub use index::{NameIndex, hash_of};
 pub use suite::Suite;
 
 /// A row of testing: a binary package on an architecture.

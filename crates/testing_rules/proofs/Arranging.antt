@@ -75,7 +75,7 @@ one_of_all test (y ∷ xs) x h c = elim (first_or_rest y xs x c) [
 ]
 
 -- the pool has, behind the rows before the run, those of unstable whose source is a candidate, and the group names candidates alone
-module _ (old unstable : List RowIn) (candidates : List Text) (stands : List Bool) (sources : List UploadIn) (group : List Text) (leaving coming : List ℕ)
+module _ (old unstable : List RowIn) (candidates : List ℕ) (stands : List Bool) (sources : List UploadIn) (group : List Text) (leaving coming : List ℕ)
     (m : IsMoveOf (old ++ wanted_rows candidates unstable) stands (length old) sources group leaving coming) (offered : list_all (is_wanted candidates) group ≡ true) where
   abbrev pool : List RowIn
   pool = old ++ wanted_rows candidates unstable

@@ -62,8 +62,9 @@ pub mod KeyPlaces
 pub mod Mapped
 pub mod Giving
 pub mod Lending
-pub mod Candidates
 pub mod Lifted
 pub mod Blocking
 pub mod Hinted
 pub mod Merging
+pub mod Wanting
+pub mod Elsewhere

@@ -1,7 +1,7 @@
 -- Lists seen through a function of their elements.
-use Rattle.std.specs.Prelude.{ℕ, ◌-◌, ◌<◌, ◌≤◌, true, Some, option_map, List, [], ◌∷◌, ◌++◌, length, take, drop, get_or, map, Result, Ok, Err}
+use Rattle.std.specs.Prelude.{ℕ, suc, ◌-◌, ◌<◌, ◌≤◌, true, Some, option_map, List, [], ◌∷◌, ◌++◌, length, take, drop, get_or, map, Result, Ok, Err}
 use Rattle.std.proofs.Common.{◌≡◌, refl, sym, ap, ◌∙◌, subst, arith}
-use Rattle.std.specs.List.{insert, slice_get}
+use Rattle.std.specs.List.{insert, remove, slice_get}
 use Rattle.std.specs.List.Sorted.{IsBinarySearchResult, IsSearchInRange}
 use Rattle.std.specs.declared.cmp.Ordering.{Ordering}
 use Rattle.std.specs.declared.cmp.Ordering.TheVariants.{Less, Equal, Greater}
@@ -16,6 +16,13 @@ module _ {A B : Type 0} (f : A → B) where
       map-append f (take i xs) (x ∷ drop i xs)
       ∙ ap (λ t. t ++ f x ∷ map f (drop i xs)) (sym (take-map f i xs))
       ∙ ap (λ t. take i (map f xs) ++ f x ∷ t) (sym (drop-map f i xs))
+
+  -- one that is taken out
+  pub mapped-remove : (xs : List A) (i : ℕ) → map f (remove xs i) ≡ remove (map f xs) i
+  mapped-remove xs i =
+      map-append f (take i xs) (drop (suc i) xs)
+      ∙ ap (λ t. t ++ map f (drop (suc i) xs)) (sym (take-map f i xs))
+      ∙ ap (λ t. take i (map f xs) ++ t) (sym (drop-map f (suc i) xs))
 
   held_at : (P : B → Type 0) (xs : List A) (i : ℕ) (e : B) → i < length xs → ((d : A) → P (f (get_or xs i d))) → P (get_or (map f xs) i e)
   held_at P [] i e h g = absurd (omega (arith, h))

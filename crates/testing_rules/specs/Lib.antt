@@ -16,6 +16,7 @@ pub mod JudgedRows
 pub mod Kept
 pub mod Laws
 pub mod LentItems
+pub mod LiveSources
 pub mod Moves
 pub mod Parts
 pub mod Places

@@ -1,14 +1,9 @@
 -- Rows that may stand in testing during a run, by place, and where those of a text are.
 use Rattle.std.specs.Prelude.{◌≡◌, ℕ, ◌<◌, List, map, length, Some, Contains}
 use Rattle.std.specs.List.{All, slice_get}
-use Rattle.std.specs.Borrow.{Bor}
 use Rattle.testing_install.specs.Index.{PlacesByName, places_at}
 use Rattle.testing_rules.specs.declared.suite.RowIn.{RowIn}
 use Rattle.testing_rules.specs.Words.{Text}
-
--- texts that are lent
-abbrev pub lent_texts : List (Bor Text) → List Text
-lent_texts texts = map (λ t. t.now) texts
 
 -- the sources that rows name, and the names of their packages
 abbrev pub sources_of : List RowIn → List Text

@@ -50,11 +50,11 @@ pub record KeptState : Type 0 where
   pub stands : List Bool
   pub archs : ℕ
 
--- a pool's rows, the names of the sources whose unstable rows it has, the place at which unstable's rows begin,
+-- a pool's rows, the hashes of the names of the sources whose unstable rows it has, the place at which unstable's rows begin,
 -- which rows stand, and the number of the architectures
 pub record PoolState : Type 0 where
   pub rows : List RowIn
-  pub candidates : List Text
+  pub candidates : List ℕ
   pub first : ℕ
   pub stands : List Bool
   pub archs : ℕ

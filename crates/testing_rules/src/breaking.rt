@@ -54,11 +54,11 @@ fn broken_by_removal_anew(
 }
 
 /// What the move of a group breaks, judged anew over the rows that stand.
-fn broken_by_move_of_standing<'a>(
+fn broken_by_move_of_standing(
     alloc: Global,
-    suites: &PoolSuites<'a>,
+    suites: &PoolSuites,
     archs: &Archs,
-    unstable: Unstable<'_, 'a>,
+    unstable: Unstable<'_, '_>,
     group: &[Text],
 ) -> Result<Option<Offender>, NoMemory>
     requires { AreBySource (unboxed unstable.sources.now) }
@@ -71,11 +71,11 @@ fn broken_by_move_of_standing<'a>(
 
 /// What the move of a group breaks, told by the suites. They can't tell where they leave out the rows of one of its
 /// sources, nor where a row that comes stands already, that is where a source moves again: then the move is judged anew.
-fn told_by_move<'a>(
+fn told_by_move(
     alloc: Global,
-    suites: &mut PoolSuites<'a>,
+    suites: &mut PoolSuites,
     archs: &Archs,
-    unstable: Unstable<'_, 'a>,
+    unstable: Unstable<'_, '_>,
     group: &[Text],
 ) -> Result<Option<Offender>, NoMemory>
     requires order { IsUnstableOrder (unboxed unstable.sources.now) (lent unstable.rows.now) }
@@ -97,7 +97,7 @@ fn told_by_move<'a>(
 /// What the removal of a source breaks, told by the suites.
 fn told_by_removal(
     alloc: Global,
-    suites: &mut PoolSuites<'_>,
+    suites: &mut PoolSuites,
     archs: &Archs,
     name: &str,
 ) -> Result<Option<Offender>, NoMemory>
@@ -110,12 +110,29 @@ fn told_by_removal(
     suites.first_lost(alloc, &change)
 }
 
-/// What the move of a group would break: told by the suites where there are any, and else judged anew.
-pub fn broken_by_move<'a>(
+/// What the move of a group breaks, judged anew over the rows.
+fn broken_by_move_of_held(
     alloc: Global,
-    rows: &mut LiveRows<'a>,
+    rows: &LiveRows,
     archs: &Archs,
-    unstable: Unstable<'_, 'a>,
+    unstable: Unstable<'_, '_>,
+    group: &[Text],
+) -> Result<Option<Offender>, NoMemory>
+    requires sources { AreBySource (unboxed unstable.sources.now) }
+    requires by_key { AreByKey (held rows.now) }
+    ensures { IfOk result (λ o. o ≡ rules.offender_of archs.now (held rows.now)
+        (moved_rows (unboxed unstable.entry.sources.now) (lent unstable.entry.rows.now) group.now (held rows.now)) group.now) }
+{
+    let list = rows.list(alloc)?;
+    broken_by_move_anew(alloc, archs, unstable, group, &list)
+}
+
+/// What the move of a group would break: told by the suites where there are any, and else judged anew.
+pub fn broken_by_move(
+    alloc: Global,
+    rows: &mut LiveRows,
+    archs: &Archs,
+    unstable: Unstable<'_, '_>,
     group: &[Text],
 ) -> Result<Option<Offender>, NoMemory>
     requires order { IsUnstableOrder (unboxed unstable.sources.now) (lent unstable.rows.now) }
@@ -128,16 +145,15 @@ pub fn broken_by_move<'a>(
     if let LiveRows::Pooled(suites) = rows {
         return told_by_move(alloc, suites, archs, unstable, group);
     }
-    let list = rows.list(alloc)?;
-    broken_by_move_anew(alloc, archs, unstable, group, &list)
+    broken_by_move_of_held(alloc, rows, archs, unstable, group)
 }
 
 /// What the removal of a source would break: told by the suites where there are any, and else judged anew.
-pub fn broken_by_removal<'a>(
+pub fn broken_by_removal(
     alloc: Global,
-    rows: &mut LiveRows<'a>,
+    rows: &mut LiveRows,
     archs: &Archs,
-    unstable: Unstable<'_, 'a>,
+    unstable: Unstable<'_, '_>,
     name: &str,
 ) -> Result<Option<Offender>, NoMemory>
     requires { AreLive rows.old archs.now (lent unstable.rows.now) }

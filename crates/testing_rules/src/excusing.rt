@@ -11,7 +11,7 @@ ghost use Rattle.testing_rules.specs.Unstable.{place_numbers};
 ghost use Rattle.testing_rules.specs.Words.{Text};
 
 use crate::archs::Archs;
-use crate::built::built_rows;
+use crate::built::meant_rows;
 use crate::by_source::{
     Found, Grouped, News, bugs_by_source, found_of, rows_by_source, uploads_by_source,
 };
@@ -23,6 +23,7 @@ use crate::near::testing_version_near;
 use crate::reasons::{Known, reasons_of};
 use crate::suite::Testing;
 use crate::turns::is_standing;
+use crate::wanted::sources_of_news;
 use deb_version::{NoMemory, Version};
 use jiff::civil::Date;
 use std::alloc::Global;
@@ -134,7 +135,8 @@ fn group_facts<'a>(
 ) -> Result<Grouped<'a>, NoMemory>
     ensures { IfOk result (λ g. (name : Text) → IsTrue (is_among news.now name) → ground_at g name ≡ part_of (ground_from archs.now facts.now date) name) }
 {
-    let rows = built_rows(alloc, archs, facts.rows())?;
+    let meant = sources_of_news(alloc, news)?;
+    let rows = meant_rows(alloc, archs, facts.rows(), &meant)?;
     Ok(Grouped {
         rows: rows_by_source(alloc, news, &rows)?,
         bugs: bugs_by_source(alloc, news, facts.bugs())?,

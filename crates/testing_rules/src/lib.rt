@@ -3,7 +3,6 @@
 
 mod arch_suite;
 mod archs;
-mod boxed_sources;
 mod breaking;
 mod build_blocks;
 mod built;
@@ -21,6 +20,7 @@ pub mod laws;
 mod lent_rows;
 mod live;
 mod live_rows;
+mod live_sources;
 mod migration;
 mod moves;
 mod near;

@@ -10,15 +10,17 @@ ghost use Rattle.testing_rules.specs.Kept.{AreKept};
 ghost use Rattle.testing_rules.specs.Runs.{after_move, broken_by_move, after_removal, broken_by_removal};
 
 use crate::archs::Archs;
-use crate::boxed_sources::{boxes_of, move_sources, out_of_boxes, place_of_name, take_source};
 use crate::breaking;
 use crate::facts::UploadIn;
 use crate::kept::KeptSuites;
 use crate::live_rows::LiveRows;
+use crate::live_sources::{
+    LiveSource, lend_sources, move_sources, own_sources, place_of_name, take_source,
+};
 use crate::moves::Unstable;
-use crate::suite::{SourceIn, Testing};
+use crate::suite::Testing;
 use crate::update::Offender;
-use crate::wanted::NameSet;
+use crate::wanted::Hashes;
 use deb_control::Text;
 use deb_version::{NoMemory, Version};
 use std::alloc::Global;
@@ -32,24 +34,25 @@ use std::mem;
 pub struct LiveTesting<'u, 'a> {
     archs: &'u Archs,
     unstable: Unstable<'u, 'a>,
-    sources: Vec<Box<SourceIn>>,
-    rows: LiveRows<'a>,
+    sources: Vec<LiveSource<'a>>,
+    rows: LiveRows,
 }
 
 impl<'u, 'a> Model for LiveTesting<'u, 'a> {
     ghost use Rattle.testing_rules.specs.Boxed.{unboxed};
     ghost use Rattle.testing_rules.specs.Held.{held, IsLiveTesting};
     ghost use Rattle.testing_rules.specs.JudgedRows.{lent};
+    ghost use Rattle.testing_rules.specs.LiveSources.{sources_of};
     ghost use Rattle.testing_rules.specs.Runs.{Moment};
 
     ghost Value = { Moment };
 
     ghost view = { λ a. record {
       basis = record { archs = a.archs.now; sources = unboxed a.unstable.sources.now; rows = lent a.unstable.rows.now };
-      suite = record { sources = unboxed a.sources.items; rows = held a.rows };
+      suite = record { sources = sources_of a.sources.items; rows = held a.rows };
     } };
 
-    ghost invariant = { λ a. IsLiveTesting a.rows a.archs.now (unboxed a.unstable.sources.now) (lent a.unstable.rows.now) (unboxed a.sources.items) };
+    ghost invariant = { λ a. IsLiveTesting a.rows a.archs.now (unboxed a.unstable.sources.now) (lent a.unstable.rows.now) (sources_of a.sources.items) };
 }
 
 impl<'u, 'a> LiveTesting<'u, 'a> {
@@ -59,7 +62,7 @@ impl<'u, 'a> LiveTesting<'u, 'a> {
         archs: &'u Archs,
         unstable: Unstable<'u, 'a>,
         testing: &'a Testing,
-        candidates: NameSet<'a>,
+        candidates: Hashes,
         kept: Option<KeptSuites>,
     ) -> Result<LiveTesting<'u, 'a>, NoMemory>
         requires kept { AreKept kept testing.now.rows }
@@ -71,7 +74,7 @@ impl<'u, 'a> LiveTesting<'u, 'a> {
         }) }
     {
         let rows = LiveRows::new(alloc, archs, unstable, testing, candidates, kept)?;
-        let sources = boxes_of(alloc, testing.sources())?;
+        let sources = lend_sources(alloc, testing.sources())?;
         Ok(LiveTesting {
             archs,
             unstable,
@@ -85,7 +88,7 @@ impl<'u, 'a> LiveTesting<'u, 'a> {
         ensures { option_copied result ≡ excuses.testing_version self.now.suite name.now }
     {
         match place_of_name(&self.sources, name) {
-            Ok(place) => Some(&self.sources[place].version),
+            Ok(place) => Some(&self.sources[place].source().version),
             Err(_) => None,
         }
     }
@@ -152,7 +155,7 @@ impl<'u, 'a> LiveTesting<'u, 'a> {
             sources,
             rows,
         } = self;
-        let sources = out_of_boxes(alloc, sources)?;
+        let sources = own_sources(alloc, sources)?;
         let (rows, kept) = rows.into_parts(alloc)?;
         Testing::of(alloc, sources, rows, kept)
     }

@@ -21,7 +21,7 @@ use crate::lent_rows::{copy_lent, lend_rows, moved_rows, rows_without};
 use crate::moves::Unstable;
 use crate::standing::PoolSuites;
 use crate::suite::{LentRow, RowIn, Testing};
-use crate::wanted::NameSet;
+use crate::wanted::Hashes;
 use deb_control::Text;
 use deb_version::NoMemory;
 use std::alloc::Global;
@@ -29,23 +29,23 @@ use std::alloc::Global;
 /// Testing's rows: those that stand of a pool, whose suites judge a change, and make it, by what it touches; or a list
 /// of them, where there are no suites.
 #[derive(Drop)]
-pub enum LiveRows<'a> {
-    Pooled(PoolSuites<'a>),
+pub enum LiveRows {
+    Pooled(PoolSuites),
     Listed(Vec<RowIn>),
 }
 
 /// The suites once a group has moved.
-fn moved_suites<'a>(
+fn moved_suites(
     alloc: Global,
-    suites: PoolSuites<'a>,
-    unstable: Unstable<'_, 'a>,
+    suites: PoolSuites,
+    unstable: Unstable<'_, '_>,
     group: &[Text],
-) -> Result<PoolSuites<'a>, NoMemory>
+) -> Result<PoolSuites, NoMemory>
     requires order { IsUnstableOrder (unboxed unstable.sources.now) (lent unstable.rows.now) }
     requires offered { list_all (is_wanted suites.candidates) group.now ≡ true }
-    ensures rows { IfOk result (λ new. (archs : List Word) → IsLive suites.entry archs (lent unstable.entry.rows.now) (standing suites.entry)
-        → standing new ≡ moved_rows (unboxed unstable.entry.sources.now) (lent unstable.entry.rows.now) group.now (standing suites.entry)) }
-    ensures live { IfOk result (λ new. (archs : List Word) → IsLive suites.entry archs (lent unstable.entry.rows.now) (standing suites.entry)
+    ensures rows { IfOk result (λ new. (archs : List Word) → IsLive suites archs (lent unstable.entry.rows.now) (standing suites)
+        → standing new ≡ moved_rows (unboxed unstable.entry.sources.now) (lent unstable.entry.rows.now) group.now (standing suites)) }
+    ensures live { IfOk result (λ new. (archs : List Word) → IsLive suites archs (lent unstable.entry.rows.now) (standing suites)
         → IsLive new archs (lent unstable.entry.rows.now) (standing new)) }
 {
     let change = suites.change_by_move(alloc, unstable.sources, group)?;
@@ -89,7 +89,7 @@ fn list_moved<'a>(
 /// The rows of a pool that stand, as a list after the move of a group.
 fn standing_moved<'a>(
     alloc: Global,
-    suites: &'a PoolSuites<'_>,
+    suites: &'a PoolSuites,
     unstable: Unstable<'_, 'a>,
     group: &[Text],
 ) -> Result<Vec<RowIn>, NoMemory>
@@ -102,18 +102,34 @@ fn standing_moved<'a>(
     Ok(moved)
 }
 
+/// A list of the rows of a pool after the move of a group, in place of the pool.
+fn listed_moved(
+    alloc: Global,
+    suites: PoolSuites,
+    unstable: Unstable<'_, '_>,
+    group: &[Text],
+) -> Result<LiveRows, NoMemory>
+    requires { AreBySource (unboxed unstable.sources.now) }
+    ensures rows { IfOk result (λ new. held new ≡ moved_rows (unboxed unstable.entry.sources.now) (lent unstable.entry.rows.now) group.now (standing suites)) }
+    ensures live { IfOk result (λ new. (archs : List Word) → AreLive new archs (lent unstable.entry.rows.now)) }
+    ensures by_key { IfOk result (λ new. AreByKey (held new)) }
+{
+    let moved = standing_moved(alloc, &suites, unstable, group)?;
+    Ok(LiveRows::Listed(moved))
+}
+
 /// The rows of a pool after the move of a group. They are a list from then on where the suites leave out rows of one of
 /// its sources.
-fn moved_from_pool<'a>(
+fn moved_from_pool(
     alloc: Global,
-    suites: PoolSuites<'a>,
-    unstable: Unstable<'_, 'a>,
+    suites: PoolSuites,
+    unstable: Unstable<'_, '_>,
     group: &[Text],
-) -> Result<LiveRows<'a>, NoMemory>
+) -> Result<LiveRows, NoMemory>
     requires { IsUnstableOrder (unboxed unstable.sources.now) (lent unstable.rows.now) }
-    ensures rows { IfOk result (λ new. (archs : List Word) → IsLive suites.entry archs (lent unstable.entry.rows.now) (standing suites.entry)
-        → held new ≡ moved_rows (unboxed unstable.entry.sources.now) (lent unstable.entry.rows.now) group.now (standing suites.entry)) }
-    ensures live { IfOk result (λ new. (archs : List Word) → IsLive suites.entry archs (lent unstable.entry.rows.now) (standing suites.entry)
+    ensures rows { IfOk result (λ new. (archs : List Word) → IsLive suites archs (lent unstable.entry.rows.now) (standing suites)
+        → held new ≡ moved_rows (unboxed unstable.entry.sources.now) (lent unstable.entry.rows.now) group.now (standing suites)) }
+    ensures live { IfOk result (λ new. (archs : List Word) → IsLive suites archs (lent unstable.entry.rows.now) (standing suites)
         → AreLive new archs (lent unstable.entry.rows.now)) }
     ensures by_key { IfOk result (λ new. AreByKey (held new)) }
 {
@@ -121,20 +137,15 @@ fn moved_from_pool<'a>(
         let suites = moved_suites(alloc, suites, unstable, group)?;
         Ok(LiveRows::Pooled(suites))
     } else {
-        let moved = standing_moved(alloc, &suites, unstable, group)?;
-        Ok(LiveRows::Listed(moved))
+        listed_moved(alloc, suites, unstable, group)
     }
 }
 
 /// The suites once a source is removed.
-fn suites_without<'a>(
-    alloc: Global,
-    suites: PoolSuites<'a>,
-    name: &str,
-) -> Result<PoolSuites<'a>, NoMemory>
-    ensures rows { IfOk result (λ new. (archs : List Word) (unstable : List ARow) → IsLive suites.entry archs unstable (standing suites.entry)
-        → standing new ≡ rows_without name.now (standing suites.entry)) }
-    ensures live { IfOk result (λ new. (archs : List Word) (unstable : List ARow) → IsLive suites.entry archs unstable (standing suites.entry)
+fn suites_without(alloc: Global, suites: PoolSuites, name: &str) -> Result<PoolSuites, NoMemory>
+    ensures rows { IfOk result (λ new. (archs : List Word) (unstable : List ARow) → IsLive suites archs unstable (standing suites)
+        → standing new ≡ rows_without name.now (standing suites)) }
+    ensures live { IfOk result (λ new. (archs : List Word) (unstable : List ARow) → IsLive suites archs unstable (standing suites)
         → IsLive new archs unstable (standing new)) }
 {
     let change = suites.change_by_removal(alloc, name)?;
@@ -177,7 +188,7 @@ fn kept_or_new(
 }
 
 /// A list of the rows that stand.
-fn standing_rows(alloc: Global, suites: &PoolSuites<'_>) -> Result<Vec<RowIn>, NoMemory>
+fn standing_rows(alloc: Global, suites: &PoolSuites) -> Result<Vec<RowIn>, NoMemory>
     ensures { IfOk result (λ rows. rows.items ≡ standing suites.now) }
 {
     let rows = suites.rows(alloc)?;
@@ -185,16 +196,16 @@ fn standing_rows(alloc: Global, suites: &PoolSuites<'_>) -> Result<Vec<RowIn>, N
     Ok(copies)
 }
 
-impl<'a> LiveRows<'a> {
+impl LiveRows {
     /// The rows before a run. To them those of unstable may come whose source is a candidate.
     pub fn new(
         alloc: Global,
         archs: &Archs,
-        unstable: Unstable<'_, 'a>,
-        testing: &'a Testing,
-        candidates: NameSet<'a>,
+        unstable: Unstable<'_, '_>,
+        testing: &Testing,
+        candidates: Hashes,
         kept: Option<KeptSuites>,
-    ) -> Result<LiveRows<'a>, NoMemory>
+    ) -> Result<LiveRows, NoMemory>
         requires { AreKept kept testing.now.rows }
         ensures rows { IfOk result (λ new. held new ≡ testing.now.rows) }
         ensures live { IfOk result (λ new. AreLive new archs.now (lent unstable.entry.rows.now)) }
@@ -209,14 +220,14 @@ impl<'a> LiveRows<'a> {
     pub fn moved(
         self,
         alloc: Global,
-        unstable: Unstable<'_, 'a>,
+        unstable: Unstable<'_, '_>,
         group: &[Text],
-    ) -> Result<LiveRows<'a>, NoMemory>
+    ) -> Result<LiveRows, NoMemory>
         requires order { IsUnstableOrder (unboxed unstable.sources.now) (lent unstable.rows.now) }
         requires by_key { AreByKey (held self) }
-        ensures rows { IfOk result (λ new. (archs : List Word) → AreLive self.entry archs (lent unstable.entry.rows.now)
-            → held new ≡ moved_rows (unboxed unstable.entry.sources.now) (lent unstable.entry.rows.now) group.now (held self.entry)) }
-        ensures live { IfOk result (λ new. (archs : List Word) → AreLive self.entry archs (lent unstable.entry.rows.now)
+        ensures rows { IfOk result (λ new. (archs : List Word) → AreLive self archs (lent unstable.entry.rows.now)
+            → held new ≡ moved_rows (unboxed unstable.entry.sources.now) (lent unstable.entry.rows.now) group.now (held self)) }
+        ensures live { IfOk result (λ new. (archs : List Word) → AreLive self archs (lent unstable.entry.rows.now)
             → AreLive new archs (lent unstable.entry.rows.now)) }
         ensures by_key { IfOk result (λ new. AreByKey (held new)) }
     {
@@ -230,11 +241,11 @@ impl<'a> LiveRows<'a> {
     }
 
     /// The rows after the removal of a source.
-    pub fn without(self, alloc: Global, name: &str) -> Result<LiveRows<'a>, NoMemory>
+    pub fn without(self, alloc: Global, name: &str) -> Result<LiveRows, NoMemory>
         requires { AreByKey (held self) }
-        ensures rows { IfOk result (λ new. (archs : List Word) (unstable : List ARow) → AreLive self.entry archs unstable
-            → held new ≡ rows_without name.now (held self.entry)) }
-        ensures live { IfOk result (λ new. (archs : List Word) (unstable : List ARow) → AreLive self.entry archs unstable
+        ensures rows { IfOk result (λ new. (archs : List Word) (unstable : List ARow) → AreLive self archs unstable
+            → held new ≡ rows_without name.now (held self)) }
+        ensures live { IfOk result (λ new. (archs : List Word) (unstable : List ARow) → AreLive self archs unstable
             → AreLive new archs unstable) }
         ensures by_key { IfOk result (λ new. AreByKey (held new)) }
     {
@@ -262,8 +273,8 @@ impl<'a> LiveRows<'a> {
 
     /// The rows, and the suites that are kept of them, where there are any.
     pub fn into_parts(self, alloc: Global) -> Result<(Vec<RowIn>, Option<KeptSuites>), NoMemory>
-        ensures rows { IfOk result (λ parts. parts.0.items ≡ held self.entry) }
-        ensures kept { IfOk result (λ parts. (archs : List Word) (unstable : List ARow) → AreLive self.entry archs unstable → AreKept parts.1 (held self.entry)) }
+        ensures rows { IfOk result (λ parts. parts.0.items ≡ held self) }
+        ensures kept { IfOk result (λ parts. (archs : List Word) (unstable : List ARow) → AreLive self archs unstable → AreKept parts.1 (held self)) }
     {
         match self {
             LiveRows::Pooled(suites) => {

@@ -29,7 +29,7 @@ fn all_turns<'a>(
     alloc: Global,
     archs: &Archs,
     facts: &'a Facts,
-    excuses: &'a [Excuse],
+    excuses: &[Excuse],
     testing: &'a Testing,
     kept: Option<KeptSuites>,
 ) -> Result<(Vec<Decision>, Testing), NoMemory>

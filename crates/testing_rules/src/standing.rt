@@ -10,7 +10,7 @@ ghost use Rattle.testing_rules.specs.FactOrder.{AreBySource};
 ghost use Rattle.testing_rules.specs.JudgedRows.{lent};
 ghost use Rattle.testing_rules.specs.Standing.{standing};
 ghost use Rattle.testing_rules.specs.Tried.{first_told, Tells, IsWithin, IsRemovalOf};
-ghost use Rattle.testing_rules.specs.Wanted.{is_wanted, names_in, wanted_rows};
+ghost use Rattle.testing_rules.specs.Wanted.{is_wanted, wanted_rows};
 ghost use Rattle.testing_rules.specs.Words.{Text as Word};
 
 use crate::change::{Change, change_by_move, change_by_removal};
@@ -18,7 +18,7 @@ use crate::facts::UploadIn;
 use crate::kept::KeptSuites;
 use crate::suite::LentRow;
 use crate::update::Offender;
-use crate::wanted::{NameSet, are_wanted, wanted_rows};
+use crate::wanted::{Hashes, are_wanted, wanted_rows};
 use deb_control::Text;
 use deb_version::NoMemory;
 use std::alloc::Global;
@@ -27,38 +27,37 @@ use std::marker::Model;
 /// The suites over the rows that may stand in testing during a run. Unstable's rows, which begin at the first place, are
 /// there where their source is a candidate.
 #[derive(Drop)]
-pub struct PoolSuites<'a> {
+pub struct PoolSuites {
     kept: KeptSuites,
-    candidates: NameSet<'a>,
+    candidates: Hashes,
     first: usize,
 }
 
-impl<'a> Model for PoolSuites<'a> {
+impl Model for PoolSuites {
     ghost use Rattle.testing_rules.specs.Standing.{PoolState};
-    ghost use Rattle.testing_rules.specs.Wanted.{names_in};
 
     ghost Value = { PoolState };
 
     ghost view = { λ s. record {
       rows = s.kept.rows;
-      candidates = names_in s.candidates;
+      candidates = s.candidates.keys;
       first = s.first;
       stands = s.kept.stands;
       archs = s.kept.archs;
     } };
 }
 
-impl<'a> PoolSuites<'a> {
+impl PoolSuites {
     /// The rows that the kept suites have, and behind them, none of which stands, those of unstable that may come: the rows
     /// of the candidates.
     pub fn new(
         alloc: Global,
         kept: KeptSuites,
-        candidates: NameSet<'a>,
+        candidates: Hashes,
         unstable: &[LentRow],
-    ) -> Result<PoolSuites<'a>, NoMemory>
+    ) -> Result<PoolSuites, NoMemory>
         ensures rows { IfOk result (λ s. s.rows ≡ kept.rows ++ wanted_rows s.candidates (lent unstable.now)) }
-        ensures candidates { IfOk result (λ s. s.candidates ≡ names_in candidates.entry) }
+        ensures candidates { IfOk result (λ s. s.candidates ≡ candidates.keys) }
         ensures first { IfOk result (λ s. s.first ≡ length kept.rows) }
         ensures archs { IfOk result (λ s. s.archs ≡ kept.archs) }
         ensures stands { IfOk result (λ s. s.stands ≡ kept.stands ++ replicate (length (wanted_rows s.candidates (lent unstable.now))) false) }
@@ -76,7 +75,7 @@ impl<'a> PoolSuites<'a> {
 
     /// The suites alone, which are of no one run.
     pub fn into_kept(self) -> KeptSuites
-        ensures { result ≡ record { rows = self.entry.rows; stands = self.entry.stands; archs = self.entry.archs } }
+        ensures { result ≡ record { rows = self.rows; stands = self.stands; archs = self.archs } }
     {
         self.kept
     }
@@ -141,16 +140,16 @@ impl<'a> PoolSuites<'a> {
     }
 
     /// The suites once the change is made.
-    pub fn after(self, alloc: Global, change: &Change) -> Result<PoolSuites<'a>, NoMemory>
+    pub fn after(self, alloc: Global, change: &Change) -> Result<PoolSuites, NoMemory>
         requires { IsWithin self.rows change.now.leaving.items change.now.coming.items }
         ensures state { IfOk result (λ s. s ≡ record {
-          rows = self.entry.rows;
-          candidates = self.entry.candidates;
-          first = self.entry.first;
-          stands = after_change change.now.leaving.items change.now.coming.items self.entry.stands;
-          archs = self.entry.archs;
+          rows = self.rows;
+          candidates = self.candidates;
+          first = self.first;
+          stands = after_change change.now.leaving.items change.now.coming.items self.stands;
+          archs = self.archs;
         }) }
-        ensures long { length self.entry.stands ≡ length self.entry.rows }
+        ensures long { length self.stands ≡ length self.rows }
     {
         let PoolSuites {
             kept,

@@ -1,81 +1,120 @@
-//! Sources that may move in a run: those that have an excuse.
+//! A few sources among all, by the hashes of their names.
 
-ghost use Rattle.std.specs.Prelude.{◌≡◌, IfOk};
+ghost use Rattle.std.specs.Prelude.{◌≡◌, ℕ, IfOk};
 ghost use Rattle.std.specs.List.{list_all};
 ghost use Rattle.testing_rules.specs.JudgedRows.{lent};
-ghost use Rattle.testing_rules.specs.Pools.{lent_texts};
 ghost use Rattle.testing_rules.specs.Wanted as rules;
-ghost use Rattle.testing_rules.specs.Wanted.{names_in};
 ghost use Rattle.testing_rules.specs.Words.{Text as Word};
 
+use crate::by_source::News;
 use crate::excuse::Excuse;
+use crate::shared_binary::SharedBinary;
 use crate::suite::LentRow;
 use deb_control::Text;
 use deb_version::NoMemory;
 use std::alloc::Global;
 use std::collections::HashSet;
+use testing_install::hash_of;
 
-/// Names that are looked up by their hash.
-pub type NameSet<'a> = HashSet<&'a str>;
+/// Hashes of sources' names. A source whose name has the hash of another's is taken for it, so they tell which sources
+/// certainly are not meant.
+pub type Hashes = HashSet<u64>;
 
-/// The names of the sources that have an excuse.
-fn excused<'a>(alloc: Global, excuses: &'a [Excuse]) -> Result<Vec<&'a str>, NoMemory>
-    ensures { IfOk result (λ names. lent_texts names.items ≡ rules.excused excuses.now) }
-{
-    let mut names = Vec::new(alloc);
-    for excuse in excuses {
-        names.push(excuse.source.as_str())?;
-    }
-    Ok(names)
+/// The sources that are meant: every one, or those of these hashes.
+#[derive(Drop)]
+pub enum Meant {
+    Every,
+    Those(Hashes),
 }
 
-/// The names as a set.
-fn set_of<'a>(alloc: Global, names: &[&'a str]) -> Result<NameSet<'a>, NoMemory>
-    ensures { IfOk result (λ set. (name : Word) → rules.is_wanted (names_in set) name ≡ rules.is_wanted (lent_texts names.now) name) }
+/// The hashes of the names of the sources that have an excuse.
+fn hashes_of_excused(alloc: Global, excuses: &[Excuse]) -> Result<Vec<u64>, NoMemory>
+    ensures { IfOk result (λ hashes. hashes.items ≡ rules.excused excuses.now) }
 {
-    let set = names.iter().copied().collect(alloc)?;
+    let mut hashes = Vec::new(alloc);
+    for excuse in excuses {
+        hashes.push(hash_of(excuse.source.as_str()))?;
+    }
+    Ok(hashes)
+}
+
+/// The hashes of the names of the sources that are news.
+fn hashes_of_news(alloc: Global, news: &[News]) -> Result<Vec<u64>, NoMemory>
+    ensures { IfOk result (λ hashes. hashes.items ≡ rules.told news.now) }
+{
+    let mut hashes = Vec::new(alloc);
+    for source in news {
+        hashes.push(hash_of(source.upload.source.as_str()))?;
+    }
+    Ok(hashes)
+}
+
+/// The hashes as a set.
+fn set_of(alloc: Global, hashes: &[u64]) -> Result<Hashes, NoMemory>
+    ensures { IfOk result (λ set. (hash : ℕ) → rules.is_one_of set.keys hash ≡ rules.is_one_of hashes.now hash) }
+{
+    let set = hashes.iter().copied().collect(alloc)?;
     Ok(set)
 }
 
 /// The sources that may move: those that have an excuse.
-pub fn candidates<'a>(alloc: Global, excuses: &'a [Excuse]) -> Result<NameSet<'a>, NoMemory>
-    ensures { IfOk result (λ set. (name : Word) → rules.is_wanted (names_in set) name ≡ rules.is_wanted (rules.excused excuses.now) name) }
+pub fn candidates(alloc: Global, excuses: &[Excuse]) -> Result<Hashes, NoMemory>
+    ensures { IfOk result (λ set. (hash : ℕ) → rules.is_one_of set.keys hash ≡ rules.is_one_of (rules.excused excuses.now) hash) }
 {
-    let names = excused(alloc, excuses)?;
-    let set = set_of(alloc, &names)?;
+    let hashes = hashes_of_excused(alloc, excuses)?;
+    let set = set_of(alloc, &hashes)?;
     Ok(set)
 }
 
-/// The source is one of the candidates.
-fn is_wanted(candidates: &NameSet, name: &str) -> bool
-    ensures { result ≡ rules.is_wanted (names_in candidates.now) name.now }
+/// The sources that are news, and some others it may be.
+pub fn sources_of_news(alloc: Global, news: &[News]) -> Result<Meant, NoMemory>
+    ensures { IfOk result (λ meant. (name : Word) → rules.is_meant meant name ≡ rules.is_wanted (rules.told news.now) name) }
 {
-    candidates.contains(name)
+    let hashes = hashes_of_news(alloc, news)?;
+    let set = set_of(alloc, &hashes)?;
+    Ok(Meant::Those(set))
 }
 
-/// Each of the sources is one of the candidates.
-pub fn are_wanted(candidates: &NameSet, group: &[Text]) -> bool
-    ensures { result ≡ list_all (rules.is_wanted (names_in candidates.now)) group.now }
+/// The hash is one of those.
+fn is_one_of(hashes: &Hashes, hash: u64) -> bool
+    ensures { result ≡ rules.is_one_of hashes.now.keys hash }
+{
+    hashes.contains(&hash)
+}
+
+/// The source of the package is meant.
+pub fn is_meant(meant: &Meant, binary: &SharedBinary) -> bool
+    ensures { result ≡ rules.is_meant meant.now binary.now.source }
+{
+    match meant {
+        Meant::Every => true,
+        Meant::Those(hashes) => is_one_of(hashes, binary.source_hash()),
+    }
+}
+
+/// Each of the sources is one of those.
+pub fn are_wanted(hashes: &Hashes, group: &[Text]) -> bool
+    ensures { result ≡ list_all (rules.is_wanted hashes.now.keys) group.now }
 {
     'group: for name in group {
-        if !is_wanted(candidates, name.as_str()) {
+        if !is_one_of(hashes, hash_of(name.as_str())) {
             return false;
         }
     }
     true
 }
 
-/// The rows of the candidates.
+/// The rows of those sources.
 pub fn wanted_rows<'a>(
     alloc: Global,
-    candidates: &NameSet,
+    hashes: &Hashes,
     rows: &[LentRow<'a>],
 ) -> Result<Vec<LentRow<'a>>, NoMemory>
-    ensures { IfOk result (λ wanted. lent wanted.items ≡ rules.wanted_rows (names_in candidates.now) (lent rows.now)) }
+    ensures { IfOk result (λ wanted. lent wanted.items ≡ rules.wanted_rows hashes.now.keys (lent rows.now)) }
 {
     let mut wanted = Vec::new(alloc);
     for row in rows {
-        if is_wanted(candidates, row.binary.source.as_str()) {
+        if is_one_of(hashes, row.binary.source_hash()) {
             wanted.push(*row)?;
         }
     }

@@ -1,47 +1,23 @@
-use Rattle.std.proofs.Common.{sym, ap, ◌∙◌, subst, ◌++◌, arith, ◌<◌, ◌≤◌, length, take, ℕ, codes}
-use Rattle.std.specs.List.{enumerate_from, flat_map}
+use Rattle.std.proofs.Common.{◌≡◌, ◌∙◌, sym, ap, subst}
+use Rattle.testing_rules.specs.FactOrder.{AreByPair}
 use Rattle.testing_rules.specs.InOrder.{AreByKey}
 use Rattle.testing_rules.specs.JudgedRows.{lent}
-use Rattle.testing_rules.specs.Unstable.{built_on}
-use Rattle.testing_rules.specs.Words.{Text}
-use Rattle.testing_rules.proofs.BuiltOrder.{built-by_key}
-use Rattle.testing_rules.proofs.BuiltRows.{built-more, built-last}
+use Rattle.testing_rules.specs.Unstable.{built_rows}
+use Rattle.testing_rules.specs.Wanted.{meant_builds}
+use Rattle.testing_rules.specs.declared.wanted.Meant.TheVariants.{Every}
+use Rattle.testing_rules.proofs.Suites.{if_ok_weaker}
+use Rattle.testing_rules.proofs.Wanting.{every_meant}
 use Rattle.testing_rules.proofs.built.built_rows.Goals as goal
-
-pub loop-place-preserved : goal.loop-place-preserved
-loop-place-preserved c =
-    let builds = c.args.builds.now in
-    let archs = c.args.archs.now in
-    let k = c.loop-place.place in
-    let below : k < length archs = omega arith in
-    let so_far = flat_map (built_on builds) (take k (enumerate_from 0 archs)) in
-    c.in_ok-push_built_on.ensures
-    ∙ ap (λ bs. lent c.loop-place.rows.items ++ built_on bs (k, c.name.result.now)) c.blocks-blocks.ensures
-    ∙ ap (λ xs. xs ++ built_on builds (k, c.name.result.now)) c.loop-place.invariant
-    ∙ ap (λ t. so_far ++ built_on builds (k, t)) c.name.ensures
-    ∙ sym (built-more builds archs k below (omega arith))
 
 pub returns-clause-rows : goal.returns-clause-rows
 returns-clause-rows c =
-    let builds = c.args.builds.now in
     let archs = c.args.archs.now in
-    let k = c.loop-place.place in
-    let all : ℕ × Text = (16, codes "all") in
-    c.in_ok-push_built_on-2.ensures
-    ∙ ap (λ bs. lent c.loop-place.rows.items ++ built_on bs all) c.blocks-blocks.ensures
-    ∙ ap (λ xs. xs ++ built_on builds all) c.loop-place.invariant
-    ∙ built-last builds archs all k (omega arith)
+    let builds = c.args.builds.now in
+    if_ok_weaker (λ rows. lent rows.items ≡ built_rows archs (meant_builds Every builds)) (λ rows. lent rows.items ≡ built_rows archs builds) c.meant_rows.result
+    (λ rows is. is ∙ ap (built_rows archs) (every_meant builds)) c.meant_rows.ensures.rows
 
 pub returns-clause-ordered : goal.returns-clause-ordered
-returns-clause-ordered c = λ order.
+returns-clause-ordered c =
     let builds = c.args.builds.now in
-    let archs = c.args.archs.now in
-    let k = c.loop-place.place in
-    let few : length archs ≤ 16 = omega arith in
-    let all : ℕ × Text = (16, codes "all") in
-    let items =
-    c.in_ok-push_built_on-2.ensures
-    ∙ ap (λ bs. lent c.loop-place.rows.items ++ built_on bs all) c.blocks-blocks.ensures
-    ∙ ap (λ xs. xs ++ built_on builds all) c.loop-place.invariant
-    ∙ built-last builds archs all k (omega arith) in
-    subst AreByKey (sym items) (built-by_key archs builds few order)
+    if_ok_weaker (λ rows. AreByPair (meant_builds Every builds) → AreByKey (lent rows.items)) (λ rows. AreByPair builds → AreByKey (lent rows.items)) c.meant_rows.result
+    (λ rows is order. is (subst AreByPair (sym (every_meant builds)) order)) c.meant_rows.ensures.ordered

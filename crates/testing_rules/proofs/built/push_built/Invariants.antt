@@ -2,8 +2,9 @@ use Rattle.std.proofs.Common.{◌≡◌, ◌++◌, take}
 use Rattle.testing_rules.specs.Boxed.{unboxed}
 use Rattle.testing_rules.specs.JudgedRows.{lent}
 use Rattle.testing_rules.specs.Unstable.{built_on}
+use Rattle.testing_rules.specs.Wanted.{meant_builds}
 use Rattle.testing_rules.proofs.built.push_built.Given as goal
 
 -- those so far
 abbrev pub invariant-loop-build : goal.invariant-loop-build
-invariant-loop-build l = lent l.rows.items ≡ lent l.fn.rows.items ++ built_on (unboxed (take l.build-index l.builds)) (l.place, l.arch)
+invariant-loop-build l = lent l.rows.items ≡ lent l.fn.rows.items ++ built_on (meant_builds l.meant (unboxed (take l.build-index l.builds))) (l.place, l.arch)

@@ -2,11 +2,11 @@ use Rattle.testing_rules.proofs.Showing.{standing-by_key}
 use Rattle.std.proofs.lemmas.Result.{IfOk-from_err}
 use Rattle.testing_rules.proofs.live_rows.moved_from_pool.Goals as goal
 
-pub returns-then-offers-clause-by_key : goal.returns-then-offers-clause-by_key
-returns-then-offers-clause-by_key c = standing-by_key c.in_ok-suites.suites
+pub returns-in_ok-suites-clause-by_key : goal.returns-in_ok-suites-clause-by_key
+returns-in_ok-suites-clause-by_key c = standing-by_key c.in_ok-suites.suites
 
-pub returns-then-offers-clause-live : goal.returns-then-offers-clause-live
-returns-then-offers-clause-live c = c.in_ok-suites.ensures.live
+pub returns-in_ok-suites-clause-live : goal.returns-in_ok-suites-clause-live
+returns-in_ok-suites-clause-live c = c.in_ok-suites.ensures.live
 
 pub returns-in_err-suites : goal.returns-in_err-suites
 returns-in_err-suites c =

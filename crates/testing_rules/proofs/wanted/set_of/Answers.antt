@@ -1,18 +1,13 @@
 use Rattle.std.proofs.Common.{Ok}
-use Rattle.std.specs.Borrow.{Bor}
 use Rattle.std.specs.HashSet.{IsFromIterResult}
-use Rattle.std.specs.Prelude.{List, ℕ}
-use Rattle.std.specs.Str.{bytes_eq}
+use Rattle.std.specs.Prelude.{ℕ, ◌==◌}
 use Rattle.std.proofs.lemmas.Iterator.{YieldsList-from_slice}
 use Rattle.std.proofs.lemmas.Iterator.Adapters.{fact_from_collect}
 use Rattle.std.proofs.lemmas.Iterator.Consumers.{YieldsList-from_copied}
-use Rattle.testing_rules.proofs.Candidates.{wanted_alike}
 use Rattle.testing_rules.proofs.wanted.set_of.Goals as goal
 
 pub returns : goal.returns
-returns c = λ name.
-    let asked : Bor (List ℕ) = record { ref_ptr = (0, 0); now = name } in
-    let names = c.args.names.now in
-    let made = fact_from_collect {E = ℕ} (λ xs set. IsFromIterResult (λ (a b : Bor (List ℕ)). bytes_eq a.now b.now) xs set) (Ok c.in_ok-set.set) c.in_ok-set.ensures.ran
-    (YieldsList-from_copied (YieldsList-from_slice names cc)) in
-    wanted_alike name c.in_ok-set.set.keys names (made.0 asked)
+returns c = λ hash.
+    let made = fact_from_collect {E = ℕ} (λ xs set. IsFromIterResult (λ (a b : ℕ). a == b) xs set) (Ok c.in_ok-set.set) c.in_ok-set.ensures.ran
+    (YieldsList-from_copied (YieldsList-from_slice c.args.hashes.now cc)) in
+    made.0 hash

@@ -1,13 +1,15 @@
 use Rattle.std.proofs.Common.{sym, ap, ◌∙◌, subst}
 use Rattle.std.specs.Prelude.{Ok, Err}
-use Rattle.testing_rules.specs.Boxed.{unboxed}
+use Rattle.std.proofs.lemmas.List.{map-set}
 use Rattle.testing_rules.specs.InOrder.{AreByName}
+use Rattle.testing_rules.specs.LiveSources.{source_of, sources_of}
+use Rattle.testing_rules.specs.declared.live_sources.LiveSource.TheVariants.{Moved}
 use Rattle.testing_rules.specs.declared.suite.SourceIn.{SourceIn}
 use Rattle.testing_rules.proofs.KeyPlaces.{place-for}
 use Rattle.testing_rules.proofs.Ordered.{by_name-put}
 use Rattle.testing_rules.proofs.Orders.{text_order}
-use Rattle.testing_rules.proofs.Unboxed.{unboxed-set, unboxed-insert}
-use Rattle.testing_rules.proofs.boxed_sources.put_source.Goals as goal
+use Rattle.testing_rules.proofs.Mapped.{mapped-insert}
+use Rattle.testing_rules.proofs.live_sources.put_source.Goals as goal
 
 pub returns-in-Ok-clause-ok : goal.returns-in-Ok-clause-ok
 returns-in-Ok-clause-ok c =
@@ -15,8 +17,8 @@ returns-in-Ok-clause-ok c =
     let source = c.args.source.value in
     let bound = rw c.deref.ensures.value at c.in-Ok.ensures.bound in
     let found = rw (c.deref.ensures.value, c.as_str.ensures, c.deref-2.ensures) at c.in-Ok.ensures.found in
-    let place = place-for (λ (s : SourceIn). s.name) text_order source (unboxed bs) (Ok c.in-Ok.place) c.requires bound found in
-    unboxed-set bs c.in-Ok.place c.args.source ∙ sym place.1
+    let place = place-for (λ (s : SourceIn). s.name) text_order source (sources_of bs) (Ok c.in-Ok.place) c.requires bound found in
+    map-set source_of bs c.in-Ok.place (Moved c.args.source) ∙ sym place.1
 
 pub returns-in-Ok-clause-ordered : goal.returns-in-Ok-clause-ordered
 returns-in-Ok-clause-ordered c =
@@ -24,8 +26,8 @@ returns-in-Ok-clause-ordered c =
     let source = c.args.source.value in
     let bound = rw c.deref.ensures.value at c.in-Ok.ensures.bound in
     let found = rw (c.deref.ensures.value, c.as_str.ensures, c.deref-2.ensures) at c.in-Ok.ensures.found in
-    let place = place-for (λ (s : SourceIn). s.name) text_order source (unboxed bs) (Ok c.in-Ok.place) c.requires bound found in
-    subst AreByName (sym (unboxed-set bs c.in-Ok.place c.args.source ∙ sym place.1)) (by_name-put source (unboxed bs) c.requires)
+    let place = place-for (λ (s : SourceIn). s.name) text_order source (sources_of bs) (Ok c.in-Ok.place) c.requires bound found in
+    subst AreByName (sym (map-set source_of bs c.in-Ok.place (Moved c.args.source) ∙ sym place.1)) (by_name-put source (sources_of bs) c.requires)
 
 pub returns-in_ok-insert-in-Err-clause-ok : goal.returns-in_ok-insert-in-Err-clause-ok
 returns-in_ok-insert-in-Err-clause-ok c =
@@ -33,8 +35,8 @@ returns-in_ok-insert-in-Err-clause-ok c =
     let source = c.args.source.value in
     let bound = rw c.deref.ensures.value at c.in-Err.ensures.bound in
     let found = rw (c.deref.ensures.value, c.as_str.ensures, c.deref-2.ensures) at c.in-Err.ensures.found in
-    let place = place-for (λ (s : SourceIn). s.name) text_order source (unboxed bs) (Err c.in-Err.place) c.requires bound found in
-    ap unboxed c.in_ok-insert-in-Err.ensures.items ∙ unboxed-insert bs c.in-Err.place c.args.source ∙ sym place.1
+    let place = place-for (λ (s : SourceIn). s.name) text_order source (sources_of bs) (Err c.in-Err.place) c.requires bound found in
+    ap sources_of c.in_ok-insert-in-Err.ensures.items ∙ mapped-insert source_of bs c.in-Err.place (Moved c.args.source) ∙ sym place.1
 
 pub returns-in_ok-insert-in-Err-clause-ordered : goal.returns-in_ok-insert-in-Err-clause-ordered
 returns-in_ok-insert-in-Err-clause-ordered c =
@@ -42,5 +44,5 @@ returns-in_ok-insert-in-Err-clause-ordered c =
     let source = c.args.source.value in
     let bound = rw c.deref.ensures.value at c.in-Err.ensures.bound in
     let found = rw (c.deref.ensures.value, c.as_str.ensures, c.deref-2.ensures) at c.in-Err.ensures.found in
-    let place = place-for (λ (s : SourceIn). s.name) text_order source (unboxed bs) (Err c.in-Err.place) c.requires bound found in
-    subst AreByName (sym (ap unboxed c.in_ok-insert-in-Err.ensures.items ∙ unboxed-insert bs c.in-Err.place c.args.source ∙ sym place.1)) (by_name-put source (unboxed bs) c.requires)
+    let place = place-for (λ (s : SourceIn). s.name) text_order source (sources_of bs) (Err c.in-Err.place) c.requires bound found in
+    subst AreByName (sym (ap sources_of c.in_ok-insert-in-Err.ensures.items ∙ mapped-insert source_of bs c.in-Err.place (Moved c.args.source) ∙ sym place.1)) (by_name-put source (sources_of bs) c.requires)

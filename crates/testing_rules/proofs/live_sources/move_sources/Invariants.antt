@@ -2,12 +2,13 @@ use Rattle.std.proofs.Common.{◌≡◌, take}
 use Rattle.testing_rules.specs.Boxed.{unboxed}
 use Rattle.testing_rules.specs.AfterMoves.{sources_after}
 use Rattle.testing_rules.specs.InOrder.{AreByName}
-use Rattle.testing_rules.proofs.boxed_sources.move_sources.Given as goal
+use Rattle.testing_rules.specs.LiveSources.{sources_of}
+use Rattle.testing_rules.proofs.live_sources.move_sources.Given as goal
 
 -- those so far
 abbrev pub invariant-loop-name : goal.invariant-loop-name
 invariant-loop-name l =
     record {
-      so_far : unboxed l.there.items ≡ sources_after (unboxed l.sources) (take l.name-index l.group) (unboxed l.fn.there.items);
-      ordered : AreByName (unboxed l.there.items);
+      so_far : sources_of l.there.items ≡ sources_after (unboxed l.sources) (take l.name-index l.group) (sources_of l.fn.there.items);
+      ordered : AreByName (sources_of l.there.items);
     }

@@ -1,7 +1,0 @@
-use Rattle.std.proofs.Common.{◌≡◌, take}
-use Rattle.testing_rules.specs.Boxed.{unboxed}
-use Rattle.testing_rules.proofs.boxed_sources.boxes_of.Given as goal
-
--- those so far
-abbrev pub invariant-loop-source : goal.invariant-loop-source
-invariant-loop-source l = unboxed l.boxes.items ≡ take l.source-index l.sources

@@ -1,8 +1,0 @@
-use Rattle.std.proofs.Common.{◌≡◌, take}
-use Rattle.testing_rules.specs.Pools.{lent_texts}
-use Rattle.testing_rules.specs.Wanted.{excused}
-use Rattle.testing_rules.proofs.wanted.excused.Given as goal
-
--- those so far
-abbrev pub invariant-loop-excuse : goal.invariant-loop-excuse
-invariant-loop-excuse l = lent_texts l.names.items ≡ excused (take l.excuse-index l.excuses)
