@@ -10,7 +10,7 @@ mod store;
 use compare::compare;
 use conf::{conf_status, read_setup};
 use office_http::{Office, Replayed, WriteFault, replay, replay_status};
-use office_mail::{FromRead, Setup, ToWrite};
+use office_mail::{Bag, FromRead, Setup, ToWrite};
 use office_store::{Keeper, Plain, Tables};
 use office_words::{Words, WordsFault, read_words, words_status};
 use service::{serve, service_status};
@@ -169,7 +169,8 @@ fn replay_over<K: Keeper>(rt: &HostRuntime, office: &mut Office<K>) -> u8 {
         return out_of_memory(rt);
     };
     let mut writer = ToWrite::new(&mut output);
-    let mut replayed = replay(office, FromRead::new(rt.stdin()), &mut writer);
+    let mut bag = Bag::new(rt.alloc(), FromRead::new(rt.stdin()));
+    let mut replayed = replay(office, &mut bag, &mut writer);
     if output.flush().is_err() {
         replayed = Err(WriteFault);
     }

@@ -49,7 +49,7 @@ outcome_is setup kept orders n date are is =
     ∙ sym (outcome_of-suc setup kept n)
     ∙ ap (outcome_of setup kept) (sym one)
 
-reports_to-suc : (setup : Lists) (kept : Kept) (n : ℕ) → reports_to setup kept (n + 1) ≡ reports_to setup kept n ++ reports_of setup kept (n + 1) ∷ []
+pub reports_to-suc : (setup : Lists) (kept : Kept) (n : ℕ) → reports_to setup kept (n + 1) ≡ reports_to setup kept n ++ reports_of setup kept (n + 1) ∷ []
 unfolding reports_to
 reports_to-suc setup kept n = let one : n + 1 ≡ suc n = omega arith in rw one refl
 
@@ -109,3 +109,10 @@ at_run setup kept n (suc k) = ⊎_elim
 
 pub reports_at-is : (setup : Lists) (content : Content) (run : ℕ) → IsOffice setup content → item_from_one run content.reports ≡ reports_at (record { setup = setup; kept = content.kept; finished = length content.reports }) run
 reports_at-is setup content run office = ap (item_from_one run) office.reports ∙ at_run setup content.kept (length content.reports) run
+
+-- the reports of a finished run
+pub report_is : (setup : Lists) (content : Content) (run : ℕ) → IsOffice setup content → 1 ≤ run → run ≤ length content.reports → item_from_one run content.reports ≡ Some (reports_of setup content.kept run)
+report_is setup content run office first last =
+    reports_at-is setup content run office
+    ∙ ap (λ b. shown b (nat_le run (length content.reports)) (reports_of setup content.kept run)) (le-leb 1 run first)
+    ∙ ap (λ b. shown true b (reports_of setup content.kept run)) (le-leb run (length content.reports) last)

@@ -10,6 +10,8 @@ pub mod CourseFacts
 pub mod FramingFacts
 pub mod HeadFacts
 pub mod ServeFacts
+pub mod SizeFacts
+pub mod StandFacts
 pub mod LengthFacts
 pub mod RequestFacts
 pub mod FinishFacts
@@ -20,6 +22,7 @@ pub mod WalkFacts
 pub mod RunFacts
 pub mod GivenFacts
 pub mod LastFacts
+pub mod LawFacts
 pub mod LetterFacts
 pub mod LookFacts
 pub mod TakenFacts

@@ -1,10 +1,10 @@
 -- What a connection comes to. P, Q and R say that the store refused: in a first part, in what follows, and in both.
-use Rattle.std.proofs.Common.{◌≡◌, inl, inr, ⊎_elim, ℕ, ◌+◌, ◌-◌, ◌≤◌, ◌<◌, Bool, true, false, cond, nat_le, List, [], ◌++◌, length, take, drop, Option, Some, None, Result, Ok, Err, IfOk, IfErr, IfSome, OnOk, is_ok, refl, sym, ap, subst, ◌∙◌, arith, append_assoc}
+use Rattle.std.proofs.Common.{◌≡◌, inl, inr, ⊎_elim, ℕ, ◌+◌, ◌-◌, ◌≤◌, ◌<◌, Bool, true, false, cond, nat_le, List, [], ◌++◌, length, take, drop, Option, Some, None, Result, Ok, Err, IfOk, IfErr, IfSome, OnOk, is_ok, refl, sym, ap, subst, ◌∙◌, arith, append_assoc, append-nil, ◌⊎◌}
 use Rattle.std.specs.Option.{option_map}
 use Rattle.std.specs.Io.KnownBytes.{Appends, Consumes}
 use Rattle.std.proofs.KnownBytes.{Appends-nil, Appends-trans, Consumes-nil, Consumes-trans}
 use Rattle.std.proofs.lemmas.Bool.Decides.{nat_tests}
-use Rattle.std.proofs.lemmas.List.{drop-append-le, length-drop}
+use Rattle.std.proofs.lemmas.List.{drop-append-le, length-append, length-drop}
 use Rattle.httparse.specs.Grammar.{RequestHead, print_request}
 use Rattle.httparse.specs.Spans.{IsRequestAt}
 use Rattle.httparse.specs.declared.spans.HeaderSpan.{HeaderSpan}
@@ -36,16 +36,16 @@ use Rattle.office_http.specs.declared.request.Asked.TheVariants as asks
 use Rattle.office_http.specs.declared.serve.ServeFault.{ServeFault}
 use Rattle.office_http.specs.declared.serve.ServeFault.TheVariants.{Read, Write}
 use Rattle.office_http.specs.declared.serve.Served.{Served}
-use Rattle.office_http.specs.Asked.{asked_of, is_head_method}
+use Rattle.office_http.specs.Asked.{asked_of, body_size, is_head_method}
 use Rattle.office_http.specs.Losses.{TextCounted, DeliveryCounted}
 use Rattle.office_http.specs.Outcome.{testing_text, testing_after}
 use Rattle.office_http.specs.Replies.{reply_by, mark_of, if_taken}
-use Rattle.office_http.specs.Reply.{refused, reply_in, reply_bytes, HasPlace}
-use Rattle.office_http.specs.Request.{BeginsWith, IsHeadAt}
+use Rattle.office_http.specs.Reply.{continue_bytes, refused, reply_in, reply_bytes, HasPlace}
+use Rattle.office_http.specs.Request.{body_room, head_room, BeginsWith, Came, IsHeadAt}
 use Rattle.office_http.specs.Standing.{State}
 use Rattle.office_http.specs.State.{answer_to, reports_at}
 use Rattle.office_http.specs.Written.{AppendsFront}
-use Rattle.office_http.specs.Serve.{refusal_for, status_answer, text_answer, report_answer, delivery_answer, by_fault, posted_body, post_answer, answer_of, post_counts, waits_of, continued, kept_by, settles, Does, Tells, Runs, Answers, Exchange, IsUnread, IsServed, Replied, RepliedFront, Serves, StopsServe, ServesHead, ServesFront, StopsRequest}
+use Rattle.office_http.specs.Serve.{refusal_for, status_answer, text_answer, report_answer, delivery_answer, by_fault, posted_body, post_answer, answer_of, post_counts, waits_of, continued, kept_by, settles, Does, Tells, Runs, Answers, Exchange, IsUnread, IsServed, Replied, RepliedFront, Serves, IsAwaited, StopsBefore, StopsServe, ServesHead, ServesFront, StopsRequest}
 use Rattle.office_http.proofs.ReplayFacts.{Leaves, reply_by-mark, delivery_counted, kept_after}
 use Rattle.office_http.proofs.RiseFacts.{delivery_weaker, text_weaker}
 use Rattle.office_http.specs.Delivered.{Settles}
@@ -201,10 +201,11 @@ does_nothing rose s None f ready h = refl
 does_nothing rose s (Some (Deliver, body)) f ready by = record { setup = refl; kept = refl; grows = omega arith; still = λ h. refl; settled = λ h e. absurd (cc (e)); met = Some f; met_by_store = by; all_ready = λ h e. absurd (cc (e)); only_ready = λ h. h }
 does_nothing rose s (Some (Settle, body)) f ready by = record { setup = refl; kept = refl; grows = omega arith; still = λ h. refl; settled = λ h e. absurd (cc (e)); met = Some f; met_by_store = by; all_ready = λ h e. absurd (cc (e)); only_ready = λ h. h }
 
-pub short_answers : (rose : Type 0) (s : State) (l0 l1 w0 w1 : Option (List ℕ)) (front : List ℕ) (asked : Asked) (more : List ℕ) (goes_on : Bool) → Consumes l0 l1 more → Appends w0 w1 (continued goes_on) → (goes_on ≡ true → waits_of asked ≡ true) → Answers s s l0 l1 w0 w1 front asked (Refused refusal.NoMemory) rose
-short_answers rose s l0 l1 w0 w1 front asked more goes_on took wrote waited = record {
+pub short_answers : (rose : Type 0) (s : State) (l0 l1 w0 w1 : Option (List ℕ)) (front : List ℕ) (asked : Asked) (more : List ℕ) (goes_on : Bool) → Consumes l0 l1 more → (length more ≡ 0) ⊎ (length (front ++ more) ≤ body_size asked) → Appends w0 w1 (continued goes_on) → (goes_on ≡ true → waits_of asked ≡ true) → Answers s s l0 l1 w0 w1 front asked (Refused refusal.NoMemory) rose
+short_answers rose s l0 l1 w0 w1 front asked more goes_on took few wrote waited = record {
   more = more;
   took = took;
+  few = few;
   fault = Some fault.NoMemory;
   by_store = tt;
   ready = 0;
@@ -222,6 +223,7 @@ pub refused_answers : (rose : Type 0) (s : State) (l w : Option (List ℕ)) (fro
 refused_answers rose s l w front r due e = subst (λ (a : Asked). Answers s s l l w w front a (Refused r) rose) e (record {
   more = [];
   took = Consumes-nil l;
+  few = inl refl;
   fault = None;
   by_store = tt;
   ready = 0;
@@ -239,6 +241,7 @@ pub told_answers : (rose : Type 0) (s s' : State) (l w : Option (List ℕ)) (fro
 told_answers rose s s' l w front p answer due e t same = subst (λ (a : Asked). Answers s s' l l w w front a answer rose) e (record {
   more = [];
   took = Consumes-nil l;
+  few = inl refl;
   fault = t.fault;
   by_store = t.by_store;
   ready = t.ready;
@@ -265,13 +268,14 @@ body_is p rest body long is =
     ∙ ap (some_post p.errand) (sym is)
 
 -- a POST whose body came
-pub whole_answers : (rose : Type 0) (before after : State) (l0 l1 w0 w1 : Option (List ℕ)) (front : List ℕ) (p : Posted) (answer : Answer) (more body : List ℕ) → Consumes l0 l1 more → p.length ≤ length (front ++ more) → Runs before after p.errand body answer rose → body ≡ take p.length (front ++ more) → Appends w0 w1 (continued p.waits) → Answers before after l0 l1 w0 w1 front (asks.Post p) answer rose
+pub whole_answers : (rose : Type 0) (before after : State) (l0 l1 w0 w1 : Option (List ℕ)) (front : List ℕ) (p : Posted) (answer : Answer) (more body : List ℕ) → Consumes l0 l1 more → (length more ≡ 0) ⊎ (length (front ++ more) ≤ p.length) → p.length ≤ length (front ++ more) → Runs before after p.errand body answer rose → body ≡ take p.length (front ++ more) → Appends w0 w1 (continued p.waits) → Answers before after l0 l1 w0 w1 front (asks.Post p) answer rose
 unfolding some_post
-whole_answers rose before after l0 l1 w0 w1 front p answer more body took long r body_same wrote =
+whole_answers rose before after l0 l1 w0 w1 front p answer more body took few long r body_same wrote =
     let is : posted_body (asks.Post p) (front ++ more) ≡ some_post p.errand body = body_is p (front ++ more) body long body_same in
     record {
       more = more;
       took = took;
+      few = few;
       fault = r.fault;
       by_store = r.by_store;
       ready = r.ready;
@@ -292,6 +296,10 @@ post_body seen seen' taken start size is h long =
     let size_is : start + size - start ≡ size = omega arith in
     (omega (arith, ap length e, length-drop start seen', long), ap (λ n. take n (drop start seen')) size_is ∙ ap (take size) e)
 
+-- what was read of the body
+pub few_body : (seen taken : List ℕ) (start size : ℕ) → start ≤ length seen → (length taken ≡ 0) ⊎ (length seen + length taken ≤ start + size) → (length taken ≡ 0) ⊎ (length (drop start seen ++ taken) ≤ size)
+few_body seen taken start size h few = ⊎_elim (λ none. inl none) (λ le. inr (omega (arith, le, h, length-drop start seen, length-append (drop start seen) taken))) few
+
 -- a head, and what came after it
 begins_so : (seen more : List ℕ) (headers : List HeaderSpan) (spans : RequestSpans) (h : IsHeadAt seen headers spans) → BeginsWith (seen ++ more) h.head (drop spans.len seen ++ more)
 begins_so seen more headers spans h = record {
@@ -305,6 +313,7 @@ exchanged rose before after l0 l1 w0 w1 seen headers spans answer is_head h a e 
   head = h.head;
   rest = drop spans.len seen ++ a.more;
   begins = begins_so seen a.more headers spans h;
+  few = ⊎_elim (λ none. inl (omega (arith, h.short, none, length-append seen a.more))) (λ body. inr body) a.few;
   fault = a.fault;
   by_store = a.by_store;
   ready = a.ready;
@@ -361,24 +370,79 @@ replied_front rose before after l0 l1 l2 w0 w1 seen input took same s = record {
   wrote = s.wrote;
 }
 
-pub stopped_head : (rose : Type 0) (before after : State) (l0 l1 l2 w0 w1 : Option (List ℕ)) (seen input : List ℕ) (f : ServeFault) → Consumes l0 l1 input → input ≡ seen → StopsRequest before after l1 l2 w0 w1 seen f rose → StopsServe before after l0 l2 w0 w1 f rose
-stopped_head rose before after l0 l1 l2 w0 w1 seen input Read took same s = s
-stopped_head rose before after l0 l1 l2 w0 w1 seen input Write took same s = ⊎_elim (λ stop. inl stop) (λ front. inr (replied_front rose before after l0 l1 l2 w0 w1 seen input took same front)) s
+stop_after : (before after : State) (l0 l1 l2 w0 w1 : Option (List ℕ)) (seen input : List ℕ) → Consumes l0 l1 input → input ≡ seen → length input ≤ head_room → StopsBefore before after l1 l2 w0 w1 body_room (λ more. IsAwaited (seen ++ more)) → StopsBefore before after l0 l2 w0 w1 (head_room + body_room) IsAwaited
+stop_after before after l0 l1 l2 w0 w1 seen input took same few s = record {
+  same = s.same;
+  input = seen ++ s.input;
+  took = Consumes-trans l0 l1 l2 seen s.input (subst (Consumes l0 l1) same took) s.took;
+  few = omega (arith, few, s.few, ap length same, length-append seen s.input);
+  wrote = s.wrote;
+}
+
+pub stopped_head : (rose : Type 0) (before after : State) (l0 l1 l2 w0 w1 : Option (List ℕ)) (seen input : List ℕ) (f : ServeFault) → Consumes l0 l1 input → input ≡ seen → length input ≤ head_room → StopsRequest before after l1 l2 w0 w1 seen f rose → StopsServe before after l0 l2 w0 w1 f rose
+stopped_head rose before after l0 l1 l2 w0 w1 seen input Read took same few s = stop_after before after l0 l1 l2 w0 w1 seen input took same few s
+stopped_head rose before after l0 l1 l2 w0 w1 seen input Write took same few s = ⊎_elim (λ stop. inl (stop_after before after l0 l1 l2 w0 w1 seen input took same few stop)) (λ front. inr (replied_front rose before after l0 l1 l2 w0 w1 seen input took same front)) s
+
+-- a reader that failed within the head: nothing was written
+pub stopped_reading : (s : State) (l0 l1 w : Option (List ℕ)) → Came l0 l1 head_room → StopsBefore s s l0 l1 w w (head_room + body_room) IsAwaited
+stopped_reading s l0 l1 w c = record { same = refl; input = c.input; took = c.took; few = omega (arith, c.few); wrote = inl (Appends-nil w) }
+
+-- a writer that failed at 100 Continue
+pub stopped_writing : (s : State) (l w0 w1 : Option (List ℕ)) (p : Posted) → p.waits ≡ true → AppendsFront w0 w1 continue_bytes → StopsBefore s s l l w0 w1 p.length (λ input. p.waits ≡ true)
+stopped_writing s l w0 w1 p waits front = record { same = refl; input = []; took = Consumes-nil l; few = omega arith; wrote = inr (waits, front) }
+
+all_told : (b : Bool) (w0 w1 : Option (List ℕ)) → Appends w0 w1 (continued b) → Appends w0 w1 [] ⊎ ((b ≡ true) × AppendsFront w0 w1 continue_bytes)
+all_told true w0 w1 h = inr (refl, record { front = continue_bytes; begins = ([], append-nil continue_bytes); took = h })
+all_told false w0 w1 h = inl h
+
+-- a reader that failed within the body
+pub stopped_body : (s : State) (l0 l1 w0 w1 : Option (List ℕ)) (p : Posted) (start seen : ℕ) → start ≤ seen → Came l0 l1 (start + p.length - seen) → Appends w0 w1 (continued p.waits) → StopsBefore s s l0 l1 w0 w1 p.length (λ input. p.waits ≡ true)
+stopped_body s l0 l1 w0 w1 p start seen h c wrote = record { same = refl; input = c.input; took = c.took; few = omega (arith, c.few, h); wrote = all_told p.waits w0 w1 wrote }
+
+-- it is known what is asked
+pub post_size : (o : Option Asked) (p : Posted) → ((due : Asked) → IfSome o (λ a. a ≡ due) → asks.Post p ≡ due) → IfSome o (λ a. body_size a ≤ body_room) → p.length ≤ body_room
+post_size None p is fits = let none : p.length ≡ 0 = ap body_size (is (asks.Refused refusal.BadRequest) tt) in omega (arith, none)
+post_size (Some a) p is fits = let same : p.length ≡ body_size a = ap body_size (is a refl) in omega (arith, same, fits)
+
+waits_due : (p : Posted) (due : Asked) → asks.Post p ≡ due → p.waits ≡ true → waits_of due ≡ true
+waits_due p due e w = subst (λ (a : Asked). waits_of a ≡ true) e w
+
+pub stopped_post : (before after : State) (l0 l1 w0 w1 : Option (List ℕ)) (o : Option Asked) (p : Posted) → ((due : Asked) → IfSome o (λ a. a ≡ due) → asks.Post p ≡ due) → IfSome o (λ a. body_size a ≤ body_room) → StopsBefore before after l0 l1 w0 w1 p.length (λ input. p.waits ≡ true) → StopsBefore before after l0 l1 w0 w1 body_room (λ input. (due : Asked) → IfSome o (λ a. a ≡ due) → waits_of due ≡ true)
+stopped_post before after l0 l1 w0 w1 o p is fits s = record {
+  same = s.same;
+  input = s.input;
+  took = s.took;
+  few = omega (arith, s.few, post_size o p is fits);
+  wrote = ⊎_elim (λ none. inl none) (λ front. inr (λ due h. waits_due p due (is due h) front.0, front.1)) s.wrote;
+}
+
+pub stopped_asked : (before after : State) (l0 l1 w0 w1 : Option (List ℕ)) (o : Option Asked) (seen : List ℕ) (headers : List HeaderSpan) (spans : RequestSpans) (h : IsHeadAt seen headers spans) → IfSome o (λ a. a ≡ asked_of h.head) → StopsBefore before after l0 l1 w0 w1 body_room (λ input. (due : Asked) → IfSome o (λ a. a ≡ due) → waits_of due ≡ true) → StopsBefore before after l0 l1 w0 w1 body_room (λ more. IsAwaited (seen ++ more))
+stopped_asked before after l0 l1 w0 w1 o seen headers spans h is s = record {
+  same = s.same;
+  input = s.input;
+  took = s.took;
+  few = s.few;
+  wrote = ⊎_elim (λ none. inl none) (λ front. inr (record { head = h.head; rest = drop spans.len seen ++ s.input; begins = begins_so seen s.input headers spans h; waits = front.0 (asked_of h.head) is }, front.1)) s.wrote;
+}
+
+pub stopped_request : (rose : Type 0) (before after : State) (l0 l1 w0 w1 : Option (List ℕ)) (seen : List ℕ) (f : ServeFault) → StopsBefore before after l0 l1 w0 w1 body_room (λ more. IsAwaited (seen ++ more)) → StopsRequest before after l0 l1 w0 w1 seen f rose
+stopped_request rose before after l0 l1 w0 w1 seen Read s = s
+stopped_request rose before after l0 l1 w0 w1 seen Write s = inl s
 
 -- what is no request
-unread : (rose : Type 0) (s : State) (left : Option (List ℕ)) (input : List ℕ) (r : Refusal) → IsUnread left input r → IsServed s s left input (reply_bytes (refused r) false) (refused r).code rose
-unread rose s left input r cause = inr (record { refusal = r; cause = cause; same = refl; bytes_are = refl; code_is = refl })
+unread : (rose : Type 0) (s : State) (left : Option (List ℕ)) (input : List ℕ) (r : Refusal) → length input ≤ head_room → IsUnread left input r → IsServed s s left input (reply_bytes (refused r) false) (refused r).code rose
+unread rose s left input r few cause = inr (record { few = few; refusal = r; cause = cause; same = refl; bytes_are = refl; code_is = refl })
 
-unread_at : (rose : Type 0) (s : State) (l0 l1 w0 w1 : Option (List ℕ)) (input : List ℕ) (r : Refusal) (code : Option ℕ) → Consumes l0 l1 input → IsUnread l1 input r → code ≡ Some (refused r).code → Appends w0 w1 (reply_bytes (refused r) false) → Serves s s l0 l1 w0 w1 code rose
-unread_at rose s l0 l1 w0 w1 input r code took cause e wrote = subst (λ (o : Option ℕ). Serves s s l0 l1 w0 w1 o rose) (sym e) (record { input = input; took = took; bytes = reply_bytes (refused r) false; served = unread rose s l1 input r cause; wrote = wrote })
+unread_at : (rose : Type 0) (s : State) (l0 l1 w0 w1 : Option (List ℕ)) (input : List ℕ) (r : Refusal) (code : Option ℕ) → Consumes l0 l1 input → length input ≤ head_room → IsUnread l1 input r → code ≡ Some (refused r).code → Appends w0 w1 (reply_bytes (refused r) false) → Serves s s l0 l1 w0 w1 code rose
+unread_at rose s l0 l1 w0 w1 input r code took few cause e wrote = subst (λ (o : Option ℕ). Serves s s l0 l1 w0 w1 o rose) (sym e) (record { input = input; took = took; bytes = reply_bytes (refused r) false; served = unread rose s l1 input r few cause; wrote = wrote })
 
-pub unread_ok : (rose : Type 0) (s : State) (l0 l1 w0 w1 : Option (List ℕ)) (input : List ℕ) (r : Refusal) (result : Result Served ServeFault) → Consumes l0 l1 input → IsUnread l1 input r → IfOk result (λ served. served.code ≡ Some (refused r).code) → OnOk result (Appends w0 w1 (reply_bytes (refused r) false)) → IfOk result (λ served. Serves s s l0 l1 w0 w1 served.code rose)
-unread_ok rose s l0 l1 w0 w1 input r (Ok served) took cause code wrote = unread_at rose s l0 l1 w0 w1 input r served.code took cause code wrote
-unread_ok rose s l0 l1 w0 w1 input r (Err f) took cause code wrote = tt
+pub unread_ok : (rose : Type 0) (s : State) (l0 l1 w0 w1 : Option (List ℕ)) (input : List ℕ) (r : Refusal) (result : Result Served ServeFault) → Consumes l0 l1 input → length input ≤ head_room → IsUnread l1 input r → IfOk result (λ served. served.code ≡ Some (refused r).code) → OnOk result (Appends w0 w1 (reply_bytes (refused r) false)) → IfOk result (λ served. Serves s s l0 l1 w0 w1 served.code rose)
+unread_ok rose s l0 l1 w0 w1 input r (Ok served) took few cause code wrote = unread_at rose s l0 l1 w0 w1 input r served.code took few cause code wrote
+unread_ok rose s l0 l1 w0 w1 input r (Err f) took few cause code wrote = tt
 
-pub unread_err : (rose : Type 0) (s : State) (l0 l1 w0 w1 : Option (List ℕ)) (input : List ℕ) (r : Refusal) (result : Result Served ServeFault) → Consumes l0 l1 input → IsUnread l1 input r → IfErr result (λ f. (f ≡ Write) × AppendsFront w0 w1 (reply_bytes (refused r) false)) → IfErr result (λ f. StopsServe s s l0 l1 w0 w1 f rose)
-unread_err rose s l0 l1 w0 w1 input r (Ok served) took cause h = tt
-unread_err rose s l0 l1 w0 w1 input r (Err f) took cause h = subst (λ (f : ServeFault). StopsServe s s l0 l1 w0 w1 f rose) (sym h.0) (inr (record { input = input; took = took; bytes = reply_bytes (refused r) false; code = (refused r).code; served = unread rose s l1 input r cause; wrote = h.1 }))
+pub unread_err : (rose : Type 0) (s : State) (l0 l1 w0 w1 : Option (List ℕ)) (input : List ℕ) (r : Refusal) (result : Result Served ServeFault) → Consumes l0 l1 input → length input ≤ head_room → IsUnread l1 input r → IfErr result (λ f. (f ≡ Write) × AppendsFront w0 w1 (reply_bytes (refused r) false)) → IfErr result (λ f. StopsServe s s l0 l1 w0 w1 f rose)
+unread_err rose s l0 l1 w0 w1 input r (Ok served) took few cause h = tt
+unread_err rose s l0 l1 w0 w1 input r (Err f) took few cause h = subst (λ (f : ServeFault). StopsServe s s l0 l1 w0 w1 f rose) (sym h.0) (inr (record { input = input; took = took; bytes = reply_bytes (refused r) false; code = (refused r).code; served = unread rose s l1 input r few cause; wrote = h.1 }))
 
 -- what is asked, where it was read
 pub asked_due : (o : Option Asked) (seen : List ℕ) (headers : List HeaderSpan) (spans : RequestSpans) (head : RequestHead) → IfSome o (λ a. (h : RequestHead) → IsRequestAt seen headers spans h → a ≡ asked_of h) → IsRequestAt seen headers spans head → IfSome o (λ a. a ≡ asked_of head)

@@ -149,3 +149,9 @@ asked_of head = asked_by head.method head.target head.minor (framing_of (map nam
 -- whether the reply goes without its body
 abbrev pub is_head_method : RequestHead → Bool
 is_head_method head = bytes_eq head.method (codes "HEAD")
+
+-- how many bytes of a body are read
+abbrev pub body_size : Asked → ℕ
+body_size (Refused r) = 0
+body_size (Tell page) = 0
+body_size (Post p) = p.length

@@ -5,6 +5,7 @@ pub mod Delivered
 pub mod Ending
 pub mod Known
 pub mod Lasting
+pub mod Laws
 pub mod Looking
 pub mod Losses
 pub mod Outcome

@@ -73,10 +73,6 @@ abbrev pub StopsReplay : State → State → Reading → Reading → Option (Lis
 StopsReplay before after start now old new rose =
     StopsEarly before after start now old new rose ⊎ (ReplaysFront before after start now old new rose ⊎ RefusesFront before after start now old new rose)
 
--- a bag of which only the bytes are known that its reader had to give
-abbrev pub IsFresh : Option (List ℕ) → Reading → Type 0
-IsFresh left start = (start.left ≡ left) × (start.unread ≡ left)
-
 -- the exit status of a replay
 abbrev pub status_of : Result Replayed WriteFault → ℕ
 status_of (Err fault) = 4

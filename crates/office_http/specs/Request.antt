@@ -1,5 +1,5 @@
 -- The head of a request, by the grammar of the crate httparse (RFC 9112, sections 2 to 5), and how its bytes are read.
-use Rattle.std.specs.Prelude.{◌≡◌, ⊤, ◌<◌, ◌≤◌, ◌⊎◌, ℕ, List, [], ◌++◌, length, Option}
+use Rattle.std.specs.Prelude.{◌≡◌, ⊤, ◌<◌, ◌≤◌, ◌⊎◌, ◌+◌, ℕ, List, [], ◌++◌, length, Option}
 use Rattle.std.specs.Io.KnownBytes.{Consumes, IsAtEnd}
 use Rattle.httparse.specs.Grammar.{RequestHead, print_request, ReadsRequest, HasNoRequest, NeverHasRequest}
 use Rattle.httparse.specs.Spans.{RequestExceeds, RequestOverflows, IsRequestWithin, IsRequestAt}
@@ -21,11 +21,21 @@ head_room = 8192
 abbrev pub field_room : ℕ
 field_room = 64
 
+-- the most bytes of a body
+abbrev pub body_room : ℕ
+body_room = 65_536
+
 -- the bytes begin with this head, which has at most so many bytes and fields, and then go on so
 pub record BeginsWith (input : List ℕ) (head : RequestHead) (rest : List ℕ) : Type 0 where
   pub reads : ReadsRequest input head rest
   pub short : length (print_request head) ≤ head_room
   pub few : length head.fields ≤ field_room
+
+-- some bytes were read, at most so many
+pub record Came (left left' : Option (List ℕ)) (most : ℕ) : Type 0 where
+  pub input : List ℕ
+  pub took : Consumes left left' input
+  pub few : length input ≤ most
 
 -- what one more read of at most so many bytes in all gave
 abbrev pub IsDrawn : Option (List ℕ) → List ℕ → List ℕ → ℕ → List ℕ → Drawn → Type 0
@@ -37,6 +47,8 @@ pub record Draws (left left' : Option (List ℕ)) (seen seen' : List ℕ) (most 
   -- what the read took
   pub taken : List ℕ
   pub took : Consumes left left' taken
+  pub room : length seen < most
+  pub few : length seen + length taken ≤ most
   pub is : IsDrawn left' seen seen' most taken drawn
 
 -- the parts of a head at the front of the bytes seen, which has at most so many fields
@@ -66,6 +78,7 @@ pub record Heads (left left' : Option (List ℕ)) (seen : List ℕ) (headers : L
   -- what was read
   pub input : List ℕ
   pub took : Consumes left left' input
+  pub few : length input ≤ head_room
   pub is : IsEnd left' input seen headers ended
 
 -- how the reading of a body ended
@@ -75,7 +88,8 @@ IsFilled left seen seen' end taken filled.BrokenOff = (seen' ≡ seen ++ taken) 
 IsFilled left seen seen' end taken filled.NoMemory = ⊤
 
 pub record Fills (left left' : Option (List ℕ)) (seen seen' : List ℕ) (end : ℕ) (filled : Filled) : Type 0 where
-  -- what was read
+  -- what was read: nothing, or no more than up to the end
   pub taken : List ℕ
   pub took : Consumes left left' taken
+  pub few : (length taken ≡ 0) ⊎ (length seen + length taken ≤ end)
   pub is : IsFilled left' seen seen' end taken filled

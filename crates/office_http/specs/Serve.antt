@@ -1,5 +1,5 @@
 -- What one connection comes to: the reply as a function of the request, of the office's state and of the faults that were met.
-use Rattle.std.specs.Prelude.{◌≡◌, ⊤, ◌⊎◌, ◌≤◌, ◌<◌, ℕ, Bool, true, false, List, [], ◌∷◌, ◌++◌, length, take, nat_le, if◌then◌else◌, Option, Some, None, Result, Ok, Err, is_ok}
+use Rattle.std.specs.Prelude.{◌≡◌, ⊤, ◌⊎◌, ◌≤◌, ◌<◌, ◌+◌, ℕ, Bool, true, false, List, [], ◌∷◌, ◌++◌, length, take, nat_le, if◌then◌else◌, Option, Some, None, Result, Ok, Err, is_ok}
 use Rattle.std.specs.Option.{option_map}
 use Rattle.std.specs.Io.KnownBytes.{Appends, Consumes, IsAtEnd}
 use Rattle.httparse.specs.Grammar.{RequestHead, HasNoRequest, NeverHasRequest}
@@ -25,11 +25,11 @@ use Rattle.office_http.specs.declared.request.Asked.{Asked}
 use Rattle.office_http.specs.declared.request.Asked.TheVariants as asks
 use Rattle.office_http.specs.declared.serve.ServeFault.{ServeFault}
 use Rattle.office_http.specs.declared.serve.ServeFault.TheVariants.{Read, Write}
-use Rattle.office_http.specs.Asked.{asked_of, is_head_method}
+use Rattle.office_http.specs.Asked.{asked_of, body_size, is_head_method}
 use Rattle.office_http.specs.Losses.{TextCounted}
 use Rattle.office_http.specs.Outcome.{testing_text, testing_after}
 use Rattle.office_http.specs.Reply.{refused, reply_in, reply_bytes, continue_bytes}
-use Rattle.office_http.specs.Request.{BeginsWith, field_room, head_room}
+use Rattle.office_http.specs.Request.{BeginsWith, body_room, field_room, head_room}
 use Rattle.office_http.specs.Standing.{State}
 use Rattle.office_http.specs.State.{answer_to, reports_at}
 use Rattle.office_http.specs.Written.{AppendsFront}
@@ -195,6 +195,8 @@ IsWhole (asks.Post p) rest left = (p.length ≤ length rest) ⊎ IsAtEnd left
 pub record Answers (before after : State) (left left' written written' : Option (List ℕ)) (front : List ℕ) (asked : Asked) (answer : Answer) (rose : Type 0) : Type 0 where
   pub more : List ℕ
   pub took : Consumes left left' more
+  -- nothing more was read, or no more than the body
+  pub few : (length more ≡ 0) ⊎ (length (front ++ more) ≤ body_size asked)
   pub fault : Option StoreFault
   pub by_store : TextCounted rose fault
   pub ready : ℕ
@@ -207,16 +209,29 @@ pub record Answers (before after : State) (left left' written written' : Option 
   pub went : fault ≡ None → goes_on ≡ waits_of asked
   pub waited : goes_on ≡ true → waits_of asked ≡ true
 
--- The request couldn't be read, or the client that waits not be told to go on: nothing was delivered or settled.
-pub record StopsBefore (before after : State) (written written' : Option (List ℕ)) : Type 0 where
+-- these bytes begin with a request whose client waits to be told to go on
+pub record IsAwaited (input : List ℕ) : Type 0 where
+  pub head : RequestHead
+  pub rest : List ℕ
+  pub begins : BeginsWith input head rest
+  pub waits : waits_of (asked_of head) ≡ true
+
+-- The request couldn't be read, or the client that waits not be told to go on: nothing was delivered or settled. So many
+-- bytes were read at most. Nothing was written but a front of 100 Continue, and that only where what was read says that the client waits.
+pub record StopsBefore (before after : State) (left left' written written' : Option (List ℕ)) (most : ℕ) (waits : List ℕ → Type 0) : Type 0 where
   pub same : after ≡ before
-  pub wrote : AppendsFront written written' continue_bytes
+  pub input : List ℕ
+  pub took : Consumes left left' input
+  pub few : length input ≤ most
+  pub wrote : Appends written written' [] ⊎ (waits input × AppendsFront written written' continue_bytes)
 
 -- THE EXCHANGE: these bytes are a request, and those its reply.
 pub record Exchange (before after : State) (left : Option (List ℕ)) (input bytes : List ℕ) (code : ℕ) (rose : Type 0) : Type 0 where
   pub head : RequestHead
   pub rest : List ℕ
   pub begins : BeginsWith input head rest
+  -- no more was read than a head may have, or no more behind the head than its body
+  pub few : (length input ≤ head_room) ⊎ (length rest ≤ body_size (asked_of head))
   -- what was met for want of memory or by the store
   pub fault : Option StoreFault
   pub by_store : TextCounted rose fault
@@ -244,6 +259,7 @@ IsUnread left input refusal.TooLong = ⊥
 IsUnread left input refusal.Store = ⊥
 
 pub record Unread (before after : State) (left : Option (List ℕ)) (input bytes : List ℕ) (code : ℕ) : Type 0 where
+  pub few : length input ≤ head_room
   pub refusal : Refusal
   pub cause : IsUnread left input refusal
   pub same : after ≡ before
@@ -285,8 +301,8 @@ Serves before after left left' written written' (Some code) rose = Replied befor
 -- What a fault leaves. Where the reader failed nothing was delivered or settled; where the writer failed, a front of
 -- the due bytes was written, and where that was before the answer nothing was delivered or settled.
 abbrev pub StopsServe : State → State → Option (List ℕ) → Option (List ℕ) → Option (List ℕ) → Option (List ℕ) → ServeFault → Type 0 → Type 0
-StopsServe before after left left' written written' Read rose = StopsBefore before after written written'
-StopsServe before after left left' written written' Write rose = StopsBefore before after written written' ⊎ RepliedFront before after left left' written written' rose
+StopsServe before after left left' written written' Read rose = StopsBefore before after left left' written written' (head_room + body_room) IsAwaited
+StopsServe before after left left' written written' Write rose = StopsBefore before after left left' written written' (head_room + body_room) IsAwaited ⊎ RepliedFront before after left left' written written' rose
 
 -- the same where these bytes have come, with a head in front: no public contract cites these two
 pub record ServesHead (before after : State) (left left' written written' : Option (List ℕ)) (seen : List ℕ) (code : ℕ) (rose : Type 0) : Type 0 where
@@ -305,5 +321,5 @@ pub record ServesFront (before after : State) (left left' written written' : Opt
   pub wrote : AppendsFront written written' bytes
 
 abbrev pub StopsRequest : State → State → Option (List ℕ) → Option (List ℕ) → Option (List ℕ) → Option (List ℕ) → List ℕ → ServeFault → Type 0 → Type 0
-StopsRequest before after left left' written written' seen Read rose = StopsBefore before after written written'
-StopsRequest before after left left' written written' seen Write rose = StopsBefore before after written written' ⊎ ServesFront before after left left' written written' seen rose
+StopsRequest before after left left' written written' seen Read rose = StopsBefore before after left left' written written' body_room (λ more. IsAwaited (seen ++ more))
+StopsRequest before after left left' written written' seen Write rose = StopsBefore before after left left' written written' body_room (λ more. IsAwaited (seen ++ more)) ⊎ ServesFront before after left left' written written' seen rose

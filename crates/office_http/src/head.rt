@@ -1,10 +1,10 @@
 //! The head of a request, as it comes (RFC 9112, sections 2 to 5).
-ghost use Rattle.std.specs.Prelude.{◌≡◌, ◌⊎◌, ◌≤◌, ◌<◌, ◌++◌, [], List, ℕ, length, Option, None, IfOk, IfSome, OnOk, OnErr};
+ghost use Rattle.std.specs.Prelude.{◌≡◌, ◌⊎◌, ◌≤◌, ◌<◌, ◌+◌, ◌-◌, ◌++◌, [], List, ℕ, length, Option, None, IfOk, IfSome, OnOk, OnErr};
 ghost use Rattle.httparse.specs.Grammar.{HasNoRequest};
 ghost use Rattle.office_mail.specs.Counts.{HasRisen};
-ghost use Rattle.std.specs.Io.KnownBytes.{IsAtEnd};
+ghost use Rattle.std.specs.Io.KnownBytes.{IsAtEnd, Keeps};
 ghost use Rattle.httparse.specs.declared.spans.HeaderSpan.{HeaderSpan};
-ghost use Rattle.office_http.specs.Request.{head_room, field_room, IsLook, IsEnd, Draws, Heads, Fills};
+ghost use Rattle.office_http.specs.Request.{head_room, field_room, IsLook, IsEnd, Came, Draws, Heads, Fills};
 
 use httparse::Status;
 use httparse::spans::{HeaderSpan, RequestSpans, parse_request};
@@ -33,6 +33,8 @@ pub enum Drawn {
 fn read_more<R: Feed>(reader: &mut R, seen: &mut Vec<u8>, most: usize) -> Result<Drawn, ReadFailed>
     requires { length seen.old.items < most }
     ensures drawn { IfOk result (λ drawn. Draws (R.left reader.old) (R.left reader.new) seen.old.items seen.new.items most drawn) }
+    ensures failed { OnErr result (Keeps (R.left reader.old) (R.left reader.new)) }
+    ensures calls { R.calls reader.new ≤ R.calls reader.old + 1 }
     ensures cause { OnErr result (HasRisen (R.failures reader.old) (R.failures reader.new)) }
     ensures clean { OnOk result (R.failures reader.new ≡ R.failures reader.old) }
 {
@@ -120,6 +122,9 @@ pub(crate) fn read_head<R: Feed>(
     requires room { length headers.old ≡ field_room }
     requires first { seen.old.items ≡ [] }
     ensures ended { IfOk result (λ ended. Heads (R.left reader.old) (R.left reader.new) seen.new.items headers.new ended) }
+    ensures failed { OnErr result (Came (R.left reader.old) (R.left reader.new) head_room) }
+    // Each read but the last gives a byte.
+    ensures calls { R.calls reader.new ≤ R.calls reader.old + head_room }
     ensures cause { OnErr result (HasRisen (R.failures reader.old) (R.failures reader.new)) }
     ensures clean { OnOk result (R.failures reader.new ≡ R.failures reader.old) }
 {
@@ -152,6 +157,8 @@ pub(crate) fn read_up_to<R: Feed>(
     end: usize,
 ) -> Result<Filled, ReadFailed>
     ensures filled { IfOk result (λ filled. Fills (R.left reader.old) (R.left reader.new) seen.old.items seen.new.items end filled) }
+    ensures failed { OnErr result (Came (R.left reader.old) (R.left reader.new) (end - length seen.old.items)) }
+    ensures calls { R.calls reader.new ≤ R.calls reader.old + (end - length seen.old.items) }
     ensures cause { OnErr result (HasRisen (R.failures reader.old) (R.failures reader.new)) }
     ensures clean { OnOk result (R.failures reader.new ≡ R.failures reader.old) }
 {

@@ -22,6 +22,6 @@ mod stored;
 
 pub use faults::{DeliverFault, Held, Progress, StoreFault};
 pub use office::Office;
-pub use replays::{Replayed, replay, replay_bag, replay_status};
+pub use replays::{Replayed, replay, replay_status};
 pub use replies::{Delivery, Mark, WriteFault};
 pub use serve::{ServeFault, Served, serve_one};

@@ -118,6 +118,9 @@ impl<K: Keeper> Office<K> {
         ensures answer { K.is_trusted self.new → IsSound K.Keeper self.old → AnswersDelivery result (answer_to (K.setup self.old) (K.content self.old).kept text.now) }
         ensures kept { K.is_trusted self.new → IsSound K.Keeper self.old → OnOk result ((K.content self.new).kept ≡ kept_from (K.setup self.old) (K.content self.old).kept (text.now ∷ [])) }
         ensures finished { K.is_trusted self.new → IsSound K.Keeper self.old → (state_of K.Keeper self.new).finished ≡ (state_of K.Keeper self.old).finished }
+        // No delivery changes testing or a report.
+        ensures testing { K.is_trusted self.new → IsSound K.Keeper self.old → (K.content self.new).testing ≡ (K.content self.old).testing }
+        ensures reports { K.is_trusted self.new → IsSound K.Keeper self.old → (K.content self.new).reports ≡ (K.content self.old).reports }
         ensures err { K.is_trusted self.new → IsSound K.Keeper self.old → OnErr result (K.content self.new ≡ K.content self.old) }
         ensures setup { K.setup self.new ≡ K.setup self.old }
         ensures place { IfOk result (λ held. held.sender < length (K.setup self.old).senders) }

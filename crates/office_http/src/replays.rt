@@ -2,12 +2,12 @@
 ghost use Rattle.std.specs.Prelude.{◌≡◌, ◌≤◌, ◌+◌, ◌⊎◌, [], false, Some, IfOk, OnOk, OnErr, IfErr, is_ok};
 ghost use Rattle.std.specs.Io.KnownBytes.{Appends};
 ghost use Rattle.office_mail.specs.Counts.{HasRisen};
-ghost use Rattle.office_mail.specs.Reading.{Reading};
 ghost use Rattle.office_mail.specs.Taken.{ReadFails};
 ghost use Rattle.office_http.specs.Carried.{Carries, Holds, StoreRefused};
 ghost use Rattle.office_http.specs.Delivered.{DeliversAll, DeliversFront, DeliversOne, DeliversOneFront, Settles};
+ghost use Rattle.office_http.specs.Laws.{RunsStand};
 ghost use Rattle.office_http.specs.Losses.{is_short};
-ghost use Rattle.office_http.specs.Replay.{Replays, ReplaysAll, ReplaysFront, StopsEarly, StopsReplay, IsFresh, status_of};
+ghost use Rattle.office_http.specs.Replay.{Replays, ReplaysAll, ReplaysFront, StopsEarly, StopsReplay, status_of};
 ghost use Rattle.office_http.specs.State.{state_of};
 ghost use Rattle.office_http.specs.Replies.{mark_of};
 
@@ -109,32 +109,11 @@ pub struct Replayed {
     pub lost: bool,
 }
 
-/// Delivers the messages that a reader gives as a bag, settles, and writes the answers, the status,
-/// the reports of the runs that it finished, and testing. It fails only where the writer failed or
-/// took no byte. What becomes of the reader is said by [`replay_bag`].
-pub fn replay<K: Keeper, R: Feed + Drop, W: Sink>(
-    office: &mut Office<K>,
-    reader: R,
-    writer: &mut W,
-) -> Result<Replayed, WriteFault>
-    // A store that is trusted was so before, and holds an office's state as before. What the replay makes of it is known
-    // while it is trusted; what it lost is lost by the store only where that counted a refusal.
-    ensures carries { Carries K.Keeper office.old office.new }
-    ensures ok { Holds K.Keeper office.old office.new → IfOk result (λ replayed. (start : Reading) × (now : Reading) × IsFresh (R.left reader) start
-        × Replays (state_of K.Keeper office.old) (state_of K.Keeper office.new) start now (W.written writer.old) (W.written writer.new) replayed (StoreRefused K.Keeper office.old office.new)) }
-    ensures err { Holds K.Keeper office.old office.new → OnErr result ((start : Reading) × (now : Reading) × IsFresh (R.left reader) start
-        × StopsReplay (state_of K.Keeper office.old) (state_of K.Keeper office.new) start now (W.written writer.old) (W.written writer.new) (StoreRefused K.Keeper office.old office.new)) }
-    ensures cause { OnErr result (HasRisen (W.failures writer.old) (W.failures writer.new)) }
-    ensures clean { OnOk result (W.failures writer.new ≡ W.failures writer.old) }
-{
-    let mut bag = Bag::new(office.alloc(), reader);
-    replay_bag(office, &mut bag, writer)
-}
-
 /// Delivers the messages of a bag that hasn't ended, settles, and writes the answers, the status, the
 /// reports of the runs that it finished, and testing. It fails only where the writer failed or took no
-/// byte; what was delivered before stays.
-pub fn replay_bag<K: Keeper, R: Feed, W: Sink>(
+/// byte; what was delivered before stays. The bag is lent, so that what was read of its reader, how often
+/// that was asked and whether it failed is said of the bag that the caller still has.
+pub fn replay<K: Keeper, R: Feed, W: Sink>(
     office: &mut Office<K>,
     bag: &mut Bag<R>,
     writer: &mut W,
@@ -146,6 +125,9 @@ pub fn replay_bag<K: Keeper, R: Feed, W: Sink>(
     ensures ok { Holds K.Keeper office.old office.new → IfOk result (λ replayed. Replays (state_of K.Keeper office.old) (state_of K.Keeper office.new) bag.old bag.new (W.written writer.old) (W.written writer.new) replayed (StoreRefused K.Keeper office.old office.new)) }
     ensures err { Holds K.Keeper office.old office.new → OnErr result (StopsReplay (state_of K.Keeper office.old) (state_of K.Keeper office.new) bag.old bag.new (W.written writer.old) (W.written writer.new) (StoreRefused K.Keeper office.old office.new)) }
 
+    // The runs that were finished stand: their reports, and testing unless one more was finished.
+    ensures runs { Holds K.Keeper office.old office.new → RunsStand (K.content office.old) (K.content office.new) }
+
     // A read failed exactly where the bag is refused for it, but for the last of the reads.
     ensures read_cause { IfOk result (λ replayed. replayed.bag ≡ Some BagFault.ReadFault → ReadFails bag.old bag.new) }
     ensures read_clean { IfOk result (λ replayed. (replayed.bag ≡ Some BagFault.ReadFault) ⊎ (bag.new.failures ≡ bag.old.failures)) }
@@ -154,6 +136,26 @@ pub fn replay_bag<K: Keeper, R: Feed, W: Sink>(
     ensures reads { bag.old.reads ≤ 1_000_000 → bag.new.reads ≤ 1_000_000 }
     ensures calls { bag.new.calls + bag.old.reads ≤ bag.old.calls + bag.new.reads }
 
+    ensures cause { OnErr result (HasRisen (W.failures writer.old) (W.failures writer.new)) }
+    ensures clean { OnOk result (W.failures writer.new ≡ W.failures writer.old) }
+{
+    replay_bag(office, bag, writer)
+}
+
+/// Delivers the messages of a bag, if the count of finished runs is to be had.
+fn replay_bag<K: Keeper, R: Feed, W: Sink>(
+    office: &mut Office<K>,
+    bag: &mut Bag<R>,
+    writer: &mut W,
+) -> Result<Replayed, WriteFault>
+    requires { bag.old.ended ≡ false }
+    ensures carries { Carries K.Keeper office.old office.new }
+    ensures ok { Holds K.Keeper office.old office.new → IfOk result (λ replayed. Replays (state_of K.Keeper office.old) (state_of K.Keeper office.new) bag.old bag.new (W.written writer.old) (W.written writer.new) replayed (StoreRefused K.Keeper office.old office.new)) }
+    ensures err { Holds K.Keeper office.old office.new → OnErr result (StopsReplay (state_of K.Keeper office.old) (state_of K.Keeper office.new) bag.old bag.new (W.written writer.old) (W.written writer.new) (StoreRefused K.Keeper office.old office.new)) }
+    ensures read_cause { IfOk result (λ replayed. replayed.bag ≡ Some BagFault.ReadFault → ReadFails bag.old bag.new) }
+    ensures read_clean { IfOk result (λ replayed. (replayed.bag ≡ Some BagFault.ReadFault) ⊎ (bag.new.failures ≡ bag.old.failures)) }
+    ensures reads { bag.old.reads ≤ 1_000_000 → bag.new.reads ≤ 1_000_000 }
+    ensures calls { bag.new.calls + bag.old.reads ≤ bag.old.calls + bag.new.reads }
     ensures cause { OnErr result (HasRisen (W.failures writer.old) (W.failures writer.new)) }
     ensures clean { OnOk result (W.failures writer.new ≡ W.failures writer.old) }
 {

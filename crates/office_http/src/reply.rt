@@ -1,5 +1,5 @@
 //! Replies: what they say, and how they are written (RFC 9112, section 4). They take no memory.
-ghost use Rattle.std.specs.Prelude.{◌≡◌, Ok, Err, ◌≤◌, ◌<◌, ◌+◌, ◌++◌, ◌∷◌, ℕ, List, [], OnOk, OnErr, IfOk, length, decimal, codes, unwrap_or, if◌then◌else◌};
+ghost use Rattle.std.specs.Prelude.{◌≡◌, Ok, Err, ◌≤◌, ◌<◌, ◌+◌, ◌++◌, ◌∷◌, ℕ, List, [], OnOk, OnErr, IfOk, length, decimal, codes, unwrap_or, if◌then◌else◌, true};
 ghost use Rattle.std.specs.Io.KnownBytes.{Appends};
 ghost use Rattle.http.specs.StatusCode.{reason_phrase};
 ghost use Rattle.office_mail.specs.Counts.{HasRisen};
@@ -310,6 +310,7 @@ pub(crate) fn write_answer<W: Sink>(
 pub(crate) fn write_continue<W: Sink>(waits: bool, writer: &mut W) -> Result<(), WriteFault>
     ensures ok { OnOk result (Appends (W.written writer.old) (W.written writer.new) (if waits then continue_bytes else [])) }
     ensures err { OnErr result (AppendsFront (W.written writer.old) (W.written writer.new) continue_bytes) }
+    ensures waits { OnErr result (waits ≡ true) }
     ensures cause { OnErr result (HasRisen (W.failures writer.old) (W.failures writer.new)) }
     ensures clean { OnOk result (W.failures writer.new ≡ W.failures writer.old) }
 {

@@ -1,15 +1,16 @@
 //! One connection of the service: a request, and its reply (RFC 9110, RFC 9112).
-ghost use Rattle.std.specs.Prelude.{◌≡◌, false, ◌⊎◌, ◌≤◌, ◌<◌, ◌+◌, ◌++◌, ◌∷◌, ℕ, List, [], Option, Some, None, IfOk, IfErr, IfSome, OnOk, OnErr, length, drop, if◌then◌else◌};
+ghost use Rattle.std.specs.Prelude.{◌≡◌, true, false, ◌⊎◌, ◌≤◌, ◌<◌, ◌+◌, ◌++◌, ◌∷◌, ℕ, List, [], Option, Some, None, IfOk, IfErr, IfSome, OnOk, OnErr, length, drop, if◌then◌else◌};
 ghost use Rattle.std.specs.Io.KnownBytes.{Appends};
 ghost use Rattle.httparse.specs.Grammar.{RequestHead};
 ghost use Rattle.httparse.specs.Spans.{IsRequestAt};
 ghost use Rattle.httparse.specs.declared.spans.HeaderSpan.{HeaderSpan};
 ghost use Rattle.office_mail.specs.Counts.{HasRisen};
-ghost use Rattle.office_http.specs.Asked.{asked_of};
+ghost use Rattle.office_http.specs.Asked.{asked_of, body_size};
 ghost use Rattle.office_http.specs.Carried.{Asks, Carries, Holds, StoreRefused};
+ghost use Rattle.office_http.specs.Laws.{RunsStand};
 ghost use Rattle.office_http.specs.Reply.{continue_bytes, refused, reply_bytes, HasPlace};
-ghost use Rattle.office_http.specs.Request.{IsHeadAt};
-ghost use Rattle.office_http.specs.Serve.{refusal_for, status_answer, text_answer, report_answer, delivery_answer, Tells, Does, Runs, Answers, StopsBefore, Serves, StopsRequest, StopsServe, ServesHead};
+ghost use Rattle.office_http.specs.Request.{IsHeadAt, body_room, head_room};
+ghost use Rattle.office_http.specs.Serve.{refusal_for, status_answer, text_answer, report_answer, delivery_answer, waits_of, Tells, Does, Runs, Answers, StopsBefore, Serves, StopsRequest, StopsServe, ServesHead};
 ghost use Rattle.office_http.specs.State.{state_of};
 ghost use Rattle.office_http.specs.Written.{AppendsFront};
 
@@ -171,7 +172,8 @@ fn answer_post<K: Keeper, R: Feed, W: Sink>(
     ensures carries { Carries K.Keeper office.old office.new }
     ensures place { IfOk result (λ answer. HasPlace (K.setup office.old) answer) }
     ensures ok { Holds K.Keeper office.old office.new → IfOk result (λ answer. Answers (state_of K.Keeper office.old) (state_of K.Keeper office.new) (R.left reader.old) (R.left reader.new) (W.written writer.old) (W.written writer.new) (drop start seen.old.items) (Asked.Post posted) answer (StoreRefused K.Keeper office.old office.new)) }
-    ensures err { K.is_trusted office.new → OnErr result (StopsBefore (state_of K.Keeper office.old) (state_of K.Keeper office.new) (W.written writer.old) (W.written writer.new)) }
+    ensures err { K.is_trusted office.new → OnErr result (StopsBefore (state_of K.Keeper office.old) (state_of K.Keeper office.new) (R.left reader.old) (R.left reader.new) (W.written writer.old) (W.written writer.new) posted.length (λ input. posted.waits ≡ true)) }
+    ensures calls { R.calls reader.new ≤ R.calls reader.old + posted.length }
     ensures read { IfErr result (λ fault. fault ≡ ServeFault.Read → HasRisen (R.failures reader.old) (R.failures reader.new)) }
     ensures write { IfErr result (λ fault. fault ≡ ServeFault.Write → HasRisen (W.failures writer.old) (W.failures writer.new)) }
     ensures read_clean { OnOk result (R.failures reader.new ≡ R.failures reader.old) }
@@ -194,7 +196,8 @@ fn asked_in(
     headers: &[HeaderSpan],
 ) -> Option<Asked>
     requires { IsHeadAt seen.now headers.now spans }
-    ensures { IfSome result (λ asked. (head : RequestHead) → IsRequestAt seen.now headers.now spans head → asked ≡ asked_of head) }
+    ensures asked { IfSome result (λ asked. (head : RequestHead) → IsRequestAt seen.now headers.now spans head → asked ≡ asked_of head) }
+    ensures fits { IfSome result (λ asked. body_size asked ≤ body_room) }
 {
     match routes(alloc) {
         Ok(router) => Some(asked_of(&router, seen, spans, headers)),
@@ -211,11 +214,13 @@ fn answer_request<K: Keeper, R: Feed, W: Sink>(
     reader: &mut R,
     writer: &mut W,
 ) -> Result<Answer, ServeFault>
-    requires { start ≤ length seen.old.items }
+    requires start { start ≤ length seen.old.items }
+    requires fits { IfSome asked (λ a. body_size a ≤ body_room) }
     ensures carries { Carries K.Keeper office.old office.new }
     ensures place { IfOk result (λ answer. HasPlace (K.setup office.old) answer) }
     ensures ok { Holds K.Keeper office.old office.new → IfOk result (λ answer. (due : Asked) → IfSome asked (λ a. a ≡ due) → Answers (state_of K.Keeper office.old) (state_of K.Keeper office.new) (R.left reader.old) (R.left reader.new) (W.written writer.old) (W.written writer.new) (drop start seen.old.items) due answer (StoreRefused K.Keeper office.old office.new)) }
-    ensures err { K.is_trusted office.new → OnErr result (StopsBefore (state_of K.Keeper office.old) (state_of K.Keeper office.new) (W.written writer.old) (W.written writer.new)) }
+    ensures err { K.is_trusted office.new → OnErr result (StopsBefore (state_of K.Keeper office.old) (state_of K.Keeper office.new) (R.left reader.old) (R.left reader.new) (W.written writer.old) (W.written writer.new) body_room (λ input. (due : Asked) → IfSome asked (λ a. a ≡ due) → waits_of due ≡ true)) }
+    ensures calls { R.calls reader.new ≤ R.calls reader.old + body_room }
     ensures read { IfErr result (λ fault. fault ≡ ServeFault.Read → HasRisen (R.failures reader.old) (R.failures reader.new)) }
     ensures write { IfErr result (λ fault. fault ≡ ServeFault.Write → HasRisen (W.failures writer.old) (W.failures writer.new)) }
     ensures read_clean { OnOk result (R.failures reader.new ≡ R.failures reader.old) }
@@ -242,6 +247,7 @@ fn serve_request<K: Keeper, R: Feed, W: Sink>(
     ensures carries { Carries K.Keeper office.old office.new }
     ensures ok { Holds K.Keeper office.old office.new → IfOk result (λ code. ServesHead (state_of K.Keeper office.old) (state_of K.Keeper office.new) (R.left reader.old) (R.left reader.new) (W.written writer.old) (W.written writer.new) seen.old.items code (StoreRefused K.Keeper office.old office.new)) }
     ensures err { Holds K.Keeper office.old office.new → IfErr result (λ fault. StopsRequest (state_of K.Keeper office.old) (state_of K.Keeper office.new) (R.left reader.old) (R.left reader.new) (W.written writer.old) (W.written writer.new) seen.old.items fault (StoreRefused K.Keeper office.old office.new)) }
+    ensures calls { R.calls reader.new ≤ R.calls reader.old + body_room }
     ensures read { IfErr result (λ fault. fault ≡ ServeFault.Read → HasRisen (R.failures reader.old) (R.failures reader.new)) }
     ensures write { IfErr result (λ fault. fault ≡ ServeFault.Write → HasRisen (W.failures writer.old) (W.failures writer.new)) }
     ensures read_clean { OnOk result (R.failures reader.new ≡ R.failures reader.old) }
@@ -266,22 +272,15 @@ fn refuse<W: Sink>(setup: &Setup, refusal: Refusal, writer: &mut W) -> Result<Se
 }
 
 /// Reads one request, does what it asks for, and writes its reply.
-///
-/// At most 8,192 bytes of a head and 65,536 of a body are read; what follows is ignored. The reply
-/// takes no memory, so that a 503 to a delivery says that nothing was added. `Write` comes only where the
-/// writer failed or took no byte, and `Read` only where the reader failed; then nothing was delivered
-/// or settled.
-pub fn serve_one<K: Keeper, R: Feed, W: Sink>(
+fn serve_connection<K: Keeper, R: Feed, W: Sink>(
     office: &mut Office<K>,
     reader: &mut R,
     writer: &mut W,
 ) -> Result<Served, ServeFault>
-    // A store that is trusted was so before, and holds an office's state as before.
     ensures carries { Carries K.Keeper office.old office.new }
-    // The reply is a function of the request, of the office's state and of the faults that were met; a fault of the store
-    // is told only where that counted a refusal.
     ensures ok { Holds K.Keeper office.old office.new → IfOk result (λ served. Serves (state_of K.Keeper office.old) (state_of K.Keeper office.new) (R.left reader.old) (R.left reader.new) (W.written writer.old) (W.written writer.new) served.code (StoreRefused K.Keeper office.old office.new)) }
     ensures err { Holds K.Keeper office.old office.new → IfErr result (λ fault. StopsServe (state_of K.Keeper office.old) (state_of K.Keeper office.new) (R.left reader.old) (R.left reader.new) (W.written writer.old) (W.written writer.new) fault (StoreRefused K.Keeper office.old office.new)) }
+    ensures calls { R.calls reader.new ≤ R.calls reader.old + (head_room + body_room) }
     ensures read { IfErr result (λ fault. fault ≡ ServeFault.Read → HasRisen (R.failures reader.old) (R.failures reader.new)) }
     ensures write { IfErr result (λ fault. fault ≡ ServeFault.Write → HasRisen (W.failures writer.old) (W.failures writer.new)) }
     ensures read_clean { OnOk result (R.failures reader.new ≡ R.failures reader.old) }
@@ -299,4 +298,33 @@ pub fn serve_one<K: Keeper, R: Feed, W: Sink>(
         Ended::BadRequest => refuse(office.setup(), Refusal::BadRequest, writer),
         Ended::NoMemory => refuse(office.setup(), Refusal::NoMemory, writer),
     }
+}
+
+/// Reads one request, does what it asks for, and writes its reply.
+///
+/// At most 8,192 bytes of a head and 65,536 of a body are read; what follows is ignored. The reply
+/// takes no memory, so that a 503 to a delivery says that nothing was added. `Write` comes only where the
+/// writer failed or took no byte, and `Read` only where the reader failed; then nothing was delivered
+/// or settled.
+pub fn serve_one<K: Keeper, R: Feed, W: Sink>(
+    office: &mut Office<K>,
+    reader: &mut R,
+    writer: &mut W,
+) -> Result<Served, ServeFault>
+    // A store that is trusted was so before, and holds an office's state as before.
+    ensures carries { Carries K.Keeper office.old office.new }
+    // The reply is a function of the request, of the office's state and of the faults that were met; a fault of the store
+    // is told only where that counted a refusal.
+    ensures ok { Holds K.Keeper office.old office.new → IfOk result (λ served. Serves (state_of K.Keeper office.old) (state_of K.Keeper office.new) (R.left reader.old) (R.left reader.new) (W.written writer.old) (W.written writer.new) served.code (StoreRefused K.Keeper office.old office.new)) }
+    ensures err { Holds K.Keeper office.old office.new → IfErr result (λ fault. StopsServe (state_of K.Keeper office.old) (state_of K.Keeper office.new) (R.left reader.old) (R.left reader.new) (W.written writer.old) (W.written writer.new) fault (StoreRefused K.Keeper office.old office.new)) }
+    // The runs that were finished stand: their reports, and testing unless one more was finished.
+    ensures runs { Holds K.Keeper office.old office.new → RunsStand (K.content office.old) (K.content office.new) }
+    // The reader is asked at most once for each byte that a head and a body may have.
+    ensures calls { R.calls reader.new ≤ R.calls reader.old + (head_room + body_room) }
+    ensures read { IfErr result (λ fault. fault ≡ ServeFault.Read → HasRisen (R.failures reader.old) (R.failures reader.new)) }
+    ensures write { IfErr result (λ fault. fault ≡ ServeFault.Write → HasRisen (W.failures writer.old) (W.failures writer.new)) }
+    ensures read_clean { OnOk result (R.failures reader.new ≡ R.failures reader.old) }
+    ensures write_clean { OnOk result (W.failures writer.new ≡ W.failures writer.old) }
+{
+    serve_connection(office, reader, writer)
 }

@@ -3,7 +3,7 @@
 use crate::messages::{BLOCK, BLOCK_RUN};
 use crate::setup::new_office;
 use office_http::{DeliverFault, Held, Progress, Replayed, replay, replay_status};
-use office_mail::{BagFault, Field, FromRead, MailFault, ToWrite};
+use office_mail::{Bag, BagFault, Field, FromRead, MailFault, ToWrite};
 use std::io;
 use std::io::{Read, Write};
 use std::test::Fail;
@@ -101,7 +101,8 @@ fn a_writer_that_fails(rt: HostRuntime) -> Result<(), Fail> {
             fails_at,
         };
         let mut sink = ToWrite::new(&mut writer);
-        let replayed = replay(&mut office, FromRead::new(BAG.as_bytes()), &mut sink);
+        let mut bag = Bag::new(rt.alloc(), FromRead::new(BAG.as_bytes()));
+        let replayed = replay(&mut office, &mut bag, &mut sink);
         drop(sink);
         assert_eq!(rt; replay_status(&replayed), status, "at {fails_at}");
         assert!(rt;
@@ -159,11 +160,8 @@ fn a_bag_that_is_refused(rt: HostRuntime) -> Result<(), Fail> {
             fails_at,
         };
         let mut taken = Vec::new(rt.alloc());
-        let replayed = replay(
-            &mut office,
-            FromRead::new(reader),
-            &mut ToWrite::new(&mut taken),
-        );
+        let mut bag = Bag::new(rt.alloc(), FromRead::new(reader));
+        let replayed = replay(&mut office, &mut bag, &mut ToWrite::new(&mut taken));
         assert_eq!(rt; replay_status(&replayed), 3);
         let refused = Replayed {
             bag: Some(fault),

@@ -2,7 +2,7 @@
 
 use crate::setup::{SETUP, new_office, open_tables};
 use office_http::{Office, replay, replay_status};
-use office_mail::{FromRead, Setup, ToWrite};
+use office_mail::{Bag, FromRead, Setup, ToWrite};
 use office_store::Keeper;
 use sqlite::Connection;
 use std::alloc::Global;
@@ -12,7 +12,8 @@ use std::test::Fail;
 pub fn replayed_in<K: Keeper>(alloc: Global, office: &mut Office<K>, bag: &[u8]) -> (Vec<u8>, u8) {
     let mut output = Vec::new(alloc);
     let mut writer = ToWrite::new(&mut output);
-    let replayed = replay(office, FromRead::new(bag), &mut writer);
+    let mut bag = Bag::new(alloc, FromRead::new(bag));
+    let replayed = replay(office, &mut bag, &mut writer);
     (output, replay_status(&replayed))
 }
 

@@ -1,4 +1,4 @@
-use Rattle.std.proofs.Common.{◌≡◌, ◌⊎◌, ◌≤◌, ◌-◌, [], length}
+use Rattle.std.proofs.Common.{◌≡◌, ◌⊎◌, ◌≤◌, ◌+◌, ◌-◌, [], length}
 use Rattle.std.specs.Io.KnownBytes.{Consumes}
 use Rattle.httparse.specs.Grammar.{HasNoRequest}
 use Rattle.office_http.specs.Request.{head_room, field_room}
@@ -10,6 +10,7 @@ invariant-reads g l = record {
   short : length l.seen.items ≤ head_room;
   took : Consumes (g.R.Feed.left l.fn.reader) (g.R.Feed.left l.reader) l.seen.items;
   none : (l.seen.items ≡ []) ⊎ HasNoRequest l.seen.items;
+  calls : g.R.Feed.calls l.reader ≤ g.R.Feed.calls l.fn.reader + length l.seen.items;
   failures : g.R.Feed.failures l.reader ≡ g.R.Feed.failures l.fn.reader;
 }
 

@@ -1,8 +1,13 @@
-use Rattle.std.proofs.lemmas.Result.{IfOk-weaker, on_err_weaker}
+use Rattle.office_http.specs.Carried.{StoreRefused}
+use Rattle.office_http.specs.State.{state_of}
+use Rattle.office_http.proofs.StandFacts.{grows_replay, stand_after}
 use Rattle.office_http.proofs.replays.replay.Goals as goal
 
-pub returns-clause-ok : goal.returns-clause-ok
-returns-clause-ok g c = λ t. IfOk-weaker c.replay_bag.result _ _ (λ replayed h. (c.new-bag.result, c.replay_bag.new.bag, (c.new-bag.ensures.left, c.new-bag.ensures.unread), h)) (c.replay_bag.ensures.ok t)
-
-pub returns-clause-err : goal.returns-clause-err
-returns-clause-err g c = λ t. on_err_weaker c.replay_bag.result (λ h. (c.new-bag.result, c.replay_bag.new.bag, (c.new-bag.ensures.left, c.new-bag.ensures.unread), h)) (c.replay_bag.ensures.err t)
+pub returns-clause-runs : goal.returns-clause-runs
+returns-clause-runs g c =
+    let keeper = g.K.Keeper in
+    let s0 = c.args.office.now in
+    let s1 = c.replay_bag.new.office in
+    let written = g.W.Sink.written in
+    let e = c.replay_bag.ensures in
+    λ h. stand_after keeper s0 s1 e.carries h (grows_replay (state_of keeper s0) (state_of keeper s1) c.args.bag.now c.replay_bag.new.bag (written c.args.writer.now) (written c.replay_bag.new.writer) c.replay_bag.result (StoreRefused keeper s0 s1) (e.ok h) (e.err h))

@@ -1,0 +1,11 @@
+use Rattle.std.proofs.Common.{◌≤◌, sym, subst}
+use Rattle.office_http.specs.Asked.{body_size}
+use Rattle.office_http.specs.Request.{body_room}
+use Rattle.office_http.specs.declared.request.Asked.{Asked}
+use Rattle.office_http.proofs.SizeFacts.{body_fits}
+use Rattle.office_http.proofs.serve.asked_in.Goals as goal
+
+pub returns-in-Ok-clause-fits : goal.returns-in-Ok-clause-fits
+returns-in-Ok-clause-fits c =
+    let h = c.requires in
+    subst (λ (a : Asked). body_size a ≤ body_room) (sym (c.asked_of.ensures h.head h.parts)) (body_fits h.head)
