@@ -3,8 +3,8 @@ use Rattle.std.proofs.Common.{◌≡◌, ℕ, ◌+◌, List, [], ◌∷◌, leng
 use Rattle.office_mail.specs.declared.message.RunOrder.{RunOrder}
 use Rattle.office_mail.specs.Runs.{cover_of, cover, latest_day, orders_to}
 use Rattle.jiff.specs.declared.civil.dates.Date.{Date}
-use Rattle.testing_rules.specs.declared.excuse.Excuse.{Excuse}
-use Rattle.testing_rules.specs.declared.update.Decision.{Decision}
+use Rattle.testing_model.specs.declared.excuse.Excuse.{Excuse}
+use Rattle.testing_model.specs.declared.update.Decision.{Decision}
 use Rattle.testing_rules.specs.Covered.{Covered}
 use Rattle.testing_rules.specs.Suite.{Suite}
 use Rattle.testing_rules.specs.Excuses.{excuses_of}

@@ -8,7 +8,7 @@ use Rattle.testing_rules.specs.FactLists.{FactLists}
 use Rattle.testing_rules.specs.StandsFor.{StandsFor}
 use Rattle.testing_rules.specs.Suite.{Suite}
 use Rattle.testing_rules.specs.SameMessages.{SameElements}
-use Rattle.testing_rules.proofs.SameFacts.{stands-same}
+use Rattle.testing_model.proofs.SameFacts.{stands-same}
 use Rattle.office_mail.specs.Lists.{Lists}
 use Rattle.office_mail.specs.Kept.{Kept, Within}
 use Rattle.office_http.specs.declared.covered.KnownFacts.{KnownFacts}

@@ -13,9 +13,9 @@ use Rattle.testing_rules.specs.FactLists.{FactLists}
 use Rattle.testing_rules.specs.StandsFor.{StandsFor}
 use Rattle.testing_rules.specs.Suite.{Suite}
 use Rattle.testing_rules.specs.SameMessages.{SameElements, HasOneOfEach}
-use Rattle.testing_rules.proofs.Members.{none_among, tail_of}
-use Rattle.testing_rules.proofs.Sets.{first_or_rest, at_front, given_by, gives}
-use Rattle.testing_rules.proofs.SameFacts.{stands-same}
+use Rattle.testing_items.proofs.Members.{none_among, tail_of}
+use Rattle.testing_model.proofs.Sets.{first_or_rest, at_front, given_by, gives}
+use Rattle.testing_model.proofs.SameFacts.{stands-same}
 use Rattle.office_mail.specs.declared.message.Message.{Message}
 use Rattle.office_mail.specs.declared.message.MailFault.{MailFault}
 use Rattle.office_mail.specs.declared.message.Body.{Body}

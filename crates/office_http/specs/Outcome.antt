@@ -3,7 +3,7 @@ use Rattle.std.specs.Prelude.{ℕ, zero, suc, List, [], ◌∷◌, ◌++◌, Opt
 use Rattle.std.specs.List.{filter_map}
 use Rattle.std.specs.FinMap.{entries}
 use Rattle.jiff.specs.declared.civil.dates.Date.{Date}
-use Rattle.testing_rules.specs.declared.excuse.Excuse.{Excuse}
+use Rattle.testing_model.specs.declared.excuse.Excuse.{Excuse}
 use Rattle.testing_rules.specs.Suite.{Suite}
 use Rattle.testing_rules.specs.Covered.{Covered, CoveredItem}
 use Rattle.testing_rules.specs.Excuses.{excuses_of}

@@ -5,7 +5,7 @@ ghost use Rattle.testing_rules.specs.Covered.{Covered};
 ghost use Rattle.testing_rules.specs.StandsFor.{StandsFor};
 ghost use Rattle.testing_rules.specs.Suite.{Suite};
 ghost use Rattle.testing_rules.specs.Updates.{update_of};
-ghost use Rattle.testing_rules.specs.declared.excuse.Excuse.{Excuse};
+ghost use Rattle.testing_model.specs.declared.excuse.Excuse.{Excuse};
 ghost use Rattle.testing_rules.specs.Watched.{AllWatchedWork};
 ghost use Rattle.office_mail.specs.Runs.{cover_of};
 ghost use Rattle.testing_rules.specs.Given.{IsGivenBy};

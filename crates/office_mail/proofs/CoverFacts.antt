@@ -2,7 +2,7 @@
 use Rattle.std.proofs.Common.{◌≡◌, Bool, List, ℕ, map, Ok, sym, ap, ◌∙◌}
 use Rattle.deb_control.specs.Relations.{◌>>=◌, items}
 use Rattle.office_mail.specs.Covers.{BadCovers, cover_in, covers_in, numbers_by_sender}
-use Rattle.testing_rules.specs.Distinct.{is_distinct}
+use Rattle.testing_items.specs.Distinct.{is_distinct}
 use Rattle.office_mail.specs.Lists.{Lists}
 use Rattle.office_mail.specs.Steps.{needs, each_of}
 

@@ -5,7 +5,7 @@ use Rattle.std.specs.Str.{bytes_eq}
 use Rattle.std.specs.Borrow.{Bor}
 use Rattle.std.proofs.lemmas.List.{drop_more, drop_all, length-drop}
 use Rattle.std.proofs.Math.Seq.{take-length}
-use Rattle.testing_rules.specs.Distinct.{is_distinct}
+use Rattle.testing_items.specs.Distinct.{is_distinct}
 use Rattle.office_mail.proofs.Each.{texts, nowhere}
 
 -- whether one stands again behind its place

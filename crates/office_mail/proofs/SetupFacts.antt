@@ -12,7 +12,7 @@ use Rattle.office_mail.specs.declared.setup.SetupFault.{SetupFault}
 use Rattle.office_mail.specs.declared.setup.SetupFault.TheVariants.{BadRoles}
 use Rattle.office_mail.specs.Setup.{are_archs, are_senders, are_roles, count_of, names_of, place_of_role, same_role, sender_in, IsSetup}
 use Rattle.office_mail.specs.Steps.{given, each_of}
-use Rattle.testing_rules.specs.Archs.{IsArchs}
+use Rattle.testing_items.specs.Archs.{IsArchs}
 use Rattle.office_mail.proofs.Each.{texts}
 
 pub few_texts : (xs : List (Bor (List ℕ))) → length xs ≤ 16 → length (texts xs) ≤ 16

@@ -12,7 +12,7 @@ use Rattle.office_mail.specs.Lists.{Lists}
 use Rattle.office_mail.specs.Setup.{same_role}
 use Rattle.office_mail.specs.Steps.{needs, given, each_of}
 use Rattle.office_mail.specs.Values.{number_in, words}
-use Rattle.testing_rules.specs.Distinct.{is_distinct}
+use Rattle.testing_items.specs.Distinct.{is_distinct}
 
 abbrev pub BadCovers : MailFault
 BadCovers = BadValue field.Covers

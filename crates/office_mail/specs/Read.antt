@@ -10,8 +10,8 @@ use Rattle.deb_control.specs.declared.fault.BinaryField.{BinaryField}
 use Rattle.deb_control.specs.declared.fault.BinaryField.TheVariants as binary
 use Rattle.deb_control.specs.declared.fault.BinaryFault.{BinaryFault}
 use Rattle.deb_control.specs.declared.fault.BinaryFault.TheVariants as binary_fault
-use Rattle.testing_rules.specs.declared.item.Item.{Item}
-use Rattle.testing_rules.specs.declared.item.Item.TheVariants as item
+use Rattle.testing_items.specs.declared.item.Item.{Item}
+use Rattle.testing_items.specs.declared.item.Item.TheVariants as item
 use Rattle.office_mail.specs.declared.field.Field.{Field}
 use Rattle.office_mail.specs.declared.field.Field.TheVariants as field
 use Rattle.office_mail.specs.declared.kind.Kind.{Kind}

@@ -2,7 +2,7 @@
 use Rattle.std.specs.Prelude.{◌≡◌, ℕ, Bool, true, List, Some}
 use Rattle.std.specs.List.{list_all}
 use Rattle.deb_control.specs.declared.binary.Binary.{Binary}
-use Rattle.testing_rules.specs.declared.item.Item.TheVariants as item
+use Rattle.testing_items.specs.declared.item.Item.TheVariants as item
 use Rattle.office_mail.specs.declared.kind.Kind.{Kind}
 use Rattle.office_mail.specs.declared.kind.Kind.TheVariants as kind
 use Rattle.office_mail.specs.declared.message.Body.{Body}

@@ -14,8 +14,8 @@ use Rattle.office_mail.specs.declared.setup.SetupFault.TheVariants.{BadParagraph
 use Rattle.office_mail.specs.Lists.{Lists}
 use Rattle.office_mail.specs.Steps.{Paragraph, needs, given, each_of, whole, first_of, rest_of}
 use Rattle.office_mail.specs.Values.{words}
-use Rattle.testing_rules.specs.Archs.{is_arch_name, IsArchs}
-use Rattle.testing_rules.specs.Distinct.{is_distinct}
+use Rattle.testing_items.specs.Archs.{is_arch_name, IsArchs}
+use Rattle.testing_items.specs.Distinct.{is_distinct}
 
 -- how a field is spelled
 abbrev pub setup_field_name : SetupField → List ℕ

@@ -9,10 +9,10 @@ use Rattle.deb_control.specs.Paragraphs.{not_empty}
 use Rattle.deb_control.specs.Relations.{is_package_name, is_version}
 use Rattle.jiff.specs.declared.civil.dates.Date.{Date}
 use Rattle.office_mail.specs.Calendar.{day_if_real}
-use Rattle.testing_rules.specs.declared.item.Urgency.{Urgency}
-use Rattle.testing_rules.specs.declared.item.Urgency.TheVariants.{Low, Medium, High, Emergency, Critical}
-use Rattle.testing_rules.specs.declared.item.Severity.{Severity}
-use Rattle.testing_rules.specs.declared.item.Severity.TheVariants as severity
+use Rattle.testing_items.specs.declared.item.Urgency.{Urgency}
+use Rattle.testing_items.specs.declared.item.Urgency.TheVariants.{Low, Medium, High, Emergency, Critical}
+use Rattle.testing_items.specs.declared.item.Severity.{Severity}
+use Rattle.testing_items.specs.declared.item.Severity.TheVariants as severity
 
 -- the value, where it passes
 abbrev pub some_if : {A : Type 0} → Bool → A → Option A

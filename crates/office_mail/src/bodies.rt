@@ -15,7 +15,7 @@ use crate::message::{Body, MailFault, RunOrder};
 use crate::setup::Setup;
 use deb_control::{Binary, BinaryFault, BinaryField, Paragraph, Text};
 use std::alloc::Global;
-use testing_rules::{Binaries, Item};
+use testing_items::{Binaries, Item};
 
 /// What the paragraphs say, where the kind is known.
 #[tactic(auto, unfolding(crate::specs::Read::body_of))]

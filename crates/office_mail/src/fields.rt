@@ -13,7 +13,7 @@ use deb_control::{Paragraph, Text, is_package_name};
 use deb_version::{Version, VersionFault};
 use jiff::civil::Date;
 use std::alloc::Global;
-use testing_rules::{Severity, Urgency};
+use testing_items::{Severity, Urgency};
 
 /// The text of a field that must be there.
 #[tactic(auto, unfolding(crate::specs::Fields::required))]

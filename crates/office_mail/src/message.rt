@@ -6,7 +6,7 @@ use crate::field::Field;
 use crate::texts::Numbers;
 use jiff::civil::Date;
 use std::alloc::{AllocError, AllocFailed};
-use testing_rules::Item;
+use testing_items::Item;
 use thiserror::Error;
 
 /// Why a text is no message. The first that applies is given.

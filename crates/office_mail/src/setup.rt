@@ -8,7 +8,7 @@ use crate::setup_read::setup_in;
 use deb_control::{NoMemory, Text};
 use std::alloc::{AllocError, AllocFailed, Global};
 use std::marker::Model;
-use testing_rules::Archs;
+use testing_items::Archs;
 use thiserror::Error;
 
 /// What a sender may send.

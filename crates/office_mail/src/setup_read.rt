@@ -3,7 +3,7 @@ ghost use Rattle.std.specs.Prelude.{◌≡◌, ◌∷◌, List, ℕ, map, IfOk};
 ghost use Rattle.std.specs.List.{list_all};
 ghost use Rattle.deb_control.specs.Paragraphs.{reading};
 ghost use Rattle.deb_control.specs.Relations.{is_qualifier_char};
-ghost use Rattle.testing_rules.specs.Archs.{is_arch_name, is_reserved};
+ghost use Rattle.testing_items.specs.Archs.{is_arch_name, is_reserved};
 ghost use Rattle.deb_control.specs.Binary.{is_architecture};
 ghost use Rattle.office_mail.specs.declared.setup.SetupFault.TheVariants as fault;
 ghost use Rattle.office_mail.specs.Answers.{SetupGives, SetupGivesBy};
@@ -15,7 +15,7 @@ use crate::setup::{Role, Sender, Setup, SetupFault, SetupField};
 use crate::values::{are_distinct, words};
 use deb_control::{Paragraph, ParagraphFault, Text, is_lower_or_digit, is_qualifier_char};
 use std::alloc::{AllocError, Global};
-use testing_rules::Archs;
+use testing_items::Archs;
 
 /// What a sender's paragraph states.
 #[derive(Clone, Copy)]

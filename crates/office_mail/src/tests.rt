@@ -3,7 +3,7 @@ use super::*;
 use deb_control::Binary;
 use std::alloc::Global;
 use std::test::Fail;
-use testing_rules::{ALL, Archs, Hint, HintItem, Item, Urgency};
+use testing_items::{ALL, Archs, Hint, HintItem, Item, Urgency};
 
 const SETUP: &str =
     "Architectures: amd64 arm64\n\nSender: ftp\nRole: upload\n\nSender: bd\nRole: build\n\nSender: bts\nRole: bugs\n\nSender: rt\nRole: release\n\nSender: clock\nRole: runs\n";

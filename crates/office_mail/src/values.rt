@@ -6,13 +6,13 @@ ghost use Rattle.std.specs.Str.{bytes_eq};
 ghost use Rattle.std.specs.Str.Parse.{digits_value};
 ghost use Rattle.deb_control.specs.Text.{is_white};
 ghost use Rattle.office_mail.specs.Calendar.{day_if_real};
-ghost use Rattle.testing_rules.specs.Distinct.{is_distinct};
+ghost use Rattle.testing_items.specs.Distinct.{is_distinct};
 ghost use Rattle.office_mail.specs.Values.{some_if, is_number, number_in, days_in, words, is_day_form, DayForm, day_in, ends_urgency, urgency_named, urgency_in, severity_in};
 
 use deb_control::{is_white, skip_white};
 use jiff::civil::Date;
 use std::alloc::{AllocError, Global};
-use testing_rules::{Severity, Urgency};
+use testing_items::{Severity, Urgency};
 
 /// Whether a text is decimal digits without a leading zero.
 #[tactic(auto, unfolding(crate::specs::Values::is_number))]

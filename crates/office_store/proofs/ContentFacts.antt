@@ -14,9 +14,9 @@ use Rattle.sqlite_rules.specs.Lists.{Has}
 use Rattle.testing_rules.specs.Words.{text_cmp, arch_name}
 use Rattle.testing_rules.specs.Moves.{row_cmp, row_key}
 use Rattle.testing_rules.specs.InOrder.{AreByName, AreByKey, IsInOrder}
-use Rattle.testing_rules.specs.declared.suite.SourceIn.{SourceIn}
-use Rattle.testing_rules.specs.declared.suite.RowIn.{RowIn}
-use Rattle.testing_rules.proofs.Orders.{text_order}
+use Rattle.testing_model.specs.declared.suite.SourceIn.{SourceIn}
+use Rattle.testing_model.specs.declared.suite.RowIn.{RowIn}
+use Rattle.testing_model.proofs.Orders.{text_order}
 use Rattle.office_mail.specs.Lists.{Lists}
 use Rattle.office_mail.specs.Kept.{Kept, Place}
 use Rattle.office_mail.specs.declared.message.Message.{Message}

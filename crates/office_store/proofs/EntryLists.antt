@@ -1,11 +1,11 @@
 -- Lists of entries of testing.
 use Rattle.std.proofs.Common.{◌≡◌, ◌<◌, ◌+◌, ℕ, List, [], ◌∷◌, ◌++◌, map, take, length, get_or, Option, Some, sym, ap, subst, ◌∙◌}
 use Rattle.std.specs.List.{AllByRecursion}
-use Rattle.testing_rules.proofs.Each.{each-append}
+use Rattle.testing_items.proofs.Each.{each-append}
 use Rattle.std.proofs.lemmas.List.{map-append, take_more}
 use Rattle.testing_rules.specs.Suite.{Suite}
-use Rattle.testing_rules.specs.declared.suite.SourceIn.{SourceIn}
-use Rattle.testing_rules.specs.declared.suite.RowIn.{RowIn}
+use Rattle.testing_model.specs.declared.suite.SourceIn.{SourceIn}
+use Rattle.testing_model.specs.declared.suite.RowIn.{RowIn}
 
 pub suite_of : (t : Suite) (sources : List SourceIn) (rows : List RowIn) → t.sources ≡ sources → t.rows ≡ rows → t ≡ record { sources = sources; rows = rows }
 suite_of t sources rows p q = λ i. record { sources = p i; rows = q i }

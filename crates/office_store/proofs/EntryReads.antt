@@ -7,7 +7,7 @@ use Rattle.sqlite.specs.Order.{Row, column}
 use Rattle.office_mail.specs.Kept.{Kept, Place}
 use Rattle.office_mail.specs.Lists.{Lists}
 use Rattle.office_mail.specs.declared.message.Message.{Message}
-use Rattle.testing_rules.specs.declared.suite.RowIn.{RowIn}
+use Rattle.testing_model.specs.declared.suite.RowIn.{RowIn}
 use Rattle.office_store.specs.Given.{IsArchPlace}
 use Rattle.deb_control.specs.declared.binary.Binary.{Binary}
 use Rattle.office_store.specs.Tables.{number_in, small_of, small_in, text_in}

@@ -16,10 +16,10 @@ use Rattle.deb_control.specs.declared.binary.Binary.{Binary}
 use Rattle.testing_rules.specs.Suite.{Suite}
 use Rattle.testing_rules.specs.Words.{put_by, arch_name}
 use Rattle.testing_rules.specs.Moves.{row_cmp, row_key}
-use Rattle.testing_rules.specs.declared.suite.SourceIn.{SourceIn}
-use Rattle.testing_rules.specs.declared.suite.RowIn.{RowIn}
-use Rattle.testing_rules.proofs.Orders.{text_order}
-use Rattle.testing_rules.proofs.Each.{each-put_all}
+use Rattle.testing_model.specs.declared.suite.SourceIn.{SourceIn}
+use Rattle.testing_model.specs.declared.suite.RowIn.{RowIn}
+use Rattle.testing_model.proofs.Orders.{text_order}
+use Rattle.testing_items.proofs.Each.{each-put_all}
 use Rattle.office_mail.specs.Lists.{Lists}
 use Rattle.office_mail.specs.Kept.{Kept, Place}
 use Rattle.office_mail.specs.declared.message.Message.{Message}

@@ -28,7 +28,7 @@ use Rattle.office_store.proofs.WriteLemmas.{Inserted, inserts_one, cast_null, ca
 use Rattle.office_store.proofs.DeleteLemmas.{Deleted, deletes_some, nothing_left}
 use Rattle.office_store.proofs.KeepLemmas.{apart, unindexed, five}
 use Rattle.office_store.proofs.RunWrites.{none_said}
-use Rattle.testing_rules.proofs.Orders.{text_order}
+use Rattle.testing_model.proofs.Orders.{text_order}
 use Rattle.office_store.proofs.SettingLemmas.{text_exact, row_order, row_exact}
 use Rattle.office_store.proofs.Whole.{whole_reads}
 

@@ -13,7 +13,7 @@ use Rattle.sqlite.specs.Effect.{Database}
 use Rattle.sqlite_rules.specs.Lists.{Has}
 use Rattle.testing_rules.specs.Words.{text_cmp}
 use Rattle.testing_rules.specs.Moves.{row_cmp}
-use Rattle.testing_rules.proofs.Orders.{text_order}
+use Rattle.testing_model.proofs.Orders.{text_order}
 use Rattle.office_mail.specs.Lists.{Lists}
 use Rattle.office_mail.specs.Kept.{Kept, Place, place_cmp}
 use Rattle.office_mail.proofs.KeptFacts.{places_total, exact_places}

@@ -10,9 +10,9 @@ use Rattle.sqlite_rules.specs.Lists.{Has}
 use Rattle.sqlite_rules.proofs.ListLemmas.{has_contained}
 use Rattle.testing_rules.specs.Words.{put_by}
 use Rattle.testing_rules.specs.Moves.{row_key}
-use Rattle.testing_rules.specs.declared.suite.SourceIn.{SourceIn}
-use Rattle.testing_rules.specs.declared.suite.RowIn.{RowIn}
-use Rattle.testing_rules.proofs.Orders.{text_order}
+use Rattle.testing_model.specs.declared.suite.SourceIn.{SourceIn}
+use Rattle.testing_model.specs.declared.suite.RowIn.{RowIn}
+use Rattle.testing_model.proofs.Orders.{text_order}
 use Rattle.office_mail.specs.Lists.{Lists}
 use Rattle.office_mail.specs.Kept.{Kept, Place}
 use Rattle.office_store.specs.Entries.{source_in, source_columns, source_map, entry_in, entry_columns, entry_map}

@@ -13,12 +13,12 @@ use Rattle.std.proofs.lemmas.Map.Lookups.{exact_pairs}
 use Rattle.sqlite.specs.Order.{Row}
 use Rattle.sqlite.specs.Tree.{Trees, put_row}
 use Rattle.sqlite_rules.specs.Edit.{is_taken}
-use Rattle.testing_rules.specs.declared.suite.SourceIn.{SourceIn}
-use Rattle.testing_rules.specs.declared.suite.RowIn.{RowIn}
+use Rattle.testing_model.specs.declared.suite.SourceIn.{SourceIn}
+use Rattle.testing_model.specs.declared.suite.RowIn.{RowIn}
 use Rattle.testing_rules.specs.Words.{Text, text_cmp}
 use Rattle.testing_rules.specs.Moves.{row_cmp, row_key}
 use Rattle.testing_rules.specs.InOrder.{AreByName, AreByKey}
-use Rattle.testing_rules.proofs.Orders.{text_order}
+use Rattle.testing_model.proofs.Orders.{text_order}
 use Rattle.office_mail.specs.Kept.{Place}
 use Rattle.office_store.specs.Tables.{Rows, IsWhole}
 use Rattle.office_store.specs.Entries.{source_in, source_map, source_entry, ClearsSources, AddsSource, SetsSources, entry_in, entry_map, row_entry, ClearsRows, AddsRow, SetsRows}

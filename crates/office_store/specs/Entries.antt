@@ -6,8 +6,8 @@ use Rattle.sqlite.specs.Order.{Row, column}
 use Rattle.sqlite.specs.Tree.{Trees, put_row}
 use Rattle.sqlite.specs.declared.types.Value.{Value}
 use Rattle.sqlite.specs.declared.types.Value.TheVariants.{Null, Int, Real, Text, Blob}
-use Rattle.testing_rules.specs.declared.suite.SourceIn.{SourceIn}
-use Rattle.testing_rules.specs.declared.suite.RowIn.{RowIn}
+use Rattle.testing_model.specs.declared.suite.SourceIn.{SourceIn}
+use Rattle.testing_model.specs.declared.suite.RowIn.{RowIn}
 use Rattle.testing_rules.specs.Words.{text_cmp}
 use Rattle.testing_rules.specs.Moves.{row_cmp, row_key}
 use Rattle.office_mail.specs.Kept.{Place}

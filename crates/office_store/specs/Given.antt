@@ -4,10 +4,10 @@ use Rattle.std.specs.FinMap.{get}
 use Rattle.deb_control.specs.declared.binary.Binary.{Binary}
 use Rattle.testing_rules.specs.Suite.{Suite}
 use Rattle.testing_rules.specs.Words.{arch_name}
-use Rattle.testing_rules.specs.declared.suite.SourceIn.{SourceIn}
-use Rattle.testing_rules.specs.declared.suite.RowIn.{RowIn}
-use Rattle.testing_rules.specs.declared.item.Item.{Item}
-use Rattle.testing_rules.specs.declared.item.Item.TheVariants.{Upload, Dropped, Build, Bug, Hint, Unhint, Delays, Nothing}
+use Rattle.testing_model.specs.declared.suite.SourceIn.{SourceIn}
+use Rattle.testing_model.specs.declared.suite.RowIn.{RowIn}
+use Rattle.testing_items.specs.declared.item.Item.{Item}
+use Rattle.testing_items.specs.declared.item.Item.TheVariants.{Upload, Dropped, Build, Bug, Hint, Unhint, Delays, Nothing}
 use Rattle.office_mail.specs.declared.message.Message.{Message}
 use Rattle.office_mail.specs.declared.message.Body.{Body}
 use Rattle.office_mail.specs.declared.message.Body.TheVariants.{Item as Saying, Run}

@@ -9,8 +9,8 @@ use Rattle.deb_control.specs.declared.binary.Binary.{Binary}
 use Rattle.testing_rules.specs.Suite.{Suite}
 use Rattle.testing_rules.specs.Words.{text_cmp, arch_name}
 use Rattle.testing_rules.specs.Moves.{row_cmp, put_source, put_row}
-use Rattle.testing_rules.specs.declared.suite.SourceIn.{SourceIn}
-use Rattle.testing_rules.specs.declared.suite.RowIn.{RowIn}
+use Rattle.testing_model.specs.declared.suite.SourceIn.{SourceIn}
+use Rattle.testing_model.specs.declared.suite.RowIn.{RowIn}
 use Rattle.office_mail.specs.declared.message.Message.{Message}
 use Rattle.office_mail.specs.declared.message.MailFault.{MailFault}
 use Rattle.office_mail.specs.Lists.{Lists}

@@ -1,52 +1,16 @@
 //! The promotion rules: which sources may move from unstable to testing, and how they move.
 #![tactic(auto)]
 
-mod arch_suite;
-mod archs;
-mod breaking;
-mod build_blocks;
-mod built;
-mod by_source;
-mod change;
-mod days;
-mod entry;
-mod excuse;
-mod excusing;
-mod facts;
-mod groups;
-mod item;
-mod kept;
-pub mod laws;
-mod lent_rows;
-mod live;
-mod live_rows;
-mod live_sources;
-mod migration;
-mod moves;
-mod near;
-mod offender;
-mod pool;
-mod reasons;
-mod report;
-mod row_order;
-mod select;
-mod shared_binary;
-mod singles;
-mod standing;
-mod suite;
-mod taken;
-mod trial;
-mod turns;
-mod update;
-mod wanted;
-
-pub use archs::{ALL, Archs};
-pub use excuse::{Excuse, Excuses, Reason, Reasons};
-pub use excusing::excuses;
-pub use facts::{BugIn, BuildIn, Delays, DelaysIn, DropIn, Facts, HintIn, UnhintIn, UploadIn};
-pub use item::{Binaries, Hint, HintItem, HintItems, Item, Names, Severity, Urgency};
-pub use migration::migrate;
-pub use report::{excuses_text, testing_text, update_text};
-pub use shared_binary::SharedBinary;
-pub use suite::{RowIn, SourceIn, Testing};
-pub use update::{Decision, Moved, MovedItems, Offender, Update};
+pub use testing_excuses::excuses;
+pub use testing_facts::Facts;
+pub use testing_items::{
+    ALL, Archs, Binaries, Hint, HintItem, HintItems, Item, Names, Severity, Urgency,
+};
+pub use testing_laws::laws;
+pub use testing_model::{
+    BugIn, BuildIn, Decision, Delays, DelaysIn, DropIn, Excuse, Excuses, HintIn, Moved, MovedItems,
+    Offender, Reason, Reasons, RowIn, SharedBinary, SourceIn, UnhintIn, Update, UploadIn,
+};
+pub use testing_moves::migrate;
+pub use testing_reports::{excuses_text, testing_text, update_text};
+pub use testing_suites::Testing;

@@ -1,7 +1,7 @@
 use Rattle.std.proofs.Common.{map, Ok, ap, ◌∙◌}
 use Rattle.deb_control.specs.Relations.{◌>>=◌}
-use Rattle.testing_rules.specs.declared.item.HintItem.{HintItem}
-use Rattle.testing_rules.specs.Distinct.{is_distinct}
+use Rattle.testing_items.specs.declared.item.HintItem.{HintItem}
+use Rattle.testing_items.specs.Distinct.{is_distinct}
 use Rattle.office_mail.specs.Hints.{BadHint}
 use Rattle.office_mail.specs.Steps.{needs}
 use Rattle.office_mail.proofs.HintFacts.{group_is}

@@ -1,6 +1,6 @@
 use Rattle.std.proofs.Common.{◌≡◌, drop}
 use Rattle.std.specs.List.{list_all}
-use Rattle.testing_rules.specs.Archs.{is_arch_name}
+use Rattle.testing_items.specs.Archs.{is_arch_name}
 use Rattle.office_mail.proofs.Each.{texts}
 use Rattle.office_mail.proofs.setup_read.are_arch_names.Given as goal
 

@@ -1,5 +1,5 @@
 use Rattle.std.proofs.Common.{◌≡◌, ◌≤◌, List, ℕ, true, map, length, sym, ap, subst, ◌∙◌, arith}
-use Rattle.testing_rules.specs.Archs.{IsArchs}
+use Rattle.testing_items.specs.Archs.{IsArchs}
 use Rattle.office_mail.specs.Setup.{are_senders, are_roles, IsSetup}
 use Rattle.office_mail.proofs.Each.{texts}
 use Rattle.office_mail.proofs.Views.{sender_lines}

@@ -1,5 +1,5 @@
 use Rattle.std.proofs.Common.{◌≡◌, drop}
-use Rattle.testing_rules.specs.Distinct.{is_distinct}
+use Rattle.testing_items.specs.Distinct.{is_distinct}
 use Rattle.office_mail.proofs.Each.{texts}
 use Rattle.office_mail.proofs.values.are_distinct.Given as goal
 

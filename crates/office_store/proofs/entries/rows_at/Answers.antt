@@ -6,7 +6,7 @@ use Rattle.office_store.specs.Holdings.{row_of}
 use Rattle.office_store.proofs.StateLemmas.{lasts_then, clean_before}
 use Rattle.office_store.proofs.Passed.{passed, no_none}
 use Rattle.office_store.proofs.EntryLists.{read_more, each_pushed}
-use Rattle.testing_rules.specs.declared.suite.RowIn.{RowIn}
+use Rattle.testing_model.specs.declared.suite.RowIn.{RowIn}
 use Rattle.office_store.specs.Given.{IsArchPlace}
 use Rattle.office_store.proofs.entries.rows_at.Goals as goal
 

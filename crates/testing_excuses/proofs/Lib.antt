@@ -1,0 +1,4 @@
+pub mod Grounds
+pub mod NewsGroups
+pub mod OwnPart
+pub mod Wanting

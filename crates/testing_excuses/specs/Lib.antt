@@ -1,0 +1,2 @@
+pub mod BySource
+pub mod Wanted

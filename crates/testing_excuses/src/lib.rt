@@ -1,0 +1,11 @@
+//! Why a source may move to testing, or may not yet.
+#![tactic(auto)]
+
+mod by_source;
+mod days;
+mod excusing;
+mod near;
+mod reasons;
+mod wanted;
+
+pub use excusing::excuses;

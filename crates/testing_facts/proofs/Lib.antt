@@ -1,0 +1,5 @@
+pub mod Blocking
+pub mod Elsewhere
+pub mod EveryMeant
+pub mod Joins
+pub mod KeySlots

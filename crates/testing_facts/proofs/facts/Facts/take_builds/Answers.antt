@@ -1,0 +1,14 @@
+use Rattle.std.proofs.Common.{sym, subst}
+use Rattle.testing_model.specs.FactOrder.{AreByPair}
+use Rattle.testing_model.specs.Taken.{stands_beside}
+use Rattle.testing_facts.proofs.KeySlots.{by_pair-builds}
+use Rattle.testing_facts.proofs.facts.Facts.take_builds.Goals as goal
+
+pub invariant_of-self-2 : goal.invariant_of-self-2
+invariant_of-self-2 c =
+    record {
+      by_source = c.self.invariant.by_source;
+      by_pair = subst AreByPair (sym c.in_ok-put.ensures.ok) (by_pair-builds (stands_beside c.deref.result.now) c.args.builds.items c.self.inside.rows c.self.invariant.by_pair);
+      drops_by_pair = c.self.invariant.drops_by_pair;
+      by_number = c.self.invariant.by_number;
+    }

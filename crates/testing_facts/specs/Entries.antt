@@ -1,0 +1,32 @@
+-- What one message gives to the facts.
+use Rattle.std.specs.Prelude.{[], ◌∷◌, ◌++◌}
+use Rattle.testing_items.specs.declared.item.Item.TheVariants as item
+use Rattle.testing_facts.specs.declared.entry.Entry.{Entry}
+use Rattle.testing_facts.specs.declared.entry.Entry.TheVariants.{Upload, Dropped, Build, Bug, Hint, Unhint, Delays, Nothing}
+use Rattle.testing_model.specs.Covered.{CoveredItem, placed_from}
+use Rattle.testing_model.specs.FactLists.{FactLists}
+use Rattle.testing_model.specs.Taken.{with_upload, with_builds, with_drop, with_greatest, with_bug, with_hint, with_unhint, with_delays, stands_beside}
+
+-- the message as the facts keep it
+abbrev pub entry_of : CoveredItem → Entry
+entry_of m = elim m.item [
+  | item.Upload source version urgency day ↦ Upload (record { source = source; version = version; urgency = urgency; day = day; sender = m.sender; number = m.number })
+  | item.Dropped name arch version ↦ Dropped (record { name = name; arch = arch; version = version; sender = m.sender; number = m.number })
+  | item.Build binaries ↦ Build (placed_from 1 m.sender m.number binaries)
+  | item.Bug bug source severity found fixed ↦ Bug (record { bug = bug; source = source; severity = severity; found = found; fixed = fixed; sender = m.sender; number = m.number })
+  | item.Hint hint ↦ Hint (record { hint = hint; sender = m.sender; number = m.number })
+  | item.Unhint cancels ↦ Unhint (record { cancels = cancels; sender = m.sender; number = m.number })
+  | item.Delays low medium high critical ↦ Delays (record { delays = record { low = low; medium = medium; high = high; critical = critical }; sender = m.sender; number = m.number })
+  | item.Nothing ↦ Nothing
+]
+
+-- facts with one more message
+abbrev pub with_entry : Entry → FactLists → FactLists
+with_entry (Upload u) f = record f { sources = with_upload u f.sources; uploads = f.uploads ++ u ∷ [] }
+with_entry (Dropped d) f = record f { rows = with_drop d f.rows; drops = with_greatest d f.drops }
+with_entry (Build bs) f = record f { rows = with_builds (stands_beside f.drops) bs f.rows }
+with_entry (Bug b) f = record f { bugs = with_bug b f.bugs }
+with_entry (Hint h) f = record f { hints = with_hint h f.hints }
+with_entry (Unhint c) f = record f { unhints = with_unhint c f.unhints }
+with_entry (Delays d) f = record f { delays = with_delays d f.delays }
+with_entry Nothing f = f

@@ -1,0 +1,11 @@
+-- Where a list takes an element.
+use Rattle.std.specs.Prelude.{◌≡◌, ◌<◌, ◌≤◌, List, length, slice_set}
+use Rattle.std.specs.List.{insert}
+use Rattle.testing_facts.specs.declared.taken.Slot.{Slot}
+use Rattle.testing_facts.specs.declared.taken.Slot.TheVariants.{Over, Before, Nowhere}
+
+-- the list with the element in it has it over the one at this place, or before it, or is as it was
+abbrev pub IsSlotFor : {A : Type 0} → List A → A → List A → Slot → Type 0
+IsSlotFor xs x put (Over i) = (i < length xs) × (put ≡ slice_set xs i x)
+IsSlotFor xs x put (Before i) = (i ≤ length xs) × (put ≡ insert xs i x)
+IsSlotFor xs x put Nowhere = put ≡ xs

@@ -1,0 +1,102 @@
+//! Which upload, and which rows, count.
+
+ghost use Rattle.std.specs.Prelude.{◌≡◌};
+ghost use Rattle.testing_model.specs.JudgedRows.{row_of};
+ghost use Rattle.testing_items.specs.Words as words;
+ghost use Rattle.testing_model.specs.Unstable as unstable;
+
+use deb_version::Version;
+use std::cmp::Ordering;
+use testing_model::{BugIn, BuildIn, DelaysIn, DropIn, HintIn, LentRow, UnhintIn, UploadIn};
+
+/// The first version is above the second.
+pub fn is_above(version: &Version, other: &Version) -> bool
+    ensures { result ≡ words.is_above version.now other.now }
+{
+    version.order(other).is_gt()
+}
+
+/// The two are the same version.
+pub fn is_same_version(version: &Version, other: &Version) -> bool
+    ensures { result ≡ words.is_same_version version.now other.now }
+{
+    version.order(other).is_eq()
+}
+
+/// The greatest version first, and among the same version by sender and number.
+pub fn upload_order(upload: &UploadIn, other: &UploadIn) -> Ordering
+    ensures { result ≡ unstable.upload_order upload.now other.now }
+{
+    let numbers = upload.number.cmp(&other.number);
+    let senders = upload.sender.cmp(&other.sender).then(numbers);
+    other.version.order(&upload.version).then(senders)
+}
+
+/// The greatest version first, and among the same version by sender, number and place.
+pub fn build_order(build: &BuildIn, other: &BuildIn) -> Ordering
+    ensures { result ≡ unstable.build_order build.now other.now }
+{
+    let places = build.place.cmp(&other.place);
+    let numbers = build.number.cmp(&other.number).then(places);
+    let senders = build.sender.cmp(&other.sender).then(numbers);
+    other
+        .binary
+        .version
+        .order(&build.binary.version)
+        .then(senders)
+}
+
+/// The greatest version first, and among the same version by sender and number.
+pub fn drop_order(drop: &DropIn, other: &DropIn) -> Ordering
+    ensures { result ≡ unstable.drop_order drop.now other.now }
+{
+    let numbers = drop.number.cmp(&other.number);
+    let senders = drop.sender.cmp(&other.sender).then(numbers);
+    other.version.order(&drop.version).then(senders)
+}
+
+/// The greatest number first, and among the same number by sender.
+pub fn bug_order(bug: &BugIn, other: &BugIn) -> Ordering
+    ensures { result ≡ unstable.bug_order bug.now other.now }
+{
+    let senders = bug.sender.cmp(&other.sender);
+    other.number.cmp(&bug.number).then(senders)
+}
+
+/// The greatest number first, and among the same number by sender.
+pub fn delays_order(delays: &DelaysIn, other: &DelaysIn) -> Ordering
+    ensures { result ≡ unstable.delays_order delays.now other.now }
+{
+    let senders = delays.sender.cmp(&other.sender);
+    other.number.cmp(&delays.number).then(senders)
+}
+
+/// By number, and among the same number by sender.
+pub fn hint_order(hint: &HintIn, other: &HintIn) -> Ordering
+    ensures { result ≡ unstable.hint_order hint.now other.now }
+{
+    let senders = hint.sender.cmp(&other.sender);
+    hint.number.cmp(&other.number).then(senders)
+}
+
+/// By number, and among the same number by sender.
+pub fn unhint_order(unhint: &UnhintIn, other: &UnhintIn) -> Ordering
+    ensures { result ≡ unstable.unhint_order unhint.now other.now }
+{
+    let senders = unhint.sender.cmp(&other.sender);
+    unhint.number.cmp(&other.number).then(senders)
+}
+
+/// The row names the source of the upload.
+pub fn is_of_source(upload: &UploadIn, row: &LentRow) -> bool
+    ensures { result ≡ unstable.is_of_source upload.now (row_of row.now) }
+{
+    row.binary.source.as_str() == upload.source.as_str()
+}
+
+/// The row names the source of the upload, and was built from its version.
+pub fn is_current(upload: &UploadIn, row: &LentRow) -> bool
+    ensures { result ≡ unstable.is_current upload.now (row_of row.now) }
+{
+    is_of_source(upload, row) && is_same_version(&row.binary.source_version, &upload.version)
+}

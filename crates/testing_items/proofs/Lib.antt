@@ -1,0 +1,9 @@
+pub mod Each
+pub mod Grouping
+pub mod Last
+pub mod Mapped
+pub mod Members
+pub mod Missing
+pub mod Puts
+pub mod Tests
+pub mod Weaker

@@ -1,0 +1,19 @@
+-- What facts hold.
+use Rattle.std.specs.Prelude.{List, Option}
+use Rattle.testing_model.specs.declared.facts.UploadIn.{UploadIn}
+use Rattle.testing_model.specs.declared.facts.BuildIn.{BuildIn}
+use Rattle.testing_model.specs.declared.facts.DropIn.{DropIn}
+use Rattle.testing_model.specs.declared.facts.BugIn.{BugIn}
+use Rattle.testing_model.specs.declared.facts.HintIn.{HintIn}
+use Rattle.testing_model.specs.declared.facts.UnhintIn.{UnhintIn}
+use Rattle.testing_model.specs.declared.facts.DelaysIn.{DelaysIn}
+
+pub record FactLists : Type 0 where
+  pub sources : List UploadIn
+  pub uploads : List UploadIn
+  pub rows : List BuildIn
+  pub drops : List DropIn
+  pub bugs : List BugIn
+  pub hints : List HintIn
+  pub unhints : List UnhintIn
+  pub delays : Option DelaysIn

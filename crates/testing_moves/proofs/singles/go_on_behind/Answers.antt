@@ -1,0 +1,13 @@
+use Rattle.std.proofs.Common.{arith, ◌∙◌, ap, ◌<◌, length, drop}
+use Rattle.testing_moves.specs.LentItems.{lent_excuses}
+use Rattle.testing_moves.proofs.Circle.{turned, lent-behind}
+use Rattle.testing_moves.proofs.singles.go_on_behind.Goals as goal
+
+pub returns-clause-behind : goal.returns-clause-behind
+returns-clause-behind c =
+    let items = c.args.circle.now.items in
+    let i = c.args.place in
+    let below : i < length items = omega arith in
+    ap lent_excuses
+    (c.pop_front.ensures.rest ∙ ap (drop 1) c.rotate_left.ensures.items ∙ turned items i below)
+    ∙ lent-behind items i

@@ -1,0 +1,4 @@
+pub mod Held
+pub mod LentItems
+pub mod LiveSources
+pub mod Runs

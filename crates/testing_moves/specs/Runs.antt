@@ -1,0 +1,54 @@
+-- What a run goes by, and how far it has come.
+use Rattle.std.specs.Prelude.{List, [], Option}
+use Rattle.testing_model.specs.declared.facts.UploadIn.{UploadIn}
+use Rattle.testing_model.specs.declared.suite.RowIn.{RowIn}
+use Rattle.testing_model.specs.declared.update.Decision.{Decision}
+use Rattle.testing_model.specs.declared.update.Offender.{Offender}
+use Rattle.testing_model.specs.Suite.{Suite}
+use Rattle.testing_items.specs.Words.{Text}
+use Rattle.testing_model.specs.Moves.{move_group, remove_source, offender_of}
+use Rattle.testing_model.specs.Updates.{Outcome, then_do, decide}
+
+-- what stays during a run: the architectures, and unstable's sources and rows
+pub record Basis : Type 0 where
+  pub archs : List Text
+  pub sources : List UploadIn
+  pub rows : List RowIn
+
+-- testing as it is at some moment of a run
+pub record Moment : Type 0 where
+  pub basis : Basis
+  pub suite : Suite
+
+-- testing after the group has moved
+abbrev pub after_move : List Text → Moment → Moment
+after_move group m = record { basis = m.basis; suite = move_group m.basis.sources m.basis.rows group m.suite }
+
+-- what moving the group would break
+abbrev pub broken_by_move : List Text → Moment → Option Offender
+broken_by_move group m = offender_of m.basis.archs m.suite.rows (move_group m.basis.sources m.basis.rows group m.suite).rows group
+
+-- testing after the source has left
+abbrev pub after_removal : Text → Moment → Moment
+after_removal name m = record { basis = m.basis; suite = remove_source name m.suite }
+
+-- what removing the source would break
+abbrev pub broken_by_removal : Text → Moment → Option Offender
+broken_by_removal name m = offender_of m.basis.archs m.suite.rows (remove_source name m.suite).rows []
+
+-- a run so far: its decisions, and the testing that they leave
+pub record Run : Type 0 where
+  pub basis : Basis
+  pub outcome : Outcome
+
+-- testing as the run has it
+abbrev pub moment_of : Run → Moment
+moment_of r = record { basis = r.basis; suite = r.outcome.suite }
+
+-- a run after one step more
+abbrev pub go_on : Run → (Basis → Suite → Outcome) → Run
+go_on r step = record { basis = r.basis; outcome = then_do r.outcome (step r.basis) }
+
+-- a decision by which a group moves
+abbrev pub decide_move : Decision → List Text → Basis → Suite → Outcome
+decide_move d group b t = decide d (move_group b.sources b.rows group t)

@@ -1,0 +1,167 @@
+//! What a change of testing during a run would break, told by the suites of the architectures.
+
+ghost use Rattle.std.specs.Prelude.{◌≡◌, [], IfOk, length};
+ghost use Rattle.testing_install.specs.Closed.{marked};
+ghost use Rattle.testing_model.specs.Boxed.{unboxed};
+ghost use Rattle.testing_suites.specs.AfterMoves.{moved_rows, rows_without};
+ghost use Rattle.testing_model.specs.FactOrder.{AreBySource, IsUnstableOrder};
+ghost use Rattle.testing_moves.specs.Held.{held, AreLive};
+ghost use Rattle.testing_model.specs.InOrder.{AreByKey};
+ghost use Rattle.testing_model.specs.JudgedRows.{lent};
+ghost use Rattle.testing_model.specs.Moves as rules;
+ghost use Rattle.testing_suites.specs.Standing.{IsShown, IsLive, standing};
+
+use crate::lent_rows::{moved_rows, rows_without};
+use crate::live_rows::LiveRows;
+use crate::offender::offender_of;
+use crate::standing::PoolSuites;
+use deb_control::Text;
+use deb_version::NoMemory;
+use std::alloc::Global;
+use testing_facts::Unstable;
+use testing_items::Archs;
+use testing_model::{LentRow, Offender};
+
+/// What the move of a group would break, judged anew.
+fn broken_by_move_anew<'a>(
+    alloc: Global,
+    archs: &Archs,
+    unstable: Unstable<'_, 'a>,
+    group: &[Text],
+    rows: &[LentRow<'a>],
+) -> Result<Option<Offender>, NoMemory>
+    requires sources { AreBySource (unboxed unstable.sources.now) }
+    requires order { AreByKey (lent rows.now) }
+    ensures { IfOk result (λ o. o ≡ rules.offender_of archs.now (lent rows.now)
+        (moved_rows (unboxed unstable.entry.sources.now) (lent unstable.entry.rows.now) group.now (lent rows.now)) group.now) }
+{
+    let moved = moved_rows(alloc, rows, unstable, group)?;
+    offender_of(alloc, archs, rows, &moved, group)
+}
+
+/// What the removal of a source would break, judged anew.
+fn broken_by_removal_anew(
+    alloc: Global,
+    archs: &Archs,
+    name: &str,
+    rows: &[LentRow],
+) -> Result<Option<Offender>, NoMemory>
+    ensures { IfOk result (λ o. o ≡ rules.offender_of archs.now (lent rows.now) (rows_without name.now (lent rows.now)) []) }
+{
+    let left = rows_without(alloc, rows, name)?;
+    offender_of(alloc, archs, rows, &left, &[])
+}
+
+/// What the move of a group breaks, judged anew over the rows that stand.
+fn broken_by_move_of_standing(
+    alloc: Global,
+    suites: &PoolSuites,
+    archs: &Archs,
+    unstable: Unstable<'_, '_>,
+    group: &[Text],
+) -> Result<Option<Offender>, NoMemory>
+    requires { AreBySource (unboxed unstable.sources.now) }
+    ensures { IfOk result (λ o. o ≡ rules.offender_of archs.now (standing suites.now)
+        (moved_rows (unboxed unstable.entry.sources.now) (lent unstable.entry.rows.now) group.now (standing suites.now)) group.now) }
+{
+    let rows = suites.rows(alloc)?;
+    broken_by_move_anew(alloc, archs, unstable, group, &rows)
+}
+
+/// What the move of a group breaks, told by the suites. They can't tell where they leave out the rows of one of its
+/// sources, nor where a row that comes stands already, that is where a source moves again: then the move is judged anew.
+fn told_by_move(
+    alloc: Global,
+    suites: &mut PoolSuites,
+    archs: &Archs,
+    unstable: Unstable<'_, '_>,
+    group: &[Text],
+) -> Result<Option<Offender>, NoMemory>
+    requires order { IsUnstableOrder (unboxed unstable.sources.now) (lent unstable.rows.now) }
+    requires live { IsLive suites.old archs.now (lent unstable.rows.now) (standing suites.old) }
+    ensures same { suites.new ≡ suites.old }
+    ensures offender { IfOk result (λ o. o ≡ rules.offender_of archs.now (standing suites.old)
+        (moved_rows (unboxed unstable.entry.sources.now) (lent unstable.entry.rows.now) group.now (standing suites.old)) group.now) }
+{
+    if !suites.offers(group) {
+        return broken_by_move_of_standing(alloc, suites, archs, unstable, group);
+    }
+    let change = suites.change_by_move(alloc, unstable.sources, group)?;
+    if !suites.is_fresh(&change) {
+        return broken_by_move_of_standing(alloc, suites, archs, unstable, group);
+    }
+    suites.first_lost(alloc, &change)
+}
+
+/// What the removal of a source breaks, told by the suites.
+fn told_by_removal(
+    alloc: Global,
+    suites: &mut PoolSuites,
+    archs: &Archs,
+    name: &str,
+) -> Result<Option<Offender>, NoMemory>
+    requires count { suites.old.archs ≡ length archs.now }
+    requires shown { IsShown suites.old.rows (marked suites.old.stands) (standing suites.old) }
+    ensures same { suites.new ≡ suites.old }
+    ensures offender { IfOk result (λ o. o ≡ rules.offender_of archs.now (standing suites.old) (rows_without name.now (standing suites.old)) []) }
+{
+    let change = suites.change_by_removal(alloc, name)?;
+    suites.first_lost(alloc, &change)
+}
+
+/// What the move of a group breaks, judged anew over the rows.
+fn broken_by_move_of_held(
+    alloc: Global,
+    rows: &LiveRows,
+    archs: &Archs,
+    unstable: Unstable<'_, '_>,
+    group: &[Text],
+) -> Result<Option<Offender>, NoMemory>
+    requires sources { AreBySource (unboxed unstable.sources.now) }
+    requires by_key { AreByKey (held rows.now) }
+    ensures { IfOk result (λ o. o ≡ rules.offender_of archs.now (held rows.now)
+        (moved_rows (unboxed unstable.entry.sources.now) (lent unstable.entry.rows.now) group.now (held rows.now)) group.now) }
+{
+    let list = rows.list(alloc)?;
+    broken_by_move_anew(alloc, archs, unstable, group, &list)
+}
+
+/// What the move of a group would break: told by the suites where there are any, and else judged anew.
+pub fn broken_by_move(
+    alloc: Global,
+    rows: &mut LiveRows,
+    archs: &Archs,
+    unstable: Unstable<'_, '_>,
+    group: &[Text],
+) -> Result<Option<Offender>, NoMemory>
+    requires order { IsUnstableOrder (unboxed unstable.sources.now) (lent unstable.rows.now) }
+    requires by_key { AreByKey (held rows.old) }
+    requires live { AreLive rows.old archs.now (lent unstable.rows.now) }
+    ensures same { rows.new ≡ rows.old }
+    ensures offender { IfOk result (λ o. o ≡ rules.offender_of archs.now (held rows.old)
+        (moved_rows (unboxed unstable.entry.sources.now) (lent unstable.entry.rows.now) group.now (held rows.old)) group.now) }
+{
+    if let LiveRows::Pooled(suites) = rows {
+        return told_by_move(alloc, suites, archs, unstable, group);
+    }
+    broken_by_move_of_held(alloc, rows, archs, unstable, group)
+}
+
+/// What the removal of a source would break: told by the suites where there are any, and else judged anew.
+pub fn broken_by_removal(
+    alloc: Global,
+    rows: &mut LiveRows,
+    archs: &Archs,
+    unstable: Unstable<'_, '_>,
+    name: &str,
+) -> Result<Option<Offender>, NoMemory>
+    requires { AreLive rows.old archs.now (lent unstable.rows.now) }
+    ensures same { rows.new ≡ rows.old }
+    ensures offender { IfOk result (λ o. o ≡ rules.offender_of archs.now (held rows.old) (rows_without name.now (held rows.old)) []) }
+{
+    if let LiveRows::Pooled(suites) = rows {
+        return told_by_removal(alloc, suites, archs, name);
+    }
+    let list = rows.list(alloc)?;
+    broken_by_removal_anew(alloc, archs, name, &list)
+}

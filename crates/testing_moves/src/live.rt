@@ -1,0 +1,159 @@
+//! Testing while a run moves sources.
+
+ghost use Rattle.std.specs.Prelude.{◌≡◌, IfOk, OnOk, option_copied};
+ghost use Rattle.testing_model.specs.Excuses as excuses;
+ghost use Rattle.testing_model.specs.Boxed.{unboxed};
+ghost use Rattle.testing_model.specs.FactOrder.{AreBySource};
+ghost use Rattle.testing_model.specs.InOrder.{AreByKey};
+ghost use Rattle.testing_model.specs.JudgedRows.{lent};
+ghost use Rattle.testing_suites.specs.Kept.{AreKept};
+ghost use Rattle.testing_moves.specs.Runs.{after_move, broken_by_move, after_removal, broken_by_removal};
+
+use crate::breaking;
+use crate::live_rows::LiveRows;
+use crate::live_sources::{
+    LiveSource, lend_sources, move_sources, own_sources, place_of_name, take_source,
+};
+use deb_control::Text;
+use deb_version::{NoMemory, Version};
+use std::alloc::Global;
+use std::marker::Model;
+use std::mem;
+use testing_facts::{Hashes, Unstable};
+use testing_items::Archs;
+use testing_model::{Offender, UploadIn};
+use testing_suites::{KeptSuites, Testing};
+
+/// Testing while a run changes it, beside what the run goes by: the architectures and unstable. The sources stand by
+/// name. A change is first judged, and testing stays; then it is made. The suites judge it by what it touches; there are
+/// none after a move of a source whose rows they leave out, and where memory ran out while a change was made.
+#[derive(Drop)]
+pub struct LiveTesting<'u, 'a> {
+    archs: &'u Archs,
+    unstable: Unstable<'u, 'a>,
+    sources: Vec<LiveSource<'a>>,
+    rows: LiveRows,
+}
+
+impl<'u, 'a> Model for LiveTesting<'u, 'a> {
+    ghost use Rattle.testing_model.specs.Boxed.{unboxed};
+    ghost use Rattle.testing_moves.specs.Held.{held, IsLiveTesting};
+    ghost use Rattle.testing_model.specs.JudgedRows.{lent};
+    ghost use Rattle.testing_moves.specs.LiveSources.{sources_of};
+    ghost use Rattle.testing_moves.specs.Runs.{Moment};
+
+    ghost Value = { Moment };
+
+    ghost view = { λ a. record {
+      basis = record { archs = a.archs.now; sources = unboxed a.unstable.sources.now; rows = lent a.unstable.rows.now };
+      suite = record { sources = sources_of a.sources.items; rows = held a.rows };
+    } };
+
+    ghost invariant = { λ a. IsLiveTesting a.rows a.archs.now (unboxed a.unstable.sources.now) (lent a.unstable.rows.now) (sources_of a.sources.items) };
+}
+
+impl<'u, 'a> LiveTesting<'u, 'a> {
+    /// Testing as it is before the run, the sources that may move, and the suites that are kept of testing's rows.
+    pub fn new(
+        alloc: Global,
+        archs: &'u Archs,
+        unstable: Unstable<'u, 'a>,
+        testing: &'a Testing,
+        candidates: Hashes,
+        kept: Option<KeptSuites>,
+    ) -> Result<LiveTesting<'u, 'a>, NoMemory>
+        requires kept { AreKept kept testing.now.rows }
+        requires sources { AreBySource (unboxed unstable.sources.now) }
+        requires rows { AreByKey (lent unstable.rows.now) }
+        ensures { IfOk result (λ live. live ≡ record {
+          basis = record { archs = archs.now; sources = unboxed unstable.entry.sources.now; rows = lent unstable.entry.rows.now };
+          suite = testing.now;
+        }) }
+    {
+        let rows = LiveRows::new(alloc, archs, unstable, testing, candidates, kept)?;
+        let sources = lend_sources(alloc, testing.sources())?;
+        Ok(LiveTesting {
+            archs,
+            unstable,
+            sources,
+            rows,
+        })
+    }
+
+    /// The source's version in testing.
+    pub fn version_of(&self, name: &str) -> Option<&Version>
+        ensures { option_copied result ≡ excuses.testing_version self.now.suite name.now }
+    {
+        match place_of_name(&self.sources, name) {
+            Ok(place) => Some(&self.sources[place].source().version),
+            Err(_) => None,
+        }
+    }
+
+    /// Unstable's sources.
+    pub fn unstable_sources(&self) -> &'u [Box<UploadIn>]
+        ensures sources { unboxed result.now ≡ self.now.basis.sources }
+        ensures ordered { AreBySource (unboxed result.now) }
+    {
+        self.unstable.sources
+    }
+
+    /// What the move of a group would break.
+    pub fn broken_by_move(
+        &mut self,
+        alloc: Global,
+        group: &[Text],
+    ) -> Result<Option<Offender>, NoMemory>
+        ensures same { self.new ≡ self.old }
+        ensures offender { IfOk result (λ o. o ≡ broken_by_move group.now self.old) }
+    {
+        breaking::broken_by_move(alloc, &mut self.rows, self.archs, self.unstable, group)
+    }
+
+    /// Moves a group.
+    pub fn move_group(&mut self, alloc: Global, group: &[Text]) -> Result<(), NoMemory>
+        ensures { OnOk result (self.new ≡ after_move group.now self.old) }
+    {
+        let rows = mem::replace(&mut self.rows, LiveRows::Listed(Vec::new(alloc)));
+        move_sources(alloc, &mut self.sources, self.unstable.sources, group)?;
+        self.rows = rows.moved(alloc, self.unstable, group)?;
+        Ok(())
+    }
+
+    /// What the removal of a source would break.
+    pub fn broken_by_removal(
+        &mut self,
+        alloc: Global,
+        name: &str,
+    ) -> Result<Option<Offender>, NoMemory>
+        ensures same { self.new ≡ self.old }
+        ensures offender { IfOk result (λ o. o ≡ broken_by_removal name.now self.old) }
+    {
+        breaking::broken_by_removal(alloc, &mut self.rows, self.archs, self.unstable, name)
+    }
+
+    /// Removes a source.
+    pub fn remove(&mut self, alloc: Global, name: &str) -> Result<(), NoMemory>
+        ensures { OnOk result (self.new ≡ after_removal name.now self.old) }
+    {
+        let rows = mem::replace(&mut self.rows, LiveRows::Listed(Vec::new(alloc)));
+        take_source(&mut self.sources, name);
+        self.rows = rows.without(alloc, name)?;
+        Ok(())
+    }
+
+    /// Testing as the run leaves it.
+    pub fn into_testing(self, alloc: Global) -> Result<Testing, NoMemory>
+        ensures { IfOk result (λ testing. testing ≡ self.entry.suite) }
+    {
+        let LiveTesting {
+            archs: _,
+            unstable: _,
+            sources,
+            rows,
+        } = self;
+        let sources = own_sources(alloc, sources)?;
+        let (rows, kept) = rows.into_parts(alloc)?;
+        Testing::of(alloc, sources, rows, kept)
+    }
+}

@@ -1,0 +1,286 @@
+//! Testing's rows while a run changes them.
+
+ghost use Rattle.std.specs.Prelude.{◌≡◌, true, IfOk, List};
+ghost use Rattle.std.specs.List.{list_all};
+ghost use Rattle.testing_install.specs.Closed.{marked};
+ghost use Rattle.testing_model.specs.Boxed.{unboxed};
+ghost use Rattle.testing_suites.specs.AfterMoves.{moved_rows, rows_without};
+ghost use Rattle.testing_model.specs.FactOrder.{AreBySource, IsUnstableOrder};
+ghost use Rattle.testing_moves.specs.Held.{held, AreLive};
+ghost use Rattle.testing_model.specs.InOrder.{AreByKey};
+ghost use Rattle.testing_model.specs.JudgedRows.{lent};
+ghost use Rattle.testing_suites.specs.Kept.{AreKept};
+ghost use Rattle.testing_suites.specs.Standing.{IsLive, IsShown, standing};
+ghost use Rattle.testing_model.specs.Wanted.{is_wanted};
+ghost use Rattle.testing_items.specs.Words.{Text as Word};
+ghost use Rattle.testing_model.specs.declared.suite.RowIn.{RowIn as ARow};
+
+use crate::lent_rows::{copy_lent, moved_rows, rows_without};
+use crate::standing::PoolSuites;
+use deb_control::Text;
+use deb_version::NoMemory;
+use std::alloc::Global;
+use testing_facts::{Hashes, Unstable};
+use testing_items::Archs;
+use testing_model::{LentRow, RowIn};
+use testing_suites::{KeptSuites, Testing, lend_rows};
+
+/// Testing's rows: those that stand of a pool, whose suites judge a change, and make it, by what it touches; or a list
+/// of them, where there are no suites.
+#[derive(Drop)]
+pub enum LiveRows {
+    Pooled(PoolSuites),
+    Listed(Vec<RowIn>),
+}
+
+/// The suites once a group has moved.
+fn moved_suites(
+    alloc: Global,
+    suites: PoolSuites,
+    unstable: Unstable<'_, '_>,
+    group: &[Text],
+) -> Result<PoolSuites, NoMemory>
+    requires order { IsUnstableOrder (unboxed unstable.sources.now) (lent unstable.rows.now) }
+    requires offered { list_all (is_wanted suites.candidates) group.now ≡ true }
+    ensures rows { IfOk result (λ new. (archs : List Word) → IsLive suites archs (lent unstable.entry.rows.now) (standing suites)
+        → standing new ≡ moved_rows (unboxed unstable.entry.sources.now) (lent unstable.entry.rows.now) group.now (standing suites)) }
+    ensures live { IfOk result (λ new. (archs : List Word) → IsLive suites archs (lent unstable.entry.rows.now) (standing suites)
+        → IsLive new archs (lent unstable.entry.rows.now) (standing new)) }
+{
+    let change = suites.change_by_move(alloc, unstable.sources, group)?;
+    suites.after(alloc, &change)
+}
+
+/// Equal rows after the move of a group.
+fn copies_moved<'a>(
+    alloc: Global,
+    rows: &[LentRow<'a>],
+    unstable: Unstable<'_, 'a>,
+    group: &[Text],
+) -> Result<Vec<RowIn>, NoMemory>
+    requires sources { AreBySource (unboxed unstable.sources.now) }
+    requires order { AreByKey (lent rows.now) }
+    ensures rows { IfOk result (λ new. new.items ≡ moved_rows (unboxed unstable.entry.sources.now) (lent unstable.entry.rows.now) group.now (lent rows.now)) }
+    ensures ordered { IfOk result (λ new. AreByKey new.items) }
+{
+    let moved = moved_rows(alloc, rows, unstable, group)?;
+    let copies = copy_lent(alloc, &moved)?;
+    Ok(copies)
+}
+
+/// A list of rows after the move of a group.
+fn list_moved<'a>(
+    alloc: Global,
+    rows: &'a [RowIn],
+    unstable: Unstable<'_, 'a>,
+    group: &[Text],
+) -> Result<Vec<RowIn>, NoMemory>
+    requires sources { AreBySource (unboxed unstable.sources.now) }
+    requires order { AreByKey rows.now }
+    ensures rows { IfOk result (λ new. new.items ≡ moved_rows (unboxed unstable.entry.sources.now) (lent unstable.entry.rows.now) group.now rows.now) }
+    ensures ordered { IfOk result (λ new. AreByKey new.items) }
+{
+    let rows = lend_rows(alloc, rows)?;
+    let moved = copies_moved(alloc, &rows, unstable, group)?;
+    Ok(moved)
+}
+
+/// The rows of a pool that stand, as a list after the move of a group.
+fn standing_moved<'a>(
+    alloc: Global,
+    suites: &'a PoolSuites,
+    unstable: Unstable<'_, 'a>,
+    group: &[Text],
+) -> Result<Vec<RowIn>, NoMemory>
+    requires { AreBySource (unboxed unstable.sources.now) }
+    ensures rows { IfOk result (λ new. new.items ≡ moved_rows (unboxed unstable.entry.sources.now) (lent unstable.entry.rows.now) group.now (standing suites.now)) }
+    ensures ordered { IfOk result (λ new. AreByKey new.items) }
+{
+    let rows = suites.rows(alloc)?;
+    let moved = copies_moved(alloc, &rows, unstable, group)?;
+    Ok(moved)
+}
+
+/// A list of the rows of a pool after the move of a group, in place of the pool.
+fn listed_moved(
+    alloc: Global,
+    suites: PoolSuites,
+    unstable: Unstable<'_, '_>,
+    group: &[Text],
+) -> Result<LiveRows, NoMemory>
+    requires { AreBySource (unboxed unstable.sources.now) }
+    ensures rows { IfOk result (λ new. held new ≡ moved_rows (unboxed unstable.entry.sources.now) (lent unstable.entry.rows.now) group.now (standing suites)) }
+    ensures live { IfOk result (λ new. (archs : List Word) → AreLive new archs (lent unstable.entry.rows.now)) }
+    ensures by_key { IfOk result (λ new. AreByKey (held new)) }
+{
+    let moved = standing_moved(alloc, &suites, unstable, group)?;
+    Ok(LiveRows::Listed(moved))
+}
+
+/// The rows of a pool after the move of a group. They are a list from then on where the suites leave out rows of one of
+/// its sources.
+fn moved_from_pool(
+    alloc: Global,
+    suites: PoolSuites,
+    unstable: Unstable<'_, '_>,
+    group: &[Text],
+) -> Result<LiveRows, NoMemory>
+    requires { IsUnstableOrder (unboxed unstable.sources.now) (lent unstable.rows.now) }
+    ensures rows { IfOk result (λ new. (archs : List Word) → IsLive suites archs (lent unstable.entry.rows.now) (standing suites)
+        → held new ≡ moved_rows (unboxed unstable.entry.sources.now) (lent unstable.entry.rows.now) group.now (standing suites)) }
+    ensures live { IfOk result (λ new. (archs : List Word) → IsLive suites archs (lent unstable.entry.rows.now) (standing suites)
+        → AreLive new archs (lent unstable.entry.rows.now)) }
+    ensures by_key { IfOk result (λ new. AreByKey (held new)) }
+{
+    if suites.offers(group) {
+        let suites = moved_suites(alloc, suites, unstable, group)?;
+        Ok(LiveRows::Pooled(suites))
+    } else {
+        listed_moved(alloc, suites, unstable, group)
+    }
+}
+
+/// The suites once a source is removed.
+fn suites_without(alloc: Global, suites: PoolSuites, name: &str) -> Result<PoolSuites, NoMemory>
+    ensures rows { IfOk result (λ new. (archs : List Word) (unstable : List ARow) → IsLive suites archs unstable (standing suites)
+        → standing new ≡ rows_without name.now (standing suites)) }
+    ensures live { IfOk result (λ new. (archs : List Word) (unstable : List ARow) → IsLive suites archs unstable (standing suites)
+        → IsLive new archs unstable (standing new)) }
+{
+    let change = suites.change_by_removal(alloc, name)?;
+    suites.after(alloc, &change)
+}
+
+/// A list of the rows of other sources.
+fn list_without(alloc: Global, rows: &[RowIn], name: &str) -> Result<Vec<RowIn>, NoMemory>
+    ensures { IfOk result (λ left. left.items ≡ rows_without name.now rows.now) }
+{
+    let rows = lend_rows(alloc, rows)?;
+    let left = rows_without(alloc, &rows, name)?;
+    let copies = copy_lent(alloc, &left)?;
+    Ok(copies)
+}
+
+/// The suites that are kept of the rows, or new ones: where there are none, where they are of another number of
+/// architectures, and where more than half of their rows no longer stand.
+fn kept_or_new(
+    alloc: Global,
+    archs: u32,
+    rows: &[RowIn],
+    kept: Option<KeptSuites>,
+) -> Result<KeptSuites, NoMemory>
+    requires order { AreByKey rows.now }
+    requires kept { AreKept kept rows.now }
+    ensures archs { IfOk result (λ suites. suites.archs ≡ archs) }
+    ensures shown { IfOk result (λ suites. IsShown suites.rows (marked suites.stands) rows.now) }
+{
+    match kept {
+        Some(kept) => {
+            if kept.archs() == archs && kept.len() / 2 <= rows.len() {
+                Ok(kept)
+            } else {
+                KeptSuites::of(alloc, archs, rows)
+            }
+        }
+        None => KeptSuites::of(alloc, archs, rows),
+    }
+}
+
+/// A list of the rows that stand.
+fn standing_rows(alloc: Global, suites: &PoolSuites) -> Result<Vec<RowIn>, NoMemory>
+    ensures { IfOk result (λ rows. rows.items ≡ standing suites.now) }
+{
+    let rows = suites.rows(alloc)?;
+    let copies = copy_lent(alloc, &rows)?;
+    Ok(copies)
+}
+
+impl LiveRows {
+    /// The rows before a run. To them those of unstable may come whose source is a candidate.
+    pub fn new(
+        alloc: Global,
+        archs: &Archs,
+        unstable: Unstable<'_, '_>,
+        testing: &Testing,
+        candidates: Hashes,
+        kept: Option<KeptSuites>,
+    ) -> Result<LiveRows, NoMemory>
+        requires { AreKept kept testing.now.rows }
+        ensures rows { IfOk result (λ new. held new ≡ testing.now.rows) }
+        ensures live { IfOk result (λ new. AreLive new archs.now (lent unstable.entry.rows.now)) }
+        ensures by_key { IfOk result (λ new. AreByKey (held new)) }
+    {
+        let kept = kept_or_new(alloc, archs.len(), testing.rows(), kept)?;
+        let suites = PoolSuites::new(alloc, kept, candidates, unstable.rows)?;
+        Ok(LiveRows::Pooled(suites))
+    }
+
+    /// The rows after the move of a group.
+    pub fn moved(
+        self,
+        alloc: Global,
+        unstable: Unstable<'_, '_>,
+        group: &[Text],
+    ) -> Result<LiveRows, NoMemory>
+        requires order { IsUnstableOrder (unboxed unstable.sources.now) (lent unstable.rows.now) }
+        requires by_key { AreByKey (held self) }
+        ensures rows { IfOk result (λ new. (archs : List Word) → AreLive self archs (lent unstable.entry.rows.now)
+            → held new ≡ moved_rows (unboxed unstable.entry.sources.now) (lent unstable.entry.rows.now) group.now (held self)) }
+        ensures live { IfOk result (λ new. (archs : List Word) → AreLive self archs (lent unstable.entry.rows.now)
+            → AreLive new archs (lent unstable.entry.rows.now)) }
+        ensures by_key { IfOk result (λ new. AreByKey (held new)) }
+    {
+        match self {
+            LiveRows::Pooled(suites) => moved_from_pool(alloc, suites, unstable, group),
+            LiveRows::Listed(rows) => {
+                let moved = list_moved(alloc, &rows, unstable, group)?;
+                Ok(LiveRows::Listed(moved))
+            }
+        }
+    }
+
+    /// The rows after the removal of a source.
+    pub fn without(self, alloc: Global, name: &str) -> Result<LiveRows, NoMemory>
+        requires { AreByKey (held self) }
+        ensures rows { IfOk result (λ new. (archs : List Word) (unstable : List ARow) → AreLive self archs unstable
+            → held new ≡ rows_without name.now (held self)) }
+        ensures live { IfOk result (λ new. (archs : List Word) (unstable : List ARow) → AreLive self archs unstable
+            → AreLive new archs unstable) }
+        ensures by_key { IfOk result (λ new. AreByKey (held new)) }
+    {
+        match self {
+            LiveRows::Pooled(suites) => {
+                let suites = suites_without(alloc, suites, name)?;
+                Ok(LiveRows::Pooled(suites))
+            }
+            LiveRows::Listed(rows) => {
+                let left = list_without(alloc, &rows, name)?;
+                Ok(LiveRows::Listed(left))
+            }
+        }
+    }
+
+    /// A list of the rows.
+    pub fn list(&self, alloc: Global) -> Result<Vec<LentRow<'_>>, NoMemory>
+        ensures { IfOk result (λ rows. lent rows.items ≡ held self.now) }
+    {
+        match self {
+            LiveRows::Pooled(suites) => suites.rows(alloc),
+            LiveRows::Listed(rows) => lend_rows(alloc, rows),
+        }
+    }
+
+    /// The rows, and the suites that are kept of them, where there are any.
+    pub fn into_parts(self, alloc: Global) -> Result<(Vec<RowIn>, Option<KeptSuites>), NoMemory>
+        ensures rows { IfOk result (λ parts. parts.0.items ≡ held self) }
+        ensures kept { IfOk result (λ parts. (archs : List Word) (unstable : List ARow) → AreLive self archs unstable → AreKept parts.1 (held self)) }
+    {
+        match self {
+            LiveRows::Pooled(suites) => {
+                let rows = standing_rows(alloc, &suites)?;
+                Ok((rows, Some(suites.into_kept())))
+            }
+            LiveRows::Listed(rows) => Ok((rows, None)),
+        }
+    }
+}

@@ -1,0 +1,69 @@
+//! A run's moves: removals, groups, single moves, and the candidates that wait.
+
+ghost use Rattle.std.specs.Prelude.{◌≡◌, IfOk, OnErr};
+ghost use Rattle.testing_model.specs.Covered.{Covered};
+ghost use Rattle.testing_model.specs.Excuses.{excuses_of};
+ghost use Rattle.testing_suites.specs.Kept.{AreKept};
+ghost use Rattle.testing_model.specs.StandsFor.{StandsFor};
+ghost use Rattle.testing_model.specs.Unstable as unstable_words;
+ghost use Rattle.testing_model.specs.Updates.{IsUpdate, update_by};
+ghost use Rattle.testing_model.specs.Watched.{AllWatchedWork};
+
+use crate::live::LiveTesting;
+use crate::turns::Turns;
+use deb_version::NoMemory;
+use jiff::civil::Date;
+use std::alloc::Global;
+use testing_facts::{Facts, Unstable, built_rows, candidates};
+use testing_items::Archs;
+use testing_model::{Decision, Excuse, Excuses, Update};
+use testing_suites::{KeptSuites, Testing};
+
+/// The decisions of a run over unstable, and the testing that they leave.
+fn all_turns<'a>(
+    alloc: Global,
+    archs: &Archs,
+    facts: &'a Facts,
+    excuses: &[Excuse],
+    testing: &'a Testing,
+    kept: Option<KeptSuites>,
+) -> Result<(Vec<Decision>, Testing), NoMemory>
+    requires { AreKept kept testing.now.rows }
+    ensures { IfOk result (λ o. record { decisions = o.0.items; suite = o.1 } ≡ update_by archs.now facts.now.sources (unstable_words.built_rows archs.now facts.now.rows) facts.now.hints facts.now.unhints excuses.now testing.now) }
+{
+    let rows = built_rows(alloc, archs, facts.rows())?;
+    let unstable = Unstable {
+        sources: facts.sources(),
+        rows: &rows,
+    };
+    let candidates = candidates(alloc, excuses)?;
+    let live = LiveTesting::new(alloc, archs, unstable, testing, candidates, kept)?;
+    let mut turns = Turns::new(alloc, live);
+    turns.removals(alloc, facts.hints(), facts.unhints())?;
+    turns.groups(alloc, excuses, facts.hints(), facts.unhints())?;
+    turns.move_singles(alloc, excuses)?;
+    turns.waits(alloc, excuses)?;
+    let parts = turns.into_parts(alloc)?;
+    Ok(parts)
+}
+
+/// What a run decides by these excuses: removals, groups, single moves, and the candidates that
+/// wait. Testing is left as the decisions leave it, and as it was where memory ran out. Where every
+/// watched row is installable before, so it is after.
+pub fn migrate(
+    alloc: Global,
+    archs: &Archs,
+    facts: &Facts,
+    excuses: &Excuses,
+    testing: &mut Testing,
+) -> Result<Update, NoMemory>
+    ensures ok { IfOk result (λ u. (s : Covered) (date : Date) → StandsFor facts.now s testing.old
+        → excuses.now ≡ excuses_of archs.now s testing.old date → IsUpdate archs.now s excuses.now testing.old u testing.new) }
+    ensures watched { AllWatchedWork archs.now testing.old.rows → AllWatchedWork archs.now testing.new.rows }
+    ensures err { OnErr result (testing.new ≡ testing.old) }
+{
+    let kept = testing.take_kept();
+    let (decisions, after) = all_turns(alloc, archs, facts, excuses.as_slice(), testing, kept)?;
+    *testing = after;
+    Ok(Update::of(decisions))
+}

@@ -1,0 +1,135 @@
+//! Single moves: candidates that move alone, one after the other, and those that wait.
+
+ghost use Rattle.std.specs.Prelude.{◌≡◌, ◌++◌, ◌+◌, ◌<◌, IfOk, OnOk, true, false, if◌then◌else◌, take, drop};
+ghost use Rattle.std.specs.VecDeque.{deque_len};
+ghost use Rattle.testing_moves.specs.LentItems.{lent_excuses};
+ghost use Rattle.testing_moves.specs.Runs.{go_on};
+ghost use Rattle.testing_model.specs.Updates as rules;
+
+use crate::groups::{has_no_reason, is_in_testing};
+use crate::live::LiveTesting;
+use crate::turns::Turns;
+use deb_version::NoMemory;
+use std::alloc::Global;
+use std::collections::VecDeque;
+use std::slice;
+use testing_model::{Decision, Excuse, Offender};
+
+/// The excuse makes its source a candidate, which hasn't moved.
+fn is_remaining(testing: &LiveTesting, excuse: &Excuse) -> bool
+    ensures { result ≡ rules.is_remaining testing.now.suite excuse.now }
+{
+    has_no_reason(excuse) && !is_in_testing(testing, excuse.source.as_str(), &excuse.unstable)
+}
+
+/// The candidates that haven't moved, by name.
+fn remaining<'a>(
+    alloc: Global,
+    testing: &LiveTesting,
+    excuses: &'a [Excuse],
+) -> Result<Vec<&'a Excuse>, NoMemory>
+    ensures { IfOk result (λ es. lent_excuses es.items ≡ rules.remaining excuses.now testing.now.suite) }
+{
+    let mut candidates = Vec::new(alloc);
+    for excuse in excuses {
+        if is_remaining(testing, excuse) {
+            candidates.push(excuse)?;
+        }
+    }
+    Ok(candidates)
+}
+
+/// The candidate at a place leaves the circle, and the next one is looked for behind it. It takes time by the place
+/// alone.
+fn go_on_behind(circle: &mut VecDeque<&Excuse>, place: usize)
+    requires { place < deque_len circle.old }
+    ensures fewer { deque_len circle.new + 1 ≡ deque_len circle.old }
+    ensures behind { lent_excuses circle.new.items ≡ drop (place + 1) (lent_excuses circle.old.items) ++ take place (lent_excuses circle.old.items) }
+{
+    circle.rotate_left(place);
+    circle.pop_front();
+}
+
+/// The line of a candidate that moves.
+fn accepted(alloc: Global, excuse: &Excuse) -> Result<Decision, NoMemory>
+    ensures { IfOk result (λ d. d ≡ rules.accepted excuse.now) }
+{
+    let name = excuse.source.copy(alloc)?;
+    let version = excuse.unstable.copy(alloc)?;
+    Ok(Decision::Accept { name, version })
+}
+
+/// The line of a candidate that waits.
+fn waiting(alloc: Global, excuse: &Excuse, offender: Offender) -> Result<Decision, NoMemory>
+    ensures { IfOk result (λ d. d ≡ rules.waiting excuse.now offender) }
+{
+    let name = excuse.source.copy(alloc)?;
+    let version = excuse.unstable.copy(alloc)?;
+    Ok(Decision::Wait {
+        name,
+        version,
+        offender,
+    })
+}
+
+impl<'u, 'a> Turns<'u, 'a> {
+    /// Moves the candidate, where that breaks nothing, and says whether it moved.
+    fn move_alone(&mut self, alloc: Global, excuse: &Excuse) -> Result<bool, NoMemory>
+        ensures moved { result ≡ Ok true → rules.is_allowed_alone self.old.basis.archs self.old.basis.sources self.old.basis.rows self.old.outcome.suite excuse.now ≡ true }
+        ensures after { result ≡ Ok true → self.new ≡ go_on self.old (λ b t. rules.decide (rules.accepted excuse.now) (rules.moved_alone b.sources b.rows t excuse.now)) }
+        ensures stays { result ≡ Ok false → rules.is_allowed_alone self.old.basis.archs self.old.basis.sources self.old.basis.rows self.old.outcome.suite excuse.now ≡ false }
+        ensures same { result ≡ Ok false → self.new ≡ self.old }
+    {
+        let group = slice::from_ref(&excuse.source);
+        if self.broken_by_move(alloc, group)?.is_some() {
+            return Ok(false);
+        }
+        self.accept(alloc, accepted(alloc, excuse)?, group)?;
+        Ok(true)
+    }
+
+    /// Moves the first candidate of the circle that may move alone, and says whether there was one.
+    fn move_next(&mut self, alloc: Global, circle: &mut VecDeque<&Excuse>) -> Result<bool, NoMemory>
+        ensures fewer { result ≡ Ok true → deque_len circle.new < deque_len circle.old }
+        ensures moves { IfOk result (λ moved. go_on self.old (λ b. rules.move_circle b.archs b.sources b.rows (lent_excuses circle.old.items))
+            ≡ (if moved then go_on self.new (λ b. rules.move_circle b.archs b.sources b.rows (lent_excuses circle.new.items)) else self.new)) }
+    {
+        for place in 0..circle.len() {
+            if self.move_alone(alloc, circle[place])? {
+                go_on_behind(circle, place);
+                return Ok(true);
+            }
+        }
+        Ok(false)
+    }
+
+    /// The single moves, until no candidate may move alone.
+    pub fn move_singles(&mut self, alloc: Global, excuses: &[Excuse]) -> Result<(), NoMemory>
+        ensures { OnOk result (self.new ≡ go_on self.old (λ b. rules.move_singles b.archs b.sources b.rows excuses.now)) }
+    {
+        let mut circle = VecDeque::from(remaining(alloc, self.testing(), excuses)?);
+        'moves: while self.move_next(alloc, &mut circle)? {}
+        Ok(())
+    }
+
+    /// A candidate waits, where its move would break something.
+    fn wait(&mut self, alloc: Global, excuse: &Excuse) -> Result<(), NoMemory>
+        ensures { OnOk result (self.new ≡ go_on self.old (λ b. rules.wait b.archs b.sources b.rows excuse.now)) }
+    {
+        match self.broken_by_move(alloc, slice::from_ref(&excuse.source))? {
+            Some(offender) => self.refuse(waiting(alloc, excuse, offender)?),
+            None => Ok(()),
+        }
+    }
+
+    /// The candidates that remain wait.
+    pub fn waits(&mut self, alloc: Global, excuses: &[Excuse]) -> Result<(), NoMemory>
+        ensures { OnOk result (self.new ≡ go_on self.old (λ b. rules.wait_all b.archs b.sources b.rows excuses.now)) }
+    {
+        let candidates = remaining(alloc, self.testing(), excuses)?;
+        for excuse in &candidates {
+            self.wait(alloc, excuse)?;
+        }
+        Ok(())
+    }
+}

@@ -1,0 +1,178 @@
+//! Decisions at their turns, each against testing as it then is.
+
+ghost use Rattle.std.specs.Prelude.{◌≡◌, [], OnOk, IfOk, map, filter};
+ghost use Rattle.std.specs.List.{flat_map};
+ghost use Rattle.testing_moves.specs.Runs.{go_on, moment_of, decide_move, broken_by_move};
+ghost use Rattle.testing_model.specs.Unstable as unstable;
+ghost use Rattle.testing_model.specs.Updates as rules;
+ghost use Rattle.testing_model.specs.Updates.{decide, in_turn};
+
+use crate::live::LiveTesting;
+use deb_control::Text;
+use deb_version::{NoMemory, Version};
+use std::alloc::Global;
+use std::marker::Model;
+use testing_facts::{is_same_version, is_standing};
+use testing_items::{Hint, HintItem};
+use testing_model::{Decision, HintIn, Offender, UnhintIn};
+use testing_suites::Testing;
+
+/// The decisions so far, and the testing that they leave.
+#[derive(Drop)]
+pub struct Turns<'u, 'a> {
+    decisions: Vec<Decision>,
+    testing: LiveTesting<'u, 'a>,
+}
+
+impl<'u, 'a> Model for Turns<'u, 'a> {
+    ghost use Rattle.testing_moves.specs.Runs.{Run};
+
+    ghost Value = { Run };
+
+    ghost view = { λ a. record {
+      basis = a.testing.basis;
+      outcome = record { decisions = a.decisions.items; suite = a.testing.suite };
+    } };
+}
+
+impl<'u, 'a> Turns<'u, 'a> {
+    /// No decision yet.
+    pub fn new(alloc: Global, testing: LiveTesting<'u, 'a>) -> Turns<'u, 'a>
+        ensures { result ≡ record { basis = testing.entry.basis; outcome = record { decisions = []; suite = testing.entry.suite } } }
+    {
+        Turns {
+            decisions: Vec::new(alloc),
+            testing,
+        }
+    }
+
+    /// The testing so far.
+    pub fn testing(&self) -> &LiveTesting<'u, 'a>
+        ensures { result.now ≡ moment_of self.now }
+    {
+        &self.testing
+    }
+
+    /// The decisions, and the testing that they leave.
+    pub fn into_parts(self, alloc: Global) -> Result<(Vec<Decision>, Testing), NoMemory>
+        ensures decisions { IfOk result (λ o. o.0.items ≡ self.entry.outcome.decisions) }
+        ensures testing { IfOk result (λ o. o.1 ≡ self.entry.outcome.suite) }
+    {
+        Ok((self.decisions, self.testing.into_testing(alloc)?))
+    }
+
+    /// What the move of a group would break.
+    pub fn broken_by_move(
+        &mut self,
+        alloc: Global,
+        group: &[Text],
+    ) -> Result<Option<Offender>, NoMemory>
+        ensures same { self.new ≡ self.old }
+        ensures offender { IfOk result (λ o. o ≡ broken_by_move group.now (moment_of self.old)) }
+    {
+        self.testing.broken_by_move(alloc, group)
+    }
+
+    /// One decision that leaves testing as it is.
+    pub fn refuse(&mut self, decision: Decision) -> Result<(), NoMemory>
+        ensures { OnOk result (self.new ≡ go_on self.old (λ _. decide decision)) }
+    {
+        Ok(self.decisions.push(decision)?)
+    }
+
+    /// One decision by which a group moves.
+    pub fn accept(
+        &mut self,
+        alloc: Global,
+        decision: Decision,
+        group: &[Text],
+    ) -> Result<(), NoMemory>
+        ensures { OnOk result (self.new ≡ go_on self.old (decide_move decision group.now)) }
+    {
+        self.testing.move_group(alloc, group)?;
+        Ok(self.decisions.push(decision)?)
+    }
+
+    /// A version of a source leaves, where nothing breaks.
+    fn remove_version(
+        &mut self,
+        alloc: Global,
+        hint: u32,
+        name: &Text,
+        version: Version,
+    ) -> Result<(), NoMemory>
+        ensures { OnOk result (self.new ≡ go_on self.old (λ b. rules.remove_version b.archs hint name.now version)) }
+    {
+        let offender = self.testing.broken_by_removal(alloc, name.as_str())?;
+        let copy = name.copy(alloc)?;
+        match offender {
+            None => {
+                self.testing.remove(alloc, name.as_str())?;
+                let decision = Decision::RemoveDone {
+                    hint,
+                    name: copy,
+                    version,
+                };
+                Ok(self.decisions.push(decision)?)
+            }
+            Some(offender) => self.refuse(Decision::RemoveRefused {
+                hint,
+                name: copy,
+                version,
+                offender,
+            }),
+        }
+    }
+
+    /// A removal, where testing has the source at its version.
+    fn remove_item(&mut self, alloc: Global, hint: u32, item: &HintItem) -> Result<(), NoMemory>
+        ensures { OnOk result (self.new ≡ go_on self.old (λ b. rules.remove_item b.archs (hint, item.now))) }
+    {
+        let version = match self.testing.version_of(item.name.as_str()) {
+            Some(version) if is_same_version(version, &item.version) => version.copy(alloc)?,
+            _ => return Ok(()),
+        };
+        self.remove_version(alloc, hint, &item.name, version)
+    }
+
+    /// The removals of one hint.
+    fn remove_items(&mut self, alloc: Global, hint: u32, items: &[HintItem]) -> Result<(), NoMemory>
+        ensures { OnOk result (self.new ≡ go_on self.old (λ b. in_turn (rules.remove_item b.archs) (map (λ i. (hint, i)) items.now))) }
+    {
+        for item in items {
+            self.remove_item(alloc, hint, item)?;
+        }
+        Ok(())
+    }
+
+    /// The removals that a hint asks for, if it is one of those.
+    fn remove_hint(&mut self, alloc: Global, hint: &HintIn) -> Result<(), NoMemory>
+        ensures { OnOk result (self.new ≡ go_on self.old (λ b. in_turn (rules.remove_item b.archs) (rules.removals_of hint.now))) }
+    {
+        match &hint.hint {
+            Hint::Remove(items) => self.remove_items(alloc, hint.number, items.as_slice()),
+            Hint::Block(_)
+            | Hint::Unblock(_)
+            | Hint::Easy(_)
+            | Hint::AgeDays(_, _)
+            | Hint::BlockAll => Ok(()),
+        }
+    }
+
+    /// The removals that the standing hints ask for.
+    pub fn removals(
+        &mut self,
+        alloc: Global,
+        hints: &[HintIn],
+        unhints: &[UnhintIn],
+    ) -> Result<(), NoMemory>
+        ensures { OnOk result (self.new ≡ go_on self.old (λ b. in_turn (rules.remove_item b.archs) (flat_map rules.removals_of (filter (unstable.is_standing unhints.now) hints.now)))) }
+    {
+        for hint in hints {
+            if is_standing(unhints, hint) {
+                self.remove_hint(alloc, hint)?;
+            }
+        }
+        Ok(())
+    }
+}

@@ -1,0 +1,41 @@
+//! What a change of testing would break.
+
+ghost use Rattle.std.specs.Prelude.{◌≡◌, ◌==◌};
+ghost use Rattle.testing_model.specs.Moves as moves;
+ghost use Rattle.testing_model.specs.JudgedRows.{row_of};
+ghost use Rattle.testing_items.specs.Words.{text_cmp, first_of_two};
+ghost use Rattle.std.specs.Option.{option_copied};
+
+use testing_items::ALL;
+use testing_model::LentRow;
+
+/// The row is the architecture's own, or one of `all`.
+pub fn is_row_on(arch: u32, row: &LentRow) -> bool
+    ensures { result ≡ moves.is_row_on arch (row_of row.now) }
+{
+    row.arch == arch || row.arch == ALL
+}
+
+/// The row is watched on the architecture.
+pub fn is_watched_on(arch: u32, row: &LentRow) -> bool
+    ensures { result ≡ moves.is_watched_on arch (row_of row.now) }
+{
+    row.arch == arch || (row.arch == ALL && arch == 0)
+}
+
+/// A row on an architecture, and whether it is installable there.
+#[derive(Clone, Copy)]
+pub struct Judged<'a> {
+    pub row: LentRow<'a>,
+    pub is_installable: bool,
+}
+
+/// The first of two names in byte order, the old one where they are equal.
+pub fn first_of_two<'a>(first: Option<&'a str>, name: &'a str) -> &'a str
+    ensures { result.now ≡ first_of_two text_cmp (option_copied first.entry) name.now }
+{
+    match first {
+        Some(first) if name >= first => first,
+        _ => name,
+    }
+}
