@@ -9,7 +9,7 @@ use Rattle.office_mail.specs.declared.bag.BagFault.{BagFault}
 use Rattle.office_mail.specs.Bag.{framed, handed, HasHeader}
 use Rattle.office_mail.specs.Lists.{Lists}
 use Rattle.office_mail.specs.Reading.{Reading}
-use Rattle.office_mail.specs.Taken.{TakesMessage, Stops}
+use Rattle.office_mail.specs.BagSteps.{TakesMessage, Stops}
 use Rattle.office_mail.specs.Kept.{Kept, kept_from}
 use Rattle.office_mail.specs.Runs.{IsReady}
 use Rattle.office_mail.proofs.KeptFacts.{kept_from-nil, kept_from-append}

@@ -5,7 +5,7 @@ use Rattle.std.specs.Io.KnownBytes.{Appends, Consumes}
 use Rattle.office_mail.specs.declared.bag.BagFault.{BagFault}
 use Rattle.office_mail.specs.Bag.{IsBag, framed, handed, HasHeader}
 use Rattle.office_mail.specs.Reading.{Reading}
-use Rattle.office_mail.specs.Taken.{MeetsEnd}
+use Rattle.office_mail.specs.BagSteps.{MeetsEnd}
 use Rattle.office_mail.specs.Kept.{kept_from}
 use Rattle.office_mail.specs.Runs.{IsReady, IsReadyCount}
 use Rattle.office_http.specs.declared.faults.StoreFault.{StoreFault}

@@ -2,7 +2,7 @@
 ghost use Rattle.std.specs.Prelude.{◌≡◌, ◌≤◌, ◌+◌, ◌⊎◌, [], false, Some, IfOk, OnOk, OnErr, IfErr, is_ok};
 ghost use Rattle.std.specs.Io.KnownBytes.{Appends};
 ghost use Rattle.office_mail.specs.Counts.{HasRisen};
-ghost use Rattle.office_mail.specs.Taken.{ReadFails};
+ghost use Rattle.office_mail.specs.BagSteps.{ReadFails};
 ghost use Rattle.office_http.specs.Carried.{Carries, Holds, StoreRefused};
 ghost use Rattle.office_http.specs.Delivered.{DeliversAll, DeliversFront, DeliversOne, DeliversOneFront, Settles};
 ghost use Rattle.office_http.specs.Laws.{RunsStand};

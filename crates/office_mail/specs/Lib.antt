@@ -17,5 +17,5 @@ pub mod Said
 pub mod Setup
 pub mod Step
 pub mod Steps
-pub mod Taken
+pub mod BagSteps
 pub mod Values

@@ -1,4 +1,4 @@
--- The rows of sources that are news are those of all builds that are meant.
+-- The rows of sources that are news are those of all builds that are let through.
 use Rattle.std.specs.Prelude.{ℕ, Bool, true, false, cond, ◌==◌, ◌||◌, List, [], ◌∷◌, ◌++◌, map, filter, IsTrue}
 use Rattle.std.specs.List.{flat_map}
 use Rattle.std.specs.Str.{bytes_eq}
@@ -10,12 +10,12 @@ use Rattle.testing_install.specs.Index.{hash_of}
 use Rattle.testing_excuses.specs.declared.by_source.News.{News}
 use Rattle.testing_model.specs.declared.facts.BuildIn.{BuildIn}
 use Rattle.testing_model.specs.declared.suite.RowIn.{RowIn}
-use Rattle.testing_facts.specs.declared.wanted.Meant.{Meant}
+use Rattle.testing_facts.specs.declared.source_filter.SourceFilter.{SourceFilter}
 use Rattle.testing_excuses.specs.BySource.{is_among}
 use Rattle.testing_model.specs.Unstable.{places, row_at, built_on, built_rows}
-use Rattle.testing_model.specs.Wanted.{is_one_of, is_wanted}
-use Rattle.testing_facts.specs.Wanted.{is_meant, meant_builds}
-use Rattle.testing_excuses.specs.Wanted.{told}
+use Rattle.testing_model.specs.SourceFilter.{is_one_of, hash_passes}
+use Rattle.testing_facts.specs.SourceFilter.{filter_passes, passing_builds}
+use Rattle.testing_excuses.specs.SourceFilter.{newer_hashes}
 use Rattle.testing_items.specs.Words.{Text}
 
 -- a source's own rows are those of all builds that pass a test which its own pass
@@ -71,18 +71,18 @@ or_later : (b rest : Bool) → rest ≡ true → (b || rest) ≡ true
 or_later true rest e = refl
 or_later false rest e = e
 
-hash_among : (news : List News) (q : Text) → IsTrue (is_among news q) → is_one_of (told news) (hash_of q) ≡ true
+hash_among : (news : List News) (q : Text) → IsTrue (is_among news q) → is_one_of (newer_hashes news) (hash_of q) ≡ true
 hash_among [] q t = absurd (false≢true t)
 hash_among (n ∷ ns) q t =
     let name = n.upload.now.source in
     elim (cases_Bool (bytes_eq q name)) [
-      | inl own ↦ or_first (hash_of q == hash_of name) (is_one_of (told ns) (hash_of q)) (eq-eqb (hash_of q) (hash_of name) (ap hash_of ((bytes_eq-Decides q name).0 own)))
-      | inr other ↦ or_later (hash_of q == hash_of name) (is_one_of (told ns) (hash_of q)) (hash_among ns q (subst (λ b. IsTrue (b || is_among ns q)) other t))
+      | inl own ↦ or_first (hash_of q == hash_of name) (is_one_of (newer_hashes ns) (hash_of q)) (eq-eqb (hash_of q) (hash_of name) (ap hash_of ((bytes_eq-Decides q name).0 own)))
+      | inr other ↦ or_later (hash_of q == hash_of name) (is_one_of (newer_hashes ns) (hash_of q)) (hash_among ns q (subst (λ b. IsTrue (b || is_among ns q)) other t))
     ]
 
-pub own_meant : (archs : List Text) (news : List News) (meant : Meant) (builds : List BuildIn) → ((name : Text) → is_meant meant name ≡ is_wanted (told news) name)
+pub own_passing : (archs : List Text) (news : List News) (passing : SourceFilter) (builds : List BuildIn) → ((name : Text) → filter_passes passing name ≡ hash_passes (newer_hashes news) name)
     → (q : Text) → IsTrue (is_among news q)
-    → filter (λ (r : RowIn). bytes_eq q r.binary.source) (built_rows archs (meant_builds meant builds)) ≡ filter (λ (r : RowIn). bytes_eq q r.binary.source) (built_rows archs builds)
-own_meant archs news meant builds is q among =
-    own_everywhere q (λ (b : BuildIn). is_meant meant b.binary.source)
-    (λ b own. is b.binary.source ∙ ap (is_wanted (told news)) (sym ((bytes_eq-Decides q b.binary.source).0 own)) ∙ hash_among news q among) builds (places archs)
+    → filter (λ (r : RowIn). bytes_eq q r.binary.source) (built_rows archs (passing_builds passing builds)) ≡ filter (λ (r : RowIn). bytes_eq q r.binary.source) (built_rows archs builds)
+own_passing archs news passing builds is q among =
+    own_everywhere q (λ (b : BuildIn). filter_passes passing b.binary.source)
+    (λ b own. is b.binary.source ∙ ap (hash_passes (newer_hashes news)) (sym ((bytes_eq-Decides q b.binary.source).0 own)) ∙ hash_among news q among) builds (places archs)

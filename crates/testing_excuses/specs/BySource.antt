@@ -16,7 +16,7 @@ use Rattle.testing_items.specs.Words.{Text}
 use Rattle.testing_model.specs.Suite.{Suite}
 use Rattle.testing_model.specs.FactLists.{FactLists}
 use Rattle.testing_model.specs.JudgedRows.{lent}
-use Rattle.testing_model.specs.Unstable.{built_rows, is_standing}
+use Rattle.testing_model.specs.Unstable.{built_rows, is_in_force}
 use Rattle.testing_model.specs.Excuses.{Ground, excuse_on, testing_version, is_news, delays_in_force}
 
 -- items of each source, by its name
@@ -62,7 +62,7 @@ abbrev pub ground_from : List Text → FactLists → Date → Ground
 ground_from archs f date = record {
   rows = built_rows archs f.rows;
   bugs = f.bugs;
-  hints = filter (is_standing f.unhints) f.hints;
+  hints = filter (is_in_force f.unhints) f.hints;
   uploads = f.uploads;
   delays = delays_in_force f.delays;
   date = date;

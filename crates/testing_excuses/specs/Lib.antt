@@ -1,2 +1,2 @@
 pub mod BySource
-pub mod Wanted
+pub mod SourceFilter

@@ -16,26 +16,26 @@ use crate::by_source::{
 use crate::days::{age_of, days_needed, delays_in_force, is_news};
 use crate::near::testing_version_near;
 use crate::reasons::{Known, reasons_of};
-use crate::wanted::sources_of_news;
+use crate::source_filter::sources_of_news;
 use deb_version::{NoMemory, Version};
 use jiff::civil::Date;
 use std::alloc::Global;
-use testing_facts::{Facts, is_standing, meant_rows};
+use testing_facts::{Facts, is_in_force, rows_passing};
 use testing_items::{Archs, copy_version};
 use testing_model::{Excuse, Excuses, HintIn, UnhintIn, UploadIn};
 use testing_suites::Testing;
 
-/// The standing ones of the hints.
-fn standing(alloc: Global, hints: &[HintIn], unhints: &[UnhintIn]) -> Result<Vec<HintIn>, NoMemory>
-    ensures { IfOk result (λ standing. standing.items ≡ filter (unstable.is_standing unhints.now) hints.now) }
+/// Those of the hints that are in force.
+fn in_force(alloc: Global, hints: &[HintIn], unhints: &[UnhintIn]) -> Result<Vec<HintIn>, NoMemory>
+    ensures { IfOk result (λ in_force. in_force.items ≡ filter (unstable.is_in_force unhints.now) hints.now) }
 {
-    let mut standing = Vec::new(alloc);
+    let mut in_force = Vec::new(alloc);
     for hint in hints {
-        if is_standing(unhints, hint) {
-            standing.push(hint.copy(alloc)?)?;
+        if is_in_force(unhints, hint) {
+            in_force.push(hint.copy(alloc)?)?;
         }
     }
-    Ok(standing)
+    Ok(in_force)
 }
 
 /// The excuse of an unstable source.
@@ -132,12 +132,12 @@ fn group_facts<'a>(
 ) -> Result<Grouped<'a>, NoMemory>
     ensures { IfOk result (λ g. (name : Text) → IsTrue (is_among news.now name) → ground_at g name ≡ part_of (ground_from archs.now facts.now date) name) }
 {
-    let meant = sources_of_news(alloc, news)?;
-    let rows = meant_rows(alloc, archs, facts.rows(), &meant)?;
+    let passing = sources_of_news(alloc, news)?;
+    let rows = rows_passing(alloc, archs, facts.rows(), &passing)?;
     Ok(Grouped {
         rows: rows_by_source(alloc, news, &rows)?,
         bugs: bugs_by_source(alloc, news, facts.bugs())?,
-        hints: standing(alloc, facts.hints(), facts.unhints())?,
+        hints: in_force(alloc, facts.hints(), facts.unhints())?,
         uploads: uploads_by_source(alloc, news, facts.uploads())?,
         delays: delays_in_force(facts.delays()),
         date,

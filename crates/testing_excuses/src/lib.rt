@@ -6,6 +6,6 @@ mod days;
 mod excusing;
 mod near;
 mod reasons;
-mod wanted;
+mod source_filter;
 
 pub use excusing::excuses;

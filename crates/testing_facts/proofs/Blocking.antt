@@ -12,7 +12,7 @@ use Rattle.testing_model.specs.declared.facts.BuildIn.{BuildIn}
 use Rattle.testing_model.specs.declared.facts.DropIn.{DropIn}
 use Rattle.testing_facts.specs.Blocks.{joined, HasRows, AreBlocks, begins_above, IsBlockFor}
 use Rattle.testing_model.specs.FactOrder.{AreByPair}
-use Rattle.testing_model.specs.Taken.{put_first, with_build, with_drop, outlives}
+use Rattle.testing_model.specs.WithMessage.{put_first, with_build, with_drop, outlives}
 use Rattle.testing_model.specs.Unstable.{pair_order, pair_of, drop_pair, build_order}
 use Rattle.testing_items.specs.Words.{Text}
 use Rattle.testing_facts.proofs.KeySlots.{outlives-other}

@@ -12,11 +12,11 @@ use Rattle.std.proofs.lemmas.Cmp.{upto, tied_itself}
 use Rattle.std.proofs.lemmas.Slice.Eq.{bytes_eq-Decides}
 use Rattle.testing_model.specs.FactOrder.{AreByPair}
 use Rattle.testing_model.specs.Unstable.{pair_order, pair_of, row_at, built_on}
-use Rattle.testing_facts.specs.Wanted.{is_meant, meant_builds}
+use Rattle.testing_facts.specs.SourceFilter.{filter_passes, passing_builds}
 use Rattle.testing_items.specs.Words.{Text, text_cmp}
 use Rattle.testing_model.specs.declared.facts.BuildIn.{BuildIn}
 use Rattle.testing_model.specs.declared.suite.RowIn.{RowIn}
-use Rattle.testing_facts.specs.declared.wanted.Meant.{Meant}
+use Rattle.testing_facts.specs.declared.source_filter.SourceFilter.{SourceFilter}
 use Rattle.testing_model.proofs.MoreMail.{text_tied, both_are}
 use Rattle.testing_model.proofs.Orders.{text_order}
 
@@ -95,7 +95,7 @@ module _ (arch : Text) where
         ]
 
 -- builds elsewhere add no row
-pub none_there : (rows : List RowIn) (meant : Meant) (builds : List BuildIn) (place : ℕ) (arch : Text) → list_all (λ (b : BuildIn). not (bytes_eq b.binary.architecture arch)) builds ≡ true
-    → rows ≡ rows ++ built_on (meant_builds meant builds) (place, arch)
-none_there rows meant builds place arch h =
-    sym (ap (λ bs. rows ++ map (row_at place) bs) (none_passes arch (λ (b : BuildIn). is_meant meant b.binary.source) builds h) ∙ append-nil rows)
+pub none_there : (rows : List RowIn) (passing : SourceFilter) (builds : List BuildIn) (place : ℕ) (arch : Text) → list_all (λ (b : BuildIn). not (bytes_eq b.binary.architecture arch)) builds ≡ true
+    → rows ≡ rows ++ built_on (passing_builds passing builds) (place, arch)
+none_there rows passing builds place arch h =
+    sym (ap (λ bs. rows ++ map (row_at place) bs) (none_passes arch (λ (b : BuildIn). filter_passes passing b.binary.source) builds h) ∙ append-nil rows)

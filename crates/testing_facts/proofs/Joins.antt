@@ -18,7 +18,7 @@ use Rattle.testing_model.specs.declared.facts.BugIn.{BugIn}
 use Rattle.testing_model.specs.declared.facts.HintIn.{HintIn}
 use Rattle.testing_model.specs.declared.facts.UnhintIn.{UnhintIn}
 use Rattle.testing_model.specs.declared.facts.DelaysIn.{DelaysIn}
-use Rattle.testing_model.specs.Taken.{with_upload, with_drop, with_greatest, with_build, with_builds, with_bug, with_hint, with_unhint, with_delays, stands_beside}
+use Rattle.testing_model.specs.WithMessage.{with_upload, with_drop, with_greatest, with_build, with_builds, with_bug, with_hint, with_unhint, with_delays, stands_beside}
 use Rattle.testing_facts.specs.Entries.{entry_of, with_entry}
 use Rattle.testing_model.proofs.MoreMail.{sources-more, drops-more, bugs-more, rows-drop, rows-build}
 use Rattle.testing_model.proofs.GreatestDrops.{greatest-decide}

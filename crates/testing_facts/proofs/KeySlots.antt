@@ -20,7 +20,7 @@ use Rattle.testing_facts.specs.declared.taken.Slot.TheVariants.{Over, Before, No
 use Rattle.testing_facts.specs.Slots.{IsSlotFor}
 use Rattle.testing_items.specs.Words.{put_by}
 use Rattle.testing_model.specs.Unstable.{pair_order, pair_of, drop_pair, upload_order, build_order, drop_order, bug_order}
-use Rattle.testing_model.specs.Taken.{put_first, with_upload, with_build, with_builds, with_drop, with_greatest, with_bug, outlives}
+use Rattle.testing_model.specs.WithMessage.{put_first, with_upload, with_build, with_builds, with_drop, with_greatest, with_bug, outlives}
 use Rattle.testing_model.specs.FactOrder.{AreBySource, AreByPair, AreDropsByPair, AreByNumber}
 use Rattle.testing_model.proofs.KeyOrder.{below_at, turned}
 use Rattle.testing_model.proofs.Picks.{rises-put}

@@ -1,5 +1,5 @@
 pub mod Blocking
 pub mod Elsewhere
-pub mod EveryMeant
+pub mod EveryPassing
 pub mod Joins
 pub mod KeySlots

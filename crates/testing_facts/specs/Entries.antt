@@ -5,7 +5,7 @@ use Rattle.testing_facts.specs.declared.entry.Entry.{Entry}
 use Rattle.testing_facts.specs.declared.entry.Entry.TheVariants.{Upload, Dropped, Build, Bug, Hint, Unhint, Delays, Nothing}
 use Rattle.testing_model.specs.Covered.{CoveredItem, placed_from}
 use Rattle.testing_model.specs.FactLists.{FactLists}
-use Rattle.testing_model.specs.Taken.{with_upload, with_builds, with_drop, with_greatest, with_bug, with_hint, with_unhint, with_delays, stands_beside}
+use Rattle.testing_model.specs.WithMessage.{with_upload, with_builds, with_drop, with_greatest, with_bug, with_hint, with_unhint, with_delays, stands_beside}
 
 -- the message as the facts keep it
 abbrev pub entry_of : CoveredItem → Entry

@@ -1,4 +1,4 @@
 pub mod Blocks
 pub mod Entries
 pub mod Slots
-pub mod Wanted
+pub mod SourceFilter

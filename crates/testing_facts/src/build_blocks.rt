@@ -6,7 +6,7 @@ ghost use Rattle.std.specs.Option.{IfSome};
 ghost use Rattle.testing_facts.specs.Blocks.{joined, upper_rows, HasRows, AreBlocks, begins_above, IsBlockFor};
 ghost use Rattle.testing_model.specs.Boxed.{unboxed};
 ghost use Rattle.testing_model.specs.FactOrder.{AreByPair, AreDropsByPair};
-ghost use Rattle.testing_model.specs.Taken as taken;
+ghost use Rattle.testing_model.specs.WithMessage as taken;
 
 use crate::taken::{order_pair, put_build, stands_beside, take_row};
 use deb_version::NoMemory;

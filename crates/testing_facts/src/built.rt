@@ -9,10 +9,10 @@ ghost use Rattle.testing_model.specs.FactOrder.{AreByPair};
 ghost use Rattle.testing_model.specs.InOrder.{AreByKey};
 ghost use Rattle.testing_model.specs.JudgedRows.{row_of, lent};
 ghost use Rattle.testing_model.specs.Unstable as unstable;
-ghost use Rattle.testing_facts.specs.Wanted.{is_meant, meant_builds};
+ghost use Rattle.testing_facts.specs.SourceFilter.{filter_passes, passing_builds};
 
 use crate::build_blocks::{Block, BuildBlocks};
-use crate::wanted::{Meant, is_meant};
+use crate::source_filter::{SourceFilter, filter_passes};
 use deb_version::NoMemory;
 use std::alloc::Global;
 use testing_items::{ALL, Archs};
@@ -31,25 +31,25 @@ fn row_at(arch: u32, build: &BuildIn) -> LentRow<'_>
     }
 }
 
-/// The build is of the architecture, and its source is meant. The source is asked first: its hash lies nearer.
-fn comes_in(meant: &Meant, build: &BuildIn, arch: &str) -> bool
-    ensures { result ≡ (is_meant meant.now build.now.binary.source && bytes_eq build.now.binary.architecture arch.now) }
+/// The build is of the architecture, and its source is let through. The source is asked first: its hash lies nearer.
+fn comes_in(passing: &SourceFilter, build: &BuildIn, arch: &str) -> bool
+    ensures { result ≡ (filter_passes passing.now build.now.binary.source && bytes_eq build.now.binary.architecture arch.now) }
 {
-    is_meant(meant, &build.binary) && build.binary.architecture.as_str() == arch
+    filter_passes(passing, &build.binary) && build.binary.architecture.as_str() == arch
 }
 
-/// Those of the builds that are of an architecture, and whose sources are meant, come in as its rows, at its place.
+/// Those of the builds that are of an architecture, and whose sources are let through, come in as its rows, at its place.
 fn push_built<'a>(
     rows: &mut Vec<LentRow<'a>>,
     builds: &'a [Box<BuildIn>],
-    meant: &Meant,
+    passing: &SourceFilter,
     place: u32,
     arch: &str,
 ) -> Result<(), NoMemory>
-    ensures { OnOk result (lent rows.new.items ≡ lent rows.old.items ++ unstable.built_on (meant_builds meant.now (unboxed builds.now)) (place, arch.now)) }
+    ensures { OnOk result (lent rows.new.items ≡ lent rows.old.items ++ unstable.built_on (passing_builds passing.now (unboxed builds.now)) (place, arch.now)) }
 {
     for build in builds {
-        if comes_in(meant, build, arch) {
+        if comes_in(passing, build, arch) {
             rows.push(row_at(place, build))?;
         }
     }
@@ -82,53 +82,53 @@ fn are_elsewhere(builds: &[Box<BuildIn>], arch: &str) -> bool
 fn push_ordered<'a>(
     rows: &mut Vec<LentRow<'a>>,
     builds: &'a [Box<BuildIn>],
-    meant: &Meant,
+    passing: &SourceFilter,
     place: u32,
     arch: &str,
 ) -> Result<(), NoMemory>
     requires { AreByPair (unboxed builds.now) }
-    ensures { OnOk result (lent rows.new.items ≡ lent rows.old.items ++ unstable.built_on (meant_builds meant.now (unboxed builds.now)) (place, arch.now)) }
+    ensures { OnOk result (lent rows.new.items ≡ lent rows.old.items ++ unstable.built_on (passing_builds passing.now (unboxed builds.now)) (place, arch.now)) }
 {
     if are_elsewhere(builds, arch) {
         return Ok(());
     }
-    push_built(rows, builds, meant, place, arch)
+    push_built(rows, builds, passing, place, arch)
 }
 
-/// The builds of an architecture whose sources are meant come in as its rows, at its place.
+/// The builds of an architecture whose sources are let through come in as its rows, at its place.
 fn push_built_on<'a>(
     rows: &mut Vec<LentRow<'a>>,
     blocks: &'a [Block],
-    meant: &Meant,
+    passing: &SourceFilter,
     place: u32,
     arch: &str,
 ) -> Result<(), NoMemory>
     requires { AreByPair (joined blocks.now) }
-    ensures { OnOk result (lent rows.new.items ≡ lent rows.old.items ++ unstable.built_on (meant_builds meant.now (joined blocks.now)) (place, arch.now)) }
+    ensures { OnOk result (lent rows.new.items ≡ lent rows.old.items ++ unstable.built_on (passing_builds passing.now (joined blocks.now)) (place, arch.now)) }
 {
     for block in blocks {
-        push_ordered(rows, block.rows(), meant, place, arch)?;
+        push_ordered(rows, block.rows(), passing, place, arch)?;
     }
     Ok(())
 }
 
-/// The builds of the sources that are meant, lent as rows, by place of the architecture.
-pub fn meant_rows<'a>(
+/// The builds of the sources that are let through, lent as rows, by place of the architecture.
+pub fn rows_passing<'a>(
     alloc: Global,
     archs: &Archs,
     builds: &'a BuildBlocks,
-    meant: &Meant,
+    passing: &SourceFilter,
 ) -> Result<Vec<LentRow<'a>>, NoMemory>
     requires { AreByPair builds.now }
-    ensures rows { IfOk result (λ rows. lent rows.items ≡ unstable.built_rows archs.now (meant_builds meant.now builds.now)) }
-    ensures ordered { IfOk result (λ rows. AreByPair (meant_builds meant.now builds.now) → AreByKey (lent rows.items)) }
+    ensures rows { IfOk result (λ rows. lent rows.items ≡ unstable.built_rows archs.now (passing_builds passing.now builds.now)) }
+    ensures ordered { IfOk result (λ rows. AreByPair (passing_builds passing.now builds.now) → AreByKey (lent rows.items)) }
 {
     let blocks = builds.blocks();
     let mut rows = Vec::new(alloc);
     for place in 0..archs.len() {
-        push_built_on(&mut rows, blocks, meant, place, archs.name(place))?;
+        push_built_on(&mut rows, blocks, passing, place, archs.name(place))?;
     }
-    push_built_on(&mut rows, blocks, meant, ALL, "all")?;
+    push_built_on(&mut rows, blocks, passing, ALL, "all")?;
     Ok(rows)
 }
 
@@ -142,5 +142,5 @@ pub fn built_rows<'a>(
     ensures rows { IfOk result (λ rows. lent rows.items ≡ unstable.built_rows archs.now builds.now) }
     ensures ordered { IfOk result (λ rows. AreByPair builds.now → AreByKey (lent rows.items)) }
 {
-    meant_rows(alloc, archs, builds, &Meant::Every)
+    rows_passing(alloc, archs, builds, &SourceFilter::Every)
 }

@@ -7,7 +7,7 @@ ghost use Rattle.testing_facts.specs.Entries.{with_entry};
 ghost use Rattle.testing_model.specs.FactOrder.{AreBySource, AreByPair};
 ghost use Rattle.testing_model.specs.StandsFor.{StandsFor};
 ghost use Rattle.testing_model.specs.Suite.{Suite};
-ghost use Rattle.testing_model.specs.Taken.{with_upload, with_drop, with_greatest, with_builds, with_bug, stands_beside};
+ghost use Rattle.testing_model.specs.WithMessage.{with_upload, with_drop, with_greatest, with_builds, with_bug, stands_beside};
 ghost use Rattle.testing_model.specs.declared.facts.UploadIn.{UploadIn as AnUpload};
 
 use crate::build_blocks::BuildBlocks;

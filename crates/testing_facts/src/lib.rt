@@ -7,13 +7,13 @@ mod entry;
 mod facts;
 mod moves;
 mod select;
+mod source_filter;
 mod taken;
 mod turns;
-mod wanted;
 
-pub use built::{built_rows, meant_rows};
+pub use built::{built_rows, rows_passing};
 pub use facts::Facts;
 pub use moves::{Unstable, as_source, source_in};
 pub use select::{is_above, is_current, is_of_source, is_same_version};
-pub use turns::is_standing;
-pub use wanted::{Hashes, Meant, are_wanted, candidates, set_of, wanted_rows};
+pub use source_filter::{Hashes, SourceFilter, candidates, hashes_pass, passing_rows, set_of};
+pub use turns::is_in_force;

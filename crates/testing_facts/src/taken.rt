@@ -7,7 +7,7 @@ ghost use Rattle.testing_model.specs.Boxed.{unboxed};
 ghost use Rattle.testing_model.specs.FactOrder.{AreBySource, AreByPair, AreDropsByPair, AreByNumber};
 ghost use Rattle.testing_model.specs.Unstable.{pair_order, pair_of, drop_pair};
 ghost use Rattle.testing_facts.specs.Slots.{IsSlotFor};
-ghost use Rattle.testing_model.specs.Taken as taken;
+ghost use Rattle.testing_model.specs.WithMessage as taken;
 ghost use Rattle.testing_items.specs.Words.{text_cmp};
 
 use crate::select::{

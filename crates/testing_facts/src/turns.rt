@@ -14,8 +14,8 @@ fn is_cancelled(unhints: &[UnhintIn], number: u32) -> bool
 }
 
 /// No unhint names the hint.
-pub fn is_standing(unhints: &[UnhintIn], hint: &HintIn) -> bool
-    ensures { result ≡ unstable.is_standing unhints.now hint.now }
+pub fn is_in_force(unhints: &[UnhintIn], hint: &HintIn) -> bool
+    ensures { result ≡ unstable.is_in_force unhints.now hint.now }
 {
     !is_cancelled(unhints, hint.number)
 }

@@ -15,5 +15,5 @@ pub mod Settled
 pub mod Marking
 pub mod Reviving
 pub mod Needing
-pub mod Standing
+pub mod SuiteStates
 pub mod Sharing

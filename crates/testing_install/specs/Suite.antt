@@ -7,7 +7,7 @@ use Rattle.testing_install.specs.Needers.{IsGraph}
 use Rattle.testing_install.specs.Tracked.{Tracked}
 
 -- rows that may be in a suite, and which of them are there
-pub record Standing : Type 0 where
+pub record SuiteState : Type 0 where
   pub rows : List Binary
   pub there : List Bool
 

@@ -28,9 +28,9 @@ pub struct Suite {
 
 impl Model for Suite {
     ghost use Rattle.testing_install.specs.Rows.{shared};
-    ghost use Rattle.testing_install.specs.Suite.{Standing, IsSuite};
+    ghost use Rattle.testing_install.specs.Suite.{SuiteState, IsSuite};
 
-    ghost Value = { Standing };
+    ghost Value = { SuiteState };
 
     ghost view = { λ s. record { rows = shared s.graph.rows.items; there = s.there.current } };
 

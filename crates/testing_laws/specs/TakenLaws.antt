@@ -9,7 +9,7 @@ use Rattle.testing_model.specs.declared.facts.DropIn.{DropIn}
 use Rattle.testing_model.specs.declared.facts.BugIn.{BugIn}
 use Rattle.testing_model.specs.Covered.{Covered, CoveredItem, upload_of, drop_of, bug_of, placed_from}
 use Rattle.testing_model.specs.Unstable.{unstable_sources, unstable_builds, is_above_drops, greatest_drops, bug_states}
-use Rattle.testing_model.specs.Taken.{with_upload, with_builds, with_drop, with_greatest, with_bug, outlives}
+use Rattle.testing_model.specs.WithMessage.{with_upload, with_builds, with_drop, with_greatest, with_bug, outlives}
 
 -- an upload is put among unstable's sources where its source has none before it
 abbrev pub UploadPutsOne : Type 0

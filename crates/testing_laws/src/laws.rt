@@ -1,6 +1,6 @@
 //! Laws of the rules, which no call needs.
 
-ghost use Rattle.testing_model.specs.Given.{UpdateIsGiven, ArchsStayKnown};
+ghost use Rattle.testing_model.specs.Provenance.{UpdateIsGiven, ArchsStayKnown};
 ghost use Rattle.testing_laws.specs.Laws.{UnstableSourceIsFirst, UnstableSourceIsFound, UnstableRowIsFirst, GreatestDropIsFirst};
 ghost use Rattle.testing_model.specs.SameMessages.{FactsStandForSets};
 ghost use Rattle.testing_laws.specs.TakenLaws.{UploadPutsOne, BuildPutsItsOwn, DropTakesOne, DropPutsOne, BugPutsOne, GreatestDropsDecide};

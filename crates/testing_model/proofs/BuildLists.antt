@@ -5,7 +5,7 @@ use Rattle.std.proofs.lemmas.List.{take_more, length-take-le}
 use Rattle.deb_control.specs.declared.binary.Binary.{Binary}
 use Rattle.testing_model.specs.declared.facts.BuildIn.{BuildIn}
 use Rattle.testing_model.specs.Covered.{placed_from}
-use Rattle.testing_model.specs.Taken.{with_build, with_builds}
+use Rattle.testing_model.specs.WithMessage.{with_build, with_builds}
 
 module _ (n k : ℕ) where
   abbrev pub placed_at : Binary → ℕ → BuildIn

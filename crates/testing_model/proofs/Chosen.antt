@@ -9,7 +9,7 @@ use Rattle.std.specs.declared.cmp.Ordering.TheVariants.{Equal}
 use Rattle.std.specs.Ordering.{is_lt, is_eq}
 use Rattle.std.specs.Cmp.{IsTotalOrder}
 use Rattle.testing_items.specs.Words.{lesser, least, put_by, sorted_by}
-use Rattle.testing_model.specs.Taken.{put_first}
+use Rattle.testing_model.specs.WithMessage.{put_first}
 use Rattle.testing_model.proofs.Picks.{has_key, rises-sorted, put_picked, has_key-put, put-skip}
 
 module _ {A : Type 0} (rank : A → A → Ordering) (t : A → Bool) where

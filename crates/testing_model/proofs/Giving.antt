@@ -23,7 +23,7 @@ use Rattle.testing_model.specs.Covered.{Covered, CoveredItem, upload_of, builds_
 use Rattle.testing_model.specs.Unstable.{unstable_source, unstable_sources, unstable_row, is_build_of, is_above_drops, unstable_builds, pair_of, pair_order, places, row_at, built_on, unstable_rows, is_current, hints_by_number, unhints_by_number}
 use Rattle.testing_model.specs.Moves.{row_key, row_cmp, put_source, as_source, is_row_of, source_in, group_sources, move_group, remove_source}
 use Rattle.testing_model.specs.Updates.{update_of}
-use Rattle.testing_model.specs.Given.{IsUploaded, IsBuilt, IsArchPlace, IsGivenBy, KnowsArchs, binary_in}
+use Rattle.testing_model.specs.Provenance.{IsUploaded, IsBuilt, IsArchPlace, IsGivenBy, KnowsArchs, binary_in}
 use Rattle.testing_items.proofs.Each.{each-weaker, each-append, each-filter, each-put, each-put_all}
 use Rattle.testing_model.proofs.Least.{from_filter, least_from}
 use Rattle.testing_items.proofs.Members.{none_among, head_of, tail_of}

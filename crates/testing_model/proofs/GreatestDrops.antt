@@ -12,7 +12,7 @@ use Rattle.testing_items.specs.Words.{Text, is_above}
 use Rattle.testing_model.specs.declared.facts.BuildIn.{BuildIn}
 use Rattle.testing_model.specs.declared.facts.DropIn.{DropIn}
 use Rattle.testing_model.specs.Unstable.{pair_order, drop_pair, drop_order}
-use Rattle.testing_model.specs.Taken.{outlives, with_greatest, put_first}
+use Rattle.testing_model.specs.WithMessage.{outlives, with_greatest, put_first}
 use Rattle.testing_model.proofs.Orders.{above_is, not_below_trans, drop_total}
 use Rattle.testing_model.proofs.MoreMail.{pair_tied, chosen_drops, drops-more, then_not_lt, reversed}
 

@@ -9,7 +9,7 @@ use Rattle.std.specs.Ordering.{is_eq, is_gt}
 use Rattle.std.proofs.Common.{◌≡◌, refl, sym, ap, ◌∙◌}
 use Rattle.std.proofs.lemmas.Bool.{false≢true}
 use Rattle.std.proofs.lemmas.Cmp.{alike_right}
-use Rattle.testing_model.specs.Taken.{put_first}
+use Rattle.testing_model.specs.WithMessage.{put_first}
 use Rattle.testing_model.proofs.KeyOrder.{turned}
 
 is_greater : (r : Ordering) → is_gt r ≡ true → r ≡ Greater

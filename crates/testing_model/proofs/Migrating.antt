@@ -12,7 +12,7 @@ use Rattle.testing_items.specs.Words.{Text}
 use Rattle.testing_model.specs.Covered.{Covered}
 use Rattle.testing_model.specs.FactLists.{FactLists}
 use Rattle.testing_model.specs.StandsFor.{StandsFor}
-use Rattle.testing_model.specs.Unstable.{unstable_sources, unstable_rows, built_rows, hints_by_number, is_standing}
+use Rattle.testing_model.specs.Unstable.{unstable_sources, unstable_rows, built_rows, hints_by_number, is_in_force}
 use Rattle.testing_model.specs.Updates.{Outcome, then_do, in_turn, remove_item, removals_of, move_easy, move_singles, wait_all, update_by, update_of}
 
 -- what is decided by facts is what is decided over the messages that they stand for
@@ -29,8 +29,8 @@ module _ (archs : List Text) (es : List Excuse) (t : Suite) where
   abbrev pub all_steps : List UploadIn → List RowIn → List HintIn → List UnhintIn → List HintIn → List UnhintIn → Outcome
   all_steps sources rows hints unhints hints_again unhints_again =
       let o : Outcome = record { decisions = []; suite = t } in
-      then_do (then_do (then_do (then_do o (in_turn (remove_item archs) (flat_map removals_of (filter (is_standing unhints) hints))))
-      (in_turn (move_easy archs sources rows es) (filter (is_standing unhints_again) hints_again)))
+      then_do (then_do (then_do (then_do o (in_turn (remove_item archs) (flat_map removals_of (filter (is_in_force unhints) hints))))
+      (in_turn (move_easy archs sources rows es) (filter (is_in_force unhints_again) hints_again)))
       (move_singles archs sources rows es)) (wait_all archs sources rows es)
 
   pub all_steps-are : {us sources : List UploadIn} {rs rows : List RowIn} {hs js hints : List HintIn} {cs ds unhints : List UnhintIn}

@@ -16,7 +16,7 @@ use Rattle.testing_model.specs.declared.facts.BuildIn.{BuildIn}
 use Rattle.testing_model.specs.declared.facts.DropIn.{DropIn}
 use Rattle.testing_model.specs.declared.facts.BugIn.{BugIn}
 use Rattle.testing_model.specs.Unstable.{upload_order, build_order, is_build_of, pair_order, pair_of, drop_order, drop_pair, is_drop_of, bug_order}
-use Rattle.testing_model.specs.Taken.{with_upload, with_build, with_builds, with_bug, with_drop, with_greatest, outlives}
+use Rattle.testing_model.specs.WithMessage.{with_upload, with_build, with_builds, with_bug, with_drop, with_greatest, outlives}
 use Rattle.std.specs.Cmp.{IsTotalOrder}
 use Rattle.std.specs.Ordering.{ordering_then}
 use Rattle.std.proofs.lemmas.Cmp.{on_total, then_total}

@@ -7,7 +7,7 @@ use Rattle.std.specs.declared.cmp.Ordering.TheVariants.{Less, Equal, Greater}
 use Rattle.std.specs.Ordering.{is_eq}
 use Rattle.std.specs.Cmp.{IsTotalOrder}
 use Rattle.testing_items.specs.Words.{lesser, put_by, sorted_by}
-use Rattle.testing_model.specs.Taken.{put_first}
+use Rattle.testing_model.specs.WithMessage.{put_first}
 
 module _ {K : Type 0} {cmp : K → K → Ordering} (o : IsTotalOrder cmp) where
   -- each key is below those after it

@@ -15,7 +15,7 @@ use Rattle.testing_model.specs.Covered.{Covered, CoveredItem, upload_of, drop_of
 use Rattle.testing_model.specs.Unstable.{upload_order, build_order, drop_order, bug_order, hint_order, unhint_order, delays_order, pair_order, pair_of, drop_pair, is_drop_of, is_build_of, is_above_drops, unstable_sources, unstable_builds, greatest_drops, bug_states}
 use Rattle.testing_model.specs.StandsFor.{StandsFor}
 use Rattle.testing_model.specs.SameMessages.{SameElements, HasOneOfEach}
-use Rattle.testing_model.specs.Taken.{outlives}
+use Rattle.testing_model.specs.WithMessage.{outlives}
 use Rattle.testing_items.specs.declared.item.Item.{Item}
 use Rattle.testing_items.specs.declared.item.Item.TheVariants as item
 use Rattle.testing_model.specs.declared.facts.UploadIn.{UploadIn}

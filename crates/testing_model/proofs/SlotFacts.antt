@@ -6,7 +6,7 @@ use Rattle.std.proofs.Math.Seq.{drop-cons}
 use Rattle.std.specs.declared.cmp.Ordering.{Ordering}
 use Rattle.std.specs.declared.cmp.Ordering.TheVariants.{Less, Equal, Greater}
 use Rattle.std.specs.Ordering.{is_lt}
-use Rattle.testing_model.specs.Taken.{put_first}
+use Rattle.testing_model.specs.WithMessage.{put_first}
 
 module _ {A K : Type 0} (key : A → K) (cmp : K → K → Ordering) (rank : A → A → Ordering) (x : A) where
   head-first : (y : A) (ys : List A) → cmp (key x) (key y) ≡ Equal → put_first key cmp rank x (y ∷ ys) ≡ cond (is_lt (rank y x)) y x ∷ ys

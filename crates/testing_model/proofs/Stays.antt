@@ -17,7 +17,7 @@ use Rattle.testing_model.specs.declared.update.Offender.{Offender}
 use Rattle.testing_model.specs.Suite.{Suite}
 use Rattle.testing_items.specs.Words.{Text, is_same_version}
 use Rattle.testing_model.specs.Excuses.{testing_version}
-use Rattle.testing_model.specs.Unstable.{is_standing}
+use Rattle.testing_model.specs.Unstable.{is_in_force}
 use Rattle.testing_model.specs.LentItems.{as_moved}
 use Rattle.testing_model.specs.Moves.{group_sources, move_group, remove_source, offender_of}
 use Rattle.testing_model.specs.Updates.{Outcome, decide, nothing, in_turn, removals_of, remove_version, remove_item, is_candidate, is_in_testing, move_as_one, move_items, move_easy, moved_alone, offender_alone, is_allowed_alone, accepted, single_moves, remaining, update_by}
@@ -127,13 +127,13 @@ module _ (Holds : Suite → Type 0) (archs : List Text) (removals-keep : Removal
     -- a whole run
     pub run-keeps : (hints : List HintIn) (unhints : List UnhintIn) (excuses : List Excuse) → Keeps Holds (update_by archs sources rows hints unhints excuses)
     run-keeps hints unhints excuses t h =
-        let standing_hints = filter (is_standing unhints) hints in
-        let removed = in_turn (remove_item archs) (flat_map removals_of standing_hints) t in
-        let grouped = in_turn (move_easy archs sources rows excuses) standing_hints removed.suite in
+        let hints_in_force = filter (is_in_force unhints) hints in
+        let removed = in_turn (remove_item archs) (flat_map removals_of hints_in_force) t in
+        let grouped = in_turn (move_easy archs sources rows excuses) hints_in_force removed.suite in
         let es = remaining excuses grouped.suite in
         singles-keep (length es) es grouped.suite
-        (in_turn-keeps Holds (move_easy archs sources rows excuses) (easy-keeps excuses) standing_hints removed.suite
-        (in_turn-keeps Holds (remove_item archs) item-keeps (flat_map removals_of standing_hints) t h))
+        (in_turn-keeps Holds (move_easy archs sources rows excuses) (easy-keeps excuses) hints_in_force removed.suite
+        (in_turn-keeps Holds (remove_item archs) item-keeps (flat_map removals_of hints_in_force) t h))
 
 -- so every watched row stays installable
 pub update-keeps : (archs : List Text) (sources : List UploadIn) (rows : List RowIn) (hints : List HintIn) (unhints : List UnhintIn) (excuses : List Excuse)

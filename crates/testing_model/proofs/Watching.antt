@@ -16,7 +16,7 @@ use Rattle.testing_model.specs.declared.update.Offender.{Offender}
 use Rattle.testing_model.specs.Suite.{Suite}
 use Rattle.testing_items.specs.Words.{Text, text_cmp, is_empty, lesser, least}
 use Rattle.testing_model.specs.Unstable.{is_current, is_of_source}
-use Rattle.testing_model.specs.Moves.{row_key, row_cmp, is_row_of, source_in, move_group, remove_source, is_row_on, rows_on, Judged, with_answers, judged_on, is_same_key, was_installable, is_watched_on, fails_on, first_failing, offender_on, first_of, offender_of}
+use Rattle.testing_model.specs.Moves.{row_key, row_cmp, is_row_of, source_in, move_group, remove_source, is_row_on, rows_on, RowAnswer, with_answers, judged_on, is_same_key, was_installable, is_watched_on, fails_on, first_failing, offender_on, first_of, offender_of}
 use Rattle.testing_model.specs.Watched.{AllWatchedWork}
 use Rattle.testing_install.proofs.Choosing.{length-are}
 use Rattle.testing_items.proofs.Each.{each-weaker, each-both, each-append, each-filter, each-all, every, each-put_all}
@@ -28,10 +28,10 @@ nat_same n = ⊎_elim (λ h. h.0) (λ h. absurd (h.1 refl)) (eqb_tells n n)
 same_key_itself : (r : RowIn) → is_same_key r r ≡ true
 same_key_itself r = rw (nat_same r.arch, text_same r.binary.name) refl
 
-abbrev Works : ℕ → Judged → Type 0
+abbrev Works : ℕ → RowAnswer → Type 0
 Works arch j = is_watched_on arch j.row ≡ true → j.is_installable ≡ true
 
-abbrev Worked : ℕ → List Judged → RowIn → Type 0
+abbrev Worked : ℕ → List RowAnswer → RowIn → Type 0
 Worked arch before r = is_watched_on arch r ≡ true → was_installable before r ≡ true
 
 at_head : (b : Bool) (r : RowIn) (rest : Bool) → b ≡ true → ((b && is_same_key r r) || rest) ≡ true
@@ -42,7 +42,7 @@ or_later true b e = refl
 or_later false b e = e
 
 -- rows that worked, in the words of a later judging
-worked : (arch : ℕ) (before : List Judged) (rs : List RowIn) (bs : List Bool) → length bs ≡ length rs
+worked : (arch : ℕ) (before : List RowAnswer) (rs : List RowIn) (bs : List Bool) → length bs ≡ length rs
     → ((r : RowIn) → was_installable (with_answers rs bs) r ≡ true → was_installable before r ≡ true)
     → AllByRecursion (Works arch) (with_answers rs bs) → AllByRecursion (Worked arch before) rs
 worked arch before [] bs e f h = tt
@@ -110,7 +110,7 @@ fails_none : (old new : List RowIn) (group : List Text) (arch : ℕ) → offende
 fails_none old new group arch e =
     let before = judged_on arch old in
     let after = judged_on arch new in
-    let name : Judged → Text = λ j. j.row.binary.name in
+    let name : RowAnswer → Text = λ j. j.row.binary.name in
     let failing = filter (fails_on arch group before) after in
     let as_offender : Text → Offender = λ n. record { arch = arch; «package» = n } in
     let first : first_failing arch group before after ≡ None = option_none as_offender (first_failing arch group before after) e in
@@ -142,7 +142,7 @@ allowed archs old new group e others arch below =
     let fails = fails_none old new group arch (none_on (offender_on old new group) 0 (length archs) e arch (omega arith) (omega (arith, below))) in
     let there = each-filter Other (is_row_on arch) new (each-weaker Other (λ r. is_row_on arch r ≡ true → Other r) (λ r q on. q) new (others arch below)) in
     let stayed = each-row Other (rows_on arch new) (are_installable (map (λ (r : RowIn). r.binary) (rows_on arch new))) there in
-    let Both : Judged → Type 0 = λ j. (fails_on arch group before j ≡ false) × Other j.row in
+    let Both : RowAnswer → Type 0 = λ j. (fails_on arch group before j ≡ false) × Other j.row in
     each-weaker Both (Works arch)
     (λ j p. works_by (is_watched_on arch j.row) j.is_installable (is_row_of group j.row) (was_installable before j.row) p.0 p.1)
     after (each-both (λ j. fails_on arch group before j ≡ false) (λ j. Other j.row) after fails stayed)

@@ -23,7 +23,7 @@ use Rattle.testing_model.specs.declared.excuse.Reason.TheVariants.{TooYoung, New
 use Rattle.testing_model.specs.Suite.{Suite}
 use Rattle.testing_items.specs.Words.{Text, is_above, is_same_version, only_if, floor_zero}
 use Rattle.testing_model.specs.Covered.{Covered, uploads_in}
-use Rattle.testing_model.specs.Unstable.{unstable_sources, place_numbers, unstable_rows, is_of_source, is_current, bug_states, is_release_critical, affects, standing, last_delays}
+use Rattle.testing_model.specs.Unstable.{unstable_sources, place_numbers, unstable_rows, is_of_source, is_current, bug_states, is_release_critical, affects, in_force, last_delays}
 
 -- the source's entry among testing's sources
 abbrev pub entry_of : List SourceIn → Text → Option SourceIn
@@ -182,7 +182,7 @@ reasons_of places rows bugs hints testing is_young u =
     ++ only_if (is_blocked hints u) Blocked
     ++ only_if (is_removal_asked hints testing u) RemovalAsked
 
--- what the excuses of a run are made from, beside testing: unstable's rows, the states of bugs, the standing hints, the uploads, the delays and the date
+-- what the excuses of a run are made from, beside testing: unstable's rows, the states of bugs, the hints in force, the uploads, the delays and the date
 pub record Ground : Type 0 where
   pub rows : List RowIn
   pub bugs : List BugIn
@@ -214,7 +214,7 @@ abbrev pub ground_of : List Text → Covered → Date → Ground
 ground_of archs s date = record {
   rows = unstable_rows archs s;
   bugs = bug_states s;
-  hints = standing s;
+  hints = in_force s;
   uploads = uploads_in s;
   delays = delays_in_force (last_delays s);
   date = date;

@@ -1,4 +1,4 @@
--- Judged rows as the code has them.
+-- RowAnswer rows as the code has them.
 use Rattle.std.specs.Prelude.{List, map}
 use Rattle.testing_model.specs.declared.suite.RowIn.{RowIn}
 use Rattle.testing_model.specs.declared.suite.LentRow.{LentRow}

@@ -3,7 +3,7 @@ pub mod Covered
 pub mod Excuses
 pub mod FactLists
 pub mod FactOrder
-pub mod Given
+pub mod Provenance
 pub mod InOrder
 pub mod JudgedRows
 pub mod LentItems
@@ -12,8 +12,8 @@ pub mod Places
 pub mod SameMessages
 pub mod StandsFor
 pub mod Suite
-pub mod Taken
+pub mod WithMessage
 pub mod Unstable
 pub mod Updates
-pub mod Wanted
+pub mod SourceFilter
 pub mod Watched

@@ -70,18 +70,18 @@ abbrev pub rows_on : ℕ → List RowIn → List RowIn
 rows_on arch rows = filter (is_row_on arch) rows
 
 -- a row on an architecture, and whether it is installable there
-pub record Judged : Type 0 where
+pub record RowAnswer : Type 0 where
   pub row : RowIn
   pub is_installable : Bool
 
 -- rows with their answers, place by place
-abbrev pub with_answers : List RowIn → List Bool → List Judged
+abbrev pub with_answers : List RowIn → List Bool → List RowAnswer
 with_answers [] answers = []
 with_answers (r ∷ rs) [] = []
 with_answers (r ∷ rs) (b ∷ bs) = record { row = r; is_installable = b } ∷ with_answers rs bs
 
 -- each row on the architecture with the answer for it
-abbrev pub judged_on : ℕ → List RowIn → List Judged
+abbrev pub judged_on : ℕ → List RowIn → List RowAnswer
 judged_on arch rows =
     let there = rows_on arch rows in with_answers there (are_installable (map (λ r. r.binary) there))
 
@@ -90,7 +90,7 @@ abbrev pub is_same_key : RowIn → RowIn → Bool
 is_same_key r q = (r.arch == q.arch) && bytes_eq r.binary.name q.binary.name
 
 -- the row of this architecture and name was installable
-abbrev pub was_installable : List Judged → RowIn → Bool
+abbrev pub was_installable : List RowAnswer → RowIn → Bool
 was_installable before r = list_any (λ j. j.is_installable && is_same_key j.row r) before
 
 -- each architecture's own rows are watched there, and the rows of `all` on the first one
@@ -98,12 +98,12 @@ abbrev pub is_watched_on : ℕ → RowIn → Bool
 is_watched_on arch r = (r.arch == arch) || ((r.arch == 16) && (arch == 0))
 
 -- the row fails: it isn't installable, though it came in with the group or was installable before
-abbrev pub fails_on : ℕ → List Text → List Judged → Judged → Bool
+abbrev pub fails_on : ℕ → List Text → List RowAnswer → RowAnswer → Bool
 fails_on arch group before j =
     is_watched_on arch j.row && not j.is_installable && (is_row_of group j.row || was_installable before j.row)
 
 -- the name of the first row that fails, in byte order
-abbrev pub first_failing : ℕ → List Text → List Judged → List Judged → Option Text
+abbrev pub first_failing : ℕ → List Text → List RowAnswer → List RowAnswer → Option Text
 first_failing arch group before after =
     least text_cmp (map (λ j. j.row.binary.name) (filter (fails_on arch group before) after))
 

@@ -1,4 +1,4 @@
--- Unstable, the bugs and the standing hints, as the covered messages give them.
+-- Unstable, the bugs and the hints in force, as the covered messages give them.
 use Rattle.std.specs.Prelude.{ℕ, Bool, true, false, ◌&&◌, ◌||◌, not, ◌==◌, List, [], ◌∷◌, ◌++◌, map, filter, Option, codes, length}
 use Rattle.std.specs.List.{filter_map, flat_map, list_any, list_all, enumerate_from, range_with_len}
 use Rattle.std.specs.Option.{option_map_or}
@@ -160,12 +160,12 @@ abbrev pub unhints_by_number : Covered → List UnhintIn
 unhints_by_number s = sorted_by (λ c. c) unhint_order (unhints_in s)
 
 -- no unhint names the hint
-abbrev pub is_standing : List UnhintIn → HintIn → Bool
-is_standing unhints h = not (list_any (λ c. c.cancels == h.number) unhints)
+abbrev pub is_in_force : List UnhintIn → HintIn → Bool
+is_in_force unhints h = not (list_any (λ c. c.cancels == h.number) unhints)
 
--- the standing hints, by number: those that no unhint names
-abbrev pub standing : Covered → List HintIn
-standing s = filter (is_standing (unhints_by_number s)) (hints_by_number s)
+-- the hints in force, by number: those that no unhint names
+abbrev pub in_force : Covered → List HintIn
+in_force s = filter (is_in_force (unhints_by_number s)) (hints_by_number s)
 
 -- messages on delays in the order in which they count: the greatest number first, and among the same number by sender
 abbrev pub delays_order : DelaysIn → DelaysIn → Ordering

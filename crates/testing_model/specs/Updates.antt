@@ -16,7 +16,7 @@ use Rattle.testing_model.specs.declared.update.Decision.TheVariants.{RemoveDone,
 use Rattle.testing_model.specs.Suite.{Suite}
 use Rattle.testing_items.specs.Words.{Text, is_same_version, is_empty}
 use Rattle.testing_model.specs.Covered.{Covered}
-use Rattle.testing_model.specs.Unstable.{unstable_sources, unstable_rows, hints_by_number, unhints_by_number, is_standing}
+use Rattle.testing_model.specs.Unstable.{unstable_sources, unstable_rows, hints_by_number, unhints_by_number, is_in_force}
 use Rattle.testing_model.specs.Excuses.{testing_version}
 use Rattle.testing_model.specs.Moves.{group_sources, move_group, remove_source, offender_of}
 
@@ -48,7 +48,7 @@ is_in_testing t name v = option_map_or (is_same_version v) (testing_version t na
 
 -- Removals.
 
--- the items of the standing remove hints, by number and then in the hint's order
+-- the items of the remove hints in force, by number and then in the hint's order
 abbrev pub removals_of : HintIn → List (ℕ × HintItem)
 removals_of h = elim h.hint [
   | Block _ ↦ []
@@ -183,9 +183,9 @@ wait_all archs sources rows excuses t = record { decisions = waits archs sources
 -- removals, then groups, then single moves, and last those that wait, where unstable has these sources and rows
 abbrev pub update_by : List Text → List UploadIn → List RowIn → List HintIn → List UnhintIn → List Excuse → Suite → Outcome
 update_by archs sources rows hints unhints excuses t =
-    let standing_hints = filter (is_standing unhints) hints in
-    let removed = in_turn (remove_item archs) (flat_map removals_of standing_hints) t in
-    let grouped = in_turn (move_easy archs sources rows excuses) standing_hints removed.suite in
+    let hints_in_force = filter (is_in_force unhints) hints in
+    let removed = in_turn (remove_item archs) (flat_map removals_of hints_in_force) t in
+    let grouped = in_turn (move_easy archs sources rows excuses) hints_in_force removed.suite in
     let single = move_singles archs sources rows excuses grouped.suite in
     record {
       decisions = removed.decisions ++ grouped.decisions ++ single.decisions ++ waits archs sources rows excuses single.suite;

@@ -7,17 +7,17 @@ use Rattle.testing_model.specs.declared.suite.RowIn.{RowIn}
 use Rattle.testing_model.specs.declared.suite.SourceIn.{SourceIn}
 use Rattle.testing_model.specs.FactOrder.{IsUnstableOrder}
 use Rattle.testing_model.specs.InOrder.{IsInOrder}
-use Rattle.testing_suites.specs.Standing.{IsLive, standing}
+use Rattle.testing_suites.specs.Present.{IsLive, present_rows}
 use Rattle.testing_items.specs.Words.{Text}
 
 -- the rows
 abbrev pub held : LiveRows → List RowIn
-held (Pooled s) = standing s
+held (Pooled s) = present_rows s
 held (Listed rows) = rows.items
 
 -- where they stand of a pool, it is one of rows before the run and of unstable's, for these architectures
 abbrev pub AreLive : LiveRows → List Text → List RowIn → Type 0
-AreLive (Pooled s) archs unstable = IsLive s archs unstable (standing s)
+AreLive (Pooled s) archs unstable = IsLive s archs unstable (present_rows s)
 AreLive (Listed rows) archs unstable = Unit {0}
 
 -- a run's testing: unstable and testing are in order, and the rows are live

@@ -9,12 +9,12 @@ ghost use Rattle.testing_moves.specs.Held.{held, AreLive};
 ghost use Rattle.testing_model.specs.InOrder.{AreByKey};
 ghost use Rattle.testing_model.specs.JudgedRows.{lent};
 ghost use Rattle.testing_model.specs.Moves as rules;
-ghost use Rattle.testing_suites.specs.Standing.{IsShown, IsLive, standing};
+ghost use Rattle.testing_suites.specs.Present.{IsShown, IsLive, present_rows};
 
 use crate::lent_rows::{moved_rows, rows_without};
 use crate::live_rows::LiveRows;
 use crate::offender::offender_of;
-use crate::standing::PoolSuites;
+use crate::pool_suites::PoolSuites;
 use deb_control::Text;
 use deb_version::NoMemory;
 use std::alloc::Global;
@@ -61,8 +61,8 @@ fn broken_by_move_of_standing(
     group: &[Text],
 ) -> Result<Option<Offender>, NoMemory>
     requires { AreBySource (unboxed unstable.sources.now) }
-    ensures { IfOk result (λ o. o ≡ rules.offender_of archs.now (standing suites.now)
-        (moved_rows (unboxed unstable.entry.sources.now) (lent unstable.entry.rows.now) group.now (standing suites.now)) group.now) }
+    ensures { IfOk result (λ o. o ≡ rules.offender_of archs.now (present_rows suites.now)
+        (moved_rows (unboxed unstable.entry.sources.now) (lent unstable.entry.rows.now) group.now (present_rows suites.now)) group.now) }
 {
     let rows = suites.rows(alloc)?;
     broken_by_move_anew(alloc, archs, unstable, group, &rows)
@@ -78,10 +78,10 @@ fn told_by_move(
     group: &[Text],
 ) -> Result<Option<Offender>, NoMemory>
     requires order { IsUnstableOrder (unboxed unstable.sources.now) (lent unstable.rows.now) }
-    requires live { IsLive suites.old archs.now (lent unstable.rows.now) (standing suites.old) }
+    requires live { IsLive suites.old archs.now (lent unstable.rows.now) (present_rows suites.old) }
     ensures same { suites.new ≡ suites.old }
-    ensures offender { IfOk result (λ o. o ≡ rules.offender_of archs.now (standing suites.old)
-        (moved_rows (unboxed unstable.entry.sources.now) (lent unstable.entry.rows.now) group.now (standing suites.old)) group.now) }
+    ensures offender { IfOk result (λ o. o ≡ rules.offender_of archs.now (present_rows suites.old)
+        (moved_rows (unboxed unstable.entry.sources.now) (lent unstable.entry.rows.now) group.now (present_rows suites.old)) group.now) }
 {
     if !suites.offers(group) {
         return broken_by_move_of_standing(alloc, suites, archs, unstable, group);
@@ -101,9 +101,9 @@ fn told_by_removal(
     name: &str,
 ) -> Result<Option<Offender>, NoMemory>
     requires count { suites.old.archs ≡ length archs.now }
-    requires shown { IsShown suites.old.rows (marked suites.old.stands) (standing suites.old) }
+    requires shown { IsShown suites.old.rows (marked suites.old.stands) (present_rows suites.old) }
     ensures same { suites.new ≡ suites.old }
-    ensures offender { IfOk result (λ o. o ≡ rules.offender_of archs.now (standing suites.old) (rows_without name.now (standing suites.old)) []) }
+    ensures offender { IfOk result (λ o. o ≡ rules.offender_of archs.now (present_rows suites.old) (rows_without name.now (present_rows suites.old)) []) }
 {
     let change = suites.change_by_removal(alloc, name)?;
     suites.first_lost(alloc, &change)

@@ -21,7 +21,7 @@ use deb_control::Text;
 use deb_version::{NoMemory, Version};
 use std::alloc::Global;
 use std::cmp::Ordering;
-use testing_facts::{is_same_version, is_standing, source_in};
+use testing_facts::{is_in_force, is_same_version, source_in};
 use testing_items::{Hint, HintItem};
 use testing_model::{Decision, Excuse, HintIn, Moved, MovedItems, UnhintIn, UploadIn};
 
@@ -224,7 +224,7 @@ impl<'u, 'a> Turns<'u, 'a> {
         }
     }
 
-    /// The groups that the standing hints ask for.
+    /// The groups that the hints in force ask for.
     pub fn groups(
         &mut self,
         alloc: Global,
@@ -232,10 +232,10 @@ impl<'u, 'a> Turns<'u, 'a> {
         hints: &[HintIn],
         unhints: &[UnhintIn],
     ) -> Result<(), NoMemory>
-        ensures { OnOk result (self.new ≡ go_on self.old (λ b. in_turn (rules.move_easy b.archs b.sources b.rows excuses.now) (filter (unstable_words.is_standing unhints.now) hints.now))) }
+        ensures { OnOk result (self.new ≡ go_on self.old (λ b. in_turn (rules.move_easy b.archs b.sources b.rows excuses.now) (filter (unstable_words.is_in_force unhints.now) hints.now))) }
     {
         for hint in hints {
-            if is_standing(unhints, hint) {
+            if is_in_force(unhints, hint) {
                 self.move_easy(alloc, excuses, hint)?;
             }
         }

@@ -10,8 +10,8 @@ mod live_rows;
 mod live_sources;
 mod migration;
 mod offender;
+mod pool_suites;
 mod singles;
-mod standing;
 mod turns;
 
 pub use migration::migrate;

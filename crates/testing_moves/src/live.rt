@@ -6,7 +6,7 @@ ghost use Rattle.testing_model.specs.Boxed.{unboxed};
 ghost use Rattle.testing_model.specs.FactOrder.{AreBySource};
 ghost use Rattle.testing_model.specs.InOrder.{AreByKey};
 ghost use Rattle.testing_model.specs.JudgedRows.{lent};
-ghost use Rattle.testing_suites.specs.Kept.{AreKept};
+ghost use Rattle.testing_suites.specs.CarriedOver.{AreCarriedOver};
 ghost use Rattle.testing_moves.specs.Runs.{after_move, broken_by_move, after_removal, broken_by_removal};
 
 use crate::breaking;
@@ -22,7 +22,7 @@ use std::mem;
 use testing_facts::{Hashes, Unstable};
 use testing_items::Archs;
 use testing_model::{Offender, UploadIn};
-use testing_suites::{KeptSuites, Testing};
+use testing_suites::{CarriedSuites, Testing};
 
 /// Testing while a run changes it, beside what the run goes by: the architectures and unstable. The sources stand by
 /// name. A change is first judged, and testing stays; then it is made. The suites judge it by what it touches; there are
@@ -60,9 +60,9 @@ impl<'u, 'a> LiveTesting<'u, 'a> {
         unstable: Unstable<'u, 'a>,
         testing: &'a Testing,
         candidates: Hashes,
-        kept: Option<KeptSuites>,
+        kept: Option<CarriedSuites>,
     ) -> Result<LiveTesting<'u, 'a>, NoMemory>
-        requires kept { AreKept kept testing.now.rows }
+        requires kept { AreCarriedOver kept testing.now.rows }
         requires sources { AreBySource (unboxed unstable.sources.now) }
         requires rows { AreByKey (lent unstable.rows.now) }
         ensures { IfOk result (λ live. live ≡ record {

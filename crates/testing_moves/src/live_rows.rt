@@ -9,21 +9,21 @@ ghost use Rattle.testing_model.specs.FactOrder.{AreBySource, IsUnstableOrder};
 ghost use Rattle.testing_moves.specs.Held.{held, AreLive};
 ghost use Rattle.testing_model.specs.InOrder.{AreByKey};
 ghost use Rattle.testing_model.specs.JudgedRows.{lent};
-ghost use Rattle.testing_suites.specs.Kept.{AreKept};
-ghost use Rattle.testing_suites.specs.Standing.{IsLive, IsShown, standing};
-ghost use Rattle.testing_model.specs.Wanted.{is_wanted};
+ghost use Rattle.testing_suites.specs.CarriedOver.{AreCarriedOver};
+ghost use Rattle.testing_suites.specs.Present.{IsLive, IsShown, present_rows};
+ghost use Rattle.testing_model.specs.SourceFilter.{hash_passes};
 ghost use Rattle.testing_items.specs.Words.{Text as Word};
 ghost use Rattle.testing_model.specs.declared.suite.RowIn.{RowIn as ARow};
 
 use crate::lent_rows::{copy_lent, moved_rows, rows_without};
-use crate::standing::PoolSuites;
+use crate::pool_suites::PoolSuites;
 use deb_control::Text;
 use deb_version::NoMemory;
 use std::alloc::Global;
 use testing_facts::{Hashes, Unstable};
 use testing_items::Archs;
 use testing_model::{LentRow, RowIn};
-use testing_suites::{KeptSuites, Testing, lend_rows};
+use testing_suites::{CarriedSuites, Testing, lend_rows};
 
 /// Testing's rows: those that stand of a pool, whose suites judge a change, and make it, by what it touches; or a list
 /// of them, where there are no suites.
@@ -41,11 +41,11 @@ fn moved_suites(
     group: &[Text],
 ) -> Result<PoolSuites, NoMemory>
     requires order { IsUnstableOrder (unboxed unstable.sources.now) (lent unstable.rows.now) }
-    requires offered { list_all (is_wanted suites.candidates) group.now ≡ true }
-    ensures rows { IfOk result (λ new. (archs : List Word) → IsLive suites archs (lent unstable.entry.rows.now) (standing suites)
-        → standing new ≡ moved_rows (unboxed unstable.entry.sources.now) (lent unstable.entry.rows.now) group.now (standing suites)) }
-    ensures live { IfOk result (λ new. (archs : List Word) → IsLive suites archs (lent unstable.entry.rows.now) (standing suites)
-        → IsLive new archs (lent unstable.entry.rows.now) (standing new)) }
+    requires offered { list_all (hash_passes suites.candidates) group.now ≡ true }
+    ensures rows { IfOk result (λ new. (archs : List Word) → IsLive suites archs (lent unstable.entry.rows.now) (present_rows suites)
+        → present_rows new ≡ moved_rows (unboxed unstable.entry.sources.now) (lent unstable.entry.rows.now) group.now (present_rows suites)) }
+    ensures live { IfOk result (λ new. (archs : List Word) → IsLive suites archs (lent unstable.entry.rows.now) (present_rows suites)
+        → IsLive new archs (lent unstable.entry.rows.now) (present_rows new)) }
 {
     let change = suites.change_by_move(alloc, unstable.sources, group)?;
     suites.after(alloc, &change)
@@ -93,7 +93,7 @@ fn standing_moved<'a>(
     group: &[Text],
 ) -> Result<Vec<RowIn>, NoMemory>
     requires { AreBySource (unboxed unstable.sources.now) }
-    ensures rows { IfOk result (λ new. new.items ≡ moved_rows (unboxed unstable.entry.sources.now) (lent unstable.entry.rows.now) group.now (standing suites.now)) }
+    ensures rows { IfOk result (λ new. new.items ≡ moved_rows (unboxed unstable.entry.sources.now) (lent unstable.entry.rows.now) group.now (present_rows suites.now)) }
     ensures ordered { IfOk result (λ new. AreByKey new.items) }
 {
     let rows = suites.rows(alloc)?;
@@ -109,7 +109,7 @@ fn listed_moved(
     group: &[Text],
 ) -> Result<LiveRows, NoMemory>
     requires { AreBySource (unboxed unstable.sources.now) }
-    ensures rows { IfOk result (λ new. held new ≡ moved_rows (unboxed unstable.entry.sources.now) (lent unstable.entry.rows.now) group.now (standing suites)) }
+    ensures rows { IfOk result (λ new. held new ≡ moved_rows (unboxed unstable.entry.sources.now) (lent unstable.entry.rows.now) group.now (present_rows suites)) }
     ensures live { IfOk result (λ new. (archs : List Word) → AreLive new archs (lent unstable.entry.rows.now)) }
     ensures by_key { IfOk result (λ new. AreByKey (held new)) }
 {
@@ -126,9 +126,9 @@ fn moved_from_pool(
     group: &[Text],
 ) -> Result<LiveRows, NoMemory>
     requires { IsUnstableOrder (unboxed unstable.sources.now) (lent unstable.rows.now) }
-    ensures rows { IfOk result (λ new. (archs : List Word) → IsLive suites archs (lent unstable.entry.rows.now) (standing suites)
-        → held new ≡ moved_rows (unboxed unstable.entry.sources.now) (lent unstable.entry.rows.now) group.now (standing suites)) }
-    ensures live { IfOk result (λ new. (archs : List Word) → IsLive suites archs (lent unstable.entry.rows.now) (standing suites)
+    ensures rows { IfOk result (λ new. (archs : List Word) → IsLive suites archs (lent unstable.entry.rows.now) (present_rows suites)
+        → held new ≡ moved_rows (unboxed unstable.entry.sources.now) (lent unstable.entry.rows.now) group.now (present_rows suites)) }
+    ensures live { IfOk result (λ new. (archs : List Word) → IsLive suites archs (lent unstable.entry.rows.now) (present_rows suites)
         → AreLive new archs (lent unstable.entry.rows.now)) }
     ensures by_key { IfOk result (λ new. AreByKey (held new)) }
 {
@@ -142,10 +142,10 @@ fn moved_from_pool(
 
 /// The suites once a source is removed.
 fn suites_without(alloc: Global, suites: PoolSuites, name: &str) -> Result<PoolSuites, NoMemory>
-    ensures rows { IfOk result (λ new. (archs : List Word) (unstable : List ARow) → IsLive suites archs unstable (standing suites)
-        → standing new ≡ rows_without name.now (standing suites)) }
-    ensures live { IfOk result (λ new. (archs : List Word) (unstable : List ARow) → IsLive suites archs unstable (standing suites)
-        → IsLive new archs unstable (standing new)) }
+    ensures rows { IfOk result (λ new. (archs : List Word) (unstable : List ARow) → IsLive suites archs unstable (present_rows suites)
+        → present_rows new ≡ rows_without name.now (present_rows suites)) }
+    ensures live { IfOk result (λ new. (archs : List Word) (unstable : List ARow) → IsLive suites archs unstable (present_rows suites)
+        → IsLive new archs unstable (present_rows new)) }
 {
     let change = suites.change_by_removal(alloc, name)?;
     suites.after(alloc, &change)
@@ -167,10 +167,10 @@ fn kept_or_new(
     alloc: Global,
     archs: u32,
     rows: &[RowIn],
-    kept: Option<KeptSuites>,
-) -> Result<KeptSuites, NoMemory>
+    kept: Option<CarriedSuites>,
+) -> Result<CarriedSuites, NoMemory>
     requires order { AreByKey rows.now }
-    requires kept { AreKept kept rows.now }
+    requires kept { AreCarriedOver kept rows.now }
     ensures archs { IfOk result (λ suites. suites.archs ≡ archs) }
     ensures shown { IfOk result (λ suites. IsShown suites.rows (marked suites.stands) rows.now) }
 {
@@ -179,16 +179,16 @@ fn kept_or_new(
             if kept.archs() == archs && kept.len() / 2 <= rows.len() {
                 Ok(kept)
             } else {
-                KeptSuites::of(alloc, archs, rows)
+                CarriedSuites::of(alloc, archs, rows)
             }
         }
-        None => KeptSuites::of(alloc, archs, rows),
+        None => CarriedSuites::of(alloc, archs, rows),
     }
 }
 
 /// A list of the rows that stand.
 fn standing_rows(alloc: Global, suites: &PoolSuites) -> Result<Vec<RowIn>, NoMemory>
-    ensures { IfOk result (λ rows. rows.items ≡ standing suites.now) }
+    ensures { IfOk result (λ rows. rows.items ≡ present_rows suites.now) }
 {
     let rows = suites.rows(alloc)?;
     let copies = copy_lent(alloc, &rows)?;
@@ -203,9 +203,9 @@ impl LiveRows {
         unstable: Unstable<'_, '_>,
         testing: &Testing,
         candidates: Hashes,
-        kept: Option<KeptSuites>,
+        kept: Option<CarriedSuites>,
     ) -> Result<LiveRows, NoMemory>
-        requires { AreKept kept testing.now.rows }
+        requires { AreCarriedOver kept testing.now.rows }
         ensures rows { IfOk result (λ new. held new ≡ testing.now.rows) }
         ensures live { IfOk result (λ new. AreLive new archs.now (lent unstable.entry.rows.now)) }
         ensures by_key { IfOk result (λ new. AreByKey (held new)) }
@@ -271,9 +271,9 @@ impl LiveRows {
     }
 
     /// The rows, and the suites that are kept of them, where there are any.
-    pub fn into_parts(self, alloc: Global) -> Result<(Vec<RowIn>, Option<KeptSuites>), NoMemory>
+    pub fn into_parts(self, alloc: Global) -> Result<(Vec<RowIn>, Option<CarriedSuites>), NoMemory>
         ensures rows { IfOk result (λ parts. parts.0.items ≡ held self) }
-        ensures kept { IfOk result (λ parts. (archs : List Word) (unstable : List ARow) → AreLive self archs unstable → AreKept parts.1 (held self)) }
+        ensures kept { IfOk result (λ parts. (archs : List Word) (unstable : List ARow) → AreLive self archs unstable → AreCarriedOver parts.1 (held self)) }
     {
         match self {
             LiveRows::Pooled(suites) => {

@@ -3,7 +3,7 @@
 ghost use Rattle.std.specs.Prelude.{◌≡◌, IfOk, OnErr};
 ghost use Rattle.testing_model.specs.Covered.{Covered};
 ghost use Rattle.testing_model.specs.Excuses.{excuses_of};
-ghost use Rattle.testing_suites.specs.Kept.{AreKept};
+ghost use Rattle.testing_suites.specs.CarriedOver.{AreCarriedOver};
 ghost use Rattle.testing_model.specs.StandsFor.{StandsFor};
 ghost use Rattle.testing_model.specs.Unstable as unstable_words;
 ghost use Rattle.testing_model.specs.Updates.{IsUpdate, update_by};
@@ -17,7 +17,7 @@ use std::alloc::Global;
 use testing_facts::{Facts, Unstable, built_rows, candidates};
 use testing_items::Archs;
 use testing_model::{Decision, Excuse, Excuses, Update};
-use testing_suites::{KeptSuites, Testing};
+use testing_suites::{CarriedSuites, Testing};
 
 /// The decisions of a run over unstable, and the testing that they leave.
 fn all_turns<'a>(
@@ -26,9 +26,9 @@ fn all_turns<'a>(
     facts: &'a Facts,
     excuses: &[Excuse],
     testing: &'a Testing,
-    kept: Option<KeptSuites>,
+    kept: Option<CarriedSuites>,
 ) -> Result<(Vec<Decision>, Testing), NoMemory>
-    requires { AreKept kept testing.now.rows }
+    requires { AreCarriedOver kept testing.now.rows }
     ensures { IfOk result (λ o. record { decisions = o.0.items; suite = o.1 } ≡ update_by archs.now facts.now.sources (unstable_words.built_rows archs.now facts.now.rows) facts.now.hints facts.now.unhints excuses.now testing.now) }
 {
     let rows = built_rows(alloc, archs, facts.rows())?;

@@ -15,7 +15,7 @@ use std::alloc::{AllocError, Global};
 use testing_install::{Row, installable};
 use testing_items::Archs;
 use testing_model::{LentRow, Offender};
-use testing_suites::{Judged, first_of_two, is_row_on, is_watched_on};
+use testing_suites::{RowAnswer, first_of_two, is_row_on, is_watched_on};
 
 /// The row names a source of the group.
 pub fn is_row_of(group: &[Text], row: &LentRow) -> bool
@@ -33,7 +33,7 @@ pub fn is_same_key(row: &LentRow, other: &LentRow) -> bool
 }
 
 /// The row of this architecture and name was installable.
-fn was_installable(before: &[Judged], row: &LentRow) -> bool
+fn was_installable(before: &[RowAnswer], row: &LentRow) -> bool
     ensures { result ≡ moves.was_installable (answers before.now) (row_of row.now) }
 {
     for judged in before {
@@ -45,7 +45,7 @@ fn was_installable(before: &[Judged], row: &LentRow) -> bool
 }
 
 /// The row fails: it isn't installable, though it came in with the group or was installable before.
-fn fails_on(arch: u32, group: &[Text], before: &[Judged], judged: Judged) -> bool
+fn fails_on(arch: u32, group: &[Text], before: &[RowAnswer], judged: RowAnswer) -> bool
     ensures { result ≡ moves.fails_on arch group.now (answers before.now) (record { row = row_of judged.entry.row; is_installable = judged.entry.is_installable }) }
 {
     is_watched_on(arch, &judged.row)
@@ -57,8 +57,8 @@ fn fails_on(arch: u32, group: &[Text], before: &[Judged], judged: Judged) -> boo
 fn first_failing<'a>(
     arch: u32,
     group: &[Text],
-    before: &[Judged],
-    after: &[Judged<'a>],
+    before: &[RowAnswer],
+    after: &[RowAnswer<'a>],
 ) -> Option<&'a str>
     ensures { option_copied result ≡ moves.first_failing arch group.now (answers before.now) (answers after.now) }
 {
@@ -104,12 +104,12 @@ fn with_answers<'a>(
     alloc: Global,
     rows: &[LentRow<'a>],
     marks: &[bool],
-) -> Result<Vec<Judged<'a>>, AllocError>
+) -> Result<Vec<RowAnswer<'a>>, AllocError>
     ensures { IfOk result (λ judged. answers judged.items ≡ moves.with_answers (lent rows.now) marks.now) }
 {
     let mut judged = Vec::new(alloc);
     for k in 0..rows.len().min(marks.len()) {
-        judged.push(Judged {
+        judged.push(RowAnswer {
             row: rows[k],
             is_installable: marks[k],
         })?;
@@ -118,7 +118,7 @@ fn with_answers<'a>(
 }
 
 /// Each row on the architecture, and whether it is installable there.
-fn judge<'a>(alloc: Global, arch: u32, rows: &[LentRow<'a>]) -> Result<Vec<Judged<'a>>, NoMemory>
+fn judge<'a>(alloc: Global, arch: u32, rows: &[LentRow<'a>]) -> Result<Vec<RowAnswer<'a>>, NoMemory>
     ensures { IfOk result (λ judged. answers judged.items ≡ judged_on arch (lent rows.now)) }
 {
     let there = rows_on(alloc, arch, rows)?;

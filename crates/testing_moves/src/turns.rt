@@ -12,7 +12,7 @@ use deb_control::Text;
 use deb_version::{NoMemory, Version};
 use std::alloc::Global;
 use std::marker::Model;
-use testing_facts::{is_same_version, is_standing};
+use testing_facts::{is_in_force, is_same_version};
 use testing_items::{Hint, HintItem};
 use testing_model::{Decision, HintIn, Offender, UnhintIn};
 use testing_suites::Testing;
@@ -159,17 +159,17 @@ impl<'u, 'a> Turns<'u, 'a> {
         }
     }
 
-    /// The removals that the standing hints ask for.
+    /// The removals that the hints in force ask for.
     pub fn removals(
         &mut self,
         alloc: Global,
         hints: &[HintIn],
         unhints: &[UnhintIn],
     ) -> Result<(), NoMemory>
-        ensures { OnOk result (self.new ≡ go_on self.old (λ b. in_turn (rules.remove_item b.archs) (flat_map rules.removals_of (filter (unstable.is_standing unhints.now) hints.now)))) }
+        ensures { OnOk result (self.new ≡ go_on self.old (λ b. in_turn (rules.remove_item b.archs) (flat_map rules.removals_of (filter (unstable.is_in_force unhints.now) hints.now)))) }
     {
         for hint in hints {
-            if is_standing(unhints, hint) {
+            if is_in_force(unhints, hint) {
                 self.remove_hint(alloc, hint)?;
             }
         }

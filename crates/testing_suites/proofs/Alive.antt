@@ -13,17 +13,17 @@ use Rattle.testing_suites.specs.Changes.{has, IsMoveOf}
 use Rattle.testing_model.specs.FactOrder.{IsUnstableOrder}
 use Rattle.testing_model.specs.InOrder.{AreByKey}
 use Rattle.testing_model.specs.Moves.{first_failing, judged_on, move_group, remove_source}
-use Rattle.testing_suites.specs.Standing.{IsShown, IsLive, KeptState, PoolState, standing}
+use Rattle.testing_suites.specs.Present.{IsShown, IsLive, CarriedState, PoolState, present_rows}
 use Rattle.testing_model.specs.Suite.{Suite}
 use Rattle.testing_suites.specs.Tried.{Tells, IsWithin, IsRemovalOf}
-use Rattle.testing_model.specs.Wanted.{is_wanted, wanted_rows}
+use Rattle.testing_model.specs.SourceFilter.{hash_passes, passing_rows}
 use Rattle.testing_items.specs.Words.{Text}
 use Rattle.testing_suites.proofs.Arranging.{move_of_places}
 use Rattle.testing_suites.proofs.Flags.{flags_after, marked_within}
 use Rattle.testing_suites.proofs.Judging.{trial_tells}
 use Rattle.testing_suites.proofs.Lost.{IsChange, at_place, contains_at}
 use Rattle.testing_suites.proofs.Moving.{IsMove, after_flags, moved_change, removed_change}
-use Rattle.testing_suites.proofs.Showing.{is_standing}
+use Rattle.testing_suites.proofs.Showing.{is_present}
 use Rattle.testing_suites.proofs.Suites.{shown-alike}
 
 -- the first failing rows, architecture by architecture
@@ -32,10 +32,10 @@ failing group old new arch = first_failing arch group (judged_on arch old) (judg
 
 module _ (s : PoolState) (archs : List Text) (sources : List UploadIn) (unstable : List RowIn) (group : List Text) (leaving coming : List ℕ) (t : Suite)
     (order : IsUnstableOrder sources unstable) (live : IsLive s archs unstable t.rows) (moves : IsMoveOf s.rows s.stands s.first sources group leaving coming)
-    (offered : list_all (is_wanted s.candidates) group ≡ true) where
+    (offered : list_all (hash_passes s.candidates) group ≡ true) where
   is_move : IsMove s.rows (marked s.stands) sources unstable group (has leaving) (has coming)
   is_move =
-      let pool = live.before ++ wanted_rows s.candidates unstable in
+      let pool = live.before ++ passing_rows s.candidates unstable in
       let here : IsMoveOf pool s.stands s.first sources group leaving coming = subst (λ rows. IsMoveOf rows s.stands s.first sources group leaving coming) live.pooled moves in
       let there : IsMoveOf pool s.stands (length live.before) sources group leaving coming =
       subst (λ n. IsMoveOf pool s.stands n sources group leaving coming) live.begins here in
@@ -65,8 +65,8 @@ module _ (s : PoolState) (archs : List Text) (sources : List UploadIn) (unstable
 
   -- what stands then are the rows after the move
   pub move_stands : (new : PoolState) → length s.stands ≡ length s.rows → new ≡ record { rows = s.rows; candidates = s.candidates; first = s.first; stands = after_change leaving coming s.stands; archs = s.archs }
-      → (move_group sources unstable group t).rows ≡ standing new
-  move_stands new long e = is_standing new (move_group sources unstable group t).rows (move_live new long e).shown
+      → (move_group sources unstable group t).rows ≡ present_rows new
+  move_stands new long e = is_present new (move_group sources unstable group t).rows (move_live new long e).shown
 
 module _ (s : PoolState) (name : Text) (leaving : List ℕ) (t : Suite) (shown : IsShown s.rows (marked s.stands) t.rows) (removal : IsRemovalOf s.rows s.stands name leaving) where
   change_by_removal : IsChange s.rows [] (marked s.stands) (after_flags (marked s.stands) (has leaving) (has [])) (has []) t.rows (remove_source name t).rows
@@ -96,8 +96,8 @@ module _ (s : PoolState) (name : Text) (leaving : List ℕ) (t : Suite) (shown :
   -- what stands then are the rows after the removal
   pub removal_stands : (archs : List Text) (unstable : List RowIn) (new : PoolState) → IsLive s archs unstable t.rows → length s.stands ≡ length s.rows
       → new ≡ record { rows = s.rows; candidates = s.candidates; first = s.first; stands = after_change leaving [] s.stands; archs = s.archs }
-      → (remove_source name t).rows ≡ standing new
-  removal_stands archs unstable new live long e = is_standing new (remove_source name t).rows (removal_live archs unstable new live long e).shown
+      → (remove_source name t).rows ≡ present_rows new
+  removal_stands archs unstable new live long e = is_present new (remove_source name t).rows (removal_live archs unstable new live long e).shown
 
 -- Before a run testing's rows stand, and unstable's behind them don't.
 
@@ -135,11 +135,11 @@ shown_longer pool more stands rows long shown = record {
       shown.all k r (sym (front pool more k (omega (arith, marked_within stands k up, long))) ∙ at) up;
 }
 
-pub live_before : (s : PoolState) (archs : List Text) (kept : KeptState) (unstable rows : List RowIn) → IsShown kept.rows (marked kept.stands) rows → length kept.stands ≡ length kept.rows
-    → s.rows ≡ kept.rows ++ wanted_rows s.candidates unstable → s.first ≡ length kept.rows → s.archs ≡ length archs
-    → s.stands ≡ kept.stands ++ replicate (length (wanted_rows s.candidates unstable)) false → IsLive s archs unstable rows
+pub live_before : (s : PoolState) (archs : List Text) (kept : CarriedState) (unstable rows : List RowIn) → IsShown kept.rows (marked kept.stands) rows → length kept.stands ≡ length kept.rows
+    → s.rows ≡ kept.rows ++ passing_rows s.candidates unstable → s.first ≡ length kept.rows → s.archs ≡ length archs
+    → s.stands ≡ kept.stands ++ replicate (length (passing_rows s.candidates unstable)) false → IsLive s archs unstable rows
 live_before s archs kept unstable rows shown long pooled first count stands =
-    let more = wanted_rows s.candidates unstable in
+    let more = passing_rows s.candidates unstable in
     let flags = kept.stands ++ replicate (length more) false in
     let before : IsShown (kept.rows ++ more) (marked flags) rows = shown_longer kept.rows more kept.stands rows long shown in
     record {

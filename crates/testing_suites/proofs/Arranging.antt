@@ -14,7 +14,7 @@ use Rattle.testing_model.specs.declared.suite.RowIn.{RowIn}
 use Rattle.testing_suites.specs.Changes.{comes_at, stands_of, stands_for, gives_way_to, has, IsMoveOf}
 use Rattle.testing_model.specs.Moves.{is_same_key, is_row_of, row_key}
 use Rattle.testing_model.specs.Unstable.{is_current}
-use Rattle.testing_model.specs.Wanted.{is_wanted, wanted_rows}
+use Rattle.testing_model.specs.SourceFilter.{hash_passes, passing_rows}
 use Rattle.testing_items.specs.Words.{Text}
 use Rattle.testing_suites.proofs.Changing.{row_that_comes, row_that_stands, row_that_gives_way}
 use Rattle.testing_suites.proofs.Lost.{any_of, some_of, contains_at, at_place, key_of_same}
@@ -76,12 +76,12 @@ one_of_all test (y ∷ xs) x h c = elim (first_or_rest y xs x c) [
 
 -- the pool has, behind the rows before the run, those of unstable whose source is a candidate, and the group names candidates alone
 module _ (old unstable : List RowIn) (candidates : List ℕ) (stands : List Bool) (sources : List UploadIn) (group : List Text) (leaving coming : List ℕ)
-    (m : IsMoveOf (old ++ wanted_rows candidates unstable) stands (length old) sources group leaving coming) (offered : list_all (is_wanted candidates) group ≡ true) where
+    (m : IsMoveOf (old ++ passing_rows candidates unstable) stands (length old) sources group leaving coming) (offered : list_all (hash_passes candidates) group ≡ true) where
   abbrev pool : List RowIn
-  pool = old ++ wanted_rows candidates unstable
+  pool = old ++ passing_rows candidates unstable
 
   abbrev is_kept : RowIn → Bool
-  is_kept r = is_wanted candidates r.binary.source
+  is_kept r = hash_passes candidates r.binary.source
 
   abbrev first : ℕ
   first = length old
@@ -105,11 +105,11 @@ module _ (old unstable : List RowIn) (candidates : List ℕ) (stands : List Bool
         let a = m.arriving.sound k (from_has coming k h) in
         let r = row_that_comes pool first a.0 k a.2 in
         let from : first ≤ k = le_from first k (first_of_both (nat_le first k) _ a.2) in
-        (r.0, a.0, r.1, (from_filter is_kept unstable r.0 (behind old (wanted_rows candidates unstable) k r.0 from r.1)).0, a.1, r.2);
+        (r.0, a.0, r.1, (from_filter is_kept unstable r.0 (behind old (passing_rows candidates unstable) k r.0 from r.1)).0, a.1, r.2);
     coming_all = λ r u c d current.
-        let kept = to_filter is_kept unstable r c (one_of_all (is_wanted candidates) group r.binary.source offered (source_of_group sources group u r d current)) in
+        let kept = to_filter is_kept unstable r c (one_of_all (hash_passes candidates) group r.binary.source offered (source_of_group sources group u r d current)) in
         let k = first + kept.0 in
-        let at = ahead old (wanted_rows candidates unstable) kept.0 r k refl (at_place (wanted_rows candidates unstable) r kept) in
+        let at = ahead old (passing_rows candidates unstable) kept.0 r k refl (at_place (passing_rows candidates unstable) r kept) in
         let comes : comes_at pool first u k ≡ true = both (nat_le first k) _ (le_to first k (omega arith)) (ap (λ o. option_map_or (is_current u) o false) at ∙ current) in
         (k, at, to_has coming k (m.arriving.complete u k d comes));
     leaves = λ k r at h. leaves_by k r at (m.only k (from_has leaving k h));

@@ -12,8 +12,8 @@ use Rattle.testing_install.proofs.Counting.{slice_get_some}
 use Rattle.testing_model.specs.declared.suite.RowIn.{RowIn}
 use Rattle.testing_suites.specs.Changes.{has}
 use Rattle.testing_model.specs.Moves.{is_row_on}
-use Rattle.testing_suites.specs.Parts.{Part, AreNumbers, AreLostFrom}
-use Rattle.testing_suites.specs.Standing.{IsOn, IsOver, IsSuiteOn}
+use Rattle.testing_suites.specs.ArchRows.{ArchRows, AreNumbers, AreLostFrom}
+use Rattle.testing_suites.specs.Present.{IsOn, IsOver, IsSuiteOn}
 use Rattle.testing_suites.specs.Trials.{is_place_on, names_at, IsFirstLost}
 use Rattle.testing_items.specs.Words.{Text, text_cmp, least}
 use Rattle.testing_suites.proofs.Arranging.{from_has, to_has}
@@ -24,7 +24,7 @@ use Rattle.testing_suites.proofs.Lost.{get_map, of_map}
 use Rattle.testing_suites.proofs.Parts.{count_over, row_of_number, number_of_row}
 
 -- the rows of the architecture that are there, by their numbers and by their places
-module _ (arch : ℕ) (pool : List RowIn) (suite : Part) (over : IsOver arch pool suite) where
+module _ (arch : ℕ) (pool : List RowIn) (suite : ArchRows) (over : IsOver arch pool suite) where
   abbrev own : List Binary
   own = suite.suite.rows
 
@@ -118,7 +118,7 @@ and-true : (b : Bool) → (b && true) ≡ b
 and-true true = refl
 and-true false = refl
 
-module _ (arch : ℕ) (pool : List RowIn) (suite : Part) (stands there : List Bool) (own : IsSuiteOn arch pool stands suite) (long : length there ≡ length pool)
+module _ (arch : ℕ) (pool : List RowIn) (suite : ArchRows) (stands there : List Bool) (own : IsSuiteOn arch pool stands suite) (long : length there ≡ length pool)
     (on : IsOn arch pool (marked stands) (marked there)) (leaving coming lost : List ℕ) (from : AreLostFrom suite leaving coming lost) where
   abbrev coming_on : List ℕ
   coming_on = filter (is_place_on arch pool) coming

@@ -10,8 +10,8 @@ use Rattle.testing_install.specs.Among.{after_change}
 use Rattle.testing_install.specs.Closed.{marked}
 use Rattle.testing_model.specs.declared.suite.RowIn.{RowIn}
 use Rattle.testing_model.specs.InOrder.{AreByKey}
-use Rattle.testing_suites.specs.Parts.{Part}
-use Rattle.testing_suites.specs.Standing.{IsShown, IsSuiteOn, AreOver, AreSuites, IsKeptState}
+use Rattle.testing_suites.specs.ArchRows.{ArchRows}
+use Rattle.testing_suites.specs.Present.{IsShown, IsSuiteOn, AreOver, AreSuites, IsCarriedState}
 use Rattle.testing_suites.proofs.Lost.{at_place, contains_at}
 use Rattle.testing_suites.proofs.Suites.{are_more, firsts_stand, over_of}
 
@@ -38,13 +38,13 @@ suite_of_none arch = record {
 
 -- the suites of the first architectures have the pool's rows from a place on, of which none stands, and the others are
 -- still to come
-pub record AreExtendedTo (olds news rest : List Part) (pool : List RowIn) (from n : ℕ) : Type 0 where
+pub record AreExtendedTo (olds news rest : List ArchRows) (pool : List RowIn) (from n : ℕ) : Type 0 where
   pub count : length news ≡ n
   pub within : n ≤ length olds
   pub left : rest ≡ drop n olds
   pub each : (stands : List Bool) → length stands ≡ from → AreSuites (take from pool) stands olds → AreSuites pool (stands ++ replicate (length pool - from) false) news
 
-pub extended_none : (olds : List Part) (pool : List RowIn) (from : ℕ) → AreExtendedTo olds [] olds pool from 0
+pub extended_none : (olds : List ArchRows) (pool : List RowIn) (from : ℕ) → AreExtendedTo olds [] olds pool from 0
 extended_none olds pool from = record {
   count = refl;
   within = omega arith;
@@ -52,7 +52,7 @@ extended_none olds pool from = record {
   each = λ stands long are. record { each = λ arch suite at. absurd (omega (arith, slice_get_within [] arch suite at)) };
 }
 
-pub extended_more : (olds news rest : List Part) (pool : List RowIn) (from n : ℕ) (old new : Part) → AreExtendedTo olds news (old ∷ rest) pool from n
+pub extended_more : (olds news rest : List ArchRows) (pool : List RowIn) (from n : ℕ) (old new : ArchRows) → AreExtendedTo olds news (old ∷ rest) pool from n
     → ((stands : List Bool) → length stands ≡ from → IsSuiteOn n (take from pool) stands old → IsSuiteOn n pool (stands ++ replicate (length pool - from) false) new)
     → AreExtendedTo olds (news ++ new ∷ []) rest pool from (n + 1)
 extended_more olds news rest pool from n old new to step = record {
@@ -63,11 +63,11 @@ extended_more olds news rest pool from n old new to step = record {
       are_more pool (stands ++ replicate (length pool - from) false) news n new (to.each stands long are) to.count (step stands long (are.each n old (left_first olds n old rest to.left)));
 }
 
-pub extended_all : (olds news : List Part) (pool : List RowIn) (from n : ℕ) → AreExtendedTo olds news [] pool from n → length news ≡ length olds
+pub extended_all : (olds news : List ArchRows) (pool : List RowIn) (from n : ℕ) → AreExtendedTo olds news [] pool from n → length news ≡ length olds
 extended_all olds news pool from n to = omega (arith, to.count, to.within, ap length to.left, length-drop n olds)
 
 -- what is kept, with more rows behind those of its pool
-module _ (pool more longer : List RowIn) (stands : List Bool) (archs : ℕ) (suites : List Part) (was : IsKeptState pool stands archs suites) (grown : longer ≡ pool ++ more) where
+module _ (pool more longer : List RowIn) (stands : List Bool) (archs : ℕ) (suites : List ArchRows) (was : IsCarriedState pool stands archs suites) (grown : longer ≡ pool ++ more) where
   pub longer_from : length pool ≤ length longer
   longer_from = omega (arith, ap length grown, length-append pool more)
 
@@ -86,9 +86,9 @@ module _ (pool more longer : List RowIn) (stands : List Bool) (archs : ℕ) (sui
   pub longer_flags : (flags : List Bool) → flags ≡ stands ++ replicate (length longer - length stands) false → flags ≡ stands ++ replicate (length more) false
   longer_flags flags e = e ∙ ap (λ n. stands ++ replicate n false) behind
 
-  pub longer_kept : (flags : List Bool) (new : List Part) → flags ≡ stands ++ replicate (length longer - length stands) false → length new ≡ length suites
+  pub longer_kept : (flags : List Bool) (new : List ArchRows) → flags ≡ stands ++ replicate (length longer - length stands) false → length new ≡ length suites
       → ((fs : List Bool) → length fs ≡ length pool → AreSuites (take (length pool) longer) fs suites → AreSuites longer (fs ++ replicate (length longer - length pool) false) new)
-      → IsKeptState longer flags archs new
+      → IsCarriedState longer flags archs new
   longer_kept flags new e count each = record {
     long = ap length (longer_flags flags e) ∙ length-append stands (replicate (length more) false)
         ∙ (let n = length-replicate (length more) false in omega (arith, n, was.long, ap length grown, length-append pool more));

@@ -18,8 +18,8 @@ use Rattle.testing_install.specs.Installable.{are_installable}
 use Rattle.testing_install.proofs.Choosing.{length-are}
 use Rattle.testing_model.specs.declared.suite.RowIn.{RowIn}
 use Rattle.testing_model.specs.InOrder.{AreByKey}
-use Rattle.testing_model.specs.Moves.{row_cmp, row_key, is_row_on, rows_on, is_row_of, is_same_key, is_watched_on, was_installable, fails_on, first_failing, with_answers, judged_on, Judged}
-use Rattle.testing_suites.specs.Standing.{IsShown, IsOn}
+use Rattle.testing_model.specs.Moves.{row_cmp, row_key, is_row_on, rows_on, is_row_of, is_same_key, is_watched_on, was_installable, fails_on, first_failing, with_answers, judged_on, RowAnswer}
+use Rattle.testing_suites.specs.Present.{IsShown, IsOn}
 use Rattle.testing_items.specs.Words.{Text, text_cmp, least}
 use Rattle.testing_model.proofs.Least.{from_filter, to_filter, same-least}
 use Rattle.testing_model.proofs.Listed.{IsAmong, IsListing, listed_exact}
@@ -140,12 +140,12 @@ answer_at (x ∷ rows) [] i r e at = absurd (omega (arith, e))
 answer_at (x ∷ rows) (b ∷ marks) zero r e at = let same : x ≡ r = same_Some x r at in ap (λ y. Some (record { row = y; is_installable = b })) same
 answer_at (x ∷ rows) (b ∷ marks) (suc i) r e at = answer_at rows marks i r (omega (arith, e)) at
 
-of_answer : (rows : List RowIn) (marks : List Bool) (i : ℕ) (j : Judged) → slice_get (with_answers rows marks) i ≡ Some j → (slice_get rows i ≡ Some j.row) × (marked marks i ≡ j.is_installable)
+of_answer : (rows : List RowIn) (marks : List Bool) (i : ℕ) (j : RowAnswer) → slice_get (with_answers rows marks) i ≡ Some j → (slice_get rows i ≡ Some j.row) × (marked marks i ≡ j.is_installable)
 of_answer [] marks i j e = let no : None ≡ Some j = e in cc
 of_answer (x ∷ rows) [] i j e = let no : None ≡ Some j = e in cc
 of_answer (x ∷ rows) (b ∷ marks) zero j e =
     let same = same_Some (record { row = x; is_installable = b }) j e in
-    (ap (λ (a : Judged). Some a.row) same, ap (λ (a : Judged). a.is_installable) same)
+    (ap (λ (a : RowAnswer). Some a.row) same, ap (λ (a : RowAnswer). a.is_installable) same)
 of_answer (x ∷ rows) (b ∷ marks) (suc i) j e = of_answer rows marks i j e
 
 abbrev packages : List RowIn → List Binary
@@ -197,7 +197,7 @@ module _ (arch : ℕ) (pool : List RowIn) (stands there : ℕ → Bool) (rows : 
   pub judged_at : (i : ℕ) (r : RowIn) → slice_get listed i ≡ Some r → slice_get (judged_on arch rows) i ≡ Some (record { row = r; is_installable = marked marks i })
   judged_at i r at = answer_at listed marks i r marks_len at
 
-  pub of_judged : (i : ℕ) (j : Judged) → slice_get (judged_on arch rows) i ≡ Some j → (slice_get listed i ≡ Some j.row) × (marked marks i ≡ j.is_installable)
+  pub of_judged : (i : ℕ) (j : RowAnswer) → slice_get (judged_on arch rows) i ≡ Some j → (slice_get listed i ≡ Some j.row) × (marked marks i ≡ j.is_installable)
   of_judged i j e = of_answer listed marks i j e
 
 -- what is lost at a place: the row stands there after the change and isn't installable, though it came in or was installable before
@@ -221,10 +221,10 @@ module _ (arch : ℕ) (pool : List RowIn) (group : List Text) (stood stands came
   abbrev rows : List Binary
   rows = packages pool
 
-  abbrev fails : Judged → Bool
+  abbrev fails : RowAnswer → Bool
   fails j = fails_on arch group (judged_on arch old) j
 
-  name_of : Judged → Text
+  name_of : RowAnswer → Text
   name_of j = j.row.binary.name
 
   was_at : (k : ℕ) (r : RowIn) → slice_get pool k ≡ Some r → IsAmong rows before k → was_installable (judged_on arch old) r ≡ true
@@ -234,11 +234,11 @@ module _ (arch : ℕ) (pool : List RowIn) (group : List Text) (stood stands came
       let place = at_place (rows_on arch old) r c in
       let marked_there = (answer_is arch pool stood before old change.old_shown was c.0 k r place at there).1 some in
       let judged = judged_at arch pool stood before old change.old_shown was c.0 r place in
-      any_of (λ (j : Judged). j.is_installable && is_same_key j.row r) (judged_on arch old) _ (contains_at (judged_on arch old) c.0 _ judged) (both marked_there (same_itself r))
+      any_of (λ (j : RowAnswer). j.is_installable && is_same_key j.row r) (judged_on arch old) _ (contains_at (judged_on arch old) c.0 _ judged) (both marked_there (same_itself r))
 
   of_was : (k : ℕ) (r : RowIn) → slice_get pool k ≡ Some r → stood k ≡ true → was_installable (judged_on arch old) r ≡ true → IsAmong rows before k
   of_was k r at up h =
-      let j = some_of (λ (j : Judged). j.is_installable && is_same_key j.row r) (judged_on arch old) h in
+      let j = some_of (λ (j : RowAnswer). j.is_installable && is_same_key j.row r) (judged_on arch old) h in
       let q = of_judged arch pool stood before old change.old_shown was j.0 j.1 j.2 in
       let works = first_of_both j.1.is_installable (is_same_key j.1.row r) j.3 in
       let key = key_of_same j.1.row r (second_of_both j.1.is_installable (is_same_key j.1.row r) j.3) in
@@ -250,7 +250,7 @@ module _ (arch : ℕ) (pool : List RowIn) (group : List Text) (stood stands came
 
   -- a watched row that is lost fails
   lost_fails : (k : ℕ) (r : RowIn) → slice_get pool k ≡ Some r → is_watched_on arch r ≡ true → IsLostAt rows before after came k
-      → (j : Judged) × Contains (judged_on arch new) j × (fails j ≡ true) × (j.row ≡ r)
+      → (j : RowAnswer) × Contains (judged_on arch new) j × (fails j ≡ true) × (j.row ≡ r)
   lost_fails k r at watched lost =
       let now = row_of arch pool stands after new change.new_shown is k r at lost.0 in
       let c = now.2 in
@@ -259,7 +259,7 @@ module _ (arch : ℕ) (pool : List RowIn) (group : List Text) (stood stands came
       let judged = judged_at arch pool stands after new change.new_shown is c.0 r place in
       let mark = marked (are_installable (packages (rows_on arch new))) c.0 in
       let off : mark ≡ false = not_so mark (λ on. lost.1 (exact.0 on)) in
-      let j : Judged = record { row = r; is_installable = mark } in
+      let j : RowAnswer = record { row = r; is_installable = mark } in
       let reason : (is_row_of group r || was_installable (judged_on arch old) r) ≡ true = elim lost.2 [
         | inl came_in ↦ left_of (is_row_of group r) (was_installable (judged_on arch old) r) (sym (change.came_is k r at now.0) ∙ came_in)
         | inr some ↦ right_of (is_row_of group r) (was_installable (judged_on arch old) r) (was_at k r at some)
@@ -267,7 +267,7 @@ module _ (arch : ℕ) (pool : List RowIn) (group : List Text) (stood stands came
       (j, contains_at (judged_on arch new) c.0 j judged, both (both watched (false_not mark off)) reason, refl)
 
   -- and a row that fails is a watched one that is lost
-  fails_lost : (j : Judged) → Contains (judged_on arch new) j → fails j ≡ true
+  fails_lost : (j : RowAnswer) → Contains (judged_on arch new) j → fails j ≡ true
       → (k : ℕ) × (slice_get pool k ≡ Some j.row) × (is_watched_on arch j.row ≡ true) × IsLostAt rows before after came k
   fails_lost j c h =
       let q = of_judged arch pool stands after new change.new_shown is c.0 j (at_place (judged_on arch new) j c) in
@@ -293,9 +293,9 @@ module _ (arch : ℕ) (pool : List RowIn) (group : List Text) (stood stands came
             let w = lost.within n c in
             let f = lost_fails w.0 w.1 w.2 w.4 w.5 in
             let member = to_filter fails (judged_on arch new) f.0 f.1 f.2 in
-            subst (λ m. Contains (map (λ j. j.row.binary.name) failing) m) (ap (λ (r : RowIn). r.binary.name) f.3 ∙ w.3) (maps (λ (j : Judged). j.row.binary.name) failing f.0 member),
+            subst (λ m. Contains (map (λ j. j.row.binary.name) failing) m) (ap (λ (r : RowIn). r.binary.name) f.3 ∙ w.3) (maps (λ (j : RowAnswer). j.row.binary.name) failing f.0 member),
         λ n c.
-            let m = mapped_from (λ (j : Judged). j.row.binary.name) failing n c in
+            let m = mapped_from (λ (j : RowAnswer). j.row.binary.name) failing n c in
             let f = from_filter fails (judged_on arch new) m.0 m.1 in
             let p = fails_lost m.0 f.0 f.1 in
             subst (λ x. Contains names x) m.2 (lost.all p.0 m.0.row p.1 p.2 p.3),

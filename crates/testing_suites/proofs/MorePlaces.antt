@@ -13,8 +13,8 @@ use Rattle.testing_install.proofs.Marking.{marked_longer}
 use Rattle.testing_install.proofs.Sharing.{slice_get_before}
 use Rattle.testing_model.specs.declared.suite.RowIn.{RowIn}
 use Rattle.testing_model.specs.Moves.{is_row_on}
-use Rattle.testing_suites.specs.Parts.{Part, IsPart, package_at}
-use Rattle.testing_suites.specs.Standing.{IsOver, IsSuiteOn}
+use Rattle.testing_suites.specs.ArchRows.{ArchRows, IsArchRows, package_at}
+use Rattle.testing_suites.specs.Present.{IsOver, IsSuiteOn}
 use Rattle.testing_suites.specs.Trials.{is_place_on}
 use Rattle.testing_suites.proofs.Flags.{bounded_members, marked_within}
 use Rattle.testing_model.proofs.Least.{from_filter}
@@ -76,9 +76,9 @@ places_behind arch pool from h =
     omega (arith, h, l, d.2, get_or-range_with_len from (length pool - from) d.0 k l))
 
 -- a suite of the rows before a place, and the rows on its architecture from that place on
-module _ (arch : ℕ) (pool : List RowIn) (from : ℕ) (h : from ≤ length pool) (old : Part) (over : IsOver arch (take from pool) old) (more : List ℕ) (packages : List Binary) (m : ℕ)
+module _ (arch : ℕ) (pool : List RowIn) (from : ℕ) (h : from ≤ length pool) (old : ArchRows) (over : IsOver arch (take from pool) old) (more : List ℕ) (packages : List Binary) (m : ℕ)
     (are : more ≡ filter (is_place_on arch pool) (range_with_len from (length pool - from))) (read : map (λ b. Some b) packages ≡ map (package_at pool) more) (count : m ≡ length packages)
-    (new : Part) (places : new.places ≡ old.places ++ more) (rows : new.suite.rows ≡ old.suite.rows ++ packages) (there : new.suite.there ≡ old.suite.there ++ replicate m false) where
+    (new : ArchRows) (places : new.places ≡ old.places ++ more) (rows : new.suite.rows ≡ old.suite.rows ++ packages) (there : new.suite.there ≡ old.suite.there ++ replicate m false) where
   front : length (take from pool) ≡ from
   front = length-take-le from pool h
 
@@ -109,7 +109,7 @@ module _ (arch : ℕ) (pool : List RowIn) (from : ℕ) (h : from ≤ length pool
     long = omega (arith, ap length there, ap length places, length-append old.suite.there (replicate m false), length-append old.places more, length-replicate m false, over.long, as_many);
   }
 
-  pub part_longer : IsPart new.places new.suite
+  pub part_longer : IsArchRows new.places new.suite
   part_longer = record { ascending = ascending_over arch pool new over_longer; count = count_over arch pool new over_longer; long = over_longer.long }
 
   -- none of the new rows is there, and none of them stands

@@ -13,7 +13,7 @@ use Rattle.testing_model.specs.Suite.{Suite}
 use Rattle.testing_model.specs.Unstable.{is_current, is_of_source}
 use Rattle.testing_items.specs.Words.{Text}
 use Rattle.testing_model.proofs.Least.{from_filter, to_filter}
-use Rattle.testing_suites.specs.Standing.{IsShown}
+use Rattle.testing_suites.specs.Present.{IsShown}
 use Rattle.testing_suites.proofs.Lost.{IsChange}
 use Rattle.testing_items.proofs.Members.{none_among, head_of, tail_of}
 use Rattle.testing_model.proofs.Ordered.{by_key-put, by_key-put_all, by_key-kept}

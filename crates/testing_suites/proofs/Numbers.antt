@@ -12,9 +12,9 @@ use Rattle.std.proofs.lemmas.Option.{slice_get_within, slice_get-get_or, get_or_
 use Rattle.std.specs.Result.{result_ok}
 use Rattle.testing_install.specs.Among.{IsLost, after_change, with_all}
 use Rattle.testing_install.specs.Closed.{marked}
-use Rattle.testing_install.specs.Suite.{Standing}
+use Rattle.testing_install.specs.Suite.{SuiteState}
 use Rattle.testing_install.proofs.Marking.{length-with_all}
-use Rattle.testing_suites.specs.Parts.{AreAscending, IsPart, IsNumberOf, AreNumbers, IsAfter, AreLostFrom}
+use Rattle.testing_suites.specs.ArchRows.{AreAscending, IsArchRows, IsNumberOf, AreNumbers, IsAfter, AreLostFrom}
 use Rattle.testing_suites.proofs.Flags.{flag_within, bounded_members}
 use Rattle.testing_items.proofs.Members.{none_among}
 use Rattle.testing_model.proofs.Sets.{mapped_from, maps}
@@ -93,20 +93,20 @@ pub on_ok_weaker : {A E : Type 0} {P Q : Type 0} (r : Result A E) → (P → Q) 
 on_ok_weaker (Ok x) f h = f h
 on_ok_weaker (Err e) f h = h
 
-pub part_after : {A E : Type 0} (places left came : List ℕ) (old new : Standing) (r : Result A E) → IsPart places old → new.rows ≡ old.rows
-    → OnOk r (new.there ≡ after_change left came old.there) → OnErr r (new ≡ old) → IsPart places new
+pub part_after : {A E : Type 0} (places left came : List ℕ) (old new : SuiteState) (r : Result A E) → IsArchRows places old → new.rows ≡ old.rows
+    → OnOk r (new.there ≡ after_change left came old.there) → OnErr r (new ≡ old) → IsArchRows places new
 part_after places left came old new (Ok x) part rows there err = record {
   ascending = part.ascending;
   count = ap length rows ∙ part.count;
   long = ap length there ∙ length-with_all true came (with_all false left old.there) ∙ length-with_all false left old.there ∙ part.long;
 }
-part_after places left came old new (Err e) part rows there err = subst (IsPart places) (sym err) part
+part_after places left came old new (Err e) part rows there err = subst (IsArchRows places) (sym err) part
 
-module _ (own : List ℕ) (suite : Standing) (leaving coming left came : List ℕ) (left_are : AreNumbers own leaving left) (came_are : AreNumbers own coming came) where
+module _ (own : List ℕ) (suite : SuiteState) (leaving coming left came : List ℕ) (left_are : AreNumbers own leaving left) (came_are : AreNumbers own coming came) where
   pub after_numbers : (there : List Bool) → there ≡ after_change left came suite.there → IsAfter (record { places = own; suite = suite }) leaving coming there
   after_numbers there is = record { left = left; came = came; left_are = left_are; came_are = came_are; exact = is }
 
-  module _ (part : IsPart own suite) (lost : List ℕ)
+  module _ (part : IsArchRows own suite) (lost : List ℕ)
       (exact : (i : ℕ) → Contains lost i ↔ IsLost suite.rows (marked suite.there) (marked (after_change left came suite.there)) i) where
     pub lost_within : (given : List ℕ) → given ≡ lost → All (λ i. i < length own) given
     lost_within given same =

@@ -11,8 +11,8 @@ use Rattle.deb_control.specs.declared.binary.Binary.{Binary}
 use Rattle.testing_install.proofs.Counting.{slice_get_some}
 use Rattle.testing_model.specs.declared.suite.RowIn.{RowIn}
 use Rattle.testing_model.specs.Moves.{is_row_on}
-use Rattle.testing_suites.specs.Parts.{Part, AreAscending, package_at}
-use Rattle.testing_suites.specs.Standing.{IsOver}
+use Rattle.testing_suites.specs.ArchRows.{ArchRows, AreAscending, package_at}
+use Rattle.testing_suites.specs.Present.{IsOver}
 use Rattle.testing_suites.specs.Trials.{is_place_on}
 use Rattle.testing_suites.proofs.Arranging.{at_some_of}
 use Rattle.testing_suites.proofs.Flags.{bounded_members}
@@ -61,7 +61,7 @@ module _ (arch : ℕ) (pool : List RowIn) where
   places_within = bounded_members (length pool) places (λ k c. let r = row_at_place k c in slice_get_within pool k r.0 r.1)
 
 -- a suite of the rows on an architecture
-module _ (arch : ℕ) (pool : List RowIn) (suite : Part) (over : IsOver arch pool suite) where
+module _ (arch : ℕ) (pool : List RowIn) (suite : ArchRows) (over : IsOver arch pool suite) where
   pub count_over : length suite.suite.rows ≡ length suite.places
   count_over = sym (length-map suite.suite.rows (λ (b : Binary). Some b)) ∙ ap length over.rows ∙ length-map suite.places (package_at pool)
 

@@ -8,7 +8,7 @@ use Rattle.testing_install.specs.Closed.{marked}
 use Rattle.testing_model.specs.declared.suite.RowIn.{RowIn}
 use Rattle.testing_suites.specs.AfterMoves.{with_rows, rows_at}
 use Rattle.testing_model.specs.InOrder.{AreByKey}
-use Rattle.testing_suites.specs.Standing.{IsShown, PoolState, set_places, standing}
+use Rattle.testing_suites.specs.Present.{IsShown, PoolState, set_places, present_rows}
 use Rattle.testing_suites.proofs.Flags.{marked_within, bounded_members}
 use Rattle.testing_model.proofs.Least.{from_filter, to_filter}
 use Rattle.testing_items.proofs.Members.{none_among}
@@ -30,13 +30,13 @@ set_places-within flags n long = bounded_members n (set_places flags) (λ k c.
     omega (arith, long, marked_within flags k up))
 
 -- what stands of a pool, by the places whose flags are set
-pub standing_at : (s : PoolState) → with_rows (rows_at s.rows (set_places s.stands)) [] ≡ standing s
-unfolding standing
+pub standing_at : (s : PoolState) → with_rows (rows_at s.rows (set_places s.stands)) [] ≡ present_rows s
+unfolding present_rows
 standing_at s = refl
 
-pub standing-by_key : (s : PoolState) → AreByKey (standing s)
-unfolding standing
-standing-by_key s = by_key-put_all (rows_at s.rows (set_places s.stands)) [] by_key-none
+pub present_rows-by_key : (s : PoolState) → AreByKey (present_rows s)
+unfolding present_rows
+present_rows-by_key s = by_key-put_all (rows_at s.rows (set_places s.stands)) [] by_key-none
 
 module _ (s : PoolState) (rows : List RowIn) (shown : IsShown s.rows (marked s.stands) rows) where
   abbrev up : List RowIn
@@ -58,10 +58,10 @@ module _ (s : PoolState) (rows : List RowIn) (shown : IsShown s.rows (marked s.s
       let j = stands x d in
       itself_or_other x r rows shown.by_key (shown.all j.0 x j.1 j.2) (shown.all k.0 r k.1 k.2)
 
-  standing_shown : IsShown s.rows (marked s.stands) (standing s)
-  unfolding standing
+  standing_shown : IsShown s.rows (marked s.stands) (present_rows s)
+  unfolding present_rows
   standing_shown = record {
-    by_key = standing-by_key s;
+    by_key = present_rows-by_key s;
     within = λ r c. elim (puts_from up [] r by_key-none c) [
       | inl came ↦ stands r came
       | inr stayed ↦ none_among r stayed.0
@@ -70,5 +70,5 @@ module _ (s : PoolState) (rows : List RowIn) (shown : IsShown s.rows (marked s.s
   }
 
   -- the rows that the flags show are those that stand
-  pub is_standing : rows ≡ standing s
-  is_standing = shown-same s.rows (marked s.stands) rows (standing s) shown standing_shown
+  pub is_present : rows ≡ present_rows s
+  is_present = shown-same s.rows (marked s.stands) rows (present_rows s) shown standing_shown

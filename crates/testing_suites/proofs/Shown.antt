@@ -12,7 +12,7 @@ use Rattle.testing_model.specs.declared.suite.RowIn.{RowIn}
 use Rattle.testing_model.specs.InOrder.{AreByKey}
 use Rattle.testing_model.specs.Moves.{row_cmp, row_key, put_row}
 use Rattle.testing_model.proofs.Least.{from_filter, to_filter}
-use Rattle.testing_suites.specs.Standing.{IsShown}
+use Rattle.testing_suites.specs.Present.{IsShown}
 use Rattle.testing_suites.proofs.Lost.{row_order, one_for_key}
 use Rattle.testing_items.proofs.Members.{none_among, head_of, tail_of}
 use Rattle.testing_items.specs.Words.{Text, text_cmp, put_by}

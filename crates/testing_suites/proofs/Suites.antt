@@ -18,8 +18,8 @@ use Rattle.testing_install.proofs.Counting.{slice_get_some}
 use Rattle.testing_model.specs.declared.facts.UploadIn.{UploadIn}
 use Rattle.testing_suites.specs.Changes.{has, stands_of, stands_for, gives_way_to, IsMoveOf}
 use Rattle.testing_model.specs.Moves.{is_row_on, group_sources}
-use Rattle.testing_suites.specs.Standing.{IsShown, IsOn, IsOver, IsSuiteOn, AreOver, AreSuites}
-use Rattle.testing_suites.specs.Parts.{Part, IsAfter, package_at}
+use Rattle.testing_suites.specs.Present.{IsShown, IsOn, IsOver, IsSuiteOn, AreOver, AreSuites}
+use Rattle.testing_suites.specs.ArchRows.{ArchRows, IsAfter, package_at}
 use Rattle.testing_suites.specs.Tried.{IsWithin, IsRemovalOf, Tells}
 use Rattle.testing_suites.specs.Trials.{IsFirstLost}
 use Rattle.testing_items.specs.Words.{Text}
@@ -53,7 +53,7 @@ length-after leaving coming flags = length-with_all true coming (with_all false 
 -- A change on one architecture.
 
 -- where its rows leave and come by their numbers, those of them are there that stand after the change
-pub suite_after : (arch : ℕ) (pool : List RowIn) (old new : Part) (leaving coming : List ℕ) → new.places ≡ old.places → new.suite.rows ≡ old.suite.rows
+pub suite_after : (arch : ℕ) (pool : List RowIn) (old new : ArchRows) (leaving coming : List ℕ) → new.places ≡ old.places → new.suite.rows ≡ old.suite.rows
     → IsAfter old leaving coming new.suite.there
     → (stands : List Bool) → length stands ≡ length pool → IsSuiteOn arch pool stands old → IsSuiteOn arch pool (after_change leaving coming stands) new
 suite_after arch pool old new leaving coming places rows after stands long was = record {
@@ -74,30 +74,30 @@ suite_after arch pool old new leaving coming places rows after stands long was =
 
 -- A change on each architecture in turn: the suites of the first ones are changed.
 
-pub record AreChangedTo (olds news : List Part) (leaving coming : List ℕ) (n : ℕ) : Type 0 where
+pub record AreChangedTo (olds news : List ArchRows) (leaving coming : List ℕ) (n : ℕ) : Type 0 where
   pub count : length news ≡ length olds
   pub done : (pool : List RowIn) (stands : List Bool) → length stands ≡ length pool → AreSuites pool stands olds
-      → (k : ℕ) (suite : Part) → slice_get news k ≡ Some suite → k < n → IsSuiteOn k pool (after_change leaving coming stands) suite
+      → (k : ℕ) (suite : ArchRows) → slice_get news k ≡ Some suite → k < n → IsSuiteOn k pool (after_change leaving coming stands) suite
   pub left : (pool : List RowIn) (stands : List Bool) → length stands ≡ length pool → AreSuites pool stands olds
-      → (k : ℕ) (suite : Part) → slice_get news k ≡ Some suite → n ≤ k → IsSuiteOn k pool stands suite
+      → (k : ℕ) (suite : ArchRows) → slice_get news k ≡ Some suite → n ≤ k → IsSuiteOn k pool stands suite
 
-pub changed_none : (olds : List Part) (leaving coming : List ℕ) → AreChangedTo olds olds leaving coming 0
+pub changed_none : (olds : List ArchRows) (leaving coming : List ℕ) → AreChangedTo olds olds leaving coming 0
 changed_none olds leaving coming = record {
   count = refl;
   done = λ pool stands long are k suite at h. absurd (omega (arith, h));
   left = λ pool stands long are k suite at h. are.each k suite at;
 }
 
-module _ (olds news : List Part) (leaving coming : List ℕ) (n : ℕ) (to : AreChangedTo olds news leaving coming n)
-    (old new : Part) (at_n : slice_get news n ≡ Some old)
+module _ (olds news : List ArchRows) (leaving coming : List ℕ) (n : ℕ) (to : AreChangedTo olds news leaving coming n)
+    (old new : ArchRows) (at_n : slice_get news n ≡ Some old)
     (step : (pool : List RowIn) (stands : List Bool) → length stands ≡ length pool → IsSuiteOn n pool stands old → IsSuiteOn n pool (after_change leaving coming stands) new) where
-  elsewhere : (k : ℕ) (suite : Part) → (k ≡ n → ⊥) → slice_get (slice_set news n new) k ≡ Some suite → slice_get news k ≡ Some suite
+  elsewhere : (k : ℕ) (suite : ArchRows) → (k ≡ n → ⊥) → slice_get (slice_set news n new) k ≡ Some suite → slice_get news k ≡ Some suite
   elsewhere k suite apart at = sym (set_elsewhere news n k new apart) ∙ at
 
-  here : (k : ℕ) (suite : Part) → k ≡ n → slice_get (slice_set news n new) k ≡ Some suite → new ≡ suite
+  here : (k : ℕ) (suite : ArchRows) → k ≡ n → slice_get (slice_set news n new) k ≡ Some suite → new ≡ suite
   here k suite e at = set_here news n new suite (ap (slice_get (slice_set news n new)) (sym e) ∙ at)
 
-  done_each : (pool : List RowIn) (stands : List Bool) (long : length stands ≡ length pool) (are : AreSuites pool stands olds) (k : ℕ) (suite : Part)
+  done_each : (pool : List RowIn) (stands : List Bool) (long : length stands ≡ length pool) (are : AreSuites pool stands olds) (k : ℕ) (suite : ArchRows)
       → slice_get (slice_set news n new) k ≡ Some suite → k < n + 1 → (k ≡ n) ⊎ (k ≡ n → ⊥) → IsSuiteOn k pool (after_change leaving coming stands) suite
   done_each pool stands long are k suite at h (inl e) =
       let changed = step pool stands long (to.left pool stands long are n old at_n (omega arith)) in
@@ -115,7 +115,7 @@ module _ (olds news : List Part) (leaving coming : List ℕ) (n : ℕ) (to : Are
     left = λ pool stands long are k suite at h. to.left pool stands long are k suite (elsewhere k suite (λ e. absurd (omega (arith, e, h))) at) (omega (arith, h));
   }
 
-pub changed_all : (olds news : List Part) (leaving coming : List ℕ) (n : ℕ) → AreChangedTo olds news leaving coming n → length olds ≤ n
+pub changed_all : (olds news : List ArchRows) (leaving coming : List ℕ) (n : ℕ) → AreChangedTo olds news leaving coming n → length olds ≤ n
     → (pool : List RowIn) (stands : List Bool) → length stands ≡ length pool → AreSuites pool stands olds → AreSuites pool (after_change leaving coming stands) news
 changed_all olds news leaving coming n to h pool stands long are = record {
   each = λ k suite at. to.done pool stands long are k suite at (omega (arith, slice_get_within news k suite at, to.count, h));
@@ -139,7 +139,7 @@ length-copies zero x = refl
 length-copies (suc n) x = ap suc (length-copies n x)
 
 -- where none of its rows is there, it is the suite of its architecture before any row stands
-pub suite_before : (arch : ℕ) (pool : List RowIn) (suite : Part) → IsOver arch pool suite → suite.suite.there ≡ replicate (length suite.places) false
+pub suite_before : (arch : ℕ) (pool : List RowIn) (suite : ArchRows) → IsOver arch pool suite → suite.suite.there ≡ replicate (length suite.places) false
     → IsSuiteOn arch pool (replicate (length pool) false) suite
 suite_before arch pool suite over none = record {
   over = over;
@@ -156,7 +156,7 @@ pushed_at (z ∷ xs) x zero y e = inl e
 pushed_at (z ∷ xs) x (suc k) y e = ⊎_elim (λ before. inl before) (λ last. inr (ap suc last.0, last.1)) (pushed_at xs x k y e)
 
 -- the suite of one architecture more
-pub are_more : (pool : List RowIn) (stands : List Bool) (suites : List Part) (arch : ℕ) (new : Part) → AreSuites pool stands suites → length suites ≡ arch
+pub are_more : (pool : List RowIn) (stands : List Bool) (suites : List ArchRows) (arch : ℕ) (new : ArchRows) → AreSuites pool stands suites → length suites ≡ arch
     → IsSuiteOn arch pool stands new → AreSuites pool stands (suites ++ new ∷ [])
 are_more pool stands suites arch new are count own = record {
   each = λ k suite at. elim (pushed_at suites new k suite at) [
@@ -177,7 +177,7 @@ shown-alike pool stands others rows shown same = record {
 }
 
 -- each suite that is that of its architecture has the pool's rows on it
-pub over_of : (pool : List RowIn) (stands : List Bool) (suites : List Part) → AreSuites pool stands suites → AreOver pool suites
+pub over_of : (pool : List RowIn) (stands : List Bool) (suites : List ArchRows) → AreSuites pool stands suites → AreOver pool suites
 over_of pool stands suites are = record { each = λ arch suite at. (are.each arch suite at).over }
 
 -- A change tried on each architecture.
@@ -200,9 +200,9 @@ stood_at arch (q ∷ pool) [] (suc k) r at = stood_at arch pool [] k r at
 stood_at arch (q ∷ pool) (b ∷ stands) zero r at = ap (λ x. b && is_row_on arch x) (same_Some q r at)
 stood_at arch (q ∷ pool) (b ∷ stands) (suc k) r at = stood_at arch pool stands k r at
 
-pub told_at : (pool : List RowIn) (stands : List Bool) (suites : List Part) (leaving coming : List ℕ) (tells : ℕ → Option Text) (arch : ℕ) (name : Option Text)
+pub told_at : (pool : List RowIn) (stands : List Bool) (suites : List ArchRows) (leaving coming : List ℕ) (tells : ℕ → Option Text) (arch : ℕ) (name : Option Text)
     → AreSuites pool stands suites → Tells pool stands leaving coming tells → arch < length suites
-    → ((suite : Part) → slice_get suites arch ≡ Some suite → (stands there : List Bool) → IsSuiteOn arch pool stands suite → length there ≡ length pool
+    → ((suite : ArchRows) → slice_get suites arch ≡ Some suite → (stands there : List Bool) → IsSuiteOn arch pool stands suite → length there ≡ length pool
     → IsOn arch pool (marked stands) (marked there) → IsFirstLost arch pool there leaving coming name) → name ≡ tells arch
 told_at pool stands suites leaving coming tells arch name are told h first =
     let suite = slice_get_some suites arch h in

@@ -34,7 +34,7 @@ gives_way_to pool stands other k = option_map_or (λ r. stands_for pool stands r
 abbrev pub has : List ℕ → ℕ → Bool
 has places k = list_any (λ j. j == k) places
 
--- which rows come by a move of the group, and which leave: the standing rows of its sources, and those of the key of one that comes
+-- which rows come by a move of the group, and which leave: the rows that are present of its sources, and those of the key of one that comes
 pub record IsMoveOf (pool : List RowIn) (stands : List Bool) (first : ℕ) (sources : List UploadIn) (group : List Text) (leaving coming : List ℕ) : Type 0 where
   pub arriving : AreThose (comes_at pool first) (group_sources sources group) coming
   pub own : (name : Text) (k : ℕ) → Contains group name → stands_of pool stands name k ≡ true → Contains leaving k

@@ -1,9 +1,9 @@
 pub mod AfterMoves
 pub mod Changes
 pub mod JudgedRows
-pub mod Kept
-pub mod Parts
+pub mod CarriedOver
+pub mod ArchRows
 pub mod Pools
-pub mod Standing
+pub mod Present
 pub mod Trials
 pub mod Tried

@@ -7,7 +7,7 @@ use Rattle.testing_model.specs.declared.suite.RowIn.{RowIn}
 use Rattle.testing_model.specs.declared.update.Offender.{Offender}
 use Rattle.testing_suites.specs.Changes.{has}
 use Rattle.testing_model.specs.Moves.{first_of}
-use Rattle.testing_suites.specs.Standing.{IsOn}
+use Rattle.testing_suites.specs.Present.{IsOn}
 use Rattle.testing_suites.specs.Trials.{IsFirstLost}
 use Rattle.testing_items.specs.Words.{Text}
 

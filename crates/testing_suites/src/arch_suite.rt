@@ -3,8 +3,8 @@
 ghost use Rattle.std.specs.Prelude.{◌≡◌, ◌<◌, ◌≤◌, ◌-◌, ◌++◌, [], Bool, List, false, length, take, map, filter, replicate, slice_index, Some, IfOk, OnOk, OnErr};
 ghost use Rattle.std.specs.List.{All, range_with_len};
 ghost use Rattle.testing_install.specs.Rows.{shared};
-ghost use Rattle.testing_suites.specs.Parts.{AreAscending, AreNumbers, IsNumberOf, IsAfter, AreLostFrom, package_at};
-ghost use Rattle.testing_suites.specs.Standing.{IsOver, IsSuiteOn};
+ghost use Rattle.testing_suites.specs.ArchRows.{AreAscending, AreNumbers, IsNumberOf, IsAfter, AreLostFrom, package_at};
+ghost use Rattle.testing_suites.specs.Present.{IsOver, IsSuiteOn};
 ghost use Rattle.testing_suites.specs.Trials.{is_place_on};
 
 use crate::offender::is_row_on;
@@ -93,13 +93,13 @@ pub struct ArchSuite {
 }
 
 impl Model for ArchSuite {
-    ghost use Rattle.testing_suites.specs.Parts.{Part, IsPart};
+    ghost use Rattle.testing_suites.specs.ArchRows.{ArchRows, IsArchRows};
 
-    ghost Value = { Part };
+    ghost Value = { ArchRows };
 
     ghost view = { λ s. record { places = s.places.items; suite = s.suite } };
 
-    ghost invariant = { λ s. IsPart s.places.items s.suite };
+    ghost invariant = { λ s. IsArchRows s.places.items s.suite };
 }
 
 impl ArchSuite {

@@ -25,7 +25,7 @@ pub fn is_watched_on(arch: u32, row: &LentRow) -> bool
 
 /// A row on an architecture, and whether it is installable there.
 #[derive(Clone, Copy)]
-pub struct Judged<'a> {
+pub struct RowAnswer<'a> {
     pub row: LentRow<'a>,
     pub is_installable: bool,
 }

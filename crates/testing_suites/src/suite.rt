@@ -4,11 +4,11 @@ ghost use Rattle.std.specs.Prelude.{◌≡◌, [], length, IfOk, OnOk, OnErr};
 ghost use Rattle.std.specs.List.Sorted.{IsBinarySearchResult, IsSearchInRange};
 ghost use Rattle.testing_model.specs.Moves as moves;
 ghost use Rattle.testing_model.specs.InOrder.{AreByName, AreByKey};
-ghost use Rattle.testing_suites.specs.Kept.{AreKept};
+ghost use Rattle.testing_suites.specs.CarriedOver.{AreCarriedOver};
 ghost use Rattle.testing_model.specs.Places.{IsPlaceFor};
 ghost use Rattle.testing_items.specs.Words.{text_cmp};
 
-use crate::kept::KeptSuites;
+use crate::carried_suites::CarriedSuites;
 use deb_version::NoMemory;
 use std::alloc::{AllocError, Global};
 use std::cmp::Ordering;
@@ -41,18 +41,18 @@ impl Model for SuiteEntries {
 pub struct Testing {
     alloc: Global,
     entries: Option<Rc<SuiteEntries>>,
-    kept: Option<KeptSuites>,
+    kept: Option<CarriedSuites>,
 }
 
 impl Model for Testing {
-    ghost use Rattle.testing_suites.specs.Kept.{AreKept};
+    ghost use Rattle.testing_suites.specs.CarriedOver.{AreCarriedOver};
     ghost use Rattle.testing_model.specs.Suite.{Suite, suite_of};
 
     ghost Value = { Suite };
 
     ghost view = { λ a. suite_of a.entries };
 
-    ghost invariant = { λ a. AreKept a.kept (suite_of a.entries).rows };
+    ghost invariant = { λ a. AreCarriedOver a.kept (suite_of a.entries).rows };
 }
 
 /// Where the sources have the name, or else where it belongs.
@@ -262,11 +262,11 @@ impl Testing {
         alloc: Global,
         sources: Vec<SourceIn>,
         rows: Vec<RowIn>,
-        kept: Option<KeptSuites>,
+        kept: Option<CarriedSuites>,
     ) -> Result<Testing, NoMemory>
         requires sources { AreByName sources.items }
         requires rows { AreByKey rows.items }
-        requires kept { AreKept kept rows.items }
+        requires kept { AreCarriedOver kept rows.items }
         ensures { IfOk result (λ testing. testing ≡ record { sources = sources.items; rows = rows.items }) }
     {
         let entries = Rc::new(alloc, SuiteEntries { sources, rows })?;
@@ -278,9 +278,9 @@ impl Testing {
     }
 
     /// The suites that are kept of its rows, which it gives up.
-    pub fn take_kept(&mut self) -> Option<KeptSuites>
+    pub fn take_kept(&mut self) -> Option<CarriedSuites>
         ensures same { self.new ≡ self.old }
-        ensures kept { AreKept result self.old.rows }
+        ensures kept { AreCarriedOver result self.old.rows }
     {
         self.kept.take()
     }

@@ -2,7 +2,7 @@ use Rattle.std.proofs.Common.{◌≡◌, ℕ, Bool, true, false, ◌||◌, ◌�
 use Rattle.std.proofs.lemmas.Result.{err_from_is_err_and}
 use Rattle.office_mail.specs.declared.bag.BagFault.{BagFault}
 use Rattle.office_mail.specs.declared.bag.BagFault.TheVariants.{ReadFault}
-use Rattle.office_mail.specs.Taken.{TakesMessage}
+use Rattle.office_mail.specs.BagSteps.{TakesMessage}
 use Rattle.office_http.specs.Carried.{StoreRefused}
 use Rattle.office_http.specs.State.{state_of}
 use Rattle.office_http.proofs.CarryFacts.{carries_none, carries_twice, holds_first, holds_next, refused_first, refused_next}

@@ -5,23 +5,23 @@ use Rattle.testing_model.specs.declared.facts.UploadIn.{UploadIn}
 use Rattle.testing_model.specs.declared.suite.RowIn.{RowIn}
 use Rattle.testing_excuses.specs.BySource.{ground_from}
 use Rattle.testing_model.specs.JudgedRows.{lent}
-use Rattle.testing_model.specs.Unstable.{built_rows, is_standing}
+use Rattle.testing_model.specs.Unstable.{built_rows, is_in_force}
 use Rattle.testing_model.specs.Excuses.{delays_in_force}
-use Rattle.testing_facts.specs.Wanted.{meant_builds}
+use Rattle.testing_facts.specs.SourceFilter.{passing_builds}
 use Rattle.testing_excuses.proofs.OwnPart.{part-is}
-use Rattle.testing_excuses.proofs.Wanting.{own_meant}
+use Rattle.testing_excuses.proofs.Wanting.{own_passing}
 use Rattle.testing_excuses.proofs.excusing.group_facts.Goals as goal
 
 pub returns : goal.returns
 returns c = λ name among.
     let archs = c.args.archs.now in
     let f = c.args.facts.now in
-    let meant = c.in_ok-meant.meant in
+    let passing = c.in_ok-passing.passing in
     sym (part-is (ground_from archs f c.args.date) name
     (c.in_ok-rows_by_source.ensures name among
-    ∙ ap (filter (λ (r : RowIn). bytes_eq name r.binary.source)) (ap lent c.deref.ensures.value ∙ c.in_ok-rows.ensures.rows ∙ ap (λ bs. built_rows archs (meant_builds meant bs)) c.rows.ensures.rows)
-    ∙ own_meant archs c.args.news.now meant f.rows c.in_ok-meant.ensures name among)
+    ∙ ap (filter (λ (r : RowIn). bytes_eq name r.binary.source)) (ap lent c.deref.ensures.value ∙ c.in_ok-rows.ensures.rows ∙ ap (λ bs. built_rows archs (passing_builds passing bs)) c.rows.ensures.rows)
+    ∙ own_passing archs c.args.news.now passing f.rows c.in_ok-passing.ensures name among)
     (c.in_ok-bugs_by_source.ensures name among ∙ ap (filter (λ (b : BugIn). bytes_eq name b.source)) c.bugs.ensures)
-    (c.in_ok-standing.ensures ∙ ap (λ us. filter (is_standing us) c.hints.result.now) c.unhints.ensures ∙ ap (filter (is_standing f.unhints)) c.hints.ensures)
+    (c.in_ok-in_force.ensures ∙ ap (λ us. filter (is_in_force us) c.hints.result.now) c.unhints.ensures ∙ ap (filter (is_in_force f.unhints)) c.hints.ensures)
     (c.in_ok-uploads_by_source.ensures name among ∙ ap (filter (λ (u : UploadIn). bytes_eq name u.source)) c.uploads.ensures)
     (c.delays_in_force.ensures ∙ ap delays_in_force c.delays.ensures))

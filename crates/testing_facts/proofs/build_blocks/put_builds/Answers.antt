@@ -3,7 +3,7 @@ use Rattle.std.proofs.lemmas.List.{map-append}
 use Rattle.std.proofs.lemmas.List.Elements.{All-pop}
 use Rattle.testing_facts.specs.Blocks.{joined}
 use Rattle.testing_model.specs.FactOrder.{AreByPair}
-use Rattle.testing_model.specs.Taken.{with_build, with_builds, stands_beside}
+use Rattle.testing_model.specs.WithMessage.{with_build, with_builds, stands_beside}
 use Rattle.testing_facts.specs.declared.build_blocks.Coming.{Coming}
 use Rattle.testing_model.proofs.BuildLists.{builds-last}
 use Rattle.testing_facts.proofs.KeySlots.{by_pair-build}

@@ -3,7 +3,7 @@ use Rattle.std.specs.List.{All}
 use Rattle.std.specs.Prelude.{vec_capacity}
 use Rattle.testing_facts.specs.Blocks.{joined, AreBlocks}
 use Rattle.testing_model.specs.FactOrder.{AreByPair}
-use Rattle.testing_model.specs.Taken.{with_builds, stands_beside}
+use Rattle.testing_model.specs.WithMessage.{with_builds, stands_beside}
 use Rattle.testing_facts.proofs.build_blocks.put_builds.Given as goal
 
 -- those left are still to join, there is room for them, and the rows are in order

@@ -3,7 +3,7 @@ use Rattle.std.specs.List.{insert}
 use Rattle.std.proofs.lemmas.List.{get_or_default, length-set}
 use Rattle.testing_facts.specs.Blocks.{joined, AreBlocks, IsBlockFor}
 use Rattle.testing_model.specs.FactOrder.{AreByPair}
-use Rattle.testing_model.specs.Taken.{with_build}
+use Rattle.testing_model.specs.WithMessage.{with_build}
 use Rattle.testing_model.specs.Unstable.{pair_of}
 use Rattle.testing_items.specs.Words.{Text}
 use Rattle.testing_model.specs.declared.facts.BuildIn.{BuildIn}

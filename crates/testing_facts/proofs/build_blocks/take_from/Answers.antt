@@ -2,7 +2,7 @@ use Rattle.std.proofs.Common.{◌≡◌, ◌∙◌, sym, ap, subst, [], ◌<◌,
 use Rattle.std.proofs.lemmas.List.{get_or_default, get_or-set_same}
 use Rattle.testing_facts.specs.Blocks.{joined, AreBlocks, IsBlockFor}
 use Rattle.testing_model.specs.FactOrder.{AreByPair}
-use Rattle.testing_model.specs.Taken.{with_drop}
+use Rattle.testing_model.specs.WithMessage.{with_drop}
 use Rattle.testing_model.specs.Unstable.{drop_pair}
 use Rattle.testing_items.specs.Words.{Text}
 use Rattle.testing_model.specs.declared.facts.BuildIn.{BuildIn}

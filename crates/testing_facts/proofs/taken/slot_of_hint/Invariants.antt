@@ -1,5 +1,5 @@
 use Rattle.std.proofs.Common.{◌≡◌, ◌++◌, take, drop}
-use Rattle.testing_model.specs.Taken.{with_hint}
+use Rattle.testing_model.specs.WithMessage.{with_hint}
 use Rattle.testing_facts.proofs.taken.slot_of_hint.Given as goal
 
 -- those so far are before it

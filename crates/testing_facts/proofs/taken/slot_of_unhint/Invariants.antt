@@ -1,5 +1,5 @@
 use Rattle.std.proofs.Common.{◌≡◌, ◌++◌, take, drop}
-use Rattle.testing_model.specs.Taken.{with_unhint}
+use Rattle.testing_model.specs.WithMessage.{with_unhint}
 use Rattle.testing_facts.proofs.taken.slot_of_unhint.Given as goal
 
 -- those so far are before it

@@ -2,7 +2,7 @@ use Rattle.std.proofs.Common.{◌≡◌, ◌∙◌, sym, ap, subst, get_or}
 use Rattle.std.specs.List.Sorted.{IsPartitionPoint}
 use Rattle.std.specs.declared.cmp.Ordering.TheVariants.{Less, Equal, Greater}
 use Rattle.deb_control.specs.declared.binary.Binary.{Binary}
-use Rattle.testing_model.specs.Taken.{outlives}
+use Rattle.testing_model.specs.WithMessage.{outlives}
 use Rattle.testing_model.specs.Unstable.{pair_order, pair_of, drop_pair}
 use Rattle.testing_model.specs.declared.facts.DropIn.{DropIn}
 use Rattle.testing_model.proofs.MoreMail.{pair_total}

@@ -2,7 +2,7 @@ use Rattle.std.proofs.Common.{◌≡◌, arith, ◌∙◌, sym, ap, cond, ◌<�
 use Rattle.std.specs.List.{remove}
 use Rattle.std.specs.declared.cmp.Ordering.TheVariants.{Equal}
 use Rattle.testing_model.specs.Boxed.{unboxed}
-use Rattle.testing_model.specs.Taken.{outlives}
+use Rattle.testing_model.specs.WithMessage.{outlives}
 use Rattle.testing_model.specs.Unstable.{pair_order, pair_of, drop_pair}
 use Rattle.testing_model.proofs.MoreMail.{pair_total}
 use Rattle.testing_model.proofs.Unboxed.{unboxed-at, unboxed-length, unboxed-remove}

@@ -1,5 +1,5 @@
 use Rattle.std.proofs.Common.{◌∙◌}
-use Rattle.testing_install.proofs.Standing.{lost_exact}
+use Rattle.testing_install.proofs.SuiteStates.{lost_exact}
 use Rattle.testing_install.specs.Rows.{shared}
 use Rattle.testing_install.proofs.change.lost_by.Goals as goal
 

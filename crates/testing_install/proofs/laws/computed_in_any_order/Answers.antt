@@ -1,6 +1,6 @@
 use Rattle.testing_install.proofs.Choosing.{are_exact}
 use Rattle.std.proofs.lemmas.Option.{slice_get_within}
-use Rattle.testing_install.proofs.Standing.{installable_in_list}
+use Rattle.testing_install.proofs.SuiteStates.{installable_in_list}
 use Rattle.testing_install.proofs.laws.computed_in_any_order.Goals as goal
 
 pub returns : goal.returns

@@ -1,4 +1,4 @@
-use Rattle.testing_install.proofs.Standing.{installable_in_list}
+use Rattle.testing_install.proofs.SuiteStates.{installable_in_list}
 use Rattle.testing_install.proofs.laws.installable_in_any_order.Goals as goal
 
 pub returns : goal.returns

@@ -4,7 +4,7 @@ use Rattle.testing_model.specs.Boxed.{unboxed}
 use Rattle.testing_model.specs.JudgedRows.{lent}
 use Rattle.testing_model.specs.declared.update.Offender.{Offender}
 use Rattle.testing_model.specs.Moves.{move_group, offender_of}
-use Rattle.testing_suites.specs.Standing.{standing}
+use Rattle.testing_suites.specs.Present.{present_rows}
 use Rattle.testing_model.specs.Suite.{Suite}
 use Rattle.testing_suites.specs.Tried.{first_told}
 use Rattle.testing_suites.proofs.Alive.{failing, move_told}
@@ -18,7 +18,7 @@ returns-clause-offender c =
     let us = unboxed c.args.unstable.sources.now in
     let unstable = lent c.args.unstable.rows.now in
     let group = c.args.group.now in
-    let t : Suite = record { sources = []; rows = standing s } in
+    let t : Suite = record { sources = []; rows = present_rows s } in
     let leaving = c.in_ok-change.change.leaving.items in
     let coming = c.in_ok-change.change.coming.items in
     let new = move_group us unstable group t in

@@ -1,7 +1,7 @@
 use Rattle.std.proofs.Common.{◌≡◌, ◌∙◌, sym, ap, subst, [], Option}
 use Rattle.testing_model.specs.declared.update.Offender.{Offender}
 use Rattle.testing_model.specs.Moves.{remove_source, offender_of}
-use Rattle.testing_suites.specs.Standing.{standing}
+use Rattle.testing_suites.specs.Present.{present_rows}
 use Rattle.testing_model.specs.Suite.{Suite}
 use Rattle.testing_suites.specs.Tried.{first_told, IsWithin, Tells}
 use Rattle.testing_suites.proofs.Alive.{failing, removal_told}
@@ -13,7 +13,7 @@ returns-clause-offender c =
     let s = c.args.suites.now in
     let archs = c.args.archs.now in
     let name = c.args.name.now in
-    let t : Suite = record { sources = []; rows = standing s } in
+    let t : Suite = record { sources = []; rows = present_rows s } in
     let leaving = c.in_ok-change.change.leaving.items in
     let none = c.in_ok-change.ensures.none in
     let new = remove_source name t in

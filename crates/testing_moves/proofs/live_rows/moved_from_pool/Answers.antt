@@ -1,9 +1,9 @@
-use Rattle.testing_suites.proofs.Showing.{standing-by_key}
+use Rattle.testing_suites.proofs.Showing.{present_rows-by_key}
 use Rattle.std.proofs.lemmas.Result.{IfOk-from_err}
 use Rattle.testing_moves.proofs.live_rows.moved_from_pool.Goals as goal
 
 pub returns-in_ok-suites-clause-by_key : goal.returns-in_ok-suites-clause-by_key
-returns-in_ok-suites-clause-by_key c = standing-by_key c.in_ok-suites.suites
+returns-in_ok-suites-clause-by_key c = present_rows-by_key c.in_ok-suites.suites
 
 pub returns-in_ok-suites-clause-live : goal.returns-in_ok-suites-clause-live
 returns-in_ok-suites-clause-live c = c.in_ok-suites.ensures.live

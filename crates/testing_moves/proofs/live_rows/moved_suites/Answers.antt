@@ -3,7 +3,7 @@ use Rattle.testing_install.specs.Among.{after_change}
 use Rattle.testing_model.specs.Boxed.{unboxed}
 use Rattle.testing_suites.specs.AfterMoves.{moved_rows}
 use Rattle.testing_model.specs.JudgedRows.{lent}
-use Rattle.testing_suites.specs.Standing.{IsLive, PoolState, standing}
+use Rattle.testing_suites.specs.Present.{IsLive, PoolState, present_rows}
 use Rattle.testing_model.specs.Suite.{Suite}
 use Rattle.testing_items.specs.Words.{Text}
 use Rattle.testing_suites.proofs.Alive.{move_live, move_stands}
@@ -16,12 +16,12 @@ returns-clause-rows c =
     let us = unboxed c.args.unstable.sources.now in
     let unstable = lent c.args.unstable.rows.now in
     let group = c.args.group.now in
-    let t : Suite = record { sources = []; rows = standing s } in
+    let t : Suite = record { sources = []; rows = present_rows s } in
     let leaving = c.in_ok-change.change.leaving.items in
     let coming = c.in_ok-change.change.coming.items in
     let made : PoolState = record { rows = s.rows; candidates = s.candidates; first = s.first; stands = after_change leaving coming s.stands; archs = s.archs } in
     if_ok_weaker (λ (new : PoolState). new ≡ made)
-    (λ (new : PoolState). (archs : List Text) → IsLive s archs unstable (standing s) → standing new ≡ moved_rows us unstable group (standing s)) c.after.result
+    (λ (new : PoolState). (archs : List Text) → IsLive s archs unstable (present_rows s) → present_rows new ≡ moved_rows us unstable group (present_rows s)) c.after.result
     (λ new e archs live. sym (move_stands s archs us unstable group leaving coming t c.requires.order live c.in_ok-change.ensures.moves c.requires.offered new c.after.ensures.long e)) c.after.ensures.state
 
 pub returns-clause-live : goal.returns-clause-live
@@ -30,12 +30,12 @@ returns-clause-live c =
     let us = unboxed c.args.unstable.sources.now in
     let unstable = lent c.args.unstable.rows.now in
     let group = c.args.group.now in
-    let t : Suite = record { sources = []; rows = standing s } in
+    let t : Suite = record { sources = []; rows = present_rows s } in
     let leaving = c.in_ok-change.change.leaving.items in
     let coming = c.in_ok-change.change.coming.items in
     let made : PoolState = record { rows = s.rows; candidates = s.candidates; first = s.first; stands = after_change leaving coming s.stands; archs = s.archs } in
     if_ok_weaker (λ (new : PoolState). new ≡ made)
-    (λ (new : PoolState). (archs : List Text) → IsLive s archs unstable (standing s) → IsLive new archs unstable (standing new)) c.after.result
+    (λ (new : PoolState). (archs : List Text) → IsLive s archs unstable (present_rows s) → IsLive new archs unstable (present_rows new)) c.after.result
     (λ new e archs live.
     let stands = move_stands s archs us unstable group leaving coming t c.requires.order live c.in_ok-change.ensures.moves c.requires.offered new c.after.ensures.long e in
     subst (λ rows. IsLive new archs unstable rows) stands (move_live s archs us unstable group leaving coming t c.requires.order live c.in_ok-change.ensures.moves c.requires.offered new c.after.ensures.long e))

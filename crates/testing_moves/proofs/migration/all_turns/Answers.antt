@@ -5,7 +5,7 @@ use Rattle.testing_model.specs.declared.update.Decision.{Decision}
 use Rattle.testing_moves.specs.Runs.{Moment, Run, go_on}
 use Rattle.testing_model.specs.JudgedRows.{lent}
 use Rattle.testing_model.specs.Suite.{Suite}
-use Rattle.testing_model.specs.Unstable.{built_rows, is_standing}
+use Rattle.testing_model.specs.Unstable.{built_rows, is_in_force}
 use Rattle.testing_model.specs.Updates.{Outcome, in_turn, remove_item, removals_of, move_easy, move_singles, wait_all}
 use Rattle.testing_model.proofs.Migrating.{all_steps-are}
 use Rattle.testing_moves.proofs.migration.all_turns.Goals as goal
@@ -25,9 +25,9 @@ returns c =
     (c.in_ok-move_singles.ensures
     ∙ ap (λ (r : Run). go_on r (λ b. move_singles b.archs b.sources b.rows es))
     (c.in_ok-groups.ensures
-    ∙ ap (λ (r : Run). go_on r (λ b. in_turn (move_easy b.archs b.sources b.rows es) (filter (is_standing c.unhints-2.result.now) c.hints-2.result.now)))
+    ∙ ap (λ (r : Run). go_on r (λ b. in_turn (move_easy b.archs b.sources b.rows es) (filter (is_in_force c.unhints-2.result.now) c.hints-2.result.now)))
     (c.in_ok-removals.ensures
-    ∙ ap (λ (r : Run). go_on r (λ b. in_turn (remove_item b.archs) (flat_map removals_of (filter (is_standing c.unhints.result.now) c.hints.result.now))))
+    ∙ ap (λ (r : Run). go_on r (λ b. in_turn (remove_item b.archs) (flat_map removals_of (filter (is_in_force c.unhints.result.now) c.hints.result.now))))
     (c.new-turns.ensures ∙ ap start c.in_ok-live.ensures)))) in
     let as_outcome : List Decision → Suite → Outcome = λ ds s. record { decisions = ds; suite = s } in
     ap₂ as_outcome c.in_ok-parts.ensures.decisions c.in_ok-parts.ensures.testing

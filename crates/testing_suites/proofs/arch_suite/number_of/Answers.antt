@@ -1,5 +1,5 @@
 use Rattle.std.proofs.Common.{sym, subst}
-use Rattle.testing_suites.specs.Parts.{IsNumberOf}
+use Rattle.testing_suites.specs.ArchRows.{IsNumberOf}
 use Rattle.testing_suites.proofs.Numbers.{number_is}
 use Rattle.testing_suites.proofs.arch_suite.number_of.Goals as goal
 

@@ -1,7 +1,7 @@
 use Rattle.std.proofs.Common.{◌∙◌, sym, ap, subst, ◌<◌, length}
 use Rattle.std.specs.List.{All}
 use Rattle.std.proofs.lemmas.Option.{slice_get_within}
-use Rattle.testing_suites.specs.Parts.{AreLostFrom}
+use Rattle.testing_suites.specs.ArchRows.{AreLostFrom}
 use Rattle.testing_suites.specs.Trials.{names_at}
 use Rattle.testing_items.specs.Words.{text_cmp, least}
 use Rattle.testing_suites.proofs.Carried.{lost_first}

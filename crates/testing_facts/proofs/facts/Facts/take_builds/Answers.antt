@@ -1,6 +1,6 @@
 use Rattle.std.proofs.Common.{sym, subst}
 use Rattle.testing_model.specs.FactOrder.{AreByPair}
-use Rattle.testing_model.specs.Taken.{stands_beside}
+use Rattle.testing_model.specs.WithMessage.{stands_beside}
 use Rattle.testing_facts.proofs.KeySlots.{by_pair-builds}
 use Rattle.testing_facts.proofs.facts.Facts.take_builds.Goals as goal
 

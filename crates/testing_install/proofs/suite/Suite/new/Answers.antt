@@ -1,5 +1,5 @@
 use Rattle.std.proofs.Common.{ap}
-use Rattle.testing_install.proofs.Standing.{suite_empty}
+use Rattle.testing_install.proofs.SuiteStates.{suite_empty}
 use Rattle.testing_install.specs.Rows.{shared}
 use Rattle.testing_install.proofs.suite.Suite.new.Goals as goal
 

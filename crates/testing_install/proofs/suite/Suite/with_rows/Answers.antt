@@ -1,9 +1,9 @@
 use Rattle.std.proofs.Common.{arith, ap, ◌∙◌, ◌≡◌, ◌++◌, false, length, replicate, subst}
 use Rattle.std.proofs.lemmas.List.{length-append}
 use Rattle.testing_install.proofs.Sharing.{length-shared}
-use Rattle.testing_install.proofs.Standing.{suite_longer, there_longer}
+use Rattle.testing_install.proofs.SuiteStates.{suite_longer, there_longer}
 use Rattle.testing_install.specs.Rows.{shared}
-use Rattle.testing_install.specs.Suite.{Standing}
+use Rattle.testing_install.specs.Suite.{SuiteState}
 use Rattle.testing_install.specs.Tracked.{Tracked}
 use Rattle.testing_install.proofs.suite.Suite.with_rows.Goals as goal
 
@@ -23,4 +23,4 @@ returns-clause-there c =
     let size = length-shared c.in_ok-graph.graph.rows.items in
     let more = shared c.args.rows.items in
     let grown = ap (λ (t : Tracked). t.current) c.in_ok-there.ensures ∙ there_longer (shared c.self.inside.graph.rows.items) more _ c.self.inside.there.current c.len.result (length c.args.rows.items) c.in_ok-graph.ensures.rows (omega (arith, c.len.ensures, c.in_ok-graph.graph.rows.ok.0, size)) c.self.invariant.right.there_len (length-shared c.args.rows.items) in
-    subst (λ (s : Standing). c.in_ok-there.there.current ≡ s.there ++ replicate (length c.args.rows.items) false) c.self.view_is grown
+    subst (λ (s : SuiteState). c.in_ok-there.there.current ≡ s.there ++ replicate (length c.args.rows.items) false) c.self.view_is grown

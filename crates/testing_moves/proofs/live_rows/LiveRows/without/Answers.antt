@@ -5,11 +5,11 @@ use Rattle.testing_suites.specs.AfterMoves.{rows_without}
 use Rattle.testing_moves.specs.Held.{held}
 use Rattle.testing_model.specs.InOrder.{AreByKey}
 use Rattle.testing_model.proofs.Ordered.{by_key-kept}
-use Rattle.testing_suites.proofs.Showing.{standing-by_key}
+use Rattle.testing_suites.proofs.Showing.{present_rows-by_key}
 use Rattle.testing_moves.proofs.live_rows.LiveRows.without.Goals as goal
 
 pub returns-in_ok-suites-in-Pooled-clause-by_key : goal.returns-in_ok-suites-in-Pooled-clause-by_key
-returns-in_ok-suites-in-Pooled-clause-by_key c = standing-by_key c.in_ok-suites-in-Pooled.suites
+returns-in_ok-suites-in-Pooled-clause-by_key c = present_rows-by_key c.in_ok-suites-in-Pooled.suites
 
 pub returns-in_ok-left-in-Listed-clause-by_key : goal.returns-in_ok-left-in-Listed-clause-by_key
 returns-in_ok-left-in-Listed-clause-by_key c =

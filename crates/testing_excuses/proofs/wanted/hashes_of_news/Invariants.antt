@@ -1,7 +1,0 @@
-use Rattle.std.proofs.Common.{◌≡◌, take}
-use Rattle.testing_excuses.specs.Wanted.{told}
-use Rattle.testing_excuses.proofs.wanted.hashes_of_news.Given as goal
-
--- those so far
-abbrev pub invariant-loop-source : goal.invariant-loop-source
-invariant-loop-source l = l.hashes.items ≡ told (take l.source-index l.news)
