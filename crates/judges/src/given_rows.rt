@@ -98,7 +98,7 @@ fn over_a_given_testing(rt: HostRuntime) -> Result<(), Fail> {
     let setup = Setup::parse(alloc, SETUP.as_bytes())?;
     'rows: for row in &ROWS {
         let given = testing_with_foo(alloc, row.archs)?;
-        let copy = given.copy(alloc)?;
+        let copy = given.copy()?;
         let due = due(alloc, row)?;
         let over_given = excused(alloc, &setup, row, &given)?;
         let over_copy = excused(alloc, &setup, row, &copy)?;

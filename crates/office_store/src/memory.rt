@@ -156,7 +156,7 @@ impl Keeper for Plain {
 
     fn finish(&mut self, _run: u32, done: &Finished) -> Result<(), KeepFault> {
         let reports = done.reports(self.alloc)?;
-        let testing = done.testing.copy(self.alloc)?;
+        let testing = done.testing.copy()?;
         self.runs.push(reports)?;
         self.testing = testing;
         Ok(())
@@ -170,7 +170,7 @@ impl Keeper for Plain {
     }
 
     fn testing(&mut self) -> Result<Testing, KeepFault> {
-        Ok(self.testing.copy(self.alloc)?)
+        Ok(self.testing.copy()?)
     }
 
     fn take_finished(&mut self, _run: u32, done: Finished) -> Result<(), KeepFault> {

@@ -350,7 +350,7 @@ impl Testing {
     }
 
     /// An equal suite, which shares the entries.
-    pub fn copy(&self, alloc: Global) -> Result<Testing, NoMemory>
+    pub fn copy(&self) -> Result<Testing, NoMemory>
         ensures { IfOk result (λ t. t ≡ self.now) }
     {
         let entries = match &self.entries {
@@ -358,7 +358,7 @@ impl Testing {
             None => None,
         };
         Ok(Testing {
-            alloc,
+            alloc: self.alloc,
             entries,
             kept: None,
         })
@@ -369,7 +369,7 @@ impl Testing {
         ensures same { self.new ≡ self.old }
         ensures shared { IfOk result (λ t. t ≡ self.old) }
     {
-        let mut shared = self.copy(self.alloc)?;
+        let mut shared = self.copy()?;
         shared.kept = self.kept.take();
         Ok(shared)
     }
