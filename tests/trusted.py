@@ -4,21 +4,21 @@
 usage: trusted.py [TOP] [--list | --check | --twice | --why NAME]
 
 A public contract is what a caller from outside reads of an item that lib.rt passes on as `pub`, also by `pub use` of
-another crate: the head of a function with its `requires` and `ensures`, a trait, the fields of a type, what its `impl
-Model` and its other impls say of it, its invariant, and its `pub` methods. From their words it goes on, by `ghost use`
-and `use`, to definitions and all that these name, and to what contracts see of the types that they name. All other
-definitions are steps: they serve the proofs. It counts lines without comments, blank ones and `use`, twice: from the
-items of the crates that users call (USERS), which decides what is a step, and from the `pub` items of every crate.
+another crate: a function with its `requires` and `ensures`, a trait, the fields of a type, what its `impl Model` and its
+other impls say of it, its invariant, and its `pub` methods. From their words it goes on, by `ghost use` and `use`, to
+definitions and all that these name, and to what contracts see of the types that they name. All others are steps: they
+serve the proofs. It counts lines without comments, blank ones and `use`, twice: from the items of the crates that users
+call (USERS), which decides what is a step, and from the `pub` items of every crate.
   TOP         the top of the repository (the one that this file is in)
   --list      each definition, its lines, and whether it is believed, a step, or a step that contracts of a crate cite
   --check     a line for each file whose first line says falsely what it is; status 1 if there is one
   --twice     the definitions that stand in two crates under one name with one text
   --why NAME  what names each definition of this name, back to a public contract
 """
-import os
 import re
 import sys
 from collections import defaultdict
+from pathlib import Path
 
 USERS = ['deb_version', 'deb_control', 'testing_install', 'testing_rules', 'office_mail', 'office_store',
          'office_http', 'office_words', 'office_commands', 'office']
@@ -29,10 +29,6 @@ ITEM = re.compile(r'(?P<pub>pub(?:\([a-z]+\))?\s+)?(?P<ghost>ghost\s+)?(?:unsafe
 VALUE = re.compile(r'ghost\s+(\w+)\s*[=:]\s*(?=\{)')
 WORD = re.compile(r"(?<![\w.'-])[^\W\d][\w'-]*(?:\.[\w'-]+)?")
 SIGNATURE = re.compile(r'(?:(?:pub|abbrev|unfoldable|record|data) )*(?P<name>[^\s(){}]+)(?: \(.*?\)| \{.*?\})* :(?: |$)')
-
-def read(path):
-    with open(path, encoding='utf-8') as file:
-        return file.read()
 
 def close(text, start):
     """The place behind the bracket that closes the one at start."""
@@ -103,24 +99,19 @@ class Module(Place):
 
     def parse(self, text, inside):
         """Takes the items of a file, or those inside a trait or an impl."""
-        k, tests = 0, False
+        k = 0
         while text[k:].strip():
-            k += len(text[k:]) - len(text[k:].lstrip())
+            k = re.compile(r'\s*').match(text, k).end()
             found, value = ITEM.match(text, k), VALUE.match(text, k)
-            if text[k] == '#':
-                tests = tests or text.startswith('#[cfg(test)]', k)
-                k = close(text, text.index('[', k))
-                continue
             if found:
                 end, body = self.end(text, found.end(), found['kind'])
-                if not tests:
-                    self.add(found, text[found.end():body], text[body:end], inside)
+                self.add(found, text[found.end():body], text[body:end], inside)
             elif value:
                 end = close(text, value.end())
                 inside.ghosts.append((value[1], text[value.end():end]))
             else:
-                end = self.end(text, k, 'mod')[0]
-            k, tests = end, False
+                end = close(text, text.index('[', k)) if text[k] == '#' else self.end(text, k, 'mod')[0]
+            k = end
 
     def end(self, text, k, kind):
         """Where the item ends, and where its body in braces starts."""
@@ -144,8 +135,7 @@ class Module(Place):
             plain = head.replace('->', '')
             while '<' in plain:
                 plain = re.sub(r'<[^<>]*>', '', plain)
-            trait, _, item.of = ('' if ' for ' in plain else ' for ').join(['', plain.split(' where ')[0]]).partition(' for ')
-            item.trait, item.of = trait.strip(), re.sub(r"^&\s*('\w+\s+)?(mut\s+)?", '', item.of.strip())
+            item.trait, item.of = re.match(r'(?:([\w:]+) for )?([\w:]*)', plain.strip()).groups()
             self.impls.append(item)
         elif inside:
             inside.inner.append(item)
@@ -155,6 +145,7 @@ class Module(Place):
             self.parse(body[1:-1], item)
 
 class Definition:
+    """A definition with its comment."""
     def __init__(self, file, name, lines):
         self.file, self.name, self.lines = file, name, lines
         self.text = '\n'.join(l for l in lines if l.strip() and not l.lstrip().startswith('--'))
@@ -183,30 +174,27 @@ class File(Place):
 class Tree:
     """The crates of a repository, and which definitions their contracts reach."""
     def __init__(self, top):
-        lines = [line.split('#')[0].split(':')[0].split() for line in read(f'{top}/crates.txt').split('\n')]
-        self.top, self.crates, self.modules, self.files, self.passed = top, [l[0] for l in lines if l], {}, {}, {}
+        self.crates = re.findall(r'(?m)^(\w+).*?:', (Path(top) / 'crates.txt').read_text())
+        self.modules, self.files, self.passed, self.impls = {}, {}, {}, defaultdict(list)
         for crate in self.crates:
-            src, specs = f'{top}/crates/{crate}/src', f'{top}/crates/{crate}/specs'
-            self.read_modules(crate, (), src, 'lib' if os.path.exists(f'{src}/lib.rt') else 'main')
-            for where, _, names in os.walk(specs):
-                for name in sorted(names):
-                    path = tuple(os.path.relpath(f'{where}/{name[:-5]}', specs).split('/'))
-                    self.files[(crate, *path)] = File(crate, path, read(f'{where}/{name}'))
+            src, specs = Path(top) / 'crates' / crate / 'src', Path(top) / 'crates' / crate / 'specs'
+            self.read_modules(crate, (), src, 'lib.rt' if (src / 'lib.rt').exists() else 'main.rt')
+            for file in sorted(specs.rglob('*.antt')):
+                path = file.relative_to(specs).with_suffix('').parts
+                self.files[(crate, *path)] = File(crate, path, file.read_text())
             lib = self.files.pop((crate, 'Lib'), None)
             for use in lib.uses if lib else []:
                 path = tuple(use.removeprefix('pub use Rattle.').split('.'))
                 self.passed[crate, path[-1]] = (path[0],) + path[2:]
         self.named = {(f.crate, *f.path, d.name): d for f in self.files.values() for d in f.definitions}
-        self.impls = defaultdict(list)
-        for module in self.modules.values():
-            for item in module.impls:
-                self.impls[self.find(module, re.match(r'[\w:]*', item.of)[0].split('::'))].append(item)
+        for item in (item for module in self.modules.values() for item in module.impls):
+            self.impls[self.find(item.module, item.of.split('::'))].append(item)
 
     def read_modules(self, crate, path, src, file):
-        module = self.modules[crate, path] = Module(crate, path, read(f'{src}/{file}.rt'))
-        module.passes_all = file == 'main' or (path and self.modules[crate, ()].passes_all)
+        module = self.modules[crate, path] = Module(crate, path, (src / file).read_text())
+        module.passes_all = file == 'main.rt' or (path and self.modules[crate, ()].passes_all)
         for name in module.mods:
-            self.read_modules(crate, path + (name,), src, '/'.join(path + (name,)))
+            self.read_modules(crate, path + (name,), src, '/'.join(path + (name,)) + '.rt')
 
     def find(self, module, path, depth=0):
         """The item or module that a path names in a module, if this repository has it."""
@@ -236,8 +224,7 @@ class Tree:
 
     def said(self, item, public):
         """What a caller reads of an item, and what contracts see of a type that no caller can name."""
-        impls = [i for i in self.impls[item] if not i.trait or self.find(i.module, i.trait.split('::')) is None
-                 or self.find(i.module, i.trait.split('::')) in public]
+        impls = [i for i in self.impls[item] if self.find(i.module, (i.trait or 'Self').split('::')) in public | {None}]
         yield item.module, item.head
         view = ' '.join(text for i in impls if i.trait == 'Model' for name, text in i.ghosts if name == 'view')
         for field in parts(item.body[1:-1]) if item.kind in ('struct', 'enum') else []:
@@ -260,8 +247,7 @@ class Tree:
             taken.add(at)
             if isinstance(at, Definition):
                 reached[at] = why
-            texts = [(at.file, at.text)] if isinstance(at, Definition) else self.said(at, public)
-            for place, text in texts:
+            for place, text in [(at.file, at.text)] if isinstance(at, Definition) else self.said(at, public):
                 marks = [n for n in [*place.names] + [d.name for d in getattr(place, 'definitions', [])] if '◌' in n]
                 words = words_of(text) | {n for n in marks if all(p in text for p in n.split('◌'))}
                 todo += [(found, at) for word in words for found in self.meant(place, word)]
@@ -278,20 +264,16 @@ class Tree:
             yield item if isinstance(item, Item) and item.kind in ('struct', 'enum', 'trait', 'type') else None
         for path in paths:
             path = self.passed.get(path[:2], path[:2]) + path[2:]
-            if path[1] in ('declared', 'contracts'):
-                at, names = self.modules.get((path[0], ())), path[2:]
-                while isinstance(at, Module) and names:
-                    at, names = self.find(at, names[:1]), names[1:]
+            if path[1] in ('declared', 'contracts') and (path[0], ()) in self.modules and path[2:]:
+                at = self.find(self.modules[path[0], ()], path[2:])
                 yield at if isinstance(at, Item) else None
             yield next((self.named[path[:k]] for k in range(len(path), 2, -1) if path[:k] in self.named), None)
 
 def head_fault(file, believed):
     """What the first line of a file says falsely."""
     first, steps = (file.head or [''])[0], not any(d in believed for d in file.definitions)
-    if steps:
-        return '' if first == STEPS else 'its definitions are all steps, and its first line does not say so'
-    if first == STEPS:
-        return 'a contract of users rests on it, and its first line says that none does'
+    if steps != (first == STEPS):
+        return f'{"no contract" if steps else "a contract"} of users rests on it, and its first line says otherwise'
     return '' if first else 'its first line does not say what it defines'
 
 def twice(tree):
@@ -309,6 +291,7 @@ def trail(at, believed):
     yield f"the contract of {at.name or at.of} of {'::'.join((at.module.crate, *at.module.path))}"
 
 def table(tree, users, every):
+    """The lines of each crate, and of all."""
     yield 'lines of definitions: in all, believed, steps; by the contracts of every crate: believed, steps'
     for crate in tree.crates + ['all']:
         found = [d for f in tree.files.values() if crate in (f.crate, 'all') for d in f.definitions]
@@ -320,16 +303,15 @@ def main():
     option = next((a for a in sys.argv[1:] if a.startswith('--')), '')
     words = [a for a in sys.argv[1:] if not a.startswith('--')]
     name = words.pop() if option == '--why' else None
-    tree = Tree(words[0] if words else os.path.dirname(os.path.dirname(os.path.abspath(__file__))))
+    tree = Tree(words[0] if words else Path(__file__).resolve().parents[1])
     users, every = tree.believed(USERS), tree.believed(tree.crates)
     faults = [f'{f.label}: {head_fault(f, users)}' for f in tree.files.values() if head_fault(f, users)]
     kinds = {d: 'believed' if d in users else 'cited step' if d in every else 'step' for d in tree.named.values()}
     lines = {'': lambda: table(tree, users, every), '--check': lambda: faults, '--twice': lambda: twice(tree),
              '--list': lambda: (f'{d.file.label}\t{d.name}\t{d.count}\t{kind}' for d, kind in kinds.items()),
              '--why': lambda: (line for d in users if d.name == name for line in trail(d, users))}
-    for line in lines[option]():
-        print(line)
-    sys.exit(1 if option == '--check' and faults else 0)
+    print(*lines[option](), sep='\n')
+    sys.exit(option == '--check' and bool(faults))
 
 if __name__ == '__main__':
     main()
