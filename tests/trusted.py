@@ -1,19 +1,19 @@
 #!/usr/bin/env python3
 """Computes which definitions of crates/*/specs a reader must believe: those that a public contract reaches.
 
-usage: trusted.py [TOP] [--list | --check | --twice | --why NAME]
+usage: trusted.py [TOP] [--list | --check | --twice | --why=NAME]
 
 A public contract is what a caller from outside reads of an item that lib.rt passes on as `pub`, also by `pub use` of
-another crate: a function with its `requires` and `ensures`, a trait, the fields of a type, what its `impl Model` and its
+another crate: a function with its `requires` and `ensures`, a trait, the fields of a type, what its `impl Model` and
 other impls say of it, its invariant, and its `pub` methods. From their words it goes on, by `ghost use` and `use`, to
-definitions and all that these name, and to what contracts see of the types that they name. All others are steps: they
-serve the proofs. It counts lines without comments, blank ones and `use`, twice: from the items of the crates that users
-call (USERS), which decides what is a step, and from the `pub` items of every crate.
+definitions and all that these name, and to what contracts see of types. All others are steps: they serve the proofs.
+It counts lines without comments, blank ones and `use`, twice: from the items of the crates that users call (USERS),
+which decides what is a step, and from the `pub` items of every crate.
   TOP         the top of the repository (the one that this file is in)
   --list      each definition, its lines, and whether it is believed, a step, or a step that contracts of a crate cite
   --check     a line for each file whose first line says falsely what it is; status 1 if there is one
   --twice     the definitions that stand in two crates under one name with one text
-  --why NAME  what names each definition of this name, back to a public contract
+  --why=NAME  what names each definition of this name, back to a public contract
 """
 import re
 import sys
@@ -24,11 +24,10 @@ USERS = ['deb_version', 'deb_control', 'testing_install', 'testing_rules', 'offi
          'office_http', 'office_words', 'office_commands', 'office']
 STEPS = '-- Steps: no contract of a call that users make rests on this file.'
 CLAUSE = re.compile(r'\b(requires|ensures|before)\b\s*[\w-]*\s*$')
-ITEM = re.compile(r'(?P<pub>pub(?:\([a-z]+\))?\s+)?(?P<ghost>ghost\s+)?(?:unsafe\s+)?(?:const\s+(?=fn\b))?'
-                  r'(?P<kind>use|mod|fn|struct|enum|trait|type|const|static|impl)\b\s*')
-VALUE = re.compile(r'ghost\s+(\w+)\s*[=:]\s*(?=\{)')
+ITEM = re.compile(r'(?P<pub>pub(?:\([a-z]+\))?\s+)?(?P<ghost>ghost\s+)?(?:unsafe\s+)?(?:const\s+(?=fn\b))?(?:(?P<kind>'
+                  r'use|mod|fn|struct|enum|trait|type|const|static|impl)\b\s*|(?P<value>\w+)\s*[=:]\s*(?=\{))')
 WORD = re.compile(r"(?<![\w.'-])[^\W\d][\w'-]*(?:\.[\w'-]+)?")
-SIGNATURE = re.compile(r'(?:(?:pub|abbrev|unfoldable|record|data) )*(?P<name>[^\s(){}]+)(?: \(.*?\)| \{.*?\})* :(?: |$)')
+SIGNATURE = re.compile(r'(?:(?:pub|abbrev|unfoldable|record|data) )*(?P<name>[^\s(){}]+)(?: \(.*?\)| \{.*?\})* :( |$)')
 
 def close(text, start):
     """The place behind the bracket that closes the one at start."""
@@ -65,22 +64,20 @@ def words_of(text):
     """The words that may name something: no field, and nothing that the text binds itself."""
     text = re.sub(r'(?m)^\s+(?:pub )?[\w-]+ :', ' :', text)
     text = re.sub(r'([{;]\s*)[\w-]+ = ', r'\1', text)
-    binders = re.findall(r'[({]((?:[\w\'-]+ )+): ', text) + re.findall(r'λ ((?:[\w\'-]+ ?)+)\.', text)
-    bound = {w for names in binders for w in names.split()}
+    binders = re.findall(r"[({]((?:[\w'-]+ )+): |λ ((?:[\w'-]+ ?)+)\.", text)
+    bound = {w for names in binders for w in ' '.join(names).split()}
     return {w for w in WORD.findall(text) if w.split('.')[0] not in bound}
 
 class Place:
     """What the words of a file mean: the names and the files that its use lines bring in."""
     def __init__(self, crate, path):
         self.crate, self.path, self.names, self.files = crate, path, defaultdict(set), {}
-
     def use(self, line):
         """Rattle.CRATE.specs.FILE.{a, b as c}, or Rattle.CRATE.specs.FILE as d"""
         found = re.match(r'Rattle\.(\w+)\.specs\.([\w.]+?)(?:\.\{(.*)\}|(?: as (\w+))?);?$', line)
         if found:
             path = (found[1], *found[2].split('.'))
-            for name in parts(found[3] or ''):
-                name, _, alias = name.partition(' as ')
+            for name, alias in re.findall(r'([^\s,]+)(?: as ([^\s,]+))?', found[3] or ''):
                 self.names[alias or name].add(path + (name,))
             self.files[found[4]] = path
 
@@ -96,23 +93,21 @@ class Module(Place):
         super().__init__(crate, path)
         self.items, self.impls, self.mods, self.uses = {}, [], {}, []
         self.parse(code(text), None)
-
     def parse(self, text, inside):
         """Takes the items of a file, or those inside a trait or an impl."""
         k = 0
         while text[k:].strip():
             k = re.compile(r'\s*').match(text, k).end()
-            found, value = ITEM.match(text, k), VALUE.match(text, k)
-            if found:
+            found = ITEM.match(text, k)
+            if found and found['kind']:
                 end, body = self.end(text, found.end(), found['kind'])
                 self.add(found, text[found.end():body], text[body:end], inside)
-            elif value:
-                end = close(text, value.end())
-                inside.ghosts.append((value[1], text[value.end():end]))
+            elif found:
+                end = close(text, found.end())
+                inside.ghosts.append((found['value'], text[found.end():end]))
             else:
                 end = close(text, text.index('[', k)) if text[k] == '#' else self.end(text, k, 'mod')[0]
             k = end
-
     def end(self, text, k, kind):
         """Where the item ends, and where its body in braces starts."""
         start = k
@@ -121,7 +116,6 @@ class Module(Place):
                 return close(text, k), k
             k = close(text, k) if text[k] in '([{' else k + 1
         return k + 1, k + 1
-
     def add(self, found, head, body, inside):
         kind, public, name = found['kind'], (found['pub'] or '').strip() == 'pub', re.match(r'\w*', head)[0]
         item = Item(self, kind, name, public, head, body)
@@ -189,13 +183,10 @@ class Tree:
         self.named = {(f.crate, *f.path, d.name): d for f in self.files.values() for d in f.definitions}
         for item in (item for module in self.modules.values() for item in module.impls):
             self.impls[self.find(item.module, item.of.split('::'))].append(item)
-
     def read_modules(self, crate, path, src, file):
         module = self.modules[crate, path] = Module(crate, path, (src / file).read_text())
-        module.passes_all = file == 'main.rt' or (path and self.modules[crate, ()].passes_all)
         for name in module.mods:
             self.read_modules(crate, path + (name,), src, '/'.join(path + (name,)) + '.rt')
-
     def find(self, module, path, depth=0):
         """The item or module that a path names in a module, if this repository has it."""
         name, below, found = path[0], (module.crate, module.path + (path[0],)), None
@@ -209,7 +200,6 @@ class Tree:
                     found = found or self.find(module, use if alias == name else use[:-1] + [name], depth + 1)
             found = found or self.modules.get((name, ()))
         return self.find(found, path[1:], depth + 1) if path[1:] and isinstance(found, Module) else found
-
     def surface(self, crate):
         """The items that a caller of a crate can name; of a program all that its modules offer each other."""
         todo, seen = [self.modules.get((crate, ()))], set()
@@ -217,11 +207,11 @@ class Tree:
             at = todo.pop()
             if isinstance(at, Module) and at not in seen:
                 todo += [item for item in at.items.values() if item.public]
-                todo += [self.find(at, [n]) for n, public in at.mods.items() if public or at.passes_all]
+                program = 'main' in self.modules[at.crate, ()].items
+                todo += [self.find(at, [n]) for n, public in at.mods.items() if public or program]
                 todo += [self.find(at, path) for path, _, public in at.uses if public]
             seen.add(at)
         return {item for item in seen if isinstance(item, Item)}
-
     def said(self, item, public):
         """What a caller reads of an item, and what contracts see of a type that no caller can name."""
         impls = [i for i in self.impls[item] if self.find(i.module, (i.trait or 'Self').split('::')) in public | {None}]
@@ -235,24 +225,19 @@ class Tree:
             yield from ((part.module, text) for name, text in part.ghosts if name != 'invariant' or item in public)
             yield from ((part.module, f.head) for f in part.inner
                         if item in public and (f.public or part.kind == 'trait' or part.trait))
-
     def believed(self, crates):
         """The definitions that the public contracts of these crates reach, each with what names it."""
         public = set().union(*(self.surface(crate) for crate in crates))
-        reached, taken, todo = {}, set(), [(item, None) for item in public]
-        while todo:
-            at, why = todo.pop()
-            if at is None or at in taken:
+        reached, todo = {None: None}, [(i, None) for i in sorted(public, key=lambda i: (i.module.crate, i.name))]
+        for at, why in todo:
+            if at in reached:
                 continue
-            taken.add(at)
-            if isinstance(at, Definition):
-                reached[at] = why
+            reached[at] = why
             for place, text in [(at.file, at.text)] if isinstance(at, Definition) else self.said(at, public):
                 marks = [n for n in [*place.names] + [d.name for d in getattr(place, 'definitions', [])] if '◌' in n]
                 words = words_of(text) | {n for n in marks if all(p in text for p in n.split('◌'))}
-                todo += [(found, at) for word in words for found in self.meant(place, word)]
-        return reached
-
+                todo += [(found, at) for word in sorted(words) for found in self.meant(place, word)]
+        return {at: why for at, why in reached.items() if isinstance(at, Definition)}
     def meant(self, place, word):
         """The definitions and the types that a word in a file means."""
         first, _, second = (word, '', '') if '◌' in word else word.partition('.')
@@ -281,14 +266,12 @@ def twice(tree):
     same = defaultdict(set)
     for d in tree.named.values():
         same[d.name, ' '.join(d.text.split())].add(d.file.label)
-    return sorted(f'{name}: {" ".join(sorted(labels))}' for (name, _), labels in same.items() if len(labels) > 1)
+    return sorted(' '.join([name + ':', *sorted(labels)]) for (name, _), labels in same.items() if len(labels) > 1)
 
 def trail(at, believed):
-    """What names a definition, and what names that, back to a public contract."""
-    while isinstance(at, Definition):
-        yield f'{at.name} of {at.file.label}, named by'
-        at = believed[at]
-    yield f"the contract of {at.name or at.of} of {'::'.join((at.module.crate, *at.module.path))}"
+    """A definition, what names it, and so on back to a public contract."""
+    return (f'{at.name} ({at.file.label}), named by {trail(believed[at], believed)}' if isinstance(at, Definition)
+            else f"the contract of {at.name} ({'::'.join((at.module.crate, *at.module.path))})")
 
 def table(tree, users, every):
     """The lines of each crate, and of all."""
@@ -300,16 +283,15 @@ def table(tree, users, every):
             yield f'{crate:16}{whole:7}{narrow:7}{whole - narrow:7}{wide:12}{whole - wide:7}'
 
 def main():
-    option = next((a for a in sys.argv[1:] if a.startswith('--')), '')
-    words = [a for a in sys.argv[1:] if not a.startswith('--')]
-    name = words.pop() if option == '--why' else None
-    tree = Tree(words[0] if words else Path(__file__).resolve().parents[1])
+    option, _, name = next((a for a in sys.argv[1:] if a.startswith('--')), '').partition('=')
+    tops = [a for a in sys.argv[1:] if not a.startswith('--')] + [Path(__file__).resolve().parents[1]]
+    tree = Tree(tops[0])
     users, every = tree.believed(USERS), tree.believed(tree.crates)
     faults = [f'{f.label}: {head_fault(f, users)}' for f in tree.files.values() if head_fault(f, users)]
     kinds = {d: 'believed' if d in users else 'cited step' if d in every else 'step' for d in tree.named.values()}
     lines = {'': lambda: table(tree, users, every), '--check': lambda: faults, '--twice': lambda: twice(tree),
              '--list': lambda: (f'{d.file.label}\t{d.name}\t{d.count}\t{kind}' for d, kind in kinds.items()),
-             '--why': lambda: (line for d in users if d.name == name for line in trail(d, users))}
+             '--why': lambda: (trail(d, users) for d in users if d.name == name)}
     print(*lines[option](), sep='\n')
     sys.exit(option == '--check' and bool(faults))
 
