@@ -292,7 +292,7 @@ def main():
     lines = {'': lambda: table(tree, users, every), '--check': lambda: faults, '--twice': lambda: twice(tree),
              '--list': lambda: (f'{d.file.label}\t{d.name}\t{d.count}\t{kind}' for d, kind in kinds.items()),
              '--why': lambda: (trail(d, users) for d in users if d.name == name)}
-    print(*lines[option](), sep='\n')
+    sys.stdout.writelines(f'{line}\n' for line in lines[option]())
     sys.exit(option == '--check' and bool(faults))
 
 if __name__ == '__main__':
