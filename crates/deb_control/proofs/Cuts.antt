@@ -11,7 +11,8 @@ use Rattle.std.proofs.lemmas.List.Sums.{prefix_len-le-length, passes_at_first, f
 use Rattle.std.proofs.lemmas.List.Folds.{list_all-append}
 use Rattle.deb_control.specs.Text.{is_line_feed, is_colon, lines, continues}
 use Rattle.deb_control.specs.Paragraphs.{has_colon, reading, reading_of_text}
-use Rattle.deb_control.specs.Reader.{line_in_front, left_in, IsFieldCut, IsLineEnd, IsFieldEnd, IsColonAt}
+use Rattle.deb_control.specs.Reader.{left_in}
+use Rattle.deb_control.specs.ReaderSteps.{line_in_front, IsFieldCut, IsLineEnd, IsFieldEnd, IsColonAt}
 use Rattle.deb_control.proofs.Split.{any_within, none_within, take_sum}
 use Rattle.deb_control.proofs.Lines.{lines_head, lines_cut, lines_of_line, empty_continues_nothing}
 

@@ -7,7 +7,7 @@ use Rattle.std.proofs.lemmas.List.Splits.{slice_split-cons_yes, slice_split_firs
 use Rattle.deb_control.specs.Text.{is_line_feed, is_colon, lines, is_blank_line, continues, trim_white}
 use Rattle.std.specs.Borrow.{Bor}
 use Rattle.deb_control.specs.Paragraphs.{Field, shown, Reading, not_empty, fields, field_of, first_fault, line_fault, name_in, or_else, paragraph_lines, reading_of, reading_of_text, unless_bad, then_read, refusing, ended}
-use Rattle.deb_control.specs.Reader.{line_in_front, front_run, after_run, IsFieldCut}
+use Rattle.deb_control.specs.ReaderSteps.{line_in_front, front_run, after_run, IsFieldCut}
 use Rattle.deb_control.specs.declared.fault.ParagraphFault.{ParagraphFault}
 use Rattle.deb_control.specs.declared.fault.ParagraphFault.TheVariants.{FirstLineContinues}
 use Rattle.deb_control.proofs.Split.{split_head, split_append, split_before_first, first_run, take_while_yes, take_while_no, take_while-append, take_while_all, left_after-append, left_after_all, left_after_no}

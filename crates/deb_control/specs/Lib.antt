@@ -1,6 +1,7 @@
 pub mod Text
 pub mod Paragraphs
 pub mod Reader
+pub mod ReaderSteps
 pub mod Relations
 pub mod Binary
 pub mod WellFormed

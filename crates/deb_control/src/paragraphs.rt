@@ -6,7 +6,8 @@ ghost use Rattle.std.specs.Option.{option_copied};
 ghost use Rattle.std.specs.Str.{str_eq_ignore_ascii_case};
 ghost use Rattle.deb_control.specs.Text.{is_blank_line, continues};
 ghost use Rattle.deb_control.specs.Paragraphs.{shown, is_field_name, is_name_char, has_name, reading, reading_of_text, ended, refusing, then_read, value_of};
-ghost use Rattle.deb_control.specs.Reader.{line_in_front, IsFieldCut, IsFieldEnd, IsNameEnd, FieldRead, RefusedBy};
+ghost use Rattle.deb_control.specs.Reader.{RefusedBy};
+ghost use Rattle.deb_control.specs.ReaderSteps.{line_in_front, IsFieldCut, IsFieldEnd, IsNameEnd, FieldRead};
 
 use crate::fault::ParagraphFault;
 use crate::text::{continues, first_line, index_of, is_blank_line, split_around, trim_white};

@@ -1,3 +1,4 @@
+-- Steps: no contract of a call that users make rests on this file.
 -- Runs of digits, which are numbers of any length.
 use Rattle.std.specs.Prelude.{◌≡◌, ◌==◌, ℕ, Bool, true, not, List, drop}
 use Rattle.std.specs.Char.{is_ascii_digit}

@@ -1,3 +1,4 @@
+-- Steps: no contract of a call that users make rests on this file.
 -- The front of a part, where two parts are compared.
 use Rattle.std.specs.Prelude.{ℕ, ◌+◌, ◌==◌, if◌then◌else◌, List, [], ◌∷◌}
 use Rattle.std.specs.Char.{is_ascii_digit, is_ascii_alphabetic}

@@ -1,3 +1,4 @@
+-- Steps: no contract of a call that users make rests on this file.
 -- The laws of the order of versions: it is total, and the same version is an equivalence that the order respects.
 -- A proof in a crate above cites these, and std's lemmas on `IsTotalOrder` (std/lemmas/Cmp.md) at `version_order`.
 use Rattle.std.specs.Prelude.{◌≡◌, ℕ, suc, zero, ◌+◌, ◌≤◌, ◌<◌, ◌⊎◌, Bool, true, false, Option, Some, None, Result, Ok, Err, unwrap_or, List, [], ◌∷◌, length, ℤ, pos}

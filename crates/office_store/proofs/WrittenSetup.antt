@@ -5,7 +5,7 @@ use Rattle.std.proofs.lemmas.List.{append_assoc}
 use Rattle.deb_control.specs.Text.{is_line_feed, lines, is_blank_line, continues, trim_white}
 use Rattle.deb_control.specs.Paragraphs.{Field, fields, field_of, first_fault, line_fault, is_field_name, paragraph_lines}
 use Rattle.deb_control.specs.Relations.{is_qualifier_char}
-use Rattle.deb_control.specs.Reader.{front_run, after_run}
+use Rattle.deb_control.specs.ReaderSteps.{front_run, after_run}
 use Rattle.deb_control.proofs.Lines.{lines_cut, lines_nil, paragraphs_past_blank, paragraphs_nil, first_paragraph, front_run_head, front_run_blank, empty_is_blank}
 use Rattle.deb_control.proofs.Split.{left_after_yes, left_after_no}
 use Rattle.deb_control.proofs.Fronts.{pass_wider}

@@ -1,3 +1,4 @@
+-- Steps: no contract of a call that users make rests on this file.
 -- What a run has of each source that is news, found by the source's name.
 use Rattle.std.specs.Prelude.{ℕ, Bool, cond, List, [], ◌∷◌, ◌++◌, Option, Vec, map, filter, unwrap_or, option_map, option_copied}
 use Rattle.std.specs.List.{list_any}

@@ -1,3 +1,4 @@
+-- Steps: no contract of a call that users make rests on this file.
 -- Where a list takes an element.
 use Rattle.std.specs.Prelude.{◌≡◌, ◌<◌, ◌≤◌, List, length, slice_set}
 use Rattle.std.specs.List.{insert}

@@ -1,3 +1,4 @@
+-- Steps: no contract of a call that users make rests on this file.
 -- A few sources among all, by the hashes of their names.
 use Rattle.std.specs.Prelude.{Bool, true, List, filter}
 use Rattle.testing_model.specs.declared.facts.BuildIn.{BuildIn}

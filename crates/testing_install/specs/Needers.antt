@@ -1,3 +1,4 @@
+-- Which rows have a clause that names a name.
 use Rattle.std.specs.Prelude.{◌≡◌, ℕ, ◌<◌, Bool, true, List, length, ◌++◌, Some, Contains}
 use Rattle.std.specs.List.{slice_get, list_any, flat_map, All}
 use Rattle.std.specs.Str.{bytes_eq}

@@ -1,3 +1,5 @@
+-- Steps: no contract of a call that users make rests on this file.
+-- How far the search for the greatest closed set has come, and what bounds its turns and looks.
 use Rattle.std.specs.Prelude.{◌≡◌, ℕ, ◌+◌, ◌<◌, ◌≤◌, Bool, true, ◌==◌, if◌then◌else◌, ◌⊎◌, List, [], ◌∷◌, length, Option, Some, None, slice_index_or}
 use Rattle.std.specs.List.{slice_get, count_by, sum_by}
 use Rattle.deb_control.specs.declared.binary.Binary.{Binary}

@@ -1,3 +1,5 @@
+-- Steps: no contract of a call that users make rests on this file.
+-- How the installable rows of a suite are found again after a change.
 use Rattle.std.specs.Prelude.{◌≡◌, ℕ, ◌<◌, Bool, true, false, ◌⊎◌, List, length, Option, Some, None, Contains, slice_index_or}
 use Rattle.std.specs.List.{slice_get}
 use Rattle.deb_control.specs.declared.binary.Binary.{Binary}

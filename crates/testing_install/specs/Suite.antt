@@ -1,3 +1,4 @@
+-- A suite: rows that may be in it, which of them are there, and which of these are installable.
 use Rattle.std.specs.Prelude.{◌≡◌, ℕ, Bool, true, false, ◌⊎◌, List, length, Contains}
 use Rattle.deb_control.specs.declared.binary.Binary.{Binary}
 use Rattle.testing_install.specs.Among.{IsGreatestAmong}

@@ -1,3 +1,4 @@
+-- The places of a set as it is, and as it was when it was last kept.
 use Rattle.std.specs.Prelude.{◌≡◌, ℕ, ◌<◌, ◌-◌, Bool, ◌⊎◌, false, List, ◌++◌, length, replicate, Contains, slice_index_or}
 
 -- the places of a set as it is, and as it was when it was last kept

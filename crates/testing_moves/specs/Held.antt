@@ -1,3 +1,4 @@
+-- Steps: no contract of a call that users make rests on this file.
 -- Testing's rows during a run: those that stand of a pool, or a list.
 use Rattle.std.specs.Prelude.{List}
 use Rattle.testing_model.specs.declared.facts.UploadIn.{UploadIn}
@@ -7,7 +8,7 @@ use Rattle.testing_model.specs.declared.suite.RowIn.{RowIn}
 use Rattle.testing_model.specs.declared.suite.SourceIn.{SourceIn}
 use Rattle.testing_model.specs.FactOrder.{IsUnstableOrder}
 use Rattle.testing_model.specs.InOrder.{IsInOrder}
-use Rattle.testing_suites.specs.Present.{IsLive, present_rows}
+use Rattle.testing_suites.specs.PresentSteps.{IsLive, present_rows}
 use Rattle.testing_items.specs.Words.{Text}
 
 -- the rows

@@ -1,3 +1,4 @@
+-- Steps: no contract of a call that users make rests on this file.
 -- Items of a hint and excuses that are lent, and sources as they moved.
 use Rattle.std.specs.Prelude.{List, map}
 use Rattle.std.specs.Borrow.{Bor}

@@ -1,3 +1,4 @@
+-- Steps: no contract of a call that users make rests on this file.
 -- Testing's sources during a run: those that stay, lent, and those that a move has put there.
 use Rattle.std.specs.Prelude.{List, map}
 use Rattle.testing_moves.specs.declared.live_sources.LiveSource.{LiveSource}

@@ -1,3 +1,4 @@
+-- Steps: no contract of a call that users make rests on this file.
 -- What a run goes by, and how far it has come.
 use Rattle.std.specs.Prelude.{List, [], Option}
 use Rattle.testing_model.specs.declared.facts.UploadIn.{UploadIn}

@@ -9,7 +9,8 @@ ghost use Rattle.testing_moves.specs.Held.{held, AreLive};
 ghost use Rattle.testing_model.specs.InOrder.{AreByKey};
 ghost use Rattle.testing_model.specs.JudgedRows.{lent};
 ghost use Rattle.testing_model.specs.Moves as rules;
-ghost use Rattle.testing_suites.specs.Present.{IsShown, IsLive, present_rows};
+ghost use Rattle.testing_suites.specs.Present.{IsShown};
+ghost use Rattle.testing_suites.specs.PresentSteps.{IsLive, present_rows};
 
 use crate::lent_rows::{moved_rows, rows_without};
 use crate::live_rows::LiveRows;

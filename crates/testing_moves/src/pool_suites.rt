@@ -8,7 +8,7 @@ ghost use Rattle.testing_model.specs.Boxed.{unboxed};
 ghost use Rattle.testing_suites.specs.Changes.{has, IsMoveOf};
 ghost use Rattle.testing_model.specs.FactOrder.{AreBySource};
 ghost use Rattle.testing_model.specs.JudgedRows.{lent};
-ghost use Rattle.testing_suites.specs.Present.{present_rows};
+ghost use Rattle.testing_suites.specs.PresentSteps.{present_rows};
 ghost use Rattle.testing_suites.specs.Tried.{first_told, Tells, IsWithin, IsRemovalOf};
 ghost use Rattle.testing_model.specs.SourceFilter.{hash_passes, passing_rows};
 ghost use Rattle.testing_items.specs.Words.{Text as Word};
@@ -32,7 +32,7 @@ pub struct PoolSuites {
 }
 
 impl Model for PoolSuites {
-    ghost use Rattle.testing_suites.specs.Present.{PoolState};
+    ghost use Rattle.testing_suites.specs.PresentSteps.{PoolState};
 
     ghost Value = { PoolState };
 

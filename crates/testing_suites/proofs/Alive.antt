@@ -13,7 +13,8 @@ use Rattle.testing_suites.specs.Changes.{has, IsMoveOf}
 use Rattle.testing_model.specs.FactOrder.{IsUnstableOrder}
 use Rattle.testing_model.specs.InOrder.{AreByKey}
 use Rattle.testing_model.specs.Moves.{first_failing, judged_on, move_group, remove_source}
-use Rattle.testing_suites.specs.Present.{IsShown, IsLive, CarriedState, PoolState, present_rows}
+use Rattle.testing_suites.specs.Present.{IsShown, CarriedState}
+use Rattle.testing_suites.specs.PresentSteps.{IsLive, PoolState, present_rows}
 use Rattle.testing_model.specs.Suite.{Suite}
 use Rattle.testing_suites.specs.Tried.{Tells, IsWithin, IsRemovalOf}
 use Rattle.testing_model.specs.SourceFilter.{hash_passes, passing_rows}

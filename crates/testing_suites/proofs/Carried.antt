@@ -13,7 +13,7 @@ use Rattle.testing_model.specs.declared.suite.RowIn.{RowIn}
 use Rattle.testing_suites.specs.Changes.{has}
 use Rattle.testing_model.specs.Moves.{is_row_on}
 use Rattle.testing_suites.specs.ArchRows.{ArchRows, AreNumbers, AreLostFrom}
-use Rattle.testing_suites.specs.Present.{IsOn, IsOver, IsSuiteOn}
+use Rattle.testing_suites.specs.PresentSteps.{IsOn, IsOver, IsSuiteOn}
 use Rattle.testing_suites.specs.Trials.{is_place_on, names_at, IsFirstLost}
 use Rattle.testing_items.specs.Words.{Text, text_cmp, least}
 use Rattle.testing_suites.proofs.Arranging.{from_has, to_has}

@@ -11,7 +11,8 @@ use Rattle.testing_install.specs.Closed.{marked}
 use Rattle.testing_model.specs.declared.suite.RowIn.{RowIn}
 use Rattle.testing_model.specs.InOrder.{AreByKey}
 use Rattle.testing_suites.specs.ArchRows.{ArchRows}
-use Rattle.testing_suites.specs.Present.{IsShown, IsSuiteOn, AreOver, AreSuites, IsCarriedState}
+use Rattle.testing_suites.specs.Present.{IsShown}
+use Rattle.testing_suites.specs.PresentSteps.{IsSuiteOn, AreOver, AreSuites, IsCarriedState}
 use Rattle.testing_suites.proofs.Lost.{at_place, contains_at}
 use Rattle.testing_suites.proofs.Suites.{are_more, firsts_stand, over_of}
 

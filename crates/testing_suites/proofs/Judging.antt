@@ -16,7 +16,7 @@ use Rattle.testing_items.specs.Words.{Text}
 use Rattle.testing_suites.proofs.Arranging.{from_has, to_has}
 use Rattle.testing_suites.proofs.Flags.{flags_after, flag_within}
 use Rattle.testing_model.proofs.Least.{from_filter, to_filter}
-use Rattle.testing_suites.specs.Present.{IsOn}
+use Rattle.testing_suites.specs.PresentSteps.{IsOn}
 use Rattle.testing_suites.proofs.Lost.{IsChange, lost_where_new}
 use Rattle.testing_suites.proofs.Moving.{after_flags}
 use Rattle.testing_suites.proofs.Trying.{on_after, first_of_lost}

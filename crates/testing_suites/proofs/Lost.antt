@@ -19,7 +19,8 @@ use Rattle.testing_install.proofs.Choosing.{length-are}
 use Rattle.testing_model.specs.declared.suite.RowIn.{RowIn}
 use Rattle.testing_model.specs.InOrder.{AreByKey}
 use Rattle.testing_model.specs.Moves.{row_cmp, row_key, is_row_on, rows_on, is_row_of, is_same_key, is_watched_on, was_installable, fails_on, first_failing, with_answers, judged_on, RowAnswer}
-use Rattle.testing_suites.specs.Present.{IsShown, IsOn}
+use Rattle.testing_suites.specs.Present.{IsShown}
+use Rattle.testing_suites.specs.PresentSteps.{IsOn}
 use Rattle.testing_items.specs.Words.{Text, text_cmp, least}
 use Rattle.testing_model.proofs.Least.{from_filter, to_filter, same-least}
 use Rattle.testing_model.proofs.Listed.{IsAmong, IsListing, listed_exact}

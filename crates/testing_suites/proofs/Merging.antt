@@ -7,7 +7,7 @@ use Rattle.std.proofs.lemmas.List.Elements.{All-contains, Contains-append_left, 
 use Rattle.testing_install.specs.Closed.{marked}
 use Rattle.testing_suites.specs.Pools.{HasPlaces}
 use Rattle.testing_model.specs.SameMessages.{SameElements}
-use Rattle.testing_suites.specs.Present.{set_places}
+use Rattle.testing_suites.specs.PresentSteps.{set_places}
 use Rattle.testing_suites.proofs.Flags.{bounded_members, marked_within}
 use Rattle.testing_model.proofs.Least.{from_filter, to_filter}
 use Rattle.testing_suites.proofs.Showing.{range_has}

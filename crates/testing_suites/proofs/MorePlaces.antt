@@ -14,7 +14,7 @@ use Rattle.testing_install.proofs.Sharing.{slice_get_before}
 use Rattle.testing_model.specs.declared.suite.RowIn.{RowIn}
 use Rattle.testing_model.specs.Moves.{is_row_on}
 use Rattle.testing_suites.specs.ArchRows.{ArchRows, IsArchRows, package_at}
-use Rattle.testing_suites.specs.Present.{IsOver, IsSuiteOn}
+use Rattle.testing_suites.specs.PresentSteps.{IsOver, IsSuiteOn}
 use Rattle.testing_suites.specs.Trials.{is_place_on}
 use Rattle.testing_suites.proofs.Flags.{bounded_members, marked_within}
 use Rattle.testing_model.proofs.Least.{from_filter}

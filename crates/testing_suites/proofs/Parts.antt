@@ -12,7 +12,7 @@ use Rattle.testing_install.proofs.Counting.{slice_get_some}
 use Rattle.testing_model.specs.declared.suite.RowIn.{RowIn}
 use Rattle.testing_model.specs.Moves.{is_row_on}
 use Rattle.testing_suites.specs.ArchRows.{ArchRows, AreAscending, package_at}
-use Rattle.testing_suites.specs.Present.{IsOver}
+use Rattle.testing_suites.specs.PresentSteps.{IsOver}
 use Rattle.testing_suites.specs.Trials.{is_place_on}
 use Rattle.testing_suites.proofs.Arranging.{at_some_of}
 use Rattle.testing_suites.proofs.Flags.{bounded_members}

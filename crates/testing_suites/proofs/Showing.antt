@@ -8,7 +8,8 @@ use Rattle.testing_install.specs.Closed.{marked}
 use Rattle.testing_model.specs.declared.suite.RowIn.{RowIn}
 use Rattle.testing_suites.specs.AfterMoves.{with_rows, rows_at}
 use Rattle.testing_model.specs.InOrder.{AreByKey}
-use Rattle.testing_suites.specs.Present.{IsShown, PoolState, set_places, present_rows}
+use Rattle.testing_suites.specs.Present.{IsShown}
+use Rattle.testing_suites.specs.PresentSteps.{PoolState, set_places, present_rows}
 use Rattle.testing_suites.proofs.Flags.{marked_within, bounded_members}
 use Rattle.testing_model.proofs.Least.{from_filter, to_filter}
 use Rattle.testing_items.proofs.Members.{none_among}

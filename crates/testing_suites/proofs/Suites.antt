@@ -18,7 +18,8 @@ use Rattle.testing_install.proofs.Counting.{slice_get_some}
 use Rattle.testing_model.specs.declared.facts.UploadIn.{UploadIn}
 use Rattle.testing_suites.specs.Changes.{has, stands_of, stands_for, gives_way_to, IsMoveOf}
 use Rattle.testing_model.specs.Moves.{is_row_on, group_sources}
-use Rattle.testing_suites.specs.Present.{IsShown, IsOn, IsOver, IsSuiteOn, AreOver, AreSuites}
+use Rattle.testing_suites.specs.Present.{IsShown}
+use Rattle.testing_suites.specs.PresentSteps.{IsOn, IsOver, IsSuiteOn, AreOver, AreSuites}
 use Rattle.testing_suites.specs.ArchRows.{ArchRows, IsAfter, package_at}
 use Rattle.testing_suites.specs.Tried.{IsWithin, IsRemovalOf, Tells}
 use Rattle.testing_suites.specs.Trials.{IsFirstLost}

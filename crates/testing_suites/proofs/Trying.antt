@@ -7,7 +7,7 @@ use Rattle.testing_model.specs.declared.suite.RowIn.{RowIn}
 use Rattle.testing_model.specs.Moves.{is_row_on, is_watched_on, first_failing, judged_on}
 use Rattle.testing_items.specs.Words.{Text, text_cmp, least}
 use Rattle.testing_model.proofs.Least.{from_filter, to_filter}
-use Rattle.testing_suites.specs.Present.{IsOn}
+use Rattle.testing_suites.specs.PresentSteps.{IsOn}
 use Rattle.testing_suites.proofs.Lost.{IsLostAt, IsChange, AreLost, first_lost}
 use Rattle.testing_suites.proofs.Moving.{after_flags}
 use Rattle.testing_model.proofs.Sets.{given_by, gives, maps, mapped_from}

@@ -1,3 +1,4 @@
+-- Steps: no contract of a call that users make rests on this file.
 -- Testing's rows and sources after a move or a removal.
 use Rattle.std.specs.Prelude.{ℕ, List, not, filter, fold}
 use Rattle.std.specs.List.{slice_get, filter_map, flat_map}

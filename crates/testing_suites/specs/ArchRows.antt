@@ -1,3 +1,4 @@
+-- Steps: no contract of a call that users make rests on this file.
 -- A suite of some of a pool's rows, by their places in the pool.
 use Rattle.std.specs.Prelude.{◌≡◌, ℕ, ◌<◌, ◌↔◌, Bool, List, length, Contains, Option, Some, option_map}
 use Rattle.std.specs.List.{AllPairs, slice_get}

@@ -1,3 +1,4 @@
+-- Steps: no contract of a call that users make rests on this file.
 -- Which of the rows that may stand come by a move, and which leave.
 use Rattle.std.specs.Prelude.{◌≡◌, ℕ, Bool, true, false, ◌&&◌, ◌==◌, ◌⊎◌, nat_le, List, Contains, slice_index_or}
 use Rattle.std.specs.List.{slice_get, list_any}

@@ -1,3 +1,4 @@
+-- Steps: no contract of a call that users make rests on this file.
 -- RowAnswer rows as the code has them.
 use Rattle.std.specs.Prelude.{List, map}
 use Rattle.testing_suites.specs.declared.offender.RowAnswer.{RowAnswer}

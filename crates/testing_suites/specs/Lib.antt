@@ -5,5 +5,6 @@ pub mod CarriedOver
 pub mod ArchRows
 pub mod Pools
 pub mod Present
+pub mod PresentSteps
 pub mod Trials
 pub mod Tried

@@ -1,3 +1,4 @@
+-- Steps: no contract of a call that users make rests on this file.
 -- Rows that may stand in testing during a run, by place, and where those of a text are.
 use Rattle.std.specs.Prelude.{◌≡◌, ℕ, ◌<◌, List, map, length, Some, Contains}
 use Rattle.std.specs.List.{All, slice_get}

@@ -1,3 +1,4 @@
+-- Steps: no contract of a call that users make rests on this file.
 -- A change tried on one architecture.
 use Rattle.std.specs.Prelude.{◌≡◌, ℕ, Bool, false, ◌↔◌, List, Contains, Option, map, filter}
 use Rattle.std.specs.List.{slice_get, filter_map}

@@ -1,3 +1,4 @@
+-- Steps: no contract of a call that users make rests on this file.
 -- A change tried on each architecture in turn.
 use Rattle.std.specs.Prelude.{◌≡◌, ℕ, ◌<◌, Bool, true, List, length, Option, Some, option_map}
 use Rattle.std.specs.List.{All, slice_get, filter_map, range_with_len}
@@ -7,7 +8,7 @@ use Rattle.testing_model.specs.declared.suite.RowIn.{RowIn}
 use Rattle.testing_model.specs.declared.update.Offender.{Offender}
 use Rattle.testing_suites.specs.Changes.{has}
 use Rattle.testing_model.specs.Moves.{first_of}
-use Rattle.testing_suites.specs.Present.{IsOn}
+use Rattle.testing_suites.specs.PresentSteps.{IsOn}
 use Rattle.testing_suites.specs.Trials.{IsFirstLost}
 use Rattle.testing_items.specs.Words.{Text}
 

@@ -4,7 +4,7 @@ ghost use Rattle.std.specs.Prelude.{◌≡◌, ◌<◌, ◌≤◌, ◌-◌, ◌+
 ghost use Rattle.std.specs.List.{All, range_with_len};
 ghost use Rattle.testing_install.specs.Rows.{shared};
 ghost use Rattle.testing_suites.specs.ArchRows.{AreAscending, AreNumbers, IsNumberOf, IsAfter, AreLostFrom, package_at};
-ghost use Rattle.testing_suites.specs.Present.{IsOver, IsSuiteOn};
+ghost use Rattle.testing_suites.specs.PresentSteps.{IsOver, IsSuiteOn};
 ghost use Rattle.testing_suites.specs.Trials.{is_place_on};
 
 use crate::offender::is_row_on;

@@ -11,7 +11,8 @@ ghost use Rattle.testing_model.specs.InOrder.{AreByKey};
 ghost use Rattle.testing_model.specs.JudgedRows.{lent};
 ghost use Rattle.testing_suites.specs.ArchRows.{ArchRows};
 ghost use Rattle.testing_model.specs.SameMessages.{SameElements};
-ghost use Rattle.testing_suites.specs.Present.{IsOn, IsShown, IsSuiteOn, AreOver, AreSuites, set_places};
+ghost use Rattle.testing_suites.specs.Present.{IsShown};
+ghost use Rattle.testing_suites.specs.PresentSteps.{IsOn, IsSuiteOn, AreOver, AreSuites, set_places};
 ghost use Rattle.testing_suites.specs.Tried.{first_told, Tells, IsWithin};
 ghost use Rattle.testing_suites.specs.Trials.{IsFirstLost};
 ghost use Rattle.testing_items.specs.Words.{Text as Word};
@@ -197,7 +198,8 @@ pub struct CarriedSuites {
 }
 
 impl Model for CarriedSuites {
-    ghost use Rattle.testing_suites.specs.Present.{CarriedState, IsCarriedState};
+    ghost use Rattle.testing_suites.specs.Present.{CarriedState};
+    ghost use Rattle.testing_suites.specs.PresentSteps.{IsCarriedState};
 
     ghost Value = { CarriedState };
 

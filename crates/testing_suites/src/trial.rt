@@ -3,7 +3,7 @@
 ghost use Rattle.std.specs.Prelude.{◌≡◌, ◌<◌, Bool, List, length, IfOk, option_copied};
 ghost use Rattle.std.specs.List.{All};
 ghost use Rattle.testing_install.specs.Closed.{marked};
-ghost use Rattle.testing_suites.specs.Present.{IsOn, IsOver, IsSuiteOn};
+ghost use Rattle.testing_suites.specs.PresentSteps.{IsOn, IsOver, IsSuiteOn};
 ghost use Rattle.testing_suites.specs.Trials.{names_at, IsFirstLost};
 ghost use Rattle.testing_items.specs.Words.{text_cmp, least};
 

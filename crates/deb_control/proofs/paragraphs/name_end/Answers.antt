@@ -1,5 +1,5 @@
 use Rattle.std.proofs.Common.{ap, ◌∙◌}
-use Rattle.deb_control.specs.Reader.{line_in_front}
+use Rattle.deb_control.specs.ReaderSteps.{line_in_front}
 use Rattle.deb_control.proofs.Cuts.{colon_from, no_colon}
 use Rattle.deb_control.proofs.paragraphs.name_end.Goals as goal
 

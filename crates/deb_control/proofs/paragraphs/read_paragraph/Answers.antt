@@ -3,7 +3,7 @@ use Rattle.std.proofs.lemmas.List.{append-nil}
 use Rattle.std.proofs.lemmas.Result.{err_from_is_err_and}
 use Rattle.deb_control.specs.Text.{lines, is_blank_line, continues}
 use Rattle.deb_control.specs.Paragraphs.{shown, name_in, fields, first_fault, or_else, reading_of}
-use Rattle.deb_control.specs.Reader.{line_in_front, front_run}
+use Rattle.deb_control.specs.ReaderSteps.{line_in_front, front_run}
 use Rattle.deb_control.proofs.Lines.{first_continues, refused, was_read, shorter, field_step, at_blank_line, names_with, fields_with}
 use Rattle.deb_control.proofs.paragraphs.read_paragraph.Goals as goal
 

@@ -4,7 +4,7 @@ use Rattle.testing_model.specs.Boxed.{unboxed}
 use Rattle.testing_model.specs.JudgedRows.{lent}
 use Rattle.testing_model.specs.declared.update.Offender.{Offender}
 use Rattle.testing_model.specs.Moves.{move_group, offender_of}
-use Rattle.testing_suites.specs.Present.{present_rows}
+use Rattle.testing_suites.specs.PresentSteps.{present_rows}
 use Rattle.testing_model.specs.Suite.{Suite}
 use Rattle.testing_suites.specs.Tried.{first_told}
 use Rattle.testing_suites.proofs.Alive.{failing, move_told}

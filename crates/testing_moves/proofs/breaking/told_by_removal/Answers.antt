@@ -1,7 +1,7 @@
 use Rattle.std.proofs.Common.{◌≡◌, ◌∙◌, sym, ap, subst, [], Option}
 use Rattle.testing_model.specs.declared.update.Offender.{Offender}
 use Rattle.testing_model.specs.Moves.{remove_source, offender_of}
-use Rattle.testing_suites.specs.Present.{present_rows}
+use Rattle.testing_suites.specs.PresentSteps.{present_rows}
 use Rattle.testing_model.specs.Suite.{Suite}
 use Rattle.testing_suites.specs.Tried.{first_told, IsWithin, Tells}
 use Rattle.testing_suites.proofs.Alive.{failing, removal_told}

@@ -3,7 +3,7 @@ use Rattle.testing_install.specs.Among.{after_change}
 use Rattle.testing_model.specs.Boxed.{unboxed}
 use Rattle.testing_suites.specs.AfterMoves.{moved_rows}
 use Rattle.testing_model.specs.JudgedRows.{lent}
-use Rattle.testing_suites.specs.Present.{IsLive, PoolState, present_rows}
+use Rattle.testing_suites.specs.PresentSteps.{IsLive, PoolState, present_rows}
 use Rattle.testing_model.specs.Suite.{Suite}
 use Rattle.testing_items.specs.Words.{Text}
 use Rattle.testing_suites.proofs.Alive.{move_live, move_stands}

@@ -2,7 +2,7 @@ use Rattle.std.proofs.Common.{◌≡◌, ◌∙◌, sym, ap, subst, List, []}
 use Rattle.testing_install.specs.Among.{after_change}
 use Rattle.testing_model.specs.declared.suite.RowIn.{RowIn}
 use Rattle.testing_suites.specs.AfterMoves.{rows_without}
-use Rattle.testing_suites.specs.Present.{IsLive, PoolState, present_rows}
+use Rattle.testing_suites.specs.PresentSteps.{IsLive, PoolState, present_rows}
 use Rattle.testing_model.specs.Suite.{Suite}
 use Rattle.testing_items.specs.Words.{Text}
 use Rattle.testing_suites.proofs.Alive.{removal_live, removal_stands}

@@ -5,7 +5,7 @@ use Rattle.std.specs.Option.{option_copied}
 use Rattle.testing_install.specs.Closed.{marked}
 use Rattle.testing_model.specs.declared.update.Offender.{Offender}
 use Rattle.testing_suites.specs.ArchRows.{ArchRows}
-use Rattle.testing_suites.specs.Present.{IsOn, IsSuiteOn}
+use Rattle.testing_suites.specs.PresentSteps.{IsOn, IsSuiteOn}
 use Rattle.testing_suites.specs.Tried.{told_on}
 use Rattle.testing_suites.specs.Trials.{IsFirstLost}
 use Rattle.testing_items.specs.Words.{Text}

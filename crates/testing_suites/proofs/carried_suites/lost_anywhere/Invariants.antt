@@ -1,7 +1,7 @@
 use Rattle.std.proofs.Common.{◌≡◌, ℕ, Bool, List, Option, ◌-◌}
 use Rattle.std.specs.List.{filter_map, range_with_len}
 use Rattle.testing_model.specs.Moves.{first_of}
-use Rattle.testing_suites.specs.Present.{AreSuites}
+use Rattle.testing_suites.specs.PresentSteps.{AreSuites}
 use Rattle.testing_suites.specs.Tried.{told_on, first_told, Tells}
 use Rattle.testing_items.specs.Words.{Text}
 use Rattle.testing_suites.proofs.carried_suites.lost_anywhere.Given as goal

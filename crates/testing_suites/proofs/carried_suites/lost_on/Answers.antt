@@ -5,7 +5,7 @@ use Rattle.std.specs.Option.{option_copied}
 use Rattle.std.proofs.lemmas.Option.{slice_get-get_or, same_Some}
 use Rattle.testing_install.specs.Closed.{marked}
 use Rattle.testing_suites.specs.ArchRows.{ArchRows}
-use Rattle.testing_suites.specs.Present.{IsOn, IsSuiteOn}
+use Rattle.testing_suites.specs.PresentSteps.{IsOn, IsSuiteOn}
 use Rattle.testing_suites.specs.Trials.{IsFirstLost}
 use Rattle.testing_items.specs.Words.{Text}
 use Rattle.testing_items.proofs.Weaker.{if_ok_weaker}

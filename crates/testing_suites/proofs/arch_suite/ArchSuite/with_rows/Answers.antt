@@ -3,7 +3,7 @@ use Rattle.std.specs.List.{All}
 use Rattle.testing_install.specs.Rows.{shared}
 use Rattle.testing_install.proofs.Sharing.{length-shared}
 use Rattle.testing_suites.specs.ArchRows.{ArchRows, package_at}
-use Rattle.testing_suites.specs.Present.{IsOver, IsSuiteOn}
+use Rattle.testing_suites.specs.PresentSteps.{IsOver, IsSuiteOn}
 use Rattle.testing_suites.proofs.MorePlaces.{places_behind, over_longer, part_longer, suite_longer}
 use Rattle.testing_suites.proofs.arch_suite.ArchSuite.with_rows.Goals as goal
 

@@ -2,7 +2,7 @@ use Rattle.std.proofs.Common.{subst}
 use Rattle.testing_suites.specs.AfterMoves.{rows_at}
 use Rattle.testing_model.specs.InOrder.{AreByKey}
 use Rattle.testing_model.specs.JudgedRows.{lent}
-use Rattle.testing_suites.specs.Present.{set_places}
+use Rattle.testing_suites.specs.PresentSteps.{set_places}
 use Rattle.testing_suites.proofs.OneSort.{puts-in_order}
 use Rattle.testing_suites.proofs.carried_suites.CarriedSuites.rows.Goals as goal
 

@@ -5,7 +5,8 @@ use Rattle.testing_suites.specs.AfterMoves.{rows_at}
 use Rattle.testing_model.specs.JudgedRows.{lent}
 use Rattle.testing_suites.specs.Pools.{HasPlaces}
 use Rattle.testing_model.specs.SameMessages.{SameElements}
-use Rattle.testing_suites.specs.Present.{CarriedState, set_places}
+use Rattle.testing_suites.specs.Present.{CarriedState}
+use Rattle.testing_suites.specs.PresentSteps.{set_places}
 use Rattle.testing_suites.proofs.Flags.{bounded_filter}
 use Rattle.testing_suites.proofs.Merging.{same_places}
 use Rattle.testing_model.proofs.Sets.{same-given}

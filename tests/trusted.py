@@ -1,0 +1,299 @@
+#!/usr/bin/env python3
+"""Computes which definitions of crates/*/specs a reader must believe: those that a public contract reaches.
+
+usage: trusted.py [TOP] [--list | --check | --twice | --why=NAME]
+
+A public contract is what a caller from outside reads of an item that lib.rt passes on as `pub`, also by `pub use` of
+another crate: a function with its `requires` and `ensures`, a trait, the fields of a type, what its `impl Model` and
+other impls say of it, its invariant, and its `pub` methods. From their words it goes on, by `ghost use` and `use`, to
+definitions and all that these name, and to what contracts see of types. All others are steps: they serve the proofs.
+It counts lines without comments, blank ones and `use`, twice: from the items of the crates that users call (USERS),
+which decides what is a step, and from the `pub` items of every crate.
+  TOP         the top of the repository (the one that this file is in)
+  --list      each definition, its lines, and whether it is believed, a step, or a step that contracts of a crate cite
+  --check     a line for each file whose first line says falsely what it is; status 1 if there is one
+  --twice     the definitions that stand in two crates under one name with one text
+  --why=NAME  what names each definition of this name, back to a public contract
+"""
+import re
+import sys
+from collections import defaultdict
+from pathlib import Path
+
+USERS = ['deb_version', 'deb_control', 'testing_install', 'testing_rules', 'office_mail', 'office_store',
+         'office_http', 'office_words', 'office_commands', 'office']
+STEPS = '-- Steps: no contract of a call that users make rests on this file.'
+CLAUSE = re.compile(r'\b(requires|ensures|before)\b\s*[\w-]*\s*$')
+ITEM = re.compile(r'(?P<pub>pub(?:\([a-z]+\))?\s+)?(?P<ghost>ghost\s+)?(?:unsafe\s+)?(?:const\s+(?=fn\b))?(?:(?P<kind>'
+                  r'use|mod|fn|struct|enum|trait|type|const|static|impl)\b\s*|(?P<value>\w+)\s*[=:]\s*(?=\{))')
+WORD = re.compile(r"(?<![\w.'-])[^\W\d][\w'-]*(?:\.[\w'-]+)?")
+SIGNATURE = re.compile(r'(?:(?:pub|abbrev|unfoldable|record|data) )*(?P<name>[^\s(){}]+)(?: \(.*?\)| \{.*?\})* :( |$)')
+
+def close(text, start):
+    """The place behind the bracket that closes the one at start."""
+    depth = 0
+    for found in re.compile(r'[][(){}]').finditer(text, start):
+        depth += 1 if found[0] in '([{' else -1
+        if depth == 0:
+            return found.end()
+    raise ValueError('an open bracket: ' + text[start:start + 80])
+
+def parts(text):
+    """The text cut at the commas that stand in no bracket."""
+    found, depth = [''], 0
+    for c in text:
+        depth += (c in '([{') - (c in ')]}')
+        found = found + [''] if c == ',' and depth == 0 else found[:-1] + [found[-1] + c]
+    return [p.strip() for p in found if p.strip()]
+
+def code(text):
+    """A source without comments and without the insides of strings and characters."""
+    return re.sub(r'(?s)//[^\n]*|"(?:\\.|[^"\\])*"|\'(?:\\.[^\']*|[^\\\'\n])\'',
+                  lambda m: '' if m[0].startswith('//') else '0', text)
+
+def rust_paths(path):
+    """a::{b, c as d} as pairs of a path and the name that it gets."""
+    path = ' '.join(path.split())
+    if path.endswith('}'):
+        front, inner = path[:-1].split('{', 1)
+        return [pair for part in parts(inner) for pair in rust_paths(front + part)]
+    path, _, alias = path.removesuffix('::self').partition(' as ')
+    return [(path.split('::'), alias or path.split('::')[-1])]
+
+def words_of(text):
+    """The words that may name something: no field, and nothing that the text binds itself."""
+    text = re.sub(r'(?m)^\s+(?:pub )?[\w-]+ :', ' :', text)
+    text = re.sub(r'([{;]\s*)[\w-]+ = ', r'\1', text)
+    binders = re.findall(r"[({]((?:[\w'-]+ )+): |λ ((?:[\w'-]+ ?)+)\.", text)
+    bound = {w for names in binders for w in ' '.join(names).split()}
+    return {w for w in WORD.findall(text) if w.split('.')[0] not in bound}
+
+class Place:
+    """What the words of a file mean: the names and the files that its use lines bring in."""
+    def __init__(self, crate, path):
+        self.crate, self.path, self.names, self.files = crate, path, defaultdict(set), {}
+    def use(self, line):
+        """Rattle.CRATE.specs.FILE.{a, b as c}, or Rattle.CRATE.specs.FILE as d"""
+        found = re.match(r'Rattle\.(\w+)\.specs\.([\w.]+?)(?:\.\{(.*)\}|(?: as (\w+))?);?$', line)
+        if found:
+            path = (found[1], *found[2].split('.'))
+            for name, alias in re.findall(r'([^\s,]+)(?: as ([^\s,]+))?', found[3] or ''):
+                self.names[alias or name].add(path + (name,))
+            self.files[found[4]] = path
+
+class Item:
+    """What a caller reads of a function, a type, a trait, a constant or an impl."""
+    def __init__(self, module, kind, name, public, head, body):
+        self.module, self.kind, self.name, self.public, self.head, self.body = module, kind, name, public, head, body
+        self.inner, self.ghosts = [], []
+
+class Module(Place):
+    """A source file: its items, impls, modules and `use` lines."""
+    def __init__(self, crate, path, text):
+        super().__init__(crate, path)
+        self.items, self.impls, self.mods, self.uses = {}, [], {}, []
+        self.parse(code(text), None)
+    def parse(self, text, inside):
+        """Takes the items of a file, or those inside a trait or an impl."""
+        k = 0
+        while text[k:].strip():
+            k = re.compile(r'\s*').match(text, k).end()
+            found = ITEM.match(text, k)
+            if found and found['kind']:
+                end, body = self.end(text, found.end(), found['kind'])
+                self.add(found, text[found.end():body], text[body:end], inside)
+            elif found:
+                end = close(text, found.end())
+                inside.ghosts.append((found['value'], text[found.end():end]))
+            else:
+                end = close(text, text.index('[', k)) if text[k] == '#' else self.end(text, k, 'mod')[0]
+            k = end
+    def end(self, text, k, kind):
+        """Where the item ends, and where its body in braces starts."""
+        start = k
+        while k < len(text) and text[k] not in ';':
+            if text[k] == '{' and kind not in ('use', 'const', 'static', 'type') and not CLAUSE.search(text[start:k]):
+                return close(text, k), k
+            k = close(text, k) if text[k] in '([{' else k + 1
+        return k + 1, k + 1
+    def add(self, found, head, body, inside):
+        kind, public, name = found['kind'], (found['pub'] or '').strip() == 'pub', re.match(r'\w*', head)[0]
+        item = Item(self, kind, name, public, head, body)
+        if kind == 'use' and found['ghost']:
+            self.use(head.strip())
+        elif kind == 'use':
+            self.uses += [(path, name, public) for path, name in rust_paths(head.rstrip(';'))]
+        elif kind == 'mod':
+            self.mods[name] = public
+        elif kind == 'impl':
+            plain = head.replace('->', '')
+            while '<' in plain:
+                plain = re.sub(r'<[^<>]*>', '', plain)
+            item.trait, item.of = re.match(r'(?:([\w:]+) for )?([\w:]*)', plain.strip()).groups()
+            self.impls.append(item)
+        elif inside:
+            inside.inner.append(item)
+        else:
+            self.items[name] = item
+        if kind in ('trait', 'impl'):
+            self.parse(body[1:-1], item)
+
+class Definition:
+    """A definition with its comment."""
+    def __init__(self, file, name, lines):
+        self.file, self.name, self.lines = file, name, lines
+        self.text = '\n'.join(l for l in lines if l.strip() and not l.lstrip().startswith('--'))
+        self.count = len(self.text.split('\n'))
+
+class File(Place):
+    """A file of definitions: its head, its use lines and its definitions in order, each with its comment."""
+    def __init__(self, crate, path, text):
+        super().__init__(crate, path)
+        self.uses, self.definitions, self.label = [], [], f"crates/{crate}/specs/{'/'.join(path)}.antt"
+        lines, chunk, named = text.rstrip('\n').split('\n'), [], None
+        k = next((k for k, line in enumerate(lines) if not line.startswith('--')), len(lines))
+        self.head = lines[:k]
+        for line in lines[k:] + ['--']:
+            if re.match(r'(pub )?use ', line):
+                self.uses.append(line)
+                self.use(line.removeprefix('pub ').removeprefix('use '))
+                continue
+            starts = SIGNATURE.match(line) if line[:1].strip() and not line.startswith('--') else None
+            if named and (starts or line.startswith(('--', 'infix'))):
+                self.definitions.append(Definition(self, named, chunk))
+                chunk, named = [], None
+            named = starts['name'] if starts else named
+            chunk.append(line)
+
+class Tree:
+    """The crates of a repository, and which definitions their contracts reach."""
+    def __init__(self, top):
+        self.crates = re.findall(r'(?m)^(\w+).*?:', (Path(top) / 'crates.txt').read_text())
+        self.modules, self.files, self.passed, self.impls = {}, {}, {}, defaultdict(list)
+        for crate in self.crates:
+            src, specs = Path(top) / 'crates' / crate / 'src', Path(top) / 'crates' / crate / 'specs'
+            self.read_modules(crate, (), src, 'lib.rt' if (src / 'lib.rt').exists() else 'main.rt')
+            for file in sorted(specs.rglob('*.antt')):
+                path = file.relative_to(specs).with_suffix('').parts
+                self.files[(crate, *path)] = File(crate, path, file.read_text())
+            lib = self.files.pop((crate, 'Lib'), None)
+            for use in lib.uses if lib else []:
+                path = tuple(use.removeprefix('pub use Rattle.').split('.'))
+                self.passed[crate, path[-1]] = (path[0],) + path[2:]
+        self.named = {(f.crate, *f.path, d.name): d for f in self.files.values() for d in f.definitions}
+        for item in (item for module in self.modules.values() for item in module.impls):
+            self.impls[self.find(item.module, item.of.split('::'))].append(item)
+    def read_modules(self, crate, path, src, file):
+        module = self.modules[crate, path] = Module(crate, path, (src / file).read_text())
+        for name in module.mods:
+            self.read_modules(crate, path + (name,), src, '/'.join(path + (name,)) + '.rt')
+    def find(self, module, path, depth=0):
+        """The item or module that a path names in a module, if this repository has it."""
+        name, below, found = path[0], (module.crate, module.path + (path[0],)), None
+        if name in ('crate', 'self', 'super'):
+            found = self.modules[module.crate, {'crate': (), 'self': module.path, 'super': module.path[:-1]}[name]]
+        elif below in self.modules or name in module.items:
+            found = self.modules.get(below) or module.items[name]
+        else:
+            for use, alias, _ in module.uses if depth < 20 else []:
+                if alias in (name, '*'):
+                    found = found or self.find(module, use if alias == name else use[:-1] + [name], depth + 1)
+            found = found or self.modules.get((name, ()))
+        return self.find(found, path[1:], depth + 1) if path[1:] and isinstance(found, Module) else found
+    def surface(self, crate):
+        """The items that a caller of a crate can name; of a program all that its modules offer each other."""
+        todo, seen = [self.modules.get((crate, ()))], set()
+        while todo:
+            at = todo.pop()
+            if isinstance(at, Module) and at not in seen:
+                todo += [item for item in at.items.values() if item.public]
+                program = 'main' in self.modules[at.crate, ()].items
+                todo += [self.find(at, [n]) for n, public in at.mods.items() if public or program]
+                todo += [self.find(at, path) for path, _, public in at.uses if public]
+            seen.add(at)
+        return {item for item in seen if isinstance(item, Item)}
+    def said(self, item, public):
+        """What a caller reads of an item, and what contracts see of a type that no caller can name."""
+        impls = [i for i in self.impls[item] if self.find(i.module, (i.trait or 'Self').split('::')) in public | {None}]
+        yield item.module, item.head
+        view = ' '.join(text for i in impls if i.trait == 'Model' for name, text in i.ghosts if name == 'view')
+        for field in parts(item.body[1:-1]) if item.kind in ('struct', 'enum') else []:
+            name = re.sub(r'(?s)#\[.*?\]|\bpub\b', '', field).split(':')[0].strip()
+            if not view or item.kind == 'enum' or re.search(rf'\.{name}\b', view):
+                yield item.module, field
+        for part in impls + [item] * (item.kind == 'trait'):
+            yield from ((part.module, text) for name, text in part.ghosts if name != 'invariant' or item in public)
+            yield from ((part.module, f.head) for f in part.inner
+                        if item in public and (f.public or part.kind == 'trait' or part.trait))
+    def believed(self, crates):
+        """The definitions that the public contracts of these crates reach, each with what names it."""
+        public = set().union(*(self.surface(crate) for crate in crates))
+        reached, todo = {None: None}, [(i, None) for i in sorted(public, key=lambda i: (i.module.crate, i.name))]
+        for at, why in todo:
+            if at in reached:
+                continue
+            reached[at] = why
+            for place, text in [(at.file, at.text)] if isinstance(at, Definition) else self.said(at, public):
+                marks = [n for n in [*place.names] + [d.name for d in getattr(place, 'definitions', [])] if '◌' in n]
+                words = words_of(text) | {n for n in marks if all(p in text for p in n.split('◌'))}
+                todo += [(found, at) for word in sorted(words) for found in self.meant(place, word)]
+        return {at: why for at, why in reached.items() if isinstance(at, Definition)}
+    def meant(self, place, word):
+        """The definitions and the types that a word in a file means."""
+        first, _, second = (word, '', '') if '◌' in word else word.partition('.')
+        paths = [*place.names.get(first, ())] + [place.files[a] + (second,) for a in place.files if a == first]
+        if isinstance(place, File):
+            paths.append((place.crate, *place.path, first))
+        else:
+            item = self.find(place, [first])
+            yield item if isinstance(item, Item) and item.kind in ('struct', 'enum', 'trait', 'type') else None
+        for path in paths:
+            path = self.passed.get(path[:2], path[:2]) + path[2:]
+            if path[1] in ('declared', 'contracts') and (path[0], ()) in self.modules and path[2:]:
+                at = self.find(self.modules[path[0], ()], path[2:])
+                yield at if isinstance(at, Item) else None
+            yield next((self.named[path[:k]] for k in range(len(path), 2, -1) if path[:k] in self.named), None)
+
+def head_fault(file, believed):
+    """What the first line of a file says falsely."""
+    first, steps = (file.head or [''])[0], not any(d in believed for d in file.definitions)
+    if steps != (first == STEPS):
+        return f'{"no contract" if steps else "a contract"} of users rests on it, and its first line says otherwise'
+    return '' if first else 'its first line does not say what it defines'
+
+def twice(tree):
+    """The definitions that stand in two crates, each with the files that have it."""
+    same = defaultdict(set)
+    for d in tree.named.values():
+        same[d.name, ' '.join(d.text.split())].add(d.file.label)
+    return sorted(' '.join([name + ':', *sorted(labels)]) for (name, _), labels in same.items() if len(labels) > 1)
+
+def trail(at, believed):
+    """A definition, what names it, and so on back to a public contract."""
+    return (f'{at.name} ({at.file.label}), named by {trail(believed[at], believed)}' if isinstance(at, Definition)
+            else f"the contract of {at.name} ({'::'.join((at.module.crate, *at.module.path))})")
+
+def table(tree, users, every):
+    """The lines of each crate, and of all."""
+    yield 'lines of definitions: in all, believed, steps; by the contracts of every crate: believed, steps'
+    for crate in tree.crates + ['all']:
+        found = [d for f in tree.files.values() if crate in (f.crate, 'all') for d in f.definitions]
+        whole, narrow, wide = (sum(d.count for d in found if d in s) for s in (found, users, every))
+        if whole:
+            yield f'{crate:16}{whole:7}{narrow:7}{whole - narrow:7}{wide:12}{whole - wide:7}'
+
+def main():
+    option, _, name = next((a for a in sys.argv[1:] if a.startswith('--')), '').partition('=')
+    tops = [a for a in sys.argv[1:] if not a.startswith('--')] + [Path(__file__).resolve().parents[1]]
+    tree = Tree(tops[0])
+    users, every = tree.believed(USERS), tree.believed(tree.crates)
+    faults = [f'{f.label}: {head_fault(f, users)}' for f in tree.files.values() if head_fault(f, users)]
+    kinds = {d: 'believed' if d in users else 'cited step' if d in every else 'step' for d in tree.named.values()}
+    lines = {'': lambda: table(tree, users, every), '--check': lambda: faults, '--twice': lambda: twice(tree),
+             '--list': lambda: (f'{d.file.label}\t{d.name}\t{d.count}\t{kind}' for d, kind in kinds.items()),
+             '--why': lambda: (trail(d, users) for d in users if d.name == name)}
+    sys.stdout.writelines(f'{line}\n' for line in lines[option]())
+    sys.exit(option == '--check' and bool(faults))
+
+if __name__ == '__main__':
+    main()
