@@ -1,0 +1,19 @@
+-- What a keeper over tables answers where they give up.
+use Rattle.std.specs.Prelude.{Result, Ok, Err}
+use Rattle.office_keeper.specs.declared.faults.KeepCause.TheVariants as cause
+use Rattle.office_keeper.specs.declared.faults.KeepFault.{KeepFault}
+use Rattle.office_keeper.specs.declared.faults.KeepFault.TheVariants as keep
+use Rattle.office_store.specs.declared.faults.Cause.TheVariants.{Sqlite, BadRow}
+use Rattle.office_store.specs.declared.faults.TableFault.{TableFault}
+use Rattle.office_store.specs.declared.faults.TableFault.TheVariants.{NoMemory, Store}
+
+-- a fault of the tables as that of a keeper, which doesn't tell why sqlite refused
+abbrev pub keep_fault : TableFault → KeepFault
+keep_fault NoMemory = keep.NoMemory
+keep_fault (Store (Sqlite error)) = keep.Store cause.Failed
+keep_fault (Store BadRow) = keep.Store cause.BadRow
+
+-- an answer of the tables as that of a keeper
+abbrev pub keeper_answer : {T : Type 0} → Result T TableFault → Result T KeepFault
+keeper_answer (Ok value) = Ok value
+keeper_answer (Err fault) = Err (keep_fault fault)
