@@ -10,7 +10,7 @@ use Rattle.office_keeper.specs.declared.faults.KeepFault.TheVariants as keep
 use Rattle.office_store.specs.declared.faults.TableFault.{TableFault}
 use Rattle.office_store.specs.declared.faults.TableFault.TheVariants.{NoMemory, Store}
 use Rattle.office_store.specs.declared.faults.Cause.TheVariants.{Sqlite, BadRow}
-use Rattle.office_store.specs.TableFaults.{keep_fault, keeper_answer}
+use Rattle.office_store.specs.TableFaults.{keeper_answer}
 use Rattle.office_store.specs.TableContent.{content_in, count_said}
 use Rattle.office_store.specs.Legible.{IsLegible}
 use Rattle.office_store.specs.Tables.{Same, run_map, said_in}

@@ -5,7 +5,7 @@ ghost use Rattle.sqlite.specs.Held.{state};
 ghost use Rattle.sqlite.specs.State.{HasCleanDisk};
 ghost use Rattle.office_store.specs.TableContent.{content_in};
 ghost use Rattle.office_store.specs.Legible.{IsLegible};
-ghost use Rattle.office_store.specs.TableFaults.{keep_fault, keeper_answer};
+ghost use Rattle.office_store.specs.TableFaults.{keep_cause, keep_fault, keeper_answer};
 ghost use Rattle.office_store.specs.Tables.{IsTrusted, IsOurs};
 ghost use Rattle.office_keeper.specs.Keeping.{Counted};
 
@@ -43,14 +43,23 @@ impl<S: Alter> Model for Tables<S> {
     ghost invariant = { λ t. IsTrusted (state S.Store t.conn) → IsOurs (state S.Store t.conn) };
 }
 
+/// Why the tables refused, as a keeper tells it.
+fn keep_cause(cause: Cause) -> KeepCause
+    ensures { result ≡ keep_cause cause }
+{
+    match cause {
+        Cause::Sqlite(_) => KeepCause::Failed,
+        Cause::BadRow => KeepCause::BadRow,
+    }
+}
+
 /// A fault of the tables, as that of a keeper.
 fn keep_fault(fault: TableFault) -> KeepFault
     ensures { result ≡ keep_fault fault }
 {
     match fault {
         TableFault::NoMemory => KeepFault::NoMemory,
-        TableFault::Store(Cause::Sqlite(_)) => KeepFault::Store(KeepCause::Failed),
-        TableFault::Store(Cause::BadRow) => KeepFault::Store(KeepCause::BadRow),
+        TableFault::Store(cause) => KeepFault::Store(keep_cause(cause)),
     }
 }
 
