@@ -5,7 +5,7 @@ use Rattle.office_mail.specs.declared.message.RunOrder.{RunOrder}
 use Rattle.office_mail.specs.Lists.{Lists}
 use Rattle.office_mail.specs.Kept.{Kept, Place, Within}
 use Rattle.office_mail.proofs.RunFacts.{order_at-later, orders_to-later}
-use Rattle.office_store.specs.Content.{Content}
+use Rattle.office_keeper.specs.Content.{Content}
 use Rattle.office_http.specs.Ready.{FirstOrders, IsCounted}
 use Rattle.office_http.proofs.ReadyCount.{orders_to-zero}
 

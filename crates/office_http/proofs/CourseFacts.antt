@@ -11,7 +11,7 @@ use Rattle.office_http.specs.declared.faults.StoreFault.{StoreFault}
 use Rattle.office_http.specs.declared.replies.Delivery.{Delivery}
 use Rattle.office_http.specs.Standing.{State}
 use Rattle.office_http.specs.State.{state_of}
-use Rattle.office_store.specs.declared.keeping.Keeper.{Ghosts}
+use Rattle.office_keeper.specs.declared.keeping.Keeper.{Ghosts}
 use Rattle.office_http.specs.declared.replays.Replayed.{Replayed}
 use Rattle.office_http.specs.Written.{AppendsFront}
 use Rattle.office_http.specs.Output.{Marks, output}

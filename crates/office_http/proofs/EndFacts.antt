@@ -9,7 +9,7 @@ use Rattle.office_mail.specs.Runs.{IsReadyCount}
 use Rattle.office_http.specs.declared.faults.Progress.{Progress}
 use Rattle.office_http.specs.declared.faults.StoreFault.{StoreFault}
 use Rattle.office_http.specs.declared.faults.StoreFault.TheVariants.{NoMemory, Store}
-use Rattle.office_store.specs.declared.values.Reports.{Reports}
+use Rattle.office_keeper.specs.declared.values.Reports.{Reports}
 use Rattle.office_mail.specs.Lists.{Lists}
 use Rattle.office_mail.specs.Kept.{Kept}
 use Rattle.office_http.specs.Standing.{State}

@@ -10,10 +10,10 @@ use Rattle.office_mail.specs.Lists.{Lists}
 use Rattle.office_mail.specs.Kept.{Kept}
 use Rattle.office_mail.specs.Runs.{orders_to, latest_day, IsReady, IsReadyCount}
 use Rattle.office_mail.proofs.RunFacts.{IsReady-before}
-use Rattle.office_store.specs.declared.values.Reports.{Reports}
-use Rattle.office_store.specs.declared.values.Finished.{Finished}
-use Rattle.office_store.specs.Content.{Content, item_from_one, reports_in, with_run}
-use Rattle.office_store.specs.Given.{AreOwnTexts}
+use Rattle.office_keeper.specs.declared.values.Reports.{Reports}
+use Rattle.office_keeper.specs.declared.values.Finished.{Finished}
+use Rattle.office_keeper.specs.Content.{Content, item_from_one, reports_in, with_run}
+use Rattle.office_keeper.specs.Given.{AreOwnTexts}
 use Rattle.office_http.specs.State.{IsOffice, reports_at}
 use Rattle.testing_rules.specs.Watched.{AllWatchedWork}
 use Rattle.office_http.specs.Outcome.{Testing, covered_items, outcome, outcome_on, outcome_of, reports_of, reports_to, testing_after}

@@ -1,7 +1,7 @@
 -- Calls on a store one after another.
 use Rattle.std.proofs.Common.{◌≤◌, ◌⊎◌, inl, inr, ℕ, Bool, true, Result, Ok, Err, OnOk, is_ok, refl, arith}
-use Rattle.office_store.specs.Keeping.{HasRisen}
-use Rattle.office_store.specs.declared.keeping.Keeper.{Ghosts}
+use Rattle.office_keeper.specs.Keeping.{HasRisen}
+use Rattle.office_keeper.specs.declared.keeping.Keeper.{Ghosts}
 use Rattle.office_http.specs.Lasting.{Lasts}
 
 -- a count that rose later rose

@@ -6,9 +6,9 @@ use Rattle.office_mail.specs.Laws.{SameTexts}
 use Rattle.office_mail.specs.Lists.{Lists}
 use Rattle.office_mail.specs.Runs.{IsReadyCount}
 use Rattle.office_mail.proofs.LawFacts.{same_kept_from}
-use Rattle.office_store.specs.Content.{Content, item_from_one}
-use Rattle.office_store.specs.declared.values.Finished.{Finished}
-use Rattle.office_store.specs.declared.values.Reports.{Reports}
+use Rattle.office_keeper.specs.Content.{Content, item_from_one}
+use Rattle.office_keeper.specs.declared.values.Finished.{Finished}
+use Rattle.office_keeper.specs.declared.values.Reports.{Reports}
 use Rattle.office_http.specs.Laws.{RunsStand, TookTexts}
 use Rattle.office_http.specs.Outcome.{outcome_of, reports_of, reports_to, testing_after}
 use Rattle.office_http.specs.State.{IsOffice}

@@ -6,8 +6,8 @@ use Rattle.std.specs.FinMap.{get}
 use Rattle.testing_rules.specs.Covered.{Covered}
 use Rattle.office_mail.specs.Lists.{Lists}
 use Rattle.office_mail.specs.Kept.{Kept}
-use Rattle.office_store.specs.declared.values.Letter.{Letter}
-use Rattle.office_store.specs.Content.{letter_at, letters_within}
+use Rattle.office_keeper.specs.declared.values.Letter.{Letter}
+use Rattle.office_keeper.specs.Content.{letter_at, letters_within}
 use Rattle.office_http.specs.Outcome.{item_at}
 use Rattle.office_http.specs.Ready.{HasNumbers, GoesOn}
 use Rattle.office_http.specs.Walk.{said_by, said_in}

@@ -1,6 +1,6 @@
 -- Calls that only ask a store, one after another.
 use Rattle.std.proofs.Common.{Bool, true, Ok, ◌∙◌, refl}
-use Rattle.office_store.specs.declared.keeping.Keeper.{Ghosts}
+use Rattle.office_keeper.specs.declared.keeping.Keeper.{Ghosts}
 use Rattle.office_http.specs.Looking.{Looks}
 use Rattle.office_http.proofs.LastFacts.{lasts_none, lasts_then}
 

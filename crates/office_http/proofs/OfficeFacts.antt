@@ -12,16 +12,16 @@ use Rattle.office_mail.proofs.RunFacts.{IsReady-zero}
 use Rattle.office_http.specs.declared.faults.DeliverFault.{DeliverFault}
 use Rattle.office_http.specs.declared.faults.DeliverFault.TheVariants.{Mail}
 use Rattle.office_http.specs.declared.faults.Held.{Held}
-use Rattle.office_store.specs.Content.{Content, no_content, reports_in, with_text}
-use Rattle.office_store.specs.Given.{AreOwnTexts}
+use Rattle.office_keeper.specs.Content.{Content, no_content, reports_in, with_text}
+use Rattle.office_keeper.specs.Given.{AreOwnTexts}
 use Rattle.office_http.specs.State.{IsOffice, AnswersDelivery, answer_to, answer_by, answer_at}
 use Rattle.office_mail.specs.declared.message.RunOrder.{RunOrder}
 use Rattle.office_mail.specs.Lists.{Lists}
 use Rattle.office_mail.specs.Kept.{Kept, Place, Within}
 use Rattle.office_mail.specs.Runs.{orders_to, latest_day, IsReady}
 use Rattle.office_mail.proofs.RunFacts.{orders_to-later, covered-later, IsReady-before, IsReady-later}
-use Rattle.office_store.specs.declared.values.Reports.{Reports}
-use Rattle.office_store.specs.declared.values.Finished.{Finished}
+use Rattle.office_keeper.specs.declared.values.Reports.{Reports}
+use Rattle.office_keeper.specs.declared.values.Finished.{Finished}
 use Rattle.std.specs.FinMap.{entries}
 use Rattle.std.specs.List.{filter_map}
 use Rattle.testing_rules.specs.Watched.{AllWatchedWork}

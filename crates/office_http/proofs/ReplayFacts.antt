@@ -27,8 +27,8 @@ use Rattle.office_http.specs.Delivered.{DeliversOne, DeliversOneFront, Settles}
 use Rattle.office_http.specs.Standing.{State}
 use Rattle.office_http.specs.Replies.{reply_line}
 use Rattle.office_http.specs.Written.{AppendsFront}
-use Rattle.office_store.specs.Content.{Content}
-use Rattle.office_store.specs.declared.keeping.Keeper.{Ghosts}
+use Rattle.office_keeper.specs.Content.{Content}
+use Rattle.office_keeper.specs.declared.keeping.Keeper.{Ghosts}
 use Rattle.std.proofs.lemmas.Result.{on_err_weaker}
 use Rattle.std.specs.Io.KnownBytes.{Appends}
 use Rattle.office_http.proofs.CarryFacts.{risen, risen_delivery}

@@ -12,8 +12,8 @@ use Rattle.testing_rules.specs.Updates.{update_of, IsUpdate}
 use Rattle.office_mail.specs.Lists.{Lists}
 use Rattle.testing_rules.specs.FactLists.{FactLists}
 use Rattle.testing_rules.specs.StandsFor.{StandsFor}
-use Rattle.office_store.specs.declared.values.Finished.{Finished}
-use Rattle.office_store.specs.Content.{Content}
+use Rattle.office_keeper.specs.declared.values.Finished.{Finished}
+use Rattle.office_keeper.specs.Content.{Content}
 use Rattle.office_http.specs.Ready.{FirstOrders}
 use Rattle.office_http.specs.State.{IsOffice}
 use Rattle.office_http.specs.Walk.{said_within}

@@ -4,7 +4,7 @@ use Rattle.office_mail.specs.Kept.{Kept, Within, kept_from}
 use Rattle.office_mail.specs.Lists.{Lists}
 use Rattle.office_mail.specs.Reading.{Reading}
 use Rattle.office_mail.proofs.KeptFacts.{kept_from-Within}
-use Rattle.office_store.specs.declared.keeping.Keeper.{Ghosts}
+use Rattle.office_keeper.specs.declared.keeping.Keeper.{Ghosts}
 use Rattle.office_http.specs.declared.faults.StoreFault.{StoreFault}
 use Rattle.office_http.specs.declared.replays.Replayed.{Replayed}
 use Rattle.office_http.specs.declared.replies.Delivery.{Delivery}

@@ -1,8 +1,8 @@
 -- The texts at the end of a replay, as calls on an office answer them one after another.
 use Rattle.std.proofs.Common.{◌≡◌, ℕ, ◌≤◌, List, Option, Result, IfOk, subst}
 use Rattle.std.specs.Option.{option_map}
-use Rattle.office_store.specs.declared.keeping.Keeper.{Ghosts}
-use Rattle.office_store.specs.declared.values.Reports.{Reports}
+use Rattle.office_keeper.specs.declared.keeping.Keeper.{Ghosts}
+use Rattle.office_keeper.specs.declared.values.Reports.{Reports}
 use Rattle.office_http.specs.declared.faults.StoreFault.{StoreFault}
 use Rattle.office_http.specs.Carried.{Asks, Holds, StoreRefused}
 use Rattle.office_http.specs.Counted.{Counted}

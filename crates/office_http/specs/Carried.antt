@@ -1,7 +1,7 @@
 -- What a call on an office leaves of what is known of its store.
 use Rattle.std.specs.Prelude.{◌≡◌, ℕ, ◌≤◌, false, min}
-use Rattle.office_store.specs.Keeping.{HasRisen, most}
-use Rattle.office_store.specs.declared.keeping.Keeper.{Ghosts}
+use Rattle.office_keeper.specs.Keeping.{HasRisen, most}
+use Rattle.office_keeper.specs.declared.keeping.Keeper.{Ghosts}
 use Rattle.office_http.specs.Lasting.{Lasts}
 use Rattle.office_http.specs.State.{IsSound}
 

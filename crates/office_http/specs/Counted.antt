@@ -1,8 +1,8 @@
 -- How the refusals of a store are counted.
 use Rattle.std.specs.Prelude.{◌≡◌, ℕ, Result, Ok, Err}
-use Rattle.office_store.specs.Keeping.{HasRisen}
-use Rattle.office_store.specs.declared.faults.KeepFault.{KeepFault}
-use Rattle.office_store.specs.declared.faults.KeepFault.TheVariants as keep
+use Rattle.office_keeper.specs.Keeping.{HasRisen}
+use Rattle.office_keeper.specs.declared.faults.KeepFault.{KeepFault}
+use Rattle.office_keeper.specs.declared.faults.KeepFault.TheVariants as keep
 use Rattle.office_mail.specs.declared.message.MailFault.TheVariants as mail
 use Rattle.office_http.specs.declared.faults.StoreFault.{StoreFault}
 use Rattle.office_http.specs.declared.faults.StoreFault.TheVariants.{NoMemory, Store}

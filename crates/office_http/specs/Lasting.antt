@@ -1,7 +1,7 @@
 -- When a store stays trusted.
 use Rattle.std.specs.Prelude.{◌≡◌, ◌≤◌, ◌⊎◌, Bool, true}
-use Rattle.office_store.specs.Keeping.{HasRisen}
-use Rattle.office_store.specs.declared.keeping.Keeper.{Ghosts}
+use Rattle.office_keeper.specs.Keeping.{HasRisen}
+use Rattle.office_keeper.specs.declared.keeping.Keeper.{Ghosts}
 
 -- A call leaves a clean store trusted where it was trusted and the call went well, and otherwise unless the disk failed.
 -- No call makes a store clean, and no failure of the disk is forgotten.

@@ -4,8 +4,8 @@ use Rattle.std.specs.FinMap.{empty}
 use Rattle.office_mail.specs.Kept.{kept_from}
 use Rattle.office_mail.specs.Laws.{OneText}
 use Rattle.office_mail.specs.Lists.{Lists}
-use Rattle.office_store.specs.Content.{Content}
-use Rattle.office_store.specs.declared.values.Reports.{Reports}
+use Rattle.office_keeper.specs.Content.{Content}
+use Rattle.office_keeper.specs.declared.values.Reports.{Reports}
 use Rattle.office_http.specs.State.{IsOffice}
 
 -- an office that kept what these deliveries leave, of which no sender gives one number two texts

@@ -1,6 +1,6 @@
 -- What a call leaves that only asks a store.
 use Rattle.std.specs.Prelude.{◌≡◌, Result, is_ok}
-use Rattle.office_store.specs.declared.keeping.Keeper.{Ghosts}
+use Rattle.office_keeper.specs.declared.keeping.Keeper.{Ghosts}
 use Rattle.office_http.specs.declared.faults.StoreFault.{StoreFault}
 use Rattle.office_http.specs.Counted.{Counted}
 use Rattle.office_http.specs.Lasting.{Lasts}

@@ -18,9 +18,9 @@ use Rattle.office_mail.specs.Lists.{Lists}
 use Rattle.office_mail.specs.Read.{read}
 use Rattle.office_mail.specs.Kept.{Kept, Place}
 use Rattle.office_mail.specs.Runs.{orders_to, latest_day, covered}
-use Rattle.office_store.specs.declared.values.Finished.{Finished}
-use Rattle.office_store.specs.declared.values.Reports.{Reports}
-use Rattle.office_store.specs.Content.{reports_in}
+use Rattle.office_keeper.specs.declared.values.Finished.{Finished}
+use Rattle.office_keeper.specs.declared.values.Reports.{Reports}
+use Rattle.office_keeper.specs.Content.{reports_in}
 
 -- testing as the rules see it
 abbrev pub Testing : Type 0

@@ -11,10 +11,10 @@ use Rattle.office_mail.specs.Runs.{IsReady}
 use Rattle.office_http.specs.declared.faults.DeliverFault.{DeliverFault}
 use Rattle.office_http.specs.declared.faults.DeliverFault.TheVariants.{Mail, OtherText, Store}
 use Rattle.office_http.specs.declared.faults.Held.{Held}
-use Rattle.office_store.specs.Content.{Content}
-use Rattle.office_store.specs.Given.{AreOwnTexts}
-use Rattle.office_store.specs.declared.values.Reports.{Reports}
-use Rattle.office_store.specs.declared.keeping.Keeper.{Ghosts}
+use Rattle.office_keeper.specs.Content.{Content}
+use Rattle.office_keeper.specs.Given.{AreOwnTexts}
+use Rattle.office_keeper.specs.declared.values.Reports.{Reports}
+use Rattle.office_keeper.specs.declared.keeping.Keeper.{Ghosts}
 use Rattle.office_http.specs.Standing.{State}
 use Rattle.office_http.specs.Outcome.{reports_of, reports_to, testing_after}
 use Rattle.testing_rules.specs.Watched.{AllWatchedWork}

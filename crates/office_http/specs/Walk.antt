@@ -4,7 +4,7 @@ use Rattle.std.specs.FinMap.{get}
 use Rattle.testing_rules.specs.Covered.{Covered, CoveredItem}
 use Rattle.office_mail.specs.Lists.{Lists}
 use Rattle.office_mail.specs.Kept.{Kept, Place}
-use Rattle.office_store.specs.declared.values.Letter.{Letter}
+use Rattle.office_keeper.specs.declared.values.Letter.{Letter}
 use Rattle.office_http.specs.Outcome.{item_at}
 
 -- what the text at a place says, if there is one

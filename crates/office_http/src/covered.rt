@@ -19,7 +19,7 @@ use crate::rules::{cover_of, take_body};
 use crate::stored;
 use crate::stored::{BLOCK, block_end};
 use office_mail::{MailFault, RunOrder, Setup, read_message};
-use office_store::{Keeper, Letter};
+use office_keeper::{Keeper, Letter};
 use std::alloc::Global;
 use testing_rules::Facts;
 

@@ -15,7 +15,7 @@ use crate::office::Office;
 use crate::replies::{Digits, WriteFault, write_all, write_parts};
 use deb_control::Text;
 use office_mail::{BagFault, Sink};
-use office_store::Keeper;
+use office_keeper::Keeper;
 
 /// The line for a bag that is refused.
 fn bag_refusal(fault: BagFault) -> &'static str

@@ -4,12 +4,12 @@ ghost use Rattle.office_mail.specs.Kept.{Kept, Within};
 ghost use Rattle.office_mail.specs.Laws.{SameTexts};
 ghost use Rattle.office_mail.specs.Lists.{Lists};
 ghost use Rattle.office_mail.specs.Runs.{IsReady, IsReadyCount};
-ghost use Rattle.office_store.specs.Content.{Content, item_from_one, no_content};
+ghost use Rattle.office_keeper.specs.Content.{Content, item_from_one, no_content};
 ghost use Rattle.office_http.specs.Laws.{RunsStand, TookTexts};
 ghost use Rattle.office_http.specs.Outcome.{outcome_of, reports_to};
 ghost use Rattle.office_http.specs.State.{IsOffice, IsSound};
 
-use office_store::Keeper;
+use office_keeper::Keeper;
 
 /// An office begins with a store that keeps nothing.
 pub fn empty_is_sound<K: Keeper>()

@@ -5,7 +5,7 @@ ghost use Rattle.std.specs.Prelude.{◌≡◌, ◌≢◌, ℕ, ◌+◌, ◌<◌,
 ghost use Rattle.std.specs.FinMap.{get};
 ghost use Rattle.office_mail.specs.Kept.{Kept};
 ghost use Rattle.office_mail.specs.Runs.{order_at, order_in, order_in_body};
-ghost use Rattle.office_store.specs.Content.{letters_within};
+ghost use Rattle.office_keeper.specs.Content.{letters_within};
 ghost use Rattle.office_http.specs.Looking.{Looks};
 ghost use Rattle.office_http.specs.Ready.{FirstOrders, GoesOn, HasNumbers, HasEach, HasPlaces, IsReached};
 
@@ -13,7 +13,7 @@ use crate::faults::StoreFault;
 use crate::stored;
 use crate::stored::{BLOCK, block_end};
 use office_mail::{Body, MailFault, Message, RunOrder, Setup, read_message, ready};
-use office_store::{Keeper, Letter};
+use office_keeper::{Keeper, Letter};
 use std::alloc::Global;
 
 /// The run order that a kept text is, or none. It fails for want of memory alone.

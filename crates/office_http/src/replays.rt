@@ -16,7 +16,7 @@ use crate::faults::{DeliverFault, Held};
 use crate::office::Office;
 use crate::replies::{Mark, WriteFault, write_reply};
 use office_mail::{Bag, BagFault, Feed, MailFault, Sink};
-use office_store::Keeper;
+use office_keeper::Keeper;
 
 /// What an answer says of a delivery.
 fn mark_of(reply: &Result<Held, DeliverFault>) -> Mark

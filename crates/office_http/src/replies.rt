@@ -7,7 +7,7 @@ ghost use Rattle.office_http.specs.Written.{AppendsFront, joined};
 
 use crate::faults::{DeliverFault, Held};
 use office_mail::{MailFault, Setup, Sink};
-use office_store::MailText;
+use office_keeper::MailText;
 use std::marker::Model;
 use thiserror::Error;
 

@@ -14,7 +14,7 @@ use crate::orders::stated_for;
 use deb_control::{NoMemory, Text};
 use jiff::civil::Date;
 use office_mail::{Body, RunOrder, Setup};
-use office_store::Finished;
+use office_keeper::Finished;
 use std::alloc::Global;
 use testing_rules::laws::update_is_given;
 use testing_rules::{Archs, Facts, Testing, excuses, excuses_text, migrate, update_text};

@@ -4,7 +4,7 @@
 ghost use Rattle.std.specs.Prelude.{is_ok, ◌≡◌, ℕ, ◌+◌, ◌<◌, ◌≤◌, ◌↔◌, IsTrue, IfOk, IfSome, OnOk, OnErr, length, slice_index, if◌then◌else◌};
 ghost use Rattle.testing_rules.specs.Watched.{AllWatchedWork};
 ghost use Rattle.office_mail.specs.Runs.{IsReady, IsReadyCount};
-ghost use Rattle.office_store.specs.Given.{AreOwnTexts, IsGiven, KnowsArchs};
+ghost use Rattle.office_keeper.specs.Given.{AreOwnTexts, IsGiven, KnowsArchs};
 ghost use Rattle.office_http.specs.Counted.{Counted};
 ghost use Rattle.office_http.specs.Known.{AreKnown, FactsStand};
 ghost use Rattle.office_http.specs.Lasting.{Lasts};
@@ -19,7 +19,7 @@ use crate::orders::{is_there, order, read_orders};
 use crate::rules::run_rules;
 use crate::stored;
 use office_mail::{RunOrder, Setup, latest_day};
-use office_store::{Finished, Keeper};
+use office_keeper::{Finished, Keeper};
 use std::alloc::Global;
 
 /// The greatest number of a message, and so of a run.

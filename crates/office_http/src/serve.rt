@@ -25,7 +25,7 @@ use crate::routes::routes;
 use deb_control::Text;
 use httparse::spans::{EMPTY_HEADER_SPAN, HeaderSpan, RequestSpans};
 use office_mail::{Feed, MailFault, ReadFailed, Setup, Sink};
-use office_store::Keeper;
+use office_keeper::Keeper;
 use std::alloc::Global;
 use thiserror::Error;
 

@@ -3,14 +3,14 @@
 
 ghost use Rattle.std.specs.Prelude.{is_ok, ◌≡◌, ◌+◌, ◌<◌, ◌≤◌, ◌++◌, ◌∷◌, [], None, IfOk, OnOk, OnErr, length};
 ghost use Rattle.std.specs.FinMap.{get, insert};
-ghost use Rattle.office_store.specs.Content.{with_text, with_run, reports_in, item_from_one, letters_within};
-ghost use Rattle.office_store.specs.Given.{AreOwnTexts, IsGiven, KnowsArchs};
+ghost use Rattle.office_keeper.specs.Content.{with_text, with_run, reports_in, item_from_one, letters_within};
+ghost use Rattle.office_keeper.specs.Given.{AreOwnTexts, IsGiven, KnowsArchs};
 ghost use Rattle.office_http.specs.Counted.{Counted};
 ghost use Rattle.office_http.specs.Lasting.{Lasts};
 ghost use Rattle.office_http.specs.Looking.{Looks};
 
 use crate::faults::StoreFault;
-use office_store::{Finished, Keeper, Letter, MailText, Reports};
+use office_keeper::{Finished, Keeper, Letter, MailText, Reports};
 use testing_rules::Testing;
 
 /// How many numbers of a sender are loaded at once, at most. So many texts of the greatest size take 17 MB.

@@ -7,20 +7,20 @@ use Rattle.std.specs.Str.{IsUtf8}
 use Rattle.sqlite.specs.Tree.{Trees}
 use Rattle.office_mail.specs.Kept.{Place, place_cmp}
 use Rattle.office_mail.specs.Lists.{Lists}
-use Rattle.office_store.specs.declared.values.Reports.{Reports}
-use Rattle.office_store.specs.declared.values.Said.{Said}
+use Rattle.office_keeper.specs.declared.values.Reports.{Reports}
+use Rattle.office_store.specs.declared.said.Said.{Said}
 use Rattle.std.specs.Ordering.{nat_cmp}
-use Rattle.testing_rules.specs.Words.{text_cmp}
-use Rattle.testing_rules.specs.Moves.{row_cmp}
+use Rattle.testing_items.specs.Words.{text_cmp}
+use Rattle.testing_model.specs.Moves.{row_cmp}
 use Rattle.office_mail.specs.Setup.{IsSetup}
 use Rattle.office_store.specs.SetupText.{setup_text}
 use Rattle.office_store.specs.Fresh.{IsEmptyFor}
 use Rattle.office_store.proofs.SetupRoundTrip.{text_utf8}
-use Rattle.office_store.specs.Content.{no_content}
+use Rattle.office_keeper.specs.Content.{no_content}
 use Rattle.office_store.specs.Creating.{IsBlank}
 use Rattle.office_store.specs.Tables.{kept_rows}
 use Rattle.office_store.specs.Entries.{source_map, entry_map}
-use Rattle.office_store.specs.Holdings.{content_in, reports_to, suite_in, source_at, row_at}
+use Rattle.office_store.specs.TableContent.{content_in, reports_to, suite_in, source_at, row_at}
 use Rattle.office_store.specs.Legible.{IsLegible, IsWhole, SaysOnce, AreReported, AreNamed}
 
 -- what the office says in new tables

@@ -11,28 +11,31 @@ use Rattle.std.specs.declared.cmp.Ordering.TheVariants.{Less}
 use Rattle.std.specs.FinMap.{FinMap, put, empty, entries, from_entries, entries-insert, len-entries, len-empty}
 use Rattle.sqlite.specs.Tree.{Trees}
 use Rattle.sqlite_rules.specs.Lists.{Has}
-use Rattle.testing_rules.specs.Words.{text_cmp, arch_name}
-use Rattle.testing_rules.specs.Moves.{row_cmp, row_key}
-use Rattle.testing_rules.specs.InOrder.{AreByName, AreByKey, IsInOrder}
+use Rattle.testing_items.specs.Words.{text_cmp, arch_name}
+use Rattle.testing_model.specs.Moves.{row_cmp, row_key}
+use Rattle.testing_model.specs.InOrder.{AreByName, AreByKey, IsInOrder}
 use Rattle.testing_model.specs.declared.suite.SourceIn.{SourceIn}
 use Rattle.testing_model.specs.declared.suite.RowIn.{RowIn}
 use Rattle.testing_model.proofs.Orders.{text_order}
 use Rattle.office_mail.specs.Lists.{Lists}
 use Rattle.office_mail.specs.Kept.{Kept, Place}
 use Rattle.office_mail.specs.declared.message.Message.{Message}
-use Rattle.office_store.specs.declared.values.Finished.{Finished}
-use Rattle.office_store.specs.Content.{reports_in, with_run}
-use Rattle.office_store.specs.Given.{IsKept, GivesSource, IsArchPlace, GivesRow, IsGiven}
+use Rattle.office_keeper.specs.declared.values.Finished.{Finished}
+use Rattle.office_keeper.specs.Content.{reports_in, with_run}
+use Rattle.office_keeper.specs.Given.{IsKept, GivesSource, IsArchPlace, GivesRow, IsGiven}
 use Rattle.office_store.specs.Tables.{Rows, AddsLetter, kept_rows, said_in, run_map}
 use Rattle.sqlite.specs.Effect.{Database}
 use Rattle.office_store.specs.Entries.{source_map, source_entry, entry_map, row_entry}
 use Rattle.office_store.specs.Finishing.{FinishesRun}
-use Rattle.office_store.specs.Holdings.{own_by, message_by, message_at, source_as, source_by_message, source_at, is_arch_place, row_as, row_by_message, row_at, suite_in, reports_to, count_said, content_in}
+use Rattle.office_store.specs.TableContent.{own_by, message_by, message_at, source_as, source_by_message, source_at, is_arch_place, row_as, row_by_message, row_at, suite_in, reports_to, count_said, content_in}
 use Rattle.office_store.proofs.MailLemmas.{empty_of}
 use Rattle.office_store.proofs.SettingLemmas.{row_order}
 use Rattle.office_store.proofs.EntryLists.{suite_of}
 use Rattle.office_store.proofs.EntryValues.{read_has, source_keeps, row_keeps, all_back}
 use Rattle.office_store.proofs.ReportFacts.{length_reports, one_run_more}
+use Rattle.office_keeper.specs.declared.faults.KeepFault.{KeepFault}
+use Rattle.office_store.specs.declared.faults.TableFault.{TableFault}
+use Rattle.office_store.specs.TableFaults.{keeper_answer}
 
 -- ---- entries that are in order
 
@@ -155,11 +158,11 @@ module _ (setup : Lists) (db next : Trees) (run : ℕ) (done : Finished) (it : F
   content_after is by_name by_key given = λ i. record { kept = kept_after i; reports = reports_after is i; testing = testing_after by_name by_key given i }
 
 -- the same of a call that answered
-module _ {T E : Type 0} (result given : Result T E) (same : result ≡ given) (setup : Lists) (db next : Trees) (run : ℕ) (done : Finished) (finishes : OnOk given (FinishesRun db next run done)) where
+module _ {T : Type 0} (result : Result T KeepFault) (given : Result T TableFault) (same : result ≡ keeper_answer given) (setup : Lists) (db next : Trees) (run : ℕ) (done : Finished) (finishes : OnOk given (FinishesRun db next run done)) where
   pub reports_on : run ≡ length (content_in setup db).reports + 1 → OnOk result ((content_in setup next).reports ≡ (content_in setup db).reports ++ reports_in done ∷ [])
   reports_on is = subst (λ r. OnOk r ((content_in setup next).reports ≡ (content_in setup db).reports ++ reports_in done ∷ [])) (sym same) (go given finishes)
     where
-      go : (r : Result T E) → OnOk r (FinishesRun db next run done) → OnOk r ((content_in setup next).reports ≡ (content_in setup db).reports ++ reports_in done ∷ [])
+      go : (r : Result T TableFault) → OnOk r (FinishesRun db next run done) → OnOk (keeper_answer r) ((content_in setup next).reports ≡ (content_in setup db).reports ++ reports_in done ∷ [])
       go (Ok v) it = reports_after setup db next run done it is
       go (Err e) it = tt
 
@@ -167,7 +170,7 @@ module _ {T E : Type 0} (result given : Result T E) (same : result ≡ given) (s
       → OnOk result (content_in setup next ≡ with_run (content_in setup db) done)
   content_on ordered is gives = subst (λ r. OnOk r (content_in setup next ≡ with_run (content_in setup db) done)) (sym same) (go given finishes ordered)
     where
-      go : (r : Result T E) → OnOk r (FinishesRun db next run done) → OnOk r (IsInOrder done.testing.sources done.testing.rows) → OnOk r (content_in setup next ≡ with_run (content_in setup db) done)
+      go : (r : Result T TableFault) → OnOk r (FinishesRun db next run done) → OnOk r (IsInOrder done.testing.sources done.testing.rows) → OnOk (keeper_answer r) (content_in setup next ≡ with_run (content_in setup db) done)
       go (Ok v) it order = content_after setup db next run done it is order.by_name order.by_key gives
       go (Err e) it order = tt
 

@@ -15,7 +15,7 @@ use Rattle.sqlite_tied.specs.Compute.{everything}
 use Rattle.office_store.specs.Layout.{no_schema, office, mail, run, testing_source, testing_row}
 use Rattle.office_store.specs.Texts.{create_office_text, create_mail_text, create_run_text, create_testing_source_text, create_testing_row_text}
 use Rattle.sqlite.specs.Tree.{Trees, put_row}
-use Rattle.office_store.specs.declared.values.Said.{Said}
+use Rattle.office_store.specs.declared.said.Said.{Said}
 use Rattle.office_store.specs.Tables.{IsTrusted, Rows, said_in, SaysMore}
 use Rattle.office_store.proofs.RunLemmas.{said_one}
 use Rattle.office_store.specs.Creating.{IsBuilding, Makes, MakesAll, IsBlank, schema_of_one, schema_of_two, schema_of_three, schema_of_four}

@@ -3,7 +3,7 @@ use Rattle.std.proofs.Common.{◌≡◌, ◌<◌, ◌+◌, ℕ, List, [], ◌∷
 use Rattle.std.specs.List.{AllByRecursion}
 use Rattle.testing_items.proofs.Each.{each-append}
 use Rattle.std.proofs.lemmas.List.{map-append, take_more}
-use Rattle.testing_rules.specs.Suite.{Suite}
+use Rattle.testing_model.specs.Suite.{Suite}
 use Rattle.testing_model.specs.declared.suite.SourceIn.{SourceIn}
 use Rattle.testing_model.specs.declared.suite.RowIn.{RowIn}
 

@@ -7,7 +7,7 @@ use Rattle.std.specs.declared.cmp.Ordering.TheVariants.{Less, Equal, Greater}
 use Rattle.std.specs.Ordering.{eq_by_cmp, is_eq}
 use Rattle.std.specs.FinMap.{FinMap, IsAntisymmetric, find, put, get, insert, empty, len, entries, from_entries, contains_key, get-from_entries, get-insert, get-empty, len-insert, entries-insert, same_map}
 use Rattle.sqlite_rules.specs.Lists.{Has}
-use Rattle.testing_rules.specs.Words.{put_by}
+use Rattle.testing_items.specs.Words.{put_by}
 use Rattle.office_store.proofs.KeyedFacts.{tied}
 
 same_key : {K : Type 0} {R : K → K → Ordering} → IsAntisymmetric R → (q k : K) → eq_by_cmp R q k ≡ true → q ≡ k

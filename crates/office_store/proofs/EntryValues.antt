@@ -13,9 +13,9 @@ use Rattle.std.specs.FinMap.{IsAntisymmetric, empty, len, entries, from_entries,
 use Rattle.sqlite.specs.Order.{Row}
 use Rattle.sqlite_rules.specs.Lists.{Has}
 use Rattle.deb_control.specs.declared.binary.Binary.{Binary}
-use Rattle.testing_rules.specs.Suite.{Suite}
-use Rattle.testing_rules.specs.Words.{put_by, arch_name}
-use Rattle.testing_rules.specs.Moves.{row_cmp, row_key}
+use Rattle.testing_model.specs.Suite.{Suite}
+use Rattle.testing_items.specs.Words.{put_by, arch_name}
+use Rattle.testing_model.specs.Moves.{row_cmp, row_key}
 use Rattle.testing_model.specs.declared.suite.SourceIn.{SourceIn}
 use Rattle.testing_model.specs.declared.suite.RowIn.{RowIn}
 use Rattle.testing_model.proofs.Orders.{text_order}
@@ -23,9 +23,9 @@ use Rattle.testing_items.proofs.Each.{each-put_all}
 use Rattle.office_mail.specs.Lists.{Lists}
 use Rattle.office_mail.specs.Kept.{Kept, Place}
 use Rattle.office_mail.specs.declared.message.Message.{Message}
-use Rattle.office_store.specs.Given.{upload_in, binary_in, IsArchPlace, KnowsArchs}
+use Rattle.office_keeper.specs.Given.{upload_in, binary_in, IsArchPlace, KnowsArchs}
 use Rattle.office_store.specs.Entries.{source_in, source_columns, source_map, source_entry, entry_in, entry_columns, entry_map, row_entry}
-use Rattle.office_store.specs.Holdings.{message_at, source_as, source_by_message, source_at, source_by_entry, source_of, is_arch_place, row_as, row_by_message, row_at, row_by_entry, row_of, put_all_sources, put_all_rows, IsGathered, suite_in}
+use Rattle.office_store.specs.TableContent.{message_at, source_as, source_by_message, source_at, source_by_entry, source_of, is_arch_place, row_as, row_by_message, row_at, row_by_entry, row_of, put_all_sources, put_all_rows, IsGathered, suite_in}
 use Rattle.office_store.proofs.MailLemmas.{has_permuted, empty_of}
 use Rattle.office_store.proofs.SettingLemmas.{text_exact, row_order, row_exact}
 use Rattle.office_store.proofs.EntryReads.{source_shown, row_shown}

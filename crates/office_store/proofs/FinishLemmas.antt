@@ -3,8 +3,8 @@ use Rattle.std.proofs.Common.{ℕ, List, sym, ap, subst, ◌∙◌, ◌≡◌}
 use Rattle.std.specs.FinMap.{get, insert}
 use Rattle.sqlite.specs.Order.{Row}
 use Rattle.sqlite.specs.Tree.{Trees}
-use Rattle.office_store.specs.declared.values.Finished.{Finished}
-use Rattle.office_store.specs.declared.values.Said.{Said}
+use Rattle.office_keeper.specs.declared.values.Finished.{Finished}
+use Rattle.office_store.specs.declared.said.Said.{Said}
 use Rattle.office_store.specs.Tables.{Rows, IsWhole, SaysAlone, run_map, RecordsRun}
 use Rattle.office_store.specs.Entries.{source_map, entry_map, SetsSources, SetsRows}
 use Rattle.office_store.specs.Finishing.{WritesRun, with_count}

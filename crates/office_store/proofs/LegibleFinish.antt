@@ -13,15 +13,15 @@ use Rattle.testing_model.specs.declared.suite.RowIn.{RowIn}
 use Rattle.testing_model.proofs.Orders.{text_order}
 use Rattle.office_mail.specs.Lists.{Lists}
 use Rattle.office_mail.specs.Kept.{Kept, Place}
-use Rattle.office_store.specs.declared.values.Finished.{Finished}
-use Rattle.office_store.specs.declared.values.Reports.{Reports}
-use Rattle.office_store.specs.declared.values.Said.{Said}
-use Rattle.office_store.specs.Content.{reports_in}
-use Rattle.office_store.specs.Given.{IsGiven}
+use Rattle.office_keeper.specs.declared.values.Finished.{Finished}
+use Rattle.office_keeper.specs.declared.values.Reports.{Reports}
+use Rattle.office_store.specs.declared.said.Said.{Said}
+use Rattle.office_keeper.specs.Content.{reports_in}
+use Rattle.office_keeper.specs.Given.{IsGiven}
 use Rattle.office_store.specs.Tables.{IsWhole, kept_rows, said_in, run_map}
 use Rattle.office_store.specs.Entries.{source_map, source_entry, entry_map, row_entry}
 use Rattle.office_store.specs.Finishing.{with_count, FinishesRun}
-use Rattle.office_store.specs.Holdings.{source_at, row_at, count_said, content_in}
+use Rattle.office_store.specs.TableContent.{source_at, row_at, count_said, content_in}
 use Rattle.office_store.specs.Legible.{SaysOnce, AreReported, AreNamed, IsLegible}
 use Rattle.office_store.proofs.LetterFacts.{nat_is}
 use Rattle.office_store.proofs.SettingLemmas.{text_exact, row_order, row_exact}

@@ -11,21 +11,24 @@ use Rattle.std.specs.FinMap.Entries.{below_all}
 use Rattle.sqlite.specs.Tree.{Trees, put_row}
 use Rattle.sqlite.specs.Effect.{Database}
 use Rattle.sqlite_rules.specs.Lists.{Has}
-use Rattle.testing_rules.specs.Words.{text_cmp}
-use Rattle.testing_rules.specs.Moves.{row_cmp}
+use Rattle.testing_items.specs.Words.{text_cmp}
+use Rattle.testing_model.specs.Moves.{row_cmp}
 use Rattle.testing_model.proofs.Orders.{text_order}
 use Rattle.office_mail.specs.Lists.{Lists}
 use Rattle.office_mail.specs.Kept.{Kept, Place, place_cmp}
 use Rattle.office_mail.proofs.KeptFacts.{places_total, exact_places}
-use Rattle.office_store.specs.Content.{with_text}
+use Rattle.office_keeper.specs.Content.{with_text}
 use Rattle.office_store.specs.Tables.{Rows, AddsLetter, letter_in, kept_rows, said_in, run_map}
 use Rattle.office_store.specs.Entries.{source_map, entry_map}
-use Rattle.office_store.specs.Holdings.{message_by, message_at, source_by_message, source_at, row_by_message, row_at, suite_in, reports_to, count_said, content_in}
+use Rattle.office_store.specs.TableContent.{message_by, message_at, source_by_message, source_at, row_by_message, row_at, suite_in, reports_to, count_said, content_in}
 use Rattle.office_store.specs.Legible.{IsWhole, SaysOnce, AreReported, AreNamed, IsLegible}
 use Rattle.office_store.proofs.KeyedFacts.{tied}
 use Rattle.office_store.proofs.KeepLemmas.{inserted}
 use Rattle.office_store.proofs.SettingLemmas.{not_tied, row_order}
 use Rattle.office_store.proofs.WholeWrites.{whole_put}
+use Rattle.office_keeper.specs.declared.faults.KeepFault.{KeepFault}
+use Rattle.office_store.specs.declared.faults.TableFault.{TableFault}
+use Rattle.office_store.specs.TableFaults.{keeper_answer}
 
 -- ---- entries of a map
 
@@ -179,17 +182,17 @@ module _ (setup : Lists) (db next : Trees) (sender number : ℕ) (text : List �
   keep_content = λ i. record { kept = kept_grows i; reports = reports_stay i; testing = testing_stays i }
 
 -- the same of a call that may have failed
-module _ {T E : Type 0} (given : Result T E) (setup : Lists) (old new : Database) (sender number : ℕ) (text : List ℕ) (adds : OnOk given (AddsLetter old.trees new.trees sender number text)) (free : get (kept_rows (old.trees 1)) (sender, number) ≡ None) (was : IsLegible setup old.trees) where
+module _ {T : Type 0} (given : Result T TableFault) (setup : Lists) (old new : Database) (sender number : ℕ) (text : List ℕ) (adds : OnOk given (AddsLetter old.trees new.trees sender number text)) (free : get (kept_rows (old.trees 1)) (sender, number) ≡ None) (was : IsLegible setup old.trees) where
   pub keep_legible_on : OnErr given (new ≡ old) → IsLegible setup new.trees
   keep_legible_on = go given adds
     where
-      go : (r : Result T E) → OnOk r (AddsLetter old.trees new.trees sender number text) → OnErr r (new ≡ old) → IsLegible setup new.trees
+      go : (r : Result T TableFault) → OnOk r (AddsLetter old.trees new.trees sender number text) → OnErr r (new ≡ old) → IsLegible setup new.trees
       go (Ok v) it err = keep_legible setup old.trees new.trees sender number text it free was
       go (Err e) it err = subst (λ (d : Database). IsLegible setup d.trees) (sym err) was
 
-  pub keep_content_on : (result : Result T E) → result ≡ given → OnOk result (content_in setup new.trees ≡ with_text (content_in setup old.trees) sender number text)
+  pub keep_content_on : (result : Result T KeepFault) → result ≡ keeper_answer given → OnOk result (content_in setup new.trees ≡ with_text (content_in setup old.trees) sender number text)
   keep_content_on result same = subst (λ r. OnOk r (content_in setup new.trees ≡ with_text (content_in setup old.trees) sender number text)) (sym same) (go given adds)
     where
-      go : (r : Result T E) → OnOk r (AddsLetter old.trees new.trees sender number text) → OnOk r (content_in setup new.trees ≡ with_text (content_in setup old.trees) sender number text)
+      go : (r : Result T TableFault) → OnOk r (AddsLetter old.trees new.trees sender number text) → OnOk (keeper_answer r) (content_in setup new.trees ≡ with_text (content_in setup old.trees) sender number text)
       go (Ok v) it = keep_content setup old.trees new.trees sender number text it free was
       go (Err e) it = tt

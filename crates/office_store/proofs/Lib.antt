@@ -1,5 +1,3 @@
-pub mod ShelfFacts
-pub mod PartFacts
 pub mod Compiled
 pub mod StateLemmas
 pub mod Answered

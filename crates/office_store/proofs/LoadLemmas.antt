@@ -24,7 +24,7 @@ use Rattle.sqlite.proofs.Callers.{IsPlain, command_of, reads_as}
 use Rattle.sqlite_rules.specs.Lists.{Has}
 use Rattle.sqlite_rules.proofs.ListLemmas.{has_filtered, has_kept, has_contained, contains_had}
 use Rattle.sqlite_trees.proofs.ListLemmas.{filter-map, IsPermutation-filter}
-use Rattle.office_store.specs.declared.values.Letter.{Letter}
+use Rattle.office_keeper.specs.declared.values.Letter.{Letter}
 use Rattle.office_store.specs.Layout.{office_schema}
 use Rattle.office_store.specs.Texts.{load_text}
 use Rattle.office_store.specs.Tables.{AreLetters, AreApart, is_at, letter_columns, ShowsLetters, is_between, shown_letter, letter_entry, rises_from, number_in, bytes_in}

@@ -8,15 +8,15 @@ use Rattle.std.specs.FinMap.{IsAntisymmetric, empty, get, len, entries, from_ent
 use Rattle.sqlite.specs.Order.{Row}
 use Rattle.sqlite_rules.specs.Lists.{Has}
 use Rattle.sqlite_rules.proofs.ListLemmas.{has_contained}
-use Rattle.testing_rules.specs.Words.{put_by}
-use Rattle.testing_rules.specs.Moves.{row_key}
+use Rattle.testing_items.specs.Words.{put_by}
+use Rattle.testing_model.specs.Moves.{row_key}
 use Rattle.testing_model.specs.declared.suite.SourceIn.{SourceIn}
 use Rattle.testing_model.specs.declared.suite.RowIn.{RowIn}
 use Rattle.testing_model.proofs.Orders.{text_order}
 use Rattle.office_mail.specs.Lists.{Lists}
 use Rattle.office_mail.specs.Kept.{Kept, Place}
 use Rattle.office_store.specs.Entries.{source_in, source_columns, source_map, entry_in, entry_columns, entry_map}
-use Rattle.office_store.specs.Holdings.{source_at, source_by_entry, source_of, row_at, row_by_entry, row_of, ReadsEach, put_all_sources, put_all_rows}
+use Rattle.office_store.specs.TableContent.{source_at, source_by_entry, source_of, row_at, row_by_entry, row_of, ReadsEach, put_all_sources, put_all_rows}
 use Rattle.office_store.specs.Legible.{IsWhole}
 use Rattle.office_store.proofs.MailLemmas.{has_permuted, as_many}
 use Rattle.office_store.proofs.SettingLemmas.{text_exact, row_order, row_exact}

@@ -6,9 +6,9 @@ use Rattle.std.proofs.lemmas.Option.{slice_get_past}
 use Rattle.std.proofs.lemmas.Cmp.{nat_cmp_total}
 use Rattle.std.specs.Ordering.{nat_cmp, eq_by_cmp}
 use Rattle.std.specs.FinMap.{FinMap, get, insert, get-insert}
-use Rattle.office_store.specs.declared.values.Reports.{Reports}
-use Rattle.office_store.specs.Content.{item_from_one}
-use Rattle.office_store.specs.Holdings.{no_reports, reports_to}
+use Rattle.office_keeper.specs.declared.values.Reports.{Reports}
+use Rattle.office_keeper.specs.Content.{item_from_one}
+use Rattle.office_store.specs.TableContent.{no_reports, reports_to}
 use Rattle.office_store.proofs.LetterFacts.{nat_is}
 
 front : {X : Type 0} (xs ys : List X) (i : ℕ) → i < length xs → slice_get (xs ++ ys) i ≡ slice_get xs i

@@ -16,8 +16,8 @@ use Rattle.sqlite.specs.State.{State, Shown}
 use Rattle.sqlite.specs.Effect.{Answers}
 use Rattle.sqlite.specs.Listing.{understood, reads_listing}
 use Rattle.sqlite.proofs.Callers.{IsPlain, command_of, reads_as}
-use Rattle.office_store.specs.declared.values.Reports.{Reports}
-use Rattle.office_store.specs.declared.values.Said.{Said}
+use Rattle.office_keeper.specs.declared.values.Reports.{Reports}
+use Rattle.office_store.specs.declared.said.Said.{Said}
 use Rattle.office_store.specs.Layout.{office_schema}
 use Rattle.office_store.specs.Texts.{office_text, reports_text}
 use Rattle.office_store.specs.Tables.{number_in, text_in, office_in, said_in, office_columns, IsOnlyOffice, run_by, run_in, run_map, is_run, run_columns, IsOnlyRun}

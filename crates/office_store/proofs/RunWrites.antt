@@ -22,8 +22,8 @@ use Rattle.sqlite.proofs.Callers.{IsPlain, command_of, runs_as, statement_of}
 use Rattle.sqlite_rules.specs.Lists.{Has}
 use Rattle.sqlite_tied.specs.Compute.{everything}
 use Rattle.sqlite_value.proofs.OrderLemmas.{value_cmp_total}
-use Rattle.office_store.specs.declared.values.Reports.{Reports}
-use Rattle.office_store.specs.declared.values.Said.{Said}
+use Rattle.office_keeper.specs.declared.values.Reports.{Reports}
+use Rattle.office_store.specs.declared.said.Said.{Said}
 use Rattle.office_store.specs.Layout.{office_schema, run, office}
 use Rattle.office_store.specs.Texts.{add_run_text, clear_office_text, add_office_text}
 use Rattle.office_store.specs.Tables.{Rows, number_in, text_in, run_in, run_map, office_by, office_in, said_in, IsWhole, SaysAlone, AddsRun, Silences, SaysMore, RecordsRun}

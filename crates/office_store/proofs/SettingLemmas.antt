@@ -15,9 +15,9 @@ use Rattle.sqlite.specs.Tree.{Trees, put_row}
 use Rattle.sqlite_rules.specs.Edit.{is_taken}
 use Rattle.testing_model.specs.declared.suite.SourceIn.{SourceIn}
 use Rattle.testing_model.specs.declared.suite.RowIn.{RowIn}
-use Rattle.testing_rules.specs.Words.{Text, text_cmp}
-use Rattle.testing_rules.specs.Moves.{row_cmp, row_key}
-use Rattle.testing_rules.specs.InOrder.{AreByName, AreByKey}
+use Rattle.testing_items.specs.Words.{Text, text_cmp}
+use Rattle.testing_model.specs.Moves.{row_cmp, row_key}
+use Rattle.testing_model.specs.InOrder.{AreByName, AreByKey}
 use Rattle.testing_model.proofs.Orders.{text_order}
 use Rattle.office_mail.specs.Kept.{Place}
 use Rattle.office_store.specs.Tables.{Rows, IsWhole}

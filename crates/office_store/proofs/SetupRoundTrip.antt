@@ -15,7 +15,7 @@ use Rattle.deb_control.specs.Binary.{is_architecture}
 use Rattle.deb_control.proofs.Lines.{lines_cut}
 use Rattle.deb_control.proofs.Fronts.{pass_wider}
 use Rattle.deb_control.proofs.Ends.{qualifiers_are_ascii}
-use Rattle.testing_rules.specs.Archs.{is_arch_name}
+use Rattle.testing_items.specs.Archs.{is_arch_name}
 use Rattle.office_mail.specs.declared.setup.Sender.{Sender}
 use Rattle.office_mail.specs.declared.setup.Role.{Role}
 use Rattle.office_mail.specs.declared.setup.Role.TheVariants.{Upload, Build, Bugs, Release, Runs}

@@ -12,7 +12,7 @@ use Rattle.sqlite.specs.Clock.{timed}
 use Rattle.sqlite.proofs.Callers.{IsPlain}
 use Rattle.office_store.specs.Layout.{office_schema}
 use Rattle.office_store.specs.Tables.{IsTrusted, IsOurs, Same, Lasts}
-use Rattle.office_store.specs.Keeping.{HasRisen}
+use Rattle.office_keeper.specs.Keeping.{HasRisen}
 use Rattle.sqlite_trees.specs.Tree.{Trees}
 
 -- the database stands as it was, or as the last commit left it

@@ -6,7 +6,7 @@ use Rattle.sqlite.specs.Schema.{Schema}
 use Rattle.sqlite.specs.State.{State}
 use Rattle.sqlite.specs.Table.{Table}
 use Rattle.sqlite.specs.Tree.{Trees}
-use Rattle.office_store.specs.declared.values.Said.{Said}
+use Rattle.office_store.specs.declared.said.Said.{Said}
 use Rattle.office_store.specs.Layout.{no_schema, office, mail, run, testing_source, testing_row}
 use Rattle.office_store.specs.Tables.{office_in, said_in}
 

@@ -8,8 +8,8 @@ use Rattle.sqlite.specs.declared.types.Value.{Value}
 use Rattle.sqlite.specs.declared.types.Value.TheVariants.{Null, Int, Real, Text, Blob}
 use Rattle.testing_model.specs.declared.suite.SourceIn.{SourceIn}
 use Rattle.testing_model.specs.declared.suite.RowIn.{RowIn}
-use Rattle.testing_rules.specs.Words.{text_cmp}
-use Rattle.testing_rules.specs.Moves.{row_cmp, row_key}
+use Rattle.testing_items.specs.Words.{text_cmp}
+use Rattle.testing_model.specs.Moves.{row_cmp, row_key}
 use Rattle.office_mail.specs.Kept.{Place}
 use Rattle.office_store.specs.Tables.{IsWhole, rows_in, small_in, text_in}
 

@@ -2,9 +2,9 @@
 use Rattle.std.specs.Prelude.{◌≡◌, ℕ, length, map, Some, None}
 use Rattle.std.specs.FinMap.{get, insert, from_entries}
 use Rattle.sqlite.specs.Tree.{Trees}
-use Rattle.office_store.specs.declared.values.Finished.{Finished}
-use Rattle.office_store.specs.declared.values.Said.{Said}
-use Rattle.office_store.specs.Content.{reports_in}
+use Rattle.office_keeper.specs.declared.values.Finished.{Finished}
+use Rattle.office_store.specs.declared.said.Said.{Said}
+use Rattle.office_keeper.specs.Content.{reports_in}
 use Rattle.office_store.specs.Tables.{IsWhole, SaysAlone, said_in, run_map}
 use Rattle.office_store.specs.Entries.{source_map, source_entry, entry_map, row_entry}
 

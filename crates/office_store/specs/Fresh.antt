@@ -2,8 +2,8 @@
 use Rattle.std.specs.Prelude.{◌≡◌}
 use Rattle.sqlite.specs.Tree.{Trees}
 use Rattle.office_mail.specs.Lists.{Lists}
-use Rattle.office_store.specs.Content.{no_content}
-use Rattle.office_store.specs.Holdings.{content_in}
+use Rattle.office_keeper.specs.Content.{no_content}
+use Rattle.office_store.specs.TableContent.{content_in}
 use Rattle.office_store.specs.Legible.{IsLegible}
 
 -- the tables read as an office writes them, and hold nothing

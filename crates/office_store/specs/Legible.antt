@@ -6,12 +6,12 @@ use Rattle.sqlite.specs.Order.{Row}
 use Rattle.sqlite.specs.Tree.{Trees}
 use Rattle.office_mail.specs.Kept.{Place}
 use Rattle.office_mail.specs.Lists.{Lists}
-use Rattle.office_store.specs.declared.values.Reports.{Reports}
-use Rattle.office_store.specs.declared.values.Said.{Said}
+use Rattle.office_keeper.specs.declared.values.Reports.{Reports}
+use Rattle.office_store.specs.declared.said.Said.{Said}
 pub use Rattle.office_store.specs.Tables.{IsWhole}
 use Rattle.office_store.specs.Tables.{kept_rows, said_in, run_map}
 use Rattle.office_store.specs.Entries.{source_map, entry_map}
-use Rattle.office_store.specs.Holdings.{source_at, row_at}
+use Rattle.office_store.specs.TableContent.{source_at, row_at}
 
 -- the office's only row says so
 pub record SaysOnce (rows : List Row) : Type 0 where

@@ -1,7 +1,8 @@
-pub mod Content
-pub mod Keeping
-pub mod Given
-pub mod Shelf
+pub use Rattle.office_keeper.specs.Content
+pub use Rattle.office_keeper.specs.Keeping
+pub use Rattle.office_keeper.specs.Given
+pub use Rattle.office_keeper.specs.MemoryState
+pub mod TableFaults
 pub mod Layout
 pub mod Texts
 pub mod Tables
@@ -10,6 +11,6 @@ pub mod Finishing
 pub mod Creating
 pub mod SetupText
 pub mod Opening
-pub mod Holdings
+pub mod TableContent
 pub mod Legible
 pub mod Fresh

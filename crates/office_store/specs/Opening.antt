@@ -6,11 +6,11 @@ use Rattle.sqlite.specs.Order.{Row, column}
 use Rattle.sqlite.specs.State.{State}
 use Rattle.office_mail.specs.Lists.{Lists}
 use Rattle.office_mail.specs.Setup.{setup_in}
-use Rattle.office_store.specs.declared.faults.KeepFault.{KeepFault}
-use Rattle.office_store.specs.declared.faults.KeepFault.TheVariants.{NoMemory, Store}
+use Rattle.office_store.specs.declared.faults.TableFault.{TableFault}
+use Rattle.office_store.specs.declared.faults.TableFault.TheVariants.{NoMemory, Store}
 use Rattle.office_store.specs.declared.opening.OpenFault.{OpenFault}
 use Rattle.office_store.specs.declared.opening.OpenFault.TheVariants as opening
-use Rattle.office_store.specs.declared.values.Said.{Said}
+use Rattle.office_store.specs.declared.said.Said.{Said}
 use Rattle.office_store.specs.Layout.{no_schema, office_schema}
 use Rattle.office_store.specs.Tables.{number_in, text_in, office_by, office_in}
 use Rattle.office_store.specs.Creating.{IsBlank}
@@ -18,7 +18,7 @@ use Rattle.office_store.specs.SetupText.{setup_text}
 use Rattle.office_store.specs.Fresh.{IsEmptyFor}
 
 -- what a fault of the store is told as
-abbrev pub open_fault : KeepFault → OpenFault
+abbrev pub open_fault : TableFault → OpenFault
 open_fault NoMemory = opening.NoMemory
 open_fault (Store cause) = opening.Store cause
 

@@ -3,9 +3,9 @@ use Rattle.std.specs.Ordering.{is_eq, is_ge, is_le, nat_cmp}
 use Rattle.std.specs.declared.cmp.Ordering.{Ordering}
 use Rattle.std.specs.Prelude.{◌≡◌, ◌≤◌, ◌<◌, ◌+◌, ◌⊎◌, ◌&&◌, Bool, Contains, length, filter, filter_map, ℕ, pos, negsuc, List, [], ◌∷◌, Option, Some, None, IsTrue, IsSome, true, false, nat_lt, nat_le, if◌then◌else◌}
 use Rattle.std.specs.FinMap.{FinMap, find, get, insert, len, from_entries}
-use Rattle.office_store.specs.declared.values.Letter.{Letter}
-use Rattle.office_store.specs.declared.values.Reports.{Reports}
-use Rattle.office_store.specs.declared.values.Said.{Said}
+use Rattle.office_keeper.specs.declared.values.Letter.{Letter}
+use Rattle.office_keeper.specs.declared.values.Reports.{Reports}
+use Rattle.office_store.specs.declared.said.Said.{Said}
 use Rattle.sqlite_rules.specs.Lists.{Has}
 use Rattle.sqlite_rules.specs.Edit.{is_taken}
 use Rattle.sqlite.specs.Order.{Row, column, value_cmp}
@@ -15,7 +15,7 @@ use Rattle.sqlite_trees.specs.View.{doubt}
 use Rattle.sqlite.specs.declared.types.Value.{Value}
 use Rattle.sqlite.specs.declared.types.Value.TheVariants.{Null, Int, Real, Text, Blob}
 use Rattle.office_mail.specs.Kept.{Kept, Place}
-use Rattle.office_store.specs.Keeping.{HasRisen}
+use Rattle.office_keeper.specs.Keeping.{HasRisen}
 use Rattle.office_store.specs.Layout.{office_schema}
 
 -- Nobody else writes the tables, the disk returns what was written, and no fault of the disk has shut the connection.

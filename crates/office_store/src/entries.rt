@@ -2,7 +2,7 @@
 ghost use Rattle.std.specs.Prelude.{◌≡◌, ◌≢◌, ◌<◌, ◌∷◌, ◌⊎◌, [], List, ℕ, ℤ, Err, Some, None, pos, map, length, IfOk, OnOk, ◌&&◌};
 ghost use Rattle.std.specs.Option.{option_copied};
 ghost use Rattle.std.specs.Str.{bytes_eq};
-ghost use Rattle.testing_rules.specs.Words.{arch_name};
+ghost use Rattle.testing_items.specs.Words.{arch_name};
 ghost use Rattle.std.specs.List.{AllByRecursion};
 ghost use Rattle.std.specs.List.Sorted.{IsPermutation};
 ghost use Rattle.sqlite.specs.Order.{column};
@@ -10,20 +10,22 @@ ghost use Rattle.sqlite.specs.declared.types.Value.TheVariants.{Int, Text as Wor
 ghost use Rattle.sqlite.specs.Held.{state};
 ghost use Rattle.sqlite.specs.State.{HasCleanDisk};
 ghost use Rattle.office_mail.specs.Read.{read};
-ghost use Rattle.office_store.specs.Given.{IsArchPlace, KnowsArchs, upload_in, binary_in};
+ghost use Rattle.office_keeper.specs.Given.{IsArchPlace, KnowsArchs, upload_in, binary_in};
 ghost use Rattle.office_store.specs.Tables.{IsTrusted, Lasts, IsOurs, IsCrowded, Same, kept_rows};
 ghost use Rattle.office_store.specs.Legible.{IsWhole, AreNamed};
 ghost use Rattle.office_store.specs.Entries.{source_in, source_columns, source_map, entry_in, entry_columns, entry_map};
-ghost use Rattle.office_store.specs.Holdings.{own_by, message_at as kept_message, source_as, source_of, row_as, row_of, is_arch_place, ReadsEach, put_all_sources, put_all_rows, IsGathered, suite_in};
+ghost use Rattle.office_store.specs.TableContent.{own_by, message_at as kept_message, source_as, source_of, row_as, row_of, is_arch_place, ReadsEach, put_all_sources, put_all_rows, IsGathered, suite_in};
 
-use crate::faults::{Cause, KeepFault, unread};
+use crate::faults::{Cause, TableFault, unread};
 use crate::mail;
 use deb_control::{Binary, NoMemory};
 use office_mail::{Body, MailFault, Message, Setup, read_message};
 use sqlite::types::ValueRef;
 use sqlite::{Alter, Connection, Error, Row};
 use std::alloc::Global;
-use testing_rules::{ALL, Archs, Item, RowIn, SharedBinary, SourceIn, Testing};
+use testing_items::{ALL, Archs, Item};
+use testing_model::{RowIn, SharedBinary, SourceIn};
+use testing_suites::Testing;
 
 /// The message that a text is, where it is of this sender and number.
 fn own_message(
@@ -32,77 +34,77 @@ fn own_message(
     text: &[u8],
     sender: u32,
     number: u32,
-) -> Result<Message, KeepFault>
+) -> Result<Message, TableFault>
     ensures ok { IfOk result (λ message. own_by sender number (read setup.now text.now) ≡ Some message) }
-    ensures bad { result ≡ Err (KeepFault.Store Cause.BadRow) → own_by sender number (read setup.now text.now) ≡ None }
+    ensures bad { result ≡ Err (TableFault.Store Cause.BadRow) → own_by sender number (read setup.now text.now) ≡ None }
 {
     match read_message(alloc, setup, text) {
         Ok(message) => {
             if message.sender == sender && message.number == number {
                 Ok(message)
             } else {
-                Err(KeepFault::Store(Cause::BadRow))
+                Err(TableFault::Store(Cause::BadRow))
             }
         }
-        Err(MailFault::NoMemory) => Err(KeepFault::NoMemory),
-        Err(_) => Err(KeepFault::Store(Cause::BadRow)),
+        Err(MailFault::NoMemory) => Err(TableFault::NoMemory),
+        Err(_) => Err(TableFault::Store(Cause::BadRow)),
     }
 }
 
 /// The message that is kept at a place.
-#[tactic(auto, unfolding(crate::specs::Holdings::message_at))]
+#[tactic(auto, unfolding(crate::specs::TableContent::message_at))]
 fn message_at<S: Alter>(
     alloc: Global,
     conn: &mut Connection<S>,
     setup: &Setup,
     sender: u32,
     number: u32,
-) -> Result<Message, KeepFault>
+) -> Result<Message, TableFault>
     requires ours { IsTrusted (state S.Store conn.old) → IsOurs (state S.Store conn.old) }
     ensures before { IsTrusted (state S.Store conn.new) → IsTrusted (state S.Store conn.old) }
     ensures lasts { Lasts (state S.Store conn.old) (state S.Store conn.new) }
     ensures open { HasCleanDisk (state S.Store conn.new) → IsTrusted (state S.Store conn.old) → OnOk result (IsTrusted (state S.Store conn.new)) }
     ensures same { IsTrusted (state S.Store conn.new) → Same (state S.Store conn.old) (state S.Store conn.new) }
     ensures ok { IsTrusted (state S.Store conn.new) → IfOk result (λ message. kept_message setup.now (kept_rows ((state S.Store conn.new).now.trees 1)) sender number ≡ Some message) }
-    ensures bad { IsTrusted (state S.Store conn.new) → result ≡ Err (KeepFault.Store Cause.BadRow) → IsCrowded ((state S.Store conn.new).now.trees 1) ⊎ (kept_message setup.now (kept_rows ((state S.Store conn.new).now.trees 1)) sender number ≡ None) }
+    ensures bad { IsTrusted (state S.Store conn.new) → result ≡ Err (TableFault.Store Cause.BadRow) → IsCrowded ((state S.Store conn.new).now.trees 1) ⊎ (kept_message setup.now (kept_rows ((state S.Store conn.new).now.trees 1)) sender number ≡ None) }
 {
     match mail::find(conn, sender, number)? {
-        None => Err(KeepFault::Store(Cause::BadRow)),
+        None => Err(TableFault::Store(Cause::BadRow)),
         Some(text) => own_message(alloc, setup, text.as_slice(), sender, number),
     }
 }
 
 /// The characters in a column.
-fn name_in(row: &Row, at: usize) -> Result<&[u8], KeepFault>
+fn name_in(row: &Row, at: usize) -> Result<&[u8], TableFault>
     ensures ok { IfOk result (λ name. column row.now at ≡ Words name.now) }
-    ensures bad { result ≡ Err (KeepFault.Store Cause.BadRow) → at < length row.now → (name : List ℕ) → column row.now at ≢ Words name }
+    ensures bad { result ≡ Err (TableFault.Store Cause.BadRow) → at < length row.now → (name : List ℕ) → column row.now at ≢ Words name }
 {
     match row.get_ref(at).map_err(unread)? {
         ValueRef::Text(name) => Ok(name),
-        _ => Err(KeepFault::Store(Cause::BadRow)),
+        _ => Err(TableFault::Store(Cause::BadRow)),
     }
 }
 
 /// The rowid, in the first column.
-fn rowid_in(row: &Row) -> Result<i64, KeepFault>
+fn rowid_in(row: &Row) -> Result<i64, TableFault>
     ensures ok { IfOk result (λ id. column row.now 0 ≡ Int id) }
-    ensures bad { result ≡ Err (KeepFault.Store Cause.BadRow) → 0 < length row.now → (id : ℤ) → column row.now 0 ≢ Int id }
+    ensures bad { result ≡ Err (TableFault.Store Cause.BadRow) → 0 < length row.now → (id : ℤ) → column row.now 0 ≢ Int id }
 {
     Ok(row.get(0).map_err(unread)?)
 }
 
 /// The number of 32 bits in a column.
-fn number_in(row: &Row, at: usize) -> Result<u32, KeepFault>
+fn number_in(row: &Row, at: usize) -> Result<u32, TableFault>
     ensures ok { IfOk result (λ n. (column row.now at ≡ Int (pos n)) × (n < 4_294_967_296)) }
-    ensures bad { result ≡ Err (KeepFault.Store Cause.BadRow) → at < length row.now → (n : ℕ) → n < 4_294_967_296 → column row.now at ≢ Int (pos n) }
+    ensures bad { result ≡ Err (TableFault.Store Cause.BadRow) → at < length row.now → (n : ℕ) → n < 4_294_967_296 → column row.now at ≢ Int (pos n) }
 {
     Ok(row.get(at).map_err(unread)?)
 }
 
 /// The name in a shown row of testing's sources, and the place of its message.
-fn source_entry(row: &Row) -> Result<(&[u8], u32, u32), KeepFault>
+fn source_entry(row: &Row) -> Result<(&[u8], u32, u32), TableFault>
     ensures ok { IfOk result (λ entry. source_in row.now ≡ Some (entry.0.now, (entry.1, entry.2))) }
-    ensures bad { result ≡ Err (KeepFault.Store Cause.BadRow) → (id : ℤ) (name : List ℕ) (sender number : ℕ) → sender < 4_294_967_296 → number < 4_294_967_296 → row.now ≢ Int id ∷ Words name ∷ Int (pos sender) ∷ Int (pos number) ∷ [] }
+    ensures bad { result ≡ Err (TableFault.Store Cause.BadRow) → (id : ℤ) (name : List ℕ) (sender number : ℕ) → sender < 4_294_967_296 → number < 4_294_967_296 → row.now ≢ Int id ∷ Words name ∷ Int (pos sender) ∷ Int (pos number) ∷ [] }
 {
     let _rowid = rowid_in(row)?;
     let name = name_in(row, 1)?;
@@ -144,20 +146,20 @@ fn source_at<S: Alter>(
     conn: &mut Connection<S>,
     setup: &Setup,
     row: &Row,
-) -> Result<SourceIn, KeepFault>
+) -> Result<SourceIn, TableFault>
     requires ours { IsTrusted (state S.Store conn.old) → IsOurs (state S.Store conn.old) }
     ensures before { IsTrusted (state S.Store conn.new) → IsTrusted (state S.Store conn.old) }
     ensures lasts { Lasts (state S.Store conn.old) (state S.Store conn.new) }
     ensures open { HasCleanDisk (state S.Store conn.new) → IsTrusted (state S.Store conn.old) → OnOk result (IsTrusted (state S.Store conn.new)) }
     ensures same { IsTrusted (state S.Store conn.new) → Same (state S.Store conn.old) (state S.Store conn.new) }
     ensures ok { IsTrusted (state S.Store conn.new) → IfOk result (λ source. source_of setup.now (kept_rows ((state S.Store conn.new).now.trees 1)) row.now ≡ Some source) }
-    ensures bad { IsTrusted (state S.Store conn.new) → result ≡ Err (KeepFault.Store Cause.BadRow) → row.now ≡ source_columns row.now → IsCrowded ((state S.Store conn.new).now.trees 1) ⊎ (source_of setup.now (kept_rows ((state S.Store conn.new).now.trees 1)) row.now ≡ None) }
+    ensures bad { IsTrusted (state S.Store conn.new) → result ≡ Err (TableFault.Store Cause.BadRow) → row.now ≡ source_columns row.now → IsCrowded ((state S.Store conn.new).now.trees 1) ⊎ (source_of setup.now (kept_rows ((state S.Store conn.new).now.trees 1)) row.now ≡ None) }
 {
     let (name, sender, number) = source_entry(row)?;
     let message = message_at(alloc, conn, setup, sender, number)?;
     match source_named(message, name, sender, number) {
         Some(source) => Ok(source),
-        None => Err(KeepFault::Store(Cause::BadRow)),
+        None => Err(TableFault::Store(Cause::BadRow)),
     }
 }
 
@@ -182,14 +184,14 @@ fn sources_at<S: Alter>(
     conn: &mut Connection<S>,
     setup: &Setup,
     rows: &[Row],
-) -> Result<Vec<SourceIn>, KeepFault>
+) -> Result<Vec<SourceIn>, TableFault>
     requires ours { IsTrusted (state S.Store conn.old) → IsOurs (state S.Store conn.old) }
     ensures before { IsTrusted (state S.Store conn.new) → IsTrusted (state S.Store conn.old) }
     ensures lasts { Lasts (state S.Store conn.old) (state S.Store conn.new) }
     ensures open { HasCleanDisk (state S.Store conn.new) → IsTrusted (state S.Store conn.old) → OnOk result (IsTrusted (state S.Store conn.new)) }
     ensures same { IsTrusted (state S.Store conn.new) → Same (state S.Store conn.old) (state S.Store conn.new) }
     ensures ok { IsTrusted (state S.Store conn.new) → IfOk result (λ sources. map (source_of setup.now (kept_rows ((state S.Store conn.new).now.trees 1))) rows.now ≡ map Some sources.items) }
-    ensures bad { IsTrusted (state S.Store conn.new) → result ≡ Err (KeepFault.Store Cause.BadRow) → ReadsEach source_columns (source_of setup.now (kept_rows ((state S.Store conn.new).now.trees 1))) rows.now → IsCrowded ((state S.Store conn.new).now.trees 1) }
+    ensures bad { IsTrusted (state S.Store conn.new) → result ≡ Err (TableFault.Store Cause.BadRow) → ReadsEach source_columns (source_of setup.now (kept_rows ((state S.Store conn.new).now.trees 1))) rows.now → IsCrowded ((state S.Store conn.new).now.trees 1) }
 {
     let mut sources = Vec::new(alloc);
     'rows: for row in rows {
@@ -220,9 +222,9 @@ struct RowEntry<'a> {
 }
 
 /// The architecture and name in a shown row of testing's rows, and the places of its message and binary.
-fn row_entry(row: &Row) -> Result<RowEntry<'_>, KeepFault>
+fn row_entry(row: &Row) -> Result<RowEntry<'_>, TableFault>
     ensures ok { IfOk result (λ e. entry_in row.now ≡ Some ((e.arch, e.name.now), ((e.sender, e.number), e.place))) }
-    ensures bad { result ≡ Err (KeepFault.Store Cause.BadRow) → (id : ℤ) (arch : ℕ) (name : List ℕ) (sender number place : ℕ) → arch < 4_294_967_296 → sender < 4_294_967_296 → number < 4_294_967_296 → place < 4_294_967_296 → row.now ≢ Int id ∷ Int (pos arch) ∷ Words name ∷ Int (pos sender) ∷ Int (pos number) ∷ Int (pos place) ∷ [] }
+    ensures bad { result ≡ Err (TableFault.Store Cause.BadRow) → (id : ℤ) (arch : ℕ) (name : List ℕ) (sender number place : ℕ) → arch < 4_294_967_296 → sender < 4_294_967_296 → number < 4_294_967_296 → place < 4_294_967_296 → row.now ≢ Int id ∷ Int (pos arch) ∷ Words name ∷ Int (pos sender) ∷ Int (pos number) ∷ Int (pos place) ∷ [] }
 {
     let _rowid = rowid_in(row)?;
     let arch = number_in(row, 1)?;
@@ -307,7 +309,7 @@ fn row_at<S: Alter>(
     conn: &mut Connection<S>,
     setup: &Setup,
     row: &Row,
-) -> Result<RowIn, KeepFault>
+) -> Result<RowIn, TableFault>
     requires ours { IsTrusted (state S.Store conn.old) → IsOurs (state S.Store conn.old) }
     ensures before { IsTrusted (state S.Store conn.new) → IsTrusted (state S.Store conn.old) }
     ensures lasts { Lasts (state S.Store conn.old) (state S.Store conn.new) }
@@ -315,13 +317,13 @@ fn row_at<S: Alter>(
     ensures same { IsTrusted (state S.Store conn.new) → Same (state S.Store conn.old) (state S.Store conn.new) }
     ensures known { IfOk result (λ given. IsArchPlace setup.now.archs given.arch) }
     ensures ok { IsTrusted (state S.Store conn.new) → IfOk result (λ given. row_of setup.now (kept_rows ((state S.Store conn.new).now.trees 1)) row.now ≡ Some given) }
-    ensures bad { IsTrusted (state S.Store conn.new) → result ≡ Err (KeepFault.Store Cause.BadRow) → row.now ≡ entry_columns row.now → IsCrowded ((state S.Store conn.new).now.trees 1) ⊎ (row_of setup.now (kept_rows ((state S.Store conn.new).now.trees 1)) row.now ≡ None) }
+    ensures bad { IsTrusted (state S.Store conn.new) → result ≡ Err (TableFault.Store Cause.BadRow) → row.now ≡ entry_columns row.now → IsCrowded ((state S.Store conn.new).now.trees 1) ⊎ (row_of setup.now (kept_rows ((state S.Store conn.new).now.trees 1)) row.now ≡ None) }
 {
     let entry = row_entry(row)?;
     let message = message_at(alloc, conn, setup, entry.sender, entry.number)?;
     match row_named(alloc, setup.archs(), message, &entry)? {
         Some(given) => Ok(given),
-        None => Err(KeepFault::Store(Cause::BadRow)),
+        None => Err(TableFault::Store(Cause::BadRow)),
     }
 }
 
@@ -346,7 +348,7 @@ fn rows_at<S: Alter>(
     conn: &mut Connection<S>,
     setup: &Setup,
     rows: &[Row],
-) -> Result<Vec<RowIn>, KeepFault>
+) -> Result<Vec<RowIn>, TableFault>
     requires ours { IsTrusted (state S.Store conn.old) → IsOurs (state S.Store conn.old) }
     ensures before { IsTrusted (state S.Store conn.new) → IsTrusted (state S.Store conn.old) }
     ensures lasts { Lasts (state S.Store conn.old) (state S.Store conn.new) }
@@ -354,7 +356,7 @@ fn rows_at<S: Alter>(
     ensures same { IsTrusted (state S.Store conn.new) → Same (state S.Store conn.old) (state S.Store conn.new) }
     ensures known { IfOk result (λ given. AllByRecursion (λ r. IsArchPlace setup.now.archs r.arch) given.items) }
     ensures ok { IsTrusted (state S.Store conn.new) → IfOk result (λ given. map (row_of setup.now (kept_rows ((state S.Store conn.new).now.trees 1))) rows.now ≡ map Some given.items) }
-    ensures bad { IsTrusted (state S.Store conn.new) → result ≡ Err (KeepFault.Store Cause.BadRow) → ReadsEach entry_columns (row_of setup.now (kept_rows ((state S.Store conn.new).now.trees 1))) rows.now → IsCrowded ((state S.Store conn.new).now.trees 1) }
+    ensures bad { IsTrusted (state S.Store conn.new) → result ≡ Err (TableFault.Store Cause.BadRow) → ReadsEach entry_columns (row_of setup.now (kept_rows ((state S.Store conn.new).now.trees 1))) rows.now → IsCrowded ((state S.Store conn.new).now.trees 1) }
 {
     let mut given = Vec::new(alloc);
     'rows: for row in rows {
@@ -375,9 +377,9 @@ fn put_rows(testing: &mut Testing, rows: Vec<RowIn>) -> Result<(), NoMemory>
 }
 
 /// The suite of these sources and rows. Where two of them have one key, the tables are no office's.
-fn gathered(alloc: Global, sources: Vec<SourceIn>, rows: Vec<RowIn>) -> Result<Testing, KeepFault>
+fn gathered(alloc: Global, sources: Vec<SourceIn>, rows: Vec<RowIn>) -> Result<Testing, TableFault>
     ensures ok { IfOk result (λ testing. IsGathered sources.items rows.items testing) }
-    ensures bad { result ≡ Err (KeepFault.Store Cause.BadRow) → length (put_all_sources sources.items []) ≡ length sources.items → length (put_all_rows rows.items []) ≢ length rows.items }
+    ensures bad { result ≡ Err (TableFault.Store Cause.BadRow) → length (put_all_sources sources.items []) ≡ length sources.items → length (put_all_rows rows.items []) ≢ length rows.items }
 {
     let count = sources.len();
     let more = rows.len();
@@ -385,7 +387,7 @@ fn gathered(alloc: Global, sources: Vec<SourceIn>, rows: Vec<RowIn>) -> Result<T
     put_sources(&mut testing, sources)?;
     put_rows(&mut testing, rows)?;
     if testing.sources().len() != count || testing.rows().len() != more {
-        return Err(KeepFault::Store(Cause::BadRow));
+        return Err(TableFault::Store(Cause::BadRow));
     }
     Ok(testing)
 }
@@ -395,13 +397,13 @@ pub(crate) fn testing<S: Alter>(
     alloc: Global,
     conn: &mut Connection<S>,
     setup: &Setup,
-) -> Result<Testing, KeepFault>
+) -> Result<Testing, TableFault>
     requires ours { IsTrusted (state S.Store conn.old) → IsOurs (state S.Store conn.old) }
     ensures before { IsTrusted (state S.Store conn.new) → IsTrusted (state S.Store conn.old) }
     ensures lasts { Lasts (state S.Store conn.old) (state S.Store conn.new) }
     ensures open { HasCleanDisk (state S.Store conn.new) → IsTrusted (state S.Store conn.old) → OnOk result (IsTrusted (state S.Store conn.new)) }
     ensures same { IsTrusted (state S.Store conn.new) → Same (state S.Store conn.old) (state S.Store conn.new) }
-    ensures bad { IsTrusted (state S.Store conn.new) → IsWhole (kept_rows ((state S.Store conn.new).now.trees 1)) ((state S.Store conn.new).now.trees 1) → AreNamed setup.now (state S.Store conn.new).now.trees → result ≢ Err (KeepFault.Store Cause.BadRow) }
+    ensures bad { IsTrusted (state S.Store conn.new) → IsWhole (kept_rows ((state S.Store conn.new).now.trees 1)) ((state S.Store conn.new).now.trees 1) → AreNamed setup.now (state S.Store conn.new).now.trees → result ≢ Err (TableFault.Store Cause.BadRow) }
     ensures known { IfOk result (λ testing. KnowsArchs setup.now.archs testing.rows) }
     ensures value { IsTrusted (state S.Store conn.new) → IfOk result (λ testing. testing ≡ suite_in setup.now (kept_rows ((state S.Store conn.new).now.trees 1)) (source_map ((state S.Store conn.new).now.trees 4)) (entry_map ((state S.Store conn.new).now.trees 6))) }
 {

@@ -1,25 +1,22 @@
-//! The office's store: its kept mail, the reports of its finished runs and its testing suite, behind one trait that
-//! says what each call makes of them.
+//! The office's store in tables of sqlite: its kept mail, the reports of its finished runs and its testing suite.
 #![tactic(auto)]
 
 mod entries;
 mod faults;
 mod finishing;
-mod keeping;
 mod layout;
 mod mail;
-mod memory;
 mod on_sqlite;
 mod opening;
 mod runs;
+mod said;
 mod schema;
 mod setup_text;
 mod testing;
-mod values;
 
-pub use faults::{Cause, KeepFault};
-pub use keeping::{Keeper, keep_if_free};
-pub use memory::Plain;
+pub use faults::Cause;
+pub use office_keeper::{
+    Finished, KeepCause, KeepFault, Keeper, Letter, MailText, Plain, Reports, keep_if_free,
+};
 pub use on_sqlite::Tables;
 pub use opening::OpenFault;
-pub use values::{Finished, Letter, MailText, Reports};

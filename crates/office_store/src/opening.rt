@@ -12,7 +12,7 @@ ghost use Rattle.office_store.specs.SetupText.{setup_text as text_of};
 ghost use Rattle.office_store.specs.declared.opening.OpenFault.TheVariants as fault;
 ghost use Rattle.office_store.specs.declared.faults.Cause.TheVariants.{BadRow};
 
-use crate::faults::{Cause, KeepFault};
+use crate::faults::{Cause, TableFault};
 use crate::layout::{has_tables, is_fresh};
 use crate::on_sqlite::Tables;
 use crate::runs::office_rows;
@@ -35,13 +35,13 @@ pub enum OpenFault {
     UnknownSchema,
 }
 
-impl From<KeepFault> for OpenFault {
+impl From<TableFault> for OpenFault {
     ghost from_gives = { λ fault e. e ≡ open_fault fault };
 
-    fn from(fault: KeepFault) -> OpenFault {
+    fn from(fault: TableFault) -> OpenFault {
         match fault {
-            KeepFault::NoMemory => OpenFault::NoMemory,
-            KeepFault::Store(cause) => OpenFault::Store(cause),
+            TableFault::NoMemory => OpenFault::NoMemory,
+            TableFault::Store(cause) => OpenFault::Store(cause),
         }
     }
 }
@@ -58,7 +58,7 @@ impl From<Error> for OpenFault {
     ghost from_gives = { λ _ e. (e ≢ fault.OtherSetup) × (e ≢ fault.UnknownSchema) × (e ≢ fault.Store BadRow) };
 
     fn from(error: Error) -> OpenFault {
-        OpenFault::from(KeepFault::from(error))
+        OpenFault::from(TableFault::from(error))
     }
 }
 

@@ -6,7 +6,7 @@ ghost use Rattle.office_store.specs.Tables.{IsTrusted, IsOurs, IsInside, WentOn}
 ghost use Rattle.office_store.specs.Opening.{IsAsItWas};
 ghost use Rattle.office_store.specs.Creating.{IsBuilding, Makes, MakesAll, IsBlank, schema_of_one, schema_of_two, schema_of_three, schema_of_four};
 
-use crate::faults::{Cause, KeepFault};
+use crate::faults::{Cause, TableFault};
 use crate::layout::is_fresh;
 use crate::runs::add_office;
 use sqlite::{Alter, Connection, Error, Transaction};
@@ -114,15 +114,15 @@ fn write_office<S: Alter>(tx: &mut Transaction<'_, S>, setup: &str) -> Result<us
 
 /// Makes the office's tables in a fresh database, all or none. A database that has tables, or a connection that is in
 /// a transaction, is refused.
-pub(crate) fn create<S: Alter>(conn: &mut Connection<S>, setup: &str) -> Result<(), KeepFault>
+pub(crate) fn create<S: Alter>(conn: &mut Connection<S>, setup: &str) -> Result<(), TableFault>
     ensures before { IsTrusted (state S.Store conn.new) → IsTrusted (state S.Store conn.old) }
     ensures ours { IsTrusted (state S.Store conn.new) → OnOk result (IsOurs (state S.Store conn.new)) }
     ensures blank { IsTrusted (state S.Store conn.new) → OnOk result (IsBlank (state S.Store conn.new).now.trees (record { schema = 0; setup = setup.now; finished = 0 })) }
     ensures err { IsTrusted (state S.Store conn.new) → OnErr result (IsAsItWas (state S.Store conn.old) (state S.Store conn.new)) }
-    ensures bad { result ≢ Err (KeepFault.Store Cause.BadRow) }
+    ensures bad { result ≢ Err (TableFault.Store Cause.BadRow) }
 {
     if !conn.is_autocommit() || !is_fresh(conn.schema()) {
-        return Err(KeepFault::Store(Cause::Sqlite(Error::InvalidQuery)));
+        return Err(TableFault::Store(Cause::Sqlite(Error::InvalidQuery)));
     }
     let mut tx = conn.transaction();
     let _written = write_office(&mut tx, setup)?;

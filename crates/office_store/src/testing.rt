@@ -2,12 +2,12 @@
 ghost use Rattle.std.specs.Prelude.{◌≡◌, OnOk, OnErr};
 ghost use Rattle.sqlite.specs.Held.{state};
 ghost use Rattle.sqlite.specs.State.{HasCleanDisk};
-ghost use Rattle.testing_rules.specs.InOrder.{AreByName, AreByKey};
+ghost use Rattle.testing_model.specs.InOrder.{AreByName, AreByKey};
 ghost use Rattle.office_store.specs.Tables.{IsTrusted, Lasts, IsInside, WentOn};
 ghost use Rattle.office_store.specs.Entries.{ClearsSources, AddsSource, SetsSources, ClearsRows, AddsRow, SetsRows};
 
 use sqlite::{Alter, Error, Transaction, params};
-use testing_rules::{RowIn, SourceIn};
+use testing_model::{RowIn, SourceIn};
 
 /// Takes all sources out.
 fn clear_sources<S: Alter>(tx: &mut Transaction<'_, S>) -> Result<usize, Error>

@@ -3,7 +3,7 @@ use Rattle.std.proofs.lemmas.Bool.{cases_eq}
 use Rattle.testing_rules.specs.Covered.{Covered}
 use Rattle.testing_rules.specs.StandsFor.{StandsFor}
 use Rattle.office_mail.specs.Runs.{cover_of}
-use Rattle.office_store.specs.Content.{Content}
+use Rattle.office_keeper.specs.Content.{Content}
 use Rattle.office_http.specs.Known.{FactsStand}
 use Rattle.office_http.proofs.LookFacts.{looked_none, looked_then}
 use Rattle.office_http.proofs.TakenFacts.{said_within-same}

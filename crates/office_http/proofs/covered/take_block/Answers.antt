@@ -2,8 +2,8 @@ use Rattle.std.proofs.Common.{◌≡◌, ◌+◌, ◌++◌, List, ap, subst, ◌
 use Rattle.std.proofs.lemmas.Result.{on_ok_weaker}
 use Rattle.testing_rules.specs.Covered.{Covered}
 use Rattle.testing_rules.specs.StandsFor.{StandsFor}
-use Rattle.office_store.specs.declared.values.Letter.{Letter}
-use Rattle.office_store.specs.Content.{Content, letters_within}
+use Rattle.office_keeper.specs.declared.values.Letter.{Letter}
+use Rattle.office_keeper.specs.Content.{Content, letters_within}
 use Rattle.office_http.specs.Walk.{said_by, said_in}
 use Rattle.office_http.proofs.LetterFacts.{said_block}
 use Rattle.office_http.proofs.covered.take_block.Goals as goal

@@ -2,7 +2,7 @@ use Rattle.std.proofs.Common.{◌≡◌, ◌+◌, ◌++◌, ◌∷◌, [], ℕ, 
 use Rattle.std.proofs.lemmas.List.{take_more, take_all}
 use Rattle.testing_rules.specs.Covered.{Covered}
 use Rattle.testing_rules.specs.StandsFor.{StandsFor}
-use Rattle.office_store.specs.declared.values.Letter.{Letter}
+use Rattle.office_keeper.specs.declared.values.Letter.{Letter}
 use Rattle.office_http.specs.Outcome.{item_at}
 use Rattle.office_http.specs.Walk.{said_in}
 use Rattle.office_http.proofs.LetterFacts.{said_in-none, said_in-more}

@@ -2,7 +2,7 @@ use Rattle.std.proofs.Common.{◌≡◌, ℕ, ◌++◌, List, length, set, slice
 use Rattle.std.proofs.lemmas.List.{get_or_default, get_or-set_same, get_or-set_other}
 use Rattle.testing_rules.specs.Covered.{Covered}
 use Rattle.testing_rules.specs.StandsFor.{StandsFor}
-use Rattle.office_store.specs.Content.{Content}
+use Rattle.office_keeper.specs.Content.{Content}
 use Rattle.office_http.specs.Walk.{said_by, said_within}
 use Rattle.office_http.proofs.TakenFacts.{Grows, stand_again, stand_more}
 use Rattle.office_http.proofs.covered.take_on.Goals as goal

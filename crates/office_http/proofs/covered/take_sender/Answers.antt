@@ -1,6 +1,6 @@
 use Rattle.std.proofs.Common.{ℕ, ◌++◌, subst, arith}
 use Rattle.testing_rules.specs.StandsFor.{StandsFor}
-use Rattle.office_store.specs.Content.{Content}
+use Rattle.office_keeper.specs.Content.{Content}
 use Rattle.office_http.specs.Walk.{said_by}
 use Rattle.office_http.proofs.LookFacts.{looked_none, looked_then}
 use Rattle.office_http.proofs.covered.take_sender.Goals as goal

@@ -1,5 +1,5 @@
 use Rattle.std.proofs.Common.{◌∙◌}
-use Rattle.office_store.specs.Content.{Content}
+use Rattle.office_keeper.specs.Content.{Content}
 use Rattle.office_http.proofs.orders.count_block.Goals as goal
 
 pub returns-clause-goes_on : goal.returns-clause-goes_on

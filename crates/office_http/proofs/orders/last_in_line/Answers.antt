@@ -1,6 +1,6 @@
 use Rattle.std.proofs.Common.{◌≡◌, ◌+◌, List, ◌∷◌, drop, sym, ap, ◌∙◌, arith}
 use Rattle.std.proofs.lemmas.List.{drop_more, drop_all}
-use Rattle.office_store.specs.declared.values.Letter.{Letter}
+use Rattle.office_keeper.specs.declared.values.Letter.{Letter}
 use Rattle.office_http.proofs.LetterFacts.{left_more, left_missed, left_none}
 use Rattle.office_http.proofs.orders.last_in_line.Goals as goal
 use Rattle.office_http.proofs.orders.last_in_line.Goals.{then-last-end-via-then-last-end, then-last-end-via-else-last-end+then-letter-last}

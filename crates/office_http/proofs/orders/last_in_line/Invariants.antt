@@ -1,6 +1,6 @@
 use Rattle.std.proofs.Common.{◌≡◌, ◌≤◌, ◌+◌, ℕ, drop}
 use Rattle.office_mail.specs.Kept.{Kept}
-use Rattle.office_store.specs.Content.{letters_within}
+use Rattle.office_keeper.specs.Content.{letters_within}
 use Rattle.office_http.proofs.LetterFacts.{AreLeft}
 use Rattle.office_http.proofs.orders.last_in_line.Given as goal
 

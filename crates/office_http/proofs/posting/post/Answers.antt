@@ -2,7 +2,7 @@ use Rattle.std.proofs.Common.{◌≡◌, Some, None, sym, ap, ◌∙◌}
 use Rattle.std.specs.FinMap.{get, insert}
 use Rattle.office_mail.specs.Kept.{place_of}
 use Rattle.office_mail.proofs.KeptFacts.{kept_from-free}
-use Rattle.office_store.specs.Content.{Content, with_text}
+use Rattle.office_keeper.specs.Content.{Content, with_text}
 use Rattle.office_http.proofs.OfficeFacts.{on_ok, kept_from-stored, IsOffice-kept, Within-put}
 use Rattle.office_http.proofs.posting.post.Goals as goal
 

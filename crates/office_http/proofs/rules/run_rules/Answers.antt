@@ -3,7 +3,7 @@ use Rattle.testing_rules.specs.Suite.{Suite}
 use Rattle.testing_rules.specs.Excuses.{excuses_of}
 use Rattle.testing_rules.specs.Updates.{IsUpdate}
 use Rattle.testing_rules.specs.Reports.{excuses_text, update_text}
-use Rattle.office_store.specs.declared.values.Finished.{Finished}
+use Rattle.office_keeper.specs.declared.values.Finished.{Finished}
 use Rattle.testing_rules.specs.Given.{IsGivenBy}
 use Rattle.office_http.proofs.RunFacts.{reported_is}
 use Rattle.office_http.proofs.rules.run_rules.Goals as goal

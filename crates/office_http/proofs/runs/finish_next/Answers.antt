@@ -5,8 +5,8 @@ use Rattle.office_mail.specs.declared.message.RunOrder.{RunOrder}
 use Rattle.office_mail.specs.Kept.{Kept}
 use Rattle.office_mail.specs.Lists.{Lists}
 use Rattle.office_mail.specs.Runs.{IsReady}
-use Rattle.office_store.specs.Content.{Content, with_run}
-use Rattle.office_store.specs.Given.{AreOwnTexts, IsGiven}
+use Rattle.office_keeper.specs.Content.{Content, with_run}
+use Rattle.office_keeper.specs.Given.{AreOwnTexts, IsGiven}
 use Rattle.office_http.specs.declared.covered.KnownFacts.{KnownFacts}
 use Rattle.office_http.specs.Known.{FactsStand}
 use Rattle.office_http.specs.Outcome.{outcome_of}

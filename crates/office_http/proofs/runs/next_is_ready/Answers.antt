@@ -1,7 +1,7 @@
 use Rattle.std.proofs.Common.{◌≡◌, ◌+◌, ◌<◌, ◌≤◌, ◌↔◌, IsTrue, IfOk, List, length, get_or, sym, subst, arith}
 use Rattle.office_mail.specs.declared.message.RunOrder.{RunOrder}
 use Rattle.office_mail.specs.Runs.{IsReady}
-use Rattle.office_store.specs.Content.{Content}
+use Rattle.office_keeper.specs.Content.{Content}
 use Rattle.office_http.specs.Ready.{HasEach, HasPlaces}
 use Rattle.office_http.proofs.ReadyCount.{none_behind, ready_after_last}
 use Rattle.office_http.proofs.runs.next_is_ready.Goals as goal

@@ -3,7 +3,7 @@ use Rattle.testing_rules.specs.Covered.{Covered}
 use Rattle.testing_rules.specs.Suite.{Suite}
 use Rattle.office_mail.specs.Lists.{Lists}
 use Rattle.office_mail.specs.Runs.{cover_of}
-use Rattle.office_store.specs.Content.{Content}
+use Rattle.office_keeper.specs.Content.{Content}
 use Rattle.office_http.specs.Walk.{said_within}
 use Rattle.office_http.proofs.GivenFacts.{given_by_mail, known_by_mail}
 use Rattle.office_http.proofs.RunFacts.{next_run}

@@ -1,6 +1,6 @@
 use Rattle.std.proofs.Common.{◌+◌, ◌↔◌, IsTrue, subst}
 use Rattle.office_mail.specs.Runs.{IsReady}
-use Rattle.office_store.specs.Content.{Content}
+use Rattle.office_keeper.specs.Content.{Content}
 use Rattle.office_http.specs.Ready.{HasPlaces}
 use Rattle.office_http.proofs.FinishFacts.{ready_count}
 use Rattle.office_http.proofs.runs.ready_count.Goals as goal

@@ -1,8 +1,8 @@
 use Rattle.std.proofs.Common.{refl, sym, ap, ◌∙◌, arith}
 use Rattle.std.specs.Vec.Iter.{into_iter_items}
 use Rattle.std.proofs.lemmas.List.{nil_from_length}
-use Rattle.testing_rules.specs.Suite.{Suite}
-use Rattle.office_store.specs.Holdings.{put_all_rows}
+use Rattle.testing_model.specs.Suite.{Suite}
+use Rattle.office_store.specs.TableContent.{put_all_rows}
 use Rattle.office_store.proofs.EntryLists.{suite_of}
 use Rattle.office_store.proofs.entries.put_rows.Goals as goal
 

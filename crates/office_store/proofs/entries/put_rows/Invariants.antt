@@ -1,6 +1,6 @@
 use Rattle.std.proofs.Common.{◌≡◌}
 use Rattle.std.specs.Vec.Iter.{into_iter_items}
-use Rattle.office_store.specs.Holdings.{put_all_rows}
+use Rattle.office_store.specs.TableContent.{put_all_rows}
 use Rattle.office_store.proofs.entries.put_rows.Given as goal
 
 -- with those that are left, all are put in

@@ -1,7 +1,7 @@
 use Rattle.std.proofs.Common.{Some, inr, sym, ◌∙◌}
 use Rattle.sqlite.specs.Held.{state}
 use Rattle.office_store.specs.Tables.{IsCrowded, kept_rows}
-use Rattle.office_store.specs.Given.{binary_in}
+use Rattle.office_keeper.specs.Given.{binary_in}
 use Rattle.office_store.proofs.Passed.{passed}
 use Rattle.office_store.proofs.EntryReads.{row_none, row_by_parts, row_missing, row_known}
 use Rattle.office_store.proofs.entries.row_at.Goals as goal

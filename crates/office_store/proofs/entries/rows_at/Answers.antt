@@ -2,12 +2,12 @@ use Rattle.std.proofs.Common.{◌≡◌, map, take, Some, sym, subst, ◌∙◌}
 use Rattle.sqlite.specs.Effect.{Database}
 use Rattle.sqlite.specs.Held.{state}
 use Rattle.office_store.specs.Tables.{kept_rows}
-use Rattle.office_store.specs.Holdings.{row_of}
+use Rattle.office_store.specs.TableContent.{row_of}
 use Rattle.office_store.proofs.StateLemmas.{lasts_then, clean_before}
 use Rattle.office_store.proofs.Passed.{passed, no_none}
 use Rattle.office_store.proofs.EntryLists.{read_more, each_pushed}
 use Rattle.testing_model.specs.declared.suite.RowIn.{RowIn}
-use Rattle.office_store.specs.Given.{IsArchPlace}
+use Rattle.office_keeper.specs.Given.{IsArchPlace}
 use Rattle.office_store.proofs.entries.rows_at.Goals as goal
 
 pub rows-preserved : goal.rows-preserved

@@ -3,8 +3,8 @@ use Rattle.sqlite.specs.Held.{state}
 use Rattle.sqlite.specs.State.{HasCleanDisk}
 use Rattle.office_store.specs.Tables.{IsTrusted, Same, Lasts, kept_rows}
 use Rattle.std.specs.List.{AllByRecursion}
-use Rattle.office_store.specs.Given.{IsArchPlace}
-use Rattle.office_store.specs.Holdings.{row_of}
+use Rattle.office_keeper.specs.Given.{IsArchPlace}
+use Rattle.office_store.specs.TableContent.{row_of}
 use Rattle.office_store.proofs.entries.rows_at.Given as goal
 
 -- nothing changed, and the rows so far name the rows of testing so far

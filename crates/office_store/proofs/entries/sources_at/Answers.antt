@@ -2,7 +2,7 @@ use Rattle.std.proofs.Common.{◌≡◌, map, take, Some, sym, subst, ◌∙◌}
 use Rattle.sqlite.specs.Effect.{Database}
 use Rattle.sqlite.specs.Held.{state}
 use Rattle.office_store.specs.Tables.{kept_rows}
-use Rattle.office_store.specs.Holdings.{source_of}
+use Rattle.office_store.specs.TableContent.{source_of}
 use Rattle.office_store.proofs.StateLemmas.{lasts_then, clean_before}
 use Rattle.office_store.proofs.Passed.{passed, no_none}
 use Rattle.office_store.proofs.EntryLists.{read_more}

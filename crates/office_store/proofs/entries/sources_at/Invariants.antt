@@ -2,7 +2,7 @@ use Rattle.std.proofs.Common.{◌≡◌, map, take, Some}
 use Rattle.sqlite.specs.Held.{state}
 use Rattle.sqlite.specs.State.{HasCleanDisk}
 use Rattle.office_store.specs.Tables.{IsTrusted, Same, Lasts, kept_rows}
-use Rattle.office_store.specs.Holdings.{source_of}
+use Rattle.office_store.specs.TableContent.{source_of}
 use Rattle.office_store.proofs.entries.sources_at.Given as goal
 
 -- nothing changed, and the rows so far name the sources so far

@@ -3,8 +3,8 @@ use Rattle.std.specs.FinMap.{get}
 use Rattle.sqlite.specs.Effect.{Database}
 use Rattle.sqlite.specs.Held.{state}
 use Rattle.office_store.specs.Tables.{said_in, run_map}
-use Rattle.office_store.specs.Content.{item_from_one}
-use Rattle.office_store.specs.Holdings.{reports_to, count_said, no_reports}
+use Rattle.office_keeper.specs.Content.{item_from_one}
+use Rattle.office_store.specs.TableContent.{reports_to, count_said, no_reports}
 use Rattle.office_store.proofs.Passed.{passed, no_none}
 use Rattle.office_store.proofs.ReportFacts.{item_past, item_is}
 use Rattle.office_store.proofs.runs.reports.Goals as goal

@@ -1,5 +1,5 @@
 use Rattle.std.proofs.Common.{length, ap, ◌∙◌, arith}
-use Rattle.office_store.specs.Content.{Content}
+use Rattle.office_keeper.specs.Content.{Content}
 use Rattle.office_http.proofs.CountFacts.{IsCounted-later}
 use Rattle.office_http.proofs.TakenFacts.{if_known-later}
 use Rattle.office_http.proofs.office.Office.deliver.Goals as goal

@@ -1,7 +1,7 @@
 use Rattle.std.proofs.Common.{ap, ◌∙◌}
 use Rattle.std.specs.Option.{option_map}
-use Rattle.office_store.specs.Content.{item_from_one}
-use Rattle.office_store.specs.declared.values.Reports.{Reports}
+use Rattle.office_keeper.specs.Content.{item_from_one}
+use Rattle.office_keeper.specs.declared.values.Reports.{Reports}
 use Rattle.office_http.proofs.FinishFacts.{reports_at-is}
 use Rattle.office_http.proofs.office.Office.excuses_text.Goals as goal
 

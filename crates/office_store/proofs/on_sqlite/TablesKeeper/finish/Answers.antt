@@ -1,8 +1,8 @@
 use Rattle.std.proofs.Common.{◌≡◌, ◌+◌, ◌++◌, ◌∷◌, [], length, OnOk, sym, subst, arith}
 use Rattle.sqlite.specs.Held.{state}
-use Rattle.office_store.specs.Content.{reports_in, with_run}
-use Rattle.office_store.specs.Given.{AreOwnTexts, IsGiven}
-use Rattle.office_store.specs.Holdings.{content_in}
+use Rattle.office_keeper.specs.Content.{reports_in, with_run}
+use Rattle.office_keeper.specs.Given.{AreOwnTexts, IsGiven}
+use Rattle.office_store.specs.TableContent.{content_in}
 use Rattle.office_store.specs.Legible.{IsLegible}
 use Rattle.office_store.specs.Tables.{IsTrusted}
 use Rattle.office_store.proofs.ContentFacts.{reports_on, content_on}

@@ -1,8 +1,8 @@
 use Rattle.std.proofs.Common.{◌≡◌, None, OnOk, sym, subst}
 use Rattle.std.specs.FinMap.{get, insert}
 use Rattle.sqlite.specs.Held.{state}
-use Rattle.office_store.specs.Content.{with_text}
-use Rattle.office_store.specs.Holdings.{content_in}
+use Rattle.office_keeper.specs.Content.{with_text}
+use Rattle.office_store.specs.TableContent.{content_in}
 use Rattle.office_store.specs.Legible.{IsLegible}
 use Rattle.office_store.specs.Tables.{IsTrusted, kept_rows}
 use Rattle.office_store.proofs.KeepLemmas.{inserted_on}

@@ -1,0 +1,2 @@
+pub mod MemoryFacts
+pub mod PartFacts

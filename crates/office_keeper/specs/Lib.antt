@@ -1,0 +1,4 @@
+pub mod Content
+pub mod Keeping
+pub mod Given
+pub mod MemoryState

@@ -1,0 +1,35 @@
+-- The state of the store in memory.
+use Rattle.std.specs.Prelude.{◌≤◌, ℕ, List, length}
+use Rattle.std.specs.FinMap.{from_entries}
+use Rattle.office_mail.specs.Lists.{Lists}
+use Rattle.office_mail.specs.Kept.{Kept, Place}
+use Rattle.testing_model.specs.Suite.{Suite}
+use Rattle.office_keeper.specs.declared.values.Letter.{Letter}
+use Rattle.office_keeper.specs.declared.values.Reports.{Reports}
+use Rattle.office_keeper.specs.Content.{Content}
+use Rattle.office_keeper.specs.Given.{KnowsArchs}
+
+pub record MemoryState : Type 0 where
+  -- the setup that it was made for
+  pub setup : Lists
+  -- the texts with their places, by place
+  pub mail : List (Place × List ℕ)
+  pub runs : List Reports
+  pub testing : Suite
+
+-- the texts at their places
+abbrev pub kept_in : List (Place × List ℕ) → Kept
+kept_in mail = from_entries mail
+
+-- a text at a place of its sender, with its number
+abbrev pub letter_of : Place × List ℕ → Letter
+letter_of e = record { number = e.0.1; text = e.1 }
+
+-- what the store in memory holds
+abbrev pub content_of : MemoryState → Content
+content_of s = record { kept = kept_in s.mail; reports = s.runs; testing = s.testing }
+
+-- runs can be numbered, and testing has architectures of the setup
+pub record IsMemoryState (setup : Lists) (runs : List Reports) (testing : Suite) : Type 0 where
+  pub few : length runs ≤ 4_294_967_295
+  pub known : KnowsArchs setup.archs testing.rows

@@ -1,0 +1,190 @@
+//! A keeper in memory.
+ghost use Rattle.std.specs.Prelude.{◌≡◌, ◌≤◌, [], ⊤, map, IfOk, IfErr};
+ghost use Rattle.std.specs.BTreeMap.{IsOrdered};
+ghost use Rattle.std.specs.BTreeMap.Range.{entries_between};
+ghost use Rattle.std.specs.declared.ops.Bound.TheVariants.{Included};
+ghost use Rattle.office_mail.specs.Kept.{place_cmp};
+ghost use Rattle.std.specs.FinMap.{get};
+ghost use Rattle.std.specs.Option.{option_copied};
+ghost use Rattle.office_keeper.specs.Content.{letters_within, item_from_one};
+ghost use Rattle.office_keeper.specs.MemoryState.{kept_in, letter_of, content_of};
+
+use crate::faults::KeepFault;
+use crate::keeping::Keeper;
+use crate::values::{Finished, Letter, MailText, Reports};
+use deb_control::NoMemory;
+use office_mail::Setup;
+use std::alloc::Global;
+use std::collections::BTreeMap;
+use std::marker::Model;
+use testing_suites::Testing;
+
+/// Kept mail by sender and number, with reports and testing. It fails for want of memory alone.
+#[derive(Drop)]
+pub struct Plain {
+    alloc: Global,
+    setup: Setup,
+    mail: BTreeMap<(u32, u32), MailText>,
+    runs: Vec<Reports>,
+    testing: Testing,
+}
+
+impl Model for Plain {
+    ghost use Rattle.office_keeper.specs.MemoryState.{MemoryState, IsMemoryState};
+
+    ghost Value = { MemoryState };
+
+    ghost view = { λ a. record { setup = a.setup; mail = a.mail.entries; runs = a.runs.items; testing = a.testing } };
+
+    ghost invariant = { λ a. IsMemoryState a.setup a.runs.items a.testing };
+}
+
+impl Plain {
+    /// A keeper for this setup, with no mail and no run.
+    pub fn new(alloc: Global, setup: &Setup) -> Result<Plain, NoMemory>
+        ensures { IfOk result (λ plain. plain ≡ record { setup = setup.now; mail = []; runs = []; testing = record { sources = []; rows = [] } }) }
+    {
+        Ok(Plain {
+            alloc,
+            setup: setup.copy(alloc)?,
+            mail: BTreeMap::new(alloc),
+            runs: Vec::new(alloc),
+            testing: Testing::new(alloc),
+        })
+    }
+}
+
+/// A copy of the text at a place, or none.
+fn copy_text(
+    alloc: Global,
+    mail: &BTreeMap<(u32, u32), MailText>,
+    sender: u32,
+    number: u32,
+) -> Result<Option<MailText>, KeepFault>
+    ensures found { IfOk result (λ text. text ≡ get (kept_in mail.now.entries) (sender, number)) }
+    ensures no_store { IfErr result (λ fault. fault ≡ KeepFault.NoMemory) }
+{
+    match mail.get(&(sender, number)) {
+        None => Ok(None),
+        Some(text) => Ok(Some(MailText::copy_of(alloc, text.as_slice())?)),
+    }
+}
+
+/// The letters of a sender from one number to another, by number, where the first isn't above the second.
+fn letters_between(
+    alloc: Global,
+    mail: &BTreeMap<(u32, u32), MailText>,
+    sender: u32,
+    from: u32,
+    to: u32,
+) -> Result<Vec<Letter>, KeepFault>
+    requires { from ≤ to }
+    ensures loaded { IfOk result (λ letters. letters.items ≡ map letter_of (entries_between place_cmp (Included (sender, from)) (Included (sender, to)) mail.now.entries)) }
+    ensures ordered { IsOrdered place_cmp mail.now }
+    ensures no_store { IfErr result (λ fault. fault ≡ KeepFault.NoMemory) }
+{
+    let mut letters = Vec::new(alloc);
+    'places: for (place, text) in mail.range((sender, from)..=(sender, to)) {
+        letters.push(Letter {
+            number: place.1,
+            text: MailText::copy_of(alloc, text.as_slice())?,
+        })?;
+    }
+    Ok(letters)
+}
+
+/// The letters of a sender from one number to another, by number.
+fn letters_of(
+    alloc: Global,
+    mail: &BTreeMap<(u32, u32), MailText>,
+    sender: u32,
+    from: u32,
+    to: u32,
+) -> Result<Vec<Letter>, KeepFault>
+    ensures loaded { IfOk result (λ letters. letters.items ≡ letters_within (kept_in mail.now.entries) sender from to) }
+    ensures no_store { IfErr result (λ fault. fault ≡ KeepFault.NoMemory) }
+{
+    if from > to {
+        return Ok(Vec::new(alloc));
+    }
+    letters_between(alloc, mail, sender, from, to)
+}
+
+/// The reports of a run counted from 1, or none.
+fn reports_of(runs: &[Reports], run: u32) -> Option<&Reports>
+    ensures { option_copied result ≡ item_from_one run runs.now }
+{
+    if run == 0 {
+        return None;
+    }
+    runs.get(run as usize - 1)
+}
+
+impl Keeper for Plain {
+    ghost is_clean = { λ _. ⊤ };
+
+    ghost is_trusted = { λ _. ⊤ };
+
+    ghost setup = { λ state. state.setup };
+
+    ghost content = { content_of };
+
+    ghost is_legible = { λ _. ⊤ };
+
+    // It never refuses, so by the clauses on this count it never answers that the store failed.
+    ghost refusals = { λ _. 0 };
+
+    ghost disk_faults = { λ _. 0 };
+
+    fn find(&mut self, sender: u32, number: u32) -> Result<Option<MailText>, KeepFault> {
+        copy_text(self.alloc, &self.mail, sender, number)
+    }
+
+    fn keep(&mut self, sender: u32, number: u32, text: &[u8]) -> Result<(), KeepFault> {
+        let text = MailText::copy_of(self.alloc, text)?;
+        self.mail.insert((sender, number), text)?;
+        Ok(())
+    }
+
+    fn finished(&mut self) -> Result<u32, KeepFault> {
+        Ok(self.runs.len() as u32)
+    }
+
+    fn load(&mut self, sender: u32, from: u32, to: u32) -> Result<Vec<Letter>, KeepFault> {
+        letters_of(self.alloc, &self.mail, sender, from, to)
+    }
+
+    fn finish(&mut self, _run: u32, done: &Finished) -> Result<(), KeepFault> {
+        let reports = done.reports(self.alloc)?;
+        let testing = done.testing.copy()?;
+        self.runs.push(reports)?;
+        self.testing = testing;
+        Ok(())
+    }
+
+    fn reports(&mut self, run: u32) -> Result<Option<Reports>, KeepFault> {
+        match reports_of(&self.runs, run) {
+            None => Ok(None),
+            Some(reports) => Ok(Some(reports.copy(self.alloc)?)),
+        }
+    }
+
+    fn testing(&mut self) -> Result<Testing, KeepFault> {
+        Ok(self.testing.copy()?)
+    }
+
+    fn take_finished(&mut self, _run: u32, done: Finished) -> Result<(), KeepFault> {
+        let Finished {
+            testing,
+            excuses,
+            updates,
+        } = done;
+        self.runs.push(Reports { excuses, updates })?;
+        self.testing = testing;
+        Ok(())
+    }
+
+    fn next_testing(&mut self) -> Result<Testing, KeepFault> {
+        Ok(self.testing.share()?)
+    }
+}
