@@ -14,42 +14,42 @@ use Rattle.office_mail.specs.Kept.{Kept, kept_from}
 use Rattle.office_mail.specs.Lists.{Lists}
 use Rattle.office_mail.specs.Runs.{IsReady, IsReadyCount}
 use Rattle.office_mail.proofs.KeptFacts.{kept_from-nil}
-use Rattle.office_http.specs.declared.faults.DeliverFault.{DeliverFault}
-use Rattle.office_http.specs.declared.faults.DeliverFault.TheVariants.{Mail, OtherText, Store}
-use Rattle.office_http.specs.declared.faults.Held.{Held}
-use Rattle.office_http.specs.declared.faults.Progress.{Progress}
-use Rattle.office_http.specs.declared.faults.StoreFault.{StoreFault}
-use Rattle.office_http.specs.declared.faults.StoreFault.TheVariants as fault
-use Rattle.office_http.specs.declared.replies.Mark.{Mark}
-use Rattle.office_http.specs.declared.replies.Mark.TheVariants.{Taken, LostForMemory, LostForStore}
-use Rattle.office_http.specs.declared.reply.Refusal.{Refusal}
-use Rattle.office_http.specs.declared.reply.Refusal.TheVariants as refusal
-use Rattle.office_http.specs.declared.reply.Answer.{Answer}
-use Rattle.office_http.specs.declared.reply.Answer.TheVariants.{Refused, Status, Told}
-use Rattle.office_http.specs.declared.request.Errand.{Errand}
-use Rattle.office_http.specs.declared.request.Errand.TheVariants.{Deliver, Settle}
-use Rattle.office_http.specs.declared.request.Page.{Page}
-use Rattle.office_http.specs.declared.request.Page.TheVariants as page
-use Rattle.office_http.specs.declared.request.Posted.{Posted}
-use Rattle.office_http.specs.declared.request.Asked.{Asked}
-use Rattle.office_http.specs.declared.request.Asked.TheVariants as asks
+use Rattle.office_replies.specs.declared.faults.DeliverFault.{DeliverFault}
+use Rattle.office_replies.specs.declared.faults.DeliverFault.TheVariants.{Mail, OtherText, Store}
+use Rattle.office_replies.specs.declared.faults.Held.{Held}
+use Rattle.office_replies.specs.declared.faults.Progress.{Progress}
+use Rattle.office_replies.specs.declared.faults.StoreFault.{StoreFault}
+use Rattle.office_replies.specs.declared.faults.StoreFault.TheVariants as fault
+use Rattle.office_replies.specs.declared.replies.Mark.{Mark}
+use Rattle.office_replies.specs.declared.replies.Mark.TheVariants.{Taken, LostForMemory, LostForStore}
+use Rattle.office_requests.specs.declared.reply.Refusal.{Refusal}
+use Rattle.office_requests.specs.declared.reply.Refusal.TheVariants as refusal
+use Rattle.office_requests.specs.declared.reply.Answer.{Answer}
+use Rattle.office_requests.specs.declared.reply.Answer.TheVariants.{Refused, Status, Told}
+use Rattle.office_requests.specs.declared.request.Errand.{Errand}
+use Rattle.office_requests.specs.declared.request.Errand.TheVariants.{Deliver, Settle}
+use Rattle.office_requests.specs.declared.request.Page.{Page}
+use Rattle.office_requests.specs.declared.request.Page.TheVariants as page
+use Rattle.office_requests.specs.declared.request.Posted.{Posted}
+use Rattle.office_requests.specs.declared.request.Asked.{Asked}
+use Rattle.office_requests.specs.declared.request.Asked.TheVariants as asks
 use Rattle.office_http.specs.declared.serve.ServeFault.{ServeFault}
 use Rattle.office_http.specs.declared.serve.ServeFault.TheVariants.{Read, Write}
 use Rattle.office_http.specs.declared.serve.Served.{Served}
-use Rattle.office_http.specs.Asked.{asked_of, body_size, is_head_method}
-use Rattle.office_http.specs.Losses.{TextCounted, DeliveryCounted}
-use Rattle.office_http.specs.Outcome.{testing_text, testing_after}
-use Rattle.office_http.specs.Replies.{reply_by, mark_of, if_taken}
-use Rattle.office_http.specs.Reply.{continue_bytes, refused, reply_in, reply_bytes, HasPlace}
-use Rattle.office_http.specs.Request.{body_room, head_room, BeginsWith, Came, IsHeadAt}
-use Rattle.office_http.specs.Standing.{State}
-use Rattle.office_http.specs.State.{answer_to, reports_at}
-use Rattle.office_http.specs.Written.{AppendsFront}
+use Rattle.office_requests.specs.Asked.{asked_of, body_size, is_head_method}
+use Rattle.office_runs.specs.Losses.{TextCounted, DeliveryCounted}
+use Rattle.office_runs.specs.Outcome.{testing_text, testing_after}
+use Rattle.office_replies.specs.Replies.{reply_by, mark_of, if_taken}
+use Rattle.office_requests.specs.Reply.{continue_bytes, refused, reply_in, reply_bytes, HasPlace}
+use Rattle.office_requests.specs.Request.{body_room, head_room, BeginsWith, Came, IsHeadAt}
+use Rattle.office_runs.specs.Standing.{State}
+use Rattle.office_runs.specs.State.{answer_to, reports_at}
+use Rattle.office_replies.specs.Written.{AppendsFront}
 use Rattle.office_http.specs.Serve.{refusal_for, status_answer, text_answer, report_answer, delivery_answer, by_fault, posted_body, post_answer, answer_of, post_counts, waits_of, continued, kept_by, settles, Does, Tells, Runs, Answers, Exchange, IsUnread, IsServed, Replied, RepliedFront, Serves, IsAwaited, StopsBefore, StopsServe, ServesHead, ServesFront, StopsRequest}
-use Rattle.office_http.proofs.ReplayFacts.{Leaves, reply_by-mark, delivery_counted, kept_after}
-use Rattle.office_http.proofs.RiseFacts.{delivery_weaker, text_weaker}
-use Rattle.office_http.specs.Delivered.{Settles}
-use Rattle.office_http.proofs.WrittenFacts.{front_after}
+use Rattle.office_runs.proofs.ReplayFacts.{Leaves, reply_by-mark, delivery_counted, kept_after}
+use Rattle.office_runs.proofs.RiseFacts.{delivery_weaker, text_weaker}
+use Rattle.office_runs.specs.Delivered.{Settles}
+use Rattle.office_replies.proofs.WrittenFacts.{front_after}
 
 -- pages
 pub told_status : (rose : Type 0) (s : State) (r : Result Progress StoreFault) → IfOk r (λ p. IsReadyCount s.setup s.kept p.ready) → IfOk r (λ p. p.finished ≡ s.finished) → (r ≡ Err fault.Store → rose) → Tells s page.Status (status_answer r) rose

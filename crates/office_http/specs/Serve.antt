@@ -7,32 +7,32 @@ use Rattle.httparse.specs.Spans.{RequestExceeds, RequestOverflows}
 use Rattle.office_mail.specs.declared.message.MailFault.TheVariants as mail
 use Rattle.office_mail.specs.Kept.{Kept, kept_from}
 use Rattle.office_mail.specs.Runs.{IsReady, IsReadyCount}
-use Rattle.office_http.specs.declared.faults.DeliverFault.{DeliverFault}
-use Rattle.office_http.specs.declared.faults.DeliverFault.TheVariants.{Mail, OtherText, Store}
-use Rattle.office_http.specs.declared.faults.Held.{Held}
-use Rattle.office_http.specs.declared.faults.Progress.{Progress}
-use Rattle.office_http.specs.declared.faults.StoreFault.{StoreFault}
-use Rattle.office_http.specs.declared.faults.StoreFault.TheVariants as fault
-use Rattle.office_http.specs.declared.reply.Refusal.{Refusal}
-use Rattle.office_http.specs.declared.reply.Refusal.TheVariants as refusal
-use Rattle.office_http.specs.declared.reply.Answer.{Answer}
-use Rattle.office_http.specs.declared.reply.Answer.TheVariants.{Refused, Delivered, Status, Told}
-use Rattle.office_http.specs.declared.request.Errand.{Errand}
-use Rattle.office_http.specs.declared.request.Errand.TheVariants.{Deliver, Settle}
-use Rattle.office_http.specs.declared.request.Page.{Page}
-use Rattle.office_http.specs.declared.request.Page.TheVariants as page
-use Rattle.office_http.specs.declared.request.Asked.{Asked}
-use Rattle.office_http.specs.declared.request.Asked.TheVariants as asks
+use Rattle.office_replies.specs.declared.faults.DeliverFault.{DeliverFault}
+use Rattle.office_replies.specs.declared.faults.DeliverFault.TheVariants.{Mail, OtherText, Store}
+use Rattle.office_replies.specs.declared.faults.Held.{Held}
+use Rattle.office_replies.specs.declared.faults.Progress.{Progress}
+use Rattle.office_replies.specs.declared.faults.StoreFault.{StoreFault}
+use Rattle.office_replies.specs.declared.faults.StoreFault.TheVariants as fault
+use Rattle.office_requests.specs.declared.reply.Refusal.{Refusal}
+use Rattle.office_requests.specs.declared.reply.Refusal.TheVariants as refusal
+use Rattle.office_requests.specs.declared.reply.Answer.{Answer}
+use Rattle.office_requests.specs.declared.reply.Answer.TheVariants.{Refused, Delivered, Status, Told}
+use Rattle.office_requests.specs.declared.request.Errand.{Errand}
+use Rattle.office_requests.specs.declared.request.Errand.TheVariants.{Deliver, Settle}
+use Rattle.office_requests.specs.declared.request.Page.{Page}
+use Rattle.office_requests.specs.declared.request.Page.TheVariants as page
+use Rattle.office_requests.specs.declared.request.Asked.{Asked}
+use Rattle.office_requests.specs.declared.request.Asked.TheVariants as asks
 use Rattle.office_http.specs.declared.serve.ServeFault.{ServeFault}
 use Rattle.office_http.specs.declared.serve.ServeFault.TheVariants.{Read, Write}
-use Rattle.office_http.specs.Asked.{asked_of, body_size, is_head_method}
-use Rattle.office_http.specs.Losses.{TextCounted}
-use Rattle.office_http.specs.Outcome.{testing_text, testing_after}
-use Rattle.office_http.specs.Reply.{refused, reply_in, reply_bytes, continue_bytes}
-use Rattle.office_http.specs.Request.{BeginsWith, body_room, field_room, head_room}
-use Rattle.office_http.specs.Standing.{State}
-use Rattle.office_http.specs.State.{answer_to, reports_at}
-use Rattle.office_http.specs.Written.{AppendsFront}
+use Rattle.office_requests.specs.Asked.{asked_of, body_size, is_head_method}
+use Rattle.office_runs.specs.Losses.{TextCounted}
+use Rattle.office_runs.specs.Outcome.{testing_text, testing_after}
+use Rattle.office_requests.specs.Reply.{refused, reply_in, reply_bytes, continue_bytes}
+use Rattle.office_requests.specs.Request.{BeginsWith, body_room, field_room, head_room}
+use Rattle.office_runs.specs.Standing.{State}
+use Rattle.office_runs.specs.State.{answer_to, reports_at}
+use Rattle.office_replies.specs.Written.{AppendsFront}
 
 -- how a fault of memory or of the store is told
 abbrev pub refusal_for : StoreFault → Refusal

@@ -5,26 +5,25 @@ ghost use Rattle.httparse.specs.Grammar.{RequestHead};
 ghost use Rattle.httparse.specs.Spans.{IsRequestAt};
 ghost use Rattle.httparse.specs.declared.spans.HeaderSpan.{HeaderSpan};
 ghost use Rattle.office_mail.specs.Counts.{HasRisen};
-ghost use Rattle.office_http.specs.Asked.{asked_of, body_size};
-ghost use Rattle.office_http.specs.Carried.{Asks, Carries, Holds, StoreRefused};
-ghost use Rattle.office_http.specs.Laws.{RunsStand};
-ghost use Rattle.office_http.specs.Reply.{continue_bytes, refused, reply_bytes, HasPlace};
-ghost use Rattle.office_http.specs.Request.{IsHeadAt, body_room, head_room};
+ghost use Rattle.office_requests.specs.Asked.{asked_of, body_size};
+ghost use Rattle.office_runs.specs.Carried.{Asks, Carries, Holds, StoreRefused};
+ghost use Rattle.office_runs.specs.Laws.{RunsStand};
+ghost use Rattle.office_requests.specs.Reply.{continue_bytes, refused, reply_bytes, HasPlace};
+ghost use Rattle.office_requests.specs.Request.{IsHeadAt, body_room, head_room};
 ghost use Rattle.office_http.specs.Serve.{refusal_for, status_answer, text_answer, report_answer, delivery_answer, waits_of, Tells, Does, Runs, Answers, StopsBefore, Serves, StopsRequest, StopsServe, ServesHead};
-ghost use Rattle.office_http.specs.State.{state_of};
-ghost use Rattle.office_http.specs.Written.{AppendsFront};
+ghost use Rattle.office_runs.specs.State.{state_of};
+ghost use Rattle.office_replies.specs.Written.{AppendsFront};
 
-use crate::faults::{DeliverFault, Held, Progress, StoreFault};
-use crate::head::{Ended, FIELD_ROOM, Filled, read_head, read_up_to};
-use crate::office::Office;
-use crate::replays::settle_behind;
-use crate::replies::WriteFault;
-use crate::reply::{Answer, Refusal, write_answer, write_continue};
-use crate::request::{Asked, Errand, Page, Posted, asked_of, is_head_method};
-use crate::routes::routes;
 use deb_control::Text;
 use httparse::spans::{EMPTY_HEADER_SPAN, HeaderSpan, RequestSpans};
 use office_mail::{Feed, MailFault, ReadFailed, Setup, Sink};
+use office_replies::{DeliverFault, Held, Progress, StoreFault, WriteFault};
+use office_requests::routes::routes;
+use office_requests::{
+    Answer, Asked, Ended, Errand, FIELD_ROOM, Filled, Page, Posted, Refusal, asked_of,
+    is_head_method, read_head, read_up_to, write_answer, write_continue,
+};
+use office_runs::{Office, settle_behind};
 use office_store::Keeper;
 use std::alloc::Global;
 use thiserror::Error;

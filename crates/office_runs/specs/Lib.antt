@@ -1,0 +1,15 @@
+pub mod Carried
+pub mod Delivered
+pub mod Ending
+pub mod Known
+pub mod Lasting
+pub mod Laws
+pub mod Looking
+pub mod Losses
+pub mod Outcome
+pub mod Output
+pub mod Ready
+pub mod Replay
+pub mod Standing
+pub mod State
+pub mod Walk
