@@ -1,13 +1,13 @@
 pub mod Serve
 pub use Rattle.office_requests.specs.Asked
-pub use Rattle.office_runs.specs.Carried
+pub use Rattle.office_runs.specs.Preserves
 pub use Rattle.office_replies.specs.Counted
 pub use Rattle.office_runs.specs.Delivered
 pub use Rattle.office_runs.specs.Ending
 pub use Rattle.office_runs.specs.Known
-pub use Rattle.office_runs.specs.Lasting
+pub use Rattle.office_runs.specs.StaysTrusted
 pub use Rattle.office_runs.specs.Laws
-pub use Rattle.office_runs.specs.Looking
+pub use Rattle.office_runs.specs.ReadsStore
 pub use Rattle.office_runs.specs.Losses
 pub use Rattle.office_runs.specs.Outcome
 pub use Rattle.office_runs.specs.Output
@@ -17,7 +17,7 @@ pub use Rattle.office_replies.specs.Replies
 pub use Rattle.office_requests.specs.Reply
 pub use Rattle.office_requests.specs.Request
 pub use Rattle.office_requests.specs.Routes
-pub use Rattle.office_runs.specs.Standing
+pub use Rattle.office_runs.specs.OfficeState
 pub use Rattle.office_runs.specs.State
 pub use Rattle.office_runs.specs.Walk
 pub use Rattle.office_replies.specs.Written

@@ -3,11 +3,11 @@ use Rattle.std.proofs.Common.{◌≡◌, ◌⊎◌, inr, ℕ, ◌+◌, ◌≤◌
 use Rattle.std.proofs.lemmas.List.{length-append}
 use Rattle.std.specs.Io.KnownBytes.{Consumes, IsAtEnd}
 use Rattle.std.proofs.KnownBytes.{Consumes-nil, Consumes-trans}
-use Rattle.office_requests.specs.declared.head.Drawn.TheVariants as drawn
+use Rattle.office_requests.specs.declared.head.ChunkRead.TheVariants as drawn
 use Rattle.httparse.specs.declared.spans.HeaderSpan.{HeaderSpan}
-use Rattle.office_requests.specs.declared.head.Ended.{Ended}
-use Rattle.office_requests.specs.declared.head.Ended.TheVariants.{NoMemory}
-use Rattle.office_requests.specs.declared.head.Filled.TheVariants as filled
+use Rattle.office_requests.specs.declared.head.HeadRead.{HeadRead}
+use Rattle.office_requests.specs.declared.head.HeadRead.TheVariants.{NoMemory}
+use Rattle.office_requests.specs.declared.head.BodyRead.TheVariants as filled
 use Rattle.office_requests.specs.Request.{head_room, Draws, Heads, IsEnd, Fills}
 
 -- bytes that were seen, and some more
@@ -26,7 +26,7 @@ seen_more a b c x y z most s d = record {
   is = d.is.0 ∙ ap (λ (l : List ℕ). l ++ d.taken) s.is ∙ append_assoc x s.taken d.taken;
 }
 
-pub head_end : (a b c : Option (List ℕ)) (seen seen' : List ℕ) (headers : List HeaderSpan) (e : Ended) → Consumes a b seen → Draws b c seen seen' head_room drawn.End → ((left : Option (List ℕ)) (hs : List HeaderSpan) → IsAtEnd left → IsEnd left seen' seen' hs e) → Heads a c seen' headers e
+pub head_end : (a b c : Option (List ℕ)) (seen seen' : List ℕ) (headers : List HeaderSpan) (e : HeadRead) → Consumes a b seen → Draws b c seen seen' head_room drawn.End → ((left : Option (List ℕ)) (hs : List HeaderSpan) → IsAtEnd left → IsEnd left seen' seen' hs e) → Heads a c seen' headers e
 head_end a b c seen seen' headers e h d f = record {
   input = seen';
   few = omega (arith, d.few, ap length d.is.0);
@@ -34,7 +34,7 @@ head_end a b c seen seen' headers e h d f = record {
   is = f c headers d.is.2;
 }
 
-pub head_some : (a b c : Option (List ℕ)) (seen seen' : List ℕ) (headers : List HeaderSpan) (e : Ended) → Consumes a b seen → Draws b c seen seen' head_room drawn.Bytes → IsEnd c seen' seen' headers e → Heads a c seen' headers e
+pub head_some : (a b c : Option (List ℕ)) (seen seen' : List ℕ) (headers : List HeaderSpan) (e : HeadRead) → Consumes a b seen → Draws b c seen seen' head_room drawn.Bytes → IsEnd c seen' seen' headers e → Heads a c seen' headers e
 head_some a b c seen seen' headers e h d is = record {
   input = seen';
   few = d.is.2;

@@ -13,8 +13,8 @@ use Rattle.office_requests.specs.declared.reply.Refusal.TheVariants.{OnlyGet, On
 use Rattle.office_requests.specs.declared.request.Stated.{Stated}
 use Rattle.office_requests.specs.declared.request.Stated.TheVariants.{Absent, Bad, TooLong, Exactly}
 use Rattle.office_requests.specs.declared.request.Framing.{Framing}
-use Rattle.office_requests.specs.declared.request.Errand.{Errand}
-use Rattle.office_requests.specs.declared.request.Errand.TheVariants.{Deliver, Settle}
+use Rattle.office_requests.specs.declared.request.Action.{Action}
+use Rattle.office_requests.specs.declared.request.Action.TheVariants.{Deliver, Settle}
 use Rattle.office_requests.specs.declared.request.Page.{Page}
 use Rattle.office_requests.specs.declared.request.Page.TheVariants.{Status, Testing, Excuses, Update}
 use Rattle.office_requests.specs.declared.request.Asked.{Asked}
@@ -46,24 +46,24 @@ framing_fits : (lines : List Line) → stated_size (framing_of lines).length ≤
 unfolding framing_of
 framing_fits lines = stated_fits (values_named (codes "content-length") lines)
 
-length_fits : (errand : Errand) (s : Stated) (coded waits : Bool) → stated_size s ≤ body_room → body_size (posted_by errand waits (posted_length errand s coded)) ≤ body_room
+length_fits : (action : Action) (s : Stated) (coded waits : Bool) → stated_size s ≤ body_room → body_size (posted_by action waits (posted_length action s coded)) ≤ body_room
 length_fits Settle Absent true waits h = omega arith
 length_fits Settle Absent false waits h = omega arith
 length_fits Deliver Absent coded waits h = omega arith
-length_fits errand Bad coded waits h = omega arith
-length_fits errand TooLong true waits h = omega arith
-length_fits errand TooLong false waits h = omega arith
-length_fits errand (Exactly n) true waits h = omega arith
-length_fits errand (Exactly n) false waits h = h
+length_fits action Bad coded waits h = omega arith
+length_fits action TooLong true waits h = omega arith
+length_fits action TooLong false waits h = omega arith
+length_fits action (Exactly n) true waits h = omega arith
+length_fits action (Exactly n) false waits h = h
 
 if_fits : (b : Bool) (a : Asked) (r : Refusal) → body_size a ≤ body_room → body_size (cond b a (Refused r)) ≤ body_room
 if_fits true a r h = h
 if_fits false a r h = omega arith
 
-post_fits : (errand : Errand) (method : List ℕ) (minor : ℕ) (framing : Framing) → stated_size framing.length ≤ body_room → body_size (post_asked errand method minor framing) ≤ body_room
-post_fits errand method minor framing h =
-    if_fits (bytes_eq method (codes "POST")) (posted_by errand (minor == 1 && framing.waits) (posted_length errand framing.length framing.coded)) OnlyPost
-    (length_fits errand framing.length framing.coded (minor == 1 && framing.waits) h)
+post_fits : (action : Action) (method : List ℕ) (minor : ℕ) (framing : Framing) → stated_size framing.length ≤ body_room → body_size (post_asked action method minor framing) ≤ body_room
+post_fits action method minor framing h =
+    if_fits (bytes_eq method (codes "POST")) (posted_by action (minor == 1 && framing.waits) (posted_length action framing.length framing.coded)) OnlyPost
+    (length_fits action framing.length framing.coded (minor == 1 && framing.waits) h)
 
 tell_fits : (page : Page) (method : List ℕ) → body_size (tell_asked page method) ≤ body_room
 tell_fits page method = if_fits (bytes_eq method (codes "GET")) (Tell page) OnlyGet (omega arith)

@@ -15,8 +15,8 @@ use Rattle.office_requests.specs.declared.reply.Refusal.TheVariants as refusal
 use Rattle.office_requests.specs.declared.request.Stated.{Stated}
 use Rattle.office_requests.specs.declared.request.Stated.TheVariants.{Absent, Bad, TooLong, Exactly}
 use Rattle.office_requests.specs.declared.request.Framing.{Framing}
-use Rattle.office_requests.specs.declared.request.Errand.{Errand}
-use Rattle.office_requests.specs.declared.request.Errand.TheVariants.{Deliver, Settle}
+use Rattle.office_requests.specs.declared.request.Action.{Action}
+use Rattle.office_requests.specs.declared.request.Action.TheVariants.{Deliver, Settle}
 use Rattle.office_requests.specs.declared.request.Page.{Page}
 use Rattle.office_requests.specs.declared.request.Page.TheVariants.{Status, Testing, Excuses, Update}
 use Rattle.office_requests.specs.declared.request.Asked.{Asked}
@@ -106,25 +106,25 @@ unfoldable pub run_number : List ℕ → ℕ
 run_number text = if has_leading_zero text then 0 else number_or_zero text
 
 -- The length of the body: one that is stated as a number, and not beside a transfer coding. A settle may leave it out.
-abbrev pub absent_length : Errand → Bool → Result ℕ Refusal
+abbrev pub absent_length : Action → Bool → Result ℕ Refusal
 absent_length Settle coded = if coded then Err LengthRequired else Ok 0
 absent_length Deliver coded = Err LengthRequired
 
-abbrev pub posted_length : Errand → Stated → Bool → Result ℕ Refusal
-posted_length errand Absent coded = absent_length errand coded
-posted_length errand Bad coded = Err BadRequest
-posted_length errand TooLong coded = if coded then Err BadRequest else Err refusal.TooLong
-posted_length errand (Exactly n) coded = if coded then Err BadRequest else Ok n
+abbrev pub posted_length : Action → Stated → Bool → Result ℕ Refusal
+posted_length action Absent coded = absent_length action coded
+posted_length action Bad coded = Err BadRequest
+posted_length action TooLong coded = if coded then Err BadRequest else Err refusal.TooLong
+posted_length action (Exactly n) coded = if coded then Err BadRequest else Ok n
 
 -- 100 Continue is of HTTP/1.1
-abbrev pub posted_by : Errand → Bool → Result ℕ Refusal → Asked
-posted_by errand waits (Ok n) = Post (record { errand = errand; length = n; waits = waits })
-posted_by errand waits (Err refusal) = Refused refusal
+abbrev pub posted_by : Action → Bool → Result ℕ Refusal → Asked
+posted_by action waits (Ok n) = Post (record { action = action; length = n; waits = waits })
+posted_by action waits (Err refusal) = Refused refusal
 
 -- on a route that takes POST, and on one that takes GET
-abbrev pub post_asked : Errand → List ℕ → ℕ → Framing → Asked
-post_asked errand method minor framing =
-    if bytes_eq method (codes "POST") then posted_by errand (minor == 1 && framing.waits) (posted_length errand framing.length framing.coded) else Refused OnlyPost
+abbrev pub post_asked : Action → List ℕ → ℕ → Framing → Asked
+post_asked action method minor framing =
+    if bytes_eq method (codes "POST") then posted_by action (minor == 1 && framing.waits) (posted_length action framing.length framing.coded) else Refused OnlyPost
 
 abbrev pub tell_asked : Page → List ℕ → Asked
 tell_asked page method = if bytes_eq method (codes "GET") then Tell page else Refused OnlyGet

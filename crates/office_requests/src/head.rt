@@ -4,7 +4,7 @@ ghost use Rattle.httparse.specs.Grammar.{HasNoRequest};
 ghost use Rattle.office_mail.specs.Counts.{HasRisen};
 ghost use Rattle.std.specs.Io.KnownBytes.{IsAtEnd, Keeps};
 ghost use Rattle.httparse.specs.declared.spans.HeaderSpan.{HeaderSpan};
-ghost use Rattle.office_requests.specs.Request.{head_room, field_room, IsLook, IsEnd, Came, Draws, Heads, Fills};
+ghost use Rattle.office_requests.specs.Request.{head_room, field_room, IsHeadScan, IsEnd, Came, Draws, Heads, Fills};
 
 use httparse::Status;
 use httparse::spans::{HeaderSpan, RequestSpans, parse_request};
@@ -22,7 +22,7 @@ const CHUNK: usize = 4096;
 
 /// What one more read gave.
 #[derive(Clone, Copy, Debug, PartialEq, Eq)]
-pub enum Drawn {
+pub enum ChunkRead {
     Bytes,
     End,
     /// There was no memory for what came.
@@ -30,7 +30,11 @@ pub enum Drawn {
 }
 
 /// Reads once, and adds what came to the bytes seen, of which there are to be at most so many.
-fn read_more<R: Feed>(reader: &mut R, seen: &mut Vec<u8>, most: usize) -> Result<Drawn, ReadFailed>
+fn read_more<R: Feed>(
+    reader: &mut R,
+    seen: &mut Vec<u8>,
+    most: usize,
+) -> Result<ChunkRead, ReadFailed>
     requires { length seen.old.items < most }
     ensures drawn { IfOk result (λ drawn. Draws (R.left reader.old) (R.left reader.new) seen.old.items seen.new.items most drawn) }
     ensures failed { OnErr result (Keeps (R.left reader.old) (R.left reader.new)) }
@@ -42,17 +46,17 @@ fn read_more<R: Feed>(reader: &mut R, seen: &mut Vec<u8>, most: usize) -> Result
     let room = min(most - seen.len(), CHUNK);
     let count = reader.read(&mut chunk[..room])?;
     if count == 0 {
-        return Ok(Drawn::End);
+        return Ok(ChunkRead::End);
     }
     if seen.extend_from_slice(&chunk[..count]).is_err() {
-        return Ok(Drawn::NoMemory);
+        return Ok(ChunkRead::NoMemory);
     }
-    Ok(Drawn::Bytes)
+    Ok(ChunkRead::Bytes)
 }
 
 /// What the first bytes of a request are.
 #[derive(Clone, Copy, Debug, PartialEq, Eq)]
-pub enum Look {
+pub enum HeadScan {
     /// They begin with a head.
     Whole(RequestSpans),
     /// A head may yet come of them.
@@ -62,21 +66,21 @@ pub enum Look {
 }
 
 /// Looks for the head of a request.
-fn look_at(seen: &[u8], headers: &mut [HeaderSpan]) -> Look
+fn look_at(seen: &[u8], headers: &mut [HeaderSpan]) -> HeadScan
     requires { length headers.old ≡ field_room }
-    ensures { IsLook seen.now headers.new result }
+    ensures { IsHeadScan seen.now headers.new result }
 {
     match parse_request(seen, headers) {
-        Ok(Status::Complete(head)) => Look::Whole(head),
-        Ok(Status::Partial) => Look::More,
-        Err(httparse::Error::TooManyHeaders) => Look::TooMany,
-        Err(_) => Look::Never,
+        Ok(Status::Complete(head)) => HeadScan::Whole(head),
+        Ok(Status::Partial) => HeadScan::More,
+        Err(httparse::Error::TooManyHeaders) => HeadScan::TooMany,
+        Err(_) => HeadScan::Never,
     }
 }
 
 /// How the reading of a head ended.
 #[derive(Clone, Copy, Debug, PartialEq, Eq)]
-pub enum Ended {
+pub enum HeadRead {
     /// No byte came.
     Nothing,
     /// A head came, whose parts stand there.
@@ -87,29 +91,29 @@ pub enum Ended {
 }
 
 /// What the bytes seen so far end the reading with, if they do.
-fn end_of(seen: &[u8], headers: &mut [HeaderSpan]) -> Option<Ended>
+fn end_of(seen: &[u8], headers: &mut [HeaderSpan]) -> Option<HeadRead>
     requires room { length headers.old ≡ field_room }
     requires short { length seen.now ≤ head_room }
     ensures ends { IfSome result (λ ended. (left : Option (List ℕ)) → IsEnd left seen.now seen.now headers.new ended) }
     ensures goes_on { result ≡ None → HasNoRequest seen.now }
 {
     match look_at(seen, headers) {
-        Look::Whole(head) => Some(Ended::Head(head)),
-        Look::TooMany => Some(Ended::HeadTooLarge),
-        Look::Never => Some(Ended::BadRequest),
-        Look::More => None,
+        HeadScan::Whole(head) => Some(HeadRead::Head(head)),
+        HeadScan::TooMany => Some(HeadRead::HeadTooLarge),
+        HeadScan::Never => Some(HeadRead::BadRequest),
+        HeadScan::More => None,
     }
 }
 
 /// What the end of the input is, after the bytes seen.
-fn at_end(seen: &[u8]) -> Ended
+fn at_end(seen: &[u8]) -> HeadRead
     requires { (seen.now ≡ []) ⊎ HasNoRequest seen.now }
     ensures { (left : Option (List ℕ)) (headers : List HeaderSpan) → IsAtEnd left → IsEnd left seen.now seen.now headers result }
 {
     if seen.is_empty() {
-        Ended::Nothing
+        HeadRead::Nothing
     } else {
-        Ended::BadRequest
+        HeadRead::BadRequest
     }
 }
 
@@ -118,7 +122,7 @@ pub fn read_head<R: Feed>(
     reader: &mut R,
     seen: &mut Vec<u8>,
     headers: &mut [HeaderSpan],
-) -> Result<Ended, ReadFailed>
+) -> Result<HeadRead, ReadFailed>
     requires room { length headers.old ≡ field_room }
     requires first { seen.old.items ≡ [] }
     ensures ended { IfOk result (λ ended. Heads (R.left reader.old) (R.left reader.new) seen.new.items headers.new ended) }
@@ -130,20 +134,20 @@ pub fn read_head<R: Feed>(
 {
     'reads: while seen.len() < HEAD_ROOM {
         match read_more(reader, seen, HEAD_ROOM)? {
-            Drawn::Bytes => {}
-            Drawn::End => return Ok(at_end(seen.as_slice())),
-            Drawn::NoMemory => return Ok(Ended::NoMemory),
+            ChunkRead::Bytes => {}
+            ChunkRead::End => return Ok(at_end(seen.as_slice())),
+            ChunkRead::NoMemory => return Ok(HeadRead::NoMemory),
         }
         if let Some(ended) = end_of(seen.as_slice(), headers) {
             return Ok(ended);
         }
     }
-    Ok(Ended::HeadTooLarge)
+    Ok(HeadRead::HeadTooLarge)
 }
 
 /// How the reading of a body ended.
 #[derive(Clone, Copy, Debug, PartialEq, Eq)]
-pub enum Filled {
+pub enum BodyRead {
     Whole,
     /// The input ended within the body.
     BrokenOff,
@@ -155,7 +159,7 @@ pub fn read_up_to<R: Feed>(
     reader: &mut R,
     seen: &mut Vec<u8>,
     end: usize,
-) -> Result<Filled, ReadFailed>
+) -> Result<BodyRead, ReadFailed>
     ensures filled { IfOk result (λ filled. Fills (R.left reader.old) (R.left reader.new) seen.old.items seen.new.items end filled) }
     ensures failed { OnErr result (Came (R.left reader.old) (R.left reader.new) (end - length seen.old.items)) }
     ensures calls { R.calls reader.new ≤ R.calls reader.old + (end - length seen.old.items) }
@@ -164,10 +168,10 @@ pub fn read_up_to<R: Feed>(
 {
     'reads: while seen.len() < end {
         match read_more(reader, seen, end)? {
-            Drawn::Bytes => {}
-            Drawn::End => return Ok(Filled::BrokenOff),
-            Drawn::NoMemory => return Ok(Filled::NoMemory),
+            ChunkRead::Bytes => {}
+            ChunkRead::End => return Ok(BodyRead::BrokenOff),
+            ChunkRead::NoMemory => return Ok(BodyRead::NoMemory),
         }
     }
-    Ok(Filled::Whole)
+    Ok(BodyRead::Whole)
 }

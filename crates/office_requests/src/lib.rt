@@ -6,6 +6,6 @@ mod reply;
 mod request;
 pub mod routes;
 
-pub use head::{Ended, FIELD_ROOM, Filled, read_head, read_up_to};
+pub use head::{BodyRead, FIELD_ROOM, HeadRead, read_head, read_up_to};
 pub use reply::{Answer, Refusal, write_answer, write_continue};
-pub use request::{Asked, Errand, Page, Posted, asked_of, is_head_method};
+pub use request::{Action, Asked, Page, Posted, asked_of, is_head_method};

@@ -40,7 +40,7 @@ pub struct Framing {
 
 /// What a POST is for.
 #[derive(Clone, Copy, Debug, PartialEq, Eq)]
-pub enum Errand {
+pub enum Action {
     Deliver,
     Settle,
 }
@@ -48,7 +48,7 @@ pub enum Errand {
 /// A POST: what it is for, how long its body is, and whether the client waits for `100 Continue`.
 #[derive(Clone, Copy, Debug, PartialEq, Eq)]
 pub struct Posted {
-    pub errand: Errand,
+    pub action: Action,
     pub length: u32,
     pub waits: bool,
 }
@@ -249,27 +249,27 @@ fn run_in(path: &str, front: usize) -> u32
 }
 
 /// The length where none is stated: only a settle without a transfer coding may leave it out.
-fn absent_length(errand: Errand, coded: bool) -> Result<u32, Refusal>
-    ensures { result ≡ absent_length errand coded }
+fn absent_length(action: Action, coded: bool) -> Result<u32, Refusal>
+    ensures { result ≡ absent_length action coded }
 {
-    match errand {
-        Errand::Settle => {
+    match action {
+        Action::Settle => {
             if coded {
                 Err(Refusal::LengthRequired)
             } else {
                 Ok(0)
             }
         }
-        Errand::Deliver => Err(Refusal::LengthRequired),
+        Action::Deliver => Err(Refusal::LengthRequired),
     }
 }
 
 /// The length of the body that is read.
-fn posted_length(errand: Errand, length: Stated, coded: bool) -> Result<u32, Refusal>
-    ensures { result ≡ posted_length errand length coded }
+fn posted_length(action: Action, length: Stated, coded: bool) -> Result<u32, Refusal>
+    ensures { result ≡ posted_length action length coded }
 {
     match length {
-        Stated::Absent => absent_length(errand, coded),
+        Stated::Absent => absent_length(action, coded),
         Stated::Bad => Err(Refusal::BadRequest),
         Stated::TooLong => {
             if coded {
@@ -289,15 +289,15 @@ fn posted_length(errand: Errand, length: Stated, coded: bool) -> Result<u32, Ref
 }
 
 /// What is asked for on a route that takes POST.
-fn post_asked(errand: Errand, method: &[u8], minor: u8, framing: Framing) -> Asked
-    ensures { result ≡ post_asked errand method.now minor framing }
+fn post_asked(action: Action, method: &[u8], minor: u8, framing: Framing) -> Asked
+    ensures { result ≡ post_asked action method.now minor framing }
 {
     if method != b"POST".as_slice() {
         return Asked::Refused(Refusal::OnlyPost);
     }
-    match posted_length(errand, framing.length, framing.coded) {
+    match posted_length(action, framing.length, framing.coded) {
         Ok(length) => Asked::Post(Posted {
-            errand,
+            action,
             length,
             waits: minor == 1 && framing.waits,
         }),
@@ -330,8 +330,8 @@ fn asked_by(
     let path = path_of(target);
     match find_route(router, path) {
         None => Asked::Refused(Refusal::NoRoute),
-        Some(Route::Mail) => post_asked(Errand::Deliver, method, minor, framing),
-        Some(Route::Settle) => post_asked(Errand::Settle, method, minor, framing),
+        Some(Route::Mail) => post_asked(Action::Deliver, method, minor, framing),
+        Some(Route::Settle) => post_asked(Action::Settle, method, minor, framing),
         Some(Route::Status) => tell_asked(Page::Status, method),
         Some(Route::Testing) => tell_asked(Page::Testing, method),
         Some(Route::Excuses) => tell_asked(Page::Excuses(run_in(path, 9)), method),

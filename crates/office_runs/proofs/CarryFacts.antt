@@ -9,10 +9,10 @@ use Rattle.office_replies.specs.declared.faults.StoreFault.TheVariants.{NoMemory
 use Rattle.office_replies.specs.declared.faults.DeliverFault.{DeliverFault}
 use Rattle.office_replies.specs.declared.faults.DeliverFault.TheVariants as deliver
 use Rattle.office_replies.specs.declared.faults.Held.{Held}
-use Rattle.office_runs.specs.Carried.{HasNotFallen, Holds, StoreRefused, Carries, Asks}
+use Rattle.office_runs.specs.Preserves.{HasNotFallen, Holds, StoreRefused, Preserves, Asks}
 use Rattle.office_replies.specs.Counted.{Counted, CountedDelivery}
-use Rattle.office_runs.specs.Lasting.{Lasts}
-use Rattle.office_runs.specs.Standing.{State}
+use Rattle.office_runs.specs.StaysTrusted.{StaysTrusted}
+use Rattle.office_runs.specs.OfficeState.{OfficeState}
 use Rattle.office_runs.specs.State.{IsSound, state_of}
 use Rattle.office_runs.proofs.LastFacts.{risen_after, risen_before, lasts_none}
 
@@ -55,11 +55,11 @@ risen_delivery a b (Err deliver.OtherText) h e = absurd (cc (e))
 risen_delivery a b (Err deliver.Store) h e = h
 
 -- a call that may have gone ill
-lasts_less : {K : Type 0} (keeper : Ghosts K) (a b : K) (well : Bool) → Lasts keeper a b well → Lasts keeper a b false
+lasts_less : {K : Type 0} (keeper : Ghosts K) (a b : K) (well : Bool) → StaysTrusted keeper a b well → StaysTrusted keeper a b false
 lasts_less keeper a b well h = record { clean = h.clean; faults = h.faults; stays = λ c t e. absurd (cc (e)); shut = h.shut }
 
 -- two of them
-lasts_twice : {K : Type 0} (keeper : Ghosts K) (a b c : K) → Lasts keeper a b false → Lasts keeper b c false → Lasts keeper a c false
+lasts_twice : {K : Type 0} (keeper : Ghosts K) (a b c : K) → StaysTrusted keeper a b false → StaysTrusted keeper b c false → StaysTrusted keeper a c false
 lasts_twice keeper a b c h k = record {
   clean = λ clean. h.clean (k.clean clean);
   faults = omega (arith, h.faults, k.faults);
@@ -73,10 +73,10 @@ lasts_twice keeper a b c h k = record {
   ];
 }
 
-pub carries_none : {K : Type 0} (keeper : Ghosts K) (s : K) → Carries keeper s s
+pub carries_none : {K : Type 0} (keeper : Ghosts K) (s : K) → Preserves keeper s s
 carries_none keeper s = record { before = λ t. t; sound = λ t o. o; setup = refl; refusals = not_fallen_same (keeper.refusals s) (keeper.refusals s) refl; lasts = lasts_none keeper s false }
 
-pub carries_twice : {K : Type 0} (keeper : Ghosts K) (a b c : K) → Carries keeper a b → Carries keeper b c → Carries keeper a c
+pub carries_twice : {K : Type 0} (keeper : Ghosts K) (a b c : K) → Preserves keeper a b → Preserves keeper b c → Preserves keeper a c
 carries_twice keeper a b c h k = record {
   before = λ t. h.before (k.before t);
   sound = λ t o. k.sound t (h.sound (k.before t) o);
@@ -86,28 +86,28 @@ carries_twice keeper a b c h k = record {
 }
 
 -- of two calls, what the first one and the second one may use
-pub holds_first : {K : Type 0} (keeper : Ghosts K) (a b c : K) → Carries keeper b c → Holds keeper a c → Holds keeper a b
+pub holds_first : {K : Type 0} (keeper : Ghosts K) (a b c : K) → Preserves keeper b c → Holds keeper a c → Holds keeper a b
 holds_first keeper a b c k h = (k.before h.0, h.1)
 
-pub holds_next : {K : Type 0} (keeper : Ghosts K) (a b c : K) → Carries keeper a b → Carries keeper b c → Holds keeper a c → Holds keeper b c
+pub holds_next : {K : Type 0} (keeper : Ghosts K) (a b c : K) → Preserves keeper a b → Preserves keeper b c → Holds keeper a c → Holds keeper b c
 holds_next keeper a b c h k t = (t.0, h.sound (k.before t.0) t.1)
 
-pub refused_first : {K : Type 0} (keeper : Ghosts K) (a b c : K) → Carries keeper b c → StoreRefused keeper a b → StoreRefused keeper a c
+pub refused_first : {K : Type 0} (keeper : Ghosts K) (a b c : K) → Preserves keeper b c → StoreRefused keeper a b → StoreRefused keeper a c
 refused_first keeper a b c k h = risen_first (keeper.refusals a) (keeper.refusals b) (keeper.refusals c) h k.refusals
 
-pub refused_next : {K : Type 0} (keeper : Ghosts K) (a b c : K) → Carries keeper a b → StoreRefused keeper b c → StoreRefused keeper a c
+pub refused_next : {K : Type 0} (keeper : Ghosts K) (a b c : K) → Preserves keeper a b → StoreRefused keeper b c → StoreRefused keeper a c
 refused_next keeper a b c h k = risen_next (keeper.refusals a) (keeper.refusals b) (keeper.refusals c) h.refusals k
 
 -- a call, by its clauses
-pub carries_call : {K T : Type 0} (keeper : Ghosts K) (a b : K) (r : Result T StoreFault) → (keeper.is_trusted b → keeper.is_trusted a) → (keeper.is_trusted b → IsSound keeper a → IsSound keeper b) → keeper.setup b ≡ keeper.setup a → Counted (keeper.refusals a) (keeper.refusals b) r → Lasts keeper a b (is_ok r) → Carries keeper a b
+pub carries_call : {K T : Type 0} (keeper : Ghosts K) (a b : K) (r : Result T StoreFault) → (keeper.is_trusted b → keeper.is_trusted a) → (keeper.is_trusted b → IsSound keeper a → IsSound keeper b) → keeper.setup b ≡ keeper.setup a → Counted (keeper.refusals a) (keeper.refusals b) r → StaysTrusted keeper a b (is_ok r) → Preserves keeper a b
 carries_call keeper a b r before sound setup count last = record { before = before; sound = sound; setup = setup; refusals = counted (keeper.refusals a) (keeper.refusals b) r count; lasts = lasts_less keeper a b (is_ok r) last }
 
 -- a delivery
-pub carries_delivery : {K : Type 0} (keeper : Ghosts K) (a b : K) (r : Result Held DeliverFault) → (keeper.is_trusted b → keeper.is_trusted a) → (keeper.is_trusted b → IsSound keeper a → IsSound keeper b) → keeper.setup b ≡ keeper.setup a → CountedDelivery (keeper.refusals a) (keeper.refusals b) r → Lasts keeper a b (is_ok r) → Carries keeper a b
+pub carries_delivery : {K : Type 0} (keeper : Ghosts K) (a b : K) (r : Result Held DeliverFault) → (keeper.is_trusted b → keeper.is_trusted a) → (keeper.is_trusted b → IsSound keeper a → IsSound keeper b) → keeper.setup b ≡ keeper.setup a → CountedDelivery (keeper.refusals a) (keeper.refusals b) r → StaysTrusted keeper a b (is_ok r) → Preserves keeper a b
 carries_delivery keeper a b r before sound setup count last = record { before = before; sound = sound; setup = setup; refusals = counted_delivery (keeper.refusals a) (keeper.refusals b) r count; lasts = lasts_less keeper a b (is_ok r) last }
 
 -- a call that asks
-pub asks_call : {K T : Type 0} (keeper : Ghosts K) (a b : K) (r : Result T StoreFault) → (keeper.is_trusted b → keeper.is_trusted a) → (keeper.is_trusted b → IsSound keeper a → IsSound keeper b) → (keeper.is_trusted b → keeper.content b ≡ keeper.content a) → keeper.setup b ≡ keeper.setup a → Counted (keeper.refusals a) (keeper.refusals b) r → Lasts keeper a b (is_ok r) → Asks keeper a b
+pub asks_call : {K T : Type 0} (keeper : Ghosts K) (a b : K) (r : Result T StoreFault) → (keeper.is_trusted b → keeper.is_trusted a) → (keeper.is_trusted b → IsSound keeper a → IsSound keeper b) → (keeper.is_trusted b → keeper.content b ≡ keeper.content a) → keeper.setup b ≡ keeper.setup a → Counted (keeper.refusals a) (keeper.refusals b) r → StaysTrusted keeper a b (is_ok r) → Asks keeper a b
 asks_call keeper a b r before sound same setup count last = record { carries = carries_call keeper a b r before sound setup count last; same = same }
 
 pub asks_none : {K : Type 0} (keeper : Ghosts K) (s : K) → Asks keeper s s
@@ -122,5 +122,5 @@ asks_twice keeper a b c h k = record {
 -- a call that asks leaves the state
 pub state_asked : {K : Type 0} (keeper : Ghosts K) (a b : K) → Asks keeper a b → keeper.is_trusted b → state_of keeper b ≡ state_of keeper a
 state_asked {K} keeper a b h t =
-    let of : Lists → Content → State = λ l c. record { setup = l; kept = c.kept; finished = length c.reports } in
+    let of : Lists → Content → OfficeState = λ l c. record { setup = l; kept = c.kept; finished = length c.reports } in
     ap (λ (l : Lists). of l (keeper.content b)) h.carries.setup ∙ ap (λ (c : Content). of (keeper.setup a) c) (h.same t)

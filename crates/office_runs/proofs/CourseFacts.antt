@@ -9,7 +9,7 @@ use Rattle.office_mail.specs.Runs.{IsReady, IsReadyCount}
 use Rattle.office_replies.specs.declared.faults.Progress.{Progress}
 use Rattle.office_replies.specs.declared.faults.StoreFault.{StoreFault}
 use Rattle.office_replies.specs.declared.replies.Delivery.{Delivery}
-use Rattle.office_runs.specs.Standing.{State}
+use Rattle.office_runs.specs.OfficeState.{OfficeState}
 use Rattle.office_runs.specs.State.{state_of}
 use Rattle.office_store.specs.declared.keeping.Keeper.{Ghosts}
 use Rattle.office_runs.specs.declared.replays.Replayed.{Replayed}
@@ -22,17 +22,17 @@ use Rattle.office_runs.proofs.EndFacts.{settled_ready}
 use Rattle.office_runs.proofs.RiseFacts.{deliveries_weaker, marks_weaker}
 
 -- a settle keeps what the deliveries kept
-pub keeps_settled : (s0 s1 s2 : State) (ds : List Delivery) → KeepsMail s0 s1 ds → s2.setup ≡ s1.setup → s2.kept ≡ s1.kept → s1.finished ≤ s2.finished → IsReady s2.setup s2.kept s2.finished → KeepsMail s0 s2 ds
+pub keeps_settled : (s0 s1 s2 : OfficeState) (ds : List Delivery) → KeepsMail s0 s1 ds → s2.setup ≡ s1.setup → s2.kept ≡ s1.kept → s1.finished ≤ s2.finished → IsReady s2.setup s2.kept s2.finished → KeepsMail s0 s2 ds
 keeps_settled s0 s1 s2 ds so setup kept grows ready = record { setup = setup ∙ so.setup; kept = kept ∙ so.kept; grows = omega (arith, grows, so.grows); ready = λ h. ready }
 
-ready_moved : (s1 s2 : State) (n : ℕ) → s2.setup ≡ s1.setup → s2.kept ≡ s1.kept → IsReady s1.setup s1.kept n → IsReady s2.setup s2.kept n
+ready_moved : (s1 s2 : OfficeState) (n : ℕ) → s2.setup ≡ s1.setup → s2.kept ≡ s1.kept → IsReady s1.setup s1.kept n → IsReady s2.setup s2.kept n
 ready_moved s1 s2 n setup kept h = subst (λ (l : Lists). IsReady l s2.kept n) (sym setup) (subst (λ (k : Kept). IsReady s1.setup k n) (sym kept) h)
 
-count_moved : (s1 s2 : State) (n : ℕ) → s2.setup ≡ s1.setup → s2.kept ≡ s1.kept → IsReadyCount s1.setup s1.kept n → IsReadyCount s2.setup s2.kept n
+count_moved : (s1 s2 : OfficeState) (n : ℕ) → s2.setup ≡ s1.setup → s2.kept ≡ s1.kept → IsReadyCount s1.setup s1.kept n → IsReadyCount s2.setup s2.kept n
 count_moved s1 s2 n setup kept h = subst (λ (l : Lists). IsReadyCount l s2.kept n) (sym setup) (subst (λ (k : Kept). IsReadyCount s1.setup k n) (sym kept) h)
 
 -- what a settle left and answered
-pub record Settled (s1 s2 : State) (r : Result Progress StoreFault) : Type 0 where
+pub record Settled (s1 s2 : OfficeState) (r : Result Progress StoreFault) : Type 0 where
   pub setup : s2.setup ≡ s1.setup
   pub kept : s2.kept ≡ s1.kept
   pub grows : s1.finished ≤ s2.finished
@@ -45,7 +45,7 @@ pub settled_call : {K : Type 0} (keeper : Ghosts K) (a b : K) (r : Result Progre
 settled_call keeper a b r counted finished kept grows only_ready setup = record { setup = setup; kept = kept; grows = grows; only_ready = only_ready; counted = counted; finished = finished }
 
 -- the course of a replay: deliveries, the last settle, and the marks of the texts at the end
-settled_course : (P Q R : Type 0) (s0 s1 s2 : State) (start now : Reading) (w0 w1 : Option (List ℕ)) (end : Option BagFault) (lost all settled : Bool) (r : Result Progress StoreFault) (count : ℕ) (marks : Marks)
+settled_course : (P Q R : Type 0) (s0 s1 s2 : OfficeState) (start now : Reading) (w0 w1 : Option (List ℕ)) (end : Option BagFault) (lost all settled : Bool) (r : Result Progress StoreFault) (count : ℕ) (marks : Marks)
     → DeliversAll s0 s1 start now w0 w1 end lost P → (P → R) → Settled s1 s2 r → settled ≡ is_ok r → MarksEnd s2 s0.finished count marks → MarksCounted Q marks → (Q → R)
     → all ≡ (((lost || is_short end) || not settled) || has_refusal marks) → Course s0 s2 start now end all R
 settled_course P Q R s0 s1 s2 start now w0 w1 end lost all settled r count marks d rises h is each by_store marks_rise e =
@@ -65,7 +65,7 @@ settled_course P Q R s0 s1 s2 start now w0 w1 end lost all settled r count marks
     }
 
 -- with all of its output written
-pub replays_all : (P Q R : Type 0) (s0 s1 s2 : State) (start now : Reading) (w0 w1 w3 : Option (List ℕ)) (replayed : Replayed) (lost settled : Bool) (r : Result Progress StoreFault) (count : ℕ) (marks : Marks)
+pub replays_all : (P Q R : Type 0) (s0 s1 s2 : OfficeState) (start now : Reading) (w0 w1 w3 : Option (List ℕ)) (replayed : Replayed) (lost settled : Bool) (r : Result Progress StoreFault) (count : ℕ) (marks : Marks)
     → (d : DeliversAll s0 s1 start now w0 w1 replayed.bag lost P) → (P → R) → Settled s1 s2 r → settled ≡ is_ok r → MarksEnd s2 s0.finished count marks → MarksCounted Q marks → (Q → R)
     → replayed.lost ≡ (((lost || is_short replayed.bag) || not settled) || has_refusal marks)
     → Appends w0 w3 (output s0 s2 d.deliveries replayed.bag count marks) → ReplaysAll s0 s2 start now w0 w3 replayed R
@@ -76,7 +76,7 @@ replays_all P Q R s0 s1 s2 start now w0 w1 w3 replayed lost settled r count mark
 }
 
 -- with a front of it written
-pub replays_front : (P Q R : Type 0) (s0 s1 s2 : State) (start now : Reading) (w0 w1 w3 : Option (List ℕ)) (end : Option BagFault) (lost settled : Bool) (r : Result Progress StoreFault) (count : ℕ) (marks : Marks)
+pub replays_front : (P Q R : Type 0) (s0 s1 s2 : OfficeState) (start now : Reading) (w0 w1 w3 : Option (List ℕ)) (end : Option BagFault) (lost settled : Bool) (r : Result Progress StoreFault) (count : ℕ) (marks : Marks)
     → (d : DeliversAll s0 s1 start now w0 w1 end lost P) → (P → R) → Settled s1 s2 r → settled ≡ is_ok r → MarksEnd s2 s0.finished count marks → MarksCounted Q marks → (Q → R)
     → AppendsFront w0 w3 (output s0 s2 d.deliveries end count marks) → ReplaysFront s0 s2 start now w0 w3 R
 unfolding settled_course

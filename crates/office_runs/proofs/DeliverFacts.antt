@@ -16,7 +16,7 @@ use Rattle.office_mail.proofs.KeptFacts.{kept_from-nil, kept_from-append}
 use Rattle.office_replies.specs.declared.replies.Delivery.{Delivery}
 use Rattle.office_replies.specs.declared.replies.Mark.{Mark}
 use Rattle.office_replies.specs.declared.replies.Mark.TheVariants.{Taken, LostForMemory, LostForStore}
-use Rattle.office_runs.specs.Standing.{State}
+use Rattle.office_runs.specs.OfficeState.{OfficeState}
 use Rattle.office_runs.specs.State.{answer_to}
 use Rattle.office_replies.specs.Replies.{reply_line, reply_by, if_taken, not_lost, is_lost, any_lost}
 use Rattle.office_runs.specs.Output.{reply_to, reply_lines}
@@ -89,11 +89,11 @@ came_from start b now ds end so stops = record {
   same = so.same;
 }
 
-pub keeps_none : (s : State) → KeepsMail s s []
+pub keeps_none : (s : OfficeState) → KeepsMail s s []
 keeps_none s = record { setup = refl; kept = sym (kept_from-nil s.setup s.kept); grows = omega arith; ready = λ h. h }
 
 -- one delivery more
-pub keeps_more : (s0 s1 s2 : State) (ds : List Delivery) (text : List ℕ) (mark : Mark) → KeepsMail s0 s1 ds → s2.kept ≡ kept_from s1.setup s1.kept (if_taken mark text []) → s2.setup ≡ s1.setup → s1.finished ≤ s2.finished
+pub keeps_more : (s0 s1 s2 : OfficeState) (ds : List Delivery) (text : List ℕ) (mark : Mark) → KeepsMail s0 s1 ds → s2.kept ≡ kept_from s1.setup s1.kept (if_taken mark text []) → s2.setup ≡ s1.setup → s1.finished ≤ s2.finished
     → IsReady s2.setup s2.kept s2.finished → KeepsMail s0 s2 (ds ++ record { text = text; mark = mark } ∷ [])
 keeps_more s0 s1 s2 ds text mark so kept setup grows ready =
     let d : Delivery = record { text = text; mark = mark } in
@@ -105,16 +105,16 @@ keeps_more s0 s1 s2 ds text mark so kept setup grows ready =
       ready = λ h. ready;
     }
 
-pub delivers_none : (s : State) (b : Reading) (w : Option (List ℕ)) (rose : Type 0) → Delivers s s b b w w false rose
+pub delivers_none : (s : OfficeState) (b : Reading) (w : Option (List ℕ)) (rose : Type 0) → Delivers s s b b w w false rose
 delivers_none s b w rose = record { deliveries = []; came = came_none b; keeps = keeps_none s; written = Appends-nil w; losses = refl; by_store = tt }
 
 -- the line that answers the next delivery, seen from the start
-line_after : (s0 s1 : State) (ds : List Delivery) (text : List ℕ) (mark : Mark) → KeepsMail s0 s1 ds
+line_after : (s0 s1 : OfficeState) (ds : List Delivery) (text : List ℕ) (mark : Mark) → KeepsMail s0 s1 ds
     → reply_line s1.setup (reply_by mark (answer_to s1.setup s1.kept text)) ≡ reply_line s0.setup (reply_to s0.setup (kept_from s0.setup s0.kept (not_lost ds)) (record { text = text; mark = mark }))
 line_after s0 s1 ds text mark so =
     ap (λ (st : Lists). reply_line st (reply_by mark (answer_to st s1.kept text))) so.setup ∙ ap (λ (k : Kept). reply_line s0.setup (reply_by mark (answer_to s0.setup k text))) so.kept
 
-pub delivers_more : (P Q R : Type 0) (lost now : Bool) (s0 s1 s2 : State) (start b1 b2 : Reading) (w0 w1 w2 : Option (List ℕ)) (text : List ℕ) (mark : Mark) → Delivers s0 s1 start b1 w0 w1 lost P → (P → R) → TakesMessage b1 b2 text
+pub delivers_more : (P Q R : Type 0) (lost now : Bool) (s0 s1 s2 : OfficeState) (start b1 b2 : Reading) (w0 w1 w2 : Option (List ℕ)) (text : List ℕ) (mark : Mark) → Delivers s0 s1 start b1 w0 w1 lost P → (P → R) → TakesMessage b1 b2 text
     → DeliversOne s1 s2 text mark w1 w2 Q → (Q → R) → now ≡ (lost || is_lost mark) → Delivers s0 s2 start b2 w0 w2 now R
 delivers_more P Q R lost now s0 s1 s2 start b1 b2 w0 w1 w2 text mark so rises took one one_rises e =
     let d : Delivery = record { text = text; mark = mark } in
@@ -131,7 +131,7 @@ delivers_more P Q R lost now s0 s1 s2 start b1 b2 w0 w1 w2 text mark so rises to
     }
 
 -- where the writer fails at the next line
-pub delivers_front : (P Q R : Type 0) (lost : Bool) (s0 s1 s2 : State) (start b1 b2 : Reading) (w0 w1 w2 : Option (List ℕ)) (text : List ℕ) → Delivers s0 s1 start b1 w0 w1 lost P → (P → R) → TakesMessage b1 b2 text
+pub delivers_front : (P Q R : Type 0) (lost : Bool) (s0 s1 s2 : OfficeState) (start b1 b2 : Reading) (w0 w1 w2 : Option (List ℕ)) (text : List ℕ) → Delivers s0 s1 start b1 w0 w1 lost P → (P → R) → TakesMessage b1 b2 text
     → DeliversOneFront s1 s2 text w1 w2 Q → (Q → R) → DeliversFront s0 s2 start b2 w0 w2 R
 delivers_front P Q R lost s0 s1 s2 start b1 b2 w0 w1 w2 text so rises took one one_rises =
     let d : Delivery = record { text = text; mark = one.mark } in
@@ -147,7 +147,7 @@ delivers_front P Q R lost s0 s1 s2 start b1 b2 w0 w1 w2 text so rises took one o
     }
 
 -- the bag stops behind what was delivered
-pub delivers_all : (rose : Type 0) (s0 s1 : State) (start b now : Reading) (w0 w1 : Option (List ℕ)) (end : Option BagFault) (lost : Bool) → Delivers s0 s1 start b w0 w1 lost rose → Stops b now end → DeliversAll s0 s1 start now w0 w1 end lost rose
+pub delivers_all : (rose : Type 0) (s0 s1 : OfficeState) (start b now : Reading) (w0 w1 : Option (List ℕ)) (end : Option BagFault) (lost : Bool) → Delivers s0 s1 start b w0 w1 lost rose → Stops b now end → DeliversAll s0 s1 start now w0 w1 end lost rose
 delivers_all rose s0 s1 start b now w0 w1 end lost so stops = record {
   deliveries = so.deliveries;
   came = came_from start b now so.deliveries end so.came stops;

@@ -12,7 +12,7 @@ use Rattle.office_replies.specs.declared.faults.StoreFault.TheVariants.{NoMemory
 use Rattle.office_store.specs.declared.values.Reports.{Reports}
 use Rattle.office_mail.specs.Lists.{Lists}
 use Rattle.office_mail.specs.Kept.{Kept}
-use Rattle.office_runs.specs.Standing.{State}
+use Rattle.office_runs.specs.OfficeState.{OfficeState}
 use Rattle.office_runs.specs.State.{reports_at}
 use Rattle.office_runs.specs.Outcome.{reports_of}
 use Rattle.office_replies.specs.Written.{AppendsFront}
@@ -31,15 +31,15 @@ by_test true false x e f = absurd (cc (f))
 by_test false b x e f = absurd (cc (e))
 
 -- a finished run has its reports
-pub reports_there : (s : State) (run : ℕ) → 1 ≤ run → run ≤ s.finished → reports_at s run ≡ Some (reports_of s.setup s.kept run)
+pub reports_there : (s : OfficeState) (run : ℕ) → 1 ≤ run → run ≤ s.finished → reports_at s run ≡ Some (reports_of s.setup s.kept run)
 reports_there s run h k = by_test (nat_le 1 run) (nat_le run s.finished) (reports_of s.setup s.kept run) (le-leb 1 run h) (le-leb run s.finished k)
 
-pub shown_excuses : (s : State) (run : ℕ) (r : Result (Option (List ℕ)) StoreFault) → 1 ≤ run → run ≤ s.finished → IfOk r (λ t. t ≡ option_map (λ (o : Reports). o.excuses) (reports_at s run)) → report_shown r ≡ or_refused (mark_in r) (reports_of s.setup s.kept run).excuses
+pub shown_excuses : (s : OfficeState) (run : ℕ) (r : Result (Option (List ℕ)) StoreFault) → 1 ≤ run → run ≤ s.finished → IfOk r (λ t. t ≡ option_map (λ (o : Reports). o.excuses) (reports_at s run)) → report_shown r ≡ or_refused (mark_in r) (reports_of s.setup s.kept run).excuses
 shown_excuses s run (Err NoMemory) h k e = refl
 shown_excuses s run (Err Store) h k e = refl
 shown_excuses s run (Ok t) h k e = ap (λ (o : Option (List ℕ)). report_shown (Ok o)) (e ∙ ap (option_map (λ (o : Reports). o.excuses)) (reports_there s run h k))
 
-pub shown_updates : (s : State) (run : ℕ) (r : Result (Option (List ℕ)) StoreFault) → 1 ≤ run → run ≤ s.finished → IfOk r (λ t. t ≡ option_map (λ (o : Reports). o.updates) (reports_at s run)) → report_shown r ≡ or_refused (mark_in r) (reports_of s.setup s.kept run).updates
+pub shown_updates : (s : OfficeState) (run : ℕ) (r : Result (Option (List ℕ)) StoreFault) → 1 ≤ run → run ≤ s.finished → IfOk r (λ t. t ≡ option_map (λ (o : Reports). o.updates) (reports_at s run)) → report_shown r ≡ or_refused (mark_in r) (reports_of s.setup s.kept run).updates
 shown_updates s run (Err NoMemory) h k e = refl
 shown_updates s run (Err Store) h k e = refl
 shown_updates s run (Ok t) h k e = ap (λ (o : Option (List ℕ)). report_shown (Ok o)) (e ∙ ap (option_map (λ (o : Reports). o.updates)) (reports_there s run h k))
@@ -77,13 +77,13 @@ each_append rose [] ys h k = k
 each_append rose (x ∷ xs) ys h k = (h.0, each_append rose xs ys h.1 k)
 
 -- the lines of one run, and of those after it
-lines_split : (s : State) (n : ℕ) (m : ReportMarks) (ms : List ReportMarks) → report_lines s.setup s.kept n (m ∷ ms) ≡ run_lines s (n + 1) m ++ report_lines s.setup s.kept (n + 1) ms
+lines_split : (s : OfficeState) (n : ℕ) (m : ReportMarks) (ms : List ReportMarks) → report_lines s.setup s.kept n (m ∷ ms) ≡ run_lines s (n + 1) m ++ report_lines s.setup s.kept (n + 1) ms
 lines_split s n m ms = refl
 
-pub reports_none : (s : State) (k : ℕ) (w : Option (List ℕ)) (rose : Type 0) → WritesReports s k k w w false rose
+pub reports_none : (s : OfficeState) (k : ℕ) (w : Option (List ℕ)) (rose : Type 0) → WritesReports s k k w w false rose
 reports_none s k w rose = record { marks = []; all = omega arith; written = Appends-nil w; losses = refl; by_store = tt }
 
-pub reports_more : (P Q R : Type 0) (s : State) (k n : ℕ) (w0 w1 w2 : Option (List ℕ)) (lost missing now : Bool) → WritesReports s k n w0 w1 lost P → (P → R) → WritesRun s (n + 1) w1 w2 missing Q → (Q → R) → now ≡ (lost || missing) → WritesReports s k (n + 1) w0 w2 now R
+pub reports_more : (P Q R : Type 0) (s : OfficeState) (k n : ℕ) (w0 w1 w2 : Option (List ℕ)) (lost missing now : Bool) → WritesReports s k n w0 w1 lost P → (P → R) → WritesRun s (n + 1) w1 w2 missing Q → (Q → R) → now ≡ (lost || missing) → WritesReports s k (n + 1) w0 w2 now R
 reports_more P Q R s k n w0 w1 w2 lost missing now so rises one one_rises e = record {
   marks = so.marks ++ one.mark ∷ [];
   all = omega (arith, length-append so.marks (one.mark ∷ []), so.all);
@@ -93,7 +93,7 @@ reports_more P Q R s k n w0 w1 w2 lost missing now so rises one one_rises e = re
   by_store = each_push (λ (m : ReportMarks). TextCounted R m.0 × TextCounted R m.1) so.marks one.mark (reports_weaker P R so.marks rises so.by_store) (text_weaker Q R one.mark.0 one_rises one.by_store.0, text_weaker Q R one.mark.1 one_rises one.by_store.1);
 }
 
-pub reports_front : (P Q R : Type 0) (s : State) (k n all : ℕ) (w0 w1 w2 : Option (List ℕ)) (lost : Bool) → WritesReports s k n w0 w1 lost P → (P → R) → WritesRunFront s (n + 1) w1 w2 Q → (Q → R) → n < all → WritesReportsFront s k all w0 w2 R
+pub reports_front : (P Q R : Type 0) (s : OfficeState) (k n all : ℕ) (w0 w1 w2 : Option (List ℕ)) (lost : Bool) → WritesReports s k n w0 w1 lost P → (P → R) → WritesRunFront s (n + 1) w1 w2 Q → (Q → R) → n < all → WritesReportsFront s k all w0 w2 R
 reports_front P Q R s k n all w0 w1 w2 lost so rises one one_rises h =
     let rest = fill (all - (n + 1)) in
     record {
@@ -110,12 +110,12 @@ abbrev pub count_in : Result Progress StoreFault → ℕ
 count_in (Ok progress) = progress.ready
 count_in (Err fault) = 0
 
-pub shown_status : (s : State) (r : Result Progress StoreFault) → IfOk r (λ p. p.finished ≡ s.finished) → status_shown r ≡ or_refused (mark_in r) (status_line (count_in r) s.finished)
+pub shown_status : (s : OfficeState) (r : Result Progress StoreFault) → IfOk r (λ p. p.finished ≡ s.finished) → status_shown r ≡ or_refused (mark_in r) (status_line (count_in r) s.finished)
 shown_status s (Err NoMemory) e = refl
 shown_status s (Err Store) e = refl
 shown_status s (Ok p) e = ap (status_line p.ready) e
 
-pub ready_counted : (s : State) (r : Result Progress StoreFault) → IfOk r (λ p. IsReadyCount s.setup s.kept p.ready) → mark_in r ≡ None → IsReadyCount s.setup s.kept (count_in r)
+pub ready_counted : (s : OfficeState) (r : Result Progress StoreFault) → IfOk r (λ p. IsReadyCount s.setup s.kept p.ready) → mark_in r ≡ None → IsReadyCount s.setup s.kept (count_in r)
 ready_counted s (Ok p) h e = h
 ready_counted s (Err f) h e = absurd (cc (e))
 

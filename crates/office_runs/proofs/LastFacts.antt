@@ -2,7 +2,7 @@
 use Rattle.std.proofs.Common.{◌≤◌, ◌⊎◌, inl, inr, ℕ, Bool, true, Result, Ok, Err, OnOk, is_ok, refl, arith}
 use Rattle.office_store.specs.Keeping.{HasRisen}
 use Rattle.office_store.specs.declared.keeping.Keeper.{Ghosts}
-use Rattle.office_runs.specs.Lasting.{Lasts}
+use Rattle.office_runs.specs.StaysTrusted.{StaysTrusted}
 
 -- a count that rose later rose
 pub risen_after : (a b c : ℕ) → a ≤ b → HasRisen b c → HasRisen a c
@@ -11,7 +11,7 @@ risen_after a b c low rose = omega (arith, low, rose)
 pub risen_before : (a b c : ℕ) → HasRisen a b → b ≤ c → HasRisen a c
 risen_before a b c rose low = omega (arith, low, rose)
 
-pub lasts_none : {K : Type 0} (keeper : Ghosts K) (k : K) (b : Bool) → Lasts keeper k k b
+pub lasts_none : {K : Type 0} (keeper : Ghosts K) (k : K) (b : Bool) → StaysTrusted keeper k k b
 lasts_none keeper k b = record {
   clean = λ clean. clean;
   faults = omega arith;
@@ -20,7 +20,7 @@ lasts_none keeper k b = record {
 }
 
 -- a call after one that went well
-pub lasts_then : {K : Type 0} (keeper : Ghosts K) (old mid new : K) (b : Bool) → Lasts keeper old mid true → Lasts keeper mid new b → Lasts keeper old new b
+pub lasts_then : {K : Type 0} (keeper : Ghosts K) (old mid new : K) (b : Bool) → StaysTrusted keeper old mid true → StaysTrusted keeper mid new b → StaysTrusted keeper old new b
 lasts_then keeper old mid new b one two = record {
   clean = λ clean. one.clean (two.clean clean);
   faults = omega (arith, one.faults, two.faults);
@@ -32,7 +32,7 @@ lasts_then keeper old mid new b one two = record {
 }
 
 -- what goes well for the store may go ill for another cause
-pub lasts_any : {K : Type 0} (keeper : Ghosts K) (old new : K) (b : Bool) → Lasts keeper old new true → Lasts keeper old new b
+pub lasts_any : {K : Type 0} (keeper : Ghosts K) (old new : K) (b : Bool) → StaysTrusted keeper old new true → StaysTrusted keeper old new b
 lasts_any keeper old new b one = record {
   clean = one.clean;
   faults = one.faults;
@@ -41,7 +41,7 @@ lasts_any keeper old new b one = record {
 }
 
 -- what a call of a store says
-pub lasts_by : {K T E : Type 0} (keeper : Ghosts K) (old new : K) (r : Result T E) → (keeper.is_clean new → keeper.is_clean old) → keeper.disk_faults old ≤ keeper.disk_faults new → (keeper.is_clean new → keeper.is_trusted old → OnOk r (keeper.is_trusted new)) → (keeper.is_clean new → keeper.is_trusted old → keeper.is_trusted new ⊎ HasRisen (keeper.disk_faults old) (keeper.disk_faults new)) → Lasts keeper old new (is_ok r)
+pub lasts_by : {K T E : Type 0} (keeper : Ghosts K) (old new : K) (r : Result T E) → (keeper.is_clean new → keeper.is_clean old) → keeper.disk_faults old ≤ keeper.disk_faults new → (keeper.is_clean new → keeper.is_trusted old → OnOk r (keeper.is_trusted new)) → (keeper.is_clean new → keeper.is_trusted old → keeper.is_trusted new ⊎ HasRisen (keeper.disk_faults old) (keeper.disk_faults new)) → StaysTrusted keeper old new (is_ok r)
 lasts_by keeper old new (Ok x) clean faults stays shut = record { clean = clean; faults = faults; stays = λ c t well. stays c t; shut = shut }
 lasts_by keeper old new (Err e) clean faults stays shut = record { clean = clean; faults = faults; stays = λ c t well. absurd (cc well); shut = shut }
 

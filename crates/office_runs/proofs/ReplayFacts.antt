@@ -21,10 +21,10 @@ use Rattle.office_replies.specs.declared.replies.Mark.TheVariants.{Taken, LostFo
 use Rattle.office_runs.specs.State.{AnswersDelivery, answer_to, answer_by, answer_at, IsSound, state_of}
 use Rattle.office_replies.specs.Replies.{reply_by, mark_of, if_taken, reply_line}
 use Rattle.office_runs.specs.Losses.{DeliveryCounted}
-use Rattle.office_runs.specs.Carried.{StoreRefused}
+use Rattle.office_runs.specs.Preserves.{StoreRefused}
 use Rattle.office_replies.specs.Counted.{Counted, CountedDelivery}
 use Rattle.office_runs.specs.Delivered.{DeliversOne, DeliversOneFront, Settles}
-use Rattle.office_runs.specs.Standing.{State}
+use Rattle.office_runs.specs.OfficeState.{OfficeState}
 use Rattle.office_replies.specs.Written.{AppendsFront}
 use Rattle.office_store.specs.Content.{Content}
 use Rattle.office_store.specs.declared.keeping.Keeper.{Ghosts}
@@ -100,7 +100,7 @@ kept_after setup kept new text (Ok held) h ok err = ok
 kept_after setup kept new text (Err fault) h ok err = err ∙ kept_marked setup kept text fault (mark_of (Err fault)) (λ t. sym (marked_due (mark_of (Err fault)) (Err fault) (answer_to setup kept text) (reply_by-mark (Err fault) (answer_to setup kept text) h) t))
 
 -- a delivery, and what it leaves
-pub record Leaves (before after : State) (text : List ℕ) (r : Result Held DeliverFault) (rose : Type 0) : Type 0 where
+pub record Leaves (before after : OfficeState) (text : List ℕ) (r : Result Held DeliverFault) (rose : Type 0) : Type 0 where
   pub answer : AnswersDelivery r (answer_to before.setup before.kept text)
   pub kept : OnOk r (after.kept ≡ kept_from before.setup before.kept (text ∷ []))
   pub finished : after.finished ≡ before.finished
@@ -119,7 +119,7 @@ leaves_call keeper a b text r answer kept finished err setup count = record {
   by_store = risen_delivery (keeper.refusals a) (keeper.refusals b) r count;
 }
 
-pub delivers_one : (P Q R : Type 0) (s0 s1 s2 : State) (text : List ℕ) (r : Result Held DeliverFault) (w0 w1 : Option (List ℕ)) → Leaves s0 s1 text r P → (P → R) → Settles s1 s2 (is_ok r) Q → (Q → R) → Appends w0 w1 (reply_line s1.setup r) → DeliversOne s0 s2 text (mark_of r) w0 w1 R
+pub delivers_one : (P Q R : Type 0) (s0 s1 s2 : OfficeState) (text : List ℕ) (r : Result Held DeliverFault) (w0 w1 : Option (List ℕ)) → Leaves s0 s1 text r P → (P → R) → Settles s1 s2 (is_ok r) Q → (Q → R) → Appends w0 w1 (reply_line s1.setup r) → DeliversOne s0 s2 text (mark_of r) w0 w1 R
 delivers_one P Q R s0 s1 s2 text r w0 w1 l l_rises f f_rises wrote =
     let by : r ≡ reply_by (mark_of r) (answer_to s0.setup s0.kept text) = reply_by-mark r (answer_to s0.setup s0.kept text) l.answer in
     record {
@@ -139,7 +139,7 @@ delivers_one P Q R s0 s1 s2 text r w0 w1 l l_rises f f_rises wrote =
       };
     }
 
-pub delivers_one_front : (P : Type 0) (s0 s1 : State) (text : List ℕ) (r : Result Held DeliverFault) (w0 w1 : Option (List ℕ)) → Leaves s0 s1 text r P → IsReady s1.setup s1.kept s1.finished → AppendsFront w0 w1 (reply_line s1.setup r) → DeliversOneFront s0 s1 text w0 w1 P
+pub delivers_one_front : (P : Type 0) (s0 s1 : OfficeState) (text : List ℕ) (r : Result Held DeliverFault) (w0 w1 : Option (List ℕ)) → Leaves s0 s1 text r P → IsReady s1.setup s1.kept s1.finished → AppendsFront w0 w1 (reply_line s1.setup r) → DeliversOneFront s0 s1 text w0 w1 P
 delivers_one_front P s0 s1 text r w0 w1 l ready wrote = record {
   mark = mark_of r;
   kept = kept_after s0.setup s0.kept s1.kept text r l.answer l.kept l.err;

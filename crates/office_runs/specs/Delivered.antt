@@ -11,7 +11,7 @@ use Rattle.office_mail.specs.Runs.{IsReady, IsReadyCount}
 use Rattle.office_replies.specs.declared.faults.StoreFault.{StoreFault}
 use Rattle.office_replies.specs.declared.replies.Delivery.{Delivery}
 use Rattle.office_replies.specs.declared.replies.Mark.{Mark}
-use Rattle.office_runs.specs.Standing.{State}
+use Rattle.office_runs.specs.OfficeState.{OfficeState}
 use Rattle.office_runs.specs.State.{answer_to}
 use Rattle.office_replies.specs.Written.{AppendsFront}
 use Rattle.office_replies.specs.Replies.{if_taken, not_lost, any_lost, reply_line, reply_by}
@@ -37,14 +37,14 @@ pub record CameFirst (start now : Reading) (deliveries : List Delivery) : Type 0
 
 -- The office after deliveries and settles: what was kept, and what came without the losses; the runs
 -- that were finished, and maybe more; and each of them is ready.
-pub record KeepsMail (before after : State) (deliveries : List Delivery) : Type 0 where
+pub record KeepsMail (before after : OfficeState) (deliveries : List Delivery) : Type 0 where
   pub setup : after.setup ≡ before.setup
   pub kept : after.kept ≡ kept_from before.setup before.kept (not_lost deliveries)
   pub grows : before.finished ≤ after.finished
   pub ready : IsReady before.setup before.kept before.finished → IsReady after.setup after.kept after.finished
 
 -- the next messages of a bag are delivered and answered; and whether one was lost
-pub record Delivers (before after : State) (start now : Reading) (old new : Option (List ℕ)) (lost : Bool) (rose : Type 0) : Type 0 where
+pub record Delivers (before after : OfficeState) (start now : Reading) (old new : Option (List ℕ)) (lost : Bool) (rose : Type 0) : Type 0 where
   pub deliveries : List Delivery
   pub came : CameFirst start now deliveries
   pub keeps : KeepsMail before after deliveries
@@ -53,7 +53,7 @@ pub record Delivers (before after : State) (start now : Reading) (old new : Opti
   pub by_store : DeliveriesCounted rose deliveries
 
 -- all messages of a bag are, up to its end
-pub record DeliversAll (before after : State) (start now : Reading) (old new : Option (List ℕ)) (end : Option BagFault) (lost : Bool) (rose : Type 0) : Type 0 where
+pub record DeliversAll (before after : OfficeState) (start now : Reading) (old new : Option (List ℕ)) (end : Option BagFault) (lost : Bool) (rose : Type 0) : Type 0 where
   pub deliveries : List Delivery
   pub came : CameFrom start now deliveries end
   pub keeps : KeepsMail before after deliveries
@@ -62,7 +62,7 @@ pub record DeliversAll (before after : State) (start now : Reading) (old new : O
   pub by_store : DeliveriesCounted rose deliveries
 
 -- the next messages are delivered, and of the lines that answer them a front is written
-pub record DeliversFront (before after : State) (start now : Reading) (old new : Option (List ℕ)) (rose : Type 0) : Type 0 where
+pub record DeliversFront (before after : OfficeState) (start now : Reading) (old new : Option (List ℕ)) (rose : Type 0) : Type 0 where
   pub deliveries : List Delivery
   pub came : CameFirst start now deliveries
   pub keeps : KeepsMail before after deliveries
@@ -70,7 +70,7 @@ pub record DeliversFront (before after : State) (start now : Reading) (old new :
   pub by_store : DeliveriesCounted rose deliveries
 
 -- What follows a delivery: where it is held a settle, which finishes all ready runs unless it meets a fault.
-pub record Settles (before after : State) (held : Bool) (rose : Type 0) : Type 0 where
+pub record Settles (before after : OfficeState) (held : Bool) (rose : Type 0) : Type 0 where
   pub setup : after.setup ≡ before.setup
   pub kept : after.kept ≡ before.kept
   pub grows : before.finished ≤ after.finished
@@ -82,7 +82,7 @@ pub record Settles (before after : State) (held : Bool) (rose : Type 0) : Type 0
   pub all_ready : held ≡ true → met ≡ None → IsReadyCount after.setup after.kept after.finished
 
 -- one text was delivered, answered, and followed by a settle where it is held
-pub record DeliversOne (before after : State) (text : List ℕ) (mark : Mark) (old new : Option (List ℕ)) (rose : Type 0) : Type 0 where
+pub record DeliversOne (before after : OfficeState) (text : List ℕ) (mark : Mark) (old new : Option (List ℕ)) (rose : Type 0) : Type 0 where
   pub kept : after.kept ≡ kept_from before.setup before.kept (if_taken mark text [])
   pub setup : after.setup ≡ before.setup
   pub written : Appends old new (reply_line before.setup (reply_by mark (answer_to before.setup before.kept text)))
@@ -90,7 +90,7 @@ pub record DeliversOne (before after : State) (text : List ℕ) (mark : Mark) (o
   pub settles : Settles (record { setup = before.setup; kept = after.kept; finished = before.finished }) after (is_ok (reply_by mark (answer_to before.setup before.kept text))) rose
 
 -- one text was delivered, and of the line that answers it a front was written; no settle was made
-pub record DeliversOneFront (before after : State) (text : List ℕ) (old new : Option (List ℕ)) (rose : Type 0) : Type 0 where
+pub record DeliversOneFront (before after : OfficeState) (text : List ℕ) (old new : Option (List ℕ)) (rose : Type 0) : Type 0 where
   pub mark : Mark
   pub kept : after.kept ≡ kept_from before.setup before.kept (if_taken mark text [])
   pub setup : after.setup ≡ before.setup

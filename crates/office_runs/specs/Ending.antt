@@ -3,7 +3,7 @@ use Rattle.std.specs.Prelude.{◌≡◌, ℕ, ◌+◌, List, [], ◌++◌, Optio
 use Rattle.std.specs.Io.KnownBytes.{Appends}
 use Rattle.office_replies.specs.declared.faults.Progress.{Progress}
 use Rattle.office_replies.specs.declared.faults.StoreFault.{StoreFault}
-use Rattle.office_runs.specs.Standing.{State}
+use Rattle.office_runs.specs.OfficeState.{OfficeState}
 use Rattle.office_replies.specs.Written.{AppendsFront}
 use Rattle.office_runs.specs.Outcome.{reports_of}
 use Rattle.office_runs.specs.Output.{Marks, ReportMarks, or_refused, report_lines, new_reports, end_lines}
@@ -30,24 +30,24 @@ report_shown (Ok None) = []
 report_shown (Err fault) = or_refused (Some fault) []
 
 -- a run's two reports, or the lines in their place
-abbrev pub run_lines : State → ℕ → ReportMarks → List ℕ
+abbrev pub run_lines : OfficeState → ℕ → ReportMarks → List ℕ
 run_lines s run mark = or_refused mark.0 (reports_of s.setup s.kept run).excuses ++ or_refused mark.1 (reports_of s.setup s.kept run).updates
 
 -- a run's reports are written; and whether one is missing
-pub record WritesRun (s : State) (run : ℕ) (old new : Option (List ℕ)) (lost : Bool) (rose : Type 0) : Type 0 where
+pub record WritesRun (s : OfficeState) (run : ℕ) (old new : Option (List ℕ)) (lost : Bool) (rose : Type 0) : Type 0 where
   pub mark : ReportMarks
   pub written : Appends old new (run_lines s run mark)
   pub losses : lost ≡ (is_missing mark.0 || is_missing mark.1)
   pub by_store : TextCounted rose mark.0 × TextCounted rose mark.1
 
 -- a front of them is
-pub record WritesRunFront (s : State) (run : ℕ) (old new : Option (List ℕ)) (rose : Type 0) : Type 0 where
+pub record WritesRunFront (s : OfficeState) (run : ℕ) (old new : Option (List ℕ)) (rose : Type 0) : Type 0 where
   pub mark : ReportMarks
   pub written : AppendsFront old new (run_lines s run mark)
   pub by_store : TextCounted rose mark.0 × TextCounted rose mark.1
 
 -- the reports of the runs after run k up to run n are written; and whether one is missing
-pub record WritesReports (s : State) (k n : ℕ) (old new : Option (List ℕ)) (lost : Bool) (rose : Type 0) : Type 0 where
+pub record WritesReports (s : OfficeState) (k n : ℕ) (old new : Option (List ℕ)) (lost : Bool) (rose : Type 0) : Type 0 where
   pub marks : List ReportMarks
   pub all : k + length marks ≡ n
   pub written : Appends old new (report_lines s.setup s.kept k marks)
@@ -55,14 +55,14 @@ pub record WritesReports (s : State) (k n : ℕ) (old new : Option (List ℕ)) (
   pub by_store : ReportsCounted rose marks
 
 -- a front of them is
-pub record WritesReportsFront (s : State) (k n : ℕ) (old new : Option (List ℕ)) (rose : Type 0) : Type 0 where
+pub record WritesReportsFront (s : OfficeState) (k n : ℕ) (old new : Option (List ℕ)) (rose : Type 0) : Type 0 where
   pub marks : List ReportMarks
   pub all : k + length marks ≡ n
   pub written : AppendsFront old new (report_lines s.setup s.kept k marks)
   pub by_store : ReportsCounted rose marks
 
 -- the reports of the runs after run k are written, or one line in their place; and whether one is missing
-pub record WritesNews (s : State) (k : ℕ) (old new : Option (List ℕ)) (lost : Bool) (rose : Type 0) : Type 0 where
+pub record WritesNews (s : OfficeState) (k : ℕ) (old new : Option (List ℕ)) (lost : Bool) (rose : Type 0) : Type 0 where
   pub count : Option StoreFault
   pub reports : List ReportMarks
   pub all : count ≡ None → k + length reports ≡ s.finished
@@ -71,7 +71,7 @@ pub record WritesNews (s : State) (k : ℕ) (old new : Option (List ℕ)) (lost 
   pub by_store : TextCounted rose count × ReportsCounted rose reports
 
 -- a front of them is
-pub record WritesNewsFront (s : State) (k : ℕ) (old new : Option (List ℕ)) (rose : Type 0) : Type 0 where
+pub record WritesNewsFront (s : OfficeState) (k : ℕ) (old new : Option (List ℕ)) (rose : Type 0) : Type 0 where
   pub count : Option StoreFault
   pub reports : List ReportMarks
   pub all : count ≡ None → k + length reports ≡ s.finished
@@ -79,7 +79,7 @@ pub record WritesNewsFront (s : State) (k : ℕ) (old new : Option (List ℕ)) (
   pub by_store : TextCounted rose count × ReportsCounted rose reports
 
 -- the texts at the end are written; and whether one is missing
-pub record WritesEnd (s : State) (k : ℕ) (old new : Option (List ℕ)) (lost : Bool) (rose : Type 0) : Type 0 where
+pub record WritesEnd (s : OfficeState) (k : ℕ) (old new : Option (List ℕ)) (lost : Bool) (rose : Type 0) : Type 0 where
   pub ready : ℕ
   pub marks : Marks
   pub each : MarksEnd s k ready marks
@@ -88,7 +88,7 @@ pub record WritesEnd (s : State) (k : ℕ) (old new : Option (List ℕ)) (lost :
   pub by_store : MarksCounted rose marks
 
 -- a front of them is
-pub record WritesEndFront (s : State) (k : ℕ) (old new : Option (List ℕ)) (rose : Type 0) : Type 0 where
+pub record WritesEndFront (s : OfficeState) (k : ℕ) (old new : Option (List ℕ)) (rose : Type 0) : Type 0 where
   pub ready : ℕ
   pub marks : Marks
   pub each : MarksEnd s k ready marks

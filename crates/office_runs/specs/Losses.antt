@@ -9,7 +9,7 @@ use Rattle.office_replies.specs.declared.faults.StoreFault.TheVariants.{NoMemory
 use Rattle.office_replies.specs.declared.replies.Delivery.{Delivery}
 use Rattle.office_replies.specs.declared.replies.Mark.{Mark}
 use Rattle.office_replies.specs.declared.replies.Mark.TheVariants.{Taken, LostForMemory, LostForStore}
-use Rattle.office_runs.specs.Standing.{State}
+use Rattle.office_runs.specs.OfficeState.{OfficeState}
 use Rattle.office_runs.specs.Output.{Marks, ReportMarks}
 
 -- whether a text is missing
@@ -36,7 +36,7 @@ is_short (Some bag.NoMemory) = true
 
 -- The marks are those of an end: a ready count that is printed is that of the mail, and each run after
 -- run k has its two marks.
-pub record MarksEnd (s : State) (k ready : ℕ) (marks : Marks) : Type 0 where
+pub record MarksEnd (s : OfficeState) (k ready : ℕ) (marks : Marks) : Type 0 where
   pub ready_is : marks.status ≡ None → IsReadyCount s.setup s.kept ready
   pub runs : marks.count ≡ None → k + length marks.reports ≡ s.finished
 

@@ -8,7 +8,7 @@ use Rattle.office_replies.specs.declared.faults.Held.{Held}
 use Rattle.office_replies.specs.declared.faults.StoreFault.{StoreFault}
 use Rattle.office_replies.specs.declared.faults.StoreFault.TheVariants.{NoMemory, Store}
 use Rattle.office_replies.specs.declared.replies.Delivery.{Delivery}
-use Rattle.office_runs.specs.Standing.{State}
+use Rattle.office_runs.specs.OfficeState.{OfficeState}
 use Rattle.office_runs.specs.Outcome.{reports_of, testing_after, testing_text}
 use Rattle.office_replies.specs.Replies.{reply_line, reply_by, not_lost, bag_line, status_line}
 use Rattle.office_runs.specs.State.{answer_to}
@@ -54,7 +54,7 @@ new_reports setup kept k None reports = report_lines setup kept k reports
 new_reports setup kept k (Some fault) reports = or_refused (Some fault) []
 
 -- The texts at the end: the status, the reports of the runs after run k, and testing.
-abbrev pub end_lines : State → ℕ → ℕ → Marks → List ℕ
+abbrev pub end_lines : OfficeState → ℕ → ℕ → Marks → List ℕ
 end_lines s k ready marks =
     or_refused marks.status (status_line ready s.finished)
     ++ new_reports s.setup s.kept k marks.count marks.reports
@@ -62,6 +62,6 @@ end_lines s k ready marks =
 
 -- The output of a replay: the reply to each delivery, the bag's refusal, the status, the reports of
 -- the runs that it finished, and testing.
-abbrev pub output : State → State → List Delivery → Option BagFault → ℕ → Marks → List ℕ
+abbrev pub output : OfficeState → OfficeState → List Delivery → Option BagFault → ℕ → Marks → List ℕ
 output before after deliveries end ready marks =
     reply_lines before.setup before.kept deliveries ++ bag_line end ++ end_lines after before.finished ready marks

@@ -15,12 +15,12 @@ use Rattle.office_store.specs.Content.{Content}
 use Rattle.office_store.specs.Given.{AreOwnTexts}
 use Rattle.office_store.specs.declared.values.Reports.{Reports}
 use Rattle.office_store.specs.declared.keeping.Keeper.{Ghosts}
-use Rattle.office_runs.specs.Standing.{State}
+use Rattle.office_runs.specs.OfficeState.{OfficeState}
 use Rattle.office_runs.specs.Outcome.{reports_of, reports_to, testing_after}
 use Rattle.testing_rules.specs.Watched.{AllWatchedWork}
 
 -- the state of the office that a store holds
-abbrev pub state_of : {K : Type 0} → Ghosts K → K → State
+abbrev pub state_of : {K : Type 0} → Ghosts K → K → OfficeState
 state_of keeper store = record { setup = keeper.setup store; kept = (keeper.content store).kept; finished = length (keeper.content store).reports }
 
 -- Each text is kept under a place that a message may have, which is its own; the finished runs are
@@ -58,5 +58,5 @@ abbrev pub AnswersDelivery : Result Held DeliverFault → Result Held DeliverFau
 AnswersDelivery result due = (result ≡ due) ⊎ (result ≡ Err (Mail NoMemory)) ⊎ (result ≡ Err Store)
 
 -- the reports of a finished run; none of another
-abbrev pub reports_at : State → ℕ → Option Reports
+abbrev pub reports_at : OfficeState → ℕ → Option Reports
 reports_at s run = if nat_le 1 run && nat_le run s.finished then Some (reports_of s.setup s.kept run) else None

@@ -9,7 +9,7 @@ ghost use Rattle.office_mail.specs.Kept.{Kept};
 ghost use Rattle.office_mail.specs.Lists.{Lists};
 ghost use Rattle.office_mail.specs.Runs.{cover_of};
 ghost use Rattle.office_runs.specs.Known.{FactsStand};
-ghost use Rattle.office_runs.specs.Looking.{Looks};
+ghost use Rattle.office_runs.specs.ReadsStore.{ReadsStore};
 ghost use Rattle.office_runs.specs.Outcome.{item_at};
 ghost use Rattle.office_runs.specs.Walk.{said_by, said_in, said_within};
 
@@ -42,7 +42,7 @@ pub fn facts<K: Keeper>(
     requires known { K.is_trusted keeper.old → IfSome before (λ known. FactsStand setup.now (K.content keeper.old).kept known) }
     ensures facts { K.is_trusted keeper.new → IfOk result (λ known. (t : Suite) → StandsFor known.facts (said_within setup.now (K.content keeper.old).kept (cover_of orders.now) (length setup.now.senders)) t) }
     ensures known { K.is_trusted keeper.new → IfOk result (λ known. FactsStand setup.now (K.content keeper.old).kept known) }
-    ensures looks { Looks K.Keeper keeper.old keeper.new result }
+    ensures looks { ReadsStore K.Keeper keeper.old keeper.new result }
 {
     let mut known = known_within(alloc, before, orders);
     'senders: for sender in 0..setup.senders().len() {
@@ -106,7 +106,7 @@ fn take_on<K: Keeper>(
     ensures stand { K.is_trusted keeper.new → OnOk result (sender < length setup.now.senders → FactsStand setup.now (K.content keeper.old).kept known.old → FactsStand setup.now (K.content keeper.old).kept known.new) }
     ensures taken { OnOk result (slice_index known.new.taken.items sender ≡ cover) }
     ensures others { (s : ℕ) → s ≢ sender → slice_index known.new.taken.items s ≡ slice_index known.old.taken.items s }
-    ensures looks { Looks K.Keeper keeper.old keeper.new result }
+    ensures looks { ReadsStore K.Keeper keeper.old keeper.new result }
 {
     make_room(&mut known.taken, sender)?;
     let place = sender as usize;
@@ -128,7 +128,7 @@ fn take_sender<K: Keeper>(
 ) -> Result<(), StoreFault>
     requires within { taken ≤ cover }
     ensures taken { K.is_trusted keeper.new → OnOk result ((s : Covered) (t : Suite) → StandsFor facts.old (said_by setup.now (K.content keeper.old).kept sender taken ++ s) t → StandsFor facts.new (said_by setup.now (K.content keeper.old).kept sender cover ++ s) t) }
-    ensures looks { Looks K.Keeper keeper.old keeper.new result }
+    ensures looks { ReadsStore K.Keeper keeper.old keeper.new result }
 {
     let mut taken = taken;
     'loads: while taken < cover {
@@ -152,7 +152,7 @@ fn take_block<K: Keeper>(
     requires on { taken < end }
     requires block { end ≤ taken + 256 }
     ensures taken { K.is_trusted keeper.new → OnOk result ((s : Covered) (t : Suite) → StandsFor facts.old (said_by setup.now (K.content keeper.old).kept sender taken ++ s) t → StandsFor facts.new (said_by setup.now (K.content keeper.old).kept sender end ++ s) t) }
-    ensures looks { Looks K.Keeper keeper.old keeper.new result }
+    ensures looks { ReadsStore K.Keeper keeper.old keeper.new result }
 {
     let letters = stored::load(keeper, sender, taken + 1, end)?;
     take_letters(alloc, setup, facts, sender, &letters)

@@ -2,7 +2,7 @@
 ghost use Rattle.std.specs.Prelude.{◌≡◌, [], is_err, ◌+◌, ◌≤◌, ◌++◌, ◌∷◌, ◌||◌, List, Option, Some, None, OnOk, OnErr, IfOk, length, codes};
 ghost use Rattle.std.specs.Io.KnownBytes.{Appends};
 ghost use Rattle.office_mail.specs.Counts.{HasRisen};
-ghost use Rattle.office_runs.specs.Carried.{Asks, Holds, StoreRefused};
+ghost use Rattle.office_runs.specs.Preserves.{Asks, Holds, StoreRefused};
 ghost use Rattle.office_runs.specs.Outcome.{reports_of};
 ghost use Rattle.office_replies.specs.Replies.{bag_line};
 ghost use Rattle.office_replies.specs.Written.{AppendsFront};

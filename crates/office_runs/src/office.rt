@@ -8,7 +8,7 @@ ghost use Rattle.office_mail.specs.Kept.{kept_from};
 ghost use Rattle.office_mail.specs.Runs.{IsReady, IsReadyCount};
 ghost use Rattle.office_store.specs.Given.{AreOwnTexts};
 ghost use Rattle.office_replies.specs.Counted.{Counted, CountedDelivery};
-ghost use Rattle.office_runs.specs.Lasting.{Lasts};
+ghost use Rattle.office_runs.specs.StaysTrusted.{StaysTrusted};
 ghost use Rattle.office_runs.specs.Outcome.{testing_after, testing_text};
 ghost use Rattle.office_runs.specs.State.{IsSound, state_of, answer_to, AnswersDelivery, reports_at};
 
@@ -101,7 +101,7 @@ impl<K: Keeper> Office<K> {
         ensures setup { K.setup self.new ≡ K.setup self.old }
         ensures sound { K.is_trusted self.new → IsSound K.Keeper self.old → IsSound K.Keeper self.new }
         ensures before { K.is_trusted self.new → K.is_trusted self.old }
-        ensures lasts { Lasts K.Keeper self.old self.new (is_ok result) }
+        ensures lasts { StaysTrusted K.Keeper self.old self.new (is_ok result) }
         ensures counted { Counted (K.refusals self.old) (K.refusals self.new) result }
     {
         stored::finished(&mut self.keeper)
@@ -126,7 +126,7 @@ impl<K: Keeper> Office<K> {
         ensures place { IfOk result (λ held. held.sender < length (K.setup self.old).senders) }
         ensures sound { K.is_trusted self.new → IsSound K.Keeper self.old → IsSound K.Keeper self.new }
         ensures before { K.is_trusted self.new → K.is_trusted self.old }
-        ensures lasts { Lasts K.Keeper self.old self.new (is_ok result) }
+        ensures lasts { StaysTrusted K.Keeper self.old self.new (is_ok result) }
         ensures counted { CountedDelivery (K.refusals self.old) (K.refusals self.new) result }
     {
         deliver(self.alloc, &self.setup, &mut self.keeper, text)
@@ -147,7 +147,7 @@ impl<K: Keeper> Office<K> {
         ensures setup { K.setup self.new ≡ K.setup self.old }
         ensures sound { K.is_trusted self.new → IsSound K.Keeper self.old → IsSound K.Keeper self.new }
         ensures before { K.is_trusted self.new → K.is_trusted self.old }
-        ensures lasts { Lasts K.Keeper self.old self.new (is_ok result) }
+        ensures lasts { StaysTrusted K.Keeper self.old self.new (is_ok result) }
         ensures counted { Counted (K.refusals self.old) (K.refusals self.new) result }
     {
         let finished = settle(
@@ -172,7 +172,7 @@ impl<K: Keeper> Office<K> {
         ensures setup { K.setup self.new ≡ K.setup self.old }
         ensures sound { K.is_trusted self.new → IsSound K.Keeper self.old → IsSound K.Keeper self.new }
         ensures before { K.is_trusted self.new → K.is_trusted self.old }
-        ensures lasts { Lasts K.Keeper self.old self.new (is_ok result) }
+        ensures lasts { StaysTrusted K.Keeper self.old self.new (is_ok result) }
         ensures counted { Counted (K.refusals self.old) (K.refusals self.new) result }
     {
         let finished = stored::finished(&mut self.keeper)?;
@@ -193,7 +193,7 @@ impl<K: Keeper> Office<K> {
         ensures setup { K.setup self.new ≡ K.setup self.old }
         ensures sound { K.is_trusted self.new → IsSound K.Keeper self.old → IsSound K.Keeper self.new }
         ensures before { K.is_trusted self.new → K.is_trusted self.old }
-        ensures lasts { Lasts K.Keeper self.old self.new (is_ok result) }
+        ensures lasts { StaysTrusted K.Keeper self.old self.new (is_ok result) }
         ensures counted { Counted (K.refusals self.old) (K.refusals self.new) result }
     {
         let finished = stored::finished(&mut self.keeper)?;
@@ -209,7 +209,7 @@ impl<K: Keeper> Office<K> {
         ensures setup { K.setup self.new ≡ K.setup self.old }
         ensures sound { K.is_trusted self.new → IsSound K.Keeper self.old → IsSound K.Keeper self.new }
         ensures before { K.is_trusted self.new → K.is_trusted self.old }
-        ensures lasts { Lasts K.Keeper self.old self.new (is_ok result) }
+        ensures lasts { StaysTrusted K.Keeper self.old self.new (is_ok result) }
         ensures counted { Counted (K.refusals self.old) (K.refusals self.new) result }
     {
         let reports = stored::reports(&mut self.keeper, run)?;
@@ -223,7 +223,7 @@ impl<K: Keeper> Office<K> {
         ensures setup { K.setup self.new ≡ K.setup self.old }
         ensures sound { K.is_trusted self.new → IsSound K.Keeper self.old → IsSound K.Keeper self.new }
         ensures before { K.is_trusted self.new → K.is_trusted self.old }
-        ensures lasts { Lasts K.Keeper self.old self.new (is_ok result) }
+        ensures lasts { StaysTrusted K.Keeper self.old self.new (is_ok result) }
         ensures counted { Counted (K.refusals self.old) (K.refusals self.new) result }
     {
         let reports = stored::reports(&mut self.keeper, run)?;

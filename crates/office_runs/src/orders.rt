@@ -6,7 +6,7 @@ ghost use Rattle.std.specs.FinMap.{get};
 ghost use Rattle.office_mail.specs.Kept.{Kept};
 ghost use Rattle.office_mail.specs.Runs.{order_at, order_in, order_in_body};
 ghost use Rattle.office_store.specs.Content.{letters_within};
-ghost use Rattle.office_runs.specs.Looking.{Looks};
+ghost use Rattle.office_runs.specs.ReadsStore.{ReadsStore};
 ghost use Rattle.office_runs.specs.Ready.{FirstOrders, GoesOn, HasNumbers, HasEach, HasPlaces, IsReached};
 
 use crate::stored;
@@ -56,7 +56,7 @@ pub fn order<K: Keeper>(
     number: u32,
 ) -> Result<Option<RunOrder>, StoreFault>
     ensures order { K.is_trusted keeper.new → IfOk result (λ order. order ≡ order_at setup.now (K.content keeper.old).kept number) }
-    ensures looks { Looks K.Keeper keeper.old keeper.new result }
+    ensures looks { ReadsStore K.Keeper keeper.old keeper.new result }
 {
     match stored::find(keeper, setup.runs(), number)? {
         Some(text) => read_order(alloc, setup, text.as_slice()),
@@ -76,7 +76,7 @@ pub fn read_orders<K: Keeper>(
     ensures first { K.is_trusted keeper.new → FirstOrders setup.now (K.content keeper.old).kept orders.new.items }
     ensures next { length orders.old.items ≤ run → length orders.new.items ≤ run }
     ensures none { K.is_trusted keeper.new → OnOk result (length orders.new.items < run → order_at setup.now (K.content keeper.old).kept (length orders.new.items + 1) ≡ None) }
-    ensures looks { Looks K.Keeper keeper.old keeper.new result }
+    ensures looks { ReadsStore K.Keeper keeper.old keeper.new result }
 {
     'orders: while orders.len() < run as usize {
         let number = orders.len() as u32 + 1;
@@ -122,7 +122,7 @@ fn count_block<K: Keeper>(
     requires block { end ≤ number + 256 }
     ensures within { IfOk result (λ last. last ≤ end) }
     ensures goes_on { K.is_trusted keeper.new → IfOk result (λ last. GoesOn (K.content keeper.old).kept sender number last end) }
-    ensures looks { Looks K.Keeper keeper.old keeper.new result }
+    ensures looks { ReadsStore K.Keeper keeper.old keeper.new result }
 {
     let letters = stored::load(keeper, sender, number + 1, end)?;
     Ok(last_in_line(number, end, &letters))
@@ -148,7 +148,7 @@ fn count_on<K: Keeper>(
     requires known { K.is_trusted keeper.old → HasNumbers (K.content keeper.old).kept sender known }
     ensures each { K.is_trusted keeper.new → IfOk result (λ count. HasNumbers (K.content keeper.old).kept sender count) }
     ensures gap { K.is_trusted keeper.new → IfOk result (λ count. count < cover → get (K.content keeper.old).kept (sender, count + 1) ≡ None) }
-    ensures looks { Looks K.Keeper keeper.old keeper.new result }
+    ensures looks { ReadsStore K.Keeper keeper.old keeper.new result }
 {
     let mut count = known;
     let mut size = 1;
@@ -188,7 +188,7 @@ fn reach<K: Keeper>(
     ensures each { K.is_trusted keeper.new → HasEach (K.content keeper.old).kept counts.new.items }
     ensures gap { K.is_trusted keeper.new → OnOk result (slice_index counts.new.items sender < cover → get (K.content keeper.old).kept (sender, slice_index counts.new.items sender + 1) ≡ None) }
     ensures others { (s : ℕ) → s ≢ sender → slice_index counts.new.items s ≡ slice_index counts.old.items s }
-    ensures looks { Looks K.Keeper keeper.old keeper.new result }
+    ensures looks { ReadsStore K.Keeper keeper.old keeper.new result }
 {
     make_room(counts, sender)?;
     let place = sender as usize;
@@ -207,7 +207,7 @@ fn reach_all<K: Keeper>(
     requires each { K.is_trusted keeper.old → HasEach (K.content keeper.old).kept counts.old.items }
     ensures each { K.is_trusted keeper.new → HasEach (K.content keeper.old).kept counts.new.items }
     ensures reached { K.is_trusted keeper.new → OnOk result ((s : ℕ) → s < length setup.now.senders → IsReached (K.content keeper.old).kept order.now.covers counts.new.items s) }
-    ensures looks { Looks K.Keeper keeper.old keeper.new result }
+    ensures looks { ReadsStore K.Keeper keeper.old keeper.new result }
 {
     'senders: for sender in 0..setup.senders().len() {
         let cover = stated_for(order, sender);
@@ -226,7 +226,7 @@ pub fn is_there<K: Keeper>(
     requires each { K.is_trusted keeper.old → HasEach (K.content keeper.old).kept counts.old.items }
     ensures each { K.is_trusted keeper.new → HasEach (K.content keeper.old).kept counts.new.items }
     ensures there { K.is_trusted keeper.new → HasPlaces setup.now (K.content keeper.old).kept → IfOk result (λ there. IsTrue there ↔ HasEach (K.content keeper.old).kept order.now.covers) }
-    ensures looks { Looks K.Keeper keeper.old keeper.new result }
+    ensures looks { ReadsStore K.Keeper keeper.old keeper.new result }
 {
     reach_all(setup, keeper, order, counts)?;
     Ok(is_within(order, counts))

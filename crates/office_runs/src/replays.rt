@@ -3,7 +3,7 @@ ghost use Rattle.std.specs.Prelude.{◌≡◌, ◌≤◌, ◌+◌, ◌⊎◌, []
 ghost use Rattle.std.specs.Io.KnownBytes.{Appends};
 ghost use Rattle.office_mail.specs.Counts.{HasRisen};
 ghost use Rattle.office_mail.specs.BagSteps.{ReadFails};
-ghost use Rattle.office_runs.specs.Carried.{Carries, Holds, StoreRefused};
+ghost use Rattle.office_runs.specs.Preserves.{Preserves, Holds, StoreRefused};
 ghost use Rattle.office_runs.specs.Delivered.{DeliversAll, DeliversFront, DeliversOne, DeliversOneFront, Settles};
 ghost use Rattle.office_runs.specs.Laws.{RunsStand};
 ghost use Rattle.office_runs.specs.Losses.{is_short};
@@ -30,7 +30,7 @@ fn mark_of(reply: &Result<Held, DeliverFault>) -> Mark
 
 /// Settles behind a delivery that is held. A fault of that settle is told by nobody: the next one goes on.
 pub fn settle_behind<K: Keeper>(office: &mut Office<K>, reply: &Result<Held, DeliverFault>)
-    ensures carries { Carries K.Keeper office.old office.new }
+    ensures carries { Preserves K.Keeper office.old office.new }
     ensures settles { Holds K.Keeper office.old office.new → Settles (state_of K.Keeper office.old) (state_of K.Keeper office.new) (is_ok reply.now) (StoreRefused K.Keeper office.old office.new) }
 {
     if reply.is_ok() {
@@ -44,7 +44,7 @@ pub(crate) fn deliver_one<K: Keeper, W: Sink>(
     text: &[u8],
     writer: &mut W,
 ) -> Result<Mark, WriteFault>
-    ensures carries { Carries K.Keeper office.old office.new }
+    ensures carries { Preserves K.Keeper office.old office.new }
     ensures ok { Holds K.Keeper office.old office.new → IfOk result (λ mark. DeliversOne (state_of K.Keeper office.old) (state_of K.Keeper office.new) text.now mark (W.written writer.old) (W.written writer.new) (StoreRefused K.Keeper office.old office.new)) }
     // What a writer that fails leaves: the text may be kept, and a front of the line was written.
     ensures front { Holds K.Keeper office.old office.new → OnErr result (DeliversOneFront (state_of K.Keeper office.old) (state_of K.Keeper office.new) text.now (W.written writer.old) (W.written writer.new) (StoreRefused K.Keeper office.old office.new)) }
@@ -71,7 +71,7 @@ pub(crate) fn deliver_all<K: Keeper, R: Feed, W: Sink>(
     writer: &mut W,
 ) -> Result<Delivered, WriteFault>
     requires { bag.old.ended ≡ false }
-    ensures carries { Carries K.Keeper office.old office.new }
+    ensures carries { Preserves K.Keeper office.old office.new }
     ensures all { Holds K.Keeper office.old office.new → IfOk result (λ delivered. DeliversAll (state_of K.Keeper office.old) (state_of K.Keeper office.new) bag.old bag.new (W.written writer.old) (W.written writer.new) delivered.end delivered.lost (StoreRefused K.Keeper office.old office.new)) }
     ensures front { Holds K.Keeper office.old office.new → OnErr result (DeliversFront (state_of K.Keeper office.old) (state_of K.Keeper office.new) bag.old bag.new (W.written writer.old) (W.written writer.new) (StoreRefused K.Keeper office.old office.new)) }
 
@@ -120,7 +120,7 @@ pub fn replay<K: Keeper, R: Feed, W: Sink>(
     requires { bag.old.ended ≡ false }
     // A store that is trusted was so before, and holds an office's state as before. What the replay makes of it is known
     // while it is trusted; what it lost is lost by the store only where that counted a refusal.
-    ensures carries { Carries K.Keeper office.old office.new }
+    ensures carries { Preserves K.Keeper office.old office.new }
     ensures ok { Holds K.Keeper office.old office.new → IfOk result (λ replayed. Replays (state_of K.Keeper office.old) (state_of K.Keeper office.new) bag.old bag.new (W.written writer.old) (W.written writer.new) replayed (StoreRefused K.Keeper office.old office.new)) }
     ensures err { Holds K.Keeper office.old office.new → OnErr result (StopsReplay (state_of K.Keeper office.old) (state_of K.Keeper office.new) bag.old bag.new (W.written writer.old) (W.written writer.new) (StoreRefused K.Keeper office.old office.new)) }
 
@@ -148,7 +148,7 @@ fn replay_bag<K: Keeper, R: Feed, W: Sink>(
     writer: &mut W,
 ) -> Result<Replayed, WriteFault>
     requires { bag.old.ended ≡ false }
-    ensures carries { Carries K.Keeper office.old office.new }
+    ensures carries { Preserves K.Keeper office.old office.new }
     ensures ok { Holds K.Keeper office.old office.new → IfOk result (λ replayed. Replays (state_of K.Keeper office.old) (state_of K.Keeper office.new) bag.old bag.new (W.written writer.old) (W.written writer.new) replayed (StoreRefused K.Keeper office.old office.new)) }
     ensures err { Holds K.Keeper office.old office.new → OnErr result (StopsReplay (state_of K.Keeper office.old) (state_of K.Keeper office.new) bag.old bag.new (W.written writer.old) (W.written writer.new) (StoreRefused K.Keeper office.old office.new)) }
     ensures read_cause { IfOk result (λ replayed. replayed.bag ≡ Some BagFault.ReadFault → ReadFails bag.old bag.new) }
@@ -178,7 +178,7 @@ fn replay_from<K: Keeper, R: Feed, W: Sink>(
     writer: &mut W,
 ) -> Result<Replayed, WriteFault>
     requires { bag.old.ended ≡ false }
-    ensures carries { Carries K.Keeper office.old office.new }
+    ensures carries { Preserves K.Keeper office.old office.new }
     ensures ok { Holds K.Keeper office.old office.new → before ≡ (state_of K.Keeper office.old).finished → IfOk result (λ replayed. ReplaysAll (state_of K.Keeper office.old) (state_of K.Keeper office.new) bag.old bag.new (W.written writer.old) (W.written writer.new) replayed (StoreRefused K.Keeper office.old office.new)) }
     ensures err { Holds K.Keeper office.old office.new → before ≡ (state_of K.Keeper office.old).finished → OnErr result (StopsEarly (state_of K.Keeper office.old) (state_of K.Keeper office.new) bag.old bag.new (W.written writer.old) (W.written writer.new) (StoreRefused K.Keeper office.old office.new)
         ⊎ ReplaysFront (state_of K.Keeper office.old) (state_of K.Keeper office.new) bag.old bag.new (W.written writer.old) (W.written writer.new) (StoreRefused K.Keeper office.old office.new)) }

@@ -7,8 +7,8 @@ ghost use Rattle.office_mail.specs.Runs.{IsReady, IsReadyCount};
 ghost use Rattle.office_store.specs.Given.{AreOwnTexts, IsGiven, KnowsArchs};
 ghost use Rattle.office_replies.specs.Counted.{Counted};
 ghost use Rattle.office_runs.specs.Known.{AreKnown, FactsStand};
-ghost use Rattle.office_runs.specs.Lasting.{Lasts};
-ghost use Rattle.office_runs.specs.Looking.{Looks};
+ghost use Rattle.office_runs.specs.StaysTrusted.{StaysTrusted};
+ghost use Rattle.office_runs.specs.ReadsStore.{ReadsStore};
 ghost use Rattle.office_runs.specs.Outcome.{outcome_of};
 ghost use Rattle.office_runs.specs.Ready.{FirstOrders, HasEach, HasPlaces, IsCounted};
 ghost use Rattle.office_runs.specs.State.{IsOffice};
@@ -37,7 +37,7 @@ fn follows<K: Keeper>(
     ensures each { K.is_trusted keeper.new → HasEach (K.content keeper.old).kept counts.new.items }
     ensures ready { K.is_trusted keeper.new → HasPlaces setup.now (K.content keeper.old).kept → IsReady setup.now (K.content keeper.old).kept run → IfOk result (λ ready. IsTrue ready ↔ IsReady setup.now (K.content keeper.old).kept (run + 1)) }
     ensures below { IfOk result (λ ready. IsTrue ready → run < 999_999_999) }
-    ensures looks { Looks K.Keeper keeper.old keeper.new result }
+    ensures looks { ReadsStore K.Keeper keeper.old keeper.new result }
 {
     if run >= GREATEST {
         return Ok(false);
@@ -59,7 +59,7 @@ pub fn ready_count<K: Keeper>(
     requires each { K.is_trusted keeper.old → HasEach (K.content keeper.old).kept counts.old.items }
     ensures each { K.is_trusted keeper.new → HasEach (K.content keeper.old).kept counts.new.items }
     ensures ready { K.is_trusted keeper.new → HasPlaces setup.now (K.content keeper.old).kept → IsReady setup.now (K.content keeper.old).kept finished → IfOk result (λ count. IsReadyCount setup.now (K.content keeper.old).kept count) }
-    ensures looks { Looks K.Keeper keeper.old keeper.new result }
+    ensures looks { ReadsStore K.Keeper keeper.old keeper.new result }
 {
     let mut count = finished;
     'runs: while follows(alloc, setup, keeper, counts, count)? {
@@ -83,7 +83,7 @@ fn next_is_ready<K: Keeper>(
     ensures ready { K.is_trusted keeper.new → IsOffice setup.now (K.content keeper.old) → IfOk result (λ ready. IsTrue ready ↔ IsReady setup.now (K.content keeper.old).kept (finished + 1)) }
     ensures below { IfOk result (λ ready. IsTrue ready → finished < 999_999_999) }
     ensures there { IfOk result (λ ready. IsTrue ready → finished < length orders.new.items) }
-    ensures looks { Looks K.Keeper keeper.old keeper.new result }
+    ensures looks { ReadsStore K.Keeper keeper.old keeper.new result }
 {
     if finished >= GREATEST {
         return Ok(false);
@@ -113,7 +113,7 @@ fn next_outcome<K: Keeper>(
     ensures known { K.is_trusted keeper.new → IfOk result (λ left. KnowsArchs setup.now.archs left.0.testing.rows) }
     ensures given { K.is_trusted keeper.new → AreOwnTexts setup.now (K.content keeper.old).kept → IfOk result (λ left. IsGiven setup.now (K.content keeper.old) left.0.testing) }
     ensures facts { K.is_trusted keeper.new → IfOk result (λ left. FactsStand setup.now (K.content keeper.old).kept left.1) }
-    ensures looks { Looks K.Keeper keeper.old keeper.new result }
+    ensures looks { ReadsStore K.Keeper keeper.old keeper.new result }
 {
     let Some(date) = latest_day(orders) else {
         unreachable!()
@@ -173,7 +173,7 @@ fn finish_next<K: Keeper>(
     ensures setup { K.setup keeper.new ≡ K.setup keeper.old }
     ensures before { K.is_trusted keeper.new → K.is_trusted keeper.old }
     ensures legible { K.is_trusted keeper.new → K.is_legible keeper.old → IsOffice setup.now (K.content keeper.old) → K.is_legible keeper.new }
-    ensures lasts { Lasts K.Keeper keeper.old keeper.new (is_ok result) }
+    ensures lasts { StaysTrusted K.Keeper keeper.old keeper.new (is_ok result) }
     ensures counted { Counted (K.refusals keeper.old) (K.refusals keeper.new) result }
 {
     if !next_is_ready(alloc, setup, keeper, counts, orders, finished)? {
@@ -207,7 +207,7 @@ pub fn settle<K: Keeper>(
     ensures setup { K.setup keeper.new ≡ K.setup keeper.old }
     ensures before { K.is_trusted keeper.new → K.is_trusted keeper.old }
     ensures legible { K.is_trusted keeper.new → K.is_legible keeper.old → IsOffice setup.now (K.content keeper.old) → K.is_legible keeper.new }
-    ensures lasts { Lasts K.Keeper keeper.old keeper.new (is_ok result) }
+    ensures lasts { StaysTrusted K.Keeper keeper.old keeper.new (is_ok result) }
     ensures counted { Counted (K.refusals keeper.old) (K.refusals keeper.new) result }
 {
     let mut finished = stored::finished(keeper)?;

@@ -6,8 +6,8 @@ ghost use Rattle.std.specs.FinMap.{get, insert};
 ghost use Rattle.office_store.specs.Content.{with_text, with_run, reports_in, item_from_one, letters_within};
 ghost use Rattle.office_store.specs.Given.{AreOwnTexts, IsGiven, KnowsArchs};
 ghost use Rattle.office_replies.specs.Counted.{Counted};
-ghost use Rattle.office_runs.specs.Lasting.{Lasts};
-ghost use Rattle.office_runs.specs.Looking.{Looks};
+ghost use Rattle.office_runs.specs.StaysTrusted.{StaysTrusted};
+ghost use Rattle.office_runs.specs.ReadsStore.{ReadsStore};
 
 use office_replies::StoreFault;
 use office_store::{Finished, Keeper, Letter, MailText, Reports};
@@ -38,7 +38,7 @@ pub fn find<K: Keeper>(
     number: u32,
 ) -> Result<Option<MailText>, StoreFault>
     ensures found { K.is_trusted keeper.new → IfOk result (λ text. text ≡ get (K.content keeper.old).kept (sender, number)) }
-    ensures looks { Looks K.Keeper keeper.old keeper.new result }
+    ensures looks { ReadsStore K.Keeper keeper.old keeper.new result }
 {
     Ok(keeper.find(sender, number)?)
 }
@@ -52,7 +52,7 @@ pub fn load<K: Keeper>(
 ) -> Result<Vec<Letter>, StoreFault>
     requires block { to < from + 256 }
     ensures loaded { K.is_trusted keeper.new → IfOk result (λ letters. letters.items ≡ letters_within (K.content keeper.old).kept sender from to) }
-    ensures looks { Looks K.Keeper keeper.old keeper.new result }
+    ensures looks { ReadsStore K.Keeper keeper.old keeper.new result }
 {
     Ok(keeper.load(sender, from, to)?)
 }
@@ -72,7 +72,7 @@ pub fn keep<K: Keeper>(
     ensures setup { K.setup keeper.new ≡ K.setup keeper.old }
     ensures before { K.is_trusted keeper.new → K.is_trusted keeper.old }
     ensures legible { K.is_trusted keeper.new → K.is_legible keeper.old → K.is_legible keeper.new }
-    ensures lasts { Lasts K.Keeper keeper.old keeper.new (is_ok result) }
+    ensures lasts { StaysTrusted K.Keeper keeper.old keeper.new (is_ok result) }
     ensures counted { Counted (K.refusals keeper.old) (K.refusals keeper.new) result }
 {
     keeper.keep(sender, number, text)?;
@@ -82,7 +82,7 @@ pub fn keep<K: Keeper>(
 /// How many runs are finished.
 pub fn finished<K: Keeper>(keeper: &mut K) -> Result<u32, StoreFault>
     ensures value { K.is_trusted keeper.new → IfOk result (λ n. n ≡ length (K.content keeper.old).reports) }
-    ensures looks { Looks K.Keeper keeper.old keeper.new result }
+    ensures looks { ReadsStore K.Keeper keeper.old keeper.new result }
 {
     Ok(keeper.finished()?)
 }
@@ -99,7 +99,7 @@ pub fn finish<K: Keeper>(keeper: &mut K, run: u32, done: Finished) -> Result<(),
     ensures setup { K.setup keeper.new ≡ K.setup keeper.old }
     ensures before { K.is_trusted keeper.new → K.is_trusted keeper.old }
     ensures legible { K.is_trusted keeper.new → K.is_legible keeper.old → AreOwnTexts (K.setup keeper.old) (K.content keeper.old).kept → K.is_legible keeper.new }
-    ensures lasts { Lasts K.Keeper keeper.old keeper.new (is_ok result) }
+    ensures lasts { StaysTrusted K.Keeper keeper.old keeper.new (is_ok result) }
     ensures counted { Counted (K.refusals keeper.old) (K.refusals keeper.new) result }
 {
     keeper.take_finished(run, done)?;
@@ -109,7 +109,7 @@ pub fn finish<K: Keeper>(keeper: &mut K, run: u32, done: Finished) -> Result<(),
 /// The two reports of a finished run; none of another.
 pub fn reports<K: Keeper>(keeper: &mut K, run: u32) -> Result<Option<Reports>, StoreFault>
     ensures value { K.is_trusted keeper.new → IfOk result (λ reports. reports ≡ item_from_one run (K.content keeper.old).reports) }
-    ensures looks { Looks K.Keeper keeper.old keeper.new result }
+    ensures looks { ReadsStore K.Keeper keeper.old keeper.new result }
 {
     Ok(keeper.reports(run)?)
 }
@@ -118,7 +118,7 @@ pub fn reports<K: Keeper>(keeper: &mut K, run: u32) -> Result<Option<Reports>, S
 pub fn testing<K: Keeper>(keeper: &mut K) -> Result<Testing, StoreFault>
     ensures value { K.is_trusted keeper.new → IfOk result (λ testing. testing ≡ (K.content keeper.old).testing) }
     ensures archs { IfOk result (λ testing. KnowsArchs (K.setup keeper.new).archs testing.rows) }
-    ensures looks { Looks K.Keeper keeper.old keeper.new result }
+    ensures looks { ReadsStore K.Keeper keeper.old keeper.new result }
 {
     Ok(keeper.testing()?)
 }
@@ -127,7 +127,7 @@ pub fn testing<K: Keeper>(keeper: &mut K) -> Result<Testing, StoreFault>
 pub fn next_testing<K: Keeper>(keeper: &mut K) -> Result<Testing, StoreFault>
     ensures value { K.is_trusted keeper.new → IfOk result (λ testing. testing ≡ (K.content keeper.old).testing) }
     ensures archs { IfOk result (λ testing. KnowsArchs (K.setup keeper.new).archs testing.rows) }
-    ensures looks { Looks K.Keeper keeper.old keeper.new result }
+    ensures looks { ReadsStore K.Keeper keeper.old keeper.new result }
 {
     Ok(keeper.next_testing()?)
 }

@@ -1,4 +1,4 @@
-use Rattle.office_runs.specs.Carried.{StoreRefused}
+use Rattle.office_runs.specs.Preserves.{StoreRefused}
 use Rattle.office_runs.specs.State.{state_of}
 use Rattle.office_runs.proofs.CarryFacts.{carries_delivery, holds_first, holds_next, refused_first, refused_next}
 use Rattle.office_runs.proofs.ReplayFacts.{leaves_call}

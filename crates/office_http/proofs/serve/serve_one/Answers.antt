@@ -1,4 +1,4 @@
-use Rattle.office_runs.specs.Carried.{StoreRefused}
+use Rattle.office_runs.specs.Preserves.{StoreRefused}
 use Rattle.office_runs.specs.State.{state_of}
 use Rattle.office_http.proofs.ConnectionFacts.{grows_connection}
 use Rattle.office_runs.proofs.StandFacts.{stand_after}

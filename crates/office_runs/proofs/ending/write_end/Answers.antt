@@ -2,11 +2,11 @@ use Rattle.std.proofs.Common.{◌≡◌, Bool, ◌||◌, ◌-◌, None, IfOk, ap
 use Rattle.std.proofs.lemmas.Result.{err_from_is_err_and}
 use Rattle.std.specs.Io.KnownBytes.{Appends}
 use Rattle.std.proofs.KnownBytes.{Appends-trans}
-use Rattle.office_runs.specs.Carried.{StoreRefused}
+use Rattle.office_runs.specs.Preserves.{StoreRefused}
 use Rattle.office_runs.specs.Ending.{mark_in, WritesNews, WritesNewsFront}
 use Rattle.office_runs.specs.Losses.{is_missing, is_report_missing}
 use Rattle.office_runs.specs.Outcome.{testing_text, testing_after}
-use Rattle.office_runs.specs.Standing.{State}
+use Rattle.office_runs.specs.OfficeState.{OfficeState}
 use Rattle.office_runs.specs.State.{state_of}
 use Rattle.office_replies.specs.Written.{AppendsFront}
 use Rattle.office_runs.proofs.CarryFacts.{asks_call, asks_twice, holds_first, holds_next, refused_first, refused_next, risen, state_asked}
@@ -57,7 +57,7 @@ returns-in_err-news_lost-clause-err g c =
     let h2 = holds_next keeper s0 s1 s2 one.carries two.carries h in
     let st = state_of keeper s0 in
     let status_is = shown_status st r (status.finished h1.0 h1.1) in
-    let news = subst (λ (s : State). WritesNewsFront s c.args.before w1 w2 (StoreRefused keeper s1 s2)) (state_asked keeper s0 s1 one h1.0) (c.in_err-news_lost.ensures.err h2 (omega (arith, some, ap (λ (s : State). s.finished) (state_asked keeper s0 s1 one h1.0)))) in
+    let news = subst (λ (s : OfficeState). WritesNewsFront s c.args.before w1 w2 (StoreRefused keeper s1 s2)) (state_asked keeper s0 s1 one h1.0) (c.in_err-news_lost.ensures.err h2 (omega (arith, some, ap (λ (s : OfficeState). s.finished) (state_asked keeper s0 s1 one h1.0)))) in
     let rises = refused_next keeper s0 s1 s2 one.carries in
     rw p.1 (record {
       ready = count_in r;
@@ -101,9 +101,9 @@ returns-in_err-write_text-clause-err g c =
     let h2 = holds_next keeper s0 s1 s2 one.carries two.carries hh in
     let st = state_of keeper s0 in
     let status_is = shown_status st r (status.finished h1.0 h1.1) in
-    let news = subst (λ (s : State). WritesNews s c.args.before w1 w2 c.in_ok-news_lost.news_lost (StoreRefused keeper s1 s2)) (state_asked keeper s0 s1 one h1.0) (c.in_ok-news_lost.ensures.ok h2 (omega (arith, some, ap (λ (s : State). s.finished) (state_asked keeper s0 s1 one h1.0)))) in
+    let news = subst (λ (s : OfficeState). WritesNews s c.args.before w1 w2 c.in_ok-news_lost.news_lost (StoreRefused keeper s1 s2)) (state_asked keeper s0 s1 one h1.0) (c.in_ok-news_lost.ensures.ok h2 (omega (arith, some, ap (λ (s : OfficeState). s.finished) (state_asked keeper s0 s1 one h1.0)))) in
     let rises : StoreRefused keeper s1 s2 → rose = λ e. refused_first keeper s0 s2 s3 three.carries (refused_next keeper s0 s1 s2 one.carries e) in
-    let text_is = shown_text (testing_text st.setup st.finished (testing_after st.setup st.kept st.finished)) t (subst (λ (s : State). IfOk t (λ x. x ≡ testing_text s.setup s.finished (testing_after s.setup s.kept s.finished))) (state_asked keeper s0 s2 both hh.0) (text.text h3.0 h3.1)) in
+    let text_is = shown_text (testing_text st.setup st.finished (testing_after st.setup st.kept st.finished)) t (subst (λ (s : OfficeState). IfOk t (λ x. x ≡ testing_text s.setup s.finished (testing_after s.setup s.kept s.finished))) (state_asked keeper s0 s2 both hh.0) (text.text h3.0 h3.1)) in
     rw p.1 (record {
       ready = count_in r;
       marks = record { status = mark_in r; count = news.count; reports = news.reports; testing = mark_in t };
@@ -146,9 +146,9 @@ returns-clause-ok g c =
     let h2 = holds_next keeper s0 s1 s2 one.carries two.carries hh in
     let st = state_of keeper s0 in
     let status_is = shown_status st r (status.finished h1.0 h1.1) in
-    let news = subst (λ (s : State). WritesNews s c.args.before w1 w2 c.in_ok-news_lost.news_lost (StoreRefused keeper s1 s2)) (state_asked keeper s0 s1 one h1.0) (c.in_ok-news_lost.ensures.ok h2 (omega (arith, some, ap (λ (s : State). s.finished) (state_asked keeper s0 s1 one h1.0)))) in
+    let news = subst (λ (s : OfficeState). WritesNews s c.args.before w1 w2 c.in_ok-news_lost.news_lost (StoreRefused keeper s1 s2)) (state_asked keeper s0 s1 one h1.0) (c.in_ok-news_lost.ensures.ok h2 (omega (arith, some, ap (λ (s : OfficeState). s.finished) (state_asked keeper s0 s1 one h1.0)))) in
     let rises : StoreRefused keeper s1 s2 → rose = λ e. refused_first keeper s0 s2 s3 three.carries (refused_next keeper s0 s1 s2 one.carries e) in
-    let text_is = shown_text (testing_text st.setup st.finished (testing_after st.setup st.kept st.finished)) t (subst (λ (s : State). IfOk t (λ x. x ≡ testing_text s.setup s.finished (testing_after s.setup s.kept s.finished))) (state_asked keeper s0 s2 both hh.0) (text.text h3.0 h3.1)) in
+    let text_is = shown_text (testing_text st.setup st.finished (testing_after st.setup st.kept st.finished)) t (subst (λ (s : OfficeState). IfOk t (λ x. x ≡ testing_text s.setup s.finished (testing_after s.setup s.kept s.finished))) (state_asked keeper s0 s2 both hh.0) (text.text h3.0 h3.1)) in
     record {
       ready = count_in r;
       marks = record { status = mark_in r; count = news.count; reports = news.reports; testing = mark_in t };

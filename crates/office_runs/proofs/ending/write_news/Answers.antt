@@ -1,7 +1,7 @@
 use Rattle.std.proofs.Common.{ℕ, Result, Some, Err, [], ap, refl}
 use Rattle.std.proofs.lemmas.Result.{err_from_is_err_and}
 use Rattle.office_replies.specs.declared.faults.StoreFault.{StoreFault}
-use Rattle.office_runs.specs.Carried.{StoreRefused}
+use Rattle.office_runs.specs.Preserves.{StoreRefused}
 use Rattle.office_runs.proofs.CarryFacts.{risen}
 use Rattle.office_runs.proofs.RiseFacts.{fault_counted}
 use Rattle.office_runs.proofs.ending.write_news.Goals as goal

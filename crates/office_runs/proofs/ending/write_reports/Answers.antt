@@ -1,8 +1,8 @@
 use Rattle.std.proofs.Common.{◌+◌, ap, subst, ◌∙◌, refl, arith}
 use Rattle.std.proofs.lemmas.Result.{err_from_is_err_and}
-use Rattle.office_runs.specs.Carried.{StoreRefused}
+use Rattle.office_runs.specs.Preserves.{StoreRefused}
 use Rattle.office_runs.specs.Ending.{WritesRun, WritesRunFront}
-use Rattle.office_runs.specs.Standing.{State}
+use Rattle.office_runs.specs.OfficeState.{OfficeState}
 use Rattle.office_runs.specs.State.{state_of}
 use Rattle.office_runs.proofs.CarryFacts.{asks_none, asks_twice, holds_first, holds_next, refused_first, refused_next, state_asked}
 use Rattle.office_runs.proofs.EndFacts.{reports_none, reports_more, reports_front}
@@ -34,7 +34,7 @@ loop-done-preserved g c =
           let h2 = holds_next keeper s0 s1 s2 l.asks.carries step.asks.carries h in
           reports_more (StoreRefused keeper s0 s1) (StoreRefused keeper s1 s2) (StoreRefused keeper s0 s2) (state_of keeper s0) c.args.before c.loop-done.done (written c.args.writer.now) (written c.loop-done.writer) (written c.write_run.new.writer) c.loop-done.lost c.in_ok-missing.missing c.either-lost.result
           (l.so_far h1 some all) (refused_first keeper s0 s1 s2 step.asks.carries)
-          (subst (λ (s : State). WritesRun s (c.loop-done.done + 1) (written c.loop-done.writer) (written c.write_run.new.writer) c.in_ok-missing.missing (StoreRefused keeper s1 s2)) (state_asked keeper s0 s1 l.asks h1.0) (step.ok h2 (omega (arith, all, ap (λ (s : State). s.finished) (state_asked keeper s0 s1 l.asks h1.0)))))
+          (subst (λ (s : OfficeState). WritesRun s (c.loop-done.done + 1) (written c.loop-done.writer) (written c.write_run.new.writer) c.in_ok-missing.missing (StoreRefused keeper s1 s2)) (state_asked keeper s0 s1 l.asks h1.0) (step.ok h2 (omega (arith, all, ap (λ (s : OfficeState). s.finished) (state_asked keeper s0 s1 l.asks h1.0)))))
           (refused_next keeper s0 s1 s2 l.asks.carries) c.either-lost.ensures;
       within = λ some. omega arith;
       failures = step.clean ∙ l.failures;
@@ -55,5 +55,5 @@ returns-in_err-missing-clause-err g c =
     let h2 = holds_next keeper s0 s1 s2 l.asks.carries step.asks.carries h in
     rw p.1 (reports_front (StoreRefused keeper s0 s1) (StoreRefused keeper s1 s2) (StoreRefused keeper s0 s2) (state_of keeper s0) c.args.before c.loop-done.done c.args.finished (written c.args.writer.now) (written c.loop-done.writer) (written c.write_run.new.writer) c.loop-done.lost
     (l.so_far h1 some all) (refused_first keeper s0 s1 s2 step.asks.carries)
-    (subst (λ (s : State). WritesRunFront s (c.loop-done.done + 1) (written c.loop-done.writer) (written c.write_run.new.writer) (StoreRefused keeper s1 s2)) (state_asked keeper s0 s1 l.asks h1.0) (step.err h2 (omega (arith, all, ap (λ (s : State). s.finished) (state_asked keeper s0 s1 l.asks h1.0)))))
+    (subst (λ (s : OfficeState). WritesRunFront s (c.loop-done.done + 1) (written c.loop-done.writer) (written c.write_run.new.writer) (StoreRefused keeper s1 s2)) (state_asked keeper s0 s1 l.asks h1.0) (step.err h2 (omega (arith, all, ap (λ (s : OfficeState). s.finished) (state_asked keeper s0 s1 l.asks h1.0)))))
     (refused_next keeper s0 s1 s2 l.asks.carries) (omega arith))

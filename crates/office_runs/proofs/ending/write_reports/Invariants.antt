@@ -1,5 +1,5 @@
 use Rattle.std.proofs.Common.{◌≡◌, ◌-◌, ◌≤◌}
-use Rattle.office_runs.specs.Carried.{Asks, Holds, StoreRefused}
+use Rattle.office_runs.specs.Preserves.{Asks, Holds, StoreRefused}
 use Rattle.office_runs.specs.Ending.{WritesReports}
 use Rattle.office_runs.specs.State.{state_of}
 use Rattle.office_runs.proofs.ending.write_reports.Given as goal

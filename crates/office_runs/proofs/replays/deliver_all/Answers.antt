@@ -3,7 +3,7 @@ use Rattle.std.proofs.lemmas.Result.{err_from_is_err_and}
 use Rattle.office_mail.specs.declared.bag.BagFault.{BagFault}
 use Rattle.office_mail.specs.declared.bag.BagFault.TheVariants.{ReadFault}
 use Rattle.office_mail.specs.BagSteps.{TakesMessage}
-use Rattle.office_runs.specs.Carried.{StoreRefused}
+use Rattle.office_runs.specs.Preserves.{StoreRefused}
 use Rattle.office_runs.specs.State.{state_of}
 use Rattle.office_runs.proofs.CarryFacts.{carries_none, carries_twice, holds_first, holds_next, refused_first, refused_next}
 use Rattle.office_runs.proofs.DeliverFacts.{delivers_none, delivers_more, delivers_front, delivers_all}

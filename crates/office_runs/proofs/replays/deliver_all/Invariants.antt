@@ -1,12 +1,12 @@
 use Rattle.std.proofs.Common.{◌≡◌, ◌+◌, ◌≤◌, false}
-use Rattle.office_runs.specs.Carried.{Carries, Holds, StoreRefused}
+use Rattle.office_runs.specs.Preserves.{Preserves, Holds, StoreRefused}
 use Rattle.office_runs.specs.Delivered.{Delivers}
 use Rattle.office_runs.specs.State.{state_of}
 use Rattle.office_runs.proofs.replays.deliver_all.Given as goal
 
 abbrev pub invariant-loop-text : goal.invariant-loop-text
 invariant-loop-text g l = record {
-  carries : Carries g.K.Keeper l.fn.office l.office;
+  carries : Preserves g.K.Keeper l.fn.office l.office;
   so_far : Holds g.K.Keeper l.fn.office l.office → Delivers (state_of g.K.Keeper l.fn.office) (state_of g.K.Keeper l.office) l.fn.bag l.bag (g.W.Sink.written l.fn.writer) (g.W.Sink.written l.writer) l.lost (StoreRefused g.K.Keeper l.fn.office l.office);
   open_yet : l.bag.ended ≡ false;
   reads : l.bag.failures ≡ l.fn.bag.failures;

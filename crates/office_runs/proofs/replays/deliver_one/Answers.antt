@@ -3,7 +3,7 @@ use Rattle.std.proofs.lemmas.Result.{err_from_is_err_and}
 use Rattle.std.specs.Io.KnownBytes.{Appends}
 use Rattle.office_mail.specs.Lists.{Lists}
 use Rattle.office_replies.specs.declared.replies.Mark.{Mark}
-use Rattle.office_runs.specs.Carried.{StoreRefused}
+use Rattle.office_runs.specs.Preserves.{StoreRefused}
 use Rattle.office_runs.specs.Delivered.{DeliversOne}
 use Rattle.office_replies.specs.Replies.{reply_line}
 use Rattle.office_runs.specs.State.{state_of}

@@ -1,4 +1,4 @@
-use Rattle.office_runs.specs.Carried.{StoreRefused}
+use Rattle.office_runs.specs.Preserves.{StoreRefused}
 use Rattle.office_runs.specs.State.{state_of}
 use Rattle.office_runs.proofs.StandFacts.{grows_replay, stand_after}
 use Rattle.office_runs.proofs.replays.replay.Goals as goal

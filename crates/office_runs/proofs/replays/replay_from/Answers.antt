@@ -2,12 +2,12 @@ use Rattle.std.proofs.Common.{ℕ, Bool, ◌||◌, ◌-◌, ◌≤◌, not, Some
 use Rattle.std.proofs.lemmas.Result.{err_from_is_err_and}
 use Rattle.std.proofs.KnownBytes.{Appends-trans}
 use Rattle.office_replies.specs.declared.faults.StoreFault.TheVariants.{NoMemory}
-use Rattle.office_runs.specs.Carried.{StoreRefused}
+use Rattle.office_runs.specs.Preserves.{StoreRefused}
 use Rattle.office_runs.specs.Losses.{is_short}
 use Rattle.office_runs.specs.Output.{Marks}
 use Rattle.office_runs.specs.Ending.{WritesEnd, WritesEndFront}
 use Rattle.office_runs.specs.Replay.{ReplaysAll, ReplaysFront}
-use Rattle.office_runs.specs.Standing.{State}
+use Rattle.office_runs.specs.OfficeState.{OfficeState}
 use Rattle.office_runs.specs.State.{state_of}
 use Rattle.office_replies.proofs.WrittenFacts.{front_after, front_before}
 use Rattle.office_runs.proofs.CarryFacts.{carries_call, carries_twice, holds_first, holds_next, refused_first, refused_next, state_asked}
@@ -88,7 +88,7 @@ returns-in_err-missing-clause-err g c =
     let first : StoreRefused keeper s0 s1 → rose = λ e. refused_first keeper s0 s2 s3 three (refused_first keeper s0 s1 s2 two e) in
     let last : StoreRefused keeper s2 s3 → rose = refused_next keeper s0 s2 s3 both in
     let e = subst (λ (k : ℕ). WritesEndFront (state_of keeper s2) k w2 w3 (StoreRefused keeper s2 s3)) b (c.in_err-missing.ensures.err h3 some) in
-    rw p.1 (inr (subst (λ (s : State). ReplaysFront (state_of keeper s0) s c.args.bag.now c.deliver_all.new.bag w0 w3 rose) (sym (state_asked keeper s2 s3 asked h.0))
+    rw p.1 (inr (subst (λ (s : OfficeState). ReplaysFront (state_of keeper s0) s c.args.bag.now c.deliver_all.new.bag w0 w3 rose) (sym (state_asked keeper s2 s3 asked h.0))
     (replays_front (StoreRefused keeper s0 s1) (StoreRefused keeper s2 s3) rose (state_of keeper s0) (state_of keeper s1) (state_of keeper s2) c.args.bag.now c.deliver_all.new.bag w0 w1 w3 end lost c.is_ok-settled.result r e.ready e.marks
     d first settled c.is_ok-settled.ensures.value e.each e.by_store last
     (front_after w0 w2 w3 _ _ (Appends-trans w0 w1 w2 _ _ d.written c.in_ok-write_bag.ensures.ok) e.written))))
@@ -126,7 +126,7 @@ returns-clause-ok g c =
     let first : StoreRefused keeper s0 s1 → rose = λ e. refused_first keeper s0 s2 s3 three (refused_first keeper s0 s1 s2 two e) in
     let last : StoreRefused keeper s2 s3 → rose = refused_next keeper s0 s2 s3 both in
     let e = subst (λ (k : ℕ). WritesEnd (state_of keeper s2) k w2 w3 c.in_ok-missing.missing (StoreRefused keeper s2 s3)) b (c.in_ok-missing.ensures.ok h3 some) in
-    subst (λ (s : State). ReplaysAll (state_of keeper s0) s c.args.bag.now c.deliver_all.new.bag w0 w3 (record { bag = end; lost = c.either-2.result }) rose) (sym (state_asked keeper s2 s3 asked h.0))
+    subst (λ (s : OfficeState). ReplaysAll (state_of keeper s0) s c.args.bag.now c.deliver_all.new.bag w0 w3 (record { bag = end; lost = c.either-2.result }) rose) (sym (state_asked keeper s2 s3 asked h.0))
     (replays_all (StoreRefused keeper s0 s1) (StoreRefused keeper s2 s3) rose (state_of keeper s0) (state_of keeper s1) (state_of keeper s2) c.args.bag.now c.deliver_all.new.bag w0 w1 w3 (record { bag = end; lost = c.either-2.result }) lost c.is_ok-settled.result r e.ready e.marks
     d first settled c.is_ok-settled.ensures.value e.each e.by_store last
     (c.either-2.ensures ∙ ap (λ (x : Bool). x || c.in_ok-missing.missing) (c.either.ensures ∙ ap (λ (x : Bool). x || not c.is_ok-settled.result) (c.either-bag_lost.ensures ∙ ap (λ (x : Bool). lost || x) c.is_short.ensures))

@@ -2,7 +2,7 @@ use Rattle.std.proofs.Common.{true, ◌≡◌, ◌-◌, ◌≤◌, IfSome, lengt
 use Rattle.office_runs.specs.Known.{AreKnown}
 use Rattle.office_runs.specs.Ready.{IsCounted}
 use Rattle.office_runs.specs.State.{IsOffice}
-use Rattle.office_runs.specs.Lasting.{Lasts}
+use Rattle.office_runs.specs.StaysTrusted.{StaysTrusted}
 use Rattle.office_runs.proofs.runs.settle.Given as goal
 
 abbrev pub invariant-runs : goal.invariant-runs
@@ -20,7 +20,7 @@ invariant-runs g l =
       setup : g.K.Keeper.setup l.keeper ≡ g.K.Keeper.setup l.fn.keeper;
       before : trusted l.keeper → trusted l.fn.keeper;
       legible : trusted l.keeper → legible l.fn.keeper → IsOffice l.setup (content l.fn.keeper) → legible l.keeper;
-      lasts : Lasts g.K.Keeper l.fn.keeper l.keeper true;
+      lasts : StaysTrusted g.K.Keeper l.fn.keeper l.keeper true;
       counted : g.K.Keeper.refusals l.keeper ≡ g.K.Keeper.refusals l.fn.keeper;
     }
 

@@ -2,7 +2,7 @@
 use Rattle.std.specs.Prelude.{◌≡◌, ℕ, ◌≤◌, false, min}
 use Rattle.office_store.specs.Keeping.{HasRisen, most}
 use Rattle.office_store.specs.declared.keeping.Keeper.{Ghosts}
-use Rattle.office_runs.specs.Lasting.{Lasts}
+use Rattle.office_runs.specs.StaysTrusted.{StaysTrusted}
 use Rattle.office_runs.specs.State.{IsSound}
 
 -- a count didn't fall, unless it was above the greatest
@@ -19,14 +19,14 @@ StoreRefused keeper old new = HasRisen (keeper.refusals old) (keeper.refusals ne
 
 -- A store that is trusted after a call was so before it, and holds what an office leaves if it did before; its setup stays,
 -- and its count of refusals doesn't fall. Where nobody else writes it, it stays trusted unless its disk failed.
-pub record Carries {K : Type 0} (keeper : Ghosts K) (old new : K) : Type 0 where
+pub record Preserves {K : Type 0} (keeper : Ghosts K) (old new : K) : Type 0 where
   pub before : keeper.is_trusted new → keeper.is_trusted old
   pub sound : keeper.is_trusted new → IsSound keeper old → IsSound keeper new
   pub setup : keeper.setup new ≡ keeper.setup old
   pub refusals : HasNotFallen (keeper.refusals old) (keeper.refusals new)
-  pub lasts : Lasts keeper old new false
+  pub lasts : StaysTrusted keeper old new false
 
 -- a call that leaves what is kept
 pub record Asks {K : Type 0} (keeper : Ghosts K) (old new : K) : Type 0 where
-  pub carries : Carries keeper old new
+  pub carries : Preserves keeper old new
   pub same : keeper.is_trusted new → keeper.content new ≡ keeper.content old
