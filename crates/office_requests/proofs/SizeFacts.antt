@@ -1,5 +1,5 @@
 -- How long a body may be.
-use Rattle.std.proofs.Common.{◌≡◌, ℕ, ◌≤◌, Bool, true, false, ◌&&◌, ◌==◌, nat_le, List, [], ◌∷◌, drop, map, codes, Option, Some, None, Result, Ok, Err, refl, cond, arith}
+use Rattle.std.proofs.Common.{◌≡◌, ℕ, ◌≤◌, Bool, true, false, ◌&&◌, ◌==◌, nat_le, List, [], ◌∷◌, map, codes, Option, Some, None, refl, cond, arith}
 use Rattle.std.proofs.lemmas.Bool.Decides.{nat_tests}
 use Rattle.std.specs.Str.{bytes_eq}
 use Rattle.std.specs.Str.Parse.{digits_value}
@@ -18,7 +18,7 @@ use Rattle.office_requests.specs.declared.request.Action.TheVariants.{Deliver, S
 use Rattle.office_requests.specs.declared.request.Page.{Page}
 use Rattle.office_requests.specs.declared.request.Page.TheVariants.{Status, Testing, Excuses, Update}
 use Rattle.office_requests.specs.declared.request.Asked.{Asked}
-use Rattle.office_requests.specs.declared.request.Asked.TheVariants.{Refused, Tell, Post}
+use Rattle.office_requests.specs.declared.request.Asked.TheVariants.{Refused, Tell}
 use Rattle.office_requests.specs.Asked.{Line, are_digits, number_stated, stated, values_named, framing_of, posted_length, posted_by, post_asked, tell_asked, asked_at, asked_by, asked_of, path_of, body_size}
 use Rattle.office_requests.specs.Request.{body_room}
 

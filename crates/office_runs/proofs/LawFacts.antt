@@ -1,7 +1,6 @@
 -- What is a function of the kept mail, and what stands of it where more is kept.
-use Rattle.std.proofs.Common.{◌≡◌, ℕ, zero, suc, ◌+◌, ◌-◌, ◌≤◌, List, [], ◌∷◌, ◌++◌, length, Option, refl, sym, ap, ◌∙◌, arith, append_assoc, append-nil, subst, Some}
-use Rattle.std.specs.FinMap.{empty}
-use Rattle.office_mail.specs.Kept.{Kept, Within, kept_from}
+use Rattle.std.proofs.Common.{◌≡◌, ℕ, zero, suc, ◌+◌, ◌-◌, ◌≤◌, List, [], ◌∷◌, ◌++◌, length, refl, sym, ap, ◌∙◌, arith, append_assoc, append-nil, subst, Some}
+use Rattle.office_mail.specs.Kept.{Kept, Within}
 use Rattle.office_mail.specs.Laws.{SameTexts}
 use Rattle.office_mail.specs.Lists.{Lists}
 use Rattle.office_mail.specs.Runs.{IsReadyCount}
@@ -10,7 +9,7 @@ use Rattle.office_store.specs.Content.{Content, item_from_one}
 use Rattle.office_store.specs.declared.values.Finished.{Finished}
 use Rattle.office_store.specs.declared.values.Reports.{Reports}
 use Rattle.office_runs.specs.Laws.{RunsStand, TookTexts}
-use Rattle.office_runs.specs.Outcome.{outcome_of, reports_of, reports_to, testing_after}
+use Rattle.office_runs.specs.Outcome.{reports_of, reports_to, testing_after}
 use Rattle.office_runs.specs.State.{IsOffice}
 use Rattle.office_runs.proofs.FinishFacts.{report_is, reports_to-suc}
 use Rattle.office_runs.proofs.OfficeFacts.{outcome_of-later, reports_to-later}
