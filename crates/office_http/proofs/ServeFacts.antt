@@ -14,60 +14,60 @@ use Rattle.office_mail.specs.Kept.{Kept, kept_from}
 use Rattle.office_mail.specs.Lists.{Lists}
 use Rattle.office_mail.specs.Runs.{IsReady, IsReadyCount}
 use Rattle.office_mail.proofs.KeptFacts.{kept_from-nil}
-use Rattle.office_http.specs.declared.faults.DeliverFault.{DeliverFault}
-use Rattle.office_http.specs.declared.faults.DeliverFault.TheVariants.{Mail, OtherText, Store}
-use Rattle.office_http.specs.declared.faults.Held.{Held}
-use Rattle.office_http.specs.declared.faults.Progress.{Progress}
-use Rattle.office_http.specs.declared.faults.StoreFault.{StoreFault}
-use Rattle.office_http.specs.declared.faults.StoreFault.TheVariants as fault
-use Rattle.office_http.specs.declared.replies.Mark.{Mark}
-use Rattle.office_http.specs.declared.replies.Mark.TheVariants.{Taken, LostForMemory, LostForStore}
-use Rattle.office_http.specs.declared.reply.Refusal.{Refusal}
-use Rattle.office_http.specs.declared.reply.Refusal.TheVariants as refusal
-use Rattle.office_http.specs.declared.reply.Answer.{Answer}
-use Rattle.office_http.specs.declared.reply.Answer.TheVariants.{Refused, Status, Told}
-use Rattle.office_http.specs.declared.request.Errand.{Errand}
-use Rattle.office_http.specs.declared.request.Errand.TheVariants.{Deliver, Settle}
-use Rattle.office_http.specs.declared.request.Page.{Page}
-use Rattle.office_http.specs.declared.request.Page.TheVariants as page
-use Rattle.office_http.specs.declared.request.Posted.{Posted}
-use Rattle.office_http.specs.declared.request.Asked.{Asked}
-use Rattle.office_http.specs.declared.request.Asked.TheVariants as asks
+use Rattle.office_replies.specs.declared.faults.DeliverFault.{DeliverFault}
+use Rattle.office_replies.specs.declared.faults.DeliverFault.TheVariants.{Mail, OtherText, Store}
+use Rattle.office_replies.specs.declared.faults.Held.{Held}
+use Rattle.office_replies.specs.declared.faults.Progress.{Progress}
+use Rattle.office_replies.specs.declared.faults.StoreFault.{StoreFault}
+use Rattle.office_replies.specs.declared.faults.StoreFault.TheVariants as fault
+use Rattle.office_replies.specs.declared.replies.Mark.{Mark}
+use Rattle.office_replies.specs.declared.replies.Mark.TheVariants.{Taken, LostForMemory, LostForStore}
+use Rattle.office_requests.specs.declared.reply.Refusal.{Refusal}
+use Rattle.office_requests.specs.declared.reply.Refusal.TheVariants as refusal
+use Rattle.office_requests.specs.declared.reply.Answer.{Answer}
+use Rattle.office_requests.specs.declared.reply.Answer.TheVariants.{Refused, Status, Told}
+use Rattle.office_requests.specs.declared.request.Action.{Action}
+use Rattle.office_requests.specs.declared.request.Action.TheVariants.{Deliver, Settle}
+use Rattle.office_requests.specs.declared.request.Page.{Page}
+use Rattle.office_requests.specs.declared.request.Page.TheVariants as page
+use Rattle.office_requests.specs.declared.request.Posted.{Posted}
+use Rattle.office_requests.specs.declared.request.Asked.{Asked}
+use Rattle.office_requests.specs.declared.request.Asked.TheVariants as asks
 use Rattle.office_http.specs.declared.serve.ServeFault.{ServeFault}
 use Rattle.office_http.specs.declared.serve.ServeFault.TheVariants.{Read, Write}
 use Rattle.office_http.specs.declared.serve.Served.{Served}
-use Rattle.office_http.specs.Asked.{asked_of, body_size, is_head_method}
-use Rattle.office_http.specs.Losses.{TextCounted, DeliveryCounted}
-use Rattle.office_http.specs.Outcome.{testing_text, testing_after}
-use Rattle.office_http.specs.Replies.{reply_by, mark_of, if_taken}
-use Rattle.office_http.specs.Reply.{continue_bytes, refused, reply_in, reply_bytes, HasPlace}
-use Rattle.office_http.specs.Request.{body_room, head_room, BeginsWith, Came, IsHeadAt}
-use Rattle.office_http.specs.Standing.{State}
-use Rattle.office_http.specs.State.{answer_to, reports_at}
-use Rattle.office_http.specs.Written.{AppendsFront}
+use Rattle.office_requests.specs.Asked.{asked_of, body_size, is_head_method}
+use Rattle.office_runs.specs.Losses.{TextCounted, DeliveryCounted}
+use Rattle.office_runs.specs.Outcome.{testing_text, testing_after}
+use Rattle.office_replies.specs.Replies.{reply_by, mark_of, if_taken}
+use Rattle.office_requests.specs.Reply.{continue_bytes, refused, reply_in, reply_bytes, HasPlace}
+use Rattle.office_requests.specs.Request.{body_room, head_room, BeginsWith, Came, IsHeadAt}
+use Rattle.office_runs.specs.OfficeState.{OfficeState}
+use Rattle.office_runs.specs.State.{answer_to, reports_at}
+use Rattle.office_replies.specs.Written.{AppendsFront}
 use Rattle.office_http.specs.Serve.{refusal_for, status_answer, text_answer, report_answer, delivery_answer, by_fault, posted_body, post_answer, answer_of, post_counts, waits_of, continued, kept_by, settles, Does, Tells, Runs, Answers, Exchange, IsUnread, IsServed, Replied, RepliedFront, Serves, IsAwaited, StopsBefore, StopsServe, ServesHead, ServesFront, StopsRequest}
-use Rattle.office_http.proofs.ReplayFacts.{Leaves, reply_by-mark, delivery_counted, kept_after}
-use Rattle.office_http.proofs.RiseFacts.{delivery_weaker, text_weaker}
-use Rattle.office_http.specs.Delivered.{Settles}
-use Rattle.office_http.proofs.WrittenFacts.{front_after}
+use Rattle.office_runs.proofs.ReplayFacts.{Leaves, reply_by-mark, delivery_counted, kept_after}
+use Rattle.office_runs.proofs.RiseFacts.{delivery_weaker, text_weaker}
+use Rattle.office_runs.specs.Delivered.{Settles}
+use Rattle.office_replies.proofs.WrittenFacts.{front_after}
 
 -- pages
-pub told_status : (rose : Type 0) (s : State) (r : Result Progress StoreFault) → IfOk r (λ p. IsReadyCount s.setup s.kept p.ready) → IfOk r (λ p. p.finished ≡ s.finished) → (r ≡ Err fault.Store → rose) → Tells s page.Status (status_answer r) rose
+pub told_status : (rose : Type 0) (s : OfficeState) (r : Result Progress StoreFault) → IfOk r (λ p. IsReadyCount s.setup s.kept p.ready) → IfOk r (λ p. p.finished ≡ s.finished) → (r ≡ Err fault.Store → rose) → Tells s page.Status (status_answer r) rose
 told_status rose s (Ok p) counted finished err = record { fault = None; by_store = tt; ready = p.ready; counts = λ e h. counted; answer_is = ap (λ (n : ℕ). Status (record { ready = p.ready; finished = n })) finished }
 told_status rose s (Err fault.NoMemory) counted finished err = record { fault = Some fault.NoMemory; by_store = tt; ready = 0; counts = λ e. absurd (cc (e)); answer_is = refl }
 told_status rose s (Err fault.Store) counted finished err = record { fault = Some fault.Store; by_store = err refl; ready = 0; counts = λ e. absurd (cc (e)); answer_is = refl }
 
-pub told_testing : (rose : Type 0) (s : State) (r : Result (List ℕ) StoreFault) → IfOk r (λ t. t ≡ testing_text s.setup s.finished (testing_after s.setup s.kept s.finished)) → (r ≡ Err fault.Store → rose) → Tells s page.Testing (text_answer r) rose
+pub told_testing : (rose : Type 0) (s : OfficeState) (r : Result (List ℕ) StoreFault) → IfOk r (λ t. t ≡ testing_text s.setup s.finished (testing_after s.setup s.kept s.finished)) → (r ≡ Err fault.Store → rose) → Tells s page.Testing (text_answer r) rose
 told_testing rose s (Ok t) is err = record { fault = None; by_store = tt; ready = 0; counts = λ e h. absurd (cc (h)); answer_is = ap Told is }
 told_testing rose s (Err fault.NoMemory) is err = record { fault = Some fault.NoMemory; by_store = tt; ready = 0; counts = λ e. absurd (cc (e)); answer_is = refl }
 told_testing rose s (Err fault.Store) is err = record { fault = Some fault.Store; by_store = err refl; ready = 0; counts = λ e. absurd (cc (e)); answer_is = refl }
 
-pub told_excuses : (rose : Type 0) (s : State) (run : ℕ) (r : Result (Option (List ℕ)) StoreFault) → IfOk r (λ t. t ≡ option_map (λ reports. reports.excuses) (reports_at s run)) → (r ≡ Err fault.Store → rose) → Tells s (page.Excuses run) (report_answer r) rose
+pub told_excuses : (rose : Type 0) (s : OfficeState) (run : ℕ) (r : Result (Option (List ℕ)) StoreFault) → IfOk r (λ t. t ≡ option_map (λ reports. reports.excuses) (reports_at s run)) → (r ≡ Err fault.Store → rose) → Tells s (page.Excuses run) (report_answer r) rose
 told_excuses rose s run (Ok t) is err = record { fault = None; by_store = tt; ready = 0; counts = λ e h. absurd (cc (h)); answer_is = ap (λ (o : Option (List ℕ)). report_answer (Ok o)) is }
 told_excuses rose s run (Err fault.NoMemory) is err = record { fault = Some fault.NoMemory; by_store = tt; ready = 0; counts = λ e. absurd (cc (e)); answer_is = refl }
 told_excuses rose s run (Err fault.Store) is err = record { fault = Some fault.Store; by_store = err refl; ready = 0; counts = λ e. absurd (cc (e)); answer_is = refl }
 
-pub told_update : (rose : Type 0) (s : State) (run : ℕ) (r : Result (Option (List ℕ)) StoreFault) → IfOk r (λ t. t ≡ option_map (λ reports. reports.updates) (reports_at s run)) → (r ≡ Err fault.Store → rose) → Tells s (page.Update run) (report_answer r) rose
+pub told_update : (rose : Type 0) (s : OfficeState) (run : ℕ) (r : Result (Option (List ℕ)) StoreFault) → IfOk r (λ t. t ≡ option_map (λ reports. reports.updates) (reports_at s run)) → (r ≡ Err fault.Store → rose) → Tells s (page.Update run) (report_answer r) rose
 told_update rose s run (Ok t) is err = record { fault = None; by_store = tt; ready = 0; counts = λ e h. absurd (cc (h)); answer_is = ap (λ (o : Option (List ℕ)). report_answer (Ok o)) is }
 told_update rose s run (Err fault.NoMemory) is err = record { fault = Some fault.NoMemory; by_store = tt; ready = 0; counts = λ e. absurd (cc (e)); answer_is = refl }
 told_update rose s run (Err fault.Store) is err = record { fault = Some fault.Store; by_store = err refl; ready = 0; counts = λ e. absurd (cc (e)); answer_is = refl }
@@ -104,13 +104,13 @@ answered Taken r due e = ap delivery_answer e
 answered LostForMemory r due e = ap delivery_answer e
 answered LostForStore r due e = ap delivery_answer e
 
-kept_is : (s : State) (text : List ℕ) (m : Mark) → kept_from s.setup s.kept (if_taken m text []) ≡ kept_by s Deliver text (lost_of m)
+kept_is : (s : OfficeState) (text : List ℕ) (m : Mark) → kept_from s.setup s.kept (if_taken m text []) ≡ kept_by s Deliver text (lost_of m)
 unfolding lost_of
 kept_is s text Taken = refl
 kept_is s text LostForMemory = kept_from-nil s.setup s.kept
 kept_is s text LostForStore = kept_from-nil s.setup s.kept
 
-settles_is : (s : State) (text : List ℕ) (m : Mark) (r : Result Held DeliverFault) → r ≡ reply_by m (answer_to s.setup s.kept text) → settles s Deliver text (lost_of m) ≡ is_ok r
+settles_is : (s : OfficeState) (text : List ℕ) (m : Mark) (r : Result Held DeliverFault) → r ≡ reply_by m (answer_to s.setup s.kept text) → settles s Deliver text (lost_of m) ≡ is_ok r
 unfolding lost_of
 settles_is s text Taken r e = sym (ap is_ok e)
 settles_is s text LostForMemory r e = sym (ap is_ok e)
@@ -132,13 +132,13 @@ place_delivery setup (Err (Mail mail.TooManyParagraphs)) h = tt
 place_delivery setup (Err (Mail mail.UnknownArchitecture)) h = tt
 place_delivery setup (Err (Mail (mail.BadValue f))) h = tt
 
-ready_moved : (a b : State) (n : ℕ) → b.setup ≡ a.setup → b.kept ≡ a.kept → IsReady a.setup a.kept n → IsReady b.setup b.kept n
+ready_moved : (a b : OfficeState) (n : ℕ) → b.setup ≡ a.setup → b.kept ≡ a.kept → IsReady a.setup a.kept n → IsReady b.setup b.kept n
 ready_moved a b n s k h = subst (λ (l : Lists). IsReady l b.kept n) (sym s) (subst (λ (m : Kept). IsReady a.setup m n) (sym k) h)
 
-count_moved : (a b : State) (n : ℕ) → b.setup ≡ a.setup → b.kept ≡ a.kept → IsReadyCount a.setup a.kept n → IsReadyCount b.setup b.kept n
+count_moved : (a b : OfficeState) (n : ℕ) → b.setup ≡ a.setup → b.kept ≡ a.kept → IsReadyCount a.setup a.kept n → IsReadyCount b.setup b.kept n
 count_moved a b n s k h = subst (λ (l : Lists). IsReadyCount l b.kept n) (sym s) (subst (λ (m : Kept). IsReadyCount a.setup m n) (sym k) h)
 
-pub delivered : (P Q R : Type 0) (before mid after : State) (text : List ℕ) (r : Result Held DeliverFault) → Leaves before mid text r P → (P → R) → Settles mid after (is_ok r) Q → (Q → R) → Runs before after Deliver text (delivery_answer r) R
+pub delivered : (P Q R : Type 0) (before mid after : OfficeState) (text : List ℕ) (r : Result Held DeliverFault) → Leaves before mid text r P → (P → R) → Settles mid after (is_ok r) Q → (Q → R) → Runs before after Deliver text (delivery_answer r) R
 delivered P Q R before mid after text r l l_rises f f_rises =
     let m : Mark = mark_of r in
     let by : r ≡ reply_by m (answer_to before.setup before.kept text) = reply_by-mark r (answer_to before.setup before.kept text) l.answer in
@@ -163,7 +163,7 @@ delivered P Q R before mid after text r l l_rises f f_rises =
     }
 
 -- a settle
-settle_missed : (rose : Type 0) (before after : State) (text : List ℕ) (f : StoreFault) → TextCounted rose (Some f) → after.setup ≡ before.setup → after.kept ≡ before.kept → before.finished ≤ after.finished → IsReady before.setup before.kept after.finished → Runs before after Settle text (Refused (refusal_for f)) rose
+settle_missed : (rose : Type 0) (before after : OfficeState) (text : List ℕ) (f : StoreFault) → TextCounted rose (Some f) → after.setup ≡ before.setup → after.kept ≡ before.kept → before.finished ≤ after.finished → IsReady before.setup before.kept after.finished → Runs before after Settle text (Refused (refusal_for f)) rose
 settle_missed rose before after text f by_store s k g o = record {
   fault = Some f;
   by_store = by_store;
@@ -173,7 +173,7 @@ settle_missed rose before after text f by_store s k g o = record {
   moves = record { setup = s; kept = k; grows = g; still = λ h. absurd (cc (h)); settled = λ h e. absurd (cc (e)); met = Some f; met_by_store = by_store; all_ready = λ h e. absurd (cc (e)); only_ready = λ h. ready_moved before after after.finished s k o };
 }
 
-pub settled : (rose : Type 0) (before after : State) (text : List ℕ) (r : Result Progress StoreFault) → IfOk r (λ p. IsReadyCount before.setup before.kept p.ready) → IfOk r (λ p. (p.finished ≡ p.ready) × (after.finished ≡ p.ready)) → after.setup ≡ before.setup → after.kept ≡ before.kept → before.finished ≤ after.finished → IsReady before.setup before.kept after.finished → (r ≡ Err fault.Store → rose) → Runs before after Settle text (status_answer r) rose
+pub settled : (rose : Type 0) (before after : OfficeState) (text : List ℕ) (r : Result Progress StoreFault) → IfOk r (λ p. IsReadyCount before.setup before.kept p.ready) → IfOk r (λ p. (p.finished ≡ p.ready) × (after.finished ≡ p.ready)) → after.setup ≡ before.setup → after.kept ≡ before.kept → before.finished ≤ after.finished → IsReady before.setup before.kept after.finished → (r ≡ Err fault.Store → rose) → Runs before after Settle text (status_answer r) rose
 settled rose before after text (Ok p) counted fin s k g o err = record {
   fault = None;
   by_store = tt;
@@ -196,12 +196,12 @@ settled rose before after text (Err fault.NoMemory) counted fin s k g o err = se
 settled rose before after text (Err fault.Store) counted fin s k g o err = settle_missed rose before after text fault.Store (err refl) s k g o
 
 -- where a fault was met before anything was done
-does_nothing : (rose : Type 0) (s : State) (o : Option (Errand × List ℕ)) (f : StoreFault) (ready : ℕ) → TextCounted rose (Some f) → Does s s o (Some f) ready rose
+does_nothing : (rose : Type 0) (s : OfficeState) (o : Option (Action × List ℕ)) (f : StoreFault) (ready : ℕ) → TextCounted rose (Some f) → Does s s o (Some f) ready rose
 does_nothing rose s None f ready h = refl
 does_nothing rose s (Some (Deliver, body)) f ready by = record { setup = refl; kept = refl; grows = omega arith; still = λ h. refl; settled = λ h e. absurd (cc (e)); met = Some f; met_by_store = by; all_ready = λ h e. absurd (cc (e)); only_ready = λ h. h }
 does_nothing rose s (Some (Settle, body)) f ready by = record { setup = refl; kept = refl; grows = omega arith; still = λ h. refl; settled = λ h e. absurd (cc (e)); met = Some f; met_by_store = by; all_ready = λ h e. absurd (cc (e)); only_ready = λ h. h }
 
-pub short_answers : (rose : Type 0) (s : State) (l0 l1 w0 w1 : Option (List ℕ)) (front : List ℕ) (asked : Asked) (more : List ℕ) (goes_on : Bool) → Consumes l0 l1 more → (length more ≡ 0) ⊎ (length (front ++ more) ≤ body_size asked) → Appends w0 w1 (continued goes_on) → (goes_on ≡ true → waits_of asked ≡ true) → Answers s s l0 l1 w0 w1 front asked (Refused refusal.NoMemory) rose
+pub short_answers : (rose : Type 0) (s : OfficeState) (l0 l1 w0 w1 : Option (List ℕ)) (front : List ℕ) (asked : Asked) (more : List ℕ) (goes_on : Bool) → Consumes l0 l1 more → (length more ≡ 0) ⊎ (length (front ++ more) ≤ body_size asked) → Appends w0 w1 (continued goes_on) → (goes_on ≡ true → waits_of asked ≡ true) → Answers s s l0 l1 w0 w1 front asked (Refused refusal.NoMemory) rose
 short_answers rose s l0 l1 w0 w1 front asked more goes_on took few wrote waited = record {
   more = more;
   took = took;
@@ -219,7 +219,7 @@ short_answers rose s l0 l1 w0 w1 front asked more goes_on took few wrote waited 
   waited = waited;
 }
 
-pub refused_answers : (rose : Type 0) (s : State) (l w : Option (List ℕ)) (front : List ℕ) (r : Refusal) (due : Asked) → asks.Refused r ≡ due → Answers s s l l w w front due (Refused r) rose
+pub refused_answers : (rose : Type 0) (s : OfficeState) (l w : Option (List ℕ)) (front : List ℕ) (r : Refusal) (due : Asked) → asks.Refused r ≡ due → Answers s s l l w w front due (Refused r) rose
 refused_answers rose s l w front r due e = subst (λ (a : Asked). Answers s s l l w w front a (Refused r) rose) e (record {
   more = [];
   took = Consumes-nil l;
@@ -237,7 +237,7 @@ refused_answers rose s l w front r due e = subst (λ (a : Asked). Answers s s l 
   waited = λ h. absurd (cc (h));
 })
 
-pub told_answers : (rose : Type 0) (s s' : State) (l w : Option (List ℕ)) (front : List ℕ) (p : Page) (answer : Answer) (due : Asked) → asks.Tell p ≡ due → Tells s p answer rose → s' ≡ s → Answers s s' l l w w front due answer rose
+pub told_answers : (rose : Type 0) (s s' : OfficeState) (l w : Option (List ℕ)) (front : List ℕ) (p : Page) (answer : Answer) (due : Asked) → asks.Tell p ≡ due → Tells s p answer rose → s' ≡ s → Answers s s' l l w w front due answer rose
 told_answers rose s s' l w front p answer due e t same = subst (λ (a : Asked). Answers s s' l l w w front a answer rose) e (record {
   more = [];
   took = Consumes-nil l;
@@ -258,20 +258,20 @@ told_answers rose s s' l w front p answer due e t same = subst (λ (a : Asked). 
 at_most : (n m : ℕ) → n ≤ m → nat_le n m ≡ true
 at_most n m h = grind (arith, nat_tests)
 
-some_post : Errand → List ℕ → Option (Errand × List ℕ)
-some_post errand body = Some (errand, body)
+some_post : Action → List ℕ → Option (Action × List ℕ)
+some_post action body = Some (action, body)
 
-body_is : (p : Posted) (rest body : List ℕ) → p.length ≤ length rest → body ≡ take p.length rest → posted_body (asks.Post p) rest ≡ some_post p.errand body
+body_is : (p : Posted) (rest body : List ℕ) → p.length ≤ length rest → body ≡ take p.length rest → posted_body (asks.Post p) rest ≡ some_post p.action body
 unfolding some_post
 body_is p rest body long is =
-    ap (λ b. option_map (λ (body : List ℕ). (p.errand, body)) (cond b (Some (take p.length rest)) None)) (at_most p.length (length rest) long)
-    ∙ ap (some_post p.errand) (sym is)
+    ap (λ b. option_map (λ (body : List ℕ). (p.action, body)) (cond b (Some (take p.length rest)) None)) (at_most p.length (length rest) long)
+    ∙ ap (some_post p.action) (sym is)
 
 -- a POST whose body came
-pub whole_answers : (rose : Type 0) (before after : State) (l0 l1 w0 w1 : Option (List ℕ)) (front : List ℕ) (p : Posted) (answer : Answer) (more body : List ℕ) → Consumes l0 l1 more → (length more ≡ 0) ⊎ (length (front ++ more) ≤ p.length) → p.length ≤ length (front ++ more) → Runs before after p.errand body answer rose → body ≡ take p.length (front ++ more) → Appends w0 w1 (continued p.waits) → Answers before after l0 l1 w0 w1 front (asks.Post p) answer rose
+pub whole_answers : (rose : Type 0) (before after : OfficeState) (l0 l1 w0 w1 : Option (List ℕ)) (front : List ℕ) (p : Posted) (answer : Answer) (more body : List ℕ) → Consumes l0 l1 more → (length more ≡ 0) ⊎ (length (front ++ more) ≤ p.length) → p.length ≤ length (front ++ more) → Runs before after p.action body answer rose → body ≡ take p.length (front ++ more) → Appends w0 w1 (continued p.waits) → Answers before after l0 l1 w0 w1 front (asks.Post p) answer rose
 unfolding some_post
 whole_answers rose before after l0 l1 w0 w1 front p answer more body took few long r body_same wrote =
-    let is : posted_body (asks.Post p) (front ++ more) ≡ some_post p.errand body = body_is p (front ++ more) body long body_same in
+    let is : posted_body (asks.Post p) (front ++ more) ≡ some_post p.action body = body_is p (front ++ more) body long body_same in
     record {
       more = more;
       took = took;
@@ -281,8 +281,8 @@ whole_answers rose before after l0 l1 w0 w1 front p answer more body took few lo
       ready = r.ready;
       whole = λ e. inl long;
       counts = λ e h. r.counts e (sym (ap post_counts is) ∙ h);
-      answer_is = r.answer_is ∙ ap (λ (o : Option (Errand × List ℕ)). by_fault r.fault (post_answer before r.ready o)) (sym is);
-      does = subst (λ (o : Option (Errand × List ℕ)). Does before after o r.fault r.ready rose) (sym is) r.moves;
+      answer_is = r.answer_is ∙ ap (λ (o : Option (Action × List ℕ)). by_fault r.fault (post_answer before r.ready o)) (sym is);
+      does = subst (λ (o : Option (Action × List ℕ)). Does before after o r.fault r.ready rose) (sym is) r.moves;
       goes_on = p.waits;
       wrote = wrote;
       went = λ e. refl;
@@ -308,7 +308,7 @@ begins_so seen more headers spans h = record {
   few = h.few;
 }
 
-pub exchanged : (rose : Type 0) (before after : State) (l0 l1 w0 w1 : Option (List ℕ)) (seen : List ℕ) (headers : List HeaderSpan) (spans : RequestSpans) (answer : Answer) (is_head : Bool) (h : IsHeadAt seen headers spans) (a : Answers before after l0 l1 w0 w1 (drop spans.len seen) (asked_of h.head) answer rose) → is_head ≡ is_head_method h.head → Exchange before after l1 (seen ++ a.more) (continued a.goes_on ++ reply_bytes (reply_in before.setup answer) is_head) (reply_in before.setup answer).code rose
+pub exchanged : (rose : Type 0) (before after : OfficeState) (l0 l1 w0 w1 : Option (List ℕ)) (seen : List ℕ) (headers : List HeaderSpan) (spans : RequestSpans) (answer : Answer) (is_head : Bool) (h : IsHeadAt seen headers spans) (a : Answers before after l0 l1 w0 w1 (drop spans.len seen) (asked_of h.head) answer rose) → is_head ≡ is_head_method h.head → Exchange before after l1 (seen ++ a.more) (continued a.goes_on ++ reply_bytes (reply_in before.setup answer) is_head) (reply_in before.setup answer).code rose
 exchanged rose before after l0 l1 w0 w1 seen headers spans answer is_head h a e = record {
   head = h.head;
   rest = drop spans.len seen ++ a.more;
@@ -328,7 +328,7 @@ exchanged rose before after l0 l1 w0 w1 seen headers spans answer is_head h a e 
   code_is = ap (λ (r : Answer). (reply_in before.setup r).code) a.answer_is;
 }
 
-pub served_head : (rose : Type 0) (before after : State) (l0 l1 w0 w1 w2 : Option (List ℕ)) (seen : List ℕ) (headers : List HeaderSpan) (spans : RequestSpans) (setup : Lists) (answer : Answer) (is_head : Bool) (code : ℕ) (h : IsHeadAt seen headers spans) → Answers before after l0 l1 w0 w1 (drop spans.len seen) (asked_of h.head) answer rose → is_head ≡ is_head_method h.head → setup ≡ before.setup → code ≡ (reply_in setup answer).code → Appends w1 w2 (reply_bytes (reply_in setup answer) is_head) → ServesHead before after l0 l1 w0 w2 seen code rose
+pub served_head : (rose : Type 0) (before after : OfficeState) (l0 l1 w0 w1 w2 : Option (List ℕ)) (seen : List ℕ) (headers : List HeaderSpan) (spans : RequestSpans) (setup : Lists) (answer : Answer) (is_head : Bool) (code : ℕ) (h : IsHeadAt seen headers spans) → Answers before after l0 l1 w0 w1 (drop spans.len seen) (asked_of h.head) answer rose → is_head ≡ is_head_method h.head → setup ≡ before.setup → code ≡ (reply_in setup answer).code → Appends w1 w2 (reply_bytes (reply_in setup answer) is_head) → ServesHead before after l0 l1 w0 w2 seen code rose
 served_head rose before after l0 l1 w0 w1 w2 seen headers spans setup answer is_head code h a e s c wrote = record {
   more = a.more;
   took = a.took;
@@ -339,7 +339,7 @@ served_head rose before after l0 l1 w0 w1 w2 seen headers spans setup answer is_
       (subst (λ (l : Lists). Appends w1 w2 (reply_bytes (reply_in l answer) is_head)) s wrote);
 }
 
-pub served_front : (rose : Type 0) (before after : State) (l0 l1 w0 w1 w2 : Option (List ℕ)) (seen : List ℕ) (headers : List HeaderSpan) (spans : RequestSpans) (setup : Lists) (answer : Answer) (is_head : Bool) (h : IsHeadAt seen headers spans) → Answers before after l0 l1 w0 w1 (drop spans.len seen) (asked_of h.head) answer rose → is_head ≡ is_head_method h.head → setup ≡ before.setup → AppendsFront w1 w2 (reply_bytes (reply_in setup answer) is_head) → ServesFront before after l0 l1 w0 w2 seen rose
+pub served_front : (rose : Type 0) (before after : OfficeState) (l0 l1 w0 w1 w2 : Option (List ℕ)) (seen : List ℕ) (headers : List HeaderSpan) (spans : RequestSpans) (setup : Lists) (answer : Answer) (is_head : Bool) (h : IsHeadAt seen headers spans) → Answers before after l0 l1 w0 w1 (drop spans.len seen) (asked_of h.head) answer rose → is_head ≡ is_head_method h.head → setup ≡ before.setup → AppendsFront w1 w2 (reply_bytes (reply_in setup answer) is_head) → ServesFront before after l0 l1 w0 w2 seen rose
 served_front rose before after l0 l1 w0 w1 w2 seen headers spans setup answer is_head h a e s wrote = record {
   more = a.more;
   took = a.took;
@@ -351,7 +351,7 @@ served_front rose before after l0 l1 w0 w1 w2 seen headers spans setup answer is
 }
 
 -- the whole connection
-pub replied_head : (rose : Type 0) (before after : State) (l0 l1 l2 w0 w1 : Option (List ℕ)) (seen input : List ℕ) (code : ℕ) → Consumes l0 l1 input → input ≡ seen → ServesHead before after l1 l2 w0 w1 seen code rose → Replied before after l0 l2 w0 w1 code rose
+pub replied_head : (rose : Type 0) (before after : OfficeState) (l0 l1 l2 w0 w1 : Option (List ℕ)) (seen input : List ℕ) (code : ℕ) → Consumes l0 l1 input → input ≡ seen → ServesHead before after l1 l2 w0 w1 seen code rose → Replied before after l0 l2 w0 w1 code rose
 replied_head rose before after l0 l1 l2 w0 w1 seen input code took same s = record {
   input = seen ++ s.more;
   took = Consumes-trans l0 l1 l2 seen s.more (subst (Consumes l0 l1) same took) s.took;
@@ -360,7 +360,7 @@ replied_head rose before after l0 l1 l2 w0 w1 seen input code took same s = reco
   wrote = s.wrote;
 }
 
-replied_front : (rose : Type 0) (before after : State) (l0 l1 l2 w0 w1 : Option (List ℕ)) (seen input : List ℕ) → Consumes l0 l1 input → input ≡ seen → ServesFront before after l1 l2 w0 w1 seen rose → RepliedFront before after l0 l2 w0 w1 rose
+replied_front : (rose : Type 0) (before after : OfficeState) (l0 l1 l2 w0 w1 : Option (List ℕ)) (seen input : List ℕ) → Consumes l0 l1 input → input ≡ seen → ServesFront before after l1 l2 w0 w1 seen rose → RepliedFront before after l0 l2 w0 w1 rose
 replied_front rose before after l0 l1 l2 w0 w1 seen input took same s = record {
   input = seen ++ s.more;
   took = Consumes-trans l0 l1 l2 seen s.more (subst (Consumes l0 l1) same took) s.took;
@@ -370,7 +370,7 @@ replied_front rose before after l0 l1 l2 w0 w1 seen input took same s = record {
   wrote = s.wrote;
 }
 
-stop_after : (before after : State) (l0 l1 l2 w0 w1 : Option (List ℕ)) (seen input : List ℕ) → Consumes l0 l1 input → input ≡ seen → length input ≤ head_room → StopsBefore before after l1 l2 w0 w1 body_room (λ more. IsAwaited (seen ++ more)) → StopsBefore before after l0 l2 w0 w1 (head_room + body_room) IsAwaited
+stop_after : (before after : OfficeState) (l0 l1 l2 w0 w1 : Option (List ℕ)) (seen input : List ℕ) → Consumes l0 l1 input → input ≡ seen → length input ≤ head_room → StopsBefore before after l1 l2 w0 w1 body_room (λ more. IsAwaited (seen ++ more)) → StopsBefore before after l0 l2 w0 w1 (head_room + body_room) IsAwaited
 stop_after before after l0 l1 l2 w0 w1 seen input took same few s = record {
   same = s.same;
   input = seen ++ s.input;
@@ -379,16 +379,16 @@ stop_after before after l0 l1 l2 w0 w1 seen input took same few s = record {
   wrote = s.wrote;
 }
 
-pub stopped_head : (rose : Type 0) (before after : State) (l0 l1 l2 w0 w1 : Option (List ℕ)) (seen input : List ℕ) (f : ServeFault) → Consumes l0 l1 input → input ≡ seen → length input ≤ head_room → StopsRequest before after l1 l2 w0 w1 seen f rose → StopsServe before after l0 l2 w0 w1 f rose
+pub stopped_head : (rose : Type 0) (before after : OfficeState) (l0 l1 l2 w0 w1 : Option (List ℕ)) (seen input : List ℕ) (f : ServeFault) → Consumes l0 l1 input → input ≡ seen → length input ≤ head_room → StopsRequest before after l1 l2 w0 w1 seen f rose → StopsServe before after l0 l2 w0 w1 f rose
 stopped_head rose before after l0 l1 l2 w0 w1 seen input Read took same few s = stop_after before after l0 l1 l2 w0 w1 seen input took same few s
 stopped_head rose before after l0 l1 l2 w0 w1 seen input Write took same few s = ⊎_elim (λ stop. inl (stop_after before after l0 l1 l2 w0 w1 seen input took same few stop)) (λ front. inr (replied_front rose before after l0 l1 l2 w0 w1 seen input took same front)) s
 
 -- a reader that failed within the head: nothing was written
-pub stopped_reading : (s : State) (l0 l1 w : Option (List ℕ)) → Came l0 l1 head_room → StopsBefore s s l0 l1 w w (head_room + body_room) IsAwaited
+pub stopped_reading : (s : OfficeState) (l0 l1 w : Option (List ℕ)) → Came l0 l1 head_room → StopsBefore s s l0 l1 w w (head_room + body_room) IsAwaited
 stopped_reading s l0 l1 w c = record { same = refl; input = c.input; took = c.took; few = omega (arith, c.few); wrote = inl (Appends-nil w) }
 
 -- a writer that failed at 100 Continue
-pub stopped_writing : (s : State) (l w0 w1 : Option (List ℕ)) (p : Posted) → p.waits ≡ true → AppendsFront w0 w1 continue_bytes → StopsBefore s s l l w0 w1 p.length (λ input. p.waits ≡ true)
+pub stopped_writing : (s : OfficeState) (l w0 w1 : Option (List ℕ)) (p : Posted) → p.waits ≡ true → AppendsFront w0 w1 continue_bytes → StopsBefore s s l l w0 w1 p.length (λ input. p.waits ≡ true)
 stopped_writing s l w0 w1 p waits front = record { same = refl; input = []; took = Consumes-nil l; few = omega arith; wrote = inr (waits, front) }
 
 all_told : (b : Bool) (w0 w1 : Option (List ℕ)) → Appends w0 w1 (continued b) → Appends w0 w1 [] ⊎ ((b ≡ true) × AppendsFront w0 w1 continue_bytes)
@@ -396,7 +396,7 @@ all_told true w0 w1 h = inr (refl, record { front = continue_bytes; begins = ([]
 all_told false w0 w1 h = inl h
 
 -- a reader that failed within the body
-pub stopped_body : (s : State) (l0 l1 w0 w1 : Option (List ℕ)) (p : Posted) (start seen : ℕ) → start ≤ seen → Came l0 l1 (start + p.length - seen) → Appends w0 w1 (continued p.waits) → StopsBefore s s l0 l1 w0 w1 p.length (λ input. p.waits ≡ true)
+pub stopped_body : (s : OfficeState) (l0 l1 w0 w1 : Option (List ℕ)) (p : Posted) (start seen : ℕ) → start ≤ seen → Came l0 l1 (start + p.length - seen) → Appends w0 w1 (continued p.waits) → StopsBefore s s l0 l1 w0 w1 p.length (λ input. p.waits ≡ true)
 stopped_body s l0 l1 w0 w1 p start seen h c wrote = record { same = refl; input = c.input; took = c.took; few = omega (arith, c.few, h); wrote = all_told p.waits w0 w1 wrote }
 
 -- it is known what is asked
@@ -407,7 +407,7 @@ post_size (Some a) p is fits = let same : p.length ≡ body_size a = ap body_siz
 waits_due : (p : Posted) (due : Asked) → asks.Post p ≡ due → p.waits ≡ true → waits_of due ≡ true
 waits_due p due e w = subst (λ (a : Asked). waits_of a ≡ true) e w
 
-pub stopped_post : (before after : State) (l0 l1 w0 w1 : Option (List ℕ)) (o : Option Asked) (p : Posted) → ((due : Asked) → IfSome o (λ a. a ≡ due) → asks.Post p ≡ due) → IfSome o (λ a. body_size a ≤ body_room) → StopsBefore before after l0 l1 w0 w1 p.length (λ input. p.waits ≡ true) → StopsBefore before after l0 l1 w0 w1 body_room (λ input. (due : Asked) → IfSome o (λ a. a ≡ due) → waits_of due ≡ true)
+pub stopped_post : (before after : OfficeState) (l0 l1 w0 w1 : Option (List ℕ)) (o : Option Asked) (p : Posted) → ((due : Asked) → IfSome o (λ a. a ≡ due) → asks.Post p ≡ due) → IfSome o (λ a. body_size a ≤ body_room) → StopsBefore before after l0 l1 w0 w1 p.length (λ input. p.waits ≡ true) → StopsBefore before after l0 l1 w0 w1 body_room (λ input. (due : Asked) → IfSome o (λ a. a ≡ due) → waits_of due ≡ true)
 stopped_post before after l0 l1 w0 w1 o p is fits s = record {
   same = s.same;
   input = s.input;
@@ -416,7 +416,7 @@ stopped_post before after l0 l1 w0 w1 o p is fits s = record {
   wrote = ⊎_elim (λ none. inl none) (λ front. inr (λ due h. waits_due p due (is due h) front.0, front.1)) s.wrote;
 }
 
-pub stopped_asked : (before after : State) (l0 l1 w0 w1 : Option (List ℕ)) (o : Option Asked) (seen : List ℕ) (headers : List HeaderSpan) (spans : RequestSpans) (h : IsHeadAt seen headers spans) → IfSome o (λ a. a ≡ asked_of h.head) → StopsBefore before after l0 l1 w0 w1 body_room (λ input. (due : Asked) → IfSome o (λ a. a ≡ due) → waits_of due ≡ true) → StopsBefore before after l0 l1 w0 w1 body_room (λ more. IsAwaited (seen ++ more))
+pub stopped_asked : (before after : OfficeState) (l0 l1 w0 w1 : Option (List ℕ)) (o : Option Asked) (seen : List ℕ) (headers : List HeaderSpan) (spans : RequestSpans) (h : IsHeadAt seen headers spans) → IfSome o (λ a. a ≡ asked_of h.head) → StopsBefore before after l0 l1 w0 w1 body_room (λ input. (due : Asked) → IfSome o (λ a. a ≡ due) → waits_of due ≡ true) → StopsBefore before after l0 l1 w0 w1 body_room (λ more. IsAwaited (seen ++ more))
 stopped_asked before after l0 l1 w0 w1 o seen headers spans h is s = record {
   same = s.same;
   input = s.input;
@@ -425,22 +425,22 @@ stopped_asked before after l0 l1 w0 w1 o seen headers spans h is s = record {
   wrote = ⊎_elim (λ none. inl none) (λ front. inr (record { head = h.head; rest = drop spans.len seen ++ s.input; begins = begins_so seen s.input headers spans h; waits = front.0 (asked_of h.head) is }, front.1)) s.wrote;
 }
 
-pub stopped_request : (rose : Type 0) (before after : State) (l0 l1 w0 w1 : Option (List ℕ)) (seen : List ℕ) (f : ServeFault) → StopsBefore before after l0 l1 w0 w1 body_room (λ more. IsAwaited (seen ++ more)) → StopsRequest before after l0 l1 w0 w1 seen f rose
+pub stopped_request : (rose : Type 0) (before after : OfficeState) (l0 l1 w0 w1 : Option (List ℕ)) (seen : List ℕ) (f : ServeFault) → StopsBefore before after l0 l1 w0 w1 body_room (λ more. IsAwaited (seen ++ more)) → StopsRequest before after l0 l1 w0 w1 seen f rose
 stopped_request rose before after l0 l1 w0 w1 seen Read s = s
 stopped_request rose before after l0 l1 w0 w1 seen Write s = inl s
 
 -- what is no request
-unread : (rose : Type 0) (s : State) (left : Option (List ℕ)) (input : List ℕ) (r : Refusal) → length input ≤ head_room → IsUnread left input r → IsServed s s left input (reply_bytes (refused r) false) (refused r).code rose
+unread : (rose : Type 0) (s : OfficeState) (left : Option (List ℕ)) (input : List ℕ) (r : Refusal) → length input ≤ head_room → IsUnread left input r → IsServed s s left input (reply_bytes (refused r) false) (refused r).code rose
 unread rose s left input r few cause = inr (record { few = few; refusal = r; cause = cause; same = refl; bytes_are = refl; code_is = refl })
 
-unread_at : (rose : Type 0) (s : State) (l0 l1 w0 w1 : Option (List ℕ)) (input : List ℕ) (r : Refusal) (code : Option ℕ) → Consumes l0 l1 input → length input ≤ head_room → IsUnread l1 input r → code ≡ Some (refused r).code → Appends w0 w1 (reply_bytes (refused r) false) → Serves s s l0 l1 w0 w1 code rose
+unread_at : (rose : Type 0) (s : OfficeState) (l0 l1 w0 w1 : Option (List ℕ)) (input : List ℕ) (r : Refusal) (code : Option ℕ) → Consumes l0 l1 input → length input ≤ head_room → IsUnread l1 input r → code ≡ Some (refused r).code → Appends w0 w1 (reply_bytes (refused r) false) → Serves s s l0 l1 w0 w1 code rose
 unread_at rose s l0 l1 w0 w1 input r code took few cause e wrote = subst (λ (o : Option ℕ). Serves s s l0 l1 w0 w1 o rose) (sym e) (record { input = input; took = took; bytes = reply_bytes (refused r) false; served = unread rose s l1 input r few cause; wrote = wrote })
 
-pub unread_ok : (rose : Type 0) (s : State) (l0 l1 w0 w1 : Option (List ℕ)) (input : List ℕ) (r : Refusal) (result : Result Served ServeFault) → Consumes l0 l1 input → length input ≤ head_room → IsUnread l1 input r → IfOk result (λ served. served.code ≡ Some (refused r).code) → OnOk result (Appends w0 w1 (reply_bytes (refused r) false)) → IfOk result (λ served. Serves s s l0 l1 w0 w1 served.code rose)
+pub unread_ok : (rose : Type 0) (s : OfficeState) (l0 l1 w0 w1 : Option (List ℕ)) (input : List ℕ) (r : Refusal) (result : Result Served ServeFault) → Consumes l0 l1 input → length input ≤ head_room → IsUnread l1 input r → IfOk result (λ served. served.code ≡ Some (refused r).code) → OnOk result (Appends w0 w1 (reply_bytes (refused r) false)) → IfOk result (λ served. Serves s s l0 l1 w0 w1 served.code rose)
 unread_ok rose s l0 l1 w0 w1 input r (Ok served) took few cause code wrote = unread_at rose s l0 l1 w0 w1 input r served.code took few cause code wrote
 unread_ok rose s l0 l1 w0 w1 input r (Err f) took few cause code wrote = tt
 
-pub unread_err : (rose : Type 0) (s : State) (l0 l1 w0 w1 : Option (List ℕ)) (input : List ℕ) (r : Refusal) (result : Result Served ServeFault) → Consumes l0 l1 input → length input ≤ head_room → IsUnread l1 input r → IfErr result (λ f. (f ≡ Write) × AppendsFront w0 w1 (reply_bytes (refused r) false)) → IfErr result (λ f. StopsServe s s l0 l1 w0 w1 f rose)
+pub unread_err : (rose : Type 0) (s : OfficeState) (l0 l1 w0 w1 : Option (List ℕ)) (input : List ℕ) (r : Refusal) (result : Result Served ServeFault) → Consumes l0 l1 input → length input ≤ head_room → IsUnread l1 input r → IfErr result (λ f. (f ≡ Write) × AppendsFront w0 w1 (reply_bytes (refused r) false)) → IfErr result (λ f. StopsServe s s l0 l1 w0 w1 f rose)
 unread_err rose s l0 l1 w0 w1 input r (Ok served) took few cause h = tt
 unread_err rose s l0 l1 w0 w1 input r (Err f) took few cause h = subst (λ (f : ServeFault). StopsServe s s l0 l1 w0 w1 f rose) (sym h.0) (inr (record { input = input; took = took; bytes = reply_bytes (refused r) false; code = (refused r).code; served = unread rose s l1 input r few cause; wrote = h.1 }))
 

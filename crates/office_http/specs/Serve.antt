@@ -7,32 +7,32 @@ use Rattle.httparse.specs.Spans.{RequestExceeds, RequestOverflows}
 use Rattle.office_mail.specs.declared.message.MailFault.TheVariants as mail
 use Rattle.office_mail.specs.Kept.{Kept, kept_from}
 use Rattle.office_mail.specs.Runs.{IsReady, IsReadyCount}
-use Rattle.office_http.specs.declared.faults.DeliverFault.{DeliverFault}
-use Rattle.office_http.specs.declared.faults.DeliverFault.TheVariants.{Mail, OtherText, Store}
-use Rattle.office_http.specs.declared.faults.Held.{Held}
-use Rattle.office_http.specs.declared.faults.Progress.{Progress}
-use Rattle.office_http.specs.declared.faults.StoreFault.{StoreFault}
-use Rattle.office_http.specs.declared.faults.StoreFault.TheVariants as fault
-use Rattle.office_http.specs.declared.reply.Refusal.{Refusal}
-use Rattle.office_http.specs.declared.reply.Refusal.TheVariants as refusal
-use Rattle.office_http.specs.declared.reply.Answer.{Answer}
-use Rattle.office_http.specs.declared.reply.Answer.TheVariants.{Refused, Delivered, Status, Told}
-use Rattle.office_http.specs.declared.request.Errand.{Errand}
-use Rattle.office_http.specs.declared.request.Errand.TheVariants.{Deliver, Settle}
-use Rattle.office_http.specs.declared.request.Page.{Page}
-use Rattle.office_http.specs.declared.request.Page.TheVariants as page
-use Rattle.office_http.specs.declared.request.Asked.{Asked}
-use Rattle.office_http.specs.declared.request.Asked.TheVariants as asks
+use Rattle.office_replies.specs.declared.faults.DeliverFault.{DeliverFault}
+use Rattle.office_replies.specs.declared.faults.DeliverFault.TheVariants.{Mail, OtherText, Store}
+use Rattle.office_replies.specs.declared.faults.Held.{Held}
+use Rattle.office_replies.specs.declared.faults.Progress.{Progress}
+use Rattle.office_replies.specs.declared.faults.StoreFault.{StoreFault}
+use Rattle.office_replies.specs.declared.faults.StoreFault.TheVariants as fault
+use Rattle.office_requests.specs.declared.reply.Refusal.{Refusal}
+use Rattle.office_requests.specs.declared.reply.Refusal.TheVariants as refusal
+use Rattle.office_requests.specs.declared.reply.Answer.{Answer}
+use Rattle.office_requests.specs.declared.reply.Answer.TheVariants.{Refused, Delivered, Status, Told}
+use Rattle.office_requests.specs.declared.request.Action.{Action}
+use Rattle.office_requests.specs.declared.request.Action.TheVariants.{Deliver, Settle}
+use Rattle.office_requests.specs.declared.request.Page.{Page}
+use Rattle.office_requests.specs.declared.request.Page.TheVariants as page
+use Rattle.office_requests.specs.declared.request.Asked.{Asked}
+use Rattle.office_requests.specs.declared.request.Asked.TheVariants as asks
 use Rattle.office_http.specs.declared.serve.ServeFault.{ServeFault}
 use Rattle.office_http.specs.declared.serve.ServeFault.TheVariants.{Read, Write}
-use Rattle.office_http.specs.Asked.{asked_of, body_size, is_head_method}
-use Rattle.office_http.specs.Losses.{TextCounted}
-use Rattle.office_http.specs.Outcome.{testing_text, testing_after}
-use Rattle.office_http.specs.Reply.{refused, reply_in, reply_bytes, continue_bytes}
-use Rattle.office_http.specs.Request.{BeginsWith, body_room, field_room, head_room}
-use Rattle.office_http.specs.Standing.{State}
-use Rattle.office_http.specs.State.{answer_to, reports_at}
-use Rattle.office_http.specs.Written.{AppendsFront}
+use Rattle.office_requests.specs.Asked.{asked_of, body_size, is_head_method}
+use Rattle.office_runs.specs.Losses.{TextCounted}
+use Rattle.office_runs.specs.Outcome.{testing_text, testing_after}
+use Rattle.office_requests.specs.Reply.{refused, reply_in, reply_bytes, continue_bytes}
+use Rattle.office_requests.specs.Request.{BeginsWith, body_room, field_room, head_room}
+use Rattle.office_runs.specs.OfficeState.{OfficeState}
+use Rattle.office_runs.specs.State.{answer_to, reports_at}
+use Rattle.office_replies.specs.Written.{AppendsFront}
 
 -- how a fault of memory or of the store is told
 abbrev pub refusal_for : StoreFault → Refusal
@@ -75,33 +75,33 @@ by_fault None due = due
 by_fault (Some f) due = Refused (refusal_for f)
 
 -- the text that a page tells, where this many runs are ready
-abbrev pub page_answer : State → ℕ → Page → Answer
+abbrev pub page_answer : OfficeState → ℕ → Page → Answer
 page_answer s ready page.Status = Status (record { ready = ready; finished = s.finished })
 page_answer s ready page.Testing = Told (testing_text s.setup s.finished (testing_after s.setup s.kept s.finished))
 page_answer s ready (page.Excuses run) = report_answer (Ok (option_map (λ reports. reports.excuses) (reports_at s run)))
 page_answer s ready (page.Update run) = report_answer (Ok (option_map (λ reports. reports.updates) (reports_at s run)))
 
 -- the answer to a POST with this body: what is due to the delivery, or the status after the settle
-abbrev pub errand_answer : State → ℕ → Errand → List ℕ → Answer
-errand_answer s ready Deliver body = delivery_answer (answer_to s.setup s.kept body)
-errand_answer s ready Settle body = Status (record { ready = ready; finished = ready })
+abbrev pub action_answer : OfficeState → ℕ → Action → List ℕ → Answer
+action_answer s ready Deliver body = delivery_answer (answer_to s.setup s.kept body)
+action_answer s ready Settle body = Status (record { ready = ready; finished = ready })
 
 -- the body that a request has, of the bytes after its head; none where they are too few
 abbrev pub body_of : ℕ → List ℕ → Option (List ℕ)
 body_of size rest = if nat_le size (length rest) then Some (take size rest) else None
 
-abbrev pub posted_body : Asked → List ℕ → Option (Errand × List ℕ)
-posted_body (asks.Post p) rest = option_map (λ (body : List ℕ). (p.errand, body)) (body_of p.length rest)
+abbrev pub posted_body : Asked → List ℕ → Option (Action × List ℕ)
+posted_body (asks.Post p) rest = option_map (λ (body : List ℕ). (p.action, body)) (body_of p.length rest)
 posted_body (asks.Tell page) rest = None
 posted_body (asks.Refused r) rest = None
 
 -- the answer to a POST, which is refused where the input ends within its body
-abbrev pub post_answer : State → ℕ → Option (Errand × List ℕ) → Answer
+abbrev pub post_answer : OfficeState → ℕ → Option (Action × List ℕ) → Answer
 post_answer s ready None = Refused refusal.BadRequest
-post_answer s ready (Some post) = errand_answer s ready post.0 post.1
+post_answer s ready (Some post) = action_answer s ready post.0 post.1
 
 -- THE ANSWER TO A REQUEST, by what it asks, the bytes after its head, and how many runs are ready
-abbrev pub answer_of : State → ℕ → Asked → List ℕ → Answer
+abbrev pub answer_of : OfficeState → ℕ → Asked → List ℕ → Answer
 answer_of s ready (asks.Refused r) rest = Refused r
 answer_of s ready (asks.Tell page) rest = page_answer s ready page
 answer_of s ready (asks.Post p) rest = post_answer s ready (posted_body (asks.Post p) rest)
@@ -113,13 +113,13 @@ page_counts page.Testing = false
 page_counts (page.Excuses run) = false
 page_counts (page.Update run) = false
 
-abbrev pub errand_counts : Errand → Bool
-errand_counts Settle = true
-errand_counts Deliver = false
+abbrev pub action_counts : Action → Bool
+action_counts Settle = true
+action_counts Deliver = false
 
-abbrev pub post_counts : Option (Errand × List ℕ) → Bool
+abbrev pub post_counts : Option (Action × List ℕ) → Bool
 post_counts None = false
-post_counts (Some post) = errand_counts post.0
+post_counts (Some post) = action_counts post.0
 
 abbrev pub counts_ready : Asked → List ℕ → Bool
 counts_ready (asks.Refused r) rest = false
@@ -136,38 +136,38 @@ abbrev pub continued : Bool → List ℕ
 continued goes_on = if goes_on then continue_bytes else []
 
 -- what is kept after a POST: the whole body is delivered once, unless a fault was met
-abbrev pub kept_by : State → Errand → List ℕ → Option StoreFault → Kept
+abbrev pub kept_by : OfficeState → Action → List ℕ → Option StoreFault → Kept
 kept_by s Deliver body None = kept_from s.setup s.kept (body ∷ [])
 kept_by s Deliver body (Some f) = s.kept
 kept_by s Settle body fault = s.kept
 
 -- whether a POST settles: a delivery that is held, and a settle
-abbrev pub settles : State → Errand → List ℕ → Option StoreFault → Bool
+abbrev pub settles : OfficeState → Action → List ℕ → Option StoreFault → Bool
 settles s Deliver body None = is_ok (answer_to s.setup s.kept body)
 settles s Deliver body (Some f) = false
 settles s Settle body fault = true
 
 -- what a POST does
-pub record Moves (before after : State) (errand : Errand) (body : List ℕ) (fault : Option StoreFault) (ready : ℕ) (rose : Type 0) : Type 0 where
+pub record Moves (before after : OfficeState) (action : Action) (body : List ℕ) (fault : Option StoreFault) (ready : ℕ) (rose : Type 0) : Type 0 where
   pub setup : after.setup ≡ before.setup
-  pub kept : after.kept ≡ kept_by before errand body fault
+  pub kept : after.kept ≡ kept_by before action body fault
   pub grows : before.finished ≤ after.finished
-  pub still : settles before errand body fault ≡ false → after.finished ≡ before.finished
-  pub settled : errand_counts errand ≡ true → fault ≡ None → after.finished ≡ ready
+  pub still : settles before action body fault ≡ false → after.finished ≡ before.finished
+  pub settled : action_counts action ≡ true → fault ≡ None → after.finished ≡ ready
   -- what the settle met; where it met nothing, all ready runs are finished
   pub met : Option StoreFault
   pub met_by_store : TextCounted rose met
-  pub all_ready : settles before errand body fault ≡ true → met ≡ None → IsReadyCount after.setup after.kept after.finished
+  pub all_ready : settles before action body fault ≡ true → met ≡ None → IsReadyCount after.setup after.kept after.finished
   -- only ready runs finish
   pub only_ready : IsReady before.setup before.kept before.finished → IsReady after.setup after.kept after.finished
 
 -- what a request does: no other than a POST with its whole body does anything
-abbrev pub Does : State → State → Option (Errand × List ℕ) → Option StoreFault → ℕ → Type 0 → Type 0
+abbrev pub Does : OfficeState → OfficeState → Option (Action × List ℕ) → Option StoreFault → ℕ → Type 0 → Type 0
 Does before after None fault ready rose = after ≡ before
 Does before after (Some post) fault ready rose = Moves before after post.0 post.1 fault ready rose
 
 -- a page was told
-pub record Tells (s : State) (page : Page) (answer : Answer) (rose : Type 0) : Type 0 where
+pub record Tells (s : OfficeState) (page : Page) (answer : Answer) (rose : Type 0) : Type 0 where
   -- what was met
   pub fault : Option StoreFault
   pub by_store : TextCounted rose fault
@@ -176,13 +176,13 @@ pub record Tells (s : State) (page : Page) (answer : Answer) (rose : Type 0) : T
   pub answer_is : answer ≡ by_fault fault (page_answer s ready page)
 
 -- a POST was done
-pub record Runs (before after : State) (errand : Errand) (body : List ℕ) (answer : Answer) (rose : Type 0) : Type 0 where
+pub record Runs (before after : OfficeState) (action : Action) (body : List ℕ) (answer : Answer) (rose : Type 0) : Type 0 where
   pub fault : Option StoreFault
   pub by_store : TextCounted rose fault
   pub ready : ℕ
-  pub counts : fault ≡ None → errand_counts errand ≡ true → IsReadyCount before.setup before.kept ready
-  pub answer_is : answer ≡ by_fault fault (errand_answer before ready errand body)
-  pub moves : Moves before after errand body fault ready rose
+  pub counts : fault ≡ None → action_counts action ≡ true → IsReadyCount before.setup before.kept ready
+  pub answer_is : answer ≡ by_fault fault (action_answer before ready action body)
+  pub moves : Moves before after action body fault ready rose
 
 -- all of a request has come, or the input has ended
 abbrev pub IsWhole : Asked → List ℕ → Option (List ℕ) → Type 0
@@ -192,7 +192,7 @@ IsWhole (asks.Post p) rest left = (p.length ≤ length rest) ⊎ IsAtEnd left
 
 -- A request was answered: the bytes after its head, of which the front had come before, the faults that were met, the
 -- answer, and what was done. Where the client waited, 100 Continue was written first; nothing else yet.
-pub record Answers (before after : State) (left left' written written' : Option (List ℕ)) (front : List ℕ) (asked : Asked) (answer : Answer) (rose : Type 0) : Type 0 where
+pub record Answers (before after : OfficeState) (left left' written written' : Option (List ℕ)) (front : List ℕ) (asked : Asked) (answer : Answer) (rose : Type 0) : Type 0 where
   pub more : List ℕ
   pub took : Consumes left left' more
   -- nothing more was read, or no more than the body
@@ -218,7 +218,7 @@ pub record IsAwaited (input : List ℕ) : Type 0 where
 
 -- The request couldn't be read, or the client that waits not be told to go on: nothing was delivered or settled. So many
 -- bytes were read at most. Nothing was written but a front of 100 Continue, and that only where what was read says that the client waits.
-pub record StopsBefore (before after : State) (left left' written written' : Option (List ℕ)) (most : ℕ) (waits : List ℕ → Type 0) : Type 0 where
+pub record StopsBefore (before after : OfficeState) (left left' written written' : Option (List ℕ)) (most : ℕ) (waits : List ℕ → Type 0) : Type 0 where
   pub same : after ≡ before
   pub input : List ℕ
   pub took : Consumes left left' input
@@ -226,7 +226,7 @@ pub record StopsBefore (before after : State) (left left' written written' : Opt
   pub wrote : Appends written written' [] ⊎ (waits input × AppendsFront written written' continue_bytes)
 
 -- THE EXCHANGE: these bytes are a request, and those its reply.
-pub record Exchange (before after : State) (left : Option (List ℕ)) (input bytes : List ℕ) (code : ℕ) (rose : Type 0) : Type 0 where
+pub record Exchange (before after : OfficeState) (left : Option (List ℕ)) (input bytes : List ℕ) (code : ℕ) (rose : Type 0) : Type 0 where
   pub head : RequestHead
   pub rest : List ℕ
   pub begins : BeginsWith input head rest
@@ -258,7 +258,7 @@ IsUnread left input refusal.LengthRequired = ⊥
 IsUnread left input refusal.TooLong = ⊥
 IsUnread left input refusal.Store = ⊥
 
-pub record Unread (before after : State) (left : Option (List ℕ)) (input bytes : List ℕ) (code : ℕ) : Type 0 where
+pub record Unread (before after : OfficeState) (left : Option (List ℕ)) (input bytes : List ℕ) (code : ℕ) : Type 0 where
   pub few : length input ≤ head_room
   pub refusal : Refusal
   pub cause : IsUnread left input refusal
@@ -267,11 +267,11 @@ pub record Unread (before after : State) (left : Option (List ℕ)) (input bytes
   pub code_is : code ≡ (refused refusal).code
 
 -- a request that is answered, or what is none
-abbrev pub IsServed : State → State → Option (List ℕ) → List ℕ → List ℕ → ℕ → Type 0 → Type 0
+abbrev pub IsServed : OfficeState → OfficeState → Option (List ℕ) → List ℕ → List ℕ → ℕ → Type 0 → Type 0
 IsServed before after left input bytes code rose = Exchange before after left input bytes code rose ⊎ Unread before after left input bytes code
 
 -- all of the reply was written
-pub record Replied (before after : State) (left left' written written' : Option (List ℕ)) (code : ℕ) (rose : Type 0) : Type 0 where
+pub record Replied (before after : OfficeState) (left left' written written' : Option (List ℕ)) (code : ℕ) (rose : Type 0) : Type 0 where
   pub input : List ℕ
   pub took : Consumes left left' input
   pub bytes : List ℕ
@@ -279,7 +279,7 @@ pub record Replied (before after : State) (left left' written written' : Option 
   pub wrote : Appends written written' bytes
 
 -- a front of it
-pub record RepliedFront (before after : State) (left left' written written' : Option (List ℕ)) (rose : Type 0) : Type 0 where
+pub record RepliedFront (before after : OfficeState) (left left' written written' : Option (List ℕ)) (rose : Type 0) : Type 0 where
   pub input : List ℕ
   pub took : Consumes left left' input
   pub bytes : List ℕ
@@ -288,31 +288,31 @@ pub record RepliedFront (before after : State) (left left' written written' : Op
   pub wrote : AppendsFront written written' bytes
 
 -- no byte came, and none was written
-pub record Silent (before after : State) (left left' written written' : Option (List ℕ)) : Type 0 where
+pub record Silent (before after : OfficeState) (left left' written written' : Option (List ℕ)) : Type 0 where
   pub took : Consumes left left' []
   pub at_end : IsAtEnd left'
   pub same : after ≡ before
   pub wrote : Appends written written' []
 
-abbrev pub Serves : State → State → Option (List ℕ) → Option (List ℕ) → Option (List ℕ) → Option (List ℕ) → Option ℕ → Type 0 → Type 0
+abbrev pub Serves : OfficeState → OfficeState → Option (List ℕ) → Option (List ℕ) → Option (List ℕ) → Option (List ℕ) → Option ℕ → Type 0 → Type 0
 Serves before after left left' written written' None rose = Silent before after left left' written written'
 Serves before after left left' written written' (Some code) rose = Replied before after left left' written written' code rose
 
 -- What a fault leaves. Where the reader failed nothing was delivered or settled; where the writer failed, a front of
 -- the due bytes was written, and where that was before the answer nothing was delivered or settled.
-abbrev pub StopsServe : State → State → Option (List ℕ) → Option (List ℕ) → Option (List ℕ) → Option (List ℕ) → ServeFault → Type 0 → Type 0
+abbrev pub StopsServe : OfficeState → OfficeState → Option (List ℕ) → Option (List ℕ) → Option (List ℕ) → Option (List ℕ) → ServeFault → Type 0 → Type 0
 StopsServe before after left left' written written' Read rose = StopsBefore before after left left' written written' (head_room + body_room) IsAwaited
 StopsServe before after left left' written written' Write rose = StopsBefore before after left left' written written' (head_room + body_room) IsAwaited ⊎ RepliedFront before after left left' written written' rose
 
 -- the same where these bytes have come, with a head in front: no public contract cites these two
-pub record ServesHead (before after : State) (left left' written written' : Option (List ℕ)) (seen : List ℕ) (code : ℕ) (rose : Type 0) : Type 0 where
+pub record ServesHead (before after : OfficeState) (left left' written written' : Option (List ℕ)) (seen : List ℕ) (code : ℕ) (rose : Type 0) : Type 0 where
   pub more : List ℕ
   pub took : Consumes left left' more
   pub bytes : List ℕ
   pub exchange : Exchange before after left' (seen ++ more) bytes code rose
   pub wrote : Appends written written' bytes
 
-pub record ServesFront (before after : State) (left left' written written' : Option (List ℕ)) (seen : List ℕ) (rose : Type 0) : Type 0 where
+pub record ServesFront (before after : OfficeState) (left left' written written' : Option (List ℕ)) (seen : List ℕ) (rose : Type 0) : Type 0 where
   pub more : List ℕ
   pub took : Consumes left left' more
   pub bytes : List ℕ
@@ -320,6 +320,6 @@ pub record ServesFront (before after : State) (left left' written written' : Opt
   pub exchange : Exchange before after left' (seen ++ more) bytes code rose
   pub wrote : AppendsFront written written' bytes
 
-abbrev pub StopsRequest : State → State → Option (List ℕ) → Option (List ℕ) → Option (List ℕ) → Option (List ℕ) → List ℕ → ServeFault → Type 0 → Type 0
+abbrev pub StopsRequest : OfficeState → OfficeState → Option (List ℕ) → Option (List ℕ) → Option (List ℕ) → Option (List ℕ) → List ℕ → ServeFault → Type 0 → Type 0
 StopsRequest before after left left' written written' seen Read rose = StopsBefore before after left left' written written' body_room (λ more. IsAwaited (seen ++ more))
 StopsRequest before after left left' written written' seen Write rose = StopsBefore before after left left' written written' body_room (λ more. IsAwaited (seen ++ more)) ⊎ ServesFront before after left left' written written' seen rose

@@ -5,27 +5,26 @@ ghost use Rattle.httparse.specs.Grammar.{RequestHead};
 ghost use Rattle.httparse.specs.Spans.{IsRequestAt};
 ghost use Rattle.httparse.specs.declared.spans.HeaderSpan.{HeaderSpan};
 ghost use Rattle.office_mail.specs.Counts.{HasRisen};
-ghost use Rattle.office_http.specs.Asked.{asked_of, body_size};
-ghost use Rattle.office_http.specs.Carried.{Asks, Carries, Holds, StoreRefused};
-ghost use Rattle.office_http.specs.Laws.{RunsStand};
-ghost use Rattle.office_http.specs.Reply.{continue_bytes, refused, reply_bytes, HasPlace};
-ghost use Rattle.office_http.specs.Request.{IsHeadAt, body_room, head_room};
+ghost use Rattle.office_requests.specs.Asked.{asked_of, body_size};
+ghost use Rattle.office_runs.specs.Preserves.{Asks, Preserves, Holds, StoreRefused};
+ghost use Rattle.office_runs.specs.Laws.{RunsStand};
+ghost use Rattle.office_requests.specs.Reply.{continue_bytes, refused, reply_bytes, HasPlace};
+ghost use Rattle.office_requests.specs.Request.{IsHeadAt, body_room, head_room};
 ghost use Rattle.office_http.specs.Serve.{refusal_for, status_answer, text_answer, report_answer, delivery_answer, waits_of, Tells, Does, Runs, Answers, StopsBefore, Serves, StopsRequest, StopsServe, ServesHead};
-ghost use Rattle.office_http.specs.State.{state_of};
-ghost use Rattle.office_http.specs.Written.{AppendsFront};
+ghost use Rattle.office_runs.specs.State.{state_of};
+ghost use Rattle.office_replies.specs.Written.{AppendsFront};
 
-use crate::faults::{DeliverFault, Held, Progress, StoreFault};
-use crate::head::{Ended, FIELD_ROOM, Filled, read_head, read_up_to};
-use crate::office::Office;
-use crate::replays::settle_behind;
-use crate::replies::WriteFault;
-use crate::reply::{Answer, Refusal, write_answer, write_continue};
-use crate::request::{Asked, Errand, Page, Posted, asked_of, is_head_method};
-use crate::routes::routes;
 use deb_control::Text;
 use httparse::spans::{EMPTY_HEADER_SPAN, HeaderSpan, RequestSpans};
-use office_mail::{Feed, MailFault, ReadFailed, Setup, Sink};
 use office_keeper::Keeper;
+use office_mail::{Feed, MailFault, ReadFailed, Setup, Sink};
+use office_replies::{DeliverFault, Held, Progress, StoreFault, WriteFault};
+use office_requests::routes::routes;
+use office_requests::{
+    Action, Answer, Asked, BodyRead, FIELD_ROOM, HeadRead, Page, Posted, Refusal, asked_of,
+    is_head_method, read_head, read_up_to, write_answer, write_continue,
+};
+use office_runs::{Office, settle_behind};
 use std::alloc::Global;
 use thiserror::Error;
 
@@ -130,9 +129,9 @@ fn tell<K: Keeper>(office: &mut Office<K>, page: Page) -> Answer
 
 /// Delivers a text, and settles where it is held. A fault of that settle doesn't change the answer.
 fn deliver<K: Keeper>(office: &mut Office<K>, text: &[u8]) -> Answer
-    ensures carries { Carries K.Keeper office.old office.new }
+    ensures carries { Preserves K.Keeper office.old office.new }
     ensures place { HasPlace (K.setup office.old) result }
-    ensures runs { Holds K.Keeper office.old office.new → Runs (state_of K.Keeper office.old) (state_of K.Keeper office.new) Errand.Deliver text.now result (StoreRefused K.Keeper office.old office.new) }
+    ensures runs { Holds K.Keeper office.old office.new → Runs (state_of K.Keeper office.old) (state_of K.Keeper office.new) Action.Deliver text.now result (StoreRefused K.Keeper office.old office.new) }
 {
     let reply = office.deliver(text);
     settle_behind(office, &reply);
@@ -140,22 +139,22 @@ fn deliver<K: Keeper>(office: &mut Office<K>, text: &[u8]) -> Answer
 }
 
 fn settle<K: Keeper>(office: &mut Office<K>, text: &[u8]) -> Answer
-    ensures carries { Carries K.Keeper office.old office.new }
+    ensures carries { Preserves K.Keeper office.old office.new }
     ensures place { HasPlace (K.setup office.old) result }
-    ensures runs { Holds K.Keeper office.old office.new → Runs (state_of K.Keeper office.old) (state_of K.Keeper office.new) Errand.Settle text.now result (StoreRefused K.Keeper office.old office.new) }
+    ensures runs { Holds K.Keeper office.old office.new → Runs (state_of K.Keeper office.old) (state_of K.Keeper office.new) Action.Settle text.now result (StoreRefused K.Keeper office.old office.new) }
 {
     status_answer(office.settle())
 }
 
 /// Does what a POST with this body asks for.
-fn run<K: Keeper>(office: &mut Office<K>, errand: Errand, body: &[u8]) -> Answer
-    ensures carries { Carries K.Keeper office.old office.new }
+fn run<K: Keeper>(office: &mut Office<K>, action: Action, body: &[u8]) -> Answer
+    ensures carries { Preserves K.Keeper office.old office.new }
     ensures place { HasPlace (K.setup office.old) result }
-    ensures runs { Holds K.Keeper office.old office.new → Runs (state_of K.Keeper office.old) (state_of K.Keeper office.new) errand body.now result (StoreRefused K.Keeper office.old office.new) }
+    ensures runs { Holds K.Keeper office.old office.new → Runs (state_of K.Keeper office.old) (state_of K.Keeper office.new) action body.now result (StoreRefused K.Keeper office.old office.new) }
 {
-    match errand {
-        Errand::Deliver => deliver(office, body),
-        Errand::Settle => settle(office, body),
+    match action {
+        Action::Deliver => deliver(office, body),
+        Action::Settle => settle(office, body),
     }
 }
 
@@ -169,7 +168,7 @@ fn answer_post<K: Keeper, R: Feed, W: Sink>(
     writer: &mut W,
 ) -> Result<Answer, ServeFault>
     requires { start ≤ length seen.old.items }
-    ensures carries { Carries K.Keeper office.old office.new }
+    ensures carries { Preserves K.Keeper office.old office.new }
     ensures place { IfOk result (λ answer. HasPlace (K.setup office.old) answer) }
     ensures ok { Holds K.Keeper office.old office.new → IfOk result (λ answer. Answers (state_of K.Keeper office.old) (state_of K.Keeper office.new) (R.left reader.old) (R.left reader.new) (W.written writer.old) (W.written writer.new) (drop start seen.old.items) (Asked.Post posted) answer (StoreRefused K.Keeper office.old office.new)) }
     ensures err { K.is_trusted office.new → OnErr result (StopsBefore (state_of K.Keeper office.old) (state_of K.Keeper office.new) (R.left reader.old) (R.left reader.new) (W.written writer.old) (W.written writer.new) posted.length (λ input. posted.waits ≡ true)) }
@@ -182,9 +181,9 @@ fn answer_post<K: Keeper, R: Feed, W: Sink>(
     write_continue(posted.waits, writer)?;
     let end = start + posted.length as usize;
     match read_up_to(reader, seen, end)? {
-        Filled::Whole => Ok(run(office, posted.errand, &seen[start..end])),
-        Filled::BrokenOff => Ok(Answer::Refused(Refusal::BadRequest)),
-        Filled::NoMemory => Ok(Answer::Refused(Refusal::NoMemory)),
+        BodyRead::Whole => Ok(run(office, posted.action, &seen[start..end])),
+        BodyRead::BrokenOff => Ok(Answer::Refused(Refusal::BadRequest)),
+        BodyRead::NoMemory => Ok(Answer::Refused(Refusal::NoMemory)),
     }
 }
 
@@ -216,7 +215,7 @@ fn answer_request<K: Keeper, R: Feed, W: Sink>(
 ) -> Result<Answer, ServeFault>
     requires start { start ≤ length seen.old.items }
     requires fits { IfSome asked (λ a. body_size a ≤ body_room) }
-    ensures carries { Carries K.Keeper office.old office.new }
+    ensures carries { Preserves K.Keeper office.old office.new }
     ensures place { IfOk result (λ answer. HasPlace (K.setup office.old) answer) }
     ensures ok { Holds K.Keeper office.old office.new → IfOk result (λ answer. (due : Asked) → IfSome asked (λ a. a ≡ due) → Answers (state_of K.Keeper office.old) (state_of K.Keeper office.new) (R.left reader.old) (R.left reader.new) (W.written writer.old) (W.written writer.new) (drop start seen.old.items) due answer (StoreRefused K.Keeper office.old office.new)) }
     ensures err { K.is_trusted office.new → OnErr result (StopsBefore (state_of K.Keeper office.old) (state_of K.Keeper office.new) (R.left reader.old) (R.left reader.new) (W.written writer.old) (W.written writer.new) body_room (λ input. (due : Asked) → IfSome asked (λ a. a ≡ due) → waits_of due ≡ true)) }
@@ -244,7 +243,7 @@ fn serve_request<K: Keeper, R: Feed, W: Sink>(
     writer: &mut W,
 ) -> Result<u16, ServeFault>
     requires { IsHeadAt seen.old.items headers.now spans }
-    ensures carries { Carries K.Keeper office.old office.new }
+    ensures carries { Preserves K.Keeper office.old office.new }
     ensures ok { Holds K.Keeper office.old office.new → IfOk result (λ code. ServesHead (state_of K.Keeper office.old) (state_of K.Keeper office.new) (R.left reader.old) (R.left reader.new) (W.written writer.old) (W.written writer.new) seen.old.items code (StoreRefused K.Keeper office.old office.new)) }
     ensures err { Holds K.Keeper office.old office.new → IfErr result (λ fault. StopsRequest (state_of K.Keeper office.old) (state_of K.Keeper office.new) (R.left reader.old) (R.left reader.new) (W.written writer.old) (W.written writer.new) seen.old.items fault (StoreRefused K.Keeper office.old office.new)) }
     ensures calls { R.calls reader.new ≤ R.calls reader.old + body_room }
@@ -277,7 +276,7 @@ fn serve_connection<K: Keeper, R: Feed, W: Sink>(
     reader: &mut R,
     writer: &mut W,
 ) -> Result<Served, ServeFault>
-    ensures carries { Carries K.Keeper office.old office.new }
+    ensures carries { Preserves K.Keeper office.old office.new }
     ensures ok { Holds K.Keeper office.old office.new → IfOk result (λ served. Serves (state_of K.Keeper office.old) (state_of K.Keeper office.new) (R.left reader.old) (R.left reader.new) (W.written writer.old) (W.written writer.new) served.code (StoreRefused K.Keeper office.old office.new)) }
     ensures err { Holds K.Keeper office.old office.new → IfErr result (λ fault. StopsServe (state_of K.Keeper office.old) (state_of K.Keeper office.new) (R.left reader.old) (R.left reader.new) (W.written writer.old) (W.written writer.new) fault (StoreRefused K.Keeper office.old office.new)) }
     ensures calls { R.calls reader.new ≤ R.calls reader.old + (head_room + body_room) }
@@ -289,14 +288,14 @@ fn serve_connection<K: Keeper, R: Feed, W: Sink>(
     let mut headers = [EMPTY_HEADER_SPAN; FIELD_ROOM];
     let mut seen = Vec::new(office.alloc());
     match read_head(reader, &mut seen, &mut headers)? {
-        Ended::Nothing => Ok(Served { code: None }),
-        Ended::Head(spans) => {
+        HeadRead::Nothing => Ok(Served { code: None }),
+        HeadRead::Head(spans) => {
             let code = serve_request(office, &mut seen, spans, &headers, reader, writer)?;
             Ok(Served { code: Some(code) })
         }
-        Ended::HeadTooLarge => refuse(office.setup(), Refusal::HeadTooLarge, writer),
-        Ended::BadRequest => refuse(office.setup(), Refusal::BadRequest, writer),
-        Ended::NoMemory => refuse(office.setup(), Refusal::NoMemory, writer),
+        HeadRead::HeadTooLarge => refuse(office.setup(), Refusal::HeadTooLarge, writer),
+        HeadRead::BadRequest => refuse(office.setup(), Refusal::BadRequest, writer),
+        HeadRead::NoMemory => refuse(office.setup(), Refusal::NoMemory, writer),
     }
 }
 
@@ -312,7 +311,7 @@ pub fn serve_one<K: Keeper, R: Feed, W: Sink>(
     writer: &mut W,
 ) -> Result<Served, ServeFault>
     // A store that is trusted was so before, and holds an office's state as before.
-    ensures carries { Carries K.Keeper office.old office.new }
+    ensures carries { Preserves K.Keeper office.old office.new }
     // The reply is a function of the request, of the office's state and of the faults that were met; a fault of the store
     // is told only where that counted a refusal.
     ensures ok { Holds K.Keeper office.old office.new → IfOk result (λ served. Serves (state_of K.Keeper office.old) (state_of K.Keeper office.new) (R.left reader.old) (R.left reader.new) (W.written writer.old) (W.written writer.new) served.code (StoreRefused K.Keeper office.old office.new)) }

@@ -1,6 +1,6 @@
-use Rattle.office_http.specs.Carried.{StoreRefused}
-use Rattle.office_http.specs.State.{state_of}
-use Rattle.office_http.proofs.CarryFacts.{risen}
+use Rattle.office_runs.specs.Preserves.{StoreRefused}
+use Rattle.office_runs.specs.State.{state_of}
+use Rattle.office_runs.proofs.CarryFacts.{risen}
 use Rattle.office_http.proofs.ServeFacts.{settled, place_status}
 use Rattle.office_http.proofs.serve.settle.Goals as goal
 

@@ -1,6 +1,6 @@
-use Rattle.office_http.specs.Carried.{StoreRefused}
-use Rattle.office_http.specs.State.{state_of}
-use Rattle.office_http.proofs.CarryFacts.{risen}
+use Rattle.office_runs.specs.Preserves.{StoreRefused}
+use Rattle.office_runs.specs.State.{state_of}
+use Rattle.office_runs.proofs.CarryFacts.{risen}
 use Rattle.office_http.proofs.ServeFacts.{told_status, told_testing, told_excuses, told_update, place_status, place_text, place_report}
 use Rattle.office_http.proofs.serve.tell.Goals as goal
 

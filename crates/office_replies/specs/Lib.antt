@@ -1,0 +1,3 @@
+pub mod Counted
+pub mod Replies
+pub mod Written

@@ -1,0 +1,4 @@
+pub mod Asked
+pub mod Reply
+pub mod Request
+pub mod Routes

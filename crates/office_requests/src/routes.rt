@@ -1,0 +1,42 @@
+//! Where requests go.
+ghost use Rattle.std.specs.Prelude.{◌≡◌, IfOk};
+ghost use Rattle.office_requests.specs.Routes.{office_routes, route_of};
+
+use matchit::{InsertError, Router};
+use std::alloc::Global;
+
+/// What a path stands for.
+#[derive(Clone, Copy, Debug, PartialEq, Eq)]
+pub enum Route {
+    Mail,
+    Settle,
+    Status,
+    Testing,
+    Excuses,
+    Update,
+}
+
+/// The table of routes.
+pub fn routes(alloc: Global) -> Result<Router<Route>, InsertError>
+    ensures { IfOk result (λ router. router ≡ office_routes) }
+{
+    let mut router = Router::new(alloc);
+    router.insert("/mail", Route::Mail)?;
+    router.insert("/settle", Route::Settle)?;
+    router.insert("/status", Route::Status)?;
+    router.insert("/testing", Route::Testing)?;
+    router.insert("/excuses/{run}", Route::Excuses)?;
+    router.insert("/update/{run}", Route::Update)?;
+    Ok(router)
+}
+
+/// The route of a path, none of a path that isn't in the table.
+pub fn find_route(router: &Router<Route>, path: &str) -> Option<Route>
+    requires { router.now ≡ office_routes }
+    ensures { result ≡ route_of path.now }
+{
+    match router.at(path) {
+        Ok(found) => Some(*found.value),
+        Err(_) => None,
+    }
+}

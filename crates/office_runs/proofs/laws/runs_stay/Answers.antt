@@ -1,0 +1,12 @@
+use Rattle.office_runs.proofs.LawFacts.{runs_stand}
+use Rattle.office_runs.proofs.OfficeFacts.{outcome_of-later, reports_to-later}
+use Rattle.office_runs.proofs.laws.runs_stay.Goals as goal
+
+pub returns-clause-outcome : goal.returns-clause-outcome
+returns-clause-outcome c = outcome_of-later
+
+pub returns-clause-reports : goal.returns-clause-reports
+returns-clause-reports c = reports_to-later
+
+pub returns-clause-office : goal.returns-clause-office
+returns-clause-office c = runs_stand

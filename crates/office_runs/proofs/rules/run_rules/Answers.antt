@@ -1,0 +1,45 @@
+use Rattle.std.proofs.Common.{◌≡◌, ℕ, List, sym, ap, subst, ◌∙◌}
+use Rattle.testing_rules.specs.Suite.{Suite}
+use Rattle.testing_rules.specs.Excuses.{excuses_of}
+use Rattle.testing_rules.specs.Updates.{IsUpdate}
+use Rattle.testing_rules.specs.Reports.{excuses_text, update_text}
+use Rattle.office_keeper.specs.declared.values.Finished.{Finished}
+use Rattle.testing_rules.specs.Given.{IsGivenBy}
+use Rattle.office_runs.proofs.RunFacts.{reported_is}
+use Rattle.office_runs.proofs.rules.run_rules.Goals as goal
+
+abbrev left : List ℕ → List ℕ → Suite → Finished
+left excuses updates testing = record { testing = testing; excuses = excuses; updates = updates }
+
+pub returns-clause-ok : goal.returns-clause-ok
+returns-clause-ok c = λ s stands.
+    let setup = c.args.setup.now in
+    let run = c.args.run in
+    let date = c.args.date in
+    let t = c.args.testing in
+    let archs = c.archs-archs.result.now in
+    let es = c.in_ok-excuses.excuses in
+    let ds = c.in_ok-update.update in
+    let new = c.migrate.new.testing in
+    let same = c.archs-archs.ensures.same in
+    let made = c.in_ok-excuses.ensures s stands in
+    let moved : IsUpdate archs s es t ds new = c.in_ok-update.ensures.ok s date stands made in
+    ap (λ (x : List ℕ). left x c.from_string-2.result new) (c.from_string.ensures ∙ c.in_ok-excuses-2.ensures ∙ ap (λ (a : List (List ℕ)). excuses_text a run date es) same)
+    ∙ ap (λ (x : List ℕ). left (excuses_text setup.archs run date es) x new) (c.from_string-2.ensures ∙ c.in_ok-updates.ensures ∙ ap (λ (a : List (List ℕ)). update_text a run date ds) same)
+    ∙ reported_is setup run date s t new es ds
+    (subst (λ (a : List (List ℕ)). es ≡ excuses_of a s t date) same made)
+    (subst (λ (a : List (List ℕ)). IsUpdate a s es t ds new) same moved)
+
+pub returns-clause-given : goal.returns-clause-given
+returns-clause-given c = λ s stands.
+    let setup = c.args.setup.now in
+    let date = c.args.date in
+    let t = c.args.testing in
+    let archs = c.archs-archs.result.now in
+    let es = c.in_ok-excuses.excuses in
+    let ds = c.in_ok-update.update in
+    let new = c.migrate.new.testing in
+    let same = c.archs-archs.ensures.same in
+    let made = c.in_ok-excuses.ensures s stands in
+    let moved : IsUpdate archs s es t ds new = c.in_ok-update.ensures.ok s date stands made in
+    subst (λ (a : List (List ℕ)). IsGivenBy a s t new) same (subst (λ (x : Suite). IsGivenBy archs s t x) (sym moved.1) (c.gives_update.ensures s es t))

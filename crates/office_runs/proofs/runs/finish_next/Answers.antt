@@ -1,0 +1,144 @@
+use Rattle.std.proofs.Common.{◌≡◌, ◌+◌, List, Option, IfSome, length, sym, ap, subst, ◌∙◌, arith}
+use Rattle.std.specs.FinMap.{get}
+use Rattle.std.proofs.lemmas.List.{length_push}
+use Rattle.office_mail.specs.declared.message.RunOrder.{RunOrder}
+use Rattle.office_mail.specs.Kept.{Kept}
+use Rattle.office_mail.specs.Lists.{Lists}
+use Rattle.office_mail.specs.Runs.{IsReady}
+use Rattle.office_keeper.specs.Content.{Content, with_run}
+use Rattle.office_keeper.specs.Given.{AreOwnTexts, IsGiven}
+use Rattle.office_runs.specs.declared.covered.KnownFacts.{KnownFacts}
+use Rattle.office_runs.specs.Known.{FactsStand}
+use Rattle.office_runs.specs.Outcome.{outcome_of}
+use Rattle.office_runs.specs.Ready.{FirstOrders, HasEach}
+use Rattle.office_runs.specs.State.{IsOffice}
+use Rattle.office_runs.proofs.CountFacts.{IsCounted-later}
+use Rattle.office_runs.proofs.FinishFacts.{IsOffice-finished}
+use Rattle.office_runs.proofs.TakenFacts.{if_known-counted, if_stand}
+use Rattle.office_runs.proofs.runs.finish_next.Goals as goal
+
+pub returns-clause-office : goal.returns-clause-office
+returns-clause-office g c = λ trusted legible office.
+    let setup = c.args.setup.now in
+    let trust = g.K.Keeper.is_trusted in
+    let content = g.K.Keeper.content in
+    let old : Content = content c.args.keeper.now in
+    let mid : Content = content c.next_is_ready.new.keeper in
+    let late : Content = content c.next_outcome.new.keeper in
+    let new : Content = content c.finish.new.keeper in
+    let at3 = c.in_ok-finish.ensures in
+    let t2 = at3.before trusted in
+    let at2 = c.in_ok-done.ensures in
+    let t1 = at2.looks.before t2 in
+    let at1 = c.in_ok-next_is_ready.ensures in
+    let t0 = at1.looks.before t1 in
+    let same1 : mid ≡ old = at1.looks.same t1 in
+    let same2 : late ≡ old = at2.looks.same t2 ∙ same1 in
+    let n = length old.reports in
+    let finished : c.args.finished ≡ n = c.requires.finished t0 in
+    let orders : List RunOrder = c.next_is_ready.new.orders.items in
+    let known = at1.known t1 in
+    let size : length orders ≡ n + 1 = omega (arith, known.next, at1.there c.if-not-branch.false, finished) in
+    let ready : IsReady setup old.kept (n + 1) = subst (λ k. IsReady setup old.kept (k + 1)) finished ((at1.ready t1 office).0 c.if-not-branch.false) in
+    let there : IsOffice setup mid = subst (IsOffice setup) (sym same1) office in
+    let legible2 = at2.looks.legible t2 (at1.looks.legible t1 legible) in
+    let lists : g.K.Keeper.setup c.next_outcome.new.keeper ≡ setup = at2.looks.setup ∙ at1.looks.setup ∙ c.requires.lists in
+    let own : AreOwnTexts (g.K.Keeper.setup c.next_outcome.new.keeper) late.kept = subst (λ (u : Lists). AreOwnTexts u late.kept) (sym lists) (subst (λ (m : Content). AreOwnTexts setup m.kept) (sym same2) office.texts) in
+    let next : new ≡ with_run old c.in_ok-done.done = at3.done trusted legible2 own ∙ ap (λ (m : Content). with_run m c.in_ok-done.done) same2 in
+    let given : List RunOrder = c.deref.result.now in
+    let first : FirstOrders setup mid.kept given = subst (FirstOrders setup mid.kept) (sym c.deref.ensures.value) (subst (λ (m : Content). FirstOrders setup m.kept orders) (sym same1) known.first) in
+    let whole : length given ≡ length mid.reports + 1 = ap length c.deref.ensures.value ∙ size ∙ ap (λ (m : Content). length m.reports + 1) (sym same1) in
+    let run : c.args.finished + 1 ≡ length mid.reports + 1 = ap (λ k. k + 1) finished ∙ ap (λ (m : Content). length m.reports + 1) (sym same1) in
+    let is : c.in_ok-done.done ≡ outcome_of setup old.kept (n + 1) =
+    at2.outcome t2 there first whole run ∙ ap (λ (m : Content). outcome_of setup m.kept (c.args.finished + 1)) same1 ∙ ap (λ k. outcome_of setup old.kept (k + 1)) finished in
+    let works = at2.watched t2 there.watched in
+    IsOffice-finished setup old new c.in_ok-done.done office ready next is works
+
+pub returns-clause-legible : goal.returns-clause-legible
+returns-clause-legible g c = λ trusted legible office.
+    let setup = c.args.setup.now in
+    let content = g.K.Keeper.content in
+    let old : Content = content c.args.keeper.now in
+    let mid : Content = content c.next_is_ready.new.keeper in
+    let late : Content = content c.next_outcome.new.keeper in
+    let at3 = c.in_ok-finish.ensures in
+    let t2 = at3.before trusted in
+    let at2 = c.in_ok-done.ensures in
+    let t1 = at2.looks.before t2 in
+    let at1 = c.in_ok-next_is_ready.ensures in
+    let same : late ≡ old = at2.looks.same t2 ∙ at1.looks.same t1 in
+    let lists : g.K.Keeper.setup c.next_outcome.new.keeper ≡ setup = at2.looks.setup ∙ at1.looks.setup ∙ c.requires.lists in
+    let own : AreOwnTexts (g.K.Keeper.setup c.next_outcome.new.keeper) late.kept = subst (λ (u : Lists). AreOwnTexts u late.kept) (sym lists) (subst (λ (m : Content). AreOwnTexts setup m.kept) (sym same) office.texts) in
+    at3.legible trusted (at2.looks.legible t2 (at1.looks.legible t1 legible)) own
+
+pub next_outcome-requires-clause-known : goal.next_outcome-requires-clause-known
+next_outcome-requires-clause-known g c = λ trusted.
+    let setup = c.args.setup.now in
+    let content = g.K.Keeper.content in
+    let before : Option KnownFacts = c.args.known.now in
+    let at1 = c.in_ok-next_is_ready.ensures in
+    let was = if_stand setup (content c.args.keeper.now).kept before (c.requires.facts (at1.looks.before trusted)) in
+    subst (λ (o : Option KnownFacts). IfSome o (λ known. FactsStand setup (content c.next_is_ready.new.keeper).kept known)) (sym c.take.ensures.value)
+    (subst (λ (m : Content). IfSome before (λ known. FactsStand setup m.kept known)) (sym (at1.looks.same trusted)) was)
+
+pub finish-requires-clause-given : goal.finish-requires-clause-given
+finish-requires-clause-given g c = λ trusted legible own.
+    let setup = c.args.setup.now in
+    let content = g.K.Keeper.content in
+    let mid : Content = content c.next_is_ready.new.keeper in
+    let late : Content = content c.next_outcome.new.keeper in
+    let at1 = c.in_ok-next_is_ready.ensures in
+    let at2 = c.in_ok-done.ensures in
+    let same : late ≡ mid = at2.looks.same trusted in
+    let lists : g.K.Keeper.setup c.next_outcome.new.keeper ≡ setup = at2.looks.setup ∙ at1.looks.setup ∙ c.requires.lists in
+    let texts : AreOwnTexts setup mid.kept = subst (λ (m : Content). AreOwnTexts setup m.kept) same (subst (λ (u : Lists). AreOwnTexts u late.kept) lists own) in
+    let testing = c.in_ok-done.done.testing in
+    subst (λ (u : Lists). IsGiven u late testing) (sym lists) (subst (λ (m : Content). IsGiven setup m testing) (sym same) (at2.given trusted texts))
+
+pub returns-clause-known : goal.returns-clause-known
+returns-clause-known g c = λ trusted.
+    let content = g.K.Keeper.content in
+    let old : Content = content c.args.keeper.now in
+    let late : Content = content c.next_outcome.new.keeper in
+    let new : Content = content c.finish.new.keeper in
+    let at3 = c.in_ok-finish.ensures in
+    let t2 = at3.before trusted in
+    let at2 = c.in_ok-done.ensures in
+    let t1 = at2.looks.before t2 in
+    let at1 = c.in_ok-next_is_ready.ensures in
+    let same : late ≡ old = at2.looks.same t2 ∙ at1.looks.same t1 in
+    let kept : new.kept ≡ old.kept = at3.mail trusted ∙ ap (λ (m : Content). m.kept) same in
+    let more = ap length (at3.reports trusted) ∙ length_push late.reports _ in
+    IsCounted-later c.args.setup.now old new c.next_is_ready.new.counts.items c.next_is_ready.new.orders.items (λ p some. ap (λ (k : Kept). get k p) kept)
+    (omega (arith, more, ap (λ (m : Content). length m.reports) same)) (at1.known t1)
+
+pub returns-clause-facts : goal.returns-clause-facts
+returns-clause-facts g c = λ trusted.
+    let setup = c.args.setup.now in
+    let content = g.K.Keeper.content in
+    let old : Content = content c.args.keeper.now in
+    let mid : Content = content c.next_is_ready.new.keeper in
+    let late : Content = content c.next_outcome.new.keeper in
+    let new : Content = content c.finish.new.keeper in
+    let at3 = c.in_ok-finish.ensures in
+    let t2 = at3.before trusted in
+    let at2 = c.in_ok-done.ensures in
+    let t1 = at2.looks.before t2 in
+    let at1 = c.in_ok-next_is_ready.ensures in
+    let kept : new.kept ≡ mid.kept = at3.mail trusted ∙ ap (λ (m : Content). m.kept) (at2.looks.same t2) in
+    let was : new.kept ≡ old.kept = kept ∙ ap (λ (m : Content). m.kept) (at1.looks.same t1) in
+    let numbers : HasEach new.kept c.deref-2.result.now = subst (HasEach new.kept) (sym c.deref-2.ensures.value) (subst (λ (k : Kept). HasEach k c.next_is_ready.new.counts.items) (sym was) (at1.known t1).numbers) in
+    if_known-counted setup new.kept c.deref-2.result.now c.in_ok-done.facts c.counted.result
+    (subst (λ (k : Kept). FactsStand setup k c.in_ok-done.facts) (sym kept) (at2.facts t2)) numbers c.counted.ensures.same c.counted.ensures.within
+
+pub returns-clause-reports : goal.returns-clause-reports
+returns-clause-reports g c = λ trusted.
+    let content = g.K.Keeper.content in
+    let late : Content = content c.next_outcome.new.keeper in
+    let at3 = c.in_ok-finish.ensures in
+    let t2 = at3.before trusted in
+    let at2 = c.in_ok-done.ensures in
+    let t1 = at2.looks.before t2 in
+    let at1 = c.in_ok-next_is_ready.ensures in
+    let same = ap (λ (m : Content). length m.reports) (at2.looks.same t2 ∙ at1.looks.same t1) in
+    omega (arith, ap length (at3.reports trusted) ∙ length_push late.reports _, same, c.requires.finished (at1.looks.before t1))

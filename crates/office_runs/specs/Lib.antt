@@ -1,0 +1,15 @@
+pub mod Preserves
+pub mod Delivered
+pub mod Ending
+pub mod Known
+pub mod StaysTrusted
+pub mod Laws
+pub mod ReadsStore
+pub mod Losses
+pub mod Outcome
+pub mod Output
+pub mod Ready
+pub mod Replay
+pub mod OfficeState
+pub mod State
+pub mod Walk

@@ -1,0 +1,35 @@
+//! What is true of every store, and of every office whatever mail comes and in whatever order.
+ghost use Rattle.std.specs.Prelude.{◌≡◌, ◌≤◌, ℕ, List, length};
+ghost use Rattle.office_mail.specs.Kept.{Kept, Within};
+ghost use Rattle.office_mail.specs.Laws.{SameTexts};
+ghost use Rattle.office_mail.specs.Lists.{Lists};
+ghost use Rattle.office_mail.specs.Runs.{IsReady, IsReadyCount};
+ghost use Rattle.office_keeper.specs.Content.{Content, item_from_one, no_content};
+ghost use Rattle.office_runs.specs.Laws.{RunsStand, TookTexts};
+ghost use Rattle.office_runs.specs.Outcome.{outcome_of, reports_to};
+ghost use Rattle.office_runs.specs.State.{IsOffice, IsSound};
+
+use office_keeper::Keeper;
+
+/// An office begins with a store that keeps nothing.
+pub fn empty_is_sound<K: Keeper>()
+    ensures { (store : K) → K.is_legible store → K.content store ≡ no_content → IsSound K.Keeper store }
+{}
+
+/// The headline: of two offices to which the same well-formed texts came, in any order and with any repeats,
+/// and no sender gave one number two texts, each run that both have finished has the same two reports.
+pub fn headline()
+    ensures each { (setup : Lists) (xs ys : List (List ℕ)) (a b : Content) (k : ℕ) → TookTexts setup xs a → TookTexts setup ys b → SameTexts setup xs ys → k ≤ length a.reports → k ≤ length b.reports → item_from_one k a.reports ≡ item_from_one k b.reports }
+    // Where as many runs are finished in both, all reports are the same, and so is testing.
+    ensures same { (setup : Lists) (xs ys : List (List ℕ)) (a b : Content) → TookTexts setup xs a → TookTexts setup ys b → SameTexts setup xs ys → length a.reports ≡ length b.reports → (a.reports ≡ b.reports) × (a.testing ≡ b.testing) }
+    // Offices that have finished all ready runs, as one does that has settled, have finished as many.
+    ensures settled { (setup : Lists) (xs ys : List (List ℕ)) (a b : Content) → TookTexts setup xs a → TookTexts setup ys b → SameTexts setup xs ys → IsReadyCount setup a.kept (length a.reports) → IsReadyCount setup b.kept (length b.reports) → (a.reports ≡ b.reports) × (a.testing ≡ b.testing) }
+{}
+
+/// Later mail changes nothing of a run that is ready: neither its reports nor the testing that it leaves.
+pub fn runs_stay()
+    ensures outcome { (setup : Lists) (small large : Kept) (k : ℕ) → Within small large → IsReady setup small k → outcome_of setup large k ≡ outcome_of setup small k }
+    ensures reports { (setup : Lists) (small large : Kept) (k : ℕ) → Within small large → IsReady setup small k → reports_to setup large k ≡ reports_to setup small k }
+    // So an office that went on, with more mail and more runs, has the reports that it had, and the same testing unless it finished a run.
+    ensures office { (setup : Lists) (old new : Content) → IsOffice setup old → IsOffice setup new → Within old.kept new.kept → length old.reports ≤ length new.reports → RunsStand old new }
+{}

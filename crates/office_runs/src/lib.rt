@@ -1,0 +1,17 @@
+//! The office: it keeps mail on the sources of unstable, finishes runs of the migration to testing
+//! (Debian Developer's Reference 5.13) as their mail is there, and replays bags of mail.
+#![tactic(auto)]
+
+mod covered;
+mod ending;
+pub mod laws;
+mod office;
+mod orders;
+mod posting;
+mod replays;
+mod rules;
+mod runs;
+mod stored;
+
+pub use office::Office;
+pub use replays::{Replayed, replay, replay_status, settle_behind};

@@ -1,0 +1,266 @@
+//! The office: what it takes, finishes and reports.
+#![tactic(auto, using(crate::proofs::LastFacts::lasting))]
+
+ghost use Rattle.std.specs.Prelude.{is_ok, ◌≡◌, ℕ, ◌≤◌, ◌<◌, ◌∷◌, [], IfOk, OnOk, OnErr, length};
+ghost use Rattle.std.specs.Option.{option_map};
+ghost use Rattle.testing_rules.specs.Watched.{AllWatchedWork};
+ghost use Rattle.office_mail.specs.Kept.{kept_from};
+ghost use Rattle.office_mail.specs.Runs.{IsReady, IsReadyCount};
+ghost use Rattle.office_keeper.specs.Given.{AreOwnTexts};
+ghost use Rattle.office_replies.specs.Counted.{Counted, CountedDelivery};
+ghost use Rattle.office_runs.specs.StaysTrusted.{StaysTrusted};
+ghost use Rattle.office_runs.specs.Outcome.{testing_after, testing_text};
+ghost use Rattle.office_runs.specs.State.{IsSound, state_of, answer_to, AnswersDelivery, reports_at};
+
+use crate::covered::KnownFacts;
+use crate::posting::deliver;
+use crate::runs::{ready_count, settle};
+use crate::stored;
+use deb_control::{NoMemory, Text};
+use office_keeper::{Keeper, Reports};
+use office_mail::{RunOrder, Setup};
+use office_replies::{DeliverFault, Held, Progress, StoreFault};
+use std::alloc::Global;
+use std::marker::Model;
+use testing_rules::Testing;
+
+/// An office over a store, of which its contracts speak. Beside it stand for each sender how many numbers are known to be
+/// kept, the run orders that were read, and the facts of the mail that the last run covered.
+#[derive(Drop)]
+pub struct Office<K: Keeper> {
+    alloc: Global,
+    setup: Setup,
+    keeper: K,
+    counts: Vec<u32>,
+    orders: Vec<RunOrder>,
+    known: Option<KnownFacts>,
+}
+
+impl<K: Keeper> Model for Office<K> {
+    ghost use Rattle.std.specs.Prelude.{◌≡◌, IfSome};
+    ghost use Rattle.office_runs.specs.Known.{AreKnown};
+    ghost use Rattle.office_runs.specs.Ready.{IsCounted};
+
+    ghost Value = { K };
+
+    ghost view = { λ a. a.keeper };
+
+    ghost invariant = { λ a. (K.setup a.keeper ≡ a.setup)
+        × (K.is_trusted a.keeper → IsCounted a.setup (K.content a.keeper) a.counts.items a.orders.items)
+        × (K.is_trusted a.keeper → IfSome a.known (λ known. AreKnown a.setup (K.content a.keeper).kept known)) };
+}
+
+impl<K: Keeper> Office<K> {
+    /// An office with this setup, over a store that was made for its lists. It takes no memory.
+    pub fn new(alloc: Global, setup: Setup, keeper: K) -> Office<K>
+        requires lists { K.setup keeper ≡ setup }
+        ensures { result ≡ keeper }
+    {
+        Office {
+            alloc,
+            setup,
+            keeper,
+            counts: Vec::new(alloc),
+            orders: Vec::new(alloc),
+            known: None,
+        }
+    }
+
+    /// The store, unchanged.
+    pub fn into_keeper(self) -> K
+        ensures { result ≡ self }
+    {
+        let Office {
+            alloc: _,
+            setup: _,
+            keeper,
+            counts: _,
+            orders: _,
+            known: _,
+        } = self;
+        keeper
+    }
+
+    /// The setup.
+    pub fn setup(&self) -> &Setup
+        ensures setup { result.now ≡ K.setup self.now }
+        ensures own_texts { IsSound K.Keeper self.now → AreOwnTexts (K.setup self.now) (K.content self.now).kept }
+    {
+        &self.setup
+    }
+
+    pub fn alloc(&self) -> Global {
+        self.alloc
+    }
+
+    /// How many runs are finished.
+    pub(crate) fn finished(&mut self) -> Result<u32, StoreFault>
+        ensures finished { K.is_trusted self.new → IsSound K.Keeper self.old → IfOk result (λ n. n ≡ (state_of K.Keeper self.old).finished) }
+        ensures ready { K.is_trusted self.new → IsSound K.Keeper self.old → IsReady (K.setup self.old) (K.content self.old).kept (state_of K.Keeper self.old).finished }
+        ensures same { K.is_trusted self.new → K.content self.new ≡ K.content self.old }
+        ensures setup { K.setup self.new ≡ K.setup self.old }
+        ensures sound { K.is_trusted self.new → IsSound K.Keeper self.old → IsSound K.Keeper self.new }
+        ensures before { K.is_trusted self.new → K.is_trusted self.old }
+        ensures lasts { StaysTrusted K.Keeper self.old self.new (is_ok result) }
+        ensures counted { Counted (K.refusals self.old) (K.refusals self.new) result }
+    {
+        stored::finished(&mut self.keeper)
+    }
+
+    /// Takes a text, and keeps it where it is a message and its sender's number is free. The kept
+    /// text again has the same answer and changes nothing.
+    ///
+    /// Refused is a text that is no message, for the first cause that applies, and with `OtherText` a
+    /// message under whose sender and number another text is kept. Neither takes a number, and nothing
+    /// changes, also where memory runs out or the store fails.
+    pub fn deliver(&mut self, text: &[u8]) -> Result<Held, DeliverFault>
+        // The answer is a function of the text and of what is kept, unless memory ran out or the store failed.
+        ensures answer { K.is_trusted self.new → IsSound K.Keeper self.old → AnswersDelivery result (answer_to (K.setup self.old) (K.content self.old).kept text.now) }
+        ensures kept { K.is_trusted self.new → IsSound K.Keeper self.old → OnOk result ((K.content self.new).kept ≡ kept_from (K.setup self.old) (K.content self.old).kept (text.now ∷ [])) }
+        ensures finished { K.is_trusted self.new → IsSound K.Keeper self.old → (state_of K.Keeper self.new).finished ≡ (state_of K.Keeper self.old).finished }
+        // No delivery changes testing or a report.
+        ensures testing { K.is_trusted self.new → IsSound K.Keeper self.old → (K.content self.new).testing ≡ (K.content self.old).testing }
+        ensures reports { K.is_trusted self.new → IsSound K.Keeper self.old → (K.content self.new).reports ≡ (K.content self.old).reports }
+        ensures err { K.is_trusted self.new → IsSound K.Keeper self.old → OnErr result (K.content self.new ≡ K.content self.old) }
+        ensures setup { K.setup self.new ≡ K.setup self.old }
+        ensures place { IfOk result (λ held. held.sender < length (K.setup self.old).senders) }
+        ensures sound { K.is_trusted self.new → IsSound K.Keeper self.old → IsSound K.Keeper self.new }
+        ensures before { K.is_trusted self.new → K.is_trusted self.old }
+        ensures lasts { StaysTrusted K.Keeper self.old self.new (is_ok result) }
+        ensures counted { CountedDelivery (K.refusals self.old) (K.refusals self.new) result }
+    {
+        deliver(self.alloc, &self.setup, &mut self.keeper, text)
+    }
+
+    /// Finishes the runs that are ready, in order. `Ok` means that none is left. It fails for want of
+    /// memory or of the store alone.
+    pub fn settle(&mut self) -> Result<Progress, StoreFault>
+        ensures ready { K.is_trusted self.new → IsSound K.Keeper self.old → IfOk result (λ progress. IsReadyCount (K.setup self.old) (K.content self.old).kept progress.ready) }
+        ensures finished { K.is_trusted self.new → IsSound K.Keeper self.old → IfOk result (λ progress. (progress.finished ≡ progress.ready) × ((state_of K.Keeper self.new).finished ≡ progress.ready)) }
+
+        // On a fault some of the ready runs, the first ones, may have finished.
+        ensures kept { K.is_trusted self.new → IsSound K.Keeper self.old → (K.content self.new).kept ≡ (K.content self.old).kept }
+        ensures grows { K.is_trusted self.new → IsSound K.Keeper self.old → (state_of K.Keeper self.old).finished ≤ (state_of K.Keeper self.new).finished }
+        ensures only_ready { K.is_trusted self.new → IsSound K.Keeper self.old → IsReady (K.setup self.old) (K.content self.old).kept (state_of K.Keeper self.new).finished }
+        // In every state all watched rows of testing are installable.
+        ensures watched { K.is_trusted self.new → IsSound K.Keeper self.old → AllWatchedWork (K.setup self.new).archs (testing_after (K.setup self.new) (K.content self.new).kept (state_of K.Keeper self.new).finished).rows }
+        ensures setup { K.setup self.new ≡ K.setup self.old }
+        ensures sound { K.is_trusted self.new → IsSound K.Keeper self.old → IsSound K.Keeper self.new }
+        ensures before { K.is_trusted self.new → K.is_trusted self.old }
+        ensures lasts { StaysTrusted K.Keeper self.old self.new (is_ok result) }
+        ensures counted { Counted (K.refusals self.old) (K.refusals self.new) result }
+    {
+        let finished = settle(
+            self.alloc,
+            &self.setup,
+            &mut self.keeper,
+            &mut self.counts,
+            &mut self.orders,
+            &mut self.known,
+        )?;
+        Ok(Progress {
+            ready: finished,
+            finished,
+        })
+    }
+
+    /// How many runs are ready, and how many are finished. It fails for want of memory or of the store alone.
+    pub fn status(&mut self) -> Result<Progress, StoreFault>
+        ensures ready { K.is_trusted self.new → IsSound K.Keeper self.old → IfOk result (λ progress. IsReadyCount (K.setup self.old) (K.content self.old).kept progress.ready) }
+        ensures finished { K.is_trusted self.new → IsSound K.Keeper self.old → IfOk result (λ progress. progress.finished ≡ (state_of K.Keeper self.old).finished) }
+        ensures same { K.is_trusted self.new → K.content self.new ≡ K.content self.old }
+        ensures setup { K.setup self.new ≡ K.setup self.old }
+        ensures sound { K.is_trusted self.new → IsSound K.Keeper self.old → IsSound K.Keeper self.new }
+        ensures before { K.is_trusted self.new → K.is_trusted self.old }
+        ensures lasts { StaysTrusted K.Keeper self.old self.new (is_ok result) }
+        ensures counted { Counted (K.refusals self.old) (K.refusals self.new) result }
+    {
+        let finished = stored::finished(&mut self.keeper)?;
+        let ready = ready_count(
+            self.alloc,
+            &self.setup,
+            &mut self.keeper,
+            &mut self.counts,
+            finished,
+        )?;
+        Ok(Progress { ready, finished })
+    }
+
+    /// The text of testing, as the last finished run left it. It fails for want of memory or of the store alone.
+    pub fn testing_text(&mut self) -> Result<Text, StoreFault>
+        ensures text { K.is_trusted self.new → IsSound K.Keeper self.old → IfOk result (λ text. text ≡ testing_text (K.setup self.old) (state_of K.Keeper self.old).finished (testing_after (K.setup self.old) (K.content self.old).kept (state_of K.Keeper self.old).finished)) }
+        ensures same { K.is_trusted self.new → K.content self.new ≡ K.content self.old }
+        ensures setup { K.setup self.new ≡ K.setup self.old }
+        ensures sound { K.is_trusted self.new → IsSound K.Keeper self.old → IsSound K.Keeper self.new }
+        ensures before { K.is_trusted self.new → K.is_trusted self.old }
+        ensures lasts { StaysTrusted K.Keeper self.old self.new (is_ok result) }
+        ensures counted { Counted (K.refusals self.old) (K.refusals self.new) result }
+    {
+        let finished = stored::finished(&mut self.keeper)?;
+        let testing = stored::testing(&mut self.keeper)?;
+        let text = testing_text(self.alloc, &self.setup, finished, &testing)?;
+        Ok(text)
+    }
+
+    /// The excuses of a run, none of a run that isn't finished. It fails for want of memory or of the store alone.
+    pub fn excuses_text(&mut self, run: u32) -> Result<Option<Text>, StoreFault>
+        ensures text { K.is_trusted self.new → IsSound K.Keeper self.old → IfOk result (λ text. text ≡ option_map (λ reports. reports.excuses) (reports_at (state_of K.Keeper self.old) run)) }
+        ensures same { K.is_trusted self.new → K.content self.new ≡ K.content self.old }
+        ensures setup { K.setup self.new ≡ K.setup self.old }
+        ensures sound { K.is_trusted self.new → IsSound K.Keeper self.old → IsSound K.Keeper self.new }
+        ensures before { K.is_trusted self.new → K.is_trusted self.old }
+        ensures lasts { StaysTrusted K.Keeper self.old self.new (is_ok result) }
+        ensures counted { Counted (K.refusals self.old) (K.refusals self.new) result }
+    {
+        let reports = stored::reports(&mut self.keeper, run)?;
+        Ok(excuses_in(reports))
+    }
+
+    /// The update of a run, none of a run that isn't finished. It fails for want of memory or of the store alone.
+    pub fn update_text(&mut self, run: u32) -> Result<Option<Text>, StoreFault>
+        ensures text { K.is_trusted self.new → IsSound K.Keeper self.old → IfOk result (λ text. text ≡ option_map (λ reports. reports.updates) (reports_at (state_of K.Keeper self.old) run)) }
+        ensures same { K.is_trusted self.new → K.content self.new ≡ K.content self.old }
+        ensures setup { K.setup self.new ≡ K.setup self.old }
+        ensures sound { K.is_trusted self.new → IsSound K.Keeper self.old → IsSound K.Keeper self.new }
+        ensures before { K.is_trusted self.new → K.is_trusted self.old }
+        ensures lasts { StaysTrusted K.Keeper self.old self.new (is_ok result) }
+        ensures counted { Counted (K.refusals self.old) (K.refusals self.new) result }
+    {
+        let reports = stored::reports(&mut self.keeper, run)?;
+        Ok(update_in(reports))
+    }
+}
+
+/// The excuses of two reports.
+fn excuses_in(reports: Option<Reports>) -> Option<Text>
+    ensures { result ≡ option_map (λ reports. reports.excuses) reports }
+{
+    match reports {
+        Some(reports) => Some(reports.excuses),
+        None => None,
+    }
+}
+
+/// The update of two reports.
+fn update_in(reports: Option<Reports>) -> Option<Text>
+    ensures { result ≡ option_map (λ reports. reports.updates) reports }
+{
+    match reports {
+        Some(reports) => Some(reports.updates),
+        None => None,
+    }
+}
+
+/// The text of testing after a number of runs.
+#[tactic(auto, unfolding(crate::specs::Outcome::testing_text))]
+fn testing_text(
+    alloc: Global,
+    setup: &Setup,
+    finished: u32,
+    testing: &Testing,
+) -> Result<Text, NoMemory>
+    ensures { IfOk result (λ text. text ≡ testing_text setup.now finished testing.now) }
+{
+    let text = testing_rules::testing_text(alloc, setup.archs(), finished, testing)?;
+    Ok(Text::from_string(text))
+}

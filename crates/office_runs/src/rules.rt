@@ -1,0 +1,84 @@
+//! What a run writes and leaves.
+ghost use Rattle.std.specs.Prelude.{◌≡◌, List, ◌++◌, IfOk, IfErr, OnOk, max, option_to_list};
+ghost use Rattle.office_runs.specs.Outcome.{item_in_body, outcome};
+ghost use Rattle.testing_rules.specs.Covered.{Covered};
+ghost use Rattle.testing_rules.specs.StandsFor.{StandsFor};
+ghost use Rattle.testing_rules.specs.Suite.{Suite};
+ghost use Rattle.testing_rules.specs.Updates.{update_of};
+ghost use Rattle.testing_model.specs.declared.excuse.Excuse.{Excuse};
+ghost use Rattle.testing_rules.specs.Watched.{AllWatchedWork};
+ghost use Rattle.office_mail.specs.Runs.{cover_of};
+ghost use Rattle.testing_rules.specs.Given.{IsGivenBy};
+
+use crate::orders::stated_for;
+use deb_control::{NoMemory, Text};
+use jiff::civil::Date;
+use office_keeper::Finished;
+use office_mail::{Body, RunOrder, Setup};
+use std::alloc::Global;
+use testing_rules::laws::update_is_given;
+use testing_rules::{Archs, Facts, Testing, excuses, excuses_text, migrate, update_text};
+
+/// What a run brings into testing is given by the messages that it covers.
+fn gives_update(archs: &Archs)
+    ensures { (s : Covered) (excuses : List Excuse) (old : Suite) → IsGivenBy archs.now s old (update_of archs.now s excuses old).suite }
+{
+    update_is_given();
+    let _ = archs.as_slice();
+}
+
+/// A run by the rules from this testing, over the messages that the facts stand for.
+#[tactic(auto, unfolding(crate::specs::Outcome::outcome))]
+pub fn run_rules(
+    alloc: Global,
+    setup: &Setup,
+    run: u32,
+    date: Date,
+    facts: &Facts,
+    testing: Testing,
+) -> Result<Finished, NoMemory>
+    ensures ok { IfOk result (λ o. (s : Covered) → StandsFor facts.now s testing → o ≡ outcome setup.now run date s testing) }
+    ensures given { IfOk result (λ o. (s : Covered) → StandsFor facts.now s testing → IsGivenBy setup.now.archs s testing o.testing) }
+    ensures watched { IfOk result (λ o. AllWatchedWork setup.now.archs testing.rows → AllWatchedWork setup.now.archs o.testing.rows) }
+{
+    let archs = setup.archs();
+    gives_update(archs);
+    let excuses = excuses(alloc, archs, facts, &testing, date)?;
+    let mut after = testing;
+    let update = migrate(alloc, archs, facts, &excuses, &mut after)?;
+    let excuses = excuses_text(alloc, archs, run, date, &excuses)?;
+    let updates = update_text(alloc, archs, run, date, &update)?;
+    Ok(Finished {
+        testing: after,
+        excuses: Text::from_string(excuses),
+        updates: Text::from_string(updates),
+    })
+}
+
+/// The facts take what a message says to the rules.
+pub fn take_body(facts: &mut Facts, sender: u32, number: u32, body: &Body) -> Result<(), NoMemory>
+    ensures { OnOk result ((s : Covered) (t : Suite) → StandsFor facts.old s t → StandsFor facts.new (option_to_list (item_in_body (sender, number) body.now) ++ s) t) }
+{
+    match body {
+        Body::Item(item) => facts.take(sender, number, item),
+        Body::Run(_) => Ok(()),
+    }
+}
+
+/// The greatest number that the orders state for a sender, 0 where there is none.
+pub fn cover_of(orders: &[RunOrder], sender: usize) -> u32
+    ensures { result ≡ cover_of orders.now sender }
+{
+    let mut cover = 0;
+    'orders: for order in orders {
+        cover = greater(cover, stated_for(order, sender));
+    }
+    cover
+}
+
+/// The greater of two numbers.
+fn greater(a: u32, b: u32) -> u32
+    ensures { result ≡ max a b }
+{
+    if a < b { b } else { a }
+}

@@ -1,0 +1,218 @@
+//! Runs that are ready, and their finish.
+#![tactic(auto, using(crate::proofs::LastFacts::lasting))]
+
+ghost use Rattle.std.specs.Prelude.{is_ok, ◌≡◌, ℕ, ◌+◌, ◌<◌, ◌≤◌, ◌↔◌, IsTrue, IfOk, IfSome, OnOk, OnErr, length, slice_index, if◌then◌else◌};
+ghost use Rattle.testing_rules.specs.Watched.{AllWatchedWork};
+ghost use Rattle.office_mail.specs.Runs.{IsReady, IsReadyCount};
+ghost use Rattle.office_keeper.specs.Given.{AreOwnTexts, IsGiven, KnowsArchs};
+ghost use Rattle.office_replies.specs.Counted.{Counted};
+ghost use Rattle.office_runs.specs.Known.{AreKnown, FactsStand};
+ghost use Rattle.office_runs.specs.StaysTrusted.{StaysTrusted};
+ghost use Rattle.office_runs.specs.ReadsStore.{ReadsStore};
+ghost use Rattle.office_runs.specs.Outcome.{outcome_of};
+ghost use Rattle.office_runs.specs.Ready.{FirstOrders, HasEach, HasPlaces, IsCounted};
+ghost use Rattle.office_runs.specs.State.{IsOffice};
+
+use crate::covered::{KnownFacts, facts};
+use crate::orders::{is_there, order, read_orders};
+use crate::rules::run_rules;
+use crate::stored;
+use office_keeper::{Finished, Keeper};
+use office_mail::{RunOrder, Setup, latest_day};
+use office_replies::StoreFault;
+use std::alloc::Global;
+
+/// The greatest number of a message, and so of a run.
+const GREATEST: u32 = 999_999_999;
+
+/// Whether the run behind a ready one is ready too.
+fn follows<K: Keeper>(
+    alloc: Global,
+    setup: &Setup,
+    keeper: &mut K,
+    counts: &mut Vec<u32>,
+    run: u32,
+) -> Result<bool, StoreFault>
+    requires each { K.is_trusted keeper.old → HasEach (K.content keeper.old).kept counts.old.items }
+    ensures each { K.is_trusted keeper.new → HasEach (K.content keeper.old).kept counts.new.items }
+    ensures ready { K.is_trusted keeper.new → HasPlaces setup.now (K.content keeper.old).kept → IsReady setup.now (K.content keeper.old).kept run → IfOk result (λ ready. IsTrue ready ↔ IsReady setup.now (K.content keeper.old).kept (run + 1)) }
+    ensures below { IfOk result (λ ready. IsTrue ready → run < 999_999_999) }
+    ensures looks { ReadsStore K.Keeper keeper.old keeper.new result }
+{
+    if run >= GREATEST {
+        return Ok(false);
+    }
+    match order(alloc, setup, keeper, run + 1)? {
+        Some(order) => is_there(setup, keeper, &order, counts),
+        None => Ok(false),
+    }
+}
+
+/// The greatest ready run, or 0: from the last finished one on, each order is read.
+pub fn ready_count<K: Keeper>(
+    alloc: Global,
+    setup: &Setup,
+    keeper: &mut K,
+    counts: &mut Vec<u32>,
+    finished: u32,
+) -> Result<u32, StoreFault>
+    requires each { K.is_trusted keeper.old → HasEach (K.content keeper.old).kept counts.old.items }
+    ensures each { K.is_trusted keeper.new → HasEach (K.content keeper.old).kept counts.new.items }
+    ensures ready { K.is_trusted keeper.new → HasPlaces setup.now (K.content keeper.old).kept → IsReady setup.now (K.content keeper.old).kept finished → IfOk result (λ count. IsReadyCount setup.now (K.content keeper.old).kept count) }
+    ensures looks { ReadsStore K.Keeper keeper.old keeper.new result }
+{
+    let mut count = finished;
+    'runs: while follows(alloc, setup, keeper, counts, count)? {
+        count += 1;
+    }
+    Ok(count)
+}
+
+/// Whether the run behind the finished ones is ready. Its order is read and kept.
+fn next_is_ready<K: Keeper>(
+    alloc: Global,
+    setup: &Setup,
+    keeper: &mut K,
+    counts: &mut Vec<u32>,
+    orders: &mut Vec<RunOrder>,
+    finished: u32,
+) -> Result<bool, StoreFault>
+    requires known { K.is_trusted keeper.old → IsCounted setup.now (K.content keeper.old) counts.old.items orders.old.items }
+    requires finished { K.is_trusted keeper.old → finished ≡ length (K.content keeper.old).reports }
+    ensures known { K.is_trusted keeper.new → IsCounted setup.now (K.content keeper.old) counts.new.items orders.new.items }
+    ensures ready { K.is_trusted keeper.new → IsOffice setup.now (K.content keeper.old) → IfOk result (λ ready. IsTrue ready ↔ IsReady setup.now (K.content keeper.old).kept (finished + 1)) }
+    ensures below { IfOk result (λ ready. IsTrue ready → finished < 999_999_999) }
+    ensures there { IfOk result (λ ready. IsTrue ready → finished < length orders.new.items) }
+    ensures looks { ReadsStore K.Keeper keeper.old keeper.new result }
+{
+    if finished >= GREATEST {
+        return Ok(false);
+    }
+    read_orders(alloc, setup, keeper, orders, finished + 1)?;
+    match orders.get(finished as usize) {
+        Some(order) => is_there(setup, keeper, order, counts),
+        None => Ok(false),
+    }
+}
+
+/// The outcome of a run, of which and of those before it these are the orders; and what is known for the next one.
+fn next_outcome<K: Keeper>(
+    alloc: Global,
+    setup: &Setup,
+    keeper: &mut K,
+    before: Option<KnownFacts>,
+    orders: &[RunOrder],
+    run: u32,
+) -> Result<(Finished, KnownFacts), StoreFault>
+    requires known { K.is_trusted keeper.old → IfSome before (λ known. FactsStand setup.now (K.content keeper.old).kept known) }
+    requires some { 0 < length orders.now }
+    requires lists { K.setup keeper.old ≡ setup.now }
+    ensures outcome { K.is_trusted keeper.new → IsOffice setup.now (K.content keeper.old) → FirstOrders setup.now (K.content keeper.old).kept orders.now → length orders.now ≡ length (K.content keeper.old).reports + 1 → run ≡ length (K.content keeper.old).reports + 1
+        → IfOk result (λ left. left.0 ≡ outcome_of setup.now (K.content keeper.old).kept run) }
+    ensures watched { K.is_trusted keeper.new → AllWatchedWork setup.now.archs (K.content keeper.old).testing.rows → IfOk result (λ left. AllWatchedWork setup.now.archs left.0.testing.rows) }
+    ensures known { K.is_trusted keeper.new → IfOk result (λ left. KnowsArchs setup.now.archs left.0.testing.rows) }
+    ensures given { K.is_trusted keeper.new → AreOwnTexts setup.now (K.content keeper.old).kept → IfOk result (λ left. IsGiven setup.now (K.content keeper.old) left.0.testing) }
+    ensures facts { K.is_trusted keeper.new → IfOk result (λ left. FactsStand setup.now (K.content keeper.old).kept left.1) }
+    ensures looks { ReadsStore K.Keeper keeper.old keeper.new result }
+{
+    let Some(date) = latest_day(orders) else {
+        unreachable!()
+    };
+    let facts = facts(alloc, setup, keeper, before, orders)?;
+    let testing = stored::next_testing(keeper)?;
+    let left = run_rules(alloc, setup, run, date, &facts.facts, testing)?;
+    Ok((left, facts))
+}
+
+/// What is known, where each number that was taken is counted, as are all that a ready run covers.
+fn counted(known: KnownFacts, counts: &[u32]) -> Option<KnownFacts>
+    ensures same { IfSome result (λ left. left ≡ known) }
+    ensures within { IfSome result (λ left. (s : ℕ) → slice_index left.taken.items s ≤ slice_index counts.now s) }
+{
+    if are_counted(&known.taken, counts) {
+        Some(known)
+    } else {
+        None
+    }
+}
+
+/// Whether none of these numbers is greater than its sender's count.
+fn are_counted(numbers: &[u32], counts: &[u32]) -> bool
+    ensures { IsTrue result → (s : ℕ) → slice_index numbers.now s ≤ slice_index counts.now s }
+{
+    'senders: for sender in 0..numbers.len() {
+        if numbers[sender] > counts.get(sender).copied().unwrap_or(0) {
+            return false;
+        }
+    }
+    true
+}
+
+/// Finishes the next run where it is ready, and says whether it was.
+fn finish_next<K: Keeper>(
+    alloc: Global,
+    setup: &Setup,
+    keeper: &mut K,
+    counts: &mut Vec<u32>,
+    orders: &mut Vec<RunOrder>,
+    known: &mut Option<KnownFacts>,
+    finished: u32,
+) -> Result<bool, StoreFault>
+    requires lists { K.setup keeper.old ≡ setup.now }
+    requires known { K.is_trusted keeper.old → IsCounted setup.now (K.content keeper.old) counts.old.items orders.old.items }
+    requires facts { K.is_trusted keeper.old → IfSome known.old (λ known. AreKnown setup.now (K.content keeper.old).kept known) }
+    requires finished { K.is_trusted keeper.old → finished ≡ length (K.content keeper.old).reports }
+    ensures known { K.is_trusted keeper.new → IsCounted setup.now (K.content keeper.new) counts.new.items orders.new.items }
+    ensures facts { K.is_trusted keeper.new → IfSome known.new (λ known. AreKnown setup.now (K.content keeper.new).kept known) }
+    ensures ready { K.is_trusted keeper.new → IsOffice setup.now (K.content keeper.old) → IfOk result (λ ready. IsTrue ready ↔ IsReady setup.now (K.content keeper.old).kept (finished + 1)) }
+    ensures below { IfOk result (λ ready. IsTrue ready → finished < 999_999_999) }
+    ensures kept { K.is_trusted keeper.new → (K.content keeper.new).kept ≡ (K.content keeper.old).kept }
+    ensures reports { K.is_trusted keeper.new → IfOk result (λ ready. length (K.content keeper.new).reports ≡ (if ready then finished + 1 else finished)) }
+    ensures err { K.is_trusted keeper.new → OnErr result (K.content keeper.new ≡ K.content keeper.old) }
+    ensures office { K.is_trusted keeper.new → K.is_legible keeper.old → IsOffice setup.now (K.content keeper.old) → IsOffice setup.now (K.content keeper.new) }
+    ensures setup { K.setup keeper.new ≡ K.setup keeper.old }
+    ensures before { K.is_trusted keeper.new → K.is_trusted keeper.old }
+    ensures legible { K.is_trusted keeper.new → K.is_legible keeper.old → IsOffice setup.now (K.content keeper.old) → K.is_legible keeper.new }
+    ensures lasts { StaysTrusted K.Keeper keeper.old keeper.new (is_ok result) }
+    ensures counted { Counted (K.refusals keeper.old) (K.refusals keeper.new) result }
+{
+    if !next_is_ready(alloc, setup, keeper, counts, orders, finished)? {
+        return Ok(false);
+    }
+    let (done, facts) = next_outcome(alloc, setup, keeper, known.take(), orders, finished + 1)?;
+    stored::finish(keeper, finished + 1, done)?;
+    *known = counted(facts, counts);
+    Ok(true)
+}
+
+/// Finishes the runs that are ready, in order, and says how many runs are finished then.
+pub fn settle<K: Keeper>(
+    alloc: Global,
+    setup: &Setup,
+    keeper: &mut K,
+    counts: &mut Vec<u32>,
+    orders: &mut Vec<RunOrder>,
+    known: &mut Option<KnownFacts>,
+) -> Result<u32, StoreFault>
+    requires lists { K.setup keeper.old ≡ setup.now }
+    requires known { K.is_trusted keeper.old → IsCounted setup.now (K.content keeper.old) counts.old.items orders.old.items }
+    requires facts { K.is_trusted keeper.old → IfSome known.old (λ known. AreKnown setup.now (K.content keeper.old).kept known) }
+    ensures known { K.is_trusted keeper.new → IsCounted setup.now (K.content keeper.new) counts.new.items orders.new.items }
+    ensures facts { K.is_trusted keeper.new → IfSome known.new (λ known. AreKnown setup.now (K.content keeper.new).kept known) }
+    ensures ready { K.is_trusted keeper.new → K.is_legible keeper.old → IsOffice setup.now (K.content keeper.old) → IfOk result (λ n. IsReadyCount setup.now (K.content keeper.old).kept n) }
+    ensures finished { K.is_trusted keeper.new → IfOk result (λ n. length (K.content keeper.new).reports ≡ n) }
+    ensures grows { K.is_trusted keeper.new → length (K.content keeper.old).reports ≤ length (K.content keeper.new).reports }
+    ensures kept { K.is_trusted keeper.new → (K.content keeper.new).kept ≡ (K.content keeper.old).kept }
+    ensures office { K.is_trusted keeper.new → K.is_legible keeper.old → IsOffice setup.now (K.content keeper.old) → IsOffice setup.now (K.content keeper.new) }
+    ensures setup { K.setup keeper.new ≡ K.setup keeper.old }
+    ensures before { K.is_trusted keeper.new → K.is_trusted keeper.old }
+    ensures legible { K.is_trusted keeper.new → K.is_legible keeper.old → IsOffice setup.now (K.content keeper.old) → K.is_legible keeper.new }
+    ensures lasts { StaysTrusted K.Keeper keeper.old keeper.new (is_ok result) }
+    ensures counted { Counted (K.refusals keeper.old) (K.refusals keeper.new) result }
+{
+    let mut finished = stored::finished(keeper)?;
+    'runs: while finish_next(alloc, setup, keeper, counts, orders, known, finished)? {
+        finished += 1;
+    }
+    Ok(finished)
+}
