@@ -1,5 +1,5 @@
 // Refusals of texts, the longest text, and versions kept and lent.
-use super::{CompareFault, Version, VersionFault, compare_texts};
+use deb_version::{CompareFault, Version, VersionFault, compare_texts};
 use std::alloc::Global;
 use std::cmp::Ordering::{Equal, Less};
 use std::test::Fail;

@@ -1,6 +1,8 @@
 // The worked setup, refusals, and a message of each kind.
-use super::*;
 use deb_control::Binary;
+use office_mail::{
+    Body, Field, MailFault, Role, Sender, Setup, SetupFault, SetupField, read_message,
+};
 use std::alloc::Global;
 use std::test::Fail;
 use testing_items::{ALL, Archs, Hint, HintItem, Item, Urgency};

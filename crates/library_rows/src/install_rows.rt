@@ -1,9 +1,11 @@
+//! Installable rows: worked tables, chains, and drawn rows judged by sweeps.
+
 use crate::sweeps::installable_by_sweeps;
-use crate::{Row, installable, installable_counted};
 use deb_control::{Binary, Paragraphs};
 use std::alloc::Global;
 use std::process::Abort;
 use std::test::Fail;
+use testing_install::{Row, installable, installable_counted};
 
 // A package `NAME VERSION; DEPENDS; PROVIDES`, as `aa 1; bb | cc (>= 2); virt (= 1)`, read from its control data.
 fn binary(alloc: Global, text: &str) -> Result<Binary, Fail> {

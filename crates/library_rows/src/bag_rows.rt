@@ -1,5 +1,6 @@
-use super::*;
-use crate::feed::{FromRead, ReadFailed, Sink, ToWrite, WriteFailed};
+//! Bags over a reader that gives a byte a call, and that fails at one of them.
+
+use office_mail::{Bag, BagFault, Feed, FromRead, ReadFailed, Sink, ToWrite, WriteFailed};
 use std::io;
 use std::io::{Read, Write};
 use std::test::Fail;

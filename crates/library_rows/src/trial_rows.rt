@@ -1,9 +1,11 @@
-use crate::tests::drawn_row;
-use crate::{Row, Suite, installable};
+//! Trials and changes of a suite, beside its rows judged anew.
+
+use crate::install_rows::drawn_row;
 use deb_control::Binary;
 use std::alloc::Global;
 use std::rc::Rc;
 use std::test::Fail;
+use testing_install::{Row, Suite, installable};
 
 // Which rows are there, and which of them are installable as they are judged anew.
 #[derive(Drop)]

@@ -1,6 +1,6 @@
 //! The answers that Debian's rules give to a few texts.
 
-use super::*;
+use deb_control::{Alternative, Binary, Clauses, Op, Paragraph, Paragraphs, Provisions, Relation};
 use deb_version::Version;
 use std::alloc::{AllocError, Global};
 use std::test::Fail;
