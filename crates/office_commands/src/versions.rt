@@ -1,9 +1,6 @@
 // `office compare V1 OP V2`: whether the versions stand in the order that OP names.
 ghost use Rattle.std.specs.Prelude.{◌≡◌};
-ghost use Rattle.office.specs.Compare.{answer, comparison_of, holds_at, status_of};
-
-#[cfg(test)]
-mod tests;
+ghost use Rattle.office_commands.specs.Compare.{answer, comparison_of, holds_at, status_of};
 
 use deb_version::{CompareFault, compare_texts};
 use std::cmp::Ordering;

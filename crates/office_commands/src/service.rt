@@ -1,10 +1,7 @@
 //! The service: one connection after the other on loopback.
 
 ghost use Rattle.std.specs.Prelude.{◌≡◌};
-ghost use Rattle.office.specs.Service.{status_of_service};
-
-#[cfg(test)]
-mod tests;
+ghost use Rattle.office_commands.specs.Service.{status_of_service};
 
 use office_http::{Office, ServeFault, serve_one};
 use office_mail::{FromRead, ToWrite};
@@ -61,15 +58,15 @@ pub fn serve<K: Keeper>(
 }
 
 /// A listener on a port of 127.0.0.1.
-fn listen(rt: &HostRuntime, port: u32) -> Result<TcpListener, ServiceFault> {
+pub fn listen(rt: &HostRuntime, port: u32) -> Result<TcpListener, ServiceFault> {
     let Ok(address) = format!(in rt.alloc(); "127.0.0.1:{port}") else {
         return Err(ServiceFault::NoMemory);
     };
     TcpListener::bind(rt, address.as_str()).map_err(ServiceFault::Socket)
 }
 
-/// Serves the next connection.
-fn serve_next<K: Keeper>(rt: &HostRuntime, listener: &TcpListener, office: &mut Office<K>) {
+/// Serves the next connection of a listener. One that fails is told on standard error.
+pub fn serve_next<K: Keeper>(rt: &HostRuntime, listener: &TcpListener, office: &mut Office<K>) {
     match listener.accept() {
         Ok((stream, _)) => serve_stream(rt, &stream, office),
         Err(fault) => {

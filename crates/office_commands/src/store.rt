@@ -9,10 +9,7 @@ ghost use Rattle.sqlite.specs.State.{HasCleanDisk};
 ghost use Rattle.sqlite.specs.WalFiles.{image_at};
 ghost use Rattle.office_store.specs.Opening.{IsOpened};
 ghost use Rattle.office_store.specs.Tables.{IsTrusted};
-ghost use Rattle.office.specs.Store.{FindsStore, status_of_store, told};
-
-#[cfg(test)]
-mod tests;
+ghost use Rattle.office_commands.specs.Store.{FindsStore, status_of_store, told};
 
 use office_mail::Setup;
 use office_store::{Cause, OpenFault, Tables};

@@ -1,3 +1,4 @@
+pub mod Arguments
 pub mod Compare
 pub mod Conf
 pub mod Service

@@ -5,10 +5,10 @@ use Rattle.std.specs.declared.cmp.Ordering.{Ordering}
 use Rattle.std.specs.Ordering.{is_lt, is_le, is_eq, is_ge, is_gt}
 use Rattle.deb_version.specs.Order.{text_cmp}
 use Rattle.deb_version.specs.declared.faults.CompareFault.{CompareFault}
-use Rattle.office.specs.declared.compare.Comparison.{Comparison}
-use Rattle.office.specs.declared.compare.Comparison.TheVariants.{Below, AtMost, Same, AtLeast, Above}
-use Rattle.office.specs.declared.compare.Refusal.{Refusal}
-use Rattle.office.specs.declared.compare.Refusal.TheVariants.{UnknownComparison, Version}
+use Rattle.office_commands.specs.declared.versions.Comparison.{Comparison}
+use Rattle.office_commands.specs.declared.versions.Comparison.TheVariants.{Below, AtMost, Same, AtLeast, Above}
+use Rattle.office_commands.specs.declared.versions.Refusal.{Refusal}
+use Rattle.office_commands.specs.declared.versions.Refusal.TheVariants.{UnknownComparison, Version}
 
 -- the comparison that a word names
 abbrev pub comparison_of : List ℕ → Option Comparison

@@ -1,4 +1,4 @@
-use Rattle.office.proofs.store.open_store.Goals as goal
+use Rattle.office_commands.proofs.store.open_store.Goals as goal
 
 pub returns-clause-finds : goal.returns-clause-finds
 returns-clause-finds g c trusted =

@@ -1,5 +1,5 @@
 // A client of the service on loopback, and the words that start a service.
-use super::{listen, serve_next};
+use office_commands::{listen, serve_next};
 use office_http::Office;
 use office_mail::Setup;
 use office_store::Plain;

@@ -1,7 +1,7 @@
 -- Setups read from a file, and exit statuses.
 use Rattle.std.specs.Prelude.{ℕ, Option, List, take, Result, Ok, Err}
-use Rattle.office.specs.declared.conf.ConfFault.{ConfFault}
-use Rattle.office.specs.declared.conf.ConfFault.TheVariants.{Refused, Unreadable}
+use Rattle.office_commands.specs.declared.conf.ConfFault.{ConfFault}
+use Rattle.office_commands.specs.declared.conf.ConfFault.TheVariants.{Refused, Unreadable}
 use Rattle.office_mail.specs.declared.setup.SetupFault.{SetupFault}
 use Rattle.office_mail.specs.declared.setup.SetupFault.TheVariants.{BadParagraph, MissingField, BadArchitecture, BadSender, BadRoles, TooMany, NoMemory}
 
@@ -21,5 +21,5 @@ status_of_fault TooMany = 3
 
 -- the exit status where there is no setup: 4 where its file can't be read
 abbrev pub status_of_conf : ConfFault → ℕ
-status_of_conf (Unreadable kind) = 4
+status_of_conf (Unreadable fault) = 4
 status_of_conf (Refused fault) = status_of_fault fault

@@ -1,12 +1,11 @@
 //! The setup's file.
 
 ghost use Rattle.std.specs.Prelude.{◌≡◌, IfOk, IfSome};
-ghost use Rattle.office.specs.Conf.{front, status_of_conf, status_of_fault};
+ghost use Rattle.office_commands.specs.Conf.{front, status_of_conf, status_of_fault};
 
 use office_mail::{Setup, SetupFault};
 use std::alloc::Global;
 use std::io::Read;
-use std::rt::Files;
 use std::{fs, io};
 use thiserror::Error;
 
@@ -14,27 +13,22 @@ use thiserror::Error;
 const ENOUGH: u64 = 65_537;
 
 /// Why there is no setup in a file.
-#[derive(Clone, Copy, Debug, PartialEq, Eq, Error)]
+#[derive(Clone, Copy, Debug, Error)]
 pub enum ConfFault {
     #[error("the file can't be read: {0}")]
-    Unreadable(io::ErrorKind),
+    Unreadable(io::Error),
     #[error("the setup is refused: {0}")]
     Refused(SetupFault),
 }
 
 /// The setup in a file. Of a file that is too long for a setup no more is read than shows it.
 pub fn read_setup(rt: &HostRuntime, path: &str) -> Result<Setup, ConfFault> {
-    let file = fs::open(rt, path).map_err(unreadable)?;
-    let text = read_front(rt.alloc(), file).map_err(unreadable)?;
+    let file = fs::open(rt, path).map_err(ConfFault::Unreadable)?;
+    let text = read_front(rt.alloc(), file).map_err(ConfFault::Unreadable)?;
     match Setup::parse(rt.alloc(), &text) {
         Ok(setup) => Ok(setup),
         Err(fault) => Err(ConfFault::Refused(fault)),
     }
-}
-
-/// The fault of a file that can't be opened or read.
-fn unreadable(fault: io::Error) -> ConfFault {
-    ConfFault::Unreadable(fault.kind())
 }
 
 /// What a reader gives, but for what stands beyond the longest setup and one byte more.
