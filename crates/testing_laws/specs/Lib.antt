@@ -1,2 +1,3 @@
 pub mod Laws
+pub mod MoveLaws
 pub mod TakenLaws

@@ -2,6 +2,7 @@
 
 ghost use Rattle.testing_model.specs.Provenance.{UpdateIsGiven, ArchsStayKnown};
 ghost use Rattle.testing_laws.specs.Laws.{UnstableSourceIsFirst, UnstableSourceIsFound, UnstableRowIsFirst, GreatestDropIsFirst};
+ghost use Rattle.testing_laws.specs.MoveLaws.{AllowedMeans, NoneIsLeft};
 ghost use Rattle.testing_model.specs.SameMessages.{FactsStandForSets};
 ghost use Rattle.testing_laws.specs.TakenLaws.{UploadPutsOne, BuildPutsItsOwn, DropTakesOne, DropPutsOne, BugPutsOne, GreatestDropsDecide};
 ghost use Rattle.testing_model.specs.Watched.{WatchedRowsStay};
@@ -64,6 +65,17 @@ pub fn facts_stand_for_sets()
 /// A run leaves every watched row installable, as it was before.
 pub fn watched_rows_stay()
     ensures { WatchedRowsStay }
+{}
+
+/// A change is allowed exactly where every watched row that comes in is installable, and each other watched row that was
+/// stays so.
+pub fn allowed_means()
+    ensures { AllowedMeans }
+{}
+
+/// Single moves go on until none is allowed.
+pub fn none_is_left()
+    ensures { NoneIsLeft }
 {}
 
 /// Covered uploads and builds give all that a run brings into testing.

@@ -75,7 +75,7 @@ none_at : (f : ℕ → Option Offender) (a k : ℕ) (m : Option Offender) (rest 
 none_at f a k None rest e h at more = ⊎_elim (λ l. more h (omega (arith, l))) (λ l. let same : k ≡ a = omega (arith, l, at) in ap f same ∙ e) (cases_lt a k)
 none_at f a k (Some o) rest e h at more = absurd (false≢true (some_none h))
 
-none_on : (f : ℕ → Option Offender) (a n : ℕ) → first_of (filter_map f (range_with_len a n)) ≡ None → (k : ℕ) → a ≤ k → k < a + n → f k ≡ None
+pub none_on : (f : ℕ → Option Offender) (a n : ℕ) → first_of (filter_map f (range_with_len a n)) ≡ None → (k : ℕ) → a ≤ k → k < a + n → f k ≡ None
 none_on f a zero e k h g = absurd (omega (arith, h, g))
 none_on f a (suc n) e k h g =
     none_at f a k (f a) (filter_map f (range_with_len (a + 1) n)) refl e h (λ rest above. none_on f (a + 1) n rest k above (omega (arith, g)))
@@ -105,7 +105,8 @@ option_none : {A B : Type 0} (f : A → B) (m : Option A) → option_map f m ≡
 option_none f None e = refl
 option_none f (Some x) e = absurd (false≢true (some_none e))
 
-fails_none : (old new : List RowIn) (group : List Text) (arch : ℕ) → offender_on old new group arch ≡ None
+-- no offender on an architecture: no row fails there
+pub fails_none : (old new : List RowIn) (group : List Text) (arch : ℕ) → offender_on old new group arch ≡ None
     → AllByRecursion (λ j. fails_on arch group (judged_on arch old) j ≡ false) (judged_on arch new)
 fails_none old new group arch e =
     let before = judged_on arch old in

@@ -114,10 +114,6 @@ is_of_source u r = bytes_eq r.binary.source u.source
 abbrev pub is_current : UploadIn → RowIn → Bool
 is_current u r = is_of_source u r && is_same_version r.binary.source_version u.version
 
--- the current rows of an unstable source: the unstable rows that name it at its version
-abbrev pub current_rows : List Text → Covered → UploadIn → List RowIn
-current_rows archs s u = filter (is_current u) (unstable_rows archs s)
-
 -- messages on bugs in the order in which they count: the greatest number first, and among the same number by sender
 abbrev pub bug_order : BugIn → BugIn → Ordering
 bug_order = then_cmp (flip_args (on (λ b. b.number) nat_cmp)) (on (λ b. b.sender) nat_cmp)
