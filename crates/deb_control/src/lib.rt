@@ -20,6 +20,3 @@ pub use owned::Text;
 pub use paragraphs::{Paragraph, Paragraphs};
 pub use relation::{Alternative, Clause, Clauses, Op, Provision, Provisions, Relation};
 pub use text::{index_of, is_all_white, is_white, skip_white, split_around, trim_white};
-
-#[cfg(test)]
-mod tests;

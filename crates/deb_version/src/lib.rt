@@ -12,8 +12,6 @@ mod faults;
 mod lent;
 mod parts;
 mod split;
-#[cfg(test)]
-mod tests;
 
 pub use faults::{CompareFault, NoMemory, VersionFault};
 pub use lent::compare_texts;

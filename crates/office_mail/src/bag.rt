@@ -343,6 +343,3 @@ fn refill<R: Feed>(reader: &mut R, pending: &mut Vec<u8>) -> Result<bool, BagFau
     };
     Ok(count > 0)
 }
-
-#[cfg(test)]
-mod tests;

@@ -27,6 +27,3 @@ pub use read::read_message;
 pub use readiness::{latest_day, ready};
 pub use setup::{Role, Sender, Setup, SetupFault, SetupField};
 pub use texts::Numbers;
-
-#[cfg(test)]
-mod tests;

@@ -1,8 +1,7 @@
 //! Which rows of one architecture are installable: those that some closed set of rows holds.
 //!
 //! `installable` answers for each row, and `installable_counted` counts its steps too. Each clause rests on one row of
-//! the set that meets it, and is looked at again only where that row is taken out. The sweeps, which are plainer and
-//! slower, are for the tests.
+//! the set that meets it, and is looked at again only where that row is taken out.
 //!
 //! A `Suite` holds rows of which some are there, and tries changes of these: what a trial costs depends on what the
 //! change touches, and not on the size of the suite. It takes more rows behind its own at the cost of the new ones.
@@ -21,12 +20,6 @@ mod satisfies;
 mod settle;
 mod state;
 mod suite;
-#[cfg(test)]
-mod sweeps;
-#[cfg(test)]
-mod tests;
-#[cfg(test)]
-mod trials;
 mod work;
 
 pub use counted::{Counted, installable, installable_counted};

@@ -1,0 +1,139 @@
+//! Bags over a reader that gives a byte a call, and that fails at one of them.
+
+use office_mail::{Bag, BagFault, Feed, FromRead, ReadFailed, Sink, ToWrite, WriteFailed};
+use std::io;
+use std::io::{Read, Write};
+use std::test::Fail;
+
+/// Gives or takes a few bytes a call, and fails at one of the calls.
+#[derive(Drop)]
+struct Halting<'a> {
+    bytes: &'a [u8],
+    most: usize,
+    calls: u32,
+    fails_at: u32,
+}
+
+impl<'a> Halting<'a> {
+    fn new(bytes: &'a [u8], most: usize, fails_at: u32) -> Halting<'a> {
+        Halting {
+            bytes,
+            most,
+            calls: 0,
+            fails_at,
+        }
+    }
+}
+
+impl<'a> Read for Halting<'a> {
+    fn read(&mut self, buf: &mut [u8]) -> io::Result<usize> {
+        self.calls = self.calls.saturating_add(1);
+        if self.calls == self.fails_at {
+            return Err(io::ErrorKind::Other.into());
+        }
+        let count = self.bytes.len().min(self.most).min(buf.len());
+        let (given, later) = self.bytes.split_at(count);
+        buf[..count].copy_from_slice(given);
+        self.bytes = later;
+        Ok(count)
+    }
+}
+
+impl<'a> Write for Halting<'a> {
+    fn write(&mut self, bytes: &[u8]) -> io::Result<usize> {
+        self.calls = self.calls.saturating_add(1);
+        if self.calls == self.fails_at {
+            return Err(io::ErrorKind::Other.into());
+        }
+        Ok(bytes.len().min(self.most))
+    }
+
+    fn flush(&mut self) -> io::Result<()> {
+        Ok(())
+    }
+}
+
+fn gives<R: Feed>(bag: &mut Bag<R>, message: &[u8]) -> bool {
+    match bag.next() {
+        Ok(Some(next)) => next.as_slice() == message,
+        _ => false,
+    }
+}
+
+fn ends<R: Feed>(bag: &mut Bag<R>) -> bool {
+    matches!(bag.next(), Ok(None))
+}
+
+const THREE: &[u8] = b"mail 3\nabcmail 0\nmail 5\nhello";
+
+#[test]
+fn messages_a_byte_a_read(rt: HostRuntime) {
+    let mut reader = Halting::new(THREE, 1, 0);
+    let mut bag = Bag::new(rt.alloc(), FromRead::new(&mut reader));
+    let messages: [&[u8]; 3] = [b"abc", b"", b"hello"];
+    for message in messages {
+        assert!(rt; gives(&mut bag, message));
+    }
+    assert!(rt; ends(&mut bag));
+    assert!(rt; ends(&mut bag));
+    drop(bag);
+    assert_eq!(rt; reader.calls, 30);
+}
+
+#[test]
+fn refused_lines(rt: HostRuntime) {
+    let inputs: [(&[u8], BagFault); 8] = [
+        (b"mail 01\n", BagFault::BadHeader),
+        (b"Mail 3\nabc", BagFault::BadHeader),
+        (b"mail -1\n", BagFault::BadHeader),
+        (b"mail 1000000000\n", BagFault::BadHeader),
+        (b"mail 3\r\nabc", BagFault::BadHeader),
+        (b"mail ", BagFault::Truncated),
+        (b"mail 0", BagFault::Truncated),
+        (b"mail 20\nfive.", BagFault::Truncated),
+    ];
+    for (input, fault) in inputs {
+        let mut bag = Bag::new(rt.alloc(), FromRead::new(Halting::new(input, 4, 0)));
+        assert_eq!(rt; bag.next().err(), Some(fault));
+        assert!(rt; ends(&mut bag));
+    }
+}
+
+#[test]
+fn surplus_is_dropped(rt: HostRuntime) -> Result<(), Fail> {
+    let mut input = Vec::new(rt.alloc());
+    input.extend_from_slice(b"mail 70000\n")?;
+    for _ in 0..70_000 {
+        input.push(b'x')?;
+    }
+    input.extend_from_slice(b"mail 1\ny")?;
+    let mut bag = Bag::new(rt.alloc(), FromRead::new(input.as_slice()));
+    let length = bag.next()?.map(|message| message.len());
+    assert_eq!(rt; length, Some(65_537));
+    assert!(rt; gives(&mut bag, b"y"));
+    assert!(rt; ends(&mut bag));
+    Ok(())
+}
+
+#[test]
+fn one_call_fails(rt: HostRuntime) {
+    let mut reader = Halting::new(THREE, 1, 14);
+    let mut bag = Bag::new(rt.alloc(), FromRead::new(&mut reader));
+    assert!(rt; gives(&mut bag, b"abc"));
+    assert_eq!(rt; bag.next().err(), Some(BagFault::ReadFault));
+    assert!(rt; ends(&mut bag));
+    drop(bag);
+    assert_eq!(rt; reader.calls, 14);
+
+    let mut feed = FromRead::new(Halting::new(b"ab", 1, 1));
+    let mut buf = [0u8; 2];
+    assert_eq!(rt; feed.read(&mut buf), Err(ReadFailed));
+    assert_eq!(rt; feed.read(&mut buf), Ok(1));
+
+    let mut writer = Halting::new(b"", 0, 1);
+    let mut sink = ToWrite::new(&mut writer);
+    assert_eq!(rt; sink.write(b"ab"), Err(WriteFailed));
+    assert_eq!(rt; sink.write(b"ab"), Ok(0));
+    drop(sink);
+    assert_eq!(rt; writer.calls, 2);
+}

@@ -1,4 +1,0 @@
-pub mod Compare
-pub mod Conf
-pub mod Service
-pub mod Store

@@ -1,0 +1,35 @@
+-- A store in a file.
+use Rattle.std.specs.Prelude.{ℕ}
+use Rattle.sqlite.specs.Files.{file_state}
+use Rattle.sqlite.specs.Files as files
+use Rattle.sqlite.specs.Held.{Held}
+use Rattle.sqlite.specs.Recovery.{Image}
+use Rattle.sqlite.specs.Start.{FindsIn}
+use Rattle.sqlite.specs.declared.FileStore.{FileStore}
+use Rattle.sqlite_disk.specs.declared.Disk.{Ghosts}
+use Rattle.office_mail.specs.Lists.{Lists}
+use Rattle.office_store.specs.Opening.{IsOpened}
+use Rattle.office_store.specs.declared.faults.Cause.TheVariants.{BadRow, Sqlite}
+use Rattle.office_store.specs.declared.opening.OpenFault.{OpenFault}
+use Rattle.office_store.specs.declared.opening.OpenFault.TheVariants as opening
+use Rattle.office_commands.specs.declared.store.StoreFault.{StoreFault}
+use Rattle.office_commands.specs.declared.store.StoreFault.TheVariants as fault
+
+-- what a fault of opening the tables is told as; a bad row never is one
+abbrev pub told : OpenFault → StoreFault
+told opening.NoMemory = fault.NoMemory
+told opening.OtherSetup = fault.OtherSetup
+told opening.UnknownSchema = fault.UnknownSchema
+told (opening.Store BadRow) = fault.UnknownSchema
+told (opening.Store (Sqlite error)) = fault.Failed error
+
+-- the exit status for any fault of a store
+abbrev pub status_of_store : StoreFault → ℕ
+status_of_store fault = 4
+
+-- the database that the files held was opened, and it has the tables of an office with this setup: new ones, or as they were left
+pub record FindsStore {D : Type 0} {g : Ghosts D} (image : Image) (setup : Lists) (now : Held (FileStore D g)) : Type 0 where
+  pub was : Held (FileStore D g)
+  pub opened : files.IsOpened was
+  pub found : FindsIn image (file_state was)
+  pub office : IsOpened setup (file_state was).now (file_state now).now

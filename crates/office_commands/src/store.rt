@@ -1,0 +1,135 @@
+//! The store in a file: its tables are opened, and closed.
+
+ghost use Rattle.std.specs.Prelude.{◌≡◌, IfOk};
+ghost use Rattle.sqlite.specs.Files as files;
+ghost use Rattle.sqlite.specs.Files.{file_state};
+ghost use Rattle.sqlite.specs.Held.{state};
+ghost use Rattle.sqlite.specs.Start.{FindsIn};
+ghost use Rattle.sqlite.specs.State.{HasCleanDisk};
+ghost use Rattle.sqlite.specs.WalFiles.{image_at};
+ghost use Rattle.office_store.specs.Opening.{IsOpened};
+ghost use Rattle.office_store.specs.Tables.{IsTrusted};
+ghost use Rattle.office_commands.specs.Store.{FindsStore, status_of_store, told};
+
+use office_mail::Setup;
+use office_store::{Cause, OpenFault, Tables};
+use sqlite::{Alter, Connection, ErrorCode, FileFrom, FileStore, Start};
+use sqlite_disk::Disk;
+use std::alloc::Global;
+use thiserror::Error;
+
+/// Why there is no store in a file, or why one wasn't closed.
+#[derive(Clone, Copy, Debug, PartialEq, Eq, Error)]
+pub enum StoreFault {
+    #[error("the store can't be opened: out of memory: give the program more memory")]
+    NoMemory,
+    /// The file isn't there and can't be made, is in use, or is no sound database.
+    #[error("the store can't be opened: {0}: {remedy}", remedy = remedy(.0))]
+    Unopened(sqlite::Error),
+    #[error("the store was made for another setup: name that setup, or another file")]
+    OtherSetup,
+    #[error("the file has other tables than a store that this program reads: name another file")]
+    UnknownSchema,
+    /// The database was opened, and then refused to make or to read the tables.
+    #[error("the store failed: {0}: {remedy}", remedy = remedy(.0))]
+    Failed(sqlite::Error),
+    /// What was kept stands in the log beside the file.
+    #[error("the store's log wasn't copied into its file: {0}: {remedy}: what was kept stands, so leave the log beside it", remedy = remedy(.0))]
+    Unclosed(sqlite::Error),
+}
+
+/// What to do about a refusal of sqlite.
+fn remedy(error: &sqlite::Error) -> &'static str {
+    let sqlite::Error::SqliteFailure(code) = error else {
+        return "name another file, or put a copy in its place";
+    };
+    match code {
+        ErrorCode::CannotOpen =>
+            "see that it is a plain file, and that the program may read and write it and its folder",
+        ErrorCode::DatabaseBusy => "end the program that has it open",
+        ErrorCode::DiskFull => "make room on the disk, and start again",
+        ErrorCode::SystemIoFailure | ErrorCode::Closed => "see to the disk, and start again",
+        ErrorCode::OutOfMemory => "give the program more memory",
+        _ => "name another file, or put a copy in its place",
+    }
+}
+
+/// The exit status for a fault of the store: 4.
+pub fn store_status(fault: &StoreFault) -> u8
+    ensures { result ≡ status_of_store fault.now }
+{
+    match fault {
+        StoreFault::NoMemory
+        | StoreFault::Unopened(_)
+        | StoreFault::OtherSetup
+        | StoreFault::UnknownSchema
+        | StoreFault::Failed(_)
+        | StoreFault::Unclosed(_) => 4,
+    }
+}
+
+/// What a fault of opening the tables is told as.
+fn told(fault: OpenFault) -> StoreFault
+    ensures { result ≡ told fault }
+{
+    match fault {
+        OpenFault::NoMemory => StoreFault::NoMemory,
+        OpenFault::OtherSetup => StoreFault::OtherSetup,
+        OpenFault::UnknownSchema | OpenFault::Store(Cause::BadRow) => StoreFault::UnknownSchema,
+        OpenFault::Store(Cause::Sqlite(error)) => StoreFault::Failed(error),
+    }
+}
+
+/// The office's tables over a connection. One that is refused is dropped, with its database as it was.
+pub fn open_tables<S: Alter + Drop>(
+    alloc: Global,
+    conn: Connection<S>,
+    setup: &Setup,
+) -> Result<Tables<S>, StoreFault>
+    ensures opened { IfOk result (λ tables. IsTrusted (state S.Store tables.0) → IsOpened setup.now (state S.Store conn).now (state S.Store tables.0).now) }
+    ensures before { IfOk result (λ tables. IsTrusted (state S.Store tables.0) → IsTrusted (state S.Store conn)) }
+    ensures setup { IfOk result (λ tables. tables.1.0 ≡ setup.now) }
+{
+    match Tables::open(alloc, conn, setup) {
+        Ok(tables) => Ok(tables),
+        Err((fault, _conn)) => Err(told(fault)),
+    }
+}
+
+/// The database in a file, which is made where there is none. `S` says what the file and its log hold.
+fn open_database<S: Start>(
+    rt: &HostRuntime,
+    path: &str,
+    start: S,
+) -> Result<Connection<FileStore<FileFrom<S>>>, StoreFault>
+    ensures opened { IfOk result (λ conn. HasCleanDisk (file_state conn) → files.IsOpened conn) }
+    ensures found { IfOk result (λ conn. HasCleanDisk (file_state conn) → FindsIn (image_at S.Start) (file_state conn)) }
+{
+    match Connection::open_from(rt, path, false, start) {
+        Ok(conn) => Ok(conn),
+        Err((error, _left)) => Err(StoreFault::Unopened(error)),
+    }
+}
+
+/// The store in a file, which is made where there is none. `S` says what the file and its log hold.
+pub fn open_store<S: Start>(
+    rt: &HostRuntime,
+    path: &str,
+    start: S,
+    setup: &Setup,
+) -> Result<Tables<FileStore<FileFrom<S>>>, StoreFault>
+    ensures finds { IfOk result (λ tables. IsTrusted (file_state tables.0) → FindsStore (image_at S.Start) setup.now tables.0) }
+    ensures setup { IfOk result (λ tables. tables.1.0 ≡ setup.now) }
+{
+    let conn = open_database(rt, path, start)?;
+    let tables = open_tables(rt.alloc(), conn, setup)?;
+    Ok(tables)
+}
+
+/// Copies what a store in a file has in its log into the file, and closes both.
+pub fn close_store<D: Disk + Drop>(tables: Tables<FileStore<D>>) -> Result<(), StoreFault> {
+    tables
+        .into_connection()
+        .close()
+        .map_err(StoreFault::Unclosed)
+}

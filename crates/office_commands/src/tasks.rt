@@ -1,0 +1,147 @@
+//! What the program's words ask for: a comparison, or a replay or a service over a store.
+
+use crate::conf::{conf_status, read_setup};
+use crate::service::{serve, service_status};
+use crate::store::{StoreFault, close_store, open_store, store_status};
+use crate::versions::compare;
+use office_http::{Office, Replayed, WriteFault, replay, replay_status};
+use office_mail::{Bag, FromRead, Setup, ToWrite};
+use office_store::{Keeper, Plain, Tables};
+use office_words::Words;
+use sqlite::{File, FileStore, Unknown};
+use std::io::{BufWriter, Write};
+
+/// The exit status where memory ran out.
+const FAILED: u8 = 4;
+
+/// What is done in an office, once its store is there.
+#[derive(Clone, Copy)]
+enum Task {
+    /// The bag on standard input is replayed.
+    Replay,
+    /// So many connections are served on a port.
+    Serve { port: u32, connections: u32 },
+}
+
+/// Does what words ask for, and gives the exit status.
+pub fn run_command(rt: &HostRuntime, words: Words) -> u8 {
+    match words {
+        Words::Compare { v1, op, v2 } => compare(rt, v1, op, v2),
+        Words::Replay { conf, db } => run_for(rt, conf, db, Task::Replay),
+        Words::Serve {
+            conf,
+            port,
+            db,
+            connections,
+        } => run_for(rt, conf, db, Task::Serve { port, connections }),
+    }
+}
+
+fn out_of_memory(rt: &HostRuntime) -> u8 {
+    let _ = eprintln!(rt; "office: out of memory");
+    FAILED
+}
+
+/// Does a task for the setup in a file, over the store in a file or in memory.
+fn run_for(rt: &HostRuntime, conf: &str, db: Option<&str>, task: Task) -> u8 {
+    match read_setup(rt, conf) {
+        Ok(setup) => match db {
+            Some(path) => run_stored(rt, path, setup, task),
+            None => run_in_memory(rt, setup, task),
+        },
+        Err(fault) => {
+            let _ = eprintln!(rt; "office: {conf}: {fault}");
+            conf_status(&fault)
+        }
+    }
+}
+
+/// Does a task in an office whose store is in a file.
+fn run_stored(rt: &HostRuntime, path: &str, setup: Setup, task: Task) -> u8 {
+    match open_store(rt, path, Unknown, &setup) {
+        Ok(tables) => {
+            let mut office = Office::new(rt.alloc(), setup, tables);
+            let status = run_over(rt, &mut office, task);
+            end_store(rt, path, office.into_keeper(), status)
+        }
+        Err(fault) => tell_store(rt, path, &fault),
+    }
+}
+
+/// Closes the store of a task that ended with a status, and gives the exit status.
+fn end_store(rt: &HostRuntime, path: &str, tables: Tables<FileStore<File>>, status: u8) -> u8 {
+    match close_store(tables) {
+        Ok(()) => status,
+        Err(fault) => tell_store(rt, path, &fault),
+    }
+}
+
+/// Says on standard error what a store in a file was refused for, and gives the exit status.
+fn tell_store(rt: &HostRuntime, path: &str, fault: &StoreFault) -> u8 {
+    let _ = eprintln!(rt; "office: {path}: {fault}");
+    store_status(fault)
+}
+
+/// Does a task in an office whose store is in memory.
+fn run_in_memory(rt: &HostRuntime, setup: Setup, task: Task) -> u8 {
+    match Plain::new(rt.alloc(), &setup) {
+        Ok(plain) => run_over(rt, &mut Office::new(rt.alloc(), setup, plain), task),
+        Err(_) => out_of_memory(rt),
+    }
+}
+
+/// Does a task in an office.
+fn run_over<K: Keeper>(rt: &HostRuntime, office: &mut Office<K>, task: Task) -> u8 {
+    match task {
+        Task::Replay => replay_over(rt, office),
+        Task::Serve { port, connections } => serve_over(rt, office, port, connections),
+    }
+}
+
+/// Replays the bag on standard input in an office.
+fn replay_over<K: Keeper>(rt: &HostRuntime, office: &mut Office<K>) -> u8 {
+    let Ok(mut output) = BufWriter::new(rt.alloc(), rt.stdout()) else {
+        return out_of_memory(rt);
+    };
+    let mut writer = ToWrite::new(&mut output);
+    let mut bag = Bag::new(rt.alloc(), FromRead::new(rt.stdin()));
+    let mut replayed = replay(office, &mut bag, &mut writer);
+    if output.flush().is_err() {
+        replayed = Err(WriteFault);
+    }
+    tell_replay(rt, &replayed);
+    replay_status(&replayed)
+}
+
+/// Serves so many connections on a port, over an office.
+fn serve_over<K: Keeper>(
+    rt: &HostRuntime,
+    office: &mut Office<K>,
+    port: u32,
+    connections: u32,
+) -> u8 {
+    let served = serve(rt, office, port, connections);
+    if let Err(fault) = &served {
+        let _ = eprintln!(rt; "office: 127.0.0.1:{port}: {fault}");
+    }
+    service_status(&served)
+}
+
+/// Says on standard error what was refused, where something was.
+fn tell_replay(rt: &HostRuntime, replayed: &Result<Replayed, WriteFault>) {
+    let _ = match replayed {
+        Err(_) => eprintln!(rt; "office: standard output: a write failed"),
+        Ok(replayed) => {
+            if let Some(fault) = replayed.bag {
+                let _ = eprintln!(rt; "office: standard input: the bag is refused: {fault}");
+            }
+            if replayed.lost {
+                eprintln!(rt;
+                    "office: memory ran out or the store failed, and mail or a text was lost: deliver the same bag again"
+                )
+            } else {
+                Ok(())
+            }
+        }
+    };
+}
