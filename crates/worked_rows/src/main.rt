@@ -1,0 +1,51 @@
+//! The worked rows of the office: mail and requests from standard input, and what comes of them. A row is run in an
+//! office in memory, and once more over tables of sqlite, where both must print the same.
+#![tactic(auto)]
+
+mod bytes;
+mod chains;
+mod failing;
+mod office_over;
+mod replaying;
+mod sitting;
+mod steps;
+
+use deb_version::NoMemory;
+use office_over::{in_memory, in_tables};
+use std::alloc::Global;
+use std::io;
+
+/// What a row prints: what came of it in memory, and what came of it over tables, where that is something else.
+fn shown(alloc: Global, row: &str) -> Result<Vec<u8>, NoMemory> {
+    let mut shown = in_memory(alloc, row)?;
+    let told = in_tables(alloc, row)?;
+    if told.as_slice() != shown.as_slice() {
+        shown.extend_from_slice(b"over tables:\n")?;
+        shown.extend_from_slice(&told)?;
+    }
+    Ok(shown)
+}
+
+/// Runs a row, whose first line says what it is about, and prints what came of it.
+fn show(rt: &HostRuntime, row: &str) -> io::Result<()> {
+    let about = row.lines().next().unwrap_or("");
+    let Ok(shown) = shown(rt.alloc(), row) else {
+        return Err(io::ErrorKind::OutOfMemory.into());
+    };
+    let Ok(shown) = String::from_utf8(shown) else {
+        return Err(io::ErrorKind::InvalidData.into());
+    };
+    println!(rt; "=== {about}")?;
+    print!(rt; "{shown}")
+}
+
+fn main(rt: HostRuntime) -> io::Result<()> {
+    let text = io::read_to_string(rt.alloc(), rt.stdin())?;
+    let text = text.as_str();
+    let text = text.strip_suffix('\n').unwrap_or(text);
+    let text = text.strip_prefix("=== ").unwrap_or(text);
+    for row in text.split("\n=== ") {
+        show(&rt, row)?;
+    }
+    Ok(())
+}

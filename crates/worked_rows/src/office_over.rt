@@ -1,0 +1,100 @@
+//! Offices for rows, over each store.
+
+use crate::sitting::{setup_in, sit, statement_in};
+use deb_version::NoMemory;
+use office_http::Office;
+use office_mail::{Setup, SetupFault};
+use office_store::{Plain, Tables};
+use sqlite::{Alter, Connection};
+use std::alloc::Global;
+
+/// What parts the sittings of a row.
+const REOPEN: &str = "\n> reopen";
+
+/// What comes of a row in one office in memory, which stands from its first step to its last.
+pub fn in_memory(alloc: Global, row: &str) -> Result<Vec<u8>, NoMemory> {
+    let mut came = Vec::new(alloc);
+    let first = row.split(REOPEN).next().unwrap_or(row);
+    let setup = match Setup::parse(alloc, setup_in(first).as_bytes()) {
+        Ok(setup) => setup,
+        Err(fault) => {
+            put_refused(alloc, fault, &mut came)?;
+            return Ok(came);
+        }
+    };
+    let plain = Plain::new(alloc, &setup)?;
+    let mut office = Office::new(alloc, setup, plain);
+    for sitting in row.split(REOPEN) {
+        sit(alloc, &mut office, sitting, &mut came)?;
+    }
+    Ok(came)
+}
+
+/// What comes of a row over tables, which each sitting opens again.
+pub fn in_tables(alloc: Global, row: &str) -> Result<Vec<u8>, NoMemory> {
+    let mut came = Vec::new(alloc);
+    let Ok(mut conn) = Connection::open_in_memory(alloc) else {
+        return Err(NoMemory);
+    };
+    for sitting in row.split(REOPEN) {
+        conn = changed_in(alloc, conn, sitting, &mut came)?;
+        conn = sit_over(alloc, conn, sitting, &mut came)?;
+    }
+    drop(conn);
+    Ok(came)
+}
+
+/// The connection after a sitting's statement, if it gives one. One that fails is told.
+fn changed_in<S: Alter + Drop>(
+    alloc: Global,
+    conn: Connection<S>,
+    sitting: &str,
+    came: &mut Vec<u8>,
+) -> Result<Connection<S>, NoMemory> {
+    let mut conn = conn;
+    let Some(statement) = statement_in(sitting) else {
+        return Ok(conn);
+    };
+    if let Err(error) = conn.execute(statement, &[]) {
+        let line = format!(in alloc; "statement failed: {error:?}\n")?;
+        came.extend_from_slice(line.as_bytes())?;
+    }
+    Ok(conn)
+}
+
+/// A sitting over tables, which are closed behind it.
+fn sit_over<S: Alter + Drop>(
+    alloc: Global,
+    conn: Connection<S>,
+    sitting: &str,
+    came: &mut Vec<u8>,
+) -> Result<Connection<S>, NoMemory> {
+    let setup = match Setup::parse(alloc, setup_in(sitting).as_bytes()) {
+        Ok(setup) => setup,
+        Err(fault) => {
+            put_refused(alloc, fault, came)?;
+            return Ok(conn);
+        }
+    };
+    match Tables::open(alloc, conn, &setup) {
+        Ok(tables) => {
+            let mut office = Office::new(alloc, setup, tables);
+            let sat = sit(alloc, &mut office, sitting, came);
+            let conn = office.into_keeper().into_connection();
+            sat?;
+            Ok(conn)
+        }
+        Err((fault, conn)) => {
+            let line = format!(in alloc; "store refused: {fault:?}\n")?;
+            came.extend_from_slice(line.as_bytes())?;
+            Ok(conn)
+        }
+    }
+}
+
+/// Adds why a setup is refused.
+fn put_refused(alloc: Global, fault: SetupFault, came: &mut Vec<u8>) -> Result<(), NoMemory> {
+    let line = format!(in alloc; "setup refused: {fault:?}\n")?;
+    came.extend_from_slice(line.as_bytes())?;
+    Ok(())
+}

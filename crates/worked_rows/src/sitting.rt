@@ -1,0 +1,113 @@
+//! What an office does between two openings of its store.
+
+use crate::bytes::{bag_of, plain_bytes, request_of, text_of};
+use crate::chains::chain_of;
+use crate::replaying::{replay_broken, replay_halting, replay_in};
+use crate::steps::{deliver_in, serve_in, settle_in, status_in};
+use deb_version::NoMemory;
+use office_http::Office;
+use office_store::Keeper;
+use std::alloc::Global;
+
+/// The setup of a row that gives none.
+const SETUP: &str = "Architectures: amd64 arm64
+
+Sender: ftp
+Role: upload
+
+Sender: bd
+Role: build
+
+Sender: bts
+Role: bugs
+
+Sender: rt
+Role: release
+
+Sender: clock
+Role: runs
+";
+
+/// The setup that the steps of a sitting give.
+pub fn setup_in(sitting: &str) -> &str {
+    match sitting.split_once("\n> setup\n") {
+        Some((_, rest)) => match rest.split_once("\n> ") {
+            Some((setup, _)) => setup,
+            None => rest,
+        },
+        None => SETUP,
+    }
+}
+
+/// The statement of SQL that a sitting gives, which its tables are changed by before they are opened.
+pub fn statement_in(sitting: &str) -> Option<&str> {
+    let (_, rest) = sitting.split_once("\n> sql ")?;
+    rest.lines().next()
+}
+
+/// Takes the steps of a sitting in an office, and adds what comes of them. The text before the first step is none.
+pub fn sit<K: Keeper>(
+    alloc: Global,
+    office: &mut Office<K>,
+    sitting: &str,
+    came: &mut Vec<u8>,
+) -> Result<(), NoMemory> {
+    let mut steps = sitting.split("\n> ");
+    let _about = steps.next();
+    for step in steps {
+        let (what, text) = step.split_once('\n').unwrap_or((step, ""));
+        take(alloc, office, what, text, came)?;
+    }
+    Ok(())
+}
+
+/// Takes one step: mail or a request. A setup and a statement are none, since they come before an opening.
+fn take<K: Keeper>(
+    alloc: Global,
+    office: &mut Office<K>,
+    what: &str,
+    text: &str,
+    came: &mut Vec<u8>,
+) -> Result<(), NoMemory> {
+    if what == "bag" {
+        replay_in(alloc, office, &bag_of(alloc, text)?, came)
+    } else if what == "bytes" {
+        replay_in(alloc, office, &plain_bytes(alloc, text)?, came)
+    } else if what == "request" {
+        serve_in(alloc, office, &plain_bytes(alloc, text)?, came)
+    } else if let Some(what) = what.strip_prefix("http ") {
+        serve_in(alloc, office, &request_of(alloc, what, text)?, came)
+    } else if what == "setup" || what.starts_with("sql ") {
+        Ok(())
+    } else {
+        take_call(alloc, office, what, text, came)
+    }
+}
+
+/// Takes one step: the bag of a chain, one of which a read or a write fails, or a call of the office by itself.
+fn take_call<K: Keeper>(
+    alloc: Global,
+    office: &mut Office<K>,
+    what: &str,
+    text: &str,
+    came: &mut Vec<u8>,
+) -> Result<(), NoMemory> {
+    if let Some(what) = what.strip_prefix("chain ") {
+        replay_in(alloc, office, &chain_of(alloc, what)?, came)
+    } else if let Some(number) = what.strip_prefix("fail-read ") {
+        let fails_at = number.parse().unwrap_or(0);
+        replay_broken(alloc, office, fails_at, &bag_of(alloc, text)?, came)
+    } else if let Some(number) = what.strip_prefix("fail-write ") {
+        let fails_at = number.parse().unwrap_or(0);
+        replay_halting(alloc, office, fails_at, &bag_of(alloc, text)?, came)
+    } else if what == "deliver" {
+        deliver_in(alloc, office, &text_of(alloc, text)?, came)
+    } else if what == "status" {
+        status_in(alloc, office, came)
+    } else if what == "settle" {
+        settle_in(alloc, office, came)
+    } else {
+        came.extend_from_slice(b"unknown step\n")?;
+        Ok(())
+    }
+}
