@@ -1,4 +1,5 @@
 pub mod Serve
+pub mod ServeSteps
 pub use Rattle.office_requests.specs.Asked
 pub use Rattle.office_runs.specs.Preserves
 pub use Rattle.office_replies.specs.Counted

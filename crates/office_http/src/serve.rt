@@ -9,8 +9,10 @@ ghost use Rattle.office_requests.specs.Asked.{asked_of, body_size};
 ghost use Rattle.office_runs.specs.Preserves.{Asks, Preserves, Holds, StoreRefused};
 ghost use Rattle.office_runs.specs.Laws.{RunsStand};
 ghost use Rattle.office_requests.specs.Reply.{continue_bytes, refused, reply_bytes, HasPlace};
-ghost use Rattle.office_requests.specs.Request.{IsHeadAt, body_room, head_room};
-ghost use Rattle.office_http.specs.Serve.{refusal_for, status_answer, text_answer, report_answer, delivery_answer, waits_of, Tells, Does, Runs, Answers, StopsBefore, Serves, StopsRequest, StopsServe, ServesHead};
+ghost use Rattle.office_requests.specs.Request.{body_room, head_room};
+ghost use Rattle.office_requests.specs.RequestSteps.{IsHeadAt};
+ghost use Rattle.office_http.specs.Serve.{refusal_for, report_answer, delivery_answer, waits_of, Does, StopsBefore, Serves, StopsServe};
+ghost use Rattle.office_http.specs.ServeSteps.{status_answer, text_answer, Tells, Runs, Answers, StopsRequest, ServesHead};
 ghost use Rattle.office_runs.specs.State.{state_of};
 ghost use Rattle.office_replies.specs.Written.{AppendsFront};
 

@@ -11,7 +11,7 @@ use Rattle.office_mail.specs.Lists.{Lists}
 use Rattle.office_mail.specs.Kept.{Kept, Place, place_cmp}
 use Rattle.office_mail.proofs.KeptFacts.{places_total, same_kept}
 use Rattle.office_keeper.specs.Content.{Content}
-use Rattle.office_keeper.specs.Given.{KnowsArchs}
+use Rattle.office_keeper.specs.Provenance.{KnowsArchs}
 use Rattle.office_keeper.specs.declared.values.Reports.{Reports}
 use Rattle.office_keeper.specs.MemoryState.{IsMemoryState, kept_in}
 

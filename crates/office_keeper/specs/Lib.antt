@@ -1,4 +1,4 @@
 pub mod Content
 pub mod Keeping
-pub mod Given
+pub mod Provenance
 pub mod MemoryState

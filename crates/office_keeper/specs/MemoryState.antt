@@ -7,7 +7,7 @@ use Rattle.testing_model.specs.Suite.{Suite}
 use Rattle.office_keeper.specs.declared.values.Letter.{Letter}
 use Rattle.office_keeper.specs.declared.values.Reports.{Reports}
 use Rattle.office_keeper.specs.Content.{Content}
-use Rattle.office_keeper.specs.Given.{KnowsArchs}
+use Rattle.office_keeper.specs.Provenance.{KnowsArchs}
 
 pub record MemoryState : Type 0 where
   -- the setup that it was made for

@@ -3,7 +3,7 @@ ghost use Rattle.std.specs.Prelude.{◌≡◌, ◌≢◌, ◌≤◌, ◌+◌, �
 ghost use Rattle.std.specs.FinMap.{get, insert};
 ghost use Rattle.office_mail.specs.Lists.{Lists};
 ghost use Rattle.office_keeper.specs.Content.{Content, reports_in, with_text, with_run, item_from_one, letters_within};
-ghost use Rattle.office_keeper.specs.Given.{AreOwnTexts, IsGiven, KnowsArchs};
+ghost use Rattle.office_keeper.specs.Provenance.{AreOwnTexts, IsGiven, KnowsArchs};
 ghost use Rattle.office_keeper.specs.Keeping.{Counted, HasRisen};
 
 use crate::faults::{KeepCause, KeepFault};

@@ -8,7 +8,8 @@ use Rattle.std.proofs.Math.Seq.{take-nil}
 use Rattle.office_mail.specs.Bag.{header, handed, BeginsHeader, IsCutHeader, IsTruncated, EndsSo}
 use Rattle.office_mail.specs.Line.{spelled, IsLine}
 use Rattle.office_mail.specs.Reading.{Reading}
-use Rattle.office_mail.specs.BagSteps.{TakesBody, TakesMessage, Waits, Stops, BreaksOff, IsShort}
+use Rattle.office_mail.specs.BagSteps.{TakesMessage, Stops}
+use Rattle.office_mail.specs.BagReads.{TakesBody, Waits, BreaksOff, IsShort}
 use Rattle.office_mail.specs.declared.bag.BagFault.{BagFault}
 use Rattle.office_mail.specs.declared.bag.BagFault.TheVariants.{BadHeader, Truncated, ReadFault, NoMemory}
 use Rattle.office_mail.proofs.HeaderFacts.{spelled_digits, length-header}

@@ -1,5 +1,5 @@
 -- What a call on a bag took of the bytes, where they are known, and how it stopped.
-use Rattle.std.specs.Prelude.{◌≡◌, ℕ, ◌+◌, ◌<◌, ◌≤◌, ◌⊎◌, Option, Some, None, List, length, true, false}
+use Rattle.std.specs.Prelude.{◌≡◌, ℕ, ◌⊎◌, Option, Some, None, List, true, false}
 use Rattle.std.specs.Io.KnownBytes.{Consumes, IsAtEnd}
 use Rattle.office_mail.specs.Bag.{HasHeader, EndsSo, framed, handed}
 use Rattle.office_mail.specs.Counts.{HasRisen}
@@ -13,26 +13,6 @@ pub record TakesMessage (before after : Reading) (message : List ℕ) : Type 0 w
   pub announced : HasHeader whole
   pub same : message ≡ handed whole
   pub took : Consumes before.left after.left (framed whole)
-
--- the counts go on, each read is one call at most, and the bag is as open as before
-pub record GoesOn (before after : Reading) : Type 0 where
-  pub failures : before.failures ≤ after.failures
-  pub reads : before.reads ≤ after.reads
-  pub calls : after.calls + before.reads ≤ before.calls + after.reads
-  pub room : after.room ≤ before.room
-  pub ended : after.ended ≡ before.ended
-
--- the next n bytes are a message, and all but its surplus is handed out
-pub record TakesBody (before after : Reading) (n : ℕ) (message : List ℕ) : Type 0 where
-  pub whole : List ℕ
-  pub size : length whole ≡ n
-  pub same : message ≡ handed whole
-  pub took : Consumes before.left after.left whole
-
--- some bytes came that wait to be handed out
-pub record Waits (now : Reading) : Type 0 where
-  pub bytes : List ℕ
-  pub came : Consumes now.left now.unread bytes
 
 -- where the end of the input is the bag's end, it has been met
 abbrev pub MeetsEnd : Option BagFault → Reading → Type 0
@@ -48,20 +28,6 @@ pub record Stops (before after : Reading) (end : Option BagFault) : Type 0 where
   pub came : Consumes before.left after.unread rest
   pub ends : EndsSo end rest
   pub met : MeetsEnd end after
-
--- fewer than n bytes came; want of memory may come at any place
-abbrev pub IsShort : BagFault → ℕ → List ℕ → Type 0
-IsShort BadHeader n rest = ⊥
-IsShort Truncated n rest = length rest < n
-IsShort ReadFault n rest = length rest < n
-IsShort NoMemory n rest = Unit {0}
-
--- the next n bytes don't come
-pub record BreaksOff (before after : Reading) (n : ℕ) (fault : BagFault) : Type 0 where
-  pub rest : List ℕ
-  pub came : Consumes before.left after.unread rest
-  pub short : IsShort fault n rest
-  pub met : MeetsEnd (Some fault) after
 
 -- a read failed, or 1,000,000 reads were made and none met the end
 abbrev pub ReadFails : Reading → Reading → Type 0

@@ -18,4 +18,5 @@ pub mod Setup
 pub mod Step
 pub mod Steps
 pub mod BagSteps
+pub mod BagReads
 pub mod Values

@@ -4,7 +4,8 @@ ghost use Rattle.std.specs.Io.KnownBytes.{Consumes, IsAtEnd, Keeps};
 ghost use Rattle.office_mail.specs.Counts.{HasRisen};
 ghost use Rattle.office_mail.specs.Bag.{header, handed, ReadsOneWay};
 ghost use Rattle.office_mail.specs.Line.{IsLine};
-ghost use Rattle.office_mail.specs.BagSteps.{TakesMessage, TakesBody, GoesOn, Waits, Stops, BreaksOff, ReadFails};
+ghost use Rattle.office_mail.specs.BagSteps.{TakesMessage, Stops, ReadFails};
+ghost use Rattle.office_mail.specs.BagReads.{TakesBody, GoesOn, Waits, BreaksOff};
 
 use crate::feed::Feed;
 use std::alloc::{AllocFailed, Global};

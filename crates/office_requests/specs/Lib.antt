@@ -1,4 +1,5 @@
 pub mod Asked
 pub mod Reply
 pub mod Request
+pub mod RequestSteps
 pub mod Routes

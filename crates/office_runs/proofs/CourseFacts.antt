@@ -16,7 +16,8 @@ use Rattle.office_runs.specs.declared.replays.Replayed.{Replayed}
 use Rattle.office_replies.specs.Written.{AppendsFront}
 use Rattle.office_runs.specs.Output.{Marks, output}
 use Rattle.office_runs.specs.Losses.{MarksEnd, MarksCounted, is_short, has_refusal}
-use Rattle.office_runs.specs.Delivered.{KeepsMail, DeliversAll}
+use Rattle.office_runs.specs.Delivered.{KeepsMail}
+use Rattle.office_runs.specs.DeliverySteps.{DeliversAll}
 use Rattle.office_runs.specs.Replay.{Course, ReplaysAll, ReplaysFront}
 use Rattle.office_runs.proofs.EndFacts.{settled_ready}
 use Rattle.office_runs.proofs.RiseFacts.{deliveries_weaker, marks_weaker}

@@ -22,7 +22,8 @@ use Rattle.office_replies.specs.Replies.{reply_line, reply_by, if_taken, not_los
 use Rattle.office_runs.specs.Output.{reply_to, reply_lines}
 use Rattle.office_replies.specs.Written.{AppendsFront}
 use Rattle.office_runs.specs.Losses.{DeliveryCounted}
-use Rattle.office_runs.specs.Delivered.{CameFrom, CameFirst, KeepsMail, Delivers, DeliversAll, DeliversFront, DeliversOne, DeliversOneFront}
+use Rattle.office_runs.specs.Delivered.{CameFrom, CameFirst, KeepsMail, DeliversFront}
+use Rattle.office_runs.specs.DeliverySteps.{Delivers, DeliversAll, DeliversOne, DeliversOneFront}
 use Rattle.office_runs.proofs.RiseFacts.{delivery_weaker, deliveries_weaker}
 use Rattle.office_replies.proofs.WrittenFacts.{front_after}
 

@@ -13,7 +13,7 @@ use Rattle.office_mail.proofs.RunFacts.{IsReady-before}
 use Rattle.office_keeper.specs.declared.values.Reports.{Reports}
 use Rattle.office_keeper.specs.declared.values.Finished.{Finished}
 use Rattle.office_keeper.specs.Content.{Content, item_from_one, reports_in, with_run}
-use Rattle.office_keeper.specs.Given.{AreOwnTexts}
+use Rattle.office_keeper.specs.Provenance.{AreOwnTexts}
 use Rattle.office_runs.specs.State.{IsOffice, reports_at}
 use Rattle.testing_rules.specs.Watched.{AllWatchedWork}
 use Rattle.office_runs.specs.Outcome.{Testing, covered_items, outcome, outcome_on, outcome_of, reports_of, reports_to, testing_after}

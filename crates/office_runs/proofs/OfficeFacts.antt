@@ -13,7 +13,7 @@ use Rattle.office_replies.specs.declared.faults.DeliverFault.{DeliverFault}
 use Rattle.office_replies.specs.declared.faults.DeliverFault.TheVariants.{Mail}
 use Rattle.office_replies.specs.declared.faults.Held.{Held}
 use Rattle.office_keeper.specs.Content.{Content, no_content, reports_in, with_text}
-use Rattle.office_keeper.specs.Given.{AreOwnTexts}
+use Rattle.office_keeper.specs.Provenance.{AreOwnTexts}
 use Rattle.office_runs.specs.State.{IsOffice, AnswersDelivery, answer_to, answer_by, answer_at}
 use Rattle.office_mail.specs.declared.message.RunOrder.{RunOrder}
 use Rattle.office_mail.specs.Lists.{Lists}

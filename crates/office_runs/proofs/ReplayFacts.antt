@@ -23,7 +23,7 @@ use Rattle.office_replies.specs.Replies.{reply_by, mark_of, if_taken, reply_line
 use Rattle.office_runs.specs.Losses.{DeliveryCounted}
 use Rattle.office_runs.specs.Preserves.{StoreRefused}
 use Rattle.office_replies.specs.Counted.{Counted, CountedDelivery}
-use Rattle.office_runs.specs.Delivered.{DeliversOne, DeliversOneFront, Settles}
+use Rattle.office_runs.specs.DeliverySteps.{DeliversOne, DeliversOneFront, Settles}
 use Rattle.office_runs.specs.OfficeState.{OfficeState}
 use Rattle.office_replies.specs.Written.{AppendsFront}
 use Rattle.office_keeper.specs.Content.{Content}

@@ -1,4 +1,5 @@
--- How the texts at the end of a replay are written, one after another. No public contract cites these words.
+-- Steps: no contract of a call that users make rests on this file.
+-- How the texts at the end of a replay are written, one after another.
 use Rattle.std.specs.Prelude.{◌≡◌, ℕ, ◌+◌, List, [], ◌++◌, Option, Some, None, Bool, ◌||◌, Result, Ok, Err, length}
 use Rattle.std.specs.Io.KnownBytes.{Appends}
 use Rattle.office_replies.specs.declared.faults.Progress.{Progress}

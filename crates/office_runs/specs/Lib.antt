@@ -1,5 +1,6 @@
 pub mod Preserves
 pub mod Delivered
+pub mod DeliverySteps
 pub mod Ending
 pub mod Known
 pub mod StaysTrusted

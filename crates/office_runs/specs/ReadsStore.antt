@@ -1,3 +1,4 @@
+-- Steps: no contract of a call that users make rests on this file.
 -- What a call leaves that only asks a store.
 use Rattle.std.specs.Prelude.{◌≡◌, Result, is_ok}
 use Rattle.office_keeper.specs.declared.keeping.Keeper.{Ghosts}

@@ -12,7 +12,7 @@ use Rattle.office_replies.specs.declared.faults.DeliverFault.{DeliverFault}
 use Rattle.office_replies.specs.declared.faults.DeliverFault.TheVariants.{Mail, OtherText, Store}
 use Rattle.office_replies.specs.declared.faults.Held.{Held}
 use Rattle.office_keeper.specs.Content.{Content}
-use Rattle.office_keeper.specs.Given.{AreOwnTexts}
+use Rattle.office_keeper.specs.Provenance.{AreOwnTexts}
 use Rattle.office_keeper.specs.declared.values.Reports.{Reports}
 use Rattle.office_keeper.specs.declared.keeping.Keeper.{Ghosts}
 use Rattle.office_runs.specs.OfficeState.{OfficeState}

@@ -6,7 +6,7 @@ ghost use Rattle.std.specs.Option.{option_map};
 ghost use Rattle.testing_rules.specs.Watched.{AllWatchedWork};
 ghost use Rattle.office_mail.specs.Kept.{kept_from};
 ghost use Rattle.office_mail.specs.Runs.{IsReady, IsReadyCount};
-ghost use Rattle.office_keeper.specs.Given.{AreOwnTexts};
+ghost use Rattle.office_keeper.specs.Provenance.{AreOwnTexts};
 ghost use Rattle.office_replies.specs.Counted.{Counted, CountedDelivery};
 ghost use Rattle.office_runs.specs.StaysTrusted.{StaysTrusted};
 ghost use Rattle.office_runs.specs.Outcome.{testing_after, testing_text};

@@ -4,7 +4,7 @@
 ghost use Rattle.std.specs.Prelude.{is_ok, ◌≡◌, ℕ, ◌+◌, ◌<◌, ◌≤◌, ◌↔◌, IsTrue, IfOk, IfSome, OnOk, OnErr, length, slice_index, if◌then◌else◌};
 ghost use Rattle.testing_rules.specs.Watched.{AllWatchedWork};
 ghost use Rattle.office_mail.specs.Runs.{IsReady, IsReadyCount};
-ghost use Rattle.office_keeper.specs.Given.{AreOwnTexts, IsGiven, KnowsArchs};
+ghost use Rattle.office_keeper.specs.Provenance.{AreOwnTexts, IsGiven, KnowsArchs};
 ghost use Rattle.office_replies.specs.Counted.{Counted};
 ghost use Rattle.office_runs.specs.Known.{AreKnown, FactsStand};
 ghost use Rattle.office_runs.specs.StaysTrusted.{StaysTrusted};

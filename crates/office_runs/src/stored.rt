@@ -4,7 +4,7 @@
 ghost use Rattle.std.specs.Prelude.{is_ok, ◌≡◌, ◌+◌, ◌<◌, ◌≤◌, ◌++◌, ◌∷◌, [], None, IfOk, OnOk, OnErr, length};
 ghost use Rattle.std.specs.FinMap.{get, insert};
 ghost use Rattle.office_keeper.specs.Content.{with_text, with_run, reports_in, item_from_one, letters_within};
-ghost use Rattle.office_keeper.specs.Given.{AreOwnTexts, IsGiven, KnowsArchs};
+ghost use Rattle.office_keeper.specs.Provenance.{AreOwnTexts, IsGiven, KnowsArchs};
 ghost use Rattle.office_replies.specs.Counted.{Counted};
 ghost use Rattle.office_runs.specs.StaysTrusted.{StaysTrusted};
 ghost use Rattle.office_runs.specs.ReadsStore.{ReadsStore};

@@ -22,10 +22,12 @@ use Rattle.office_mail.specs.Kept.{Kept, Place}
 use Rattle.office_mail.specs.declared.message.Message.{Message}
 use Rattle.office_keeper.specs.declared.values.Finished.{Finished}
 use Rattle.office_keeper.specs.Content.{reports_in, with_run}
-use Rattle.office_keeper.specs.Given.{IsKept, GivesSource, IsArchPlace, GivesRow, IsGiven}
-use Rattle.office_store.specs.Tables.{Rows, AddsLetter, kept_rows, said_in, run_map}
+use Rattle.office_keeper.specs.Provenance.{IsKept, GivesSource, IsArchPlace, GivesRow, IsGiven}
+use Rattle.office_store.specs.Tables.{kept_rows, said_in, run_map}
+use Rattle.office_store.specs.TableSteps.{Rows, AddsLetter}
 use Rattle.sqlite.specs.Effect.{Database}
-use Rattle.office_store.specs.Entries.{source_map, source_entry, entry_map, row_entry}
+use Rattle.office_store.specs.Entries.{source_map, entry_map}
+use Rattle.office_store.specs.EntrySteps.{source_entry, row_entry}
 use Rattle.office_store.specs.Finishing.{FinishesRun}
 use Rattle.office_store.specs.TableContent.{own_by, message_by, message_at, source_as, source_by_message, source_at, is_arch_place, row_as, row_by_message, row_at, suite_in, reports_to, count_said, content_in}
 use Rattle.office_store.proofs.MailLemmas.{empty_of}

@@ -16,9 +16,11 @@ use Rattle.office_store.specs.Layout.{no_schema, office, mail, run, testing_sour
 use Rattle.office_store.specs.Texts.{create_office_text, create_mail_text, create_run_text, create_testing_source_text, create_testing_row_text}
 use Rattle.sqlite.specs.Tree.{Trees, put_row}
 use Rattle.office_store.specs.declared.said.Said.{Said}
-use Rattle.office_store.specs.Tables.{IsTrusted, Rows, said_in, SaysMore}
+use Rattle.office_store.specs.Tables.{IsTrusted, said_in}
+use Rattle.office_store.specs.TableSteps.{Rows, SaysMore}
 use Rattle.office_store.proofs.RunLemmas.{said_one}
-use Rattle.office_store.specs.Creating.{IsBuilding, Makes, MakesAll, IsBlank, schema_of_one, schema_of_two, schema_of_three, schema_of_four}
+use Rattle.office_store.specs.Creating.{IsBlank}
+use Rattle.office_store.specs.CreatingSteps.{IsBuilding, Makes, MakesAll, schema_of_one, schema_of_two, schema_of_three, schema_of_four}
 use Rattle.office_store.proofs.StepLemmas.{Stepped, step_before, step_on, begun_ok}
 use Rattle.office_store.proofs.WriteLemmas.{went, same_value}
 

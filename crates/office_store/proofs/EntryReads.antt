@@ -8,10 +8,11 @@ use Rattle.office_mail.specs.Kept.{Kept, Place}
 use Rattle.office_mail.specs.Lists.{Lists}
 use Rattle.office_mail.specs.declared.message.Message.{Message}
 use Rattle.testing_model.specs.declared.suite.RowIn.{RowIn}
-use Rattle.office_keeper.specs.Given.{IsArchPlace}
+use Rattle.office_keeper.specs.Provenance.{IsArchPlace}
 use Rattle.deb_control.specs.declared.binary.Binary.{Binary}
 use Rattle.office_store.specs.Tables.{number_in, small_of, small_in, text_in}
-use Rattle.office_store.specs.Entries.{integer_in, source_by, source_in, source_columns, row_by, entry_in, entry_columns}
+use Rattle.office_store.specs.Entries.{integer_in, source_by, source_in, row_by, entry_in}
+use Rattle.office_store.specs.EntrySteps.{source_columns, entry_columns}
 use Rattle.office_store.specs.TableContent.{message_at, source_by_message, source_at, source_by_entry, source_of, row_as, row_by_message, row_at, row_by_entry, row_of}
 use Rattle.office_store.proofs.LetterFacts.{number_is}
 use Rattle.office_store.proofs.EntryWrites.{Fits32, integer_is}

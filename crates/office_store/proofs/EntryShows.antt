@@ -14,7 +14,7 @@ use Rattle.sqlite.specs.Listing.{understood, reads_listing}
 use Rattle.sqlite.proofs.Callers.{IsPlain, command_of, reads_as}
 use Rattle.office_store.specs.Layout.{office_schema}
 use Rattle.office_store.specs.Texts.{sources_text, rows_text}
-use Rattle.office_store.specs.Entries.{source_columns, entry_columns}
+use Rattle.office_store.specs.EntrySteps.{source_columns, entry_columns}
 use Rattle.office_store.proofs.Compiled.{plain_query}
 use Rattle.office_store.proofs.Answered.{plain_answer}
 use Rattle.office_store.proofs.RunLemmas.{filter_all}

@@ -23,8 +23,9 @@ use Rattle.testing_items.proofs.Each.{each-put_all}
 use Rattle.office_mail.specs.Lists.{Lists}
 use Rattle.office_mail.specs.Kept.{Kept, Place}
 use Rattle.office_mail.specs.declared.message.Message.{Message}
-use Rattle.office_keeper.specs.Given.{upload_in, binary_in, IsArchPlace, KnowsArchs}
-use Rattle.office_store.specs.Entries.{source_in, source_columns, source_map, source_entry, entry_in, entry_columns, entry_map, row_entry}
+use Rattle.office_keeper.specs.Provenance.{upload_in, binary_in, IsArchPlace, KnowsArchs}
+use Rattle.office_store.specs.Entries.{source_in, source_map, entry_in, entry_map}
+use Rattle.office_store.specs.EntrySteps.{source_columns, source_entry, entry_columns, row_entry}
 use Rattle.office_store.specs.TableContent.{message_at, source_as, source_by_message, source_at, source_by_entry, source_of, is_arch_place, row_as, row_by_message, row_at, row_by_entry, row_of, put_all_sources, put_all_rows, IsGathered, suite_in}
 use Rattle.office_store.proofs.MailLemmas.{has_permuted, empty_of}
 use Rattle.office_store.proofs.SettingLemmas.{text_exact, row_order, row_exact}

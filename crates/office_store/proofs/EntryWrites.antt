@@ -22,7 +22,8 @@ use Rattle.office_mail.specs.Kept.{Place}
 use Rattle.office_store.specs.Layout.{office_schema, testing_source, testing_row}
 use Rattle.office_store.specs.Texts.{clear_sources_text, add_source_text, clear_rows_text, add_row_text}
 use Rattle.office_store.specs.Tables.{small_of, small_in, text_in}
-use Rattle.office_store.specs.Entries.{integer_in, source_by, source_in, ClearsSources, AddsSource, row_by, entry_in, ClearsRows, AddsRow}
+use Rattle.office_store.specs.Entries.{integer_in, source_by, source_in, row_by, entry_in}
+use Rattle.office_store.specs.EntrySteps.{ClearsSources, AddsSource, ClearsRows, AddsRow}
 use Rattle.office_store.proofs.Compiled.{plain_query}
 use Rattle.office_store.proofs.WriteLemmas.{Inserted, inserts_one, cast_null, cast_int}
 use Rattle.office_store.proofs.DeleteLemmas.{Deleted, deletes_some, nothing_left}

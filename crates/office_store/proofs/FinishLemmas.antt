@@ -5,8 +5,10 @@ use Rattle.sqlite.specs.Order.{Row}
 use Rattle.sqlite.specs.Tree.{Trees}
 use Rattle.office_keeper.specs.declared.values.Finished.{Finished}
 use Rattle.office_store.specs.declared.said.Said.{Said}
-use Rattle.office_store.specs.Tables.{Rows, IsWhole, SaysAlone, run_map, RecordsRun}
-use Rattle.office_store.specs.Entries.{source_map, entry_map, SetsSources, SetsRows}
+use Rattle.office_store.specs.Tables.{IsWhole, run_map}
+use Rattle.office_store.specs.TableSteps.{Rows, SaysAlone, RecordsRun}
+use Rattle.office_store.specs.Entries.{source_map, entry_map}
+use Rattle.office_store.specs.EntrySteps.{SetsSources, SetsRows}
 use Rattle.office_store.specs.Finishing.{WritesRun, with_count}
 
 pub writes : (a b c d : Trees) (run : ℕ) (done : Finished) (said : Said) → SetsSources a b done.testing.sources → SetsRows b c done.testing.rows

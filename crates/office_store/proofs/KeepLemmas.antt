@@ -18,7 +18,8 @@ use Rattle.sqlite.proofs.Callers.{runs_as, statement_of}
 use Rattle.sqlite.specs.Table.{Table}
 use Rattle.office_store.specs.Layout.{office_schema, mail}
 use Rattle.office_store.specs.Texts.{keep_text}
-use Rattle.office_store.specs.Tables.{Rows, letter_in, kept_rows, AddsLetter}
+use Rattle.office_store.specs.Tables.{letter_in, kept_rows}
+use Rattle.office_store.specs.TableSteps.{Rows, AddsLetter}
 use Rattle.office_store.proofs.Compiled.{keep_is, keep_plain}
 use Rattle.office_store.proofs.WriteLemmas.{Inserted, inserts_one, cast_null, cast_int}
 use Rattle.office_store.proofs.LetterFacts.{letter_of_parts, kept_put}

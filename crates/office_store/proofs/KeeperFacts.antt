@@ -13,7 +13,8 @@ use Rattle.office_store.specs.declared.faults.Cause.TheVariants.{Sqlite, BadRow}
 use Rattle.office_store.specs.TableFaults.{keeper_answer}
 use Rattle.office_store.specs.TableContent.{content_in, count_said}
 use Rattle.office_store.specs.Legible.{IsLegible}
-use Rattle.office_store.specs.Tables.{Same, run_map, said_in}
+use Rattle.office_store.specs.Tables.{run_map, said_in}
+use Rattle.office_store.specs.TableSteps.{Same}
 use Rattle.office_store.proofs.ReportFacts.{length_reports}
 
 -- what holds of an answer of the tables holds of the keeper's

@@ -17,9 +17,10 @@ use Rattle.office_keeper.specs.declared.values.Finished.{Finished}
 use Rattle.office_keeper.specs.declared.values.Reports.{Reports}
 use Rattle.office_store.specs.declared.said.Said.{Said}
 use Rattle.office_keeper.specs.Content.{reports_in}
-use Rattle.office_keeper.specs.Given.{IsGiven}
+use Rattle.office_keeper.specs.Provenance.{IsGiven}
 use Rattle.office_store.specs.Tables.{IsWhole, kept_rows, said_in, run_map}
-use Rattle.office_store.specs.Entries.{source_map, source_entry, entry_map, row_entry}
+use Rattle.office_store.specs.Entries.{source_map, entry_map}
+use Rattle.office_store.specs.EntrySteps.{source_entry, row_entry}
 use Rattle.office_store.specs.Finishing.{with_count, FinishesRun}
 use Rattle.office_store.specs.TableContent.{source_at, row_at, count_said, content_in}
 use Rattle.office_store.specs.Legible.{SaysOnce, AreReported, AreNamed, IsLegible}

@@ -18,7 +18,8 @@ use Rattle.office_mail.specs.Lists.{Lists}
 use Rattle.office_mail.specs.Kept.{Kept, Place, place_cmp}
 use Rattle.office_mail.proofs.KeptFacts.{places_total, exact_places}
 use Rattle.office_keeper.specs.Content.{with_text}
-use Rattle.office_store.specs.Tables.{Rows, AddsLetter, letter_in, kept_rows, said_in, run_map}
+use Rattle.office_store.specs.Tables.{letter_in, kept_rows, said_in, run_map}
+use Rattle.office_store.specs.TableSteps.{Rows, AddsLetter}
 use Rattle.office_store.specs.Entries.{source_map, entry_map}
 use Rattle.office_store.specs.TableContent.{message_by, message_at, source_by_message, source_at, row_by_message, row_at, suite_in, reports_to, count_said, content_in}
 use Rattle.office_store.specs.Legible.{IsWhole, SaysOnce, AreReported, AreNamed, IsLegible}

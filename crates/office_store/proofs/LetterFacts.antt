@@ -14,7 +14,8 @@ use Rattle.sqlite_value.proofs.OrderLemmas.{value_cmp-Int}
 use Rattle.office_mail.specs.Kept.{Place, place_cmp}
 use Rattle.office_mail.proofs.KeptFacts.{places_total, exact_places}
 use Rattle.office_store.proofs.KeyedFacts.{get_at, found_one, map_put}
-use Rattle.office_store.specs.Tables.{number_in, bytes_in, letter_by, letter_in, kept_rows, is_at}
+use Rattle.office_store.specs.Tables.{number_in, bytes_in, letter_by, letter_in, kept_rows}
+use Rattle.office_store.specs.TableSteps.{is_at}
 
 -- ---- values and what they say
 

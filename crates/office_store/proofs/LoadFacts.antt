@@ -15,7 +15,8 @@ use Rattle.office_mail.specs.Kept.{Kept, Place}
 use Rattle.office_mail.proofs.KeptFacts.{places_total, exact_places}
 use Rattle.office_keeper.specs.declared.values.Letter.{Letter}
 use Rattle.office_keeper.specs.Content.{letter_at, letters_within}
-use Rattle.office_store.specs.Tables.{letter_in, kept_rows, letter_columns, is_between, shown_letter, letter_entry, rises_from}
+use Rattle.office_store.specs.Tables.{letter_in, kept_rows}
+use Rattle.office_store.specs.TableSteps.{letter_columns, is_between, shown_letter, letter_entry, rises_from}
 use Rattle.office_store.proofs.LetterFacts.{letter_parts, int_is}
 use Rattle.office_store.proofs.MailLemmas.{has_permuted}
 use Rattle.office_store.proofs.EntryMaps.{from_first, has_first}

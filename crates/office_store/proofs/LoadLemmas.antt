@@ -27,7 +27,8 @@ use Rattle.sqlite_trees.proofs.ListLemmas.{filter-map, IsPermutation-filter}
 use Rattle.office_keeper.specs.declared.values.Letter.{Letter}
 use Rattle.office_store.specs.Layout.{office_schema}
 use Rattle.office_store.specs.Texts.{load_text}
-use Rattle.office_store.specs.Tables.{AreLetters, AreApart, is_at, letter_columns, ShowsLetters, is_between, shown_letter, letter_entry, rises_from, number_in, bytes_in}
+use Rattle.office_store.specs.Tables.{number_in, bytes_in}
+use Rattle.office_store.specs.TableSteps.{AreLetters, AreApart, is_at, letter_columns, ShowsLetters, is_between, shown_letter, letter_entry, rises_from}
 use Rattle.office_store.proofs.Compiled.{plain_query, equals}
 use Rattle.office_store.proofs.Answered.{passes, plain_answer}
 use Rattle.office_store.proofs.LetterFacts.{letter_parts, parts_by, number_is, int_is}

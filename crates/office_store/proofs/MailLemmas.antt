@@ -25,7 +25,8 @@ use Rattle.office_mail.proofs.KeptFacts.{exact_places}
 use Rattle.office_store.proofs.KeyedFacts.{tied}
 use Rattle.office_store.specs.Layout.{office_schema}
 use Rattle.office_store.specs.Texts.{find_text}
-use Rattle.office_store.specs.Tables.{is_at, letter_columns, letter_in, kept_rows, IsOnly, IsCrowded}
+use Rattle.office_store.specs.Tables.{letter_in, kept_rows}
+use Rattle.office_store.specs.TableSteps.{is_at, letter_columns, IsOnly, IsCrowded}
 use Rattle.office_store.proofs.Compiled.{find_query, find_is, find_plain}
 use Rattle.office_store.proofs.Answered.{passes, plain_answer}
 use Rattle.office_store.proofs.LetterFacts.{kept_at, letter_found, letter_of_parts, letter_parts, at_place}

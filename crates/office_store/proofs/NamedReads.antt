@@ -15,7 +15,8 @@ use Rattle.testing_model.specs.declared.suite.RowIn.{RowIn}
 use Rattle.testing_model.proofs.Orders.{text_order}
 use Rattle.office_mail.specs.Lists.{Lists}
 use Rattle.office_mail.specs.Kept.{Kept, Place}
-use Rattle.office_store.specs.Entries.{source_in, source_columns, source_map, entry_in, entry_columns, entry_map}
+use Rattle.office_store.specs.Entries.{source_in, source_map, entry_in, entry_map}
+use Rattle.office_store.specs.EntrySteps.{source_columns, entry_columns}
 use Rattle.office_store.specs.TableContent.{source_at, source_by_entry, source_of, row_at, row_by_entry, row_of, ReadsEach, put_all_sources, put_all_rows}
 use Rattle.office_store.specs.Legible.{IsWhole}
 use Rattle.office_store.proofs.MailLemmas.{has_permuted, as_many}

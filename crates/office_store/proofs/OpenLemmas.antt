@@ -7,7 +7,8 @@ use Rattle.sqlite.specs.Effect.{Database}
 use Rattle.office_mail.specs.Lists.{Lists}
 use Rattle.office_mail.specs.Setup.{IsSetup}
 use Rattle.office_store.specs.Layout.{office_schema}
-use Rattle.office_store.specs.Tables.{office_in, office_columns}
+use Rattle.office_store.specs.Tables.{office_in}
+use Rattle.office_store.specs.TableSteps.{office_columns}
 use Rattle.office_store.specs.Creating.{IsBlank}
 use Rattle.office_store.specs.SetupText.{setup_text}
 use Rattle.office_store.specs.Opening.{text_by, shown_office, text_of_one, kept_text, lists_by, IsKeptFor}

@@ -10,7 +10,8 @@ use Rattle.sqlite.specs.Order.{Row, column}
 use Rattle.sqlite_rules.specs.Lists.{Has}
 use Rattle.sqlite_rules.proofs.ListLemmas.{has_filtered}
 use Rattle.office_keeper.specs.declared.values.Reports.{Reports}
-use Rattle.office_store.specs.Tables.{number_in, text_in, run_by, run_in, run_map, is_run, run_columns}
+use Rattle.office_store.specs.Tables.{number_in, text_in, run_by, run_in, run_map}
+use Rattle.office_store.specs.TableSteps.{is_run, run_columns}
 use Rattle.office_store.specs.Legible.{AreReported}
 use Rattle.office_store.proofs.KeyedFacts.{tied}
 use Rattle.office_store.proofs.LetterFacts.{number_is}

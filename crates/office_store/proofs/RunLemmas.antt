@@ -20,7 +20,8 @@ use Rattle.office_keeper.specs.declared.values.Reports.{Reports}
 use Rattle.office_store.specs.declared.said.Said.{Said}
 use Rattle.office_store.specs.Layout.{office_schema}
 use Rattle.office_store.specs.Texts.{office_text, reports_text}
-use Rattle.office_store.specs.Tables.{number_in, text_in, office_in, said_in, office_columns, IsOnlyOffice, run_by, run_in, run_map, is_run, run_columns, IsOnlyRun}
+use Rattle.office_store.specs.Tables.{number_in, text_in, office_in, said_in, run_by, run_in, run_map}
+use Rattle.office_store.specs.TableSteps.{office_columns, IsOnlyOffice, is_run, run_columns, IsOnlyRun}
 use Rattle.office_store.proofs.Compiled.{plain_query, equals}
 use Rattle.office_store.proofs.Answered.{passes, plain_answer}
 use Rattle.office_store.proofs.KeyedFacts.{get_at, found_one}

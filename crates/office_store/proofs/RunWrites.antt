@@ -26,7 +26,8 @@ use Rattle.office_keeper.specs.declared.values.Reports.{Reports}
 use Rattle.office_store.specs.declared.said.Said.{Said}
 use Rattle.office_store.specs.Layout.{office_schema, run, office}
 use Rattle.office_store.specs.Texts.{add_run_text, clear_office_text, add_office_text}
-use Rattle.office_store.specs.Tables.{Rows, number_in, text_in, run_in, run_map, office_by, office_in, said_in, IsWhole, SaysAlone, AddsRun, Silences, SaysMore, RecordsRun}
+use Rattle.office_store.specs.Tables.{number_in, text_in, run_in, run_map, office_by, office_in, said_in, IsWhole}
+use Rattle.office_store.specs.TableSteps.{Rows, SaysAlone, AddsRun, Silences, SaysMore, RecordsRun}
 use Rattle.office_store.proofs.Compiled.{plain_query}
 use Rattle.office_store.proofs.WriteLemmas.{Inserted, inserts_one, cast_int}
 use Rattle.office_store.proofs.DeleteLemmas.{Deleted, deletes_some, nothing_left}

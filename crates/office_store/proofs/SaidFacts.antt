@@ -7,7 +7,8 @@ use Rattle.std.specs.FinMap.{find, nat_cmp-IsAntisymmetric}
 use Rattle.sqlite.specs.declared.types.Value.TheVariants.{Int, Text}
 use Rattle.sqlite.specs.Order.{Row, column}
 use Rattle.office_store.specs.declared.said.Said.{Said}
-use Rattle.office_store.specs.Tables.{number_in, text_in, office_by, office_in, said_in, office_columns}
+use Rattle.office_store.specs.Tables.{number_in, text_in, office_by, office_in, said_in}
+use Rattle.office_store.specs.TableSteps.{office_columns}
 use Rattle.office_store.specs.Legible.{SaysOnce}
 use Rattle.office_store.proofs.KeyedFacts.{tied}
 use Rattle.office_store.proofs.LetterFacts.{number_is}

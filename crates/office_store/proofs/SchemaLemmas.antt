@@ -2,7 +2,8 @@
 use Rattle.std.proofs.Common.{◌≡◌, [], refl, sym, ap, ◌∙◌}
 use Rattle.sqlite_tied.specs.Compute.{everything}
 use Rattle.sqlite.specs.Schema.{Schema}
-use Rattle.office_store.specs.Layout.{office_schema, office_tables, office_indexes, mail_index, testing_source_index, testing_row_index}
+use Rattle.office_store.specs.Layout.{office_schema}
+use Rattle.office_store.specs.LayoutSteps.{office_tables, office_indexes, mail_index, testing_source_index, testing_row_index}
 
 tables_are : office_schema.tables ≡ office_tables
 unfolding everything office_tables

@@ -20,8 +20,10 @@ use Rattle.testing_model.specs.Moves.{row_cmp, row_key}
 use Rattle.testing_model.specs.InOrder.{AreByName, AreByKey}
 use Rattle.testing_model.proofs.Orders.{text_order}
 use Rattle.office_mail.specs.Kept.{Place}
-use Rattle.office_store.specs.Tables.{Rows, IsWhole}
-use Rattle.office_store.specs.Entries.{source_in, source_map, source_entry, ClearsSources, AddsSource, SetsSources, entry_in, entry_map, row_entry, ClearsRows, AddsRow, SetsRows}
+use Rattle.office_store.specs.Tables.{IsWhole}
+use Rattle.office_store.specs.TableSteps.{Rows}
+use Rattle.office_store.specs.Entries.{source_in, source_map, entry_in, entry_map}
+use Rattle.office_store.specs.EntrySteps.{source_entry, ClearsSources, AddsSource, SetsSources, row_entry, ClearsRows, AddsRow, SetsRows}
 use Rattle.office_store.proofs.KeyedFacts.{map_put}
 use Rattle.office_store.proofs.WholeWrites.{whole_put}
 use Rattle.office_store.proofs.KeepLemmas.{five}

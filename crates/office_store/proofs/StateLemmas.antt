@@ -11,7 +11,8 @@ use Rattle.sqlite.specs.State.{State, HasCleanDisk, IsUnchanged, IsRolledBack, I
 use Rattle.sqlite.specs.Clock.{timed}
 use Rattle.sqlite.proofs.Callers.{IsPlain}
 use Rattle.office_store.specs.Layout.{office_schema}
-use Rattle.office_store.specs.Tables.{IsTrusted, IsOurs, Same, Lasts}
+use Rattle.office_store.specs.Tables.{IsTrusted, IsOurs}
+use Rattle.office_store.specs.TableSteps.{Same, Lasts}
 use Rattle.office_keeper.specs.Keeping.{HasRisen}
 use Rattle.sqlite_trees.specs.Tree.{Trees}
 

@@ -9,7 +9,8 @@ use Rattle.std.specs.FinMap.{FinMap, IsAntisymmetric, get, insert, len, from_ent
 use Rattle.sqlite.specs.Order.{Row}
 use Rattle.sqlite_rules.specs.Lists.{Has}
 use Rattle.office_mail.proofs.KeptFacts.{places_total, exact_places}
-use Rattle.office_store.specs.Tables.{letter_in, kept_rows, AreLetters, AreApart, IsCrowded}
+use Rattle.office_store.specs.Tables.{letter_in, kept_rows}
+use Rattle.office_store.specs.TableSteps.{AreLetters, AreApart, IsCrowded}
 use Rattle.office_store.specs.Legible.{IsWhole}
 use Rattle.office_store.proofs.LetterFacts.{at_place}
 use Rattle.office_store.proofs.KeyedFacts.{tied}

@@ -1,40 +1,9 @@
--- What makes the office's tables in a fresh database.
-use Rattle.std.specs.Prelude.{◌≡◌, [], ◌∷◌, Some, IsTrue}
-use Rattle.sqlite.specs.Change.{created, next_tree, KeepsRows}
+-- The tables of an office as they are when they are made.
+use Rattle.std.specs.Prelude.{◌≡◌, [], ◌∷◌, Some}
 use Rattle.sqlite.specs.Order.{Row}
-use Rattle.sqlite.specs.Schema.{Schema}
-use Rattle.sqlite.specs.State.{State}
-use Rattle.sqlite.specs.Table.{Table}
 use Rattle.sqlite.specs.Tree.{Trees}
 use Rattle.office_store.specs.declared.said.Said.{Said}
-use Rattle.office_store.specs.Layout.{no_schema, office, mail, run, testing_source, testing_row}
 use Rattle.office_store.specs.Tables.{office_in, said_in}
-
--- the schema after each table in turn
-abbrev pub schema_of_one : Schema
-schema_of_one = created no_schema office
-
-abbrev pub schema_of_two : Schema
-schema_of_two = created schema_of_one mail
-
-abbrev pub schema_of_three : Schema
-schema_of_three = created schema_of_two run
-
-abbrev pub schema_of_four : Schema
-schema_of_four = created schema_of_three testing_source
-
--- this schema stands so far, in a transaction that is under way
-pub record IsBuilding (schema : Schema) (s : State) : Type 0 where
-  pub schema_is : s.now.schema ≡ schema
-  pub begun : IsTrue s.in_transaction
-
--- a table was made, with no row; the tables before it have theirs, and nothing was committed
-pub record Makes (schema : Schema) (table : Table) (old new : State) : Type 0 where
-  pub schema_is : new.now.schema ≡ created schema table
-  pub begun : IsTrue new.in_transaction
-  pub committed : new.committed ≡ old.committed
-  pub empty : new.now.trees (next_tree schema) ≡ []
-  pub others : KeepsRows schema.tables old.now.trees new.now.trees
 
 -- the tables stand: the office says this in its one row, and all else is empty
 pub record IsBlank (db : Trees) (said : Said) : Type 0 where
@@ -46,14 +15,3 @@ pub record IsBlank (db : Trees) (said : Said) : Type 0 where
   pub runs : db 3 ≡ []
   pub sources : db 4 ≡ []
   pub rows : db 6 ≡ []
-
--- the five tables were made, with no row
-pub record MakesAll (old new : State) : Type 0 where
-  pub schema_is : new.now.schema ≡ created schema_of_four testing_row
-  pub begun : IsTrue new.in_transaction
-  pub committed : new.committed ≡ old.committed
-  pub office : new.now.trees 0 ≡ []
-  pub mail : new.now.trees 1 ≡ []
-  pub runs : new.now.trees 3 ≡ []
-  pub sources : new.now.trees 4 ≡ []
-  pub rows : new.now.trees 6 ≡ []

@@ -1,3 +1,4 @@
+-- Steps: no contract of a call that users make rests on this file.
 -- What a finished run makes of the tables.
 use Rattle.std.specs.Prelude.{◌≡◌, ℕ, length, map, Some, None}
 use Rattle.std.specs.FinMap.{get, insert, from_entries}
@@ -5,8 +6,10 @@ use Rattle.sqlite.specs.Tree.{Trees}
 use Rattle.office_keeper.specs.declared.values.Finished.{Finished}
 use Rattle.office_store.specs.declared.said.Said.{Said}
 use Rattle.office_keeper.specs.Content.{reports_in}
-use Rattle.office_store.specs.Tables.{IsWhole, SaysAlone, said_in, run_map}
-use Rattle.office_store.specs.Entries.{source_map, source_entry, entry_map, row_entry}
+use Rattle.office_store.specs.Tables.{IsWhole, said_in, run_map}
+use Rattle.office_store.specs.TableSteps.{SaysAlone}
+use Rattle.office_store.specs.Entries.{source_map, entry_map}
+use Rattle.office_store.specs.EntrySteps.{source_entry, row_entry}
 
 -- the office says so many runs instead, and else the same
 abbrev pub with_count : ℕ → Said → Said

@@ -19,7 +19,7 @@ use Rattle.office_mail.specs.Read.{read}
 use Rattle.office_keeper.specs.declared.values.Reports.{Reports}
 use Rattle.office_store.specs.declared.said.Said.{Said}
 use Rattle.office_keeper.specs.Content.{Content}
-use Rattle.office_keeper.specs.Given.{upload_in, binary_in}
+use Rattle.office_keeper.specs.Provenance.{upload_in, binary_in}
 use Rattle.office_store.specs.Tables.{kept_rows, said_in, run_map}
 use Rattle.office_store.specs.Entries.{source_in, source_map, entry_in, entry_map}
 

@@ -1,3 +1,4 @@
+-- Steps: no contract of a call that users make rests on this file.
 -- What a keeper over tables answers where they give up.
 use Rattle.std.specs.Prelude.{Result, Ok, Err}
 use Rattle.office_keeper.specs.declared.faults.KeepCause.{KeepCause}

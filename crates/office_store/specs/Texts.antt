@@ -1,3 +1,4 @@
+-- Steps: no contract of a call that users make rests on this file.
 -- The statements of the office's store.
 use Rattle.std.specs.Prelude.{codes, List, ℕ}
 

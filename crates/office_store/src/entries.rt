@@ -10,10 +10,12 @@ ghost use Rattle.sqlite.specs.declared.types.Value.TheVariants.{Int, Text as Wor
 ghost use Rattle.sqlite.specs.Held.{state};
 ghost use Rattle.sqlite.specs.State.{HasCleanDisk};
 ghost use Rattle.office_mail.specs.Read.{read};
-ghost use Rattle.office_keeper.specs.Given.{IsArchPlace, KnowsArchs, upload_in, binary_in};
-ghost use Rattle.office_store.specs.Tables.{IsTrusted, Lasts, IsOurs, IsCrowded, Same, kept_rows};
+ghost use Rattle.office_keeper.specs.Provenance.{IsArchPlace, KnowsArchs, upload_in, binary_in};
+ghost use Rattle.office_store.specs.Tables.{IsTrusted, IsOurs, kept_rows};
+ghost use Rattle.office_store.specs.TableSteps.{Lasts, IsCrowded, Same};
 ghost use Rattle.office_store.specs.Legible.{IsWhole, AreNamed};
-ghost use Rattle.office_store.specs.Entries.{source_in, source_columns, source_map, entry_in, entry_columns, entry_map};
+ghost use Rattle.office_store.specs.Entries.{source_in, source_map, entry_in, entry_map};
+ghost use Rattle.office_store.specs.EntrySteps.{source_columns, entry_columns};
 ghost use Rattle.office_store.specs.TableContent.{own_by, message_at as kept_message, source_as, source_of, row_as, row_of, is_arch_place, ReadsEach, put_all_sources, put_all_rows, IsGathered, suite_in};
 
 use crate::faults::{Cause, TableFault, unread};

@@ -1,6 +1,7 @@
 //! Whether a database has the office's tables and no others, column by column.
 ghost use Rattle.std.specs.Prelude.{◌≡◌, ◌↔◌, [], ◌∷◌, codes, IsTrue, IfOk};
-ghost use Rattle.office_store.specs.Layout.{column_by, to_mail, key_index, IsBare, IsAt, IsNumbered, IsKeyed, office, mail, run, testing_source, testing_row, standing, office_tables, office_indexes, mail_index, testing_source_index, testing_row_index, no_schema, office_schema};
+ghost use Rattle.office_store.specs.Layout.{column_by, to_mail, office, mail, run, testing_source, testing_row, no_schema, office_schema};
+ghost use Rattle.office_store.specs.LayoutSteps.{key_index, IsBare, IsAt, IsNumbered, IsKeyed, standing, office_tables, office_indexes, mail_index, testing_source_index, testing_row_index};
 ghost use Rattle.sqlite_value.specs.Keys.{plain};
 
 use sqlite_items::Items;
@@ -290,7 +291,7 @@ fn is_testing_row(alloc: Global, table: &Table) -> Result<bool, AllocError>
 }
 
 /// Whether these are the office's five tables.
-#[tactic(auto, unfolding(crate::specs::Layout::office_tables))]
+#[tactic(auto, unfolding(crate::specs::LayoutSteps::office_tables))]
 fn are_tables(alloc: Global, tables: &[Table]) -> Result<bool, AllocError>
     ensures { IfOk result (λ same. IsTrue same ↔ (tables.now ≡ office_tables)) }
 {
@@ -307,7 +308,7 @@ fn are_tables(alloc: Global, tables: &[Table]) -> Result<bool, AllocError>
 }
 
 /// Whether an index is that of mail's key.
-#[tactic(auto, unfolding(crate::specs::Layout::mail_index))]
+#[tactic(auto, unfolding(crate::specs::LayoutSteps::mail_index))]
 fn is_mail_index(index: &Index) -> bool
     ensures { IsTrue result ↔ (index.now ≡ mail_index) }
 {
@@ -315,7 +316,7 @@ fn is_mail_index(index: &Index) -> bool
 }
 
 /// Whether an index is that of the key of testing's sources.
-#[tactic(auto, unfolding(crate::specs::Layout::testing_source_index))]
+#[tactic(auto, unfolding(crate::specs::LayoutSteps::testing_source_index))]
 fn is_testing_source_index(index: &Index) -> bool
     ensures { IsTrue result ↔ (index.now ≡ testing_source_index) }
 {
@@ -323,7 +324,7 @@ fn is_testing_source_index(index: &Index) -> bool
 }
 
 /// Whether an index is that of the key of testing's rows.
-#[tactic(auto, unfolding(crate::specs::Layout::testing_row_index))]
+#[tactic(auto, unfolding(crate::specs::LayoutSteps::testing_row_index))]
 fn is_testing_row_index(index: &Index) -> bool
     ensures { IsTrue result ↔ (index.now ≡ testing_row_index) }
 {
@@ -331,7 +332,7 @@ fn is_testing_row_index(index: &Index) -> bool
 }
 
 /// Whether these are the indexes of their keys.
-#[tactic(auto, unfolding(crate::specs::Layout::office_indexes))]
+#[tactic(auto, unfolding(crate::specs::LayoutSteps::office_indexes))]
 fn are_indexes(indexes: &[Index]) -> bool
     ensures { IsTrue result ↔ (indexes.now ≡ office_indexes) }
 {

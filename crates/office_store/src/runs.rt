@@ -12,12 +12,13 @@ ghost use Rattle.sqlite.specs.Order.{column};
 ghost use Rattle.sqlite.specs.declared.types.Value.TheVariants.{Int, Text as Words};
 ghost use Rattle.sqlite.specs.Held.{state};
 ghost use Rattle.sqlite.specs.State.{HasCleanDisk};
-ghost use Rattle.office_store.specs.Tables.{IsTrusted, Lasts, IsOurs, Same, IsInside, WentOn, IsOnlyOffice, IsOnlyRun, AddsRun, Silences, SaysMore, RecordsRun, office_columns, said_in as said_rows, is_run, run_columns, run_map};
+ghost use Rattle.office_store.specs.Tables.{IsTrusted, IsOurs, said_in as said_rows, run_map};
+ghost use Rattle.office_store.specs.TableSteps.{Lasts, Same, IsInside, WentOn, IsOnlyOffice, IsOnlyRun, AddsRun, Silences, SaysMore, RecordsRun, office_columns, is_run, run_columns};
 
 use crate::faults::{Cause, TableFault, unread};
 use crate::said::Said;
-use office_keeper::Reports;
 use deb_control::Text;
+use office_keeper::Reports;
 use sqlite::{Alter, Connection, Error, Row, Transaction, params};
 
 /// What a row of the office says, whose id is 1.

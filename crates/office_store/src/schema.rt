@@ -2,9 +2,11 @@
 ghost use Rattle.std.specs.Prelude.{◌≡◌, ◌≢◌, Err, IsTrue, OnOk, OnErr};
 ghost use Rattle.sqlite.specs.Held.{state};
 ghost use Rattle.office_store.specs.Layout.{no_schema, office, mail, run, testing_source, testing_row};
-ghost use Rattle.office_store.specs.Tables.{IsTrusted, IsOurs, IsInside, WentOn};
+ghost use Rattle.office_store.specs.Tables.{IsTrusted, IsOurs};
+ghost use Rattle.office_store.specs.TableSteps.{IsInside, WentOn};
 ghost use Rattle.office_store.specs.Opening.{IsAsItWas};
-ghost use Rattle.office_store.specs.Creating.{IsBuilding, Makes, MakesAll, IsBlank, schema_of_one, schema_of_two, schema_of_three, schema_of_four};
+ghost use Rattle.office_store.specs.Creating.{IsBlank};
+ghost use Rattle.office_store.specs.CreatingSteps.{IsBuilding, Makes, MakesAll, schema_of_one, schema_of_two, schema_of_three, schema_of_four};
 
 use crate::faults::{Cause, TableFault};
 use crate::layout::is_fresh;

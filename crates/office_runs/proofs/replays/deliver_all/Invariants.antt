@@ -1,6 +1,6 @@
 use Rattle.std.proofs.Common.{◌≡◌, ◌+◌, ◌≤◌, false}
 use Rattle.office_runs.specs.Preserves.{Preserves, Holds, StoreRefused}
-use Rattle.office_runs.specs.Delivered.{Delivers}
+use Rattle.office_runs.specs.DeliverySteps.{Delivers}
 use Rattle.office_runs.specs.State.{state_of}
 use Rattle.office_runs.proofs.replays.deliver_all.Given as goal
 

@@ -4,7 +4,7 @@ use Rattle.std.specs.Io.KnownBytes.{Appends}
 use Rattle.office_mail.specs.Lists.{Lists}
 use Rattle.office_replies.specs.declared.replies.Mark.{Mark}
 use Rattle.office_runs.specs.Preserves.{StoreRefused}
-use Rattle.office_runs.specs.Delivered.{DeliversOne}
+use Rattle.office_runs.specs.DeliverySteps.{DeliversOne}
 use Rattle.office_replies.specs.Replies.{reply_line}
 use Rattle.office_runs.specs.State.{state_of}
 use Rattle.office_replies.specs.Written.{AppendsFront}

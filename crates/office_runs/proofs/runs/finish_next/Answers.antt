@@ -6,7 +6,7 @@ use Rattle.office_mail.specs.Kept.{Kept}
 use Rattle.office_mail.specs.Lists.{Lists}
 use Rattle.office_mail.specs.Runs.{IsReady}
 use Rattle.office_keeper.specs.Content.{Content, with_run}
-use Rattle.office_keeper.specs.Given.{AreOwnTexts, IsGiven}
+use Rattle.office_keeper.specs.Provenance.{AreOwnTexts, IsGiven}
 use Rattle.office_runs.specs.declared.covered.KnownFacts.{KnownFacts}
 use Rattle.office_runs.specs.Known.{FactsStand}
 use Rattle.office_runs.specs.Outcome.{outcome_of}

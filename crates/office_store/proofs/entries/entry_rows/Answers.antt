@@ -5,7 +5,7 @@ use Rattle.sqlite.specs.Tree.{Trees}
 use Rattle.sqlite.specs.Effect.{Database}
 use Rattle.sqlite.specs.Held.{state}
 use Rattle.office_store.specs.Texts.{rows_text}
-use Rattle.office_store.specs.Entries.{entry_columns}
+use Rattle.office_store.specs.EntrySteps.{entry_columns}
 use Rattle.office_store.proofs.StateLemmas.{Asked, asked_before, asked_same, asked_rows, asked_open}
 use Rattle.office_store.proofs.EntryShows.{shows_rows, rows_plain}
 use Rattle.office_store.proofs.entries.entry_rows.Goals as goal

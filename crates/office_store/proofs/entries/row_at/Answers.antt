@@ -1,7 +1,8 @@
 use Rattle.std.proofs.Common.{Some, inr, sym, ◌∙◌}
 use Rattle.sqlite.specs.Held.{state}
-use Rattle.office_store.specs.Tables.{IsCrowded, kept_rows}
-use Rattle.office_keeper.specs.Given.{binary_in}
+use Rattle.office_store.specs.Tables.{kept_rows}
+use Rattle.office_store.specs.TableSteps.{IsCrowded}
+use Rattle.office_keeper.specs.Provenance.{binary_in}
 use Rattle.office_store.proofs.Passed.{passed}
 use Rattle.office_store.proofs.EntryReads.{row_none, row_by_parts, row_missing, row_known}
 use Rattle.office_store.proofs.entries.row_at.Goals as goal

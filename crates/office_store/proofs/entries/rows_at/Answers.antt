@@ -7,7 +7,7 @@ use Rattle.office_store.proofs.StateLemmas.{lasts_then, clean_before}
 use Rattle.office_store.proofs.Passed.{passed, no_none}
 use Rattle.office_store.proofs.EntryLists.{read_more, each_pushed}
 use Rattle.testing_model.specs.declared.suite.RowIn.{RowIn}
-use Rattle.office_keeper.specs.Given.{IsArchPlace}
+use Rattle.office_keeper.specs.Provenance.{IsArchPlace}
 use Rattle.office_store.proofs.entries.rows_at.Goals as goal
 
 pub rows-preserved : goal.rows-preserved

@@ -1,6 +1,7 @@
 use Rattle.std.proofs.Common.{Some, inr, sym, ◌∙◌}
 use Rattle.sqlite.specs.Held.{state}
-use Rattle.office_store.specs.Tables.{IsCrowded, kept_rows}
+use Rattle.office_store.specs.Tables.{kept_rows}
+use Rattle.office_store.specs.TableSteps.{IsCrowded}
 use Rattle.office_store.proofs.EntryReads.{source_none, source_by_parts, source_missing}
 use Rattle.office_store.proofs.Passed.{passed}
 use Rattle.office_store.proofs.entries.source_at.Goals as goal

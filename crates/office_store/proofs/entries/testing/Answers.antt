@@ -4,7 +4,7 @@ use Rattle.sqlite.specs.Order.{Row}
 use Rattle.sqlite.specs.Effect.{Database}
 use Rattle.sqlite.specs.Held.{state}
 use Rattle.office_store.specs.Tables.{kept_rows}
-use Rattle.office_store.specs.Entries.{source_columns, entry_columns}
+use Rattle.office_store.specs.EntrySteps.{source_columns, entry_columns}
 use Rattle.office_store.specs.TableContent.{source_of, row_of, ReadsEach}
 use Rattle.office_store.proofs.EntryValues.{gathered_on, known_on}
 use Rattle.office_store.proofs.NamedReads.{sources_read, sources_put, rows_read, rows_put}

@@ -2,7 +2,7 @@ use Rattle.std.proofs.Common.{◌∷◌, [], pos}
 use Rattle.sqlite.specs.declared.types.Value.TheVariants.{Int, Blob}
 use Rattle.sqlite.specs.Held.{state}
 use Rattle.office_store.specs.Texts.{keep_text}
-use Rattle.office_store.specs.Tables.{AddsLetter}
+use Rattle.office_store.specs.TableSteps.{AddsLetter}
 use Rattle.office_store.proofs.StepLemmas.{Stepped, step_went, step_gives, step_open}
 use Rattle.office_store.proofs.KeepLemmas.{keeps}
 use Rattle.office_store.proofs.mail.add_letter.Goals as goal

@@ -6,7 +6,7 @@ use Rattle.sqlite.specs.Effect.{Database}
 use Rattle.sqlite.specs.declared.types.Value.TheVariants.{Int}
 use Rattle.sqlite.specs.Held.{state}
 use Rattle.office_store.specs.Texts.{find_text}
-use Rattle.office_store.specs.Tables.{is_at, letter_columns}
+use Rattle.office_store.specs.TableSteps.{is_at, letter_columns}
 use Rattle.office_store.proofs.Compiled.{find_plain}
 use Rattle.office_store.proofs.StateLemmas.{Asked, asked_before, asked_same, asked_rows, asked_open}
 use Rattle.office_store.proofs.MailLemmas.{finds_rows}

@@ -6,7 +6,7 @@ use Rattle.sqlite.specs.Effect.{Database}
 use Rattle.sqlite.specs.declared.types.Value.TheVariants.{Int}
 use Rattle.sqlite.specs.Held.{state}
 use Rattle.office_store.specs.Texts.{load_text}
-use Rattle.office_store.specs.Tables.{is_between, letter_columns}
+use Rattle.office_store.specs.TableSteps.{is_between, letter_columns}
 use Rattle.office_store.proofs.StateLemmas.{Asked, asked_before, asked_same, asked_rows, asked_open}
 use Rattle.office_store.proofs.LoadLemmas.{load_plain, shows_between}
 use Rattle.office_store.proofs.mail.letters_between.Goals as goal

@@ -1,6 +1,6 @@
 use Rattle.std.proofs.Common.{[], ◌∷◌, map, sym, ap, ◌∙◌}
 use Rattle.std.proofs.lemmas.List.{map-append}
-use Rattle.office_store.specs.Tables.{shown_letter, letter_entry}
+use Rattle.office_store.specs.TableSteps.{shown_letter, letter_entry}
 use Rattle.office_store.proofs.EntryLists.{read_more}
 use Rattle.office_store.proofs.LoadFacts.{letter_says}
 use Rattle.office_store.proofs.Passed.{passed}

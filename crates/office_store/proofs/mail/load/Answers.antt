@@ -1,6 +1,6 @@
 use Rattle.std.proofs.Common.{sym, subst, arith}
 use Rattle.sqlite.specs.Held.{state}
-use Rattle.office_store.specs.Tables.{ShowsLetters}
+use Rattle.office_store.specs.TableSteps.{ShowsLetters}
 use Rattle.office_store.proofs.LoadFacts.{loaded_on}
 use Rattle.office_store.proofs.LoadLemmas.{shows_letters, few_letters}
 use Rattle.office_store.proofs.Passed.{passed}

@@ -2,7 +2,7 @@ use Rattle.std.proofs.Common.{◌∷◌, [], pos}
 use Rattle.sqlite.specs.declared.types.Value.TheVariants.{Int, Text}
 use Rattle.sqlite.specs.Held.{state}
 use Rattle.office_store.specs.Texts.{add_office_text}
-use Rattle.office_store.specs.Tables.{SaysMore}
+use Rattle.office_store.specs.TableSteps.{SaysMore}
 use Rattle.office_store.proofs.StepLemmas.{Stepped, step_went, step_gives, step_open}
 use Rattle.office_store.proofs.RunWrites.{says}
 use Rattle.office_store.proofs.runs.add_office.Goals as goal

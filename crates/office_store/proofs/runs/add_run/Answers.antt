@@ -2,7 +2,7 @@ use Rattle.std.proofs.Common.{◌∷◌, [], pos}
 use Rattle.sqlite.specs.declared.types.Value.TheVariants.{Int, Text}
 use Rattle.sqlite.specs.Held.{state}
 use Rattle.office_store.specs.Texts.{add_run_text}
-use Rattle.office_store.specs.Tables.{AddsRun}
+use Rattle.office_store.specs.TableSteps.{AddsRun}
 use Rattle.office_store.proofs.StepLemmas.{Stepped, step_went, step_gives, step_open}
 use Rattle.office_store.proofs.RunWrites.{adds_run}
 use Rattle.office_store.proofs.runs.add_run.Goals as goal

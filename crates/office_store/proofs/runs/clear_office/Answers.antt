@@ -1,7 +1,7 @@
 use Rattle.std.proofs.Common.{[]}
 use Rattle.sqlite.specs.Held.{state}
 use Rattle.office_store.specs.Texts.{clear_office_text}
-use Rattle.office_store.specs.Tables.{Silences}
+use Rattle.office_store.specs.TableSteps.{Silences}
 use Rattle.office_store.proofs.StepLemmas.{Stepped, step_went, step_gives, step_open}
 use Rattle.office_store.proofs.RunWrites.{silences}
 use Rattle.office_store.proofs.runs.clear_office.Goals as goal

@@ -5,7 +5,7 @@ use Rattle.sqlite.specs.Tree.{Trees}
 use Rattle.sqlite.specs.Effect.{Database}
 use Rattle.sqlite.specs.Held.{state}
 use Rattle.office_store.specs.Texts.{office_text}
-use Rattle.office_store.specs.Tables.{office_columns}
+use Rattle.office_store.specs.TableSteps.{office_columns}
 use Rattle.office_store.proofs.StateLemmas.{Asked, asked_before, asked_same, asked_rows, asked_open}
 use Rattle.office_store.proofs.RunLemmas.{shows_office, office_plain}
 use Rattle.office_store.proofs.runs.office_rows.Goals as goal

@@ -2,7 +2,7 @@ use Rattle.std.proofs.Common.{[]}
 use Rattle.sqlite.specs.Held.{state}
 use Rattle.office_store.specs.Texts.{create_testing_row_text}
 use Rattle.office_store.specs.Layout.{testing_row}
-use Rattle.office_store.specs.Creating.{schema_of_four}
+use Rattle.office_store.specs.CreatingSteps.{schema_of_four}
 use Rattle.office_store.proofs.StepLemmas.{Stepped}
 use Rattle.office_store.proofs.CreateLemmas.{makes, testing_row_is}
 use Rattle.office_store.proofs.schema.create_testing_row.Goals as goal

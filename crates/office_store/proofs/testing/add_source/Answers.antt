@@ -2,7 +2,7 @@ use Rattle.std.proofs.Common.{arith, ◌∷◌, [], pos}
 use Rattle.sqlite.specs.declared.types.Value.TheVariants.{Int, Text}
 use Rattle.sqlite.specs.Held.{state}
 use Rattle.office_store.specs.Texts.{add_source_text}
-use Rattle.office_store.specs.Entries.{AddsSource}
+use Rattle.office_store.specs.EntrySteps.{AddsSource}
 use Rattle.office_store.proofs.StepLemmas.{Stepped, step_went, step_gives, step_open}
 use Rattle.office_store.proofs.EntryWrites.{adds_source}
 use Rattle.office_store.proofs.testing.add_source.Goals as goal

@@ -1,7 +1,7 @@
 use Rattle.std.proofs.Common.{[]}
 use Rattle.sqlite.specs.Held.{state}
 use Rattle.office_store.specs.Texts.{clear_rows_text}
-use Rattle.office_store.specs.Entries.{ClearsRows}
+use Rattle.office_store.specs.EntrySteps.{ClearsRows}
 use Rattle.office_store.proofs.StepLemmas.{Stepped, step_went, step_gives, step_open}
 use Rattle.office_store.proofs.EntryWrites.{clears_rows}
 use Rattle.office_store.proofs.testing.clear_rows.Goals as goal

@@ -1,7 +1,7 @@
 use Rattle.std.proofs.Common.{[]}
 use Rattle.sqlite.specs.Held.{state}
 use Rattle.office_store.specs.Texts.{clear_sources_text}
-use Rattle.office_store.specs.Entries.{ClearsSources}
+use Rattle.office_store.specs.EntrySteps.{ClearsSources}
 use Rattle.office_store.proofs.StepLemmas.{Stepped, step_went, step_gives, step_open}
 use Rattle.office_store.proofs.EntryWrites.{clears_sources}
 use Rattle.office_store.proofs.testing.clear_sources.Goals as goal

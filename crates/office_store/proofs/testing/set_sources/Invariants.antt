@@ -1,8 +1,9 @@
 use Rattle.std.proofs.Common.{◌≡◌, take}
 use Rattle.sqlite.specs.Held.{state}
-use Rattle.office_store.specs.Tables.{IsTrusted, Lasts}
+use Rattle.office_store.specs.Tables.{IsTrusted}
+use Rattle.office_store.specs.TableSteps.{Lasts}
 use Rattle.sqlite.specs.State.{HasCleanDisk}
-use Rattle.office_store.specs.Entries.{SetsSources}
+use Rattle.office_store.specs.EntrySteps.{SetsSources}
 use Rattle.office_store.proofs.Under.{IsUnderWay}
 use Rattle.office_store.proofs.testing.set_sources.Given as goal
 

@@ -1,6 +1,6 @@
 use Rattle.std.proofs.Common.{◌≡◌, ◌+◌, length, sym, subst, arith}
 use Rattle.testing_model.specs.Suite.{Suite}
-use Rattle.office_keeper.specs.Given.{KnowsArchs}
+use Rattle.office_keeper.specs.Provenance.{KnowsArchs}
 use Rattle.office_keeper.specs.MemoryState.{MemoryState}
 use Rattle.office_keeper.proofs.MemoryFacts.{memory_finished}
 use Rattle.office_keeper.proofs.memory.PlainKeeper.finish.Goals as goal

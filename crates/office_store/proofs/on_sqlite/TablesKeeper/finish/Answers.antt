@@ -1,7 +1,7 @@
 use Rattle.std.proofs.Common.{◌≡◌, ◌+◌, ◌++◌, ◌∷◌, [], length, OnOk, sym, subst, arith}
 use Rattle.sqlite.specs.Held.{state}
 use Rattle.office_keeper.specs.Content.{reports_in, with_run}
-use Rattle.office_keeper.specs.Given.{AreOwnTexts, IsGiven}
+use Rattle.office_keeper.specs.Provenance.{AreOwnTexts, IsGiven}
 use Rattle.office_store.specs.TableContent.{content_in}
 use Rattle.office_store.specs.Legible.{IsLegible}
 use Rattle.office_store.specs.Tables.{IsTrusted}

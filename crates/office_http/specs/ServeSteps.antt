@@ -1,0 +1,87 @@
+-- Steps: no contract of a call that users make rests on this file.
+-- The parts of what one connection comes to: how it is answered, and how it stops.
+use Rattle.std.specs.Prelude.{◌≡◌, ◌⊎◌, ◌≤◌, ◌+◌, ℕ, Bool, true, List, ◌++◌, length, Option, None, Result, Ok, Err}
+use Rattle.std.specs.Io.KnownBytes.{Appends, Consumes}
+use Rattle.office_mail.specs.Runs.{IsReadyCount}
+use Rattle.office_replies.specs.declared.faults.Progress.{Progress}
+use Rattle.office_replies.specs.declared.faults.StoreFault.{StoreFault}
+use Rattle.office_replies.specs.declared.faults.StoreFault.TheVariants as fault
+use Rattle.office_requests.specs.declared.reply.Answer.{Answer}
+use Rattle.office_requests.specs.declared.reply.Answer.TheVariants.{Refused, Status, Told}
+use Rattle.office_requests.specs.declared.request.Action.{Action}
+use Rattle.office_requests.specs.declared.request.Page.{Page}
+use Rattle.office_requests.specs.declared.request.Asked.{Asked}
+use Rattle.office_http.specs.declared.serve.ServeFault.{ServeFault}
+use Rattle.office_http.specs.declared.serve.ServeFault.TheVariants.{Read, Write}
+use Rattle.office_requests.specs.Asked.{body_size}
+use Rattle.office_runs.specs.Losses.{TextCounted}
+use Rattle.office_requests.specs.Request.{body_room}
+use Rattle.office_runs.specs.OfficeState.{OfficeState}
+use Rattle.office_replies.specs.Written.{AppendsFront}
+use Rattle.office_http.specs.Serve.{refusal_for, by_fault, page_answer, action_answer, posted_body, answer_of, page_counts, action_counts, counts_ready, waits_of, continued, Moves, Does, IsWhole, IsAwaited, StopsBefore, Exchange}
+
+-- the answers of the office's calls
+abbrev pub status_answer : Result Progress StoreFault → Answer
+status_answer (Ok progress) = Status progress
+status_answer (Err f) = Refused (refusal_for f)
+
+abbrev pub text_answer : Result (List ℕ) StoreFault → Answer
+text_answer (Ok text) = Told text
+text_answer (Err f) = Refused (refusal_for f)
+
+-- a page was told
+pub record Tells (s : OfficeState) (page : Page) (answer : Answer) (rose : Type 0) : Type 0 where
+  -- what was met
+  pub fault : Option StoreFault
+  pub by_store : TextCounted rose fault
+  pub ready : ℕ
+  pub counts : fault ≡ None → page_counts page ≡ true → IsReadyCount s.setup s.kept ready
+  pub answer_is : answer ≡ by_fault fault (page_answer s ready page)
+
+-- a POST was done
+pub record Runs (before after : OfficeState) (action : Action) (body : List ℕ) (answer : Answer) (rose : Type 0) : Type 0 where
+  pub fault : Option StoreFault
+  pub by_store : TextCounted rose fault
+  pub ready : ℕ
+  pub counts : fault ≡ None → action_counts action ≡ true → IsReadyCount before.setup before.kept ready
+  pub answer_is : answer ≡ by_fault fault (action_answer before ready action body)
+  pub moves : Moves before after action body fault ready rose
+
+-- A request was answered: the bytes after its head, of which the front had come before, the faults that were met, the
+-- answer, and what was done. Where the client waited, 100 Continue was written first; nothing else yet.
+pub record Answers (before after : OfficeState) (left left' written written' : Option (List ℕ)) (front : List ℕ) (asked : Asked) (answer : Answer) (rose : Type 0) : Type 0 where
+  pub more : List ℕ
+  pub took : Consumes left left' more
+  -- nothing more was read, or no more than the body
+  pub few : (length more ≡ 0) ⊎ (length (front ++ more) ≤ body_size asked)
+  pub fault : Option StoreFault
+  pub by_store : TextCounted rose fault
+  pub ready : ℕ
+  pub whole : fault ≡ None → IsWhole asked (front ++ more) left'
+  pub counts : fault ≡ None → counts_ready asked (front ++ more) ≡ true → IsReadyCount before.setup before.kept ready
+  pub answer_is : answer ≡ by_fault fault (answer_of before ready asked (front ++ more))
+  pub does : Does before after (posted_body asked (front ++ more)) fault ready rose
+  pub goes_on : Bool
+  pub wrote : Appends written written' (continued goes_on)
+  pub went : fault ≡ None → goes_on ≡ waits_of asked
+  pub waited : goes_on ≡ true → waits_of asked ≡ true
+
+-- the same where these bytes have come, with a head in front: no public contract cites these two
+pub record ServesHead (before after : OfficeState) (left left' written written' : Option (List ℕ)) (seen : List ℕ) (code : ℕ) (rose : Type 0) : Type 0 where
+  pub more : List ℕ
+  pub took : Consumes left left' more
+  pub bytes : List ℕ
+  pub exchange : Exchange before after left' (seen ++ more) bytes code rose
+  pub wrote : Appends written written' bytes
+
+pub record ServesFront (before after : OfficeState) (left left' written written' : Option (List ℕ)) (seen : List ℕ) (rose : Type 0) : Type 0 where
+  pub more : List ℕ
+  pub took : Consumes left left' more
+  pub bytes : List ℕ
+  pub code : ℕ
+  pub exchange : Exchange before after left' (seen ++ more) bytes code rose
+  pub wrote : AppendsFront written written' bytes
+
+abbrev pub StopsRequest : OfficeState → OfficeState → Option (List ℕ) → Option (List ℕ) → Option (List ℕ) → Option (List ℕ) → List ℕ → ServeFault → Type 0 → Type 0
+StopsRequest before after left left' written written' seen Read rose = StopsBefore before after left left' written written' body_room (λ more. IsAwaited (seen ++ more))
+StopsRequest before after left left' written written' seen Write rose = StopsBefore before after left left' written written' body_room (λ more. IsAwaited (seen ++ more)) ⊎ ServesFront before after left left' written written' seen rose
