@@ -1,4 +1,5 @@
--- The covered messages of a run, which are all that its rules may see.
+-- The covered messages of a run, which are all that its rules may see. That the rules go by mail is decided by this office;
+-- what the mail tells is what Debian's archive, builders, bug tracker and release team know (Debian Developer's Reference 5.13).
 use Rattle.std.specs.Prelude.{ℕ, ◌+◌, List, [], ◌∷◌, Option, Some, None}
 use Rattle.std.specs.List.{filter_map, flat_map}
 use Rattle.deb_control.specs.declared.binary.Binary.{Binary}
@@ -24,7 +25,7 @@ Covered = List CoveredItem
 
 -- What the messages say, kind by kind.
 
--- an upload
+-- an upload (Debian Policy 5.6.12, its version; 5.6.17, its urgency)
 abbrev pub upload_of : CoveredItem → Option UploadIn
 upload_of m = elim m.item [
   | Upload source version urgency day ↦ Some (record { source = source; version = version; urgency = urgency; day = day; sender = m.sender; number = m.number })
@@ -37,7 +38,7 @@ upload_of m = elim m.item [
   | Nothing ↦ None
 ]
 
--- a drop
+-- a drop: a binary package that left unstable on an architecture (this office decides that it is told by mail)
 abbrev pub drop_of : CoveredItem → Option DropIn
 drop_of m = elim m.item [
   | Upload _ _ _ _ ↦ None
@@ -50,7 +51,7 @@ drop_of m = elim m.item [
   | Nothing ↦ None
 ]
 
--- a bug
+-- a bug (Debian Developer's Reference 5.13.2)
 abbrev pub bug_of : CoveredItem → Option BugIn
 bug_of m = elim m.item [
   | Upload _ _ _ _ ↦ None
@@ -63,7 +64,7 @@ bug_of m = elim m.item [
   | Nothing ↦ None
 ]
 
--- a hint
+-- a hint (its words are named after britney2's hints; this office decides that it comes by mail)
 abbrev pub hint_of : CoveredItem → Option HintIn
 hint_of m = elim m.item [
   | Upload _ _ _ _ ↦ None
@@ -76,7 +77,7 @@ hint_of m = elim m.item [
   | Nothing ↦ None
 ]
 
--- an unhint
+-- an unhint (this office decides it)
 abbrev pub unhint_of : CoveredItem → Option UnhintIn
 unhint_of m = elim m.item [
   | Upload _ _ _ _ ↦ None
@@ -89,7 +90,7 @@ unhint_of m = elim m.item [
   | Nothing ↦ None
 ]
 
--- delays
+-- delays (this office decides that they are told by mail)
 abbrev pub delays_of : CoveredItem → Option DelaysIn
 delays_of m = elim m.item [
   | Upload _ _ _ _ ↦ None
@@ -108,7 +109,7 @@ placed_from place sender number [] = []
 placed_from place sender number (b ∷ bs) =
     record { binary = b; sender = sender; number = number; place = place } ∷ placed_from (place + 1) sender number bs
 
--- the binaries of a build, from place 1
+-- the binaries of a build (Debian Policy 5.6.8, 7.1 and 7.5), from place 1
 abbrev pub builds_of : CoveredItem → List BuildIn
 builds_of m = elim m.item [
   | Upload _ _ _ _ ↦ []

@@ -33,13 +33,13 @@ entry_of sources name = find (λ s. bytes_eq s.name name) sources
 abbrev pub testing_version : Suite → Text → Option Text
 testing_version t name = option_map (λ s. s.version) (entry_of t.sources name)
 
--- the version is above testing's, or testing has none
+-- the version is above testing's, or testing has none (Debian Policy 5.6.12)
 abbrev pub is_news : Option Text → Text → Bool
 is_news testing v = option_map_or (is_above v) testing true
 
--- Days.
+-- Days (Debian Developer's Reference 5.13.2; that they are counted from day to day, and set by mail, is decided by this office).
 
--- urgencies from the least to the most urgent
+-- urgencies from the least to the most urgent (Debian Policy 5.6.17)
 abbrev pub urgency_rank : Urgency → ℕ
 urgency_rank Low = 0
 urgency_rank Medium = 1
@@ -51,7 +51,7 @@ urgency_rank Critical = 4
 abbrev pub more_urgent : Urgency → Urgency → Urgency
 more_urgent a b = if nat_lt (urgency_rank a) (urgency_rank b) then b else a
 
--- the days of an urgency: emergency and critical count alike
+-- the days of an urgency: emergency and critical count alike (Debian Policy 5.6.17)
 abbrev pub days_of : Delays → Urgency → ℕ
 days_of d Low = d.low
 days_of d Medium = d.medium
@@ -59,7 +59,7 @@ days_of d High = d.high
 days_of d Emergency = d.critical
 days_of d Critical = d.critical
 
--- the days that hold where no message sets others
+-- the days that hold where no message sets others: 10, 5 and 2 of Debian Developer's Reference 5.13.2; this office decides the 0
 abbrev pub usual_delays : Delays
 usual_delays = record { low = 10; medium = 5; high = 2; critical = 0 }
 
@@ -71,7 +71,7 @@ delays_in_force last = option_map_or (λ d. d.delays) last usual_delays
 abbrev pub counts : Option Text → Text → UploadIn → Bool
 counts testing name u = bytes_eq u.source name && is_news testing u.version
 
--- the greatest urgency among the uploads that count
+-- the greatest urgency among the uploads that count: it sticks to the source until it moves (Debian Developer's Reference 5.13.2)
 abbrev pub most_urgent : List UploadIn → Option Text → Text → Urgency
 most_urgent uploads testing name = fold more_urgent Low (map (λ u. u.urgency) (filter (counts testing name) uploads))
 
@@ -79,7 +79,7 @@ most_urgent uploads testing name = fold more_urgent Low (map (λ u. u.urgency) (
 abbrev pub is_named : List HintItem → Text → Text → Bool
 is_named items name v = list_any (λ i. bytes_eq i.name name && is_same_version i.version v) items
 
--- the days that a hint asks for the source at this version
+-- the days that a hint asks for the source at this version (named after britney2's `age-days`)
 abbrev pub asked_days : Text → Text → Hint → Option ℕ
 asked_days name v (AgeDays n items) = if is_named items name v then Some n else None
 asked_days name v (Block names) = None
@@ -88,7 +88,7 @@ asked_days name v (Unblock items) = None
 asked_days name v (Easy items) = None
 asked_days name v (Remove items) = None
 
--- those that the last such hint asks for
+-- those that the last such hint asks for (this office decides which)
 abbrev pub hinted_days : List HintIn → UploadIn → Option ℕ
 hinted_days hints u = last_or None (filter_map (λ h. asked_days u.source u.version h.hint) hints)
 
@@ -96,13 +96,13 @@ hinted_days hints u = last_or None (filter_map (λ h. asked_days u.source u.vers
 abbrev pub days_needed : Delays → List HintIn → List UploadIn → Option Text → UploadIn → ℕ
 days_needed delays hints uploads testing u = unwrap_or (hinted_days hints u) (days_of delays (most_urgent uploads testing u.source))
 
--- the days from the upload to the run, at least 0
+-- the days from the upload to the run, at least 0 (this office decides it)
 abbrev pub age_of : Date → UploadIn → ℕ
 age_of date u = floor_zero (epoch_day date -ℤ epoch_day u.day)
 
--- Reasons.
+-- Reasons (Debian Developer's Reference 5.13.2).
 
--- the bug is new for the source: release-critical, in the unstable version and not in testing's
+-- the bug is new for the source: release-critical, in the unstable version and not in testing's (Debian Developer's Reference 5.13.2)
 abbrev pub is_new_bug : Option Text → UploadIn → BugIn → Bool
 is_new_bug testing u b =
     bytes_eq b.source u.source && is_release_critical b.severity && affects b u.version
@@ -116,15 +116,15 @@ has_row_on rows u arch = list_any (λ r. (r.arch == arch) && is_of_source u r) r
 abbrev pub has_current_on : List RowIn → UploadIn → ℕ → Bool
 has_current_on rows u arch = list_any (λ r. (r.arch == arch) && is_current u r) rows
 
--- the source has rows of the architecture, and none of them is current
+-- the source has rows of the architecture, and none of them is current: it is out of date there (Debian Developer's Reference 5.13.2.1)
 abbrev pub is_missing_on : List RowIn → UploadIn → ℕ → Bool
 is_missing_on rows u arch = has_row_on rows u arch && not (has_current_on rows u arch)
 
--- some row of the source is current
+-- some row of the source is current (that a source without one stays out is decided by this office)
 abbrev pub has_current : List RowIn → UploadIn → Bool
 has_current rows u = list_any (is_current u) rows
 
--- a hint to keep the source out: it names it, or keeps out all sources
+-- a hint to keep the source out: it names it, or keeps out all sources (named after britney2's `block` and `block-all`)
 abbrev pub blocks : Text → Hint → Bool
 blocks name (Block names) = list_any (bytes_eq name) names
 blocks name BlockAll = true
@@ -133,7 +133,7 @@ blocks name (Easy items) = false
 blocks name (AgeDays n items) = false
 blocks name (Remove items) = false
 
--- a hint that lifts blocks for the source at this version
+-- a hint that lifts blocks for the source at this version (named after britney2's `unblock`)
 abbrev pub unblocks : Text → Text → Hint → Bool
 unblocks name v (Unblock items) = is_named items name v
 unblocks name v (Block names) = false
@@ -142,7 +142,7 @@ unblocks name v (Easy items) = false
 unblocks name v (AgeDays n items) = false
 unblocks name v (Remove items) = false
 
--- a hint to remove the source at this version
+-- a hint to remove the source at this version (named after britney2's `remove`)
 abbrev pub removes : Text → Text → Hint → Bool
 removes name v (Remove items) = is_named items name v
 removes name v (Block names) = false
@@ -167,12 +167,12 @@ is_blocked hints u = asks_block hints u.source && not (lifts_block hints u.sourc
 abbrev pub asks_removal : List HintIn → Text → Text → Bool
 asks_removal hints name v = list_any (λ h. removes name v h.hint) hints
 
--- its removal is asked for, at its unstable version or at testing's
+-- its removal is asked for, at its unstable version or at testing's (this office decides it)
 abbrev pub is_removal_asked : List HintIn → Option Text → UploadIn → Bool
 is_removal_asked hints testing u =
     asks_removal hints u.source u.version || option_map_or (asks_removal hints u.source) testing false
 
--- what keeps an unstable source out, in the order in which it is reported
+-- what keeps an unstable source out, in the order in which it is reported (this office decides the order)
 abbrev pub reasons_of : List ℕ → List RowIn → List BugIn → List HintIn → Option Text → Bool → UploadIn → List Reason
 reasons_of places rows bugs hints testing is_young u =
     only_if is_young TooYoung

@@ -1,4 +1,5 @@
--- Changes of testing, and which of them are allowed: no change may break a row that worked, or bring in one that doesn't.
+-- Changes of testing, and which of them are allowed: no change may break a row that worked, or bring in one that doesn't
+-- (Debian Developer's Reference 5.13.2 and 5.13.2.4).
 use Rattle.std.specs.Prelude.{ℕ, Bool, ◌&&◌, ◌||◌, not, ◌==◌, List, [], ◌∷◌, map, filter, find, fold, length, Option, Some, None, option_map}
 use Rattle.std.specs.declared.cmp.Ordering.{Ordering}
 use Rattle.std.specs.List.{filter_map, flat_map, list_any, range_with_len}
@@ -13,7 +14,7 @@ use Rattle.testing_model.specs.Suite.{Suite}
 use Rattle.testing_items.specs.Words.{Text, text_cmp, least, put_by}
 use Rattle.testing_model.specs.Unstable.{is_current}
 
--- rows stand by architecture and then by name
+-- rows stand by architecture and then by name (this office decides it)
 abbrev pub row_cmp : ℕ × Text → ℕ × Text → Ordering
 row_cmp = then_cmp (on (λ p. p.0) nat_cmp) (on (λ p. p.1) text_cmp)
 
@@ -45,7 +46,8 @@ source_in sources name = find (λ u. bytes_eq u.source name) sources
 abbrev pub group_sources : List UploadIn → List Text → List UploadIn
 group_sources sources group = filter_map (source_in sources) group
 
--- moving a group, where unstable has these sources and rows: all rows of its sources leave, their current rows come in, and the sources get their unstable versions
+-- moving a group, where unstable has these sources and rows: all rows of its sources leave, their current rows come in, and the sources
+-- get their unstable versions (Debian Developer's Reference 5.13.2; several sources at once, 5.13.2.3)
 abbrev pub move_group : List UploadIn → List RowIn → List Text → Suite → Suite
 move_group sources rows group t =
     let moving = group_sources sources group in
@@ -54,14 +56,14 @@ move_group sources rows group t =
       rows = fold (λ xs r. put_row r xs) (filter (λ r. not (is_row_of group r)) t.rows) (flat_map (λ u. filter (is_current u) rows) moving);
     }
 
--- removing a source: its rows and its version leave
+-- removing a source: its rows and its version leave (britney2's `remove`)
 abbrev pub remove_source : Text → Suite → Suite
 remove_source name t = record {
   sources = filter (λ x. not (bytes_eq x.name name)) t.sources;
   rows = filter (λ r. not (bytes_eq r.binary.source name)) t.rows;
 }
 
--- the rows on an architecture are its own and those of `all`
+-- the rows on an architecture are its own and those of `all` (Debian Policy 5.6.8)
 abbrev pub is_row_on : ℕ → RowIn → Bool
 is_row_on arch r = (r.arch == arch) || (r.arch == 16)
 
@@ -80,7 +82,7 @@ with_answers [] answers = []
 with_answers (r ∷ rs) [] = []
 with_answers (r ∷ rs) (b ∷ bs) = record { row = r; is_installable = b } ∷ with_answers rs bs
 
--- each row on the architecture with the answer for it
+-- each row on the architecture with the answer for it (Debian Policy 7.1, 7.2 and 7.5)
 abbrev pub judged_on : ℕ → List RowIn → List RowAnswer
 judged_on arch rows =
     let there = rows_on arch rows in with_answers there (are_installable (map (λ r. r.binary) there))
@@ -93,16 +95,16 @@ is_same_key r q = (r.arch == q.arch) && bytes_eq r.binary.name q.binary.name
 abbrev pub was_installable : List RowAnswer → RowIn → Bool
 was_installable before r = list_any (λ j. j.is_installable && is_same_key j.row r) before
 
--- each architecture's own rows are watched there, and the rows of `all` on the first one
+-- each architecture's own rows are watched there, and the rows of `all` on the first one (this office decides it)
 abbrev pub is_watched_on : ℕ → RowIn → Bool
 is_watched_on arch r = (r.arch == arch) || ((r.arch == 16) && (arch == 0))
 
--- the row fails: it isn't installable, though it came in with the group or was installable before
+-- the row fails: it isn't installable, though it came in with the group or was installable before (Debian Developer's Reference 5.13.2)
 abbrev pub fails_on : ℕ → List Text → List RowAnswer → RowAnswer → Bool
 fails_on arch group before j =
     is_watched_on arch j.row && not j.is_installable && (is_row_of group j.row || was_installable before j.row)
 
--- the name of the first row that fails, in byte order
+-- the name of the first row that fails, in byte order (this office decides it)
 abbrev pub first_failing : ℕ → List Text → List RowAnswer → List RowAnswer → Option Text
 first_failing arch group before after =
     least text_cmp (map (λ j. j.row.binary.name) (filter (fails_on arch group before) after))
@@ -117,6 +119,7 @@ abbrev pub first_of : {A : Type 0} → List A → Option A
 first_of [] = None
 first_of (x ∷ xs) = Some x
 
--- the first row that a change breaks, by architecture in listed order and then by package name. The change is allowed where there is none
+-- the first row that a change breaks, by architecture in listed order and then by package name (this office decides the order). The change
+-- is allowed where there is none
 abbrev pub offender_of : List Text → List RowIn → List RowIn → List Text → Option Offender
 offender_of archs old new group = first_of (filter_map (offender_on old new group) (range_with_len 0 (length archs)))

@@ -1,4 +1,5 @@
--- When facts stand for a set of covered messages, beside a testing.
+-- When facts stand for a set of covered messages, beside a testing. That facts are kept is this office's own; the rules over them are
+-- those of Unstable and Excuses (Debian Developer's Reference 5.13.2).
 use Rattle.std.specs.Prelude.{◌≡◌, true, List, [], Contains}
 use Rattle.testing_model.specs.Suite.{Suite}
 use Rattle.testing_model.specs.FactLists.{FactLists}

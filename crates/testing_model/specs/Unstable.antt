@@ -1,4 +1,5 @@
--- Unstable, the bugs and the hints in force, as the covered messages give them.
+-- Unstable, the bugs and the hints in force, as the covered messages give them. Versions are compared as in Debian Policy 5.6.12.
+-- Which of two messages on the same thing counts is decided by this office, and so are the orders in which things stand.
 use Rattle.std.specs.Prelude.{ℕ, Bool, true, false, ◌&&◌, ◌||◌, not, ◌==◌, List, [], ◌∷◌, ◌++◌, map, filter, Option, codes, length}
 use Rattle.std.specs.List.{filter_map, flat_map, list_any, list_all, enumerate_from, range_with_len}
 use Rattle.std.specs.Option.{option_map_or}
@@ -27,7 +28,7 @@ upload_order = then_cmp (flip_args (on (λ u. u.version) version_cmp)) (then_cmp
 abbrev pub unstable_source : Covered → Text → Option UploadIn
 unstable_source s name = least upload_order (filter (λ u. bytes_eq u.source name) (uploads_in s))
 
--- unstable's sources, by name
+-- unstable's sources, by name (Debian Developer's Reference 5.13: what may come to testing)
 abbrev pub unstable_sources : Covered → List UploadIn
 unstable_sources s = filter_map (unstable_source s) (sorted_by (λ name. name) text_cmp (map (λ u. u.source) (uploads_in s)))
 
@@ -35,7 +36,7 @@ unstable_sources s = filter_map (unstable_source s) (sorted_by (λ name. name) t
 abbrev pub is_build_of : Text → Text → BuildIn → Bool
 is_build_of arch name b = bytes_eq b.binary.architecture arch && bytes_eq b.binary.name name
 
--- its version is above that of every drop of its architecture and name
+-- its version is above that of every drop of its architecture and name (this office decides it)
 abbrev pub is_above_drops : Covered → BuildIn → Bool
 is_above_drops s b =
     list_all (λ d. not (bytes_eq d.arch b.binary.architecture && bytes_eq d.name b.binary.name) || is_above b.binary.version d.version) (drops_in s)
@@ -82,7 +83,7 @@ greatest_drops s = filter_map (λ p. greatest_drop s p.0 p.1) (sorted_by (λ p. 
 abbrev pub unstable_builds : Covered → List BuildIn
 unstable_builds s = filter_map (λ p. unstable_row s p.0 p.1) (sorted_by (λ p. p) pair_order (map pair_of (builds_in s)))
 
--- the architectures with their places: the listed ones from 0, and then `all`, whose place is 16
+-- the architectures with their places: the listed ones from 0, and then `all` (Debian Policy 5.6.8), whose place is 16
 abbrev pub places : List Text → List (ℕ × Text)
 places archs = enumerate_from 0 archs ++ (16, codes "all") ∷ []
 
@@ -110,7 +111,7 @@ unstable_rows archs s = built_rows archs (unstable_builds s)
 abbrev pub is_of_source : UploadIn → RowIn → Bool
 is_of_source u r = bytes_eq r.binary.source u.source
 
--- and was built from its version
+-- and was built from its version: it isn't out of date (Debian Developer's Reference 5.13.2.1)
 abbrev pub is_current : UploadIn → RowIn → Bool
 is_current u r = is_of_source u r && is_same_version r.binary.source_version u.version
 
@@ -126,7 +127,7 @@ bug_state s bug = least bug_order (filter (λ b. b.bug == bug) (bugs_in s))
 abbrev pub bug_states : Covered → List BugIn
 bug_states s = filter_map (bug_state s) (sorted_by (λ n. n) nat_cmp (map (λ b. b.bug) (bugs_in s)))
 
--- critical, grave and serious bugs are release-critical
+-- critical, grave and serious bugs are release-critical (Debian Developer's Reference 5.13)
 abbrev pub is_release_critical : Severity → Bool
 is_release_critical Critical = true
 is_release_critical Grave = true
@@ -136,7 +137,7 @@ is_release_critical Normal = false
 is_release_critical Minor = false
 is_release_critical Wishlist = false
 
--- the bug affects a version: from the version in which it was found on, and up to the one that fixes it
+-- the bug affects a version: from the version in which it was found on, and up to the one that fixes it (this office decides it)
 abbrev pub affects : BugIn → Text → Bool
 affects b v = option_map_or (λ found. not (is_above found v)) b.found true && option_map_or (λ fixed. is_above fixed v) b.fixed true
 
@@ -155,7 +156,7 @@ hints_by_number s = sorted_by (λ h. h) hint_order (hints_in s)
 abbrev pub unhints_by_number : Covered → List UnhintIn
 unhints_by_number s = sorted_by (λ c. c) unhint_order (unhints_in s)
 
--- no unhint names the hint
+-- no unhint names the hint (this office decides it: hints come by mail, and leave by mail)
 abbrev pub is_in_force : List UnhintIn → HintIn → Bool
 is_in_force unhints h = not (list_any (λ c. c.cancels == h.number) unhints)
 
@@ -167,6 +168,6 @@ in_force s = filter (is_in_force (unhints_by_number s)) (hints_by_number s)
 abbrev pub delays_order : DelaysIn → DelaysIn → Ordering
 delays_order = then_cmp (flip_args (on (λ d. d.number) nat_cmp)) (on (λ d. d.sender) nat_cmp)
 
--- the last message on delays
+-- the last message on delays (this office decides it)
 abbrev pub last_delays : Covered → Option DelaysIn
 last_delays s = least delays_order (delays_in s)

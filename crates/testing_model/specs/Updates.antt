@@ -1,4 +1,5 @@
--- What a run decides, and the testing that it leaves.
+-- What a run decides, and the testing that it leaves. Each move is tried against testing as those before it left it (Debian Developer's
+-- Reference 5.13.2). That removals come first, then groups, then single moves in circular order, is decided by this office.
 use Rattle.std.specs.Prelude.{◌≡◌, ℕ, zero, suc, Bool, true, false, ◌&&◌, not, List, [], ◌∷◌, ◌++◌, map, filter, find, length, Option, Some, None, option_map}
 use Rattle.std.specs.List.{filter_map, flat_map, list_any, before_first, after_first}
 use Rattle.std.specs.Option.{option_map_or, option_to_list, is_none}
@@ -46,7 +47,7 @@ in_turn step (x ∷ xs) t = then_do (step x t) (in_turn step xs)
 abbrev pub is_in_testing : Suite → Text → Text → Bool
 is_in_testing t name v = option_map_or (is_same_version v) (testing_version t name) false
 
--- Removals.
+-- Removals, by hints named after britney2's `remove`.
 
 -- the items of the remove hints in force, by number and then in the hint's order
 abbrev pub removals_of : HintIn → List (ℕ × HintItem)
@@ -76,9 +77,9 @@ remove_item archs (number, i) t =
       | Some v ↦ elim (is_same_version v i.version) [ true ↦ remove_version archs number i.name v t | false ↦ nothing t ]
     ]
 
--- Groups.
+-- Groups, by hints named after britney2's `easy`: for circular dependencies (Debian Developer's Reference 5.13.2.3).
 
--- the source is a candidate at this version: it has an excuse, and no reason keeps it out
+-- the source is a candidate at this version: it has an excuse, and no reason keeps it out (Debian Developer's Reference 5.13.2)
 abbrev pub is_candidate : List Excuse → Text → Text → Bool
 is_candidate excuses name v = list_any (λ e. bytes_eq e.source name && is_empty e.reasons && is_same_version e.unstable v) excuses
 
@@ -112,7 +113,7 @@ move_easy archs sources rows excuses h t =
       | BlockAll ↦ nothing t
     ]
 
--- Single moves.
+-- Single moves (Debian Developer's Reference 5.13.2).
 
 -- the excuse makes its source a candidate, which hasn't moved
 abbrev pub is_remaining : Suite → Excuse → Bool
@@ -145,7 +146,8 @@ accepted e = Accept e.source e.unstable
 abbrev pub waiting : Excuse → Offender → Decision
 waiting e o = Wait e.source e.unstable o
 
--- of the candidates in circular order the first that is allowed moves; then those after it come first, and those before it last; and so on until none is allowed. There are at most n moves
+-- of the candidates in circular order the first that is allowed moves; then those after it come first, and those before it last; and so on
+-- until none is allowed (this office decides the order). There are at most n moves
 abbrev pub single_moves : List Text → List UploadIn → List RowIn → ℕ → List Excuse → Suite → Outcome
 single_moves archs sources rows zero es t = nothing t
 single_moves archs sources rows (suc n) es t =
@@ -180,7 +182,8 @@ waits archs sources rows excuses t = filter_map (wait_for archs sources rows t) 
 abbrev pub wait_all : List Text → List UploadIn → List RowIn → List Excuse → Suite → Outcome
 wait_all archs sources rows excuses t = record { decisions = waits archs sources rows excuses t; suite = t }
 
--- removals, then groups, then single moves, and last those that wait, where unstable has these sources and rows
+-- removals, then groups, then single moves, and last those that wait (this office decides the order), where unstable has these sources
+-- and rows
 abbrev pub update_by : List Text → List UploadIn → List RowIn → List HintIn → List UnhintIn → List Excuse → Suite → Outcome
 update_by archs sources rows hints unhints excuses t =
     let hints_in_force = filter (is_in_force unhints) hints in

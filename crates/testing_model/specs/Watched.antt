@@ -1,4 +1,5 @@
--- What no run breaks: watched rows that are installable.
+-- What no run breaks: watched rows that are installable (Debian Developer's Reference 5.13.2 and 5.13.2.4). Which rows are watched is
+-- decided by this office.
 use Rattle.std.specs.Prelude.{◌≡◌, ℕ, ◌<◌, true, List, [], length}
 use Rattle.std.specs.List.{AllByRecursion}
 use Rattle.testing_model.specs.declared.suite.RowIn.{RowIn}

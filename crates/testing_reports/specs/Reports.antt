@@ -1,4 +1,5 @@
--- The texts of the reports, as lines that each end with a line feed.
+-- The texts of the reports, as lines that each end with a line feed. Their form is decided by this office; they tell what Debian's
+-- excuses and the output of a run tell (Debian Developer's Reference 5.13.2).
 use Rattle.std.specs.Prelude.{ℕ, if◌then◌else◌, List, [], ◌∷◌, ◌++◌, codes, decimal}
 use Rattle.std.specs.List.{flat_map}
 use Rattle.jiff.specs.declared.civil.dates.Date.{Date}
@@ -30,7 +31,7 @@ line ws = words ws ++ 10 ∷ []
 abbrev pub inner_line : List Text → Text
 inner_line ws = 32 ∷ line ws
 
--- a reason in words
+-- a reason in words (Debian Developer's Reference 5.13.2; missing on an architecture, 5.13.2.1)
 abbrev pub reason_words : List Text → Reason → List Text
 reason_words archs TooYoung = codes "too young" ∷ []
 reason_words archs (NewBug n) = codes "new bug" ∷ decimal n ∷ []
