@@ -18,8 +18,8 @@ use crate::orders::make_room;
 use crate::rules::{cover_of, take_body};
 use crate::stored;
 use crate::stored::{BLOCK, block_end};
-use office_mail::{MailFault, RunOrder, Setup, read_message};
 use office_keeper::{Keeper, Letter};
+use office_mail::{MailFault, RunOrder, Setup, read_message};
 use std::alloc::Global;
 use testing_rules::Facts;
 

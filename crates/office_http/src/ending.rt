@@ -14,8 +14,8 @@ use crate::faults::{Progress, StoreFault};
 use crate::office::Office;
 use crate::replies::{Digits, WriteFault, write_all, write_parts};
 use deb_control::Text;
-use office_mail::{BagFault, Sink};
 use office_keeper::Keeper;
+use office_mail::{BagFault, Sink};
 
 /// The line for a bag that is refused.
 fn bag_refusal(fault: BagFault) -> &'static str

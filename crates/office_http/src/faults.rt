@@ -1,7 +1,7 @@
 //! Answers and refusals.
 use deb_control::NoMemory;
-use office_mail::MailFault;
 use office_keeper::KeepFault;
+use office_mail::MailFault;
 use std::alloc::{AllocError, AllocFailed};
 use thiserror::Error;
 

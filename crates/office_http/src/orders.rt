@@ -12,8 +12,8 @@ ghost use Rattle.office_http.specs.Ready.{FirstOrders, GoesOn, HasNumbers, HasEa
 use crate::faults::StoreFault;
 use crate::stored;
 use crate::stored::{BLOCK, block_end};
-use office_mail::{Body, MailFault, Message, RunOrder, Setup, read_message, ready};
 use office_keeper::{Keeper, Letter};
+use office_mail::{Body, MailFault, Message, RunOrder, Setup, read_message, ready};
 use std::alloc::Global;
 
 /// The run order that a kept text is, or none. It fails for want of memory alone.

@@ -11,8 +11,8 @@ ghost use Rattle.office_http.specs.State.{AnswersDelivery, IsOffice, answer_at, 
 
 use crate::faults::{DeliverFault, Held};
 use crate::stored;
-use office_mail::{Message, Setup, read_message};
 use office_keeper::{Keeper, MailText};
+use office_mail::{Message, Setup, read_message};
 use std::alloc::Global;
 
 /// What is answered where a text is kept already.

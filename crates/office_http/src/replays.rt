@@ -15,8 +15,8 @@ use crate::ending::{either, write_bag, write_end, write_refusal};
 use crate::faults::{DeliverFault, Held};
 use crate::office::Office;
 use crate::replies::{Mark, WriteFault, write_reply};
-use office_mail::{Bag, BagFault, Feed, MailFault, Sink};
 use office_keeper::Keeper;
+use office_mail::{Bag, BagFault, Feed, MailFault, Sink};
 
 /// What an answer says of a delivery.
 fn mark_of(reply: &Result<Held, DeliverFault>) -> Mark

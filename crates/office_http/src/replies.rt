@@ -6,8 +6,8 @@ ghost use Rattle.office_http.specs.Replies.{reply_line, fault_words, mail_words,
 ghost use Rattle.office_http.specs.Written.{AppendsFront, joined};
 
 use crate::faults::{DeliverFault, Held};
-use office_mail::{MailFault, Setup, Sink};
 use office_keeper::MailText;
+use office_mail::{MailFault, Setup, Sink};
 use std::marker::Model;
 use thiserror::Error;
 

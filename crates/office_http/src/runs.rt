@@ -18,8 +18,8 @@ use crate::faults::StoreFault;
 use crate::orders::{is_there, order, read_orders};
 use crate::rules::run_rules;
 use crate::stored;
-use office_mail::{RunOrder, Setup, latest_day};
 use office_keeper::{Finished, Keeper};
+use office_mail::{RunOrder, Setup, latest_day};
 use std::alloc::Global;
 
 /// The greatest number of a message, and so of a run.

@@ -24,8 +24,8 @@ use crate::request::{Asked, Errand, Page, Posted, asked_of, is_head_method};
 use crate::routes::routes;
 use deb_control::Text;
 use httparse::spans::{EMPTY_HEADER_SPAN, HeaderSpan, RequestSpans};
-use office_mail::{Feed, MailFault, ReadFailed, Setup, Sink};
 use office_keeper::Keeper;
+use office_mail::{Feed, MailFault, ReadFailed, Setup, Sink};
 use std::alloc::Global;
 use thiserror::Error;
 
