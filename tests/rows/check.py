@@ -1,6 +1,7 @@
 #!/usr/bin/env python3
 """Holds model.py against the statements, and crates/worked_rows/stdout against both. Exit status 0 where all agree."""
 import sys
+sys.dont_write_bytecode = True
 from rows import CRATE, agrees, all_rows, due, is_whole, judged, read
 
 counts = {"stated whole, the same by the model": 0, "stated in part, completed by the model": 0,

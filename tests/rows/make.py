@@ -1,6 +1,8 @@
 #!/usr/bin/env python3
 """Writes crates/worked_rows/stdout: what is due for each row of its stdin."""
 import os
+import sys
+sys.dont_write_bytecode = True
 from rows import CRATE, agrees, all_rows, due
 
 text = ""

@@ -66,8 +66,8 @@ pub fn plain_bytes(alloc: Global, text: &str) -> Result<Vec<u8>, NoMemory> {
     Ok(bytes)
 }
 
-/// What a letter behind a backslash is written for: `\n` and `\r` are line ends, `\\` is a backslash, `\f` the byte 255,
-/// `\x` 65,498 letters, `\y` 8,167.
+/// What a letter behind a backslash is written for: `\n` and `\r` are line ends, `\\` is a backslash, `\f` the byte
+/// 255, `\x` 65,498 letters, `\y` 8,167.
 fn put_escaped(bytes: &mut Vec<u8>, byte: u8) -> Result<(), NoMemory> {
     match byte {
         b'n' => bytes.push(b'\n')?,

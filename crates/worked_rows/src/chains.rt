@@ -7,8 +7,8 @@ use std::alloc::Global;
 /// How many packages a build of a chain has.
 const PACKAGES: u32 = 50;
 
-/// The bag of a chain of this many builds, and of the name that the last package depends on: an upload, its builds and a
-/// run that covers them. Each other package depends on the next one.
+/// The bag of a chain of this many builds, and of the name that the last package depends on: an upload, its builds and
+/// a run that covers them. Each other package depends on the next one.
 pub fn chain_of(alloc: Global, what: &str) -> Result<Vec<u8>, NoMemory> {
     let (builds, last) = what.split_once(' ').unwrap_or((what, ""));
     let builds: u32 = builds.parse().unwrap_or(0);

@@ -43,8 +43,8 @@ pub fn replay_broken<K: Keeper>(
     put_status(alloc, came, &replayed)
 }
 
-/// The same to a writer that takes a byte a call, and fails at one of the calls. Before what is printed it adds how many
-/// bytes that is.
+/// The same to a writer that takes a byte a call, and fails at one of the calls. Before what is printed it adds how
+/// many bytes that is.
 pub fn replay_halting<K: Keeper>(
     alloc: Global,
     office: &mut Office<K>,
