@@ -176,8 +176,7 @@ class Tree:
             for file in sorted(specs.rglob('*.antt')):
                 path = file.relative_to(specs).with_suffix('').parts
                 self.files[(crate, *path)] = File(crate, path, file.read_text())
-            lib = self.files.pop((crate, 'Lib'), None)
-            for use in lib.uses if lib else []:
+            for use in getattr(self.files.pop((crate, 'Lib'), None), 'uses', []):
                 path = tuple(use.removeprefix('pub use Rattle.').split('.'))
                 self.passed[crate, path[-1]] = (path[0],) + path[2:]
         self.named = {(f.crate, *f.path, d.name): d for f in self.files.values() for d in f.definitions}
@@ -249,6 +248,7 @@ class Tree:
             yield item if isinstance(item, Item) and item.kind in ('struct', 'enum', 'trait', 'type') else None
         for path in paths:
             path = self.passed.get(path[:2], path[:2]) + path[2:]
+            paths += self.files[path[:2]].names.get(path[2], ()) if path[:2] in self.files and path[2:] else ()
             if path[1] in ('declared', 'contracts') and (path[0], ()) in self.modules and path[2:]:
                 at = self.find(self.modules[path[0], ()], path[2:])
                 yield at if isinstance(at, Item) else None
