@@ -26,7 +26,7 @@ use Rattle.office_store.specs.Legible.{IsWhole, SaysOnce, AreReported, AreNamed,
 use Rattle.office_store.proofs.KeyedFacts.{tied}
 use Rattle.office_store.proofs.KeepLemmas.{inserted}
 use Rattle.office_store.proofs.SettingLemmas.{not_tied, row_order}
-use Rattle.office_store.proofs.WholeWrites.{whole_put}
+use Rattle.office_store.proofs.Whole.{whole_put}
 use Rattle.office_keeper.specs.declared.faults.KeepFault.{KeepFault}
 use Rattle.office_store.specs.declared.faults.TableFault.{TableFault}
 use Rattle.office_store.specs.TableFaults.{keeper_answer}

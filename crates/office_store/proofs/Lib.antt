@@ -12,7 +12,6 @@ pub mod DeleteLemmas
 pub mod RunWrites
 pub mod EntryWrites
 pub mod SettingLemmas
-pub mod Under
 pub mod FinishLemmas
 pub mod CreateLemmas
 pub mod SchemaLemmas
@@ -35,7 +34,6 @@ pub mod ReportReads
 pub mod NamedReads
 pub mod LoadFacts
 pub mod LoadLemmas
-pub mod WholeWrites
 pub mod LegibleKeep
 pub mod LegibleFinish
 pub mod KeeperFacts

@@ -35,7 +35,7 @@ use Rattle.office_store.proofs.KeyedFacts.{tied, map_put, put_found}
 use Rattle.office_store.proofs.LetterFacts.{number_is}
 use Rattle.office_store.proofs.KeepLemmas.{apart, unindexed, five}
 use Rattle.office_store.proofs.RunLemmas.{run_says, run_number, office_says}
-use Rattle.office_store.proofs.WholeWrites.{whole_put}
+use Rattle.office_store.proofs.Whole.{whole_put}
 
 -- ---- reports
 

@@ -25,7 +25,7 @@ use Rattle.office_store.specs.TableSteps.{Rows}
 use Rattle.office_store.specs.Entries.{source_in, source_map, entry_in, entry_map}
 use Rattle.office_store.specs.EntrySteps.{source_entry, ClearsSources, AddsSource, SetsSources, row_entry, ClearsRows, AddsRow, SetsRows}
 use Rattle.office_store.proofs.KeyedFacts.{map_put}
-use Rattle.office_store.proofs.WholeWrites.{whole_put}
+use Rattle.office_store.proofs.Whole.{whole_put}
 use Rattle.office_store.proofs.KeepLemmas.{five}
 
 -- ---- an entry comes after those below it

@@ -8,6 +8,7 @@ use Rattle.sqlite.specs.State.{State, HasCleanDisk, Executes, ExecutesInside}
 use Rattle.office_store.specs.Layout.{office_schema}
 use Rattle.office_store.specs.Tables.{IsTrusted}
 use Rattle.office_store.specs.TableSteps.{IsInside, WentOn}
+use Rattle.sqlite.specs.Tree.{Trees}
 
 -- what `execute` of a transaction says of a call
 pub record Stepped (sql : List ℕ) (params : Row) (old new : State) (result : Result ℕ Error) : Type 0 where
@@ -64,3 +65,11 @@ module _ (sql : List ℕ) (params : Row) (old new : State) where
   pub step_open : (result : Result ℕ Error) → Stepped sql params old new result → HasCleanDisk new → OnOk result (IsTrusted new)
   step_open (Ok count) h clean = (clean, (h.runs clean (begun_ok count h)).1.is_open)
   step_open (Err e) h clean = tt
+
+-- What a loop of steps within a transaction keeps.
+
+-- the steps so far went well, and the tables are so far changed
+pub record IsUnderWay (Changed : Trees → Trees → Type 0) (old now : State) : Type 0 where
+  pub before : IsTrusted old
+  pub on : WentOn old now
+  pub changed : Changed old.now.trees now.now.trees

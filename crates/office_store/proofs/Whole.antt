@@ -4,16 +4,20 @@ use Rattle.std.proofs.lemmas.Cmp.{tied_itself}
 use Rattle.std.specs.Cmp.{IsTotalOrder}
 use Rattle.std.specs.List.{cons_option}
 use Rattle.std.specs.declared.cmp.Ordering.{Ordering}
-use Rattle.std.specs.Ordering.{eq_by_cmp, is_eq}
+use Rattle.std.specs.Ordering.{eq_by_cmp, is_eq, match_ordering}
 use Rattle.std.specs.FinMap.{FinMap, IsAntisymmetric, get, insert, len, from_entries, contains_key, get-insert, len-insert, len-empty}
-use Rattle.sqlite.specs.Order.{Row}
+use Rattle.sqlite.specs.Order.{Row, value_cmp}
 use Rattle.sqlite_rules.specs.Lists.{Has}
 use Rattle.office_mail.proofs.KeptFacts.{places_total, exact_places}
 use Rattle.office_store.specs.Tables.{letter_in, kept_rows}
 use Rattle.office_store.specs.TableSteps.{AreLetters, AreApart, IsCrowded}
 use Rattle.office_store.specs.Legible.{IsWhole}
 use Rattle.office_store.proofs.LetterFacts.{at_place}
-use Rattle.office_store.proofs.KeyedFacts.{tied}
+use Rattle.office_store.proofs.KeyedFacts.{tied, map_put}
+use Rattle.std.proofs.lemmas.Bool.{or_parts}
+use Rattle.std.specs.declared.cmp.Ordering.TheVariants.{Less, Equal, Greater}
+use Rattle.sqlite.specs.Tree.{put_row, rowid}
+use Rattle.sqlite_rules.specs.Edit.{is_taken}
 
 no_more : (b : Bool) (n : ℕ) → cond b n (n + 1) ≤ n + 1
 no_more true n = omega arith
@@ -124,3 +128,30 @@ letters_apart rows whole = (
 -- mail of which each row has a place of its own is as an office keeps it
 pub not_crowded : (rows : List Row) → IsWhole (kept_rows rows) rows → IsCrowded rows → ⊥
 not_crowded rows whole crowded = let kept = letters_apart rows whole in crowded kept.0 kept.1
+
+-- Tables that stay whole where a row is put in.
+
+-- a row with a rowid of its own makes the table one longer
+pub length_put : (row : Row) (rows : List Row) → is_taken rows row ≡ false → length (put_row row rows) ≡ length rows + 1
+length_put row [] fresh = refl
+length_put row (r ∷ rows) fresh =
+    let parts = or_parts _ _ fresh in
+    go (value_cmp (rowid r) (rowid row)) parts.0 (length_put row rows parts.1)
+  where
+    go : (o : Ordering) → is_eq o ≡ false → length (put_row row rows) ≡ length rows + 1 → length (match_ordering o (r ∷ put_row row rows) (row ∷ rows) (row ∷ r ∷ rows)) ≡ length (r ∷ rows) + 1
+    go Less other h = omega (arith, h)
+    go Equal other h = absurd (let e = other in cc)
+    go Greater other h = omega arith
+
+module _ {K V : Type 0} {R : K → K → Ordering} (total : IsTotalOrder R) (exact : IsAntisymmetric R) (read : Row → Option (K × V)) where
+  -- an entry under a new key makes the map one longer
+  pub len_more : (m : FinMap R V) (k : K) (v : V) → get m k ≡ None → len (insert m k v) ≡ len m + 1
+  len_more m k v free = len-insert total m k v ∙ ap (λ o. cond (is_some o) (len m) (len m + 1)) free
+
+  -- a row that is put in under a new key leaves the table whole
+  pub whole_put : (row : Row) (p : K) (v : V) (rows : List Row) → read row ≡ Some (p, v) → is_taken rows row ≡ false → get (from_entries {R = R} (filter_map read rows)) p ≡ None → len (from_entries {R = R} (filter_map read rows)) ≡ length rows
+      → len (from_entries {R = R} (filter_map read (put_row row rows))) ≡ length (put_row row rows)
+  whole_put row p v rows is fresh free whole =
+      let grown : len (from_entries {R = R} (filter_map read (put_row row rows))) ≡ len (from_entries {R = R} (filter_map read rows)) + 1 =
+      ap len (map_put total exact read row p v rows is fresh free) ∙ len_more (from_entries {R = R} (filter_map read rows)) p v free in
+      omega (arith, grown, whole, length_put row rows fresh)

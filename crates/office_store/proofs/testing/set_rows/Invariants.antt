@@ -4,7 +4,7 @@ use Rattle.office_store.specs.Tables.{IsTrusted}
 use Rattle.office_store.specs.TableSteps.{Lasts}
 use Rattle.sqlite.specs.State.{HasCleanDisk}
 use Rattle.office_store.specs.EntrySteps.{SetsRows}
-use Rattle.office_store.proofs.Under.{IsUnderWay}
+use Rattle.office_store.proofs.StepLemmas.{IsUnderWay}
 use Rattle.office_store.proofs.testing.set_rows.Given as goal
 
 abbrev pub invariant-rows : goal.invariant-rows

@@ -4,7 +4,7 @@ use Rattle.office_store.specs.Tables.{IsTrusted}
 use Rattle.office_store.specs.TableSteps.{Lasts}
 use Rattle.sqlite.specs.State.{HasCleanDisk}
 use Rattle.office_store.specs.EntrySteps.{SetsSources}
-use Rattle.office_store.proofs.Under.{IsUnderWay}
+use Rattle.office_store.proofs.StepLemmas.{IsUnderWay}
 use Rattle.office_store.proofs.testing.set_sources.Given as goal
 
 abbrev pub invariant-sources : goal.invariant-sources
