@@ -16,9 +16,9 @@ def read(folder, name):
 
 def rows_of(text):
     """The rows of a text: the name of each, and its lines."""
-    assert text.startswith("=== ")
-    parts = [part.partition("\n") for part in ("\n" + text).split("\n=== ")[1:]]
-    return [(name, rest if rest.endswith("\n") or not rest else rest + "\n") for name, _, rest in parts]
+    assert text.startswith("=== ") and text.endswith("\n")
+    parts = [part.partition("\n") for part in ("\n" + text[:-1]).split("\n=== ")[1:]]
+    return [(name, rest + "\n" if end else "") for name, end, rest in parts]
 
 
 def steps_of(lines):
