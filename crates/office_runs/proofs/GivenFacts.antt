@@ -16,7 +16,7 @@ use Rattle.office_mail.specs.Read.{read}
 use Rattle.office_mail.proofs.KeptFacts.{placed_ok}
 use Rattle.office_store.specs.Content.{Content, item_from_one}
 use Rattle.office_store.specs.Given.{AreOwnTexts, IsKept, GivesSource, GivesRow, IsGiven, KnowsArchs, IsArchPlace, upload_in, binary_in}
-use Rattle.testing_rules.specs.Given.{IsUploaded, IsBuilt, IsGivenBy, binary_in as built_in}
+use Rattle.testing_rules.specs.Provenance.{IsUploaded, IsBuilt, IsGivenBy, binary_in as built_in}
 use Rattle.office_runs.specs.Outcome.{item_at, item_in_answer, item_in_body}
 use Rattle.office_runs.specs.Walk.{said_within}
 use Rattle.office_runs.proofs.WalkFacts.{of_text, within_place}

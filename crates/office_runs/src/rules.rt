@@ -8,7 +8,7 @@ ghost use Rattle.testing_rules.specs.Updates.{update_of};
 ghost use Rattle.testing_model.specs.declared.excuse.Excuse.{Excuse};
 ghost use Rattle.testing_rules.specs.Watched.{AllWatchedWork};
 ghost use Rattle.office_mail.specs.Runs.{cover_of};
-ghost use Rattle.testing_rules.specs.Given.{IsGivenBy};
+ghost use Rattle.testing_rules.specs.Provenance.{IsGivenBy};
 
 use crate::orders::stated_for;
 use deb_control::{NoMemory, Text};

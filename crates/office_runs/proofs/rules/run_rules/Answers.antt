@@ -4,7 +4,7 @@ use Rattle.testing_rules.specs.Excuses.{excuses_of}
 use Rattle.testing_rules.specs.Updates.{IsUpdate}
 use Rattle.testing_rules.specs.Reports.{excuses_text, update_text}
 use Rattle.office_store.specs.declared.values.Finished.{Finished}
-use Rattle.testing_rules.specs.Given.{IsGivenBy}
+use Rattle.testing_rules.specs.Provenance.{IsGivenBy}
 use Rattle.office_runs.proofs.RunFacts.{reported_is}
 use Rattle.office_runs.proofs.rules.run_rules.Goals as goal
 
