@@ -10,8 +10,8 @@ ghost use Rattle.office_store.specs.Finishing.{WritesRun, FinishesRun, with_coun
 
 use crate::faults::{Cause, TableFault};
 use crate::runs::{record_run, said};
-use crate::testing::{set_rows, set_sources};
 use crate::said::Said;
+use crate::testing::{set_rows, set_sources};
 use office_keeper::Finished;
 use sqlite::{Alter, Connection, Error, Transaction};
 

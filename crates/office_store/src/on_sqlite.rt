@@ -1,5 +1,6 @@
 //! A keeper over sqlite's tables.
 #![tactic(auto, using(crate::proofs::KeeperFacts::if_ok_answer, crate::proofs::KeeperFacts::on_ok_answer, crate::proofs::KeeperFacts::on_err_answer))]
+
 ghost use Rattle.std.specs.Prelude.{◌≡◌};
 ghost use Rattle.sqlite.specs.Held.{state};
 ghost use Rattle.sqlite.specs.State.{HasCleanDisk};

@@ -16,8 +16,8 @@ ghost use Rattle.office_store.specs.Tables.{IsTrusted, Lasts, IsOurs, Same, IsIn
 
 use crate::faults::{Cause, TableFault, unread};
 use crate::said::Said;
-use office_keeper::Reports;
 use deb_control::Text;
+use office_keeper::Reports;
 use sqlite::{Alter, Connection, Error, Row, Transaction, params};
 
 /// What a row of the office says, whose id is 1.
