@@ -6,7 +6,7 @@ ghost use Rattle.office_keeper.specs.Content.{Content, reports_in, with_text, wi
 ghost use Rattle.office_keeper.specs.Provenance.{AreOwnTexts, IsGiven, KnowsArchs};
 ghost use Rattle.office_keeper.specs.Keeping.{Counted, HasRisen};
 
-use crate::faults::{KeepCause, KeepFault};
+use crate::faults::{Cause, KeepFault};
 use crate::values::{Finished, Letter, MailText, Reports};
 use testing_suites::Testing;
 
@@ -46,7 +46,7 @@ pub trait Keeper {
         ensures open { is_clean self.new → is_trusted self.old → OnOk result (is_trusted self.new) }
         ensures shut { is_clean self.new → is_trusted self.old → is_trusted self.new ⊎ HasRisen (disk_faults self.old) (disk_faults self.new) }
         ensures legible { is_trusted self.new → is_legible self.old → is_legible self.new }
-        ensures bad { is_trusted self.new → is_legible self.old → AreOwnTexts (setup self.old) (content self.old).kept → result ≢ Err (KeepFault.Store KeepCause.BadRow) }
+        ensures bad { is_trusted self.new → is_legible self.old → AreOwnTexts (setup self.old) (content self.old).kept → result ≢ Err (KeepFault.Store Cause.BadRow) }
         ensures counted { Counted (refusals self.old) (refusals self.new) result };
 
     /// Keeps a text under a free number.
@@ -63,7 +63,7 @@ pub trait Keeper {
         ensures open { is_clean self.new → is_trusted self.old → OnOk result (is_trusted self.new) }
         ensures shut { is_clean self.new → is_trusted self.old → is_trusted self.new ⊎ HasRisen (disk_faults self.old) (disk_faults self.new) }
         ensures legible { is_trusted self.new → is_legible self.old → is_legible self.new }
-        ensures bad { is_trusted self.new → is_legible self.old → AreOwnTexts (setup self.old) (content self.old).kept → result ≢ Err (KeepFault.Store KeepCause.BadRow) }
+        ensures bad { is_trusted self.new → is_legible self.old → AreOwnTexts (setup self.old) (content self.old).kept → result ≢ Err (KeepFault.Store Cause.BadRow) }
         ensures counted { Counted (refusals self.old) (refusals self.new) result };
 
     /// How many runs are finished.
@@ -77,7 +77,7 @@ pub trait Keeper {
         ensures open { is_clean self.new → is_trusted self.old → OnOk result (is_trusted self.new) }
         ensures shut { is_clean self.new → is_trusted self.old → is_trusted self.new ⊎ HasRisen (disk_faults self.old) (disk_faults self.new) }
         ensures legible { is_trusted self.new → is_legible self.old → is_legible self.new }
-        ensures bad { is_trusted self.new → is_legible self.old → AreOwnTexts (setup self.old) (content self.old).kept → result ≢ Err (KeepFault.Store KeepCause.BadRow) }
+        ensures bad { is_trusted self.new → is_legible self.old → AreOwnTexts (setup self.old) (content self.old).kept → result ≢ Err (KeepFault.Store Cause.BadRow) }
         ensures counted { Counted (refusals self.old) (refusals self.new) result };
 
     /// The kept numbers of a sender from `from` to `to` with their texts, by number; none where `from` is above `to`.
@@ -91,7 +91,7 @@ pub trait Keeper {
         ensures open { is_clean self.new → is_trusted self.old → OnOk result (is_trusted self.new) }
         ensures shut { is_clean self.new → is_trusted self.old → is_trusted self.new ⊎ HasRisen (disk_faults self.old) (disk_faults self.new) }
         ensures legible { is_trusted self.new → is_legible self.old → is_legible self.new }
-        ensures bad { is_trusted self.new → is_legible self.old → AreOwnTexts (setup self.old) (content self.old).kept → result ≢ Err (KeepFault.Store KeepCause.BadRow) }
+        ensures bad { is_trusted self.new → is_legible self.old → AreOwnTexts (setup self.old) (content self.old).kept → result ≢ Err (KeepFault.Store Cause.BadRow) }
         ensures counted { Counted (refusals self.old) (refusals self.new) result };
 
     /// Makes the next run finished, with its reports and its testing all at once. Each entry of testing that the kept
@@ -111,7 +111,7 @@ pub trait Keeper {
         ensures open { is_clean self.new → is_trusted self.old → OnOk result (is_trusted self.new) }
         ensures shut { is_clean self.new → is_trusted self.old → is_trusted self.new ⊎ HasRisen (disk_faults self.old) (disk_faults self.new) }
         ensures legible { is_trusted self.new → is_legible self.old → AreOwnTexts (setup self.old) (content self.old).kept → is_legible self.new }
-        ensures bad { is_trusted self.new → is_legible self.old → AreOwnTexts (setup self.old) (content self.old).kept → result ≢ Err (KeepFault.Store KeepCause.BadRow) }
+        ensures bad { is_trusted self.new → is_legible self.old → AreOwnTexts (setup self.old) (content self.old).kept → result ≢ Err (KeepFault.Store Cause.BadRow) }
         ensures counted { Counted (refusals self.old) (refusals self.new) result };
 
     /// The two reports of a finished run; none of another.
@@ -125,7 +125,7 @@ pub trait Keeper {
         ensures open { is_clean self.new → is_trusted self.old → OnOk result (is_trusted self.new) }
         ensures shut { is_clean self.new → is_trusted self.old → is_trusted self.new ⊎ HasRisen (disk_faults self.old) (disk_faults self.new) }
         ensures legible { is_trusted self.new → is_legible self.old → is_legible self.new }
-        ensures bad { is_trusted self.new → is_legible self.old → AreOwnTexts (setup self.old) (content self.old).kept → result ≢ Err (KeepFault.Store KeepCause.BadRow) }
+        ensures bad { is_trusted self.new → is_legible self.old → AreOwnTexts (setup self.old) (content self.old).kept → result ≢ Err (KeepFault.Store Cause.BadRow) }
         ensures counted { Counted (refusals self.old) (refusals self.new) result };
 
     /// The testing suite, as the last finished run left it. Also of a store that isn't trusted it has architectures of
@@ -141,7 +141,7 @@ pub trait Keeper {
         ensures open { is_clean self.new → is_trusted self.old → OnOk result (is_trusted self.new) }
         ensures shut { is_clean self.new → is_trusted self.old → is_trusted self.new ⊎ HasRisen (disk_faults self.old) (disk_faults self.new) }
         ensures legible { is_trusted self.new → is_legible self.old → is_legible self.new }
-        ensures bad { is_trusted self.new → is_legible self.old → AreOwnTexts (setup self.old) (content self.old).kept → result ≢ Err (KeepFault.Store KeepCause.BadRow) }
+        ensures bad { is_trusted self.new → is_legible self.old → AreOwnTexts (setup self.old) (content self.old).kept → result ≢ Err (KeepFault.Store Cause.BadRow) }
         ensures counted { Counted (refusals self.old) (refusals self.new) result };
 
     /// Makes the next run finished, as `finish` does, with what it is handed to keep. A store that needs no more than
@@ -161,7 +161,7 @@ pub trait Keeper {
         ensures open { is_clean self.new → is_trusted self.old → OnOk result (is_trusted self.new) }
         ensures shut { is_clean self.new → is_trusted self.old → is_trusted self.new ⊎ HasRisen (disk_faults self.old) (disk_faults self.new) }
         ensures legible { is_trusted self.new → is_legible self.old → AreOwnTexts (setup self.old) (content self.old).kept → is_legible self.new }
-        ensures bad { is_trusted self.new → is_legible self.old → AreOwnTexts (setup self.old) (content self.old).kept → result ≢ Err (KeepFault.Store KeepCause.BadRow) }
+        ensures bad { is_trusted self.new → is_legible self.old → AreOwnTexts (setup self.old) (content self.old).kept → result ≢ Err (KeepFault.Store Cause.BadRow) }
         ensures counted { Counted (refusals self.old) (refusals self.new) result }
     {
         self.finish(run, &done)
@@ -179,7 +179,7 @@ pub trait Keeper {
         ensures open { is_clean self.new → is_trusted self.old → OnOk result (is_trusted self.new) }
         ensures shut { is_clean self.new → is_trusted self.old → is_trusted self.new ⊎ HasRisen (disk_faults self.old) (disk_faults self.new) }
         ensures legible { is_trusted self.new → is_legible self.old → is_legible self.new }
-        ensures bad { is_trusted self.new → is_legible self.old → AreOwnTexts (setup self.old) (content self.old).kept → result ≢ Err (KeepFault.Store KeepCause.BadRow) }
+        ensures bad { is_trusted self.new → is_legible self.old → AreOwnTexts (setup self.old) (content self.old).kept → result ≢ Err (KeepFault.Store Cause.BadRow) }
         ensures counted { Counted (refusals self.old) (refusals self.new) result }
     {
         self.testing()

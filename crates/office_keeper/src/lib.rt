@@ -6,7 +6,7 @@ mod keeping;
 mod memory;
 mod values;
 
-pub use faults::{KeepCause, KeepFault};
+pub use faults::{Cause, KeepFault};
 pub use keeping::{Keeper, keep_if_free};
 pub use memory::Plain;
 pub use values::{Finished, Letter, MailText, Reports};

@@ -35,9 +35,6 @@ use Rattle.office_store.proofs.SettingLemmas.{row_order}
 use Rattle.office_store.proofs.EntryLists.{suite_of}
 use Rattle.office_store.proofs.EntryValues.{read_has, source_keeps, row_keeps, all_back}
 use Rattle.office_store.proofs.ReportFacts.{length_reports, one_run_more}
-use Rattle.office_keeper.specs.declared.faults.KeepFault.{KeepFault}
-use Rattle.office_store.specs.declared.faults.TableFault.{TableFault}
-use Rattle.office_store.specs.TableFaults.{keeper_answer}
 
 -- ---- entries that are in order
 
@@ -160,11 +157,11 @@ module _ (setup : Lists) (db next : Trees) (run : ℕ) (done : Finished) (it : F
   content_after is by_name by_key given = λ i. record { kept = kept_after i; reports = reports_after is i; testing = testing_after by_name by_key given i }
 
 -- the same of a call that answered
-module _ {T : Type 0} (result : Result T KeepFault) (given : Result T TableFault) (same : result ≡ keeper_answer given) (setup : Lists) (db next : Trees) (run : ℕ) (done : Finished) (finishes : OnOk given (FinishesRun db next run done)) where
+module _ {T E : Type 0} (result given : Result T E) (same : result ≡ given) (setup : Lists) (db next : Trees) (run : ℕ) (done : Finished) (finishes : OnOk given (FinishesRun db next run done)) where
   pub reports_on : run ≡ length (content_in setup db).reports + 1 → OnOk result ((content_in setup next).reports ≡ (content_in setup db).reports ++ reports_in done ∷ [])
   reports_on is = subst (λ r. OnOk r ((content_in setup next).reports ≡ (content_in setup db).reports ++ reports_in done ∷ [])) (sym same) (go given finishes)
     where
-      go : (r : Result T TableFault) → OnOk r (FinishesRun db next run done) → OnOk (keeper_answer r) ((content_in setup next).reports ≡ (content_in setup db).reports ++ reports_in done ∷ [])
+      go : (r : Result T E) → OnOk r (FinishesRun db next run done) → OnOk r ((content_in setup next).reports ≡ (content_in setup db).reports ++ reports_in done ∷ [])
       go (Ok v) it = reports_after setup db next run done it is
       go (Err e) it = tt
 
@@ -172,7 +169,7 @@ module _ {T : Type 0} (result : Result T KeepFault) (given : Result T TableFault
       → OnOk result (content_in setup next ≡ with_run (content_in setup db) done)
   content_on ordered is gives = subst (λ r. OnOk r (content_in setup next ≡ with_run (content_in setup db) done)) (sym same) (go given finishes ordered)
     where
-      go : (r : Result T TableFault) → OnOk r (FinishesRun db next run done) → OnOk r (IsInOrder done.testing.sources done.testing.rows) → OnOk (keeper_answer r) (content_in setup next ≡ with_run (content_in setup db) done)
+      go : (r : Result T E) → OnOk r (FinishesRun db next run done) → OnOk r (IsInOrder done.testing.sources done.testing.rows) → OnOk r (content_in setup next ≡ with_run (content_in setup db) done)
       go (Ok v) it order = content_after setup db next run done it is order.by_name order.by_key gives
       go (Err e) it order = tt
 

@@ -23,9 +23,6 @@ use Rattle.office_store.specs.TableSteps.{Rows, AddsLetter}
 use Rattle.office_store.proofs.Compiled.{keep_is, keep_plain}
 use Rattle.office_store.proofs.WriteLemmas.{Inserted, inserts_one, cast_null, cast_int}
 use Rattle.office_store.proofs.LetterFacts.{letter_of_parts, kept_put}
-use Rattle.office_keeper.specs.declared.faults.KeepFault.{KeepFault}
-use Rattle.office_store.specs.declared.faults.TableFault.{TableFault}
-use Rattle.office_store.specs.TableFaults.{keeper_answer}
 
 abbrev pub keep_terms : List Term
 keep_terms = lit Null ∷ col 0 0 ∷ col 0 1 ∷ col 0 2 ∷ []
@@ -81,10 +78,10 @@ pub inserted : (db next : Trees) (sender number : ℕ) (text : List ℕ) → Add
     → kept_rows (next 1) ≡ insert (kept_rows (db 1)) (sender, number) text
 inserted db next sender number text it free = ap (λ (r : Rows). kept_rows r.mail) it.put ∙ kept_put it.row (sender, number) text (db 1) it.says it.free free
 
-pub inserted_on : {T : Type 0} (result : Result T KeepFault) (given : Result T TableFault) (db next : Trees) (sender number : ℕ) (text : List ℕ) → result ≡ keeper_answer given → OnOk given (AddsLetter db next sender number text) → get (kept_rows (db 1)) (sender, number) ≡ None
+pub inserted_on : {T E : Type 0} (result given : Result T E) (db next : Trees) (sender number : ℕ) (text : List ℕ) → result ≡ given → OnOk given (AddsLetter db next sender number text) → get (kept_rows (db 1)) (sender, number) ≡ None
     → OnOk result (kept_rows (next 1) ≡ insert (kept_rows (db 1)) (sender, number) text)
-inserted_on {T} result given db next sender number text same h free = subst (λ r. OnOk r (kept_rows (next 1) ≡ insert (kept_rows (db 1)) (sender, number) text)) (sym same) (go given h)
+inserted_on {T} {E} result given db next sender number text same h free = subst (λ r. OnOk r (kept_rows (next 1) ≡ insert (kept_rows (db 1)) (sender, number) text)) (sym same) (go given h)
   where
-    go : (r : Result T TableFault) → OnOk r (AddsLetter db next sender number text) → OnOk (keeper_answer r) (kept_rows (next 1) ≡ insert (kept_rows (db 1)) (sender, number) text)
+    go : (r : Result T E) → OnOk r (AddsLetter db next sender number text) → OnOk r (kept_rows (next 1) ≡ insert (kept_rows (db 1)) (sender, number) text)
     go (Ok v) it = inserted db next sender number text it free
     go (Err e) it = tt

@@ -27,9 +27,6 @@ use Rattle.office_store.proofs.KeyedFacts.{tied}
 use Rattle.office_store.proofs.KeepLemmas.{inserted}
 use Rattle.office_store.proofs.SettingLemmas.{not_tied, row_order}
 use Rattle.office_store.proofs.Whole.{whole_put}
-use Rattle.office_keeper.specs.declared.faults.KeepFault.{KeepFault}
-use Rattle.office_store.specs.declared.faults.TableFault.{TableFault}
-use Rattle.office_store.specs.TableFaults.{keeper_answer}
 
 -- ---- entries of a map
 
@@ -183,17 +180,17 @@ module _ (setup : Lists) (db next : Trees) (sender number : ℕ) (text : List �
   keep_content = λ i. record { kept = kept_grows i; reports = reports_stay i; testing = testing_stays i }
 
 -- the same of a call that may have failed
-module _ {T : Type 0} (given : Result T TableFault) (setup : Lists) (old new : Database) (sender number : ℕ) (text : List ℕ) (adds : OnOk given (AddsLetter old.trees new.trees sender number text)) (free : get (kept_rows (old.trees 1)) (sender, number) ≡ None) (was : IsLegible setup old.trees) where
+module _ {T E : Type 0} (given : Result T E) (setup : Lists) (old new : Database) (sender number : ℕ) (text : List ℕ) (adds : OnOk given (AddsLetter old.trees new.trees sender number text)) (free : get (kept_rows (old.trees 1)) (sender, number) ≡ None) (was : IsLegible setup old.trees) where
   pub keep_legible_on : OnErr given (new ≡ old) → IsLegible setup new.trees
   keep_legible_on = go given adds
     where
-      go : (r : Result T TableFault) → OnOk r (AddsLetter old.trees new.trees sender number text) → OnErr r (new ≡ old) → IsLegible setup new.trees
+      go : (r : Result T E) → OnOk r (AddsLetter old.trees new.trees sender number text) → OnErr r (new ≡ old) → IsLegible setup new.trees
       go (Ok v) it err = keep_legible setup old.trees new.trees sender number text it free was
       go (Err e) it err = subst (λ (d : Database). IsLegible setup d.trees) (sym err) was
 
-  pub keep_content_on : (result : Result T KeepFault) → result ≡ keeper_answer given → OnOk result (content_in setup new.trees ≡ with_text (content_in setup old.trees) sender number text)
+  pub keep_content_on : (result : Result T E) → result ≡ given → OnOk result (content_in setup new.trees ≡ with_text (content_in setup old.trees) sender number text)
   keep_content_on result same = subst (λ r. OnOk r (content_in setup new.trees ≡ with_text (content_in setup old.trees) sender number text)) (sym same) (go given adds)
     where
-      go : (r : Result T TableFault) → OnOk r (AddsLetter old.trees new.trees sender number text) → OnOk (keeper_answer r) (content_in setup new.trees ≡ with_text (content_in setup old.trees) sender number text)
+      go : (r : Result T E) → OnOk r (AddsLetter old.trees new.trees sender number text) → OnOk r (content_in setup new.trees ≡ with_text (content_in setup old.trees) sender number text)
       go (Ok v) it = keep_content setup old.trees new.trees sender number text it free was
       go (Err e) it = tt

@@ -1,14 +1,14 @@
 -- A fault that is passed on by `?`.
 use Rattle.std.proofs.Common.{◌≡◌, ◌⊎◌, inl, inr, Result, Ok, Err, Option, Some, None, IsSome, ap, sym, subst}
 use Rattle.std.specs.Result.{IsErrAnd}
-use Rattle.office_store.specs.declared.faults.TableFault.{TableFault}
+use Rattle.office_keeper.specs.declared.faults.KeepFault.{KeepFault}
 
-is_passed : {T : Type 0} (r : Result T TableFault) (P : TableFault → Type 0) (fault : TableFault) → r ≡ Err fault → IsErrAnd r P → P fault
+is_passed : {T : Type 0} (r : Result T KeepFault) (P : KeepFault → Type 0) (fault : KeepFault) → r ≡ Err fault → IsErrAnd r P → P fault
 is_passed (Ok v) P fault h p = absurd (let e = h in cc)
 is_passed (Err e) P fault h p = let same : e ≡ fault = cc in subst P same p
 
 -- what `?` hands on is what it was given
-pub passed : {T U : Type 0} (r : Result T TableFault) (given fault : TableFault) → r ≡ Err fault → IsErrAnd r (λ e. e ≡ given) → ◌≡◌ {A = Result U TableFault} (Err given) (Err fault)
+pub passed : {T U : Type 0} (r : Result T KeepFault) (given fault : KeepFault) → r ≡ Err fault → IsErrAnd r (λ e. e ≡ given) → ◌≡◌ {A = Result U KeepFault} (Err given) (Err fault)
 passed r given fault h p = ap Err (sym (is_passed r (λ e. e ≡ given) fault h p))
 
 -- where a value is there, what stands beside its lack holds

@@ -2,7 +2,6 @@ pub use Rattle.office_keeper.specs.Content
 pub use Rattle.office_keeper.specs.Keeping
 pub use Rattle.office_keeper.specs.Provenance
 pub use Rattle.office_keeper.specs.MemoryState
-pub mod TableFaults
 pub mod Layout
 pub mod LayoutSteps
 pub mod Texts

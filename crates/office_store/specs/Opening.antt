@@ -6,8 +6,8 @@ use Rattle.sqlite.specs.Order.{Row, column}
 use Rattle.sqlite.specs.State.{State}
 use Rattle.office_mail.specs.Lists.{Lists}
 use Rattle.office_mail.specs.Setup.{setup_in}
-use Rattle.office_store.specs.declared.faults.TableFault.{TableFault}
-use Rattle.office_store.specs.declared.faults.TableFault.TheVariants.{NoMemory, Store}
+use Rattle.office_keeper.specs.declared.faults.KeepFault.{KeepFault}
+use Rattle.office_keeper.specs.declared.faults.KeepFault.TheVariants.{NoMemory, Store}
 use Rattle.office_store.specs.declared.opening.OpenFault.{OpenFault}
 use Rattle.office_store.specs.declared.opening.OpenFault.TheVariants as opening
 use Rattle.office_store.specs.declared.said.Said.{Said}
@@ -18,7 +18,7 @@ use Rattle.office_store.specs.SetupText.{setup_text}
 use Rattle.office_store.specs.Fresh.{IsEmptyFor}
 
 -- what a fault of the store is told as
-abbrev pub open_fault : TableFault → OpenFault
+abbrev pub open_fault : KeepFault → OpenFault
 open_fault NoMemory = opening.NoMemory
 open_fault (Store cause) = opening.Store cause
 

@@ -18,9 +18,10 @@ ghost use Rattle.office_store.specs.Entries.{source_in, source_map, entry_in, en
 ghost use Rattle.office_store.specs.EntrySteps.{source_columns, entry_columns};
 ghost use Rattle.office_store.specs.TableContent.{own_by, message_at as kept_message, source_as, source_of, row_as, row_of, is_arch_place, ReadsEach, put_all_sources, put_all_rows, IsGathered, suite_in};
 
-use crate::faults::{Cause, TableFault, unread};
+use crate::faults::unread;
 use crate::mail;
 use deb_control::{Binary, NoMemory};
+use office_keeper::{Cause, KeepFault};
 use office_mail::{Body, MailFault, Message, Setup, read_message};
 use sqlite::types::ValueRef;
 use sqlite::{Alter, Connection, Error, Row};
@@ -36,20 +37,20 @@ fn own_message(
     text: &[u8],
     sender: u32,
     number: u32,
-) -> Result<Message, TableFault>
+) -> Result<Message, KeepFault>
     ensures ok { IfOk result (λ message. own_by sender number (read setup.now text.now) ≡ Some message) }
-    ensures bad { result ≡ Err (TableFault.Store Cause.BadRow) → own_by sender number (read setup.now text.now) ≡ None }
+    ensures bad { result ≡ Err (KeepFault.Store Cause.BadRow) → own_by sender number (read setup.now text.now) ≡ None }
 {
     match read_message(alloc, setup, text) {
         Ok(message) => {
             if message.sender == sender && message.number == number {
                 Ok(message)
             } else {
-                Err(TableFault::Store(Cause::BadRow))
+                Err(KeepFault::Store(Cause::BadRow))
             }
         }
-        Err(MailFault::NoMemory) => Err(TableFault::NoMemory),
-        Err(_) => Err(TableFault::Store(Cause::BadRow)),
+        Err(MailFault::NoMemory) => Err(KeepFault::NoMemory),
+        Err(_) => Err(KeepFault::Store(Cause::BadRow)),
     }
 }
 
@@ -61,52 +62,52 @@ fn message_at<S: Alter>(
     setup: &Setup,
     sender: u32,
     number: u32,
-) -> Result<Message, TableFault>
+) -> Result<Message, KeepFault>
     requires ours { IsTrusted (state S.Store conn.old) → IsOurs (state S.Store conn.old) }
     ensures before { IsTrusted (state S.Store conn.new) → IsTrusted (state S.Store conn.old) }
     ensures lasts { Lasts (state S.Store conn.old) (state S.Store conn.new) }
     ensures open { HasCleanDisk (state S.Store conn.new) → IsTrusted (state S.Store conn.old) → OnOk result (IsTrusted (state S.Store conn.new)) }
     ensures same { IsTrusted (state S.Store conn.new) → Same (state S.Store conn.old) (state S.Store conn.new) }
     ensures ok { IsTrusted (state S.Store conn.new) → IfOk result (λ message. kept_message setup.now (kept_rows ((state S.Store conn.new).now.trees 1)) sender number ≡ Some message) }
-    ensures bad { IsTrusted (state S.Store conn.new) → result ≡ Err (TableFault.Store Cause.BadRow) → IsCrowded ((state S.Store conn.new).now.trees 1) ⊎ (kept_message setup.now (kept_rows ((state S.Store conn.new).now.trees 1)) sender number ≡ None) }
+    ensures bad { IsTrusted (state S.Store conn.new) → result ≡ Err (KeepFault.Store Cause.BadRow) → IsCrowded ((state S.Store conn.new).now.trees 1) ⊎ (kept_message setup.now (kept_rows ((state S.Store conn.new).now.trees 1)) sender number ≡ None) }
 {
     match mail::find(conn, sender, number)? {
-        None => Err(TableFault::Store(Cause::BadRow)),
+        None => Err(KeepFault::Store(Cause::BadRow)),
         Some(text) => own_message(alloc, setup, text.as_slice(), sender, number),
     }
 }
 
 /// The characters in a column.
-fn name_in(row: &Row, at: usize) -> Result<&[u8], TableFault>
+fn name_in(row: &Row, at: usize) -> Result<&[u8], KeepFault>
     ensures ok { IfOk result (λ name. column row.now at ≡ Words name.now) }
-    ensures bad { result ≡ Err (TableFault.Store Cause.BadRow) → at < length row.now → (name : List ℕ) → column row.now at ≢ Words name }
+    ensures bad { result ≡ Err (KeepFault.Store Cause.BadRow) → at < length row.now → (name : List ℕ) → column row.now at ≢ Words name }
 {
     match row.get_ref(at).map_err(unread)? {
         ValueRef::Text(name) => Ok(name),
-        _ => Err(TableFault::Store(Cause::BadRow)),
+        _ => Err(KeepFault::Store(Cause::BadRow)),
     }
 }
 
 /// The rowid, in the first column.
-fn rowid_in(row: &Row) -> Result<i64, TableFault>
+fn rowid_in(row: &Row) -> Result<i64, KeepFault>
     ensures ok { IfOk result (λ id. column row.now 0 ≡ Int id) }
-    ensures bad { result ≡ Err (TableFault.Store Cause.BadRow) → 0 < length row.now → (id : ℤ) → column row.now 0 ≢ Int id }
+    ensures bad { result ≡ Err (KeepFault.Store Cause.BadRow) → 0 < length row.now → (id : ℤ) → column row.now 0 ≢ Int id }
 {
     Ok(row.get(0).map_err(unread)?)
 }
 
 /// The number of 32 bits in a column.
-fn number_in(row: &Row, at: usize) -> Result<u32, TableFault>
+fn number_in(row: &Row, at: usize) -> Result<u32, KeepFault>
     ensures ok { IfOk result (λ n. (column row.now at ≡ Int (pos n)) × (n < 4_294_967_296)) }
-    ensures bad { result ≡ Err (TableFault.Store Cause.BadRow) → at < length row.now → (n : ℕ) → n < 4_294_967_296 → column row.now at ≢ Int (pos n) }
+    ensures bad { result ≡ Err (KeepFault.Store Cause.BadRow) → at < length row.now → (n : ℕ) → n < 4_294_967_296 → column row.now at ≢ Int (pos n) }
 {
     Ok(row.get(at).map_err(unread)?)
 }
 
 /// The name in a shown row of testing's sources, and the place of its message.
-fn source_entry(row: &Row) -> Result<(&[u8], u32, u32), TableFault>
+fn source_entry(row: &Row) -> Result<(&[u8], u32, u32), KeepFault>
     ensures ok { IfOk result (λ entry. source_in row.now ≡ Some (entry.0.now, (entry.1, entry.2))) }
-    ensures bad { result ≡ Err (TableFault.Store Cause.BadRow) → (id : ℤ) (name : List ℕ) (sender number : ℕ) → sender < 4_294_967_296 → number < 4_294_967_296 → row.now ≢ Int id ∷ Words name ∷ Int (pos sender) ∷ Int (pos number) ∷ [] }
+    ensures bad { result ≡ Err (KeepFault.Store Cause.BadRow) → (id : ℤ) (name : List ℕ) (sender number : ℕ) → sender < 4_294_967_296 → number < 4_294_967_296 → row.now ≢ Int id ∷ Words name ∷ Int (pos sender) ∷ Int (pos number) ∷ [] }
 {
     let _rowid = rowid_in(row)?;
     let name = name_in(row, 1)?;
@@ -148,20 +149,20 @@ fn source_at<S: Alter>(
     conn: &mut Connection<S>,
     setup: &Setup,
     row: &Row,
-) -> Result<SourceIn, TableFault>
+) -> Result<SourceIn, KeepFault>
     requires ours { IsTrusted (state S.Store conn.old) → IsOurs (state S.Store conn.old) }
     ensures before { IsTrusted (state S.Store conn.new) → IsTrusted (state S.Store conn.old) }
     ensures lasts { Lasts (state S.Store conn.old) (state S.Store conn.new) }
     ensures open { HasCleanDisk (state S.Store conn.new) → IsTrusted (state S.Store conn.old) → OnOk result (IsTrusted (state S.Store conn.new)) }
     ensures same { IsTrusted (state S.Store conn.new) → Same (state S.Store conn.old) (state S.Store conn.new) }
     ensures ok { IsTrusted (state S.Store conn.new) → IfOk result (λ source. source_of setup.now (kept_rows ((state S.Store conn.new).now.trees 1)) row.now ≡ Some source) }
-    ensures bad { IsTrusted (state S.Store conn.new) → result ≡ Err (TableFault.Store Cause.BadRow) → row.now ≡ source_columns row.now → IsCrowded ((state S.Store conn.new).now.trees 1) ⊎ (source_of setup.now (kept_rows ((state S.Store conn.new).now.trees 1)) row.now ≡ None) }
+    ensures bad { IsTrusted (state S.Store conn.new) → result ≡ Err (KeepFault.Store Cause.BadRow) → row.now ≡ source_columns row.now → IsCrowded ((state S.Store conn.new).now.trees 1) ⊎ (source_of setup.now (kept_rows ((state S.Store conn.new).now.trees 1)) row.now ≡ None) }
 {
     let (name, sender, number) = source_entry(row)?;
     let message = message_at(alloc, conn, setup, sender, number)?;
     match source_named(message, name, sender, number) {
         Some(source) => Ok(source),
-        None => Err(TableFault::Store(Cause::BadRow)),
+        None => Err(KeepFault::Store(Cause::BadRow)),
     }
 }
 
@@ -186,14 +187,14 @@ fn sources_at<S: Alter>(
     conn: &mut Connection<S>,
     setup: &Setup,
     rows: &[Row],
-) -> Result<Vec<SourceIn>, TableFault>
+) -> Result<Vec<SourceIn>, KeepFault>
     requires ours { IsTrusted (state S.Store conn.old) → IsOurs (state S.Store conn.old) }
     ensures before { IsTrusted (state S.Store conn.new) → IsTrusted (state S.Store conn.old) }
     ensures lasts { Lasts (state S.Store conn.old) (state S.Store conn.new) }
     ensures open { HasCleanDisk (state S.Store conn.new) → IsTrusted (state S.Store conn.old) → OnOk result (IsTrusted (state S.Store conn.new)) }
     ensures same { IsTrusted (state S.Store conn.new) → Same (state S.Store conn.old) (state S.Store conn.new) }
     ensures ok { IsTrusted (state S.Store conn.new) → IfOk result (λ sources. map (source_of setup.now (kept_rows ((state S.Store conn.new).now.trees 1))) rows.now ≡ map Some sources.items) }
-    ensures bad { IsTrusted (state S.Store conn.new) → result ≡ Err (TableFault.Store Cause.BadRow) → ReadsEach source_columns (source_of setup.now (kept_rows ((state S.Store conn.new).now.trees 1))) rows.now → IsCrowded ((state S.Store conn.new).now.trees 1) }
+    ensures bad { IsTrusted (state S.Store conn.new) → result ≡ Err (KeepFault.Store Cause.BadRow) → ReadsEach source_columns (source_of setup.now (kept_rows ((state S.Store conn.new).now.trees 1))) rows.now → IsCrowded ((state S.Store conn.new).now.trees 1) }
 {
     let mut sources = Vec::new(alloc);
     'rows: for row in rows {
@@ -224,9 +225,9 @@ struct RowEntry<'a> {
 }
 
 /// The architecture and name in a shown row of testing's rows, and the places of its message and binary.
-fn row_entry(row: &Row) -> Result<RowEntry<'_>, TableFault>
+fn row_entry(row: &Row) -> Result<RowEntry<'_>, KeepFault>
     ensures ok { IfOk result (λ e. entry_in row.now ≡ Some ((e.arch, e.name.now), ((e.sender, e.number), e.place))) }
-    ensures bad { result ≡ Err (TableFault.Store Cause.BadRow) → (id : ℤ) (arch : ℕ) (name : List ℕ) (sender number place : ℕ) → arch < 4_294_967_296 → sender < 4_294_967_296 → number < 4_294_967_296 → place < 4_294_967_296 → row.now ≢ Int id ∷ Int (pos arch) ∷ Words name ∷ Int (pos sender) ∷ Int (pos number) ∷ Int (pos place) ∷ [] }
+    ensures bad { result ≡ Err (KeepFault.Store Cause.BadRow) → (id : ℤ) (arch : ℕ) (name : List ℕ) (sender number place : ℕ) → arch < 4_294_967_296 → sender < 4_294_967_296 → number < 4_294_967_296 → place < 4_294_967_296 → row.now ≢ Int id ∷ Int (pos arch) ∷ Words name ∷ Int (pos sender) ∷ Int (pos number) ∷ Int (pos place) ∷ [] }
 {
     let _rowid = rowid_in(row)?;
     let arch = number_in(row, 1)?;
@@ -311,7 +312,7 @@ fn row_at<S: Alter>(
     conn: &mut Connection<S>,
     setup: &Setup,
     row: &Row,
-) -> Result<RowIn, TableFault>
+) -> Result<RowIn, KeepFault>
     requires ours { IsTrusted (state S.Store conn.old) → IsOurs (state S.Store conn.old) }
     ensures before { IsTrusted (state S.Store conn.new) → IsTrusted (state S.Store conn.old) }
     ensures lasts { Lasts (state S.Store conn.old) (state S.Store conn.new) }
@@ -319,13 +320,13 @@ fn row_at<S: Alter>(
     ensures same { IsTrusted (state S.Store conn.new) → Same (state S.Store conn.old) (state S.Store conn.new) }
     ensures known { IfOk result (λ given. IsArchPlace setup.now.archs given.arch) }
     ensures ok { IsTrusted (state S.Store conn.new) → IfOk result (λ given. row_of setup.now (kept_rows ((state S.Store conn.new).now.trees 1)) row.now ≡ Some given) }
-    ensures bad { IsTrusted (state S.Store conn.new) → result ≡ Err (TableFault.Store Cause.BadRow) → row.now ≡ entry_columns row.now → IsCrowded ((state S.Store conn.new).now.trees 1) ⊎ (row_of setup.now (kept_rows ((state S.Store conn.new).now.trees 1)) row.now ≡ None) }
+    ensures bad { IsTrusted (state S.Store conn.new) → result ≡ Err (KeepFault.Store Cause.BadRow) → row.now ≡ entry_columns row.now → IsCrowded ((state S.Store conn.new).now.trees 1) ⊎ (row_of setup.now (kept_rows ((state S.Store conn.new).now.trees 1)) row.now ≡ None) }
 {
     let entry = row_entry(row)?;
     let message = message_at(alloc, conn, setup, entry.sender, entry.number)?;
     match row_named(alloc, setup.archs(), message, &entry)? {
         Some(given) => Ok(given),
-        None => Err(TableFault::Store(Cause::BadRow)),
+        None => Err(KeepFault::Store(Cause::BadRow)),
     }
 }
 
@@ -350,7 +351,7 @@ fn rows_at<S: Alter>(
     conn: &mut Connection<S>,
     setup: &Setup,
     rows: &[Row],
-) -> Result<Vec<RowIn>, TableFault>
+) -> Result<Vec<RowIn>, KeepFault>
     requires ours { IsTrusted (state S.Store conn.old) → IsOurs (state S.Store conn.old) }
     ensures before { IsTrusted (state S.Store conn.new) → IsTrusted (state S.Store conn.old) }
     ensures lasts { Lasts (state S.Store conn.old) (state S.Store conn.new) }
@@ -358,7 +359,7 @@ fn rows_at<S: Alter>(
     ensures same { IsTrusted (state S.Store conn.new) → Same (state S.Store conn.old) (state S.Store conn.new) }
     ensures known { IfOk result (λ given. AllByRecursion (λ r. IsArchPlace setup.now.archs r.arch) given.items) }
     ensures ok { IsTrusted (state S.Store conn.new) → IfOk result (λ given. map (row_of setup.now (kept_rows ((state S.Store conn.new).now.trees 1))) rows.now ≡ map Some given.items) }
-    ensures bad { IsTrusted (state S.Store conn.new) → result ≡ Err (TableFault.Store Cause.BadRow) → ReadsEach entry_columns (row_of setup.now (kept_rows ((state S.Store conn.new).now.trees 1))) rows.now → IsCrowded ((state S.Store conn.new).now.trees 1) }
+    ensures bad { IsTrusted (state S.Store conn.new) → result ≡ Err (KeepFault.Store Cause.BadRow) → ReadsEach entry_columns (row_of setup.now (kept_rows ((state S.Store conn.new).now.trees 1))) rows.now → IsCrowded ((state S.Store conn.new).now.trees 1) }
 {
     let mut given = Vec::new(alloc);
     'rows: for row in rows {
@@ -379,9 +380,9 @@ fn put_rows(testing: &mut Testing, rows: Vec<RowIn>) -> Result<(), NoMemory>
 }
 
 /// The suite of these sources and rows. Where two of them have one key, the tables are no office's.
-fn gathered(alloc: Global, sources: Vec<SourceIn>, rows: Vec<RowIn>) -> Result<Testing, TableFault>
+fn gathered(alloc: Global, sources: Vec<SourceIn>, rows: Vec<RowIn>) -> Result<Testing, KeepFault>
     ensures ok { IfOk result (λ testing. IsGathered sources.items rows.items testing) }
-    ensures bad { result ≡ Err (TableFault.Store Cause.BadRow) → length (put_all_sources sources.items []) ≡ length sources.items → length (put_all_rows rows.items []) ≢ length rows.items }
+    ensures bad { result ≡ Err (KeepFault.Store Cause.BadRow) → length (put_all_sources sources.items []) ≡ length sources.items → length (put_all_rows rows.items []) ≢ length rows.items }
 {
     let count = sources.len();
     let more = rows.len();
@@ -389,7 +390,7 @@ fn gathered(alloc: Global, sources: Vec<SourceIn>, rows: Vec<RowIn>) -> Result<T
     put_sources(&mut testing, sources)?;
     put_rows(&mut testing, rows)?;
     if testing.sources().len() != count || testing.rows().len() != more {
-        return Err(TableFault::Store(Cause::BadRow));
+        return Err(KeepFault::Store(Cause::BadRow));
     }
     Ok(testing)
 }
@@ -399,13 +400,13 @@ pub(crate) fn testing<S: Alter>(
     alloc: Global,
     conn: &mut Connection<S>,
     setup: &Setup,
-) -> Result<Testing, TableFault>
+) -> Result<Testing, KeepFault>
     requires ours { IsTrusted (state S.Store conn.old) → IsOurs (state S.Store conn.old) }
     ensures before { IsTrusted (state S.Store conn.new) → IsTrusted (state S.Store conn.old) }
     ensures lasts { Lasts (state S.Store conn.old) (state S.Store conn.new) }
     ensures open { HasCleanDisk (state S.Store conn.new) → IsTrusted (state S.Store conn.old) → OnOk result (IsTrusted (state S.Store conn.new)) }
     ensures same { IsTrusted (state S.Store conn.new) → Same (state S.Store conn.old) (state S.Store conn.new) }
-    ensures bad { IsTrusted (state S.Store conn.new) → IsWhole (kept_rows ((state S.Store conn.new).now.trees 1)) ((state S.Store conn.new).now.trees 1) → AreNamed setup.now (state S.Store conn.new).now.trees → result ≢ Err (TableFault.Store Cause.BadRow) }
+    ensures bad { IsTrusted (state S.Store conn.new) → IsWhole (kept_rows ((state S.Store conn.new).now.trees 1)) ((state S.Store conn.new).now.trees 1) → AreNamed setup.now (state S.Store conn.new).now.trees → result ≢ Err (KeepFault.Store Cause.BadRow) }
     ensures known { IfOk result (λ testing. KnowsArchs setup.now.archs testing.rows) }
     ensures value { IsTrusted (state S.Store conn.new) → IfOk result (λ testing. testing ≡ suite_in setup.now (kept_rows ((state S.Store conn.new).now.trees 1)) (source_map ((state S.Store conn.new).now.trees 4)) (entry_map ((state S.Store conn.new).now.trees 6))) }
 {

@@ -9,11 +9,10 @@ ghost use Rattle.office_store.specs.Legible.{SaysOnce};
 ghost use Rattle.testing_model.specs.InOrder.{IsInOrder};
 ghost use Rattle.office_store.specs.Finishing.{WritesRun, FinishesRun, with_count};
 
-use crate::faults::{Cause, TableFault};
 use crate::runs::{record_run, said};
 use crate::said::Said;
 use crate::testing::{set_rows, set_sources};
-use office_keeper::Finished;
+use office_keeper::{Cause, Finished, KeepFault};
 use sqlite::{Alter, Connection, Error, Transaction};
 
 /// The steps of a finished run, a table at a time.
@@ -49,20 +48,20 @@ fn commit_run<S: Alter>(
     run: u32,
     done: &Finished,
     said: &Said,
-) -> Result<(), TableFault>
+) -> Result<(), KeepFault>
     requires ours { IsTrusted (state S.Store conn.old) → IsOurs (state S.Store conn.old) }
     ensures before { IsTrusted (state S.Store conn.new) → IsTrusted (state S.Store conn.old) }
     ensures lasts { Lasts (state S.Store conn.old) (state S.Store conn.new) }
     ensures open { HasCleanDisk (state S.Store conn.new) → IsTrusted (state S.Store conn.old) → OnOk result (IsTrusted (state S.Store conn.new)) }
     ensures ours { IsTrusted (state S.Store conn.new) → IsOurs (state S.Store conn.new) }
-    ensures bad { result ≢ Err (TableFault.Store Cause.BadRow) }
+    ensures bad { result ≢ Err (KeepFault.Store Cause.BadRow) }
     ensures ordered { OnOk result (IsInOrder done.now.testing.sources done.now.testing.rows) }
     ensures texts { OnOk result (IsUtf8 done.now.excuses × IsUtf8 done.now.updates) }
     ensures done { IsTrusted (state S.Store conn.new) → OnOk result (WritesRun (state S.Store conn.old).now.trees (state S.Store conn.new).now.trees run done.now (with_count run said.now)) }
     ensures err { IsTrusted (state S.Store conn.new) → OnErr result ((state S.Store conn.new).now ≡ (state S.Store conn.old).now) }
 {
     if !conn.is_autocommit() {
-        return Err(TableFault::Store(Cause::Sqlite(Error::InvalidQuery)));
+        return Err(KeepFault::Store(Cause::Sqlite(Error::InvalidQuery)));
     }
     let mut tx = conn.transaction();
     let _written = write_run(&mut tx, run, done, said)?;
@@ -75,13 +74,13 @@ pub(crate) fn finish<S: Alter>(
     conn: &mut Connection<S>,
     run: u32,
     done: &Finished,
-) -> Result<(), TableFault>
+) -> Result<(), KeepFault>
     requires ours { IsTrusted (state S.Store conn.old) → IsOurs (state S.Store conn.old) }
     ensures before { IsTrusted (state S.Store conn.new) → IsTrusted (state S.Store conn.old) }
     ensures lasts { Lasts (state S.Store conn.old) (state S.Store conn.new) }
     ensures open { HasCleanDisk (state S.Store conn.new) → IsTrusted (state S.Store conn.old) → OnOk result (IsTrusted (state S.Store conn.new)) }
     ensures ours { IsTrusted (state S.Store conn.new) → IsOurs (state S.Store conn.new) }
-    ensures bad { IsTrusted (state S.Store conn.new) → SaysOnce ((state S.Store conn.old).now.trees 0) → result ≢ Err (TableFault.Store Cause.BadRow) }
+    ensures bad { IsTrusted (state S.Store conn.new) → SaysOnce ((state S.Store conn.old).now.trees 0) → result ≢ Err (KeepFault.Store Cause.BadRow) }
     ensures ordered { OnOk result (IsInOrder done.now.testing.sources done.now.testing.rows) }
     ensures texts { OnOk result (IsUtf8 done.now.excuses × IsUtf8 done.now.updates) }
     ensures done { IsTrusted (state S.Store conn.new) → OnOk result (FinishesRun (state S.Store conn.old).now.trees (state S.Store conn.new).now.trees run done.now) }

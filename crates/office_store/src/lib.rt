@@ -14,9 +14,8 @@ mod schema;
 mod setup_text;
 mod testing;
 
-pub use faults::Cause;
 pub use office_keeper::{
-    Finished, KeepCause, KeepFault, Keeper, Letter, MailText, Plain, Reports, keep_if_free,
+    Cause, Finished, KeepFault, Keeper, Letter, MailText, Plain, Reports, keep_if_free,
 };
 pub use on_sqlite::Tables;
 pub use opening::OpenFault;

@@ -10,35 +10,35 @@ ghost use Rattle.sqlite.specs.State.{HasCleanDisk};
 ghost use Rattle.office_store.specs.Tables.{IsTrusted, IsOurs, kept_rows};
 ghost use Rattle.office_store.specs.TableSteps.{Lasts, IsInside, WentOn, Same, AddsLetter, IsCrowded, IsOnly, is_at, is_between, letter_columns, shown_letter, letter_entry, ShowsLetters, rises_from};
 
-use crate::faults::{Cause, TableFault, unread};
-use office_keeper::{Letter, MailText};
+use crate::faults::unread;
+use office_keeper::{Cause, KeepFault, Letter, MailText};
 use sqlite::{Alter, Connection, Error, Row, Transaction, params};
 use std::alloc::Global;
 
 /// The text in a row that was asked for by its place and number.
-fn text_in(row: &Row, sender: u32, number: u32) -> Result<MailText, TableFault>
+fn text_in(row: &Row, sender: u32, number: u32) -> Result<MailText, KeepFault>
     ensures ok { IfOk result (λ text. (column row.now 0 ≡ Int (pos sender)) × (column row.now 1 ≡ Int (pos number)) × (column row.now 2 ≡ Blob text)) }
-    ensures bad { result ≡ Err (TableFault.Store Cause.BadRow) → (text : List ℕ) → row.now ≢ Int (pos sender) ∷ Int (pos number) ∷ Blob text ∷ [] }
+    ensures bad { result ≡ Err (KeepFault.Store Cause.BadRow) → (text : List ℕ) → row.now ≢ Int (pos sender) ∷ Int (pos number) ∷ Blob text ∷ [] }
 {
     let from: u32 = row.get(0).map_err(unread)?;
     let at: u32 = row.get(1).map_err(unread)?;
     if from != sender || at != number {
-        return Err(TableFault::Store(Cause::BadRow));
+        return Err(KeepFault::Store(Cause::BadRow));
     }
     let bytes: Vec<u8> = row.get(2).map_err(unread)?;
     Ok(MailText::of(bytes))
 }
 
 /// The text of the only row, if there is one.
-fn only_text(rows: &[Row], sender: u32, number: u32) -> Result<Option<MailText>, TableFault>
+fn only_text(rows: &[Row], sender: u32, number: u32) -> Result<Option<MailText>, KeepFault>
     ensures ok { IfOk result (λ text. IsOnly sender number text rows.now) }
-    ensures none { result ≡ Err (TableFault.Store Cause.BadRow) → rows.now ≢ [] }
-    ensures one { result ≡ Err (TableFault.Store Cause.BadRow) → (text : List ℕ) → rows.now ≢ (Int (pos sender) ∷ Int (pos number) ∷ Blob text ∷ []) ∷ [] }
+    ensures none { result ≡ Err (KeepFault.Store Cause.BadRow) → rows.now ≢ [] }
+    ensures one { result ≡ Err (KeepFault.Store Cause.BadRow) → (text : List ℕ) → rows.now ≢ (Int (pos sender) ∷ Int (pos number) ∷ Blob text ∷ []) ∷ [] }
 {
     match rows {
         [] => Ok(None),
         [row] => Ok(Some(text_in(row, sender, number)?)),
-        _ => Err(TableFault::Store(Cause::BadRow)),
+        _ => Err(KeepFault::Store(Cause::BadRow)),
     }
 }
 
@@ -62,14 +62,14 @@ pub fn find<S: Alter>(
     conn: &mut Connection<S>,
     sender: u32,
     number: u32,
-) -> Result<Option<MailText>, TableFault>
+) -> Result<Option<MailText>, KeepFault>
     requires ours { IsTrusted (state S.Store conn.old) → IsOurs (state S.Store conn.old) }
     ensures before { IsTrusted (state S.Store conn.new) → IsTrusted (state S.Store conn.old) }
     ensures lasts { Lasts (state S.Store conn.old) (state S.Store conn.new) }
     ensures open { HasCleanDisk (state S.Store conn.new) → IsTrusted (state S.Store conn.old) → OnOk result (IsTrusted (state S.Store conn.new)) }
     ensures same { IsTrusted (state S.Store conn.new) → Same (state S.Store conn.old) (state S.Store conn.new) }
     ensures found { IsTrusted (state S.Store conn.new) → IfOk result (λ text. text ≡ get (kept_rows ((state S.Store conn.new).now.trees 1)) (sender, number)) }
-    ensures bad { IsTrusted (state S.Store conn.new) → result ≡ Err (TableFault.Store Cause.BadRow) → IsCrowded ((state S.Store conn.new).now.trees 1) }
+    ensures bad { IsTrusted (state S.Store conn.new) → result ≡ Err (KeepFault.Store Cause.BadRow) → IsCrowded ((state S.Store conn.new).now.trees 1) }
 {
     let rows = letters(conn, sender, number)?;
     only_text(rows.as_slice(), sender, number)
@@ -96,13 +96,13 @@ fn letters_between<S: Alter>(
 }
 
 /// The letter in a shown row, where it is of this sender.
-fn letter_in(row: &Row, sender: u32) -> Result<Letter, TableFault>
+fn letter_in(row: &Row, sender: u32) -> Result<Letter, KeepFault>
     ensures ok { IfOk result (λ letter. (column row.now 0 ≡ Int (pos sender)) × (column row.now 1 ≡ Int (pos letter.number)) × (column row.now 2 ≡ Blob letter.text)) }
-    ensures bad { result ≡ Err (TableFault.Store Cause.BadRow) → (number : ℕ) (text : List ℕ) → number < 4_294_967_296 → row.now ≢ Int (pos sender) ∷ Int (pos number) ∷ Blob text ∷ [] }
+    ensures bad { result ≡ Err (KeepFault.Store Cause.BadRow) → (number : ℕ) (text : List ℕ) → number < 4_294_967_296 → row.now ≢ Int (pos sender) ∷ Int (pos number) ∷ Blob text ∷ [] }
 {
     let from: u32 = row.get(0).map_err(unread)?;
     if from != sender {
-        return Err(TableFault::Store(Cause::BadRow));
+        return Err(KeepFault::Store(Cause::BadRow));
     }
     let number: u32 = row.get(1).map_err(unread)?;
     let bytes: Vec<u8> = row.get(2).map_err(unread)?;
@@ -113,9 +113,9 @@ fn letter_in(row: &Row, sender: u32) -> Result<Letter, TableFault>
 }
 
 /// The letters in these rows, in their order.
-fn letters_in(alloc: Global, rows: &[Row], sender: u32) -> Result<Vec<Letter>, TableFault>
+fn letters_in(alloc: Global, rows: &[Row], sender: u32) -> Result<Vec<Letter>, KeepFault>
     ensures ok { IfOk result (λ letters. map shown_letter rows.now ≡ map Some (map (letter_entry sender) letters.items)) }
-    ensures bad { result ≡ Err (TableFault.Store Cause.BadRow) → ShowsLetters sender rows.now → ⊥ }
+    ensures bad { result ≡ Err (KeepFault.Store Cause.BadRow) → ShowsLetters sender rows.now → ⊥ }
 {
     let mut letters = Vec::new(alloc);
     'rows: for row in rows {
@@ -140,15 +140,15 @@ fn are_rising(letters: &[Letter]) -> bool
 }
 
 /// These letters by their numbers. Where two have one number, the table is no office's.
-fn by_number(letters: Vec<Letter>) -> Result<Vec<Letter>, TableFault>
+fn by_number(letters: Vec<Letter>) -> Result<Vec<Letter>, KeepFault>
     ensures same { IfOk result (λ sorted. IsPermutation letters.items sorted.items) }
     ensures rising { IfOk result (λ sorted. rises_from 0 sorted.items ≡ true) }
-    ensures bad { result ≡ Err (TableFault.Store Cause.BadRow) → ((number : ℕ) → length (filter (λ l. nat_eq l.number number) letters.items) ≤ 1) → ⊥ }
+    ensures bad { result ≡ Err (KeepFault.Store Cause.BadRow) → ((number : ℕ) → length (filter (λ l. nat_eq l.number number) letters.items) ≤ 1) → ⊥ }
 {
     let mut sorted = letters;
     sorted.sort_unstable_by_key(|letter| letter.number);
     if !are_rising(sorted.as_slice()) {
-        return Err(TableFault::Store(Cause::BadRow));
+        return Err(KeepFault::Store(Cause::BadRow));
     }
     Ok(sorted)
 }
@@ -160,13 +160,13 @@ pub fn load<S: Alter>(
     sender: u32,
     from: u32,
     to: u32,
-) -> Result<Vec<Letter>, TableFault>
+) -> Result<Vec<Letter>, KeepFault>
     requires ours { IsTrusted (state S.Store conn.old) → IsOurs (state S.Store conn.old) }
     ensures before { IsTrusted (state S.Store conn.new) → IsTrusted (state S.Store conn.old) }
     ensures lasts { Lasts (state S.Store conn.old) (state S.Store conn.new) }
     ensures open { HasCleanDisk (state S.Store conn.new) → IsTrusted (state S.Store conn.old) → OnOk result (IsTrusted (state S.Store conn.new)) }
     ensures same { IsTrusted (state S.Store conn.new) → Same (state S.Store conn.old) (state S.Store conn.new) }
-    ensures bad { IsTrusted (state S.Store conn.new) → result ≡ Err (TableFault.Store Cause.BadRow) → IsCrowded ((state S.Store conn.new).now.trees 1) }
+    ensures bad { IsTrusted (state S.Store conn.new) → result ≡ Err (KeepFault.Store Cause.BadRow) → IsCrowded ((state S.Store conn.new).now.trees 1) }
     ensures loaded { IsTrusted (state S.Store conn.new) → IfOk result (λ letters. letters.items ≡ letters_within (kept_rows ((state S.Store conn.new).now.trees 1)) sender from to) }
 {
     let rows = letters_between(conn, sender, from, to)?;
@@ -202,7 +202,7 @@ pub fn keep<S: Alter>(
     sender: u32,
     number: u32,
     text: &[u8],
-) -> Result<(), TableFault>
+) -> Result<(), KeepFault>
     requires ours { IsTrusted (state S.Store conn.old) → IsOurs (state S.Store conn.old) }
     ensures before { IsTrusted (state S.Store conn.new) → IsTrusted (state S.Store conn.old) }
     ensures lasts { Lasts (state S.Store conn.old) (state S.Store conn.new) }
@@ -210,10 +210,10 @@ pub fn keep<S: Alter>(
     ensures ours { IsTrusted (state S.Store conn.new) → IsOurs (state S.Store conn.new) }
     ensures kept { IsTrusted (state S.Store conn.new) → OnOk result (AddsLetter (state S.Store conn.old).now.trees (state S.Store conn.new).now.trees sender number text.now) }
     ensures err { IsTrusted (state S.Store conn.new) → OnErr result ((state S.Store conn.new).now ≡ (state S.Store conn.old).now) }
-    ensures bad { result ≢ Err (TableFault.Store Cause.BadRow) }
+    ensures bad { result ≢ Err (KeepFault.Store Cause.BadRow) }
 {
     if !conn.is_autocommit() {
-        return Err(TableFault::Store(Cause::Sqlite(Error::InvalidQuery)));
+        return Err(KeepFault::Store(Cause::Sqlite(Error::InvalidQuery)));
     }
     let mut tx = conn.transaction();
     let _added = add_letter(&mut tx, sender, number, text)?;

@@ -1,18 +1,14 @@
 //! A keeper over sqlite's tables.
-#![tactic(auto, using(crate::proofs::KeeperFacts::if_ok_answer, crate::proofs::KeeperFacts::on_ok_answer, crate::proofs::KeeperFacts::on_err_answer))]
-
 ghost use Rattle.std.specs.Prelude.{◌≡◌};
 ghost use Rattle.sqlite.specs.Held.{state};
 ghost use Rattle.sqlite.specs.State.{HasCleanDisk};
 ghost use Rattle.office_store.specs.TableContent.{content_in};
 ghost use Rattle.office_store.specs.Legible.{IsLegible};
-ghost use Rattle.office_store.specs.TableFaults.{keep_cause, keep_fault, keeper_answer};
 ghost use Rattle.office_store.specs.Tables.{IsTrusted, IsOurs};
 ghost use Rattle.office_keeper.specs.Keeping.{Counted};
 
-use crate::faults::{Cause, TableFault};
 use crate::{entries, finishing, mail, runs};
-use office_keeper::{Finished, KeepCause, KeepFault, Keeper, Letter, MailText, Reports};
+use office_keeper::{Finished, KeepFault, Keeper, Letter, MailText, Reports};
 use office_mail::Setup;
 use sqlite::{Alter, Connection};
 use std::alloc::Global;
@@ -44,45 +40,15 @@ impl<S: Alter> Model for Tables<S> {
     ghost invariant = { λ t. IsTrusted (state S.Store t.conn) → IsOurs (state S.Store t.conn) };
 }
 
-/// Why the tables refused, as a keeper tells it.
-fn keep_cause(cause: Cause) -> KeepCause
-    ensures { result ≡ keep_cause cause }
-{
-    match cause {
-        Cause::Sqlite(_) => KeepCause::Failed,
-        Cause::BadRow => KeepCause::BadRow,
-    }
-}
-
-/// A fault of the tables, as that of a keeper.
-fn keep_fault(fault: TableFault) -> KeepFault
-    ensures { result ≡ keep_fault fault }
-{
-    match fault {
-        TableFault::NoMemory => KeepFault::NoMemory,
-        TableFault::Store(cause) => KeepFault::Store(keep_cause(cause)),
-    }
-}
-
-/// An answer of the tables, as that of a keeper.
-fn keeper_answer<T>(answer: Result<T, TableFault>) -> Result<T, KeepFault>
-    ensures { result ≡ keeper_answer answer }
-{
-    match answer {
-        Ok(value) => Ok(value),
-        Err(fault) => Err(keep_fault(fault)),
-    }
-}
-
-/// Hands an answer of the tables on, and counts a refusal of the store.
-fn count<T>(refusals: &mut u64, answer: Result<T, TableFault>) -> Result<T, KeepFault>
-    ensures same { result ≡ keeper_answer answer }
+/// Counts a refusal of the store.
+fn count<T>(refusals: &mut u64, answer: Result<T, KeepFault>) -> Result<T, KeepFault>
+    ensures same { result ≡ answer }
     ensures counted { Counted refusals.old refusals.new result }
 {
-    if let Err(TableFault::Store(_)) = &answer {
+    if let Err(KeepFault::Store(_)) = &answer {
         *refusals = refusals.saturating_add(1);
     }
-    keeper_answer(answer)
+    answer
 }
 
 impl<S: Alter> Tables<S> {

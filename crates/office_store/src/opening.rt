@@ -11,14 +11,14 @@ ghost use Rattle.office_store.specs.Creating.{IsBlank};
 ghost use Rattle.office_store.specs.Fresh.{IsEmptyFor};
 ghost use Rattle.office_store.specs.SetupText.{setup_text as text_of};
 ghost use Rattle.office_store.specs.declared.opening.OpenFault.TheVariants as fault;
-ghost use Rattle.office_store.specs.declared.faults.Cause.TheVariants.{BadRow};
+ghost use Rattle.office_keeper.specs.declared.faults.Cause.TheVariants.{BadRow};
 
-use crate::faults::{Cause, TableFault};
 use crate::layout::{has_tables, is_fresh};
 use crate::on_sqlite::Tables;
 use crate::runs::office_rows;
 use crate::schema;
 use crate::setup_text::{same_setup, setup_text};
+use office_keeper::{Cause, KeepFault};
 use office_mail::{Setup, SetupFault};
 use sqlite::types::ValueRef;
 use sqlite::{Alter, Connection, Error, Row};
@@ -36,13 +36,13 @@ pub enum OpenFault {
     UnknownSchema,
 }
 
-impl From<TableFault> for OpenFault {
+impl From<KeepFault> for OpenFault {
     ghost from_gives = { λ fault e. e ≡ open_fault fault };
 
-    fn from(fault: TableFault) -> OpenFault {
+    fn from(fault: KeepFault) -> OpenFault {
         match fault {
-            TableFault::NoMemory => OpenFault::NoMemory,
-            TableFault::Store(cause) => OpenFault::Store(cause),
+            KeepFault::NoMemory => OpenFault::NoMemory,
+            KeepFault::Store(cause) => OpenFault::Store(cause),
         }
     }
 }
@@ -59,7 +59,7 @@ impl From<Error> for OpenFault {
     ghost from_gives = { λ _ e. (e ≢ fault.OtherSetup) × (e ≢ fault.UnknownSchema) × (e ≢ fault.Store BadRow) };
 
     fn from(error: Error) -> OpenFault {
-        OpenFault::from(TableFault::from(error))
+        OpenFault::from(KeepFault::from(error))
     }
 }
 

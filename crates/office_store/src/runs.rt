@@ -15,20 +15,20 @@ ghost use Rattle.sqlite.specs.State.{HasCleanDisk};
 ghost use Rattle.office_store.specs.Tables.{IsTrusted, IsOurs, said_in as said_rows, run_map};
 ghost use Rattle.office_store.specs.TableSteps.{Lasts, Same, IsInside, WentOn, IsOnlyOffice, IsOnlyRun, AddsRun, Silences, SaysMore, RecordsRun, office_columns, is_run, run_columns};
 
-use crate::faults::{Cause, TableFault, unread};
+use crate::faults::unread;
 use crate::said::Said;
 use deb_control::Text;
-use office_keeper::Reports;
+use office_keeper::{Cause, KeepFault, Reports};
 use sqlite::{Alter, Connection, Error, Row, Transaction, params};
 
 /// What a row of the office says, whose id is 1.
-fn said_in(row: &Row) -> Result<Said, TableFault>
-    ensures bad { result ≡ Err (TableFault.Store Cause.BadRow) → (said : SaidNow) → said.schema < 4_294_967_296 → said.finished < 4_294_967_296 → IsUtf8 said.setup → row.now ≢ Int (pos 1) ∷ Int (pos said.schema) ∷ Words said.setup ∷ Int (pos said.finished) ∷ [] }
+fn said_in(row: &Row) -> Result<Said, KeepFault>
+    ensures bad { result ≡ Err (KeepFault.Store Cause.BadRow) → (said : SaidNow) → said.schema < 4_294_967_296 → said.finished < 4_294_967_296 → IsUtf8 said.setup → row.now ≢ Int (pos 1) ∷ Int (pos said.schema) ∷ Words said.setup ∷ Int (pos said.finished) ∷ [] }
     ensures ok { IfOk result (λ said. (column row.now 0 ≡ Int (pos 1)) × (column row.now 1 ≡ Int (pos said.schema)) × (column row.now 2 ≡ Words said.setup) × (column row.now 3 ≡ Int (pos said.finished))) }
 {
     let id: u32 = row.get(0).map_err(unread)?;
     if id != 1 {
-        return Err(TableFault::Store(Cause::BadRow));
+        return Err(KeepFault::Store(Cause::BadRow));
     }
     let schema: u32 = row.get(1).map_err(unread)?;
     let setup: String = row.get(2).map_err(unread)?;
@@ -41,13 +41,13 @@ fn said_in(row: &Row) -> Result<Said, TableFault>
 }
 
 /// What the only row says.
-fn only_said(rows: &[Row]) -> Result<Said, TableFault>
+fn only_said(rows: &[Row]) -> Result<Said, KeepFault>
     ensures ok { IfOk result (λ said. IsOnlyOffice said rows.now) }
-    ensures bad { result ≡ Err (TableFault.Store Cause.BadRow) → (said : SaidNow) → said.schema < 4_294_967_296 → said.finished < 4_294_967_296 → IsUtf8 said.setup → rows.now ≢ (Int (pos 1) ∷ Int (pos said.schema) ∷ Words said.setup ∷ Int (pos said.finished) ∷ []) ∷ [] }
+    ensures bad { result ≡ Err (KeepFault.Store Cause.BadRow) → (said : SaidNow) → said.schema < 4_294_967_296 → said.finished < 4_294_967_296 → IsUtf8 said.setup → rows.now ≢ (Int (pos 1) ∷ Int (pos said.schema) ∷ Words said.setup ∷ Int (pos said.finished) ∷ []) ∷ [] }
 {
     match rows {
         [row] => said_in(row),
-        _ => Err(TableFault::Store(Cause::BadRow)),
+        _ => Err(KeepFault::Store(Cause::BadRow)),
     }
 }
 
@@ -64,41 +64,41 @@ pub(crate) fn office_rows<S: Alter>(conn: &mut Connection<S>) -> Result<Vec<Row>
 }
 
 /// What the office says of itself.
-pub(crate) fn said<S: Alter>(conn: &mut Connection<S>) -> Result<Said, TableFault>
+pub(crate) fn said<S: Alter>(conn: &mut Connection<S>) -> Result<Said, KeepFault>
     requires ours { IsTrusted (state S.Store conn.old) → IsOurs (state S.Store conn.old) }
     ensures before { IsTrusted (state S.Store conn.new) → IsTrusted (state S.Store conn.old) }
     ensures lasts { Lasts (state S.Store conn.old) (state S.Store conn.new) }
     ensures open { HasCleanDisk (state S.Store conn.new) → IsTrusted (state S.Store conn.old) → OnOk result (IsTrusted (state S.Store conn.new)) }
     ensures same { IsTrusted (state S.Store conn.new) → Same (state S.Store conn.old) (state S.Store conn.new) }
     ensures value { IsTrusted (state S.Store conn.new) → IfOk result (λ said. said_rows ((state S.Store conn.new).now.trees 0) ≡ Some said) }
-    ensures bad { IsTrusted (state S.Store conn.new) → SaysOnce ((state S.Store conn.new).now.trees 0) → result ≢ Err (TableFault.Store Cause.BadRow) }
+    ensures bad { IsTrusted (state S.Store conn.new) → SaysOnce ((state S.Store conn.new).now.trees 0) → result ≢ Err (KeepFault.Store Cause.BadRow) }
 {
     let rows = office_rows(conn)?;
     only_said(rows.as_slice())
 }
 
 /// How many runs are finished.
-pub fn finished<S: Alter>(conn: &mut Connection<S>) -> Result<u32, TableFault>
+pub fn finished<S: Alter>(conn: &mut Connection<S>) -> Result<u32, KeepFault>
     requires ours { IsTrusted (state S.Store conn.old) → IsOurs (state S.Store conn.old) }
     ensures before { IsTrusted (state S.Store conn.new) → IsTrusted (state S.Store conn.old) }
     ensures lasts { Lasts (state S.Store conn.old) (state S.Store conn.new) }
     ensures open { HasCleanDisk (state S.Store conn.new) → IsTrusted (state S.Store conn.old) → OnOk result (IsTrusted (state S.Store conn.new)) }
     ensures same { IsTrusted (state S.Store conn.new) → Same (state S.Store conn.old) (state S.Store conn.new) }
     ensures value { IsTrusted (state S.Store conn.new) → IfOk result (λ n. n ≡ count_said (said_rows ((state S.Store conn.new).now.trees 0))) }
-    ensures bad { IsTrusted (state S.Store conn.new) → SaysOnce ((state S.Store conn.new).now.trees 0) → result ≢ Err (TableFault.Store Cause.BadRow) }
+    ensures bad { IsTrusted (state S.Store conn.new) → SaysOnce ((state S.Store conn.new).now.trees 0) → result ≢ Err (KeepFault.Store Cause.BadRow) }
 {
     let said = said(conn)?;
     Ok(said.finished)
 }
 
 /// The reports in the row of a run.
-fn reports_in(row: &Row, run: u32) -> Result<Reports, TableFault>
-    ensures bad { result ≡ Err (TableFault.Store Cause.BadRow) → (reports : ReportsNow) → IsUtf8 reports.excuses → IsUtf8 reports.updates → row.now ≢ Int (pos run) ∷ Words reports.excuses ∷ Words reports.updates ∷ [] }
+fn reports_in(row: &Row, run: u32) -> Result<Reports, KeepFault>
+    ensures bad { result ≡ Err (KeepFault.Store Cause.BadRow) → (reports : ReportsNow) → IsUtf8 reports.excuses → IsUtf8 reports.updates → row.now ≢ Int (pos run) ∷ Words reports.excuses ∷ Words reports.updates ∷ [] }
     ensures ok { IfOk result (λ r. (column row.now 0 ≡ Int (pos run)) × (column row.now 1 ≡ Words r.excuses) × (column row.now 2 ≡ Words r.updates)) }
 {
     let number: u32 = row.get(0).map_err(unread)?;
     if number != run {
-        return Err(TableFault::Store(Cause::BadRow));
+        return Err(KeepFault::Store(Cause::BadRow));
     }
     let excuses: String = row.get(1).map_err(unread)?;
     let updates: String = row.get(2).map_err(unread)?;
@@ -109,15 +109,15 @@ fn reports_in(row: &Row, run: u32) -> Result<Reports, TableFault>
 }
 
 /// The reports of the only row, if there is one.
-fn only_reports(rows: &[Row], run: u32) -> Result<Option<Reports>, TableFault>
+fn only_reports(rows: &[Row], run: u32) -> Result<Option<Reports>, KeepFault>
     ensures ok { IfOk result (λ reports. IsOnlyRun run reports rows.now) }
-    ensures none { result ≡ Err (TableFault.Store Cause.BadRow) → rows.now ≢ [] }
-    ensures one { result ≡ Err (TableFault.Store Cause.BadRow) → (reports : ReportsNow) → IsUtf8 reports.excuses → IsUtf8 reports.updates → rows.now ≢ (Int (pos run) ∷ Words reports.excuses ∷ Words reports.updates ∷ []) ∷ [] }
+    ensures none { result ≡ Err (KeepFault.Store Cause.BadRow) → rows.now ≢ [] }
+    ensures one { result ≡ Err (KeepFault.Store Cause.BadRow) → (reports : ReportsNow) → IsUtf8 reports.excuses → IsUtf8 reports.updates → rows.now ≢ (Int (pos run) ∷ Words reports.excuses ∷ Words reports.updates ∷ []) ∷ [] }
 {
     match rows {
         [] => Ok(None),
         [row] => Ok(Some(reports_in(row, run)?)),
-        _ => Err(TableFault::Store(Cause::BadRow)),
+        _ => Err(KeepFault::Store(Cause::BadRow)),
     }
 }
 
@@ -137,27 +137,27 @@ fn run_rows<S: Alter>(conn: &mut Connection<S>, run: u32) -> Result<Vec<Row>, Er
 }
 
 /// The reports that stand under a run's number, or none.
-fn recorded<S: Alter>(conn: &mut Connection<S>, run: u32) -> Result<Option<Reports>, TableFault>
+fn recorded<S: Alter>(conn: &mut Connection<S>, run: u32) -> Result<Option<Reports>, KeepFault>
     requires ours { IsTrusted (state S.Store conn.old) → IsOurs (state S.Store conn.old) }
     ensures before { IsTrusted (state S.Store conn.new) → IsTrusted (state S.Store conn.old) }
     ensures lasts { Lasts (state S.Store conn.old) (state S.Store conn.new) }
     ensures open { HasCleanDisk (state S.Store conn.new) → IsTrusted (state S.Store conn.old) → OnOk result (IsTrusted (state S.Store conn.new)) }
     ensures same { IsTrusted (state S.Store conn.new) → Same (state S.Store conn.old) (state S.Store conn.new) }
     ensures value { IsTrusted (state S.Store conn.new) → IfOk result (λ reports. reports ≡ get (run_map ((state S.Store conn.new).now.trees 3)) run) }
-    ensures bad { IsTrusted (state S.Store conn.new) → (finished : ℕ) → AreReported ((state S.Store conn.new).now.trees 3) finished → result ≢ Err (TableFault.Store Cause.BadRow) }
+    ensures bad { IsTrusted (state S.Store conn.new) → (finished : ℕ) → AreReported ((state S.Store conn.new).now.trees 3) finished → result ≢ Err (KeepFault.Store Cause.BadRow) }
 {
     let rows = run_rows(conn, run)?;
     only_reports(rows.as_slice(), run)
 }
 
 /// The two reports of a finished run; none of another.
-pub fn reports<S: Alter>(conn: &mut Connection<S>, run: u32) -> Result<Option<Reports>, TableFault>
+pub fn reports<S: Alter>(conn: &mut Connection<S>, run: u32) -> Result<Option<Reports>, KeepFault>
     requires ours { IsTrusted (state S.Store conn.old) → IsOurs (state S.Store conn.old) }
     ensures before { IsTrusted (state S.Store conn.new) → IsTrusted (state S.Store conn.old) }
     ensures lasts { Lasts (state S.Store conn.old) (state S.Store conn.new) }
     ensures open { HasCleanDisk (state S.Store conn.new) → IsTrusted (state S.Store conn.old) → OnOk result (IsTrusted (state S.Store conn.new)) }
     ensures same { IsTrusted (state S.Store conn.new) → Same (state S.Store conn.old) (state S.Store conn.new) }
-    ensures bad { IsTrusted (state S.Store conn.new) → (once : SaysOnce ((state S.Store conn.new).now.trees 0)) → AreReported ((state S.Store conn.new).now.trees 3) once.said.finished → result ≢ Err (TableFault.Store Cause.BadRow) }
+    ensures bad { IsTrusted (state S.Store conn.new) → (once : SaysOnce ((state S.Store conn.new).now.trees 0)) → AreReported ((state S.Store conn.new).now.trees 3) once.said.finished → result ≢ Err (KeepFault.Store Cause.BadRow) }
     ensures value { IsTrusted (state S.Store conn.new) → IfOk result (λ reports. reports ≡ item_from_one run (reports_to (run_map ((state S.Store conn.new).now.trees 3)) (count_said (said_rows ((state S.Store conn.new).now.trees 0))))) }
 {
     if run == 0 {
@@ -169,7 +169,7 @@ pub fn reports<S: Alter>(conn: &mut Connection<S>, run: u32) -> Result<Option<Re
     }
     match recorded(conn, run)? {
         Some(reports) => Ok(Some(reports)),
-        None => Err(TableFault::Store(Cause::BadRow)),
+        None => Err(KeepFault::Store(Cause::BadRow)),
     }
 }
 

@@ -8,9 +8,9 @@ ghost use Rattle.office_store.specs.Opening.{IsAsItWas};
 ghost use Rattle.office_store.specs.Creating.{IsBlank};
 ghost use Rattle.office_store.specs.CreatingSteps.{IsBuilding, Makes, MakesAll, schema_of_one, schema_of_two, schema_of_three, schema_of_four};
 
-use crate::faults::{Cause, TableFault};
 use crate::layout::is_fresh;
 use crate::runs::add_office;
+use office_keeper::{Cause, KeepFault};
 use sqlite::{Alter, Connection, Error, Transaction};
 
 /// Makes the table of the office.
@@ -116,15 +116,15 @@ fn write_office<S: Alter>(tx: &mut Transaction<'_, S>, setup: &str) -> Result<us
 
 /// Makes the office's tables in a fresh database, all or none. A database that has tables, or a connection that is in
 /// a transaction, is refused.
-pub(crate) fn create<S: Alter>(conn: &mut Connection<S>, setup: &str) -> Result<(), TableFault>
+pub(crate) fn create<S: Alter>(conn: &mut Connection<S>, setup: &str) -> Result<(), KeepFault>
     ensures before { IsTrusted (state S.Store conn.new) → IsTrusted (state S.Store conn.old) }
     ensures ours { IsTrusted (state S.Store conn.new) → OnOk result (IsOurs (state S.Store conn.new)) }
     ensures blank { IsTrusted (state S.Store conn.new) → OnOk result (IsBlank (state S.Store conn.new).now.trees (record { schema = 0; setup = setup.now; finished = 0 })) }
     ensures err { IsTrusted (state S.Store conn.new) → OnErr result (IsAsItWas (state S.Store conn.old) (state S.Store conn.new)) }
-    ensures bad { result ≢ Err (TableFault.Store Cause.BadRow) }
+    ensures bad { result ≢ Err (KeepFault.Store Cause.BadRow) }
 {
     if !conn.is_autocommit() || !is_fresh(conn.schema()) {
-        return Err(TableFault::Store(Cause::Sqlite(Error::InvalidQuery)));
+        return Err(KeepFault::Store(Cause::Sqlite(Error::InvalidQuery)));
     }
     let mut tx = conn.transaction();
     let _written = write_office(&mut tx, setup)?;
