@@ -10,7 +10,7 @@ use Rattle.office_mail.specs.Lists.{Lists}
 use Rattle.office_keeper.specs.declared.values.Reports.{Reports}
 use Rattle.office_store.specs.declared.said.Said.{Said}
 use Rattle.std.specs.Ordering.{nat_cmp}
-use Rattle.testing_items.specs.Words.{text_cmp}
+use Rattle.testing_items.specs.Words.{byte_cmp}
 use Rattle.testing_model.specs.Moves.{row_cmp}
 use Rattle.office_mail.specs.Setup.{IsSetup}
 use Rattle.office_store.specs.SetupText.{setup_text}
@@ -56,8 +56,8 @@ none_reported = record {
 
 none_named : (setup : Lists) (db : Trees) → db 4 ≡ [] → db 6 ≡ [] → AreNamed setup db
 none_named setup db sources rows = record {
-  sources = subst (λ rs. IsWhole (source_map rs) rs) (sym sources) (empty_len text_cmp Place);
-  source = λ name p found. absurd (empty_get text_cmp Place name p (rw sources at found));
+  sources = subst (λ rs. IsWhole (source_map rs) rs) (sym sources) (empty_len byte_cmp Place);
+  source = λ name p found. absurd (empty_get byte_cmp Place name p (rw sources at found));
   rows = subst (λ rs. IsWhole (entry_map rs) rs) (sym rows) (empty_len row_cmp (Place × ℕ));
   row = λ key value found. absurd (empty_get row_cmp (Place × ℕ) key value (rw rows at found));
 }
@@ -73,7 +73,7 @@ blank_legible setup db text utf8 blank = record {
 suite_none : (setup : Lists) → suite_in setup empty (source_map []) (entry_map []) ≡ no_content.testing
 unfolding suite_in
 suite_none setup =
-    ap (λ sources. record { sources = filter_map (source_at setup empty) sources; rows = filter_map (row_at setup empty) (entries (entry_map [])) }) (empty_entries text_cmp Place)
+    ap (λ sources. record { sources = filter_map (source_at setup empty) sources; rows = filter_map (row_at setup empty) (entries (entry_map [])) }) (empty_entries byte_cmp Place)
     ∙ ap (λ rows. record { sources = []; rows = filter_map (row_at setup empty) rows }) (empty_entries row_cmp (Place × ℕ))
 
 pub blank_content : (setup : Lists) (db : Trees) (said : Said) → said.finished ≡ 0 → IsBlank db said → content_in setup db ≡ no_content

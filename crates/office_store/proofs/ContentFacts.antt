@@ -11,7 +11,7 @@ use Rattle.std.specs.declared.cmp.Ordering.TheVariants.{Less}
 use Rattle.std.specs.FinMap.{FinMap, put, empty, entries, from_entries, entries-insert, len-entries, len-empty}
 use Rattle.sqlite.specs.Tree.{Trees}
 use Rattle.sqlite_rules.specs.Lists.{Has}
-use Rattle.testing_items.specs.Words.{text_cmp, arch_name}
+use Rattle.testing_items.specs.Words.{byte_cmp, arch_name}
 use Rattle.testing_model.specs.Moves.{row_cmp, row_key}
 use Rattle.testing_model.specs.InOrder.{AreByName, AreByKey, IsInOrder}
 use Rattle.testing_model.specs.declared.suite.SourceIn.{SourceIn}
@@ -106,7 +106,7 @@ module _ (setup : Lists) (kept : Kept) where
       ∙ ap (λ b. cond (b && bytes_eq (arch_name setup.archs r.arch) r.binary.architecture) (Some r) None) (same_text r.binary.name)
       ∙ ap (λ b. cond b (Some r) None) ((bytes_eq-Decides (arch_name setup.archs r.arch) r.binary.architecture).1 it.arch)
 
-  old_source : (m : FinMap text_cmp Place) (s : SourceIn) → Contains (filter_map (source_at setup kept) (entries m)) s → source_at setup kept (source_entry s) ≡ Some s
+  old_source : (m : FinMap byte_cmp Place) (s : SourceIn) → Contains (filter_map (source_at setup kept) (entries m)) s → source_at setup kept (source_entry s) ≡ Some s
   old_source m s c =
       let e = read_has (source_at setup kept) (entries m) s (contains_has (filter_map (source_at setup kept) (entries m)) s c.0 c.1 c.2) in
       ap (source_at setup kept) (source_keeps setup kept e.0 s e.2) ∙ e.2

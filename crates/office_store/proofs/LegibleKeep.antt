@@ -11,7 +11,7 @@ use Rattle.std.specs.FinMap.Entries.{below_all}
 use Rattle.sqlite.specs.Tree.{Trees, put_row}
 use Rattle.sqlite.specs.Effect.{Database}
 use Rattle.sqlite_rules.specs.Lists.{Has}
-use Rattle.testing_items.specs.Words.{text_cmp}
+use Rattle.testing_items.specs.Words.{byte_cmp}
 use Rattle.testing_model.specs.Moves.{row_cmp}
 use Rattle.testing_model.proofs.Orders.{text_order}
 use Rattle.office_mail.specs.Lists.{Lists}
@@ -100,7 +100,7 @@ module _ (setup : Lists) (kept : Kept) (sender number : ℕ) (text : List ℕ) (
     | inr none ↦ absurd (no_some (row_at setup kept e) (ap (λ o. row_by_message setup.archs e.0.0 e.0.1 e.1.0.0 e.1.0.1 e.1.1 (message_by setup e.1.0.0 e.1.0.1 o)) none) there)
   ]
 
-  suite_stays : (sources : FinMap text_cmp Place) (rows : FinMap row_cmp (Place × ℕ)) → ((name : List ℕ) (p : Place) → get sources name ≡ Some p → IsSome (source_at setup kept (name, p)))
+  suite_stays : (sources : FinMap byte_cmp Place) (rows : FinMap row_cmp (Place × ℕ)) → ((name : List ℕ) (p : Place) → get sources name ≡ Some p → IsSome (source_at setup kept (name, p)))
       → ((key : ℕ × List ℕ) (value : Place × ℕ) → get rows key ≡ Some value → IsSome (row_at setup kept (key, value))) → suite_in setup more sources rows ≡ suite_in setup kept sources rows
   unfolding suite_in
   suite_stays sources rows source row =

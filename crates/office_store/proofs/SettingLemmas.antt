@@ -15,7 +15,7 @@ use Rattle.sqlite.specs.Tree.{Trees, put_row}
 use Rattle.sqlite_rules.specs.Edit.{is_taken}
 use Rattle.testing_model.specs.declared.suite.SourceIn.{SourceIn}
 use Rattle.testing_model.specs.declared.suite.RowIn.{RowIn}
-use Rattle.testing_items.specs.Words.{Text, text_cmp}
+use Rattle.testing_items.specs.Words.{Text, byte_cmp}
 use Rattle.testing_model.specs.Moves.{row_cmp, row_key}
 use Rattle.testing_model.specs.InOrder.{AreByName, AreByKey}
 use Rattle.testing_model.proofs.Orders.{text_order}
@@ -89,13 +89,13 @@ module _ {X K V : Type 0} {R : K → K → Ordering} (total : IsTotalOrder R) (e
 
 -- ---- sources
 
-pub text_exact : IsAntisymmetric text_cmp
+pub text_exact : IsAntisymmetric byte_cmp
 text_exact = slice_cmp-IsAntisymmetric nat_cmp-IsAntisymmetric
 
 pub sources_start : (db next : Trees) → ClearsSources db next → SetsSources db next []
 sources_start db next it = record {
   has = ap from_entries it.none;
-  whole = λ was. subst (λ rows. IsWhole (source_map rows) rows) (sym (it.left was)) (len-empty text_cmp Place);
+  whole = λ was. subst (λ rows. IsWhole (source_map rows) rows) (sym (it.left was)) (len-empty byte_cmp Place);
   rest = it.rest;
 }
 
@@ -103,7 +103,7 @@ pub sources_step : (a b c : Trees) (xs : List SourceIn) (i : ℕ) (x : SourceIn)
     → SetsSources a c (take (i + 1) xs)
 sources_step a b c xs i x name ordered within is named set added =
     let table : c 4 ≡ put_row added.row (b 4) = ap (λ (r : Rows). r.sources) added.put in
-    let sorted = subst (IsStrictlySortedBy text_cmp) (sym (same_keys source_entry (λ s. s.name) (λ s. refl) xs)) ordered in
+    let sorted = subst (IsStrictlySortedBy byte_cmp) (sym (same_keys source_entry (λ s. s.name) (λ s. refl) xs)) ordered in
     let says = added.says ∙ ap (λ n. Some (n, (x.sender, x.number))) named in
     record {
       has = ap source_map table ∙ one_more text_order text_exact source_in source_entry xs i x added.row (b 4) within is sorted set.has says added.free;
@@ -122,7 +122,7 @@ pub row_order : IsTotalOrder row_cmp
 row_order = then_total (on_total (λ (p : ℕ × Text). p.0) nat_cmp_total) (on_total (λ (p : ℕ × Text). p.1) text_order)
 
 pub row_exact : IsAntisymmetric row_cmp
-row_exact = exact_pairs nat_cmp text_cmp nat_cmp-IsAntisymmetric text_exact
+row_exact = exact_pairs nat_cmp byte_cmp nat_cmp-IsAntisymmetric text_exact
 
 pub rows_start : (db next : Trees) → ClearsRows db next → SetsRows db next []
 rows_start db next it = record {

@@ -4,7 +4,7 @@ use Rattle.std.specs.FinMap.{FinMap, from_entries}
 use Rattle.sqlite.specs.Order.{Row, column}
 use Rattle.sqlite.specs.declared.types.Value.{Value}
 use Rattle.sqlite.specs.declared.types.Value.TheVariants.{Null, Int, Real, Text, Blob}
-use Rattle.testing_items.specs.Words.{text_cmp}
+use Rattle.testing_items.specs.Words.{byte_cmp}
 use Rattle.testing_model.specs.Moves.{row_cmp}
 use Rattle.office_mail.specs.Kept.{Place}
 use Rattle.office_store.specs.Tables.{small_in, text_in}
@@ -31,7 +31,7 @@ unfoldable pub source_in : Row → Option (List ℕ × Place)
 source_in row = source_by (integer_in (column row 0)) (text_in (column row 1)) (small_in (column row 2)) (small_in (column row 3))
 
 -- the sources that the rows keep, by their names
-abbrev pub source_map : List Row → FinMap text_cmp Place
+abbrev pub source_map : List Row → FinMap byte_cmp Place
 source_map rows = from_entries (filter_map source_in rows)
 
 -- ---- rows

@@ -7,7 +7,7 @@ use Rattle.sqlite.specs.Order.{Row}
 use Rattle.sqlite.specs.Tree.{Trees}
 use Rattle.deb_control.specs.declared.binary.Binary.{Binary}
 use Rattle.testing_model.specs.Suite.{Suite}
-use Rattle.testing_items.specs.Words.{text_cmp, arch_name}
+use Rattle.testing_items.specs.Words.{byte_cmp, arch_name}
 use Rattle.testing_model.specs.Moves.{row_cmp, put_source, put_row}
 use Rattle.testing_model.specs.declared.suite.SourceIn.{SourceIn}
 use Rattle.testing_model.specs.declared.suite.RowIn.{RowIn}
@@ -108,7 +108,7 @@ pub record IsGathered (new_sources : List SourceIn) (new_rows : List RowIn) (tes
   pub all_rows : length testing.rows ≡ length new_rows
 
 -- testing, as its entries name it
-unfoldable pub suite_in : Lists → Kept → FinMap text_cmp Place → FinMap row_cmp (Place × ℕ) → Suite
+unfoldable pub suite_in : Lists → Kept → FinMap byte_cmp Place → FinMap row_cmp (Place × ℕ) → Suite
 suite_in setup kept sources rows = record { sources = filter_map (source_at setup kept) (entries sources); rows = filter_map (row_at setup kept) (entries rows) }
 
 -- ---- runs

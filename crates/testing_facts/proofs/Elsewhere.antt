@@ -13,7 +13,7 @@ use Rattle.std.proofs.lemmas.Slice.Eq.{bytes_eq-Decides}
 use Rattle.testing_model.specs.FactOrder.{AreByPair}
 use Rattle.testing_model.specs.Unstable.{pair_order, pair_of, row_at, built_on}
 use Rattle.testing_facts.specs.SourceFilter.{filter_passes, passing_builds}
-use Rattle.testing_items.specs.Words.{Text, text_cmp}
+use Rattle.testing_items.specs.Words.{Text, byte_cmp}
 use Rattle.testing_model.specs.declared.facts.BuildIn.{BuildIn}
 use Rattle.testing_model.specs.declared.suite.RowIn.{RowIn}
 use Rattle.testing_facts.specs.declared.source_filter.SourceFilter.{SourceFilter}
@@ -29,23 +29,23 @@ first_decides Equal s e = refl
 first_decides Greater s e = let never : ⊥ = cc in absurd never
 
 -- of two builds in order the first is of no later architecture
-not_later : (x y : BuildIn) → pair_order (pair_of x) (pair_of y) ≡ Less → is_gt (text_cmp (arch_of x) (arch_of y)) ≡ false
-not_later x y e = first_decides (text_cmp (arch_of x) (arch_of y)) (text_cmp x.binary.name y.binary.name) e
+not_later : (x y : BuildIn) → pair_order (pair_of x) (pair_of y) ≡ Less → is_gt (byte_cmp (arch_of x) (arch_of y)) ≡ false
+not_later x y e = first_decides (byte_cmp (arch_of x) (arch_of y)) (byte_cmp x.binary.name y.binary.name) e
 
-same_at : (r : Ordering) (a b : Text) → text_cmp a b ≡ r → is_gt r ≡ false → is_gt (ordering_reverse r) ≡ false → a ≡ b
+same_at : (r : Ordering) (a b : Text) → byte_cmp a b ≡ r → is_gt r ≡ false → is_gt (ordering_reverse r) ≡ false → a ≡ b
 same_at Less a b e h k = absurd (false≢true (sym k))
 same_at Equal a b e h k = text_tied a b e
 same_at Greater a b e h k = absurd (false≢true (sym h))
 
 -- texts neither of which is above the other
-same_text : (a b : Text) → is_gt (text_cmp a b) ≡ false → is_gt (text_cmp b a) ≡ false → a ≡ b
-same_text a b h k = same_at (text_cmp a b) a b refl h (sym (ap is_gt (text_order.antisymm b a)) ∙ k)
+same_text : (a b : Text) → is_gt (byte_cmp a b) ≡ false → is_gt (byte_cmp b a) ≡ false → a ≡ b
+same_text a b h k = same_at (byte_cmp a b) a b refl h (sym (ap is_gt (text_order.antisymm b a)) ∙ k)
 
 abbrev last_of : BuildIn → List BuildIn → BuildIn
 last_of x [] = x
 last_of x (r ∷ rs) = last_of r rs
 
-not_behind_last : (x : BuildIn) (rs : List BuildIn) → AreByPair (x ∷ rs) → is_gt (text_cmp (arch_of x) (arch_of (last_of x rs))) ≡ false
+not_behind_last : (x : BuildIn) (rs : List BuildIn) → AreByPair (x ∷ rs) → is_gt (byte_cmp (arch_of x) (arch_of (last_of x rs))) ≡ false
 unfolding IsStrictlySortedBy
 not_behind_last x [] s = ap is_gt (tied_itself text_order (arch_of x))
 not_behind_last x (r ∷ rs) s = upto text_order (arch_of x) (arch_of r) (arch_of (last_of r rs)) (not_later x r s.0.0) (not_behind_last r rs s.1)
@@ -58,7 +58,7 @@ module _ (arch : Text) where
   unfolding IsStrictlySortedBy
   all_of_one x [] s e other = ap (λ b. not b && true) other
   all_of_one x (r ∷ rs) s e other =
-      let same : arch_of r ≡ arch_of x = same_text (arch_of r) (arch_of x) (subst (λ t. is_gt (text_cmp (arch_of r) t) ≡ false) e (not_behind_last r rs s.1)) (not_later x r s.0.0) in
+      let same : arch_of r ≡ arch_of x = same_text (arch_of r) (arch_of x) (subst (λ t. is_gt (byte_cmp (arch_of r) t) ≡ false) e (not_behind_last r rs s.1)) (not_later x r s.0.0) in
       ap (λ b. not b && list_all is_elsewhere (r ∷ rs)) other ∙ all_of_one r rs s.1 (e ∙ sym same) (ap (λ t. bytes_eq t arch) same ∙ other)
 
   last_is : (x : BuildIn) (rs : List BuildIn) (y : BuildIn) → slice_get (x ∷ rs) (length rs) ≡ Some y → last_of x rs ≡ y

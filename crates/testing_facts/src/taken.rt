@@ -8,7 +8,7 @@ ghost use Rattle.testing_model.specs.FactOrder.{AreBySource, AreByPair, AreDrops
 ghost use Rattle.testing_model.specs.Unstable.{pair_order, pair_of, drop_pair};
 ghost use Rattle.testing_facts.specs.Slots.{IsSlotFor};
 ghost use Rattle.testing_model.specs.WithMessage as taken;
-ghost use Rattle.testing_items.specs.Words.{text_cmp};
+ghost use Rattle.testing_items.specs.Words.{byte_cmp};
 
 use crate::select::{
     bug_order, build_order, delays_order, drop_order, hint_order, is_above, unhint_order,
@@ -30,11 +30,11 @@ pub enum Slot {
 /// Where the sources have the name, or else where it belongs.
 pub fn place_of_upload(sources: &[Box<UploadIn>], name: &str) -> Result<usize, usize>
     ensures bound { IsSearchInRange result (length (unboxed sources.now)) }
-    ensures found { IsBinarySearchResult (λ u. text_cmp u.source name.now) (unboxed sources.now) result }
+    ensures found { IsBinarySearchResult (λ u. byte_cmp u.source name.now) (unboxed sources.now) result }
 {
     sources.binary_search_by(
         |upload: &Box<UploadIn>| -> Ordering
-            ensures { result ≡ text_cmp upload.now.value.source name.entry.now }
+            ensures { result ≡ byte_cmp upload.now.value.source name.entry.now }
         { upload.source.as_str().cmp(name) },
     )
 }

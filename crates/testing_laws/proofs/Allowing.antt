@@ -5,7 +5,7 @@ use Rattle.std.proofs.Common.{◌≡◌, refl, sym, ap, ◌∙◌, arith, ⊎_el
 use Rattle.std.proofs.lemmas.Bool.{false≢true}
 use Rattle.testing_model.specs.declared.suite.RowIn.{RowIn}
 use Rattle.testing_model.specs.declared.update.Offender.{Offender}
-use Rattle.testing_items.specs.Words.{Text, text_cmp, least}
+use Rattle.testing_items.specs.Words.{Text, byte_cmp, least}
 use Rattle.testing_model.specs.Moves.{RowAnswer, is_row_of, is_watched_on, was_installable, judged_on, fails_on, first_failing, offender_on, first_of, offender_of}
 use Rattle.testing_laws.specs.MoveLaws.{IsUnbroken}
 use Rattle.testing_items.proofs.Each.{each-weaker}
@@ -41,7 +41,7 @@ none_fails : (old new : List RowIn) (group : List Text) (arch : ℕ) → AllByRe
     → offender_on old new group arch ≡ None
 none_fails old new group arch h =
     let as_offender : Text → Offender = λ n. record { arch = arch; «package» = n } in
-    ap (λ (js : List RowAnswer). option_map as_offender (least text_cmp (map (λ j. j.row.binary.name) js))) (filter_none (fails_on arch group (judged_on arch old)) (judged_on arch new) h)
+    ap (λ (js : List RowAnswer). option_map as_offender (least byte_cmp (map (λ j. j.row.binary.name) js))) (filter_none (fails_on arch group (judged_on arch old)) (judged_on arch new) h)
 
 module _ (archs : List Text) (old new : List RowIn) (group : List Text) where
   pub allowed_rows : offender_of archs old new group ≡ None → (arch : ℕ) → arch < length archs → AllByRecursion (IsUnbroken arch group (judged_on arch old)) (judged_on arch new)

@@ -13,25 +13,25 @@ use Rattle.testing_model.specs.FactOrder.{AreByPair}
 use Rattle.testing_model.specs.InOrder.{AreByKey}
 use Rattle.testing_model.specs.Moves.{row_cmp, row_key}
 use Rattle.testing_model.specs.Unstable.{pair_order, pair_of, row_at, built_on, built_rows}
-use Rattle.testing_items.specs.Words.{Text, text_cmp}
+use Rattle.testing_items.specs.Words.{Text, byte_cmp}
 use Rattle.testing_model.specs.declared.facts.BuildIn.{BuildIn}
 use Rattle.testing_model.specs.declared.suite.RowIn.{RowIn}
 use Rattle.testing_model.proofs.Orders.{text_order}
 
 -- keys of different architectures, and of the same
 apart : (n m : ℕ) (a b : Text) → n < m → row_cmp (n, a) (m, b) ≡ Less
-apart n m a b h = ap (λ o. ordering_then o (text_cmp a b)) (sym (nat_cmp_is n m Less h))
+apart n m a b h = ap (λ o. ordering_then o (byte_cmp a b)) (sym (nat_cmp_is n m Less h))
 
-level : (n : ℕ) (a b : Text) → text_cmp a b ≡ Less → row_cmp (n, a) (n, b) ≡ Less
-level n a b e = ap (λ o. ordering_then o (text_cmp a b)) (tied_itself nat_cmp_total n) ∙ e
+level : (n : ℕ) (a b : Text) → byte_cmp a b ≡ Less → row_cmp (n, a) (n, b) ≡ Less
+level n a b e = ap (λ o. ordering_then o (byte_cmp a b)) (tied_itself nat_cmp_total n) ∙ e
 
 -- a build of the architecture that stands behind one of it has a greater name
 name_of_pair : (b c : BuildIn) (arch : Text) → b.binary.architecture ≡ arch → c.binary.architecture ≡ arch → pair_order (pair_of b) (pair_of c) ≡ Less
-    → text_cmp b.binary.name c.binary.name ≡ Less
+    → byte_cmp b.binary.name c.binary.name ≡ Less
 name_of_pair b c arch e f h =
     let same : b.binary.architecture ≡ c.binary.architecture = e ∙ sym f in
-    let tied = ap (text_cmp b.binary.architecture) (sym same) ∙ tied_itself text_order b.binary.architecture in
-    sym (ap (λ o. ordering_then o (text_cmp b.binary.name c.binary.name)) tied) ∙ h
+    let tied = ap (byte_cmp b.binary.architecture) (sym same) ∙ tied_itself text_order b.binary.architecture in
+    sym (ap (λ o. ordering_then o (byte_cmp b.binary.name c.binary.name)) tied) ∙ h
 
 module _ (n : ℕ) (arch : Text) where
   abbrev is_there : BuildIn → Bool

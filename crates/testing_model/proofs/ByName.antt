@@ -10,7 +10,7 @@ use Rattle.std.specs.declared.cmp.Ordering.TheVariants.{Less, Equal, Greater}
 use Rattle.std.specs.Ordering.{is_eq}
 use Rattle.std.specs.Cmp.{IsTotalOrder}
 use Rattle.testing_model.specs.declared.facts.UploadIn.{UploadIn}
-use Rattle.testing_items.specs.Words.{Text, text_cmp, least, sorted_by}
+use Rattle.testing_items.specs.Words.{Text, byte_cmp, least, sorted_by}
 use Rattle.testing_model.specs.Unstable.{upload_order}
 use Rattle.testing_model.proofs.Orders.{text_order}
 use Rattle.testing_model.proofs.Picks.{has_key}
@@ -60,5 +60,5 @@ source-found us name =
     found text_order text_tied (λ (u : UploadIn). u.source) (λ n u. bytes_eq u.source n) named (λ u. text_same u.source)
     (λ n. least upload_order (filter (λ u. bytes_eq u.source n) us))
     (keyed text_order text_tied (λ (u : UploadIn). u.source) upload_order (λ n u. bytes_eq u.source n) named us) name
-    (sorted_by (λ n. n) text_cmp (map (λ u. u.source) us))
+    (sorted_by (λ n. n) byte_cmp (map (λ u. u.source) us))
     (absent text_order text_tied (λ (u : UploadIn). u.source) upload_order (λ n u. bytes_eq u.source n) named name us)

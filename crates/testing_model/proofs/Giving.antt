@@ -17,7 +17,7 @@ use Rattle.testing_model.specs.declared.facts.BuildIn.{BuildIn}
 use Rattle.testing_model.specs.declared.suite.SourceIn.{SourceIn}
 use Rattle.testing_model.specs.declared.suite.RowIn.{RowIn}
 use Rattle.testing_model.specs.declared.excuse.Excuse.{Excuse}
-use Rattle.testing_items.specs.Words.{Text, text_cmp, arch_name, sorted_by}
+use Rattle.testing_items.specs.Words.{Text, byte_cmp, arch_name, sorted_by}
 use Rattle.testing_model.specs.Suite.{Suite}
 use Rattle.testing_model.specs.Covered.{Covered, CoveredItem, upload_of, builds_of, placed_from, uploads_in, builds_in}
 use Rattle.testing_model.specs.Unstable.{unstable_source, unstable_sources, unstable_row, is_build_of, is_above_drops, unstable_builds, pair_of, pair_order, places, row_at, built_on, unstable_rows, is_current, hints_by_number, unhints_by_number}
@@ -60,7 +60,7 @@ upload_given s u c =
 
 source_given : (s : Covered) (u : UploadIn) → Contains (unstable_sources s) u → IsUploaded s (as_source u)
 source_given s u c =
-    let n = given_by (unstable_source s) (sorted_by (λ name. name) text_cmp (map (λ (v : UploadIn). v.source) (uploads_in s))) u c in
+    let n = given_by (unstable_source s) (sorted_by (λ name. name) byte_cmp (map (λ (v : UploadIn). v.source) (uploads_in s))) u c in
     let among = least_from upload_total (filter (λ (v : UploadIn). bytes_eq v.source n.0) (uploads_in s)) u n.2 in
     upload_given s u (from_filter (λ (v : UploadIn). bytes_eq v.source n.0) (uploads_in s) u among).0
 
@@ -193,7 +193,7 @@ module _ (P : SourceIn → Type 0) (Q : RowIn → Type 0) where
     puts-have [] xs h g = g
     puts-have (u ∷ us) xs h g =
         puts-have us (put_source (as_source u) xs) (λ v c. h v (tail_of u us v c))
-        (each-put P (λ (x : SourceIn). x.name) text_cmp (as_source u) xs (h u (head_of u us)) g)
+        (each-put P (λ (x : SourceIn). x.name) byte_cmp (as_source u) xs (h u (head_of u us)) g)
 
     arriving-have : (us : List UploadIn) → AllByRecursion Q (flat_map (λ u. filter (is_current u) rows) us)
     arriving-have [] = tt

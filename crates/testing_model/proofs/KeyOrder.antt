@@ -11,7 +11,7 @@ use Rattle.std.specs.Ordering.{is_lt, is_eq, ordering_index, ordering_reverse}
 use Rattle.std.proofs.lemmas.Bool.{cases_lt}
 use Rattle.std.proofs.lemmas.Map.Text.{is_eq-slice_cmp}
 use Rattle.std.proofs.lemmas.List.Sorted.{searchable_from_sorted}
-use Rattle.testing_items.specs.Words.{Text, text_cmp}
+use Rattle.testing_items.specs.Words.{Text, byte_cmp}
 use Rattle.testing_model.proofs.Orders.{text_order}
 use Rattle.testing_model.proofs.MoreMail.{text_tied}
 
@@ -41,7 +41,7 @@ module _ {X K : Type 0} (key : X → K) {cmp : K → K → Ordering} (o : IsTota
   searchable xs s k = searchable_from_sorted o key xs k (sorted_by_test xs s)
 
 -- texts that tie are the same, and no others
-text_eq : (a b : Text) (r : Ordering) → text_cmp a b ≡ r → bytes_eq a b ≡ is_eq r
+text_eq : (a b : Text) (r : Ordering) → byte_cmp a b ≡ r → bytes_eq a b ≡ is_eq r
 text_eq a b r e = sym (is_eq-slice_cmp a b) ∙ ap is_eq e
 
 -- The element of a name.
@@ -52,7 +52,7 @@ module _ {X : Type 0} (name_of : X → Text) (name : Text) where
   find_here false x xs e = rw e refl
 
   -- where a search says that it is
-  pub find-at : (xs : List X) (i : ℕ) (d : X) → IsStrictlySortedBy text_cmp (map name_of xs) → i < length xs → text_cmp (name_of (get_or xs i d)) name ≡ Equal
+  pub find-at : (xs : List X) (i : ℕ) (d : X) → IsStrictlySortedBy byte_cmp (map name_of xs) → i < length xs → byte_cmp (name_of (get_or xs i d)) name ≡ Equal
       → find (λ y. bytes_eq (name_of y) name) xs ≡ Some (get_or xs i d)
   unfolding IsStrictlySortedBy
   find-at [] i d s h e = absurd (omega (arith, h))
@@ -61,14 +61,14 @@ module _ {X : Type 0} (name_of : X → Text) (name : Text) where
       let low : i < length xs = omega (arith, h) in
       let below = below_at name_of text_order (name_of x) xs i d s.0 low in
       let same = text_tied (name_of (get_or xs i d)) name e in
-      find_here false x xs (text_eq (name_of x) name Less (sym (ap (text_cmp (name_of x)) same) ∙ below)) ∙ find-at xs i d s.1 low e
+      find_here false x xs (text_eq (name_of x) name Less (sym (ap (byte_cmp (name_of x)) same) ∙ below)) ∙ find-at xs i d s.1 low e
 
   none_at : (xs : List X) → ((i : ℕ) (d : X) → i < length xs → bytes_eq (name_of (get_or xs i d)) name ≡ false) → find (λ y. bytes_eq (name_of y) name) xs ≡ None
   none_at [] h = refl
   none_at (x ∷ xs) h = find_here false x xs (h zero x (omega arith)) ∙ none_at xs (λ i d l. h (suc i) d (omega (arith, l)))
 
   -- and there is none where it says where it belongs
-  pub find-none : (xs : List X) (i : ℕ) → IsPartitionPoint (λ y. text_cmp (name_of y) name ≡ Less) (λ y. text_cmp (name_of y) name ≡ Greater) xs i
+  pub find-none : (xs : List X) (i : ℕ) → IsPartitionPoint (λ y. byte_cmp (name_of y) name ≡ Less) (λ y. byte_cmp (name_of y) name ≡ Greater) xs i
       → find (λ y. bytes_eq (name_of y) name) xs ≡ None
   find-none xs i h = none_at xs (λ j d l. elim (cases_lt j i) [
     | inl low ↦ text_eq (name_of (get_or xs j d)) name Less (h.0 j d (omega arith) low)

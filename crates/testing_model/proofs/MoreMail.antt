@@ -10,7 +10,7 @@ use Rattle.std.proofs.lemmas.Map.Text.{is_eq-slice_cmp}
 use Rattle.std.proofs.lemmas.Slice.Eq.{bytes_eq-Decides}
 use Rattle.std.proofs.lemmas.Cmp.{nat_cmp_total}
 use Rattle.deb_version.specs.Order.{version_cmp}
-use Rattle.testing_items.specs.Words.{Text, text_cmp, is_above, least, sorted_by}
+use Rattle.testing_items.specs.Words.{Text, byte_cmp, is_above, least, sorted_by}
 use Rattle.testing_model.specs.declared.facts.UploadIn.{UploadIn}
 use Rattle.testing_model.specs.declared.facts.BuildIn.{BuildIn}
 use Rattle.testing_model.specs.declared.facts.DropIn.{DropIn}
@@ -29,7 +29,7 @@ use Rattle.testing_model.proofs.Chosen.{chosen-put, chosen-skip}
 use Rattle.testing_model.proofs.Falls.{least-keep, filter_map-keep}
 
 -- texts that tie are equal
-pub text_tied : (a b : Text) → text_cmp a b ≡ Equal → a ≡ b
+pub text_tied : (a b : Text) → byte_cmp a b ≡ Equal → a ≡ b
 text_tied a b e = (bytes_eq-Decides a b).0 (sym (is_eq-slice_cmp a b) ∙ ap is_eq e)
 
 pub text_same : (a : Text) → bytes_eq a a ≡ true
@@ -37,7 +37,7 @@ text_same a = (bytes_eq-Decides a a).1 refl
 
 -- one more upload
 abbrev pub chosen_sources : List UploadIn → List UploadIn
-chosen_sources us = filter_map (λ name. least upload_order (filter (λ u. bytes_eq u.source name) us)) (sorted_by (λ name. name) text_cmp (map (λ u. u.source) us))
+chosen_sources us = filter_map (λ name. least upload_order (filter (λ u. bytes_eq u.source name) us)) (sorted_by (λ name. name) byte_cmp (map (λ u. u.source) us))
 
 pub sources-more : (u : UploadIn) (us : List UploadIn) → chosen_sources (u ∷ us) ≡ with_upload u (chosen_sources us)
 sources-more u us = chosen-put text_order text_tied (λ (v : UploadIn). v.source) upload_order (λ name v. bytes_eq v.source name) (λ name v h. (bytes_eq-Decides v.source name).0 h) u us (text_same u.source)
@@ -70,7 +70,7 @@ pair_total = then_total (on_total (λ (p : Text × Text). p.0) text_order) (on_t
 
 pub pair_tied : (p q : Text × Text) → pair_order p q ≡ Equal → p ≡ q
 pair_tied (a, b) (c, d) e =
-    let h = then_equal (text_cmp a c) (text_cmp b d) e in
+    let h = then_equal (byte_cmp a c) (byte_cmp b d) e in
     rw (text_tied a c h.0, text_tied b d h.1) refl
 
 pub both_are : (a b : Bool) → (a && b) ≡ true → (a ≡ true) × (b ≡ true)

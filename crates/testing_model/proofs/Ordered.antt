@@ -9,7 +9,7 @@ use Rattle.std.proofs.Common.{◌≡◌, refl, sym, ap, subst}
 use Rattle.std.proofs.lemmas.Cmp.{on_total, then_total, nat_cmp_total}
 use Rattle.testing_model.specs.declared.suite.SourceIn.{SourceIn}
 use Rattle.testing_model.specs.declared.suite.RowIn.{RowIn}
-use Rattle.testing_items.specs.Words.{Text, text_cmp, put_by}
+use Rattle.testing_items.specs.Words.{Text, byte_cmp, put_by}
 use Rattle.testing_model.specs.Moves.{row_cmp, row_key, put_source, put_row}
 use Rattle.testing_model.specs.InOrder.{AreByName, AreByKey}
 use Rattle.testing_model.proofs.Orders.{text_order}
@@ -58,14 +58,14 @@ module _ {A K : Type 0} (key : A → K) (cmp : K → K → Ordering) where
 
 -- sources with one put in, with several, and those that pass a test
 pub by_name-put : (x : SourceIn) (xs : List SourceIn) → AreByName xs → AreByName (put_source x xs)
-by_name-put = sorted-put (λ (s : SourceIn). s.name) text_cmp text_order
+by_name-put = sorted-put (λ (s : SourceIn). s.name) byte_cmp text_order
 
 pub by_name-put_all : {A : Type 0} (entry : A → SourceIn) (us : List A) (xs : List SourceIn) → AreByName xs → AreByName (fold (λ ys u. put_source (entry u) ys) xs us)
 by_name-put_all entry [] xs h = h
 by_name-put_all entry (u ∷ us) xs h = by_name-put_all entry us (put_source (entry u) xs) (by_name-put (entry u) xs h)
 
 pub by_name-kept : (test : SourceIn → Bool) (xs : List SourceIn) → AreByName xs → AreByName (filter test xs)
-by_name-kept = sorted-kept (λ (s : SourceIn). s.name) text_cmp
+by_name-kept = sorted-kept (λ (s : SourceIn). s.name) byte_cmp
 
 -- rows alike
 pub by_key-put : (x : RowIn) (xs : List RowIn) → AreByKey xs → AreByKey (put_row x xs)

@@ -18,7 +18,7 @@ use Rattle.std.specs.declared.cmp.Ordering.{Ordering}
 use Rattle.std.specs.declared.cmp.Ordering.TheVariants.{Less, Equal, Greater}
 use Rattle.std.specs.Ordering.{is_lt, is_gt, ordering_reverse}
 use Rattle.std.specs.Cmp.{IsTotalOrder}
-use Rattle.testing_items.specs.Words.{text_cmp, lesser, least, first_of_two}
+use Rattle.testing_items.specs.Words.{byte_cmp, lesser, least, first_of_two}
 
 is_lt-Less : (r : Ordering) → is_lt r ≡ true → r ≡ Less
 is_lt-Less Less e = refl
@@ -69,7 +69,7 @@ module _ {A : Type 0} {cmp : A → A → Ordering} (o : IsTotalOrder cmp) where
   least_filter-more test xs i d b h e = rw (take_more xs i d h) (least_filter-push test b (take i xs) (get_or xs i d) e)
 
 -- the orders of the rules are total
-pub text_order : IsTotalOrder text_cmp
+pub text_order : IsTotalOrder byte_cmp
 text_order = lists_total nat_cmp_total
 
 pub upload_total : IsTotalOrder upload_order

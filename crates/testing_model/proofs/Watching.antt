@@ -14,7 +14,7 @@ use Rattle.testing_model.specs.declared.facts.UploadIn.{UploadIn}
 use Rattle.testing_model.specs.declared.suite.RowIn.{RowIn}
 use Rattle.testing_model.specs.declared.update.Offender.{Offender}
 use Rattle.testing_model.specs.Suite.{Suite}
-use Rattle.testing_items.specs.Words.{Text, text_cmp, is_empty, lesser, least}
+use Rattle.testing_items.specs.Words.{Text, byte_cmp, is_empty, lesser, least}
 use Rattle.testing_model.specs.Unstable.{is_current, is_of_source}
 use Rattle.testing_model.specs.Moves.{row_key, row_cmp, is_row_of, source_in, move_group, remove_source, is_row_on, rows_on, RowAnswer, with_answers, judged_on, is_same_key, was_installable, is_watched_on, fails_on, first_failing, offender_on, first_of, offender_of}
 use Rattle.testing_model.specs.Watched.{AllWatchedWork}
@@ -115,7 +115,7 @@ fails_none old new group arch e =
     let failing = filter (fails_on arch group before) after in
     let as_offender : Text → Offender = λ n. record { arch = arch; «package» = n } in
     let first : first_failing arch group before after ≡ None = option_none as_offender (first_failing arch group before after) e in
-    none_passes (fails_on arch group before) after (map_nil name failing (least_none text_cmp (map name failing) first))
+    none_passes (fails_on arch group before) after (map_nil name failing (least_none byte_cmp (map name failing) first))
 
 -- What came in doesn't fail, and what stayed works as it did.
 

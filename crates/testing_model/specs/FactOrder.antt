@@ -8,12 +8,12 @@ use Rattle.testing_model.specs.declared.facts.DropIn.{DropIn}
 use Rattle.testing_model.specs.declared.facts.BugIn.{BugIn}
 use Rattle.testing_model.specs.declared.suite.RowIn.{RowIn}
 use Rattle.testing_model.specs.InOrder.{AreByKey}
-use Rattle.testing_items.specs.Words.{text_cmp}
+use Rattle.testing_items.specs.Words.{byte_cmp}
 use Rattle.testing_model.specs.Unstable.{pair_order, pair_of, drop_pair}
 
 -- uploads in byte order of their sources, each source once
 abbrev pub AreBySource : List UploadIn → Type 0
-AreBySource uploads = IsStrictlySortedBy text_cmp (map (λ u. u.source) uploads)
+AreBySource uploads = IsStrictlySortedBy byte_cmp (map (λ u. u.source) uploads)
 
 -- builds by architecture and then in byte order of their names, each pair once
 abbrev pub AreByPair : List BuildIn → Type 0

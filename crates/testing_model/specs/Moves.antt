@@ -11,12 +11,12 @@ use Rattle.testing_model.specs.declared.suite.SourceIn.{SourceIn}
 use Rattle.testing_model.specs.declared.suite.RowIn.{RowIn}
 use Rattle.testing_model.specs.declared.update.Offender.{Offender}
 use Rattle.testing_model.specs.Suite.{Suite}
-use Rattle.testing_items.specs.Words.{Text, text_cmp, least, put_by}
+use Rattle.testing_items.specs.Words.{Text, byte_cmp, least, put_by}
 use Rattle.testing_model.specs.Unstable.{is_current}
 
 -- rows stand by architecture and then by name (this office decides it)
 abbrev pub row_cmp : ℕ × Text → ℕ × Text → Ordering
-row_cmp = then_cmp (on (λ p. p.0) nat_cmp) (on (λ p. p.1) text_cmp)
+row_cmp = then_cmp (on (λ p. p.0) nat_cmp) (on (λ p. p.1) byte_cmp)
 
 -- the key of a row: its architecture and its name
 abbrev pub row_key : RowIn → ℕ × Text
@@ -24,7 +24,7 @@ row_key r = (r.arch, r.binary.name)
 
 -- testing's sources with one put in by name
 abbrev pub put_source : SourceIn → List SourceIn → List SourceIn
-put_source x xs = put_by (λ s. s.name) text_cmp x xs
+put_source x xs = put_by (λ s. s.name) byte_cmp x xs
 
 -- testing's rows with one put in by key
 abbrev pub put_row : RowIn → List RowIn → List RowIn
@@ -107,7 +107,7 @@ fails_on arch group before j =
 -- the name of the first row that fails, in byte order (this office decides it)
 abbrev pub first_failing : ℕ → List Text → List RowAnswer → List RowAnswer → Option Text
 first_failing arch group before after =
-    least text_cmp (map (λ j. j.row.binary.name) (filter (fails_on arch group before) after))
+    least byte_cmp (map (λ j. j.row.binary.name) (filter (fails_on arch group before) after))
 
 -- the offender on one architecture, by package name
 abbrev pub offender_on : List RowIn → List RowIn → List Text → ℕ → Option Offender

@@ -17,7 +17,7 @@ use Rattle.testing_model.specs.declared.facts.HintIn.{HintIn}
 use Rattle.testing_model.specs.declared.facts.UnhintIn.{UnhintIn}
 use Rattle.testing_model.specs.declared.facts.DelaysIn.{DelaysIn}
 use Rattle.testing_model.specs.declared.suite.RowIn.{RowIn}
-use Rattle.testing_items.specs.Words.{Text, text_cmp, is_above, is_same_version, least, sorted_by}
+use Rattle.testing_items.specs.Words.{Text, byte_cmp, is_above, is_same_version, least, sorted_by}
 use Rattle.testing_model.specs.Covered.{Covered, uploads_in, builds_in, drops_in, bugs_in, hints_in, unhints_in, delays_in}
 
 -- uploads in the order in which they count: the greatest version first, and among the same version by sender and number
@@ -30,7 +30,7 @@ unstable_source s name = least upload_order (filter (λ u. bytes_eq u.source nam
 
 -- unstable's sources, by name (Debian Developer's Reference 5.13: what may come to testing)
 abbrev pub unstable_sources : Covered → List UploadIn
-unstable_sources s = filter_map (unstable_source s) (sorted_by (λ name. name) text_cmp (map (λ u. u.source) (uploads_in s)))
+unstable_sources s = filter_map (unstable_source s) (sorted_by (λ name. name) byte_cmp (map (λ u. u.source) (uploads_in s)))
 
 -- the build is of this architecture and binary name
 abbrev pub is_build_of : Text → Text → BuildIn → Bool
@@ -53,7 +53,7 @@ unstable_row s arch name = least build_order (filter (λ b. is_build_of arch nam
 
 -- rows stand by architecture and then by name
 abbrev pub pair_order : Text × Text → Text × Text → Ordering
-pair_order = then_cmp (on (λ p. p.0) text_cmp) (on (λ p. p.1) text_cmp)
+pair_order = then_cmp (on (λ p. p.0) byte_cmp) (on (λ p. p.1) byte_cmp)
 
 -- the architecture and the name of a build
 abbrev pub pair_of : BuildIn → Text × Text

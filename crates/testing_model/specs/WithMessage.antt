@@ -12,7 +12,7 @@ use Rattle.testing_model.specs.declared.facts.BugIn.{BugIn}
 use Rattle.testing_model.specs.declared.facts.HintIn.{HintIn}
 use Rattle.testing_model.specs.declared.facts.UnhintIn.{UnhintIn}
 use Rattle.testing_model.specs.declared.facts.DelaysIn.{DelaysIn}
-use Rattle.testing_items.specs.Words.{text_cmp, is_above, lesser, put_by}
+use Rattle.testing_items.specs.Words.{byte_cmp, is_above, lesser, put_by}
 use Rattle.testing_model.specs.Unstable.{upload_order, build_order, pair_order, pair_of, drop_order, drop_pair, bug_order, hint_order, unhint_order, delays_order}
 
 -- the element put at its place in a list that is in the order of keys; of two of the same key the first in the order of rank stays, the new one where they tie
@@ -23,7 +23,7 @@ put_first key cmp rank x (y ∷ ys) =
 
 -- sources with one more upload, rows with one more build, drops with one more, and bugs with one more message
 abbrev pub with_upload : UploadIn → List UploadIn → List UploadIn
-with_upload = put_first (λ u. u.source) text_cmp upload_order
+with_upload = put_first (λ u. u.source) byte_cmp upload_order
 
 abbrev pub with_build : BuildIn → List BuildIn → List BuildIn
 with_build = put_first pair_of pair_order build_order

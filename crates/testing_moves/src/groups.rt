@@ -6,7 +6,7 @@ ghost use Rattle.std.specs.Str.{bytes_eq};
 ghost use Rattle.testing_model.specs.Boxed.{unboxed};
 ghost use Rattle.testing_model.specs.FactOrder.{AreBySource};
 ghost use Rattle.testing_items.specs.Words as words;
-ghost use Rattle.testing_items.specs.Words.{text_cmp};
+ghost use Rattle.testing_items.specs.Words.{byte_cmp};
 ghost use Rattle.testing_model.specs.Moves.{group_sources};
 ghost use Rattle.testing_model.specs.Unstable as unstable_words;
 ghost use Rattle.testing_model.specs.Updates as rules;
@@ -47,7 +47,7 @@ fn place_of_name(excuses: &[Excuse], name: &str) -> Result<usize, usize>
 {
     excuses.binary_search_by(
         |excuse: &Excuse| -> Ordering
-            ensures { result ≡ text_cmp excuse.now.source name.entry.now }
+            ensures { result ≡ byte_cmp excuse.now.source name.entry.now }
         { excuse.source.as_str().cmp(name) },
     )
 }

@@ -10,7 +10,7 @@ ghost use Rattle.testing_model.specs.FactOrder.{AreBySource};
 ghost use Rattle.testing_model.specs.InOrder.{AreByName};
 ghost use Rattle.testing_moves.specs.LiveSources.{source_of, sources_of};
 ghost use Rattle.testing_model.specs.Moves as rules;
-ghost use Rattle.testing_items.specs.Words.{text_cmp};
+ghost use Rattle.testing_items.specs.Words.{byte_cmp};
 
 use deb_control::Text;
 use deb_version::NoMemory;
@@ -41,11 +41,11 @@ impl LiveSource<'_> {
 /// Where the sources have the name, or else where it belongs.
 pub fn place_of_name(sources: &[LiveSource], name: &str) -> Result<usize, usize>
     ensures bound { IsSearchInRange result (length (sources_of sources.now)) }
-    ensures found { IsBinarySearchResult (λ s. text_cmp s.name name.now) (sources_of sources.now) result }
+    ensures found { IsBinarySearchResult (λ s. byte_cmp s.name name.now) (sources_of sources.now) result }
 {
     sources.binary_search_by(
         |source: &LiveSource| -> Ordering
-            ensures { result ≡ text_cmp (source_of source.now).name name.entry.now }
+            ensures { result ≡ byte_cmp (source_of source.now).name name.entry.now }
         { source.source().name.as_str().cmp(name) },
     )
 }

@@ -15,7 +15,7 @@ use Rattle.testing_model.specs.Moves.{is_row_on}
 use Rattle.testing_suites.specs.ArchRows.{ArchRows, AreNumbers, AreLostFrom}
 use Rattle.testing_suites.specs.PresentSteps.{IsOn, IsOver, IsSuiteOn}
 use Rattle.testing_suites.specs.Trials.{is_place_on, names_at, IsFirstLost}
-use Rattle.testing_items.specs.Words.{Text, text_cmp, least}
+use Rattle.testing_items.specs.Words.{Text, byte_cmp, least}
 use Rattle.testing_suites.proofs.Arranging.{from_has, to_has}
 use Rattle.testing_suites.proofs.Flags.{flags_after, flag_within}
 use Rattle.testing_suites.proofs.Judging.{has_filter, same_bit}
@@ -161,7 +161,7 @@ module _ (arch : ℕ) (pool : List RowIn) (suite : ArchRows) (stands there : Lis
   }
 
   -- the name of the first watched row among the places that the suite of the architecture loses
-  pub lost_first : (name : Option Text) → name ≡ least text_cmp (names_at arch pool lost) → IsFirstLost arch pool there leaving coming name
+  pub lost_first : (name : Option Text) → name ≡ least byte_cmp (names_at arch pool lost) → IsFirstLost arch pool there leaving coming name
   lost_first name first = record {
     places = lost;
     exact = lost_places arch pool suite own.over (marked suite.suite.there) (marked there) (marked from.there) stands_then were are

@@ -12,7 +12,7 @@ use Rattle.testing_model.specs.declared.suite.LentRow.{LentRow}
 use Rattle.testing_model.specs.declared.suite.RowIn.{RowIn}
 use Rattle.testing_suites.specs.declared.offender.RowAnswer.{RowAnswer}
 use Rattle.testing_model.specs.declared.update.Offender.{Offender}
-use Rattle.testing_items.specs.Words.{Text, text_cmp, least, first_of_two}
+use Rattle.testing_items.specs.Words.{Text, byte_cmp, least, first_of_two}
 use Rattle.testing_model.specs.Moves.{with_answers, first_failing, fails_on, first_of, judged_on, offender_on, RowAnswer as Answer}
 use Rattle.testing_suites.specs.JudgedRows.{answer, answers}
 use Rattle.testing_model.specs.JudgedRows.{lent, row_of}
@@ -45,7 +45,7 @@ module _ {A : Type 0} {cmp : Text → Text → Ordering} (o : IsTotalOrder cmp) 
 pub first_failing-more : (arch : ℕ) (group : List Text) (before : List Answer) (after : List RowAnswer) (i : ℕ) (d : RowAnswer) (b : Bool)
     → i < length after → fails_on arch group before (answer (get_or after i d)) ≡ b
     → first_failing arch group before (answers (take (i + 1) after))
-    ≡ cond b (Some (first_of_two text_cmp (first_failing arch group before (answers (take i after))) (get_or after i d).row.binary.now.name)) (first_failing arch group before (answers (take i after)))
+    ≡ cond b (Some (first_of_two byte_cmp (first_failing arch group before (answers (take i after))) (get_or after i d).row.binary.now.name)) (first_failing arch group before (answers (take i after)))
 first_failing-more arch group before after i d b h e =
     rw (take_more after i d h, map-append) (one_more text_order (fails_on arch group before) (λ (j : Answer). j.row.binary.name) b (answers (take i after)) (answer (get_or after i d)) e)
 

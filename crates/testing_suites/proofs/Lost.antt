@@ -21,7 +21,7 @@ use Rattle.testing_model.specs.InOrder.{AreByKey}
 use Rattle.testing_model.specs.Moves.{row_cmp, row_key, is_row_on, rows_on, is_row_of, is_same_key, is_watched_on, was_installable, fails_on, first_failing, with_answers, judged_on, RowAnswer}
 use Rattle.testing_suites.specs.Present.{IsShown}
 use Rattle.testing_suites.specs.PresentSteps.{IsOn}
-use Rattle.testing_items.specs.Words.{Text, text_cmp, least}
+use Rattle.testing_items.specs.Words.{Text, byte_cmp, least}
 use Rattle.testing_model.proofs.Least.{from_filter, to_filter, same-least}
 use Rattle.testing_model.proofs.Listed.{IsAmong, IsListing, listed_exact}
 use Rattle.testing_items.proofs.Members.{none_among}
@@ -286,7 +286,7 @@ module _ (arch : ℕ) (pool : List RowIn) (group : List Text) (stood stands came
       ] in
       (p.0, p.1, watched, (p.3, broken, reason))
 
-  pub first_lost : (names : List Text) → AreLost arch pool before after came names → least text_cmp names ≡ first_failing arch group (judged_on arch old) (judged_on arch new)
+  pub first_lost : (names : List Text) → AreLost arch pool before after came names → least byte_cmp names ≡ first_failing arch group (judged_on arch old) (judged_on arch new)
   first_lost names lost =
       let failing = filter fails (judged_on arch new) in
       same-least text_order names (map (λ j. j.row.binary.name) failing) (λ a b c d e. text_tied a b e) (

@@ -15,7 +15,7 @@ use Rattle.testing_model.proofs.Least.{from_filter, to_filter}
 use Rattle.testing_suites.specs.Present.{IsShown}
 use Rattle.testing_suites.proofs.Lost.{row_order, one_for_key}
 use Rattle.testing_items.proofs.Members.{none_among, head_of, tail_of}
-use Rattle.testing_items.specs.Words.{Text, text_cmp, put_by}
+use Rattle.testing_items.specs.Words.{Text, byte_cmp, put_by}
 use Rattle.testing_model.proofs.MoreMail.{nat_tied, text_tied, then_equal}
 use Rattle.testing_model.proofs.Ordered.{by_key-put, by_key-kept}
 use Rattle.testing_model.proofs.Picks.{Rises}
@@ -85,7 +85,7 @@ put_keeps x r (y ∷ rows) other c = put_keeps_at x y r rows _ refl other (put_k
 
 -- rows of the same key have the same architecture and name
 key_tied : (a b : ℕ × Text) → row_cmp a b ≡ Equal → a ≡ b
-key_tied (a, n) (b, m) e = let h = then_equal (nat_cmp a b) (text_cmp n m) e in rw (nat_tied a b h.0, text_tied n m h.1) refl
+key_tied (a, n) (b, m) e = let h = then_equal (nat_cmp a b) (byte_cmp n m) e in rw (nat_tied a b h.0, text_tied n m h.1) refl
 
 -- the row is another one than the first by its key
 abbrev pub IsOther : RowIn → RowIn → Type 0

@@ -5,7 +5,7 @@ use Rattle.std.proofs.Common.{◌≡◌, refl, ap₂, ◌∙◌}
 use Rattle.std.proofs.lemmas.Option.{slice_get_within}
 use Rattle.testing_model.specs.declared.suite.RowIn.{RowIn}
 use Rattle.testing_model.specs.Moves.{is_row_on, is_watched_on, first_failing, judged_on}
-use Rattle.testing_items.specs.Words.{Text, text_cmp, least}
+use Rattle.testing_items.specs.Words.{Text, byte_cmp, least}
 use Rattle.testing_model.proofs.Least.{from_filter, to_filter}
 use Rattle.testing_suites.specs.PresentSteps.{IsOn}
 use Rattle.testing_suites.proofs.Lost.{IsLostAt, IsChange, AreLost, first_lost}
@@ -63,6 +63,6 @@ module _ (arch : ℕ) (pool : List RowIn) (before after came : ℕ → Bool) (pl
 pub first_of_lost : (arch : ℕ) (pool : List RowIn) (group : List Text) (stood stands came before after : ℕ → Bool) (old new : List RowIn) (places : List ℕ)
     → IsChange pool group stood stands came old new → IsOn arch pool stood before → IsOn arch pool stands after
     → ((k : ℕ) → Contains places k ↔ IsLostAt (map (λ r. r.binary) pool) before after came k)
-    → least text_cmp (watched_names arch pool places) ≡ first_failing arch group (judged_on arch old) (judged_on arch new)
+    → least byte_cmp (watched_names arch pool places) ≡ first_failing arch group (judged_on arch old) (judged_on arch new)
 first_of_lost arch pool group stood stands came before after old new places change was is exact =
     first_lost arch pool group stood stands came before after old new change was is (watched_names arch pool places) (names_lost arch pool before after came places exact)

@@ -7,7 +7,7 @@ use Rattle.testing_install.specs.Among.{IsLost, after_change}
 use Rattle.testing_install.specs.Closed.{marked}
 use Rattle.testing_model.specs.declared.suite.RowIn.{RowIn}
 use Rattle.testing_model.specs.Moves.{is_row_on, is_watched_on}
-use Rattle.testing_items.specs.Words.{Text, text_cmp, least}
+use Rattle.testing_items.specs.Words.{Text, byte_cmp, least}
 
 -- the row at the place is on the architecture
 abbrev pub is_place_on : ℕ → List RowIn → ℕ → Bool
@@ -22,4 +22,4 @@ pub record IsFirstLost (arch : ℕ) (pool : List RowIn) (there : List Bool) (lea
   pub places : List ℕ
   pub exact : (k : ℕ) → Contains places k
       ↔ IsLost (map (λ r. r.binary) pool) (marked there) (marked (after_change leaving (filter (is_place_on arch pool) coming) there)) k
-  pub first : name ≡ least text_cmp (names_at arch pool places)
+  pub first : name ≡ least byte_cmp (names_at arch pool places)

@@ -3,7 +3,7 @@
 ghost use Rattle.std.specs.Prelude.{◌≡◌, ◌==◌};
 ghost use Rattle.testing_model.specs.Moves as moves;
 ghost use Rattle.testing_model.specs.JudgedRows.{row_of};
-ghost use Rattle.testing_items.specs.Words.{text_cmp, first_of_two};
+ghost use Rattle.testing_items.specs.Words.{byte_cmp, first_of_two};
 ghost use Rattle.std.specs.Option.{option_copied};
 
 use testing_items::ALL;
@@ -32,7 +32,7 @@ pub struct RowAnswer<'a> {
 
 /// The first of two names in byte order, the old one where they are equal.
 pub fn first_of_two<'a>(first: Option<&'a str>, name: &'a str) -> &'a str
-    ensures { result.now ≡ first_of_two text_cmp (option_copied first.entry) name.now }
+    ensures { result.now ≡ first_of_two byte_cmp (option_copied first.entry) name.now }
 {
     match first {
         Some(first) if name >= first => first,

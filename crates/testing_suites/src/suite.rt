@@ -6,7 +6,7 @@ ghost use Rattle.testing_model.specs.Moves as moves;
 ghost use Rattle.testing_model.specs.InOrder.{AreByName, AreByKey};
 ghost use Rattle.testing_suites.specs.CarriedOver.{AreCarriedOver};
 ghost use Rattle.testing_model.specs.Places.{IsPlaceFor};
-ghost use Rattle.testing_items.specs.Words.{text_cmp};
+ghost use Rattle.testing_items.specs.Words.{byte_cmp};
 
 use crate::carried_suites::CarriedSuites;
 use deb_version::NoMemory;
@@ -58,11 +58,11 @@ impl Model for Testing {
 /// Where the sources have the name, or else where it belongs.
 pub fn place_of_name(sources: &[SourceIn], name: &str) -> Result<usize, usize>
     ensures bound { IsSearchInRange result (length sources.now) }
-    ensures found { IsBinarySearchResult (λ s. text_cmp s.name name.now) sources.now result }
+    ensures found { IsBinarySearchResult (λ s. byte_cmp s.name name.now) sources.now result }
 {
     sources.binary_search_by(
         |source: &SourceIn| -> Ordering
-            ensures { result ≡ text_cmp source.now.name name.entry.now }
+            ensures { result ≡ byte_cmp source.now.name name.entry.now }
         { source.name.as_str().cmp(name) },
     )
 }

@@ -5,7 +5,7 @@ ghost use Rattle.std.specs.List.{All};
 ghost use Rattle.testing_install.specs.Closed.{marked};
 ghost use Rattle.testing_suites.specs.PresentSteps.{IsOn, IsOver, IsSuiteOn};
 ghost use Rattle.testing_suites.specs.Trials.{names_at, IsFirstLost};
-ghost use Rattle.testing_items.specs.Words.{text_cmp, least};
+ghost use Rattle.testing_items.specs.Words.{byte_cmp, least};
 
 use crate::arch_suite::ArchSuite;
 use crate::change::Change;
@@ -17,7 +17,7 @@ use std::alloc::Global;
 /// The name of the first watched row at one of the places, in byte order.
 fn first_watched<'a>(arch: u32, pool: &'a Pool, places: &[usize]) -> Option<&'a str>
     requires { All (λ k. k < length pool.now) places.now }
-    ensures { option_copied result ≡ least text_cmp (names_at arch pool.now places.now) }
+    ensures { option_copied result ≡ least byte_cmp (names_at arch pool.now places.now) }
 {
     let mut first = None;
     for place in places {

@@ -1,7 +1,7 @@
 use Rattle.std.proofs.Common.{arith, ◌∙◌, sym, ap, ◌<◌, length, get_or, Some, true, false}
 use Rattle.std.specs.Option.{option_copied}
 use Rattle.deb_control.specs.declared.binary.Binary.{Binary}
-use Rattle.testing_items.specs.Words.{text_cmp, first_of_two}
+use Rattle.testing_items.specs.Words.{byte_cmp, first_of_two}
 use Rattle.testing_model.specs.Moves.{fails_on}
 use Rattle.testing_suites.specs.JudgedRows.{answer, answers}
 use Rattle.testing_suites.proofs.Failing.{first_failing-more}
@@ -20,8 +20,8 @@ loop-judged-preserved c =
     elim c.if-fails_on.branch [
       | then-fails_on w ↦
           ap option_copied w.first-is
-          ∙ ap (λ n. Some n) (w.first_of_two.ensures ∙ ap (λ n. first_of_two text_cmp (option_copied c.loop-judged.first) n) (w.as_str.ensures ∙ ap (λ (q : Binary). q.name) w.deref.ensures ∙ name_is)
-          ∙ ap (λ m. first_of_two text_cmp m (get_or a.after.now i d).row.binary.now.name) c.loop-judged.invariant)
+          ∙ ap (λ n. Some n) (w.first_of_two.ensures ∙ ap (λ n. first_of_two byte_cmp (option_copied c.loop-judged.first) n) (w.as_str.ensures ∙ ap (λ (q : Binary). q.name) w.deref.ensures ∙ name_is)
+          ∙ ap (λ m. first_of_two byte_cmp m (get_or a.after.now i d).row.binary.now.name) c.loop-judged.invariant)
           ∙ sym (more true below (at_item ∙ w.if-fails_on.true))
       | else-fails_on w ↦ ap option_copied w.first-is ∙ c.loop-judged.invariant ∙ sym (more false below (at_item ∙ w.if-fails_on.false))
     ]

@@ -3,7 +3,7 @@ use Rattle.std.specs.List.{All}
 use Rattle.std.proofs.lemmas.Option.{slice_get_within}
 use Rattle.testing_suites.specs.ArchRows.{AreLostFrom}
 use Rattle.testing_suites.specs.Trials.{names_at}
-use Rattle.testing_items.specs.Words.{text_cmp, least}
+use Rattle.testing_items.specs.Words.{byte_cmp, least}
 use Rattle.testing_suites.proofs.Carried.{lost_first}
 use Rattle.testing_suites.proofs.Flags.{bounded_members}
 use Rattle.testing_suites.proofs.Parts.{row_of_number}
@@ -28,4 +28,4 @@ returns-clause-first c = λ stands there own long on.
     let lost = c.in_ok-lost.lost.items in
     let from = subst (λ ks. AreLostFrom suite ks coming lost) c.deref.ensures.value (subst (λ ks. AreLostFrom suite c.deref.result.now ks lost) c.deref-2.ensures.value c.in_ok-lost.ensures.lost) in
     lost_first arch pool suite stands there own long on leaving coming lost from _
-    (c.first_watched.ensures ∙ ap (λ ks. least text_cmp (names_at arch pool ks)) c.deref-3.ensures.value)
+    (c.first_watched.ensures ∙ ap (λ ks. least byte_cmp (names_at arch pool ks)) c.deref-3.ensures.value)
