@@ -9,7 +9,7 @@ use Rattle.sqlite.specs.declared.FileStore.{FileStore}
 use Rattle.sqlite_disk.specs.declared.Disk.{Ghosts}
 use Rattle.office_mail.specs.Lists.{Lists}
 use Rattle.office_store.specs.Opening.{IsOpened}
-use Rattle.office_store.specs.declared.faults.Cause.TheVariants.{BadRow, Sqlite}
+use Rattle.office_keeper.specs.declared.faults.Cause.TheVariants.{BadRow, Sqlite}
 use Rattle.office_store.specs.declared.opening.OpenFault.{OpenFault}
 use Rattle.office_store.specs.declared.opening.OpenFault.TheVariants as opening
 use Rattle.office_commands.specs.declared.store.StoreFault.{StoreFault}
