@@ -6,6 +6,7 @@
 PROGRAM is the built program, `crates/office/out/office`. Exit status 0 where each client saw what it should.
 """
 import os
+import resource
 import socket
 import subprocess
 import sys
@@ -79,6 +80,76 @@ def unread(port, request):
         client.sendall(request)
 
 
+def waiting(port, text):
+    """Sends the head of a request, waits for 100 Continue, then sends the body."""
+    head, body = post(text).replace(b"Host: x", b"Expect: 100-continue").split(b"\r\n\r\n", 1)
+    with connect(port) as client:
+        client.settimeout(10)
+        client.sendall(head + b"\r\n\r\n")
+        asked = b""
+        while not asked.endswith(b"\r\n\r\n"):
+            asked += client.recv(1)
+        client.sendall(body)
+        return asked + read_all(client)
+
+
+def slow(port, front, pause):
+    """Sends a front of a request, then a byte in each pause, until the service ends; the reply, and the seconds."""
+    start = time.time()
+    reply = b""
+    with connect(port) as client:
+        client.settimeout(pause)
+        client.sendall(front)
+        while time.time() - start < 60:
+            try:
+                part = client.recv(65536)
+                if not part:
+                    break
+                reply += part
+            except TimeoutError:
+                if front:
+                    client.sendall(b"x")
+            except OSError:
+                break
+    return reply, time.time() - start
+
+
+def lingering(port):
+    """Gets its reply, and goes on sending a byte at a time; the seconds until the service serves the next."""
+    with connect(port) as client:
+        client.sendall(b"GET /status HTTP/1.1\r\nHost: x\r\n\r\n")
+        client.recv(65536)
+        start = time.time()
+        with connect(port) as other:
+            other.sendall(b"GET /status HTTP/1.1\r\nHost: x\r\n\r\n")
+            other.settimeout(0.1)
+            while time.time() - start < 20:
+                try:
+                    client.sendall(b"x")
+                except OSError:
+                    pass
+                try:
+                    if other.recv(65536):
+                        break
+                except TimeoutError:
+                    pass
+        return time.time() - start
+
+
+def few_files(files):
+    """What makes a program open so many files at most."""
+    hard = resource.getrlimit(resource.RLIMIT_NOFILE)[1]
+    return lambda: resource.setrlimit(resource.RLIMIT_NOFILE, (files, hard))
+
+
+def start(program, port, conf, connections, files=None):
+    """A service that listens."""
+    words = [program, "serve", "--port", str(port), "--conf", conf, "--connections", str(connections)]
+    service = subprocess.Popen(words, stdout=subprocess.PIPE, stderr=subprocess.PIPE,
+                               preexec_fn=few_files(files) if files else None)
+    return service, service.stdout.readline()
+
+
 def main():
     program = os.path.abspath(sys.argv[1])
     port = int(sys.argv[2]) if len(sys.argv) > 2 else 18731
@@ -92,9 +163,8 @@ def main():
         conf = os.path.join(folder, "setup.conf")
         with open(conf, "wb") as f:
             f.write(SETUP)
-        service = subprocess.Popen([program, "serve", "--port", str(port), "--conf", conf, "--connections", "13"],
-                                   stdout=subprocess.PIPE, stderr=subprocess.PIPE)
-        want("first line", b"listening %d\n" % port, service.stdout.readline())
+        service, line = start(program, port, conf, 19)
+        want("first line", b"listening %d\n" % port, line)
         ok = b"HTTP/1.1 200 OK\r\n"
         want("1 status", b"ready 0 finished 0\n", status(port))
         want("2 a byte at a time", ok, exchange(port, post(NONE % 1), 0.002, 1))
@@ -112,13 +182,44 @@ def main():
         want("11 the longest body", ok, exchange(
             port, post((NONE % 4 + b"Note: ").ljust(65535, b"x") + b"\n")))
         want("12 two requests", ok, exchange(port, b"GET /status HTTP/1.1\r\nHost: x\r\n\r\n" * 2))
-        want("13 status", b"ready 0 finished 0\n", status(port))
+        want("13 waits for continue, then sends its body", b"HTTP/1.1 100 Continue\r\n\r\n" + ok,
+             waiting(port, NONE % 5))
+        for row, front, pause in (("14 a silent client", b"", 35), ("15 a slow client", b"GET /", 1)):
+            reply, seconds = slow(port, front, pause)
+            want(row, b"", reply)
+            if reply or not 25 < seconds < 35:
+                faults.append("%s: %r after %.1f seconds" % (row, reply[:200], seconds))
+        want("16 one that is behind them", b"ready 0 finished 0\n", status(port))
+        seconds = lingering(port)
+        if seconds > 2:
+            faults.append("17 and 18 a client that goes on sending: %.1f seconds" % seconds)
+        want("19 status", b"ready 0 finished 0\n", status(port))
         _, told = service.communicate(timeout=20)
         if service.returncode != 0:
             faults.append("exit status %d, %r" % (service.returncode, told))
+
+        # a service that can open no more files takes the connection once it can
+        service, _ = start(program, port, conf, 1, 4)
+        with connect(port) as client:
+            client.sendall(b"GET /status HTTP/1.1\r\nHost: x\r\n\r\n")
+            time.sleep(1)
+            hard = resource.getrlimit(resource.RLIMIT_NOFILE)[1]
+            resource.prlimit(service.pid, resource.RLIMIT_NOFILE, (64, hard))
+            want("20 an accept that fails for a while", ok, read_all(client))
+        _, told = service.communicate(timeout=20)
+        want("20 what is told", b"office: a connection wasn't taken: Too many open files", told)
+        if service.returncode != 0:
+            faults.append("20: exit status %d" % service.returncode)
+
+        # and where it never can it ends
+        service, _ = start(program, port, conf, 1, 4)
+        with connect(port):
+            _, told = service.communicate(timeout=60)
+        if service.returncode != 4 or told.count(b"\n") != 101:
+            faults.append("21 accepts that fail: exit status %d, %d lines" % (service.returncode, told.count(b"\n")))
     for fault in faults:
         print("FAIL", fault)
-    print("13 connections, %d faults" % len(faults))
+    print("21 rows, %d faults" % len(faults))
     sys.exit(1 if faults else 0)
 
 

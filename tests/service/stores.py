@@ -1,5 +1,5 @@
 #!/usr/bin/env python3
-"""Stores in files: an office that is stopped and started, replays in parts, and files that are refused.
+"""Stores in files: an office that is stopped and started, replays in parts, tables beside it, and files that are refused.
 
   stores.py PROGRAM [PORT]
 
@@ -119,6 +119,37 @@ def ended_by_force(folder, conf):
     service.kill()
 
 
+def beside_others(folder, conf):
+    """Tables of other names don't count: a store goes on, a database without a store gets one, and they stay."""
+    whole, _, _ = replay(conf, None, bag_of(MESSAGES))
+    rows = [
+        ("a table", "CREATE TABLE other(a INTEGER); INSERT INTO other VALUES (5)", "SELECT a FROM other", [(5,)]),
+        ("statistics", "CREATE TABLE other(a INTEGER PRIMARY KEY, b); CREATE INDEX i ON other(b); INSERT INTO other VALUES (1, 2); ANALYZE",
+         "SELECT count(*) > 0 FROM sqlite_stat1", [(1,)]),
+        ("a view", "CREATE VIEW other AS SELECT 5 AS a", "SELECT a FROM other", [(5,)]),
+    ]
+    for what, words, question, due in rows:
+        for first in (0, 3):
+            db = os.path.join(folder, "beside-%s-%d" % (what.replace(" ", "-"), first))
+            if first:
+                want("first half, %s" % what, 0, replay(conf, db, bag_of(MESSAGES[:first]))[1])
+            with sqlite3.connect(db) as writer:
+                writer.executescript(words)
+            writer.close()
+            output, status, told = replay(conf, db, bag_of(MESSAGES))
+            want("%s, %d kept before" % (what, first), (0, ""), (status, told))
+            want("testing beside %s, %d kept before" % (what, first), testing_in(whole), testing_in(output))
+            want("%s stays, %d kept before" % (what, first), due, asked(db, question))
+            want("database with %s, %d kept before" % (what, first), [("ok",)], asked(db, "PRAGMA integrity_check"))
+            again, status, _ = replay(conf, db, bag_of(MESSAGES))
+            want("%s, all again, %d kept before" % (what, first), (0, testing_in(whole)), (status, testing_in(again)))
+    db = os.path.join(folder, "beside-index")
+    replay(conf, db, bag_of(MESSAGES[:3]))
+    asked(db, "CREATE INDEX by_number ON mail(number)")
+    output, status, _ = replay(conf, db, bag_of(MESSAGES))
+    want("an index on mail", (0, testing_in(whole)), (status, testing_in(output)))
+
+
 def refused(folder, conf):
     """Files that are no store of this setup are refused, each with its sentence, and stay as they were."""
     made = os.path.join(folder, "made")
@@ -140,14 +171,20 @@ def refused(folder, conf):
     cut = os.path.join(folder, "cut")
     with open(cut, "wb") as f:
         f.write(bytes_of(made)[:20000])
-    other = os.path.join(folder, "other")
-    asked(other, "CREATE TABLE other(a INTEGER)")
+    part = os.path.join(folder, "part")
+    asked(part, "CREATE TABLE mail(sender INTEGER NOT NULL, number INTEGER NOT NULL, body BLOB NOT NULL, PRIMARY KEY(sender, number)) STRICT")
+    view = os.path.join(folder, "view")
+    asked(view, "CREATE VIEW Office AS SELECT 1")
     rows = [
         ("another setup", smaller, made, "made for another setup"),
         ("a schema number", conf, changed("schema", "UPDATE office SET schema = 7"), "other tables"),
-        ("a table more", conf, changed("more", "CREATE TABLE other(a INTEGER) STRICT"), "other tables"),
+        ("a table less", conf, changed("less", "DROP TABLE testing_row"), "other tables"),
+        ("a column more", conf, changed("column", "ALTER TABLE mail ADD COLUMN more INTEGER"), "other tables"),
+        # (by the office's own test, or already by SQLite's reader, which reads no trigger)
+        ("a trigger on mail", conf, changed("trigger", "CREATE TRIGGER t AFTER INSERT ON mail BEGIN DELETE FROM run; END"), ""),
+        ("mail alone", conf, part, "other tables"),
+        ("a view of an office's name", conf, view, "other tables"),
         ("a setup that can't be read", conf, changed("setup", "UPDATE office SET setup = 'x'"), "other tables"),
-        ("another database", conf, other, "other tables"),
         ("no database", conf, plain, "not a database"),
         ("a database that is cut", conf, cut, "malformed"),
         ("a folder", conf, folder, "unable to open"),
@@ -168,6 +205,7 @@ def main():
     with tempfile.TemporaryDirectory() as folder:
         parts(folder, conf)
         ended_by_force(folder, conf)
+        beside_others(folder, conf)
         refused(folder, conf)
     for fault in faults:
         print("FAIL", fault)

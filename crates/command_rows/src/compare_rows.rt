@@ -1,5 +1,5 @@
 // Statuses of comparisons, as `dpkg --compare-versions` and the rules on refusals give them.
-use office_commands::{compare, compare_status};
+use office_words::{compare, compare_status};
 
 #[test]
 fn statuses(rt: HostRuntime) {

@@ -1,5 +1,6 @@
 // The sentences of faults: of a store, of arguments, and of a setup's file that isn't there.
-use office_commands::{ArgsFault, StoreFault, args_status, conf_status, read_setup, store_status};
+use office_commands::{StoreFault, conf_status, read_setup, store_status};
+use office_words::{ArgsFault, args_status};
 use sqlite::{Error, ErrorCode};
 use std::test::Fail;
 

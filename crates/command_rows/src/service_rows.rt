@@ -27,9 +27,10 @@ fn a_client_on_loopback(rt: HostRuntime) -> Result<(), Fail> {
     let listener = listen(&rt, 0)?;
     let mut client = TcpStream::connect(&rt, listener.local_addr()?)?;
     client.write_all(STATUS)?;
-    serve_next(&rt, &listener, &mut office);
+    let is_served = serve_next(&rt, &listener, &mut office).is_ok();
     let reply = io::read_to_string(rt.alloc(), client)?;
     assert_eq!(rt; reply.as_str(), NOTHING_READY);
+    assert!(rt; is_served);
     Ok(())
 }
 

@@ -8,6 +8,7 @@ mod covered;
 mod excuses;
 mod given;
 mod installs;
+mod kept;
 mod letters;
 mod said;
 mod suite;
@@ -21,6 +22,7 @@ use builds::{draw_some_build, draw_source};
 use excuses::push_excuses;
 use given::put_some;
 use jiff::civil::Date;
+use kept::{Kept, run_kept};
 use letters::{Mix, Post, SETUP, draw_bug, draw_delays, draw_drop};
 use office_mail::Setup;
 use std::alloc::Global;
@@ -137,12 +139,21 @@ fn push_due(
     Ok(suite)
 }
 
-/// What some runs over random mail say, by the rules and by the definitions.
-fn both_texts(alloc: Global, setup: &Setup, mix: Mix, seed: u32) -> Result<(String, String), Fail> {
+/// What some runs over random mail say: by the rules over facts that go on, by the rules over facts that
+/// are made anew from their rows behind each run, and by the definitions.
+#[derive(Drop)]
+struct Reports {
+    going_on: String,
+    restored: String,
+    due: String,
+}
+
+fn reports_of(alloc: Global, setup: &Setup, mix: Mix, seed: u32) -> Result<Reports, Fail> {
     let mut post = Post::new(alloc, mix, seed);
     let mut facts = Facts::new(alloc);
     let mut testing = Testing::new(alloc);
     let mut suite = Suite::new(alloc);
+    let mut kept = Kept::new(alloc);
     let mut done = String::new(alloc);
     let mut due = String::new(alloc);
     for run in 1..RUNS + 1 {
@@ -150,20 +161,27 @@ fn both_texts(alloc: Global, setup: &Setup, mix: Mix, seed: u32) -> Result<(Stri
         draw_letters(alloc, &mut post)?;
         if run == 1 && post.draws.once_in(3) {
             put_some(alloc, &mut post, &mut testing, &mut suite)?;
+            kept.testing = testing.copy()?;
         }
         take_letters(alloc, setup, &mut facts, &mut post)?;
         push_done(alloc, setup, &mut done, &facts, &mut testing, run)?;
+        run_kept(alloc, setup, &mut kept, &post.texts, run)?;
         suite = push_due(alloc, &mut due, &post, suite, run)?;
     }
-    Ok((done, due))
+    Ok(Reports {
+        going_on: done,
+        restored: kept.text,
+        due,
+    })
 }
 
 #[test]
 fn reasons_as_defined(rt: HostRuntime) -> Result<(), Fail> {
     let setup = Setup::parse(rt.alloc(), SETUP.as_bytes())?;
     'seeds: for seed in 1..201 {
-        let (done, due) = both_texts(rt.alloc(), &setup, Mix::Reasons, seed)?;
-        assert_eq!(rt; done.as_str(), due.as_str(), "seed {seed}");
+        let said = reports_of(rt.alloc(), &setup, Mix::Reasons, seed)?;
+        assert_eq!(rt; said.going_on.as_str(), said.due.as_str(), "seed {seed}");
+        assert_eq!(rt; said.restored.as_str(), said.due.as_str(), "seed {seed}");
     }
     Ok(())
 }
@@ -172,8 +190,9 @@ fn reasons_as_defined(rt: HostRuntime) -> Result<(), Fail> {
 fn moves_as_defined(rt: HostRuntime) -> Result<(), Fail> {
     let setup = Setup::parse(rt.alloc(), SETUP.as_bytes())?;
     'seeds: for seed in 1..201 {
-        let (done, due) = both_texts(rt.alloc(), &setup, Mix::Moves, seed)?;
-        assert_eq!(rt; done.as_str(), due.as_str(), "seed {seed}");
+        let said = reports_of(rt.alloc(), &setup, Mix::Moves, seed)?;
+        assert_eq!(rt; said.going_on.as_str(), said.due.as_str(), "seed {seed}");
+        assert_eq!(rt; said.restored.as_str(), said.due.as_str(), "seed {seed}");
     }
     Ok(())
 }

@@ -53,6 +53,26 @@ impl<'a> Write for Halting<'a> {
     }
 }
 
+/// The line of a message that is longer than any bag.
+const LONGEST: &[u8] = b"mail 999999999\n";
+
+/// Gives that line, and then bytes without end, a byte a read.
+#[derive(Drop)]
+struct Endless {
+    reads: u32,
+}
+
+impl Read for Endless {
+    fn read(&mut self, buf: &mut [u8]) -> io::Result<usize> {
+        if buf.is_empty() {
+            return Ok(0);
+        }
+        buf[0] = LONGEST.get(self.reads as usize).copied().unwrap_or(b'x');
+        self.reads = self.reads.saturating_add(1);
+        Ok(1)
+    }
+}
+
 fn gives<R: Feed>(bag: &mut Bag<R>, message: &[u8]) -> bool {
     match bag.next() {
         Ok(Some(next)) => next.as_slice() == message,
@@ -136,4 +156,14 @@ fn one_call_fails(rt: HostRuntime) {
     assert_eq!(rt; sink.write(b"ab"), Ok(0));
     drop(sink);
     assert_eq!(rt; writer.calls, 2);
+}
+
+#[test]
+fn a_bag_without_an_end(rt: HostRuntime) {
+    let mut reader = Endless { reads: 0 };
+    let mut bag = Bag::new(rt.alloc(), FromRead::new(&mut reader));
+    assert_eq!(rt; bag.next().err(), Some(BagFault::ReadFault));
+    assert!(rt; ends(&mut bag));
+    drop(bag);
+    assert_eq!(rt; reader.reads, 1_000_000);
 }

@@ -3,6 +3,7 @@
 #![tactic(auto)]
 
 #[cfg(test)]
+mod arch_rows;
 mod bag_rows;
 #[cfg(test)]
 mod control_rows;

@@ -1,8 +1,10 @@
 //! The office's program: it reads its arguments, and does what they ask for.
 #![tactic(auto)]
 
-use office_commands::{ArgsFault, args_status, as_texts, read_args, run_command};
-use office_words::{WordsFault, read_words, words_status};
+use office_commands::run_command;
+use office_words::{
+    ArgsFault, WordsFault, args_status, as_texts, read_args, read_words, words_status,
+};
 use std::process::ExitCode;
 
 fn main(rt: HostRuntime) -> ExitCode {

@@ -1,5 +1,5 @@
 -- A store in a file.
-use Rattle.std.specs.Prelude.{ℕ}
+use Rattle.std.specs.Prelude.{ℕ, IsTrue, ◌⊎◌}
 use Rattle.sqlite.specs.Files.{file_state}
 use Rattle.sqlite.specs.Files as files
 use Rattle.sqlite.specs.Held.{Held}
@@ -8,7 +8,9 @@ use Rattle.sqlite.specs.Start.{FindsIn}
 use Rattle.sqlite.specs.declared.FileStore.{FileStore}
 use Rattle.sqlite_disk.specs.declared.Disk.{Ghosts}
 use Rattle.office_mail.specs.Lists.{Lists}
-use Rattle.office_store.specs.Opening.{IsOpened}
+use Rattle.office_store.specs.Layout.{has_none, HasEach}
+use Rattle.office_store.specs.Opening.{IsOpened, IsAlone}
+use Rattle.office_store.specs.Tables.{IsTrusted}
 use Rattle.office_keeper.specs.declared.faults.Cause.TheVariants.{BadRow, Sqlite}
 use Rattle.office_store.specs.declared.opening.OpenFault.{OpenFault}
 use Rattle.office_store.specs.declared.opening.OpenFault.TheVariants as opening
@@ -33,3 +35,12 @@ pub record FindsStore {D : Type 0} {g : Ghosts D} (image : Image) (setup : Lists
   pub opened : files.IsOpened was
   pub found : FindsIn image (file_state was)
   pub office : IsOpened setup (file_state was).now (file_state now).now
+
+-- the database that the files held was opened, it had none of the office's tables or each of them, and the store is trusted
+-- if no other tables stood there
+pub record OpensStore {D : Type 0} {g : Ghosts D} (image : Image) (now : Held (FileStore D g)) : Type 0 where
+  pub was : Held (FileStore D g)
+  pub opened : files.IsOpened was
+  pub found : FindsIn image (file_state was)
+  pub taken : IsTrue (has_none (file_state was).now.schema) ⊎ HasEach (file_state was).now.schema
+  pub trusted : IsAlone (file_state was).now → IsTrusted (file_state now)

@@ -1,17 +1,15 @@
-//! What the office's program does: it compares versions, replays bags of mail from standard input, and serves mail and
+//! What the office's program does with an office: it replays bags of mail from standard input, and serves mail and
 //! reports over HTTP on loopback, over a store in memory or in a file.
 #![tactic(auto)]
 
-mod arguments;
 mod conf;
+mod noted;
 mod service;
 mod store;
 mod tasks;
-mod versions;
+mod timed;
 
-pub use arguments::{ArgsFault, args_status, as_texts, read_args};
 pub use conf::{ConfFault, conf_status, read_setup, setup_status};
 pub use service::{ServiceFault, listen, serve, serve_next, service_status};
 pub use store::{StoreFault, close_store, open_store, open_tables, store_status};
 pub use tasks::run_command;
-pub use versions::{Comparison, Refusal, compare, compare_status};

@@ -1,15 +1,16 @@
 //! The store in a file: its tables are opened, and closed.
 
-ghost use Rattle.std.specs.Prelude.{◌≡◌, IfOk};
+ghost use Rattle.std.specs.Prelude.{◌≡◌, ◌⊎◌, IsTrue, IfOk, OnOk};
 ghost use Rattle.sqlite.specs.Files as files;
 ghost use Rattle.sqlite.specs.Files.{file_state};
-ghost use Rattle.sqlite.specs.Held.{state};
+ghost use Rattle.sqlite.specs.Held.{state, IsNew};
 ghost use Rattle.sqlite.specs.Start.{FindsIn};
 ghost use Rattle.sqlite.specs.State.{HasCleanDisk};
 ghost use Rattle.sqlite.specs.WalFiles.{image_at};
-ghost use Rattle.office_store.specs.Opening.{IsOpened};
-ghost use Rattle.office_store.specs.Tables.{IsTrusted};
-ghost use Rattle.office_commands.specs.Store.{FindsStore, status_of_store, told};
+ghost use Rattle.office_store.specs.Layout.{has_none, HasEach};
+ghost use Rattle.office_store.specs.Opening.{IsOpened, IsAlone};
+ghost use Rattle.office_store.specs.Tables.{IsTrusted, Endures};
+ghost use Rattle.office_commands.specs.Store.{FindsStore, OpensStore, status_of_store, told};
 
 use office_mail::Setup;
 use office_store::{Cause, OpenFault, Tables};
@@ -88,6 +89,9 @@ pub fn open_tables<S: Alter + Drop>(
 ) -> Result<Tables<S>, StoreFault>
     ensures opened { IfOk result (λ tables. IsTrusted (state S.Store tables.0) → IsOpened setup.now (state S.Store conn).now (state S.Store tables.0).now) }
     ensures before { IfOk result (λ tables. IsTrusted (state S.Store tables.0) → IsTrusted (state S.Store conn)) }
+    ensures stays { IfOk result (λ tables. HasCleanDisk (state S.Store tables.0) → IsTrusted (state S.Store conn) → IsAlone (state S.Store conn).now → IsTrusted (state S.Store tables.0)) }
+    ensures lasts { IfOk result (λ tables. Endures (state S.Store conn) (state S.Store tables.0)) }
+    ensures takes { OnOk result (IsTrue (has_none (state S.Store conn).now.schema) ⊎ HasEach (state S.Store conn).now.schema) }
     ensures setup { IfOk result (λ tables. tables.1.0 ≡ setup.now) }
 {
     match Tables::open(alloc, conn, setup) {
@@ -104,6 +108,7 @@ fn open_database<S: Start>(
 ) -> Result<Connection<FileStore<FileFrom<S>>>, StoreFault>
     ensures opened { IfOk result (λ conn. HasCleanDisk (file_state conn) → files.IsOpened conn) }
     ensures found { IfOk result (λ conn. HasCleanDisk (file_state conn) → FindsIn (image_at S.Start) (file_state conn)) }
+    ensures fresh { IfOk result IsNew }
 {
     match Connection::open_from(rt, path, false, start) {
         Ok(conn) => Ok(conn),
@@ -118,6 +123,7 @@ pub fn open_store<S: Start>(
     start: S,
     setup: &Setup,
 ) -> Result<Tables<FileStore<FileFrom<S>>>, StoreFault>
+    ensures opens { IfOk result (λ tables. HasCleanDisk (file_state tables.0) → OpensStore (image_at S.Start) tables.0) }
     ensures finds { IfOk result (λ tables. IsTrusted (file_state tables.0) → FindsStore (image_at S.Start) setup.now tables.0) }
     ensures setup { IfOk result (λ tables. tables.1.0 ≡ setup.now) }
 {

@@ -1,14 +1,15 @@
 //! What the program's words ask for: a comparison, or a replay or a service over a store.
 
 use crate::conf::{conf_status, read_setup};
+use crate::noted::Noted;
 use crate::service::{serve, service_status};
 use crate::store::{StoreFault, close_store, open_store, store_status};
-use crate::versions::compare;
 use office_http::{Office, Replayed, WriteFault, replay, replay_status};
-use office_mail::{Bag, FromRead, Setup, ToWrite};
+use office_mail::{Bag, BagFault, FromRead, Setup, ToWrite};
 use office_store::{Keeper, Plain, Tables};
-use office_words::Words;
+use office_words::{Words, compare};
 use sqlite::{File, FileStore, Unknown};
+use std::io;
 use std::io::{BufWriter, Write};
 
 /// The exit status where memory ran out.
@@ -104,12 +105,14 @@ fn replay_over<K: Keeper>(rt: &HostRuntime, office: &mut Office<K>) -> u8 {
         return out_of_memory(rt);
     };
     let mut writer = ToWrite::new(&mut output);
-    let mut bag = Bag::new(rt.alloc(), FromRead::new(rt.stdin()));
+    let mut input = Noted::new(rt.stdin());
+    let mut bag = Bag::new(rt.alloc(), FromRead::new(&mut input));
     let mut replayed = replay(office, &mut bag, &mut writer);
+    drop(bag);
     if output.flush().is_err() {
         replayed = Err(WriteFault);
     }
-    tell_replay(rt, &replayed);
+    tell_replay(rt, &replayed, input.fault());
     replay_status(&replayed)
 }
 
@@ -128,12 +131,16 @@ fn serve_over<K: Keeper>(
 }
 
 /// Says on standard error what was refused, where something was.
-fn tell_replay(rt: &HostRuntime, replayed: &Result<Replayed, WriteFault>) {
+fn tell_replay(
+    rt: &HostRuntime,
+    replayed: &Result<Replayed, WriteFault>,
+    unread: Option<io::Error>,
+) {
     let _ = match replayed {
         Err(_) => eprintln!(rt; "office: standard output: a write failed"),
         Ok(replayed) => {
             if let Some(fault) = replayed.bag {
-                let _ = eprintln!(rt; "office: standard input: the bag is refused: {fault}");
+                tell_bag(rt, fault, unread);
             }
             if replayed.lost {
                 eprintln!(rt;
@@ -143,5 +150,20 @@ fn tell_replay(rt: &HostRuntime, replayed: &Result<Replayed, WriteFault>) {
                 Ok(())
             }
         }
+    };
+}
+
+/// Says on standard error why a bag was refused, and why a read failed, where one did.
+fn tell_bag(rt: &HostRuntime, fault: BagFault, unread: Option<io::Error>) {
+    let _ = match (fault, unread) {
+        (BagFault::ReadFault, Some(unread)) => {
+            eprintln!(rt; "office: standard input: the bag is refused: a read failed: {unread}")
+        }
+        (BagFault::ReadFault, None) => {
+            eprintln!(rt;
+                "office: standard input: the bag is refused: 1,000,000 reads didn't reach its end"
+            )
+        }
+        _ => eprintln!(rt; "office: standard input: the bag is refused: {fault}"),
     };
 }

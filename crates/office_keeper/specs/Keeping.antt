@@ -1,15 +1,8 @@
 -- What is true of the calls of every keeper.
-use Rattle.std.specs.Prelude.{◌≡◌, ◌+◌, ◌≤◌, ◌^◌, ◌-◌, ℕ, min, Result, Ok, Err}
+use Rattle.std.specs.Prelude.{◌≡◌, ℕ, Result, Ok, Err}
+use Rattle.office_mail.specs.Counts.{HasRisen}
 use Rattle.office_keeper.specs.declared.faults.KeepFault.{KeepFault}
 use Rattle.office_keeper.specs.declared.faults.KeepFault.TheVariants.{NoMemory, Store}
-
--- the greatest count
-abbrev pub most : ℕ
-most = 2 ^ 64 - 1
-
--- a count rose, unless it is the greatest
-abbrev pub HasRisen : ℕ → ℕ → Type 0
-HasRisen before after = min (before + 1) most ≤ after
 
 -- a refusal of the store is counted, and nothing else is
 abbrev pub Counted : {T : Type 0} → ℕ → ℕ → Result T KeepFault → Type 0

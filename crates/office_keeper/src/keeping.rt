@@ -1,10 +1,11 @@
 //! What a store of the office does.
-ghost use Rattle.std.specs.Prelude.{◌≡◌, ◌≢◌, ◌≤◌, ◌+◌, ◌⊎◌, ◌++◌, ◌∷◌, [], ℕ, List, Some, None, Err, length, IfOk, OnOk, OnErr, is_some, not, if◌then◌else◌};
+ghost use Rattle.std.specs.Prelude.{◌≡◌, ◌≢◌, ◌≤◌, ◌+◌, ◌⊎◌, ◌++◌, ◌∷◌, [], ℕ, List, Some, None, Err, length, IfOk, OnOk, OnErr};
 ghost use Rattle.std.specs.FinMap.{get, insert};
+ghost use Rattle.office_mail.specs.Counts.{HasRisen};
 ghost use Rattle.office_mail.specs.Lists.{Lists};
 ghost use Rattle.office_keeper.specs.Content.{Content, reports_in, with_text, with_run, item_from_one, letters_within};
 ghost use Rattle.office_keeper.specs.Provenance.{AreOwnTexts, IsGiven, KnowsArchs};
-ghost use Rattle.office_keeper.specs.Keeping.{Counted, HasRisen};
+ghost use Rattle.office_keeper.specs.Keeping.{Counted};
 
 use crate::faults::{Cause, KeepFault};
 use crate::values::{Finished, Letter, MailText, Reports};
@@ -94,13 +95,12 @@ pub trait Keeper {
         ensures bad { is_trusted self.new → is_legible self.old → AreOwnTexts (setup self.old) (content self.old).kept → result ≢ Err (KeepFault.Store Cause.BadRow) }
         ensures counted { Counted (refusals self.old) (refusals self.new) result };
 
-    /// Makes the next run finished, with its reports and its testing all at once. Each entry of testing that the kept
-    /// one hasn't names a kept message that gives it.
+    /// Makes the next run finished, with its reports and its testing all at once. Testing is kept as it is handed over
+    /// where each entry that the kept one hasn't names a kept message that gives it.
     fn finish(&mut self, run: u32, done: &Finished) -> Result<(), KeepFault>
         requires next { is_trusted self.old → run ≡ length (content self.old).reports + 1 }
         requires known { is_trusted self.old → KnowsArchs (setup self.old).archs done.now.testing.rows }
-        requires given { is_trusted self.old → is_legible self.old → AreOwnTexts (setup self.old) (content self.old).kept → IsGiven (setup self.old) (content self.old) done.now.testing }
-        ensures done { is_trusted self.new → is_legible self.old → AreOwnTexts (setup self.old) (content self.old).kept → OnOk result (content self.new ≡ with_run (content self.old) done.now) }
+        ensures done { is_trusted self.new → is_legible self.old → IsGiven (setup self.old) (content self.old) done.now.testing → OnOk result (content self.new ≡ with_run (content self.old) done.now) }
         ensures mail { is_trusted self.new → (content self.new).kept ≡ (content self.old).kept }
         ensures reports { is_trusted self.new → OnOk result ((content self.new).reports ≡ (content self.old).reports ++ reports_in done.now ∷ []) }
         ensures err { is_trusted self.new → OnErr result (content self.new ≡ content self.old) }
@@ -110,7 +110,7 @@ pub trait Keeper {
         ensures before { is_trusted self.new → is_trusted self.old }
         ensures open { is_clean self.new → is_trusted self.old → OnOk result (is_trusted self.new) }
         ensures shut { is_clean self.new → is_trusted self.old → is_trusted self.new ⊎ HasRisen (disk_faults self.old) (disk_faults self.new) }
-        ensures legible { is_trusted self.new → is_legible self.old → AreOwnTexts (setup self.old) (content self.old).kept → is_legible self.new }
+        ensures legible { is_trusted self.new → is_legible self.old → IsGiven (setup self.old) (content self.old) done.now.testing → is_legible self.new }
         ensures bad { is_trusted self.new → is_legible self.old → AreOwnTexts (setup self.old) (content self.old).kept → result ≢ Err (KeepFault.Store Cause.BadRow) }
         ensures counted { Counted (refusals self.old) (refusals self.new) result };
 
@@ -149,8 +149,7 @@ pub trait Keeper {
     fn take_finished(&mut self, run: u32, done: Finished) -> Result<(), KeepFault>
         requires next { is_trusted self.old → run ≡ length (content self.old).reports + 1 }
         requires known { is_trusted self.old → KnowsArchs (setup self.old).archs done.testing.rows }
-        requires given { is_trusted self.old → is_legible self.old → AreOwnTexts (setup self.old) (content self.old).kept → IsGiven (setup self.old) (content self.old) done.testing }
-        ensures done { is_trusted self.new → is_legible self.old → AreOwnTexts (setup self.old) (content self.old).kept → OnOk result (content self.new ≡ with_run (content self.old) done) }
+        ensures done { is_trusted self.new → is_legible self.old → IsGiven (setup self.old) (content self.old) done.testing → OnOk result (content self.new ≡ with_run (content self.old) done) }
         ensures mail { is_trusted self.new → (content self.new).kept ≡ (content self.old).kept }
         ensures reports { is_trusted self.new → OnOk result ((content self.new).reports ≡ (content self.old).reports ++ reports_in done ∷ []) }
         ensures err { is_trusted self.new → OnErr result (content self.new ≡ content self.old) }
@@ -160,7 +159,7 @@ pub trait Keeper {
         ensures before { is_trusted self.new → is_trusted self.old }
         ensures open { is_clean self.new → is_trusted self.old → OnOk result (is_trusted self.new) }
         ensures shut { is_clean self.new → is_trusted self.old → is_trusted self.new ⊎ HasRisen (disk_faults self.old) (disk_faults self.new) }
-        ensures legible { is_trusted self.new → is_legible self.old → AreOwnTexts (setup self.old) (content self.old).kept → is_legible self.new }
+        ensures legible { is_trusted self.new → is_legible self.old → IsGiven (setup self.old) (content self.old) done.testing → is_legible self.new }
         ensures bad { is_trusted self.new → is_legible self.old → AreOwnTexts (setup self.old) (content self.old).kept → result ≢ Err (KeepFault.Store Cause.BadRow) }
         ensures counted { Counted (refusals self.old) (refusals self.new) result }
     {
@@ -184,23 +183,4 @@ pub trait Keeper {
     {
         self.testing()
     }
-}
-
-/// Keeps a text where its sender's number is free, and says whether it was.
-pub fn keep_if_free<K: Keeper>(
-    keeper: &mut K,
-    sender: u32,
-    number: u32,
-    text: &[u8],
-) -> Result<bool, KeepFault>
-    ensures free { K.is_trusted keeper.new → IfOk result (λ free. free ≡ not (is_some (get (K.content keeper.old).kept (sender, number)))) }
-    ensures kept { K.is_trusted keeper.new → K.is_legible keeper.old → IfOk result (λ free. K.content keeper.new ≡ (if free then with_text (K.content keeper.old) sender number text.now else K.content keeper.old)) }
-    ensures err { K.is_trusted keeper.new → OnErr result (K.content keeper.new ≡ K.content keeper.old) }
-    ensures setup { K.setup keeper.new ≡ K.setup keeper.old }
-{
-    if keeper.find(sender, number)?.is_some() {
-        return Ok(false);
-    }
-    keeper.keep(sender, number, text)?;
-    Ok(true)
 }

@@ -7,6 +7,6 @@ mod memory;
 mod values;
 
 pub use faults::{Cause, KeepFault};
-pub use keeping::{Keeper, keep_if_free};
+pub use keeping::Keeper;
 pub use memory::Plain;
 pub use values::{Finished, Letter, MailText, Reports};

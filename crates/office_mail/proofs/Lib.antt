@@ -11,7 +11,6 @@ pub mod FieldFacts
 pub mod ByteFacts
 pub mod NumberFacts
 pub mod DayFacts
-pub mod DistinctFacts
 pub mod Views
 pub mod SlashFacts
 pub mod AnswerFacts

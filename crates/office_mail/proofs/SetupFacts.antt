@@ -10,22 +10,10 @@ use Rattle.office_mail.specs.declared.setup.Sender.{Sender}
 use Rattle.office_mail.specs.declared.setup.Role.{Role}
 use Rattle.office_mail.specs.declared.setup.SetupFault.{SetupFault}
 use Rattle.office_mail.specs.declared.setup.SetupFault.TheVariants.{BadRoles}
-use Rattle.office_mail.specs.Setup.{are_archs, are_senders, are_roles, count_of, names_of, place_of_role, same_role, sender_in, IsSetup}
+use Rattle.office_mail.specs.Setup.{are_senders, are_roles, count_of, names_of, place_of_role, same_role, sender_in, IsSetup}
 use Rattle.office_mail.specs.Steps.{given, each_of}
-use Rattle.testing_items.specs.Archs.{IsArchs}
-use Rattle.office_mail.proofs.Each.{texts}
-
-pub few_texts : (xs : List (Bor (List ℕ))) → length xs ≤ 16 → length (texts xs) ≤ 16
-few_texts xs few = rw length-map few
-
-pub archs_kept : (names : List (List ℕ)) → are_archs names ≡ true → length names ≤ 16 → IsArchs names
-unfolding are_archs
-archs_kept names good few = record {
-  some = leb-true 1 _ (first_so _ _ (first_so _ _ good));
-  few = few;
-  named = second_so _ _ (first_so _ _ good);
-  distinct = second_so _ _ good;
-}
+use Rattle.testing_items.specs.Archs.{are_archs}
+use Rattle.testing_items.proofs.ArchFacts.{archs_kept}
 
 same_value : (a b : List Sender) (r : Result (List Sender) SetupFault) → r ≡ Ok a → r ≡ Ok b → a ≡ b
 same_value a b r e f = cc

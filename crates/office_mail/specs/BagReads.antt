@@ -6,12 +6,12 @@ use Rattle.office_mail.specs.Bag.{handed}
 use Rattle.office_mail.specs.Reading.{Reading}
 use Rattle.office_mail.specs.declared.bag.BagFault.{BagFault}
 use Rattle.office_mail.specs.declared.bag.BagFault.TheVariants.{BadHeader, Truncated, ReadFault, NoMemory}
-use Rattle.office_mail.specs.BagSteps.{MeetsEnd}
+use Rattle.office_mail.specs.BagSteps.{MeetsEnd, CountsEach}
 
--- the counts go on, each read is one call at most, and the bag is as open as before
+-- the counts go on, each read is one call and each call a read, and the bag is as open as before
 pub record GoesOn (before after : Reading) : Type 0 where
   pub failures : before.failures ≤ after.failures
-  pub reads : before.reads ≤ after.reads
+  pub counts : CountsEach before after
   pub calls : after.calls + before.reads ≤ before.calls + after.reads
   pub room : after.room ≤ before.room
   pub ended : after.ended ≡ before.ended

@@ -1,8 +1,8 @@
 -- What a call on a bag took of the bytes, where they are known, and how it stopped.
-use Rattle.std.specs.Prelude.{◌≡◌, ℕ, ◌⊎◌, Option, Some, None, List, true, false}
+use Rattle.std.specs.Prelude.{◌≡◌, ℕ, ◌+◌, ◌-◌, ◌≤◌, ◌⊎◌, min, Option, Some, None, List, true, false}
 use Rattle.std.specs.Io.KnownBytes.{Consumes, IsAtEnd}
 use Rattle.office_mail.specs.Bag.{HasHeader, EndsSo, framed, handed}
-use Rattle.office_mail.specs.Counts.{HasRisen}
+use Rattle.office_mail.specs.Counts.{HasRisen, most}
 use Rattle.office_mail.specs.Reading.{Reading}
 use Rattle.office_mail.specs.declared.bag.BagFault.{BagFault}
 use Rattle.office_mail.specs.declared.bag.BagFault.TheVariants.{BadHeader, Truncated, ReadFault, NoMemory}
@@ -33,3 +33,9 @@ pub record Stops (before after : Reading) (end : Option BagFault) : Type 0 where
 abbrev pub ReadFails : Reading → Reading → Type 0
 ReadFails before after =
     HasRisen before.failures after.failures ⊎ ((after.reads ≡ 1_000_000) × (after.met_end ≡ false))
+
+-- the bag's reads count on, and each that it counts is a call of the reader: that count rose by as many, up to the
+-- greatest count
+abbrev pub CountsEach : Reading → Reading → Type 0
+CountsEach before after =
+    (before.reads ≤ after.reads) × (min (before.calls + (after.reads - before.reads)) most ≤ after.calls)

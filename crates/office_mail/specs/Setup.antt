@@ -14,7 +14,7 @@ use Rattle.office_mail.specs.declared.setup.SetupFault.TheVariants.{BadParagraph
 use Rattle.office_mail.specs.Lists.{Lists}
 use Rattle.office_mail.specs.Steps.{Paragraph, needs, given, each_of, whole, first_of, rest_of}
 use Rattle.office_mail.specs.Values.{words}
-use Rattle.testing_items.specs.Archs.{is_arch_name, IsArchs}
+use Rattle.testing_items.specs.Archs.{are_archs, IsArchs}
 use Rattle.testing_items.specs.Distinct.{is_distinct}
 
 -- how a field is spelled
@@ -30,10 +30,6 @@ stated p f = given (value_of p (setup_field_name f)) (MissingField f)
 unfoldable pub is_sender_name : List ℕ → Bool
 is_sender_name [] = false
 is_sender_name (c ∷ cs) = nat_le 97 c && nat_le c 122 && list_all is_qualifier_char cs && nat_le (length cs) 31
-
--- architectures: one at least, each with a good name, and none twice
-unfoldable pub are_archs : List (List ℕ) → Bool
-are_archs names = nat_le 1 (length names) && list_all is_arch_name names && is_distinct names
 
 unfoldable pub are_senders : List (List ℕ) → Bool
 are_senders names = list_all is_sender_name names && is_distinct names

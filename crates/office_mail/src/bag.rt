@@ -4,7 +4,7 @@ ghost use Rattle.std.specs.Io.KnownBytes.{Consumes, IsAtEnd, Keeps};
 ghost use Rattle.office_mail.specs.Counts.{HasRisen};
 ghost use Rattle.office_mail.specs.Bag.{header, handed, ReadsOneWay};
 ghost use Rattle.office_mail.specs.Line.{IsLine};
-ghost use Rattle.office_mail.specs.BagSteps.{TakesMessage, Stops, ReadFails};
+ghost use Rattle.office_mail.specs.BagSteps.{TakesMessage, Stops, ReadFails, CountsEach};
 ghost use Rattle.office_mail.specs.BagReads.{TakesBody, GoesOn, Waits, BreaksOff};
 
 use crate::feed::Feed;
@@ -115,7 +115,10 @@ impl<R: Feed> Bag<R> {
 
         ensures failures { self.old.failures ≤ self.new.failures }
         ensures reads { self.new.reads ≤ 1_000_000 }
+        // A call of the reader is counted as a read, and a read that is counted is a call of the reader.
         ensures calls { self.new.calls + self.old.reads ≤ self.old.calls + self.new.reads }
+        ensures counts { CountsEach self.old self.new }
+
         ensures room { IfOk result (λ next. IsSome next → self.new.room < self.old.room) }
     {
         if self.ended {
@@ -333,6 +336,7 @@ fn refill<R: Feed>(reader: &mut R, pending: &mut Vec<u8>) -> Result<bool, BagFau
     ensures clean { IsErrOf result BagFault.ReadFault ⊎ (R.failures reader.new ≡ R.failures reader.old) }
     ensures failures { R.failures reader.old ≤ R.failures reader.new }
     ensures calls { R.calls reader.new ≤ R.calls reader.old + 1 }
+    ensures counts { HasRisen (R.calls reader.old) (R.calls reader.new) }
 {
     pending.clear();
     let mut piece = [0u8; 8192];

@@ -10,10 +10,10 @@ ghost use Rattle.testing_items.specs.declared.item.HintItem.{HintItem as HintIte
 use crate::field::Field;
 use crate::fields::version_from;
 use crate::message::MailFault;
-use crate::values::{are_distinct, days_in, words};
+use crate::values::{days_in, words};
 use deb_control::{Text, index_of, is_package_name, split_around};
 use std::alloc::{AllocError, Global};
-use testing_items::{Hint, HintItem, HintItems, Names};
+use testing_items::{Hint, HintItem, HintItems, Names, are_distinct};
 
 const BAD_HINT: MailFault = MailFault::BadValue(Field::Hint);
 

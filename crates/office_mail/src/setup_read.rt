@@ -3,19 +3,17 @@ ghost use Rattle.std.specs.Prelude.{◌≡◌, ◌∷◌, List, ℕ, map, IfOk};
 ghost use Rattle.std.specs.List.{list_all};
 ghost use Rattle.deb_control.specs.Paragraphs.{reading};
 ghost use Rattle.deb_control.specs.Relations.{is_qualifier_char};
-ghost use Rattle.testing_items.specs.Archs.{is_arch_name, is_reserved};
-ghost use Rattle.deb_control.specs.Binary.{is_architecture};
 ghost use Rattle.office_mail.specs.declared.setup.SetupFault.TheVariants as fault;
 ghost use Rattle.office_mail.specs.Answers.{SetupGives, SetupGivesBy};
-ghost use Rattle.office_mail.specs.Setup.{setup_in, setup_of, setup_by, stated, sender_texts, are_archs, are_senders, is_sender_name, sender_in, are_roles, same_role, count_of};
+ghost use Rattle.office_mail.specs.Setup.{setup_in, setup_of, setup_by, stated, sender_texts, are_senders, is_sender_name, sender_in, are_roles, same_role, count_of};
 ghost use Rattle.office_mail.specs.Steps.{each_of, whole};
 
 use crate::read::all_paragraphs;
 use crate::setup::{Role, Sender, Setup, SetupFault, SetupField};
-use crate::values::{are_distinct, words};
-use deb_control::{Paragraph, ParagraphFault, Text, is_lower_or_digit, is_qualifier_char};
+use crate::values::words;
+use deb_control::{Paragraph, ParagraphFault, Text, is_qualifier_char};
 use std::alloc::{AllocError, Global};
-use testing_items::Archs;
+use testing_items::{Archs, are_archs, are_distinct};
 
 /// What a sender's paragraph states.
 #[derive(Clone, Copy)]
@@ -120,50 +118,10 @@ fn setup_by(
     Ok(Setup::of(Archs::of(archs), senders))
 }
 
-#[tactic(auto, unfolding(crate::specs::Setup::are_archs))]
-fn are_archs(names: &[&str]) -> bool
-    ensures { result ≡ are_archs (map (λ n. n.now) names.now) }
-{
-    !names.is_empty() && are_arch_names(names) && are_distinct(names)
-}
-
-fn are_arch_names(names: &[&str]) -> bool
-    ensures { result ≡ list_all is_arch_name (map (λ n. n.now) names.now) }
-{
-    'names: for name in names {
-        if !is_arch(name) {
-            return false;
-        }
-    }
-    true
-}
-
-fn is_arch(name: &str) -> bool
-    ensures { result ≡ is_arch_name name.now }
-{
-    is_architecture(name.as_bytes()) && !is_reserved(name)
-}
-
-#[tactic(auto, unfolding(deb_control::specs::Binary::is_architecture))]
-fn is_architecture(name: &[u8]) -> bool
-    ensures { result ≡ is_architecture name.now }
-{
-    match name {
-        [first, rest @ ..] => is_lower_or_digit(*first) && are_name_chars(rest) && rest.len() <= 31,
-        [] => false,
-    }
-}
-
 fn are_name_chars(chars: &[u8]) -> bool
     ensures { result ≡ list_all is_qualifier_char chars.now }
 {
     chars.iter().all(|c| is_qualifier_char(*c))
-}
-
-fn is_reserved(name: &str) -> bool
-    ensures { result ≡ is_reserved name.now }
-{
-    name == "all" || name == "any" || name == "source"
 }
 
 #[tactic(auto, unfolding(crate::specs::Setup::are_senders))]

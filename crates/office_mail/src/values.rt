@@ -1,12 +1,10 @@
 //! The values of fields: numbers, days, words, urgencies and severities.
 ghost use Rattle.std.specs.Prelude.{◌≡◌, ◌<◌, ◌&&◌, nat_le, true, length, drop, take, map, IfOk};
 ghost use Rattle.std.specs.Char.{is_ascii_digit, digit_value};
-ghost use Rattle.std.specs.List.{list_all, list_any, position, position_or_len, before_first};
-ghost use Rattle.std.specs.Str.{bytes_eq};
+ghost use Rattle.std.specs.List.{list_all, position, position_or_len, before_first};
 ghost use Rattle.std.specs.Str.Parse.{digits_value};
 ghost use Rattle.deb_control.specs.Text.{is_white};
 ghost use Rattle.office_mail.specs.Calendar.{day_if_real};
-ghost use Rattle.testing_items.specs.Distinct.{is_distinct};
 ghost use Rattle.office_mail.specs.Values.{some_if, is_number, number_in, days_in, words, is_day_form, DayForm, day_in, ends_urgency, urgency_named, urgency_in, severity_in};
 
 use deb_control::{is_white, skip_white};
@@ -91,29 +89,6 @@ fn white_at(bytes: &[u8]) -> Option<usize>
     ensures { result ≡ position is_white bytes.now }
 {
     bytes.iter().position(|c| is_white(*c))
-}
-
-/// Whether no text stands twice.
-pub fn are_distinct(texts: &[&str]) -> bool
-    ensures { result ≡ is_distinct (map (λ t. t.now) texts.now) }
-{
-    'texts: for (i, text) in texts.iter().enumerate() {
-        if contains_text(&texts[i + 1..], text) {
-            return false;
-        }
-    }
-    true
-}
-
-fn contains_text(texts: &[&str], text: &str) -> bool
-    ensures { result ≡ list_any (bytes_eq text.now) (map (λ t. t.now) texts.now) }
-{
-    'texts: for other in texts {
-        if text == *other {
-            return true;
-        }
-    }
-    false
 }
 
 /// The day that a text spells as YYYY-MM-DD, from 1970-01-01 to 9999-12-31.

@@ -1,6 +1,6 @@
 -- How the refusals of a store are counted.
 use Rattle.std.specs.Prelude.{◌≡◌, ℕ, Result, Ok, Err}
-use Rattle.office_keeper.specs.Keeping.{HasRisen}
+use Rattle.office_mail.specs.Counts.{HasRisen}
 use Rattle.office_keeper.specs.declared.faults.KeepFault.{KeepFault}
 use Rattle.office_keeper.specs.declared.faults.KeepFault.TheVariants as keep
 use Rattle.office_mail.specs.declared.message.MailFault.TheVariants as mail

@@ -20,6 +20,7 @@ pub enum Mark {
 }
 
 impl Mark {
+    /// Whether the delivery was lost, for want of memory or by the store.
     pub fn is_lost(self) -> bool
         ensures { result ≡ is_lost self }
     {
@@ -88,6 +89,7 @@ impl Model for Digits {
 }
 
 impl Digits {
+    /// The decimal digits of a number, with no leading zero.
     pub fn of(number: u64) -> Digits
         ensures { result ≡ decimal number }
     {
@@ -103,6 +105,7 @@ impl Digits {
         Digits { bytes, start }
     }
 
+    /// The digits, as ASCII.
     pub fn as_slice(&self) -> &[u8]
         ensures { result.now ≡ self.now }
     {

@@ -2,7 +2,7 @@
 use Rattle.std.proofs.Common.{inl, inr, Bool, false, is_ok, ◌≡◌, ℕ, length, Result, Ok, Err, ap, ◌∙◌, refl, arith}
 use Rattle.office_mail.specs.Lists.{Lists}
 use Rattle.office_keeper.specs.Content.{Content}
-use Rattle.office_keeper.specs.Keeping.{HasRisen}
+use Rattle.office_mail.specs.Counts.{HasRisen}
 use Rattle.office_keeper.specs.declared.keeping.Keeper.{Ghosts}
 use Rattle.office_replies.specs.declared.faults.StoreFault.{StoreFault}
 use Rattle.office_replies.specs.declared.faults.StoreFault.TheVariants.{NoMemory, Store}

@@ -1,6 +1,6 @@
 -- Calls on a store one after another.
 use Rattle.std.proofs.Common.{◌≤◌, ◌⊎◌, inl, inr, ℕ, Bool, true, Result, Ok, Err, OnOk, is_ok, refl, arith}
-use Rattle.office_keeper.specs.Keeping.{HasRisen}
+use Rattle.office_mail.specs.Counts.{HasRisen}
 use Rattle.office_keeper.specs.declared.keeping.Keeper.{Ghosts}
 use Rattle.office_runs.specs.StaysTrusted.{StaysTrusted}
 

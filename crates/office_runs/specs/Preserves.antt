@@ -1,6 +1,6 @@
 -- What a call on an office leaves of what is known of its store.
 use Rattle.std.specs.Prelude.{◌≡◌, ℕ, ◌≤◌, false, min}
-use Rattle.office_keeper.specs.Keeping.{HasRisen, most}
+use Rattle.office_mail.specs.Counts.{HasRisen, most}
 use Rattle.office_keeper.specs.declared.keeping.Keeper.{Ghosts}
 use Rattle.office_runs.specs.StaysTrusted.{StaysTrusted}
 use Rattle.office_runs.specs.State.{IsSound}

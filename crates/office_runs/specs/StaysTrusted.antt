@@ -1,6 +1,6 @@
 -- When a store stays trusted.
 use Rattle.std.specs.Prelude.{◌≡◌, ◌≤◌, ◌⊎◌, Bool, true}
-use Rattle.office_keeper.specs.Keeping.{HasRisen}
+use Rattle.office_mail.specs.Counts.{HasRisen}
 use Rattle.office_keeper.specs.declared.keeping.Keeper.{Ghosts}
 
 -- A call leaves a clean store trusted where it was trusted and the call went well, and otherwise unless the disk failed.

@@ -89,6 +89,7 @@ impl<K: Keeper> Office<K> {
         &self.setup
     }
 
+    /// The allocator that the office was made with.
     pub fn alloc(&self) -> Global {
         self.alloc
     }

@@ -2,7 +2,7 @@
 ghost use Rattle.std.specs.Prelude.{◌≡◌, ◌≤◌, ◌+◌, ◌⊎◌, [], false, Some, IfOk, OnOk, OnErr, IfErr, is_ok};
 ghost use Rattle.std.specs.Io.KnownBytes.{Appends};
 ghost use Rattle.office_mail.specs.Counts.{HasRisen};
-ghost use Rattle.office_mail.specs.BagSteps.{ReadFails};
+ghost use Rattle.office_mail.specs.BagSteps.{ReadFails, CountsEach};
 ghost use Rattle.office_runs.specs.Preserves.{Preserves, Holds, StoreRefused};
 ghost use Rattle.office_runs.specs.Delivered.{DeliversFront};
 ghost use Rattle.office_runs.specs.DeliverySteps.{DeliversAll, DeliversOne, DeliversOneFront, Settles};
@@ -81,6 +81,7 @@ pub(crate) fn deliver_all<K: Keeper, R: Feed, W: Sink>(
     ensures read_clean { IfOk result (λ delivered. (delivered.end ≡ Some BagFault.ReadFault) ⊎ (bag.new.failures ≡ bag.old.failures)) }
     ensures reads { bag.new.reads ≤ 1_000_000 }
     ensures calls { bag.new.calls + bag.old.reads ≤ bag.old.calls + bag.new.reads }
+    ensures counts { CountsEach bag.old bag.new }
 
     ensures cause { OnErr result (HasRisen (W.failures writer.old) (W.failures writer.new)) }
     ensures clean { OnOk result (W.failures writer.new ≡ W.failures writer.old) }
@@ -132,9 +133,10 @@ pub fn replay<K: Keeper, R: Feed, W: Sink>(
     ensures read_cause { IfOk result (λ replayed. replayed.bag ≡ Some BagFault.ReadFault → ReadFails bag.old bag.new) }
     ensures read_clean { IfOk result (λ replayed. (replayed.bag ≡ Some BagFault.ReadFault) ⊎ (bag.new.failures ≡ bag.old.failures)) }
 
-    // At most 1,000,000 reads are made, of at most 8,192 bytes each.
+    // At most 1,000,000 reads are made, of at most 8,192 bytes each. Each that is counted was a call of the reader.
     ensures reads { bag.old.reads ≤ 1_000_000 → bag.new.reads ≤ 1_000_000 }
     ensures calls { bag.new.calls + bag.old.reads ≤ bag.old.calls + bag.new.reads }
+    ensures counts { CountsEach bag.old bag.new }
 
     ensures cause { OnErr result (HasRisen (W.failures writer.old) (W.failures writer.new)) }
     ensures clean { OnOk result (W.failures writer.new ≡ W.failures writer.old) }
@@ -156,6 +158,7 @@ fn replay_bag<K: Keeper, R: Feed, W: Sink>(
     ensures read_clean { IfOk result (λ replayed. (replayed.bag ≡ Some BagFault.ReadFault) ⊎ (bag.new.failures ≡ bag.old.failures)) }
     ensures reads { bag.old.reads ≤ 1_000_000 → bag.new.reads ≤ 1_000_000 }
     ensures calls { bag.new.calls + bag.old.reads ≤ bag.old.calls + bag.new.reads }
+    ensures counts { CountsEach bag.old bag.new }
     ensures cause { OnErr result (HasRisen (W.failures writer.old) (W.failures writer.new)) }
     ensures clean { OnOk result (W.failures writer.new ≡ W.failures writer.old) }
 {
@@ -187,6 +190,7 @@ fn replay_from<K: Keeper, R: Feed, W: Sink>(
     ensures read_clean { IfOk result (λ replayed. (replayed.bag ≡ Some BagFault.ReadFault) ⊎ (bag.new.failures ≡ bag.old.failures)) }
     ensures reads { bag.new.reads ≤ 1_000_000 }
     ensures calls { bag.new.calls + bag.old.reads ≤ bag.old.calls + bag.new.reads }
+    ensures counts { CountsEach bag.old bag.new }
     ensures cause { OnErr result (HasRisen (W.failures writer.old) (W.failures writer.new)) }
     ensures clean { OnOk result (W.failures writer.new ≡ W.failures writer.old) }
 {

@@ -4,7 +4,7 @@
 ghost use Rattle.std.specs.Prelude.{is_ok, ◌≡◌, ◌+◌, ◌<◌, ◌≤◌, ◌++◌, ◌∷◌, [], None, IfOk, OnOk, OnErr, length};
 ghost use Rattle.std.specs.FinMap.{get, insert};
 ghost use Rattle.office_keeper.specs.Content.{with_text, with_run, reports_in, item_from_one, letters_within};
-ghost use Rattle.office_keeper.specs.Provenance.{AreOwnTexts, IsGiven, KnowsArchs};
+ghost use Rattle.office_keeper.specs.Provenance.{IsGiven, KnowsArchs};
 ghost use Rattle.office_replies.specs.Counted.{Counted};
 ghost use Rattle.office_runs.specs.StaysTrusted.{StaysTrusted};
 ghost use Rattle.office_runs.specs.ReadsStore.{ReadsStore};
@@ -91,14 +91,13 @@ pub fn finished<K: Keeper>(keeper: &mut K) -> Result<u32, StoreFault>
 pub fn finish<K: Keeper>(keeper: &mut K, run: u32, done: Finished) -> Result<(), StoreFault>
     requires next { K.is_trusted keeper.old → run ≡ length (K.content keeper.old).reports + 1 }
     requires known { K.is_trusted keeper.old → KnowsArchs (K.setup keeper.old).archs done.testing.rows }
-    requires given { K.is_trusted keeper.old → K.is_legible keeper.old → AreOwnTexts (K.setup keeper.old) (K.content keeper.old).kept → IsGiven (K.setup keeper.old) (K.content keeper.old) done.testing }
-    ensures done { K.is_trusted keeper.new → K.is_legible keeper.old → AreOwnTexts (K.setup keeper.old) (K.content keeper.old).kept → OnOk result (K.content keeper.new ≡ with_run (K.content keeper.old) done) }
+    ensures done { K.is_trusted keeper.new → K.is_legible keeper.old → IsGiven (K.setup keeper.old) (K.content keeper.old) done.testing → OnOk result (K.content keeper.new ≡ with_run (K.content keeper.old) done) }
     ensures mail { K.is_trusted keeper.new → (K.content keeper.new).kept ≡ (K.content keeper.old).kept }
     ensures reports { K.is_trusted keeper.new → OnOk result ((K.content keeper.new).reports ≡ (K.content keeper.old).reports ++ reports_in done ∷ []) }
     ensures err { K.is_trusted keeper.new → OnErr result (K.content keeper.new ≡ K.content keeper.old) }
     ensures setup { K.setup keeper.new ≡ K.setup keeper.old }
     ensures before { K.is_trusted keeper.new → K.is_trusted keeper.old }
-    ensures legible { K.is_trusted keeper.new → K.is_legible keeper.old → AreOwnTexts (K.setup keeper.old) (K.content keeper.old).kept → K.is_legible keeper.new }
+    ensures legible { K.is_trusted keeper.new → K.is_legible keeper.old → IsGiven (K.setup keeper.old) (K.content keeper.old) done.testing → K.is_legible keeper.new }
     ensures lasts { StaysTrusted K.Keeper keeper.old keeper.new (is_ok result) }
     ensures counted { Counted (K.refusals keeper.old) (K.refusals keeper.new) result }
 {

@@ -1,8 +1,9 @@
 -- The schema of the office, part by part.
-use Rattle.std.proofs.Common.{◌≡◌, [], refl, sym, ap, ◌∙◌}
+use Rattle.std.proofs.Common.{◌≡◌, [], refl, sym, ap, subst, ◌∙◌}
 use Rattle.sqlite_tied.specs.Compute.{everything}
 use Rattle.sqlite.specs.Schema.{Schema}
-use Rattle.office_store.specs.Layout.{office_schema}
+use Rattle.sqlite_schema.specs.Names.{same_name}
+use Rattle.office_store.specs.Layout.{office_schema, HasEach}
 use Rattle.office_store.specs.LayoutSteps.{office_tables, office_indexes, mail_index, testing_source_index, testing_row_index}
 
 tables_are : office_schema.tables ≡ office_tables
@@ -26,3 +27,10 @@ whole s tables indexes views =
 
 pub parts : (s : Schema) → s ≡ office_schema → (s.tables ≡ office_tables) × (s.indexes ≡ office_indexes) × (s.views ≡ [])
 parts s is = (ap (λ (x : Schema). x.tables) is ∙ tables_are, ap (λ (x : Schema). x.indexes) is ∙ indexes_are, ap (λ (x : Schema). x.views) is)
+
+each_there : HasEach office_schema
+unfolding everything same_name
+each_there = record { has_office = refl; has_mail = refl; has_run = refl; has_source = refl; has_row = refl }
+
+pub each : (s : Schema) → s ≡ office_schema → HasEach s
+each s is = subst HasEach (sym is) each_there

@@ -1,5 +1,5 @@
 -- What a statement leaves of a connection that is ours.
-use Rattle.std.proofs.Common.{◌≡◌, ◌⊎◌, inl, inr, ℕ, List, Some, None, Ok, Err, Result, IsTrue, sym, ap, subst, ◌∙◌, arith}
+use Rattle.std.proofs.Common.{◌≡◌, ◌⊎◌, inl, inr, ℕ, List, Some, None, Ok, Err, Result, IsTrue, refl, sym, ap, subst, ◌∙◌, arith}
 use Rattle.std.proofs.Common.{◌≤◌, IfOk, IfErr, OnOk}
 use Rattle.sqlite_trees.specs.View.{doubt}
 use Rattle.sqlite.specs.Order.{Row}
@@ -11,9 +11,9 @@ use Rattle.sqlite.specs.State.{State, HasCleanDisk, IsUnchanged, IsRolledBack, I
 use Rattle.sqlite.specs.Clock.{timed}
 use Rattle.sqlite.proofs.Callers.{IsPlain}
 use Rattle.office_store.specs.Layout.{office_schema}
-use Rattle.office_store.specs.Tables.{IsTrusted, IsOurs}
-use Rattle.office_store.specs.TableSteps.{Same, Lasts}
-use Rattle.office_keeper.specs.Keeping.{HasRisen}
+use Rattle.office_store.specs.Tables.{IsTrusted, IsOurs, Endures, Lasts}
+use Rattle.office_store.specs.TableSteps.{Same}
+use Rattle.office_mail.specs.Counts.{HasRisen}
 use Rattle.sqlite_trees.specs.Tree.{Trees}
 
 -- the database stands as it was, or as the last commit left it
@@ -78,6 +78,7 @@ shown_is_open old new sql params rows h = shown_stays_open old new sql h.0 _ row
 -- what `query_all` says of a call
 pub record Asked {R : Type 0} (items : R → List Row) (sql : List ℕ) (params : Row) (old new : State) (result : Result R Error) : Type 0 where
   pub clean : doubt old.is_clean ≤ doubt new.is_clean
+  pub limit : new.step_limit ≡ old.step_limit
   pub ok : HasCleanDisk new → IfOk result (λ rows. Shown sql params old new (items rows))
   pub err : HasCleanDisk new → IfErr result (FailsToQuery sql params old new)
 
@@ -87,7 +88,7 @@ module _ {R : Type 0} (items : R → List Row) (sql : List ℕ) (params : Row) (
   open_before (Err e) now ok err = stays_open old new now (query_stays old new sql params e err)
 
   pub asked_before : (result : Result R Error) → Asked items sql params old new result → IsTrusted new → IsTrusted old
-  asked_before result asked trusted = (omega (arith, asked.clean, trusted.0), open_before result trusted.1 (asked.ok trusted.0) (asked.err trusted.0))
+  asked_before result asked trusted = (omega (arith, asked.clean, trusted.0), open_before result trusted.1 (asked.ok trusted.0) (asked.err trusted.0), sym asked.limit ∙ trusted.2)
 
   same_after : (result : Result R Error) → IsTrue new.is_open → IsOurs old → IsPlain (understood office_schema sql) → IfOk result (λ rows. Shown sql params old new (items rows)) → IfErr result (FailsToQuery sql params old new) → Same old new
   same_after (Ok rows) now ours plain ok err = stays_same old new now ours (inl (shown_unchanged old new sql params (items rows) ours.schema plain ok))
@@ -100,17 +101,17 @@ module _ {R : Type 0} (items : R → List Row) (sql : List ℕ) (params : Row) (
   asked_rows P (Ok rows) asked trusted gives = gives (items rows) (asked.ok trusted.0)
   asked_rows P (Err e) asked trusted gives = tt
 
-  pub asked_open : (result : Result R Error) → Asked items sql params old new result → HasCleanDisk new → OnOk result (IsTrusted new)
-  asked_open (Ok rows) asked clean = (clean, shown_is_open old new sql params (items rows) (asked.ok clean))
-  asked_open (Err e) asked clean = tt
+  pub asked_open : (result : Result R Error) → Asked items sql params old new result → HasCleanDisk new → IsTrusted old → OnOk result (IsTrusted new)
+  asked_open (Ok rows) asked clean trusted = (clean, shown_is_open old new sql params (items rows) (asked.ok clean), asked.limit ∙ trusted.2)
+  asked_open (Err e) asked clean trusted = tt
 
 -- ---- what lasts over several calls
 
 pub lasts_survived : {C : Trees → Type 0} (old new : State) → Survives old new C → Lasts old new
-lasts_survived old new it = record { clean = it.clean; counts = it.counts; closes = it.closes }
+lasts_survived old new it = record { endures = record { clean = it.clean; counts = it.counts; closes = it.closes }; limit = it.limit }
 
 pub lasts_same : (s : State) → Lasts s s
-lasts_same s = record { clean = omega arith; counts = omega arith; closes = λ clean is_open. inl is_open }
+lasts_same s = record { endures = record { clean = omega arith; counts = omega arith; closes = λ clean is_open. inl is_open }; limit = refl }
 
 risen_later : (a b c : ℕ) → HasRisen a b → b ≤ c → HasRisen a c
 risen_later a b c h up = omega (arith, h, up)
@@ -118,8 +119,8 @@ risen_later a b c h up = omega (arith, h, up)
 risen_after : (a b c : ℕ) → a ≤ b → HasRisen b c → HasRisen a c
 risen_after a b c up h = omega (arith, h, up)
 
-pub lasts_then : (a b c : State) → Lasts a b → Lasts b c → Lasts a c
-lasts_then a b c first second = record {
+pub endures_then : (a b c : State) → Endures a b → Endures b c → Endures a c
+endures_then a b c first second = record {
   clean = omega (arith, first.clean, second.clean);
   counts = omega (arith, first.counts, second.counts);
   closes = λ clean is_open. elim (first.closes (omega (arith, clean, second.clean)) is_open) [
@@ -131,13 +132,16 @@ lasts_then a b c first second = record {
   ];
 }
 
+pub lasts_then : (a b c : State) → Lasts a b → Lasts b c → Lasts a c
+lasts_then a b c first second = record { endures = endures_then a b c first.endures second.endures; limit = second.limit ∙ first.limit }
+
 -- a call leaves the connection trusted, or a fault of the disk was counted
 pub lasts_shut : (old new : State) → Lasts old new → HasCleanDisk new → IsTrusted old → IsTrusted new ⊎ HasRisen old.faults new.faults
-lasts_shut old new lasts clean trusted = elim (lasts.closes clean trusted.1) [
-  | inl still ↦ inl (clean, still)
+lasts_shut old new lasts clean trusted = elim (lasts.endures.closes clean trusted.1) [
+  | inl still ↦ inl (clean, still, lasts.limit ∙ trusted.2)
   | inr risen ↦ inr risen
 ]
 
 -- the disk was clean before, where it is after
 pub clean_before : (old new : State) → Lasts old new → HasCleanDisk new → HasCleanDisk old
-clean_before old new lasts clean = omega (arith, lasts.clean, clean)
+clean_before old new lasts clean = omega (arith, lasts.endures.clean, clean)

@@ -1,5 +1,5 @@
 -- What a statement within a transaction leaves.
-use Rattle.std.proofs.Common.{◌≡◌, ◌≤◌, inl, inr, ℕ, List, false, Ok, Err, Result, OnOk, IsTrue, refl, arith}
+use Rattle.std.proofs.Common.{◌≡◌, ◌≤◌, inl, inr, ℕ, List, false, Ok, Err, Result, OnOk, IsTrue, refl, sym, ◌∙◌, arith}
 use Rattle.std.proofs.lemmas.Bool.{cases_Bool}
 use Rattle.sqlite_trees.specs.View.{doubt}
 use Rattle.sqlite.specs.Order.{Row}
@@ -13,6 +13,7 @@ use Rattle.sqlite.specs.Tree.{Trees}
 -- what `execute` of a transaction says of a call
 pub record Stepped (sql : List ℕ) (params : Row) (old new : State) (result : Result ℕ Error) : Type 0 where
   pub clean : doubt old.is_clean ≤ doubt new.is_clean
+  pub limit : new.step_limit ≡ old.step_limit
   pub ended : old.in_transaction ≡ false → (e : Error) × (result ≡ Err e)
   pub runs : HasCleanDisk new → IsTrue old.in_transaction → ExecutesInside 0 sql params old new result
 
@@ -24,7 +25,7 @@ module _ (sql : List ℕ) (params : Row) (old new : State) where
   open_before (Err e) now (inr h) = h.2.0.was_open
 
   pub step_before : (result : Result ℕ Error) → Stepped sql params old new result → IsTrue old.in_transaction → IsTrusted new → IsTrusted old
-  step_before result h begun trusted = (omega (arith, h.clean, trusted.0), open_before result trusted.1 (h.runs trusted.0 begun))
+  step_before result h begun trusted = (omega (arith, h.clean, trusted.0), open_before result trusted.1 (h.runs trusted.0 begun), sym h.limit ∙ trusted.2)
 
   pub step_on : (count : ℕ) → Stepped sql params old new (Ok count) → IsTrue old.in_transaction → IsTrusted new → Executes sql params old new (Ok count) × (new.committed ≡ old.committed) × IsTrue new.in_transaction
   step_on count h begun trusted = let ran = h.runs trusted.0 begun in (ran.0, ran.1.committed_is, rw ran.1.mode refl)
@@ -62,9 +63,9 @@ module _ (sql : List ℕ) (params : Row) (old new : State) where
   step_gives P (Ok count) h trusted inside gives = (went_well P count h trusted inside (gives count)).1
   step_gives P (Err e) h trusted inside gives = tt
 
-  pub step_open : (result : Result ℕ Error) → Stepped sql params old new result → HasCleanDisk new → OnOk result (IsTrusted new)
-  step_open (Ok count) h clean = (clean, (h.runs clean (begun_ok count h)).1.is_open)
-  step_open (Err e) h clean = tt
+  pub step_open : (result : Result ℕ Error) → Stepped sql params old new result → HasCleanDisk new → IsTrusted old → OnOk result (IsTrusted new)
+  step_open (Ok count) h clean trusted = (clean, (h.runs clean (begun_ok count h)).1.is_open, h.limit ∙ trusted.2)
+  step_open (Err e) h clean trusted = tt
 
 -- What a loop of steps within a transaction keeps.
 

@@ -4,7 +4,7 @@ use Rattle.sqlite.specs.Table.{Table}
 use Rattle.sqlite_schema.specs.declared.schema.Index.{Index}
 use Rattle.sqlite_value.specs.Keys.{plain}
 use Rattle.std.specs.Prelude.{true, false, [], ◌∷◌, Some, None, codes, List, ℕ, ◌≡◌}
-use Rattle.office_store.specs.Layout.{office, mail, run, testing_source, testing_row}
+use Rattle.office_store.specs.Layout.{office, mail, run, testing_source, testing_row, standing}
 
 -- a table has no CHECK, no default that is computed, and no AUTOINCREMENT
 pub record IsBare (table : Table) : Type 0 where
@@ -37,10 +37,6 @@ pub record IsKeyed (places : List ℕ) (table : Table) : Type 0 where
 -- the index of the only key of a table
 abbrev pub key_index : List ℕ → ℕ → ℕ → List ℕ → Index
 key_index name tree table places = record { name = name; tree = tree; table = table; columns = places; order = plain; is_unique = true }
-
--- a table in its tree
-abbrev pub standing : Table → ℕ → Table
-standing table tree = record table { tree = tree }
 
 -- the tables in their trees, and the indexes of their keys
 unfoldable pub office_tables : List Table

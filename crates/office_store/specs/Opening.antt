@@ -77,3 +77,7 @@ pub record IsKeptForOther (setup : Lists) (db : Database) : Type 0 where
 pub record IsUnknown (db : Database) : Type 0 where
   pub used : db.schema ≢ no_schema
   pub unkept : (setup : Lists) → IsKeptFor setup db → ⊥
+
+-- it has no table at all, or the office's five and no others
+abbrev pub IsAlone : Database → Type 0
+IsAlone db = (db.schema ≡ no_schema) ⊎ (db.schema ≡ office_schema)

@@ -1,7 +1,7 @@
 -- Steps: no contract of a call that users make rests on this file.
 -- What the statements on mail, on the office and on runs show of the tables and make of them.
 use Rattle.std.specs.Ordering.{is_eq, is_ge, is_le}
-use Rattle.std.specs.Prelude.{◌≡◌, ◌≤◌, ◌<◌, ◌+◌, ◌⊎◌, ◌&&◌, Bool, Contains, length, filter, filter_map, ℕ, pos, List, [], ◌∷◌, Option, Some, None, IsTrue, IsSome, true, false, nat_le}
+use Rattle.std.specs.Prelude.{◌≡◌, ◌≤◌, ◌<◌, ◌+◌, ◌&&◌, Bool, Contains, length, filter, filter_map, ℕ, pos, List, [], ◌∷◌, Option, Some, None, IsTrue, IsSome, true, false, nat_le}
 use Rattle.std.specs.FinMap.{get, insert}
 use Rattle.office_keeper.specs.declared.values.Letter.{Letter}
 use Rattle.office_keeper.specs.declared.values.Reports.{Reports}
@@ -10,19 +10,11 @@ use Rattle.sqlite_rules.specs.Lists.{Has}
 use Rattle.sqlite_rules.specs.Edit.{is_taken}
 use Rattle.sqlite.specs.Order.{Row, column, value_cmp}
 use Rattle.sqlite.specs.Tree.{Trees, put_row}
-use Rattle.sqlite.specs.State.{State, HasCleanDisk}
-use Rattle.sqlite_trees.specs.View.{doubt}
+use Rattle.sqlite.specs.State.{State}
 use Rattle.sqlite.specs.declared.types.Value.TheVariants.{Int, Text, Blob}
 use Rattle.office_mail.specs.Kept.{Place}
-use Rattle.office_keeper.specs.Keeping.{HasRisen}
 use Rattle.office_store.specs.Layout.{office_schema}
 use Rattle.office_store.specs.Tables.{IsOurs, IsWhole, number_in, bytes_in, letter_by, letter_in, office_in, said_in, run_in, run_map}
-
--- no fault of the disk is forgotten, and only such a fault shuts the connection
-pub record Lasts (old new : State) : Type 0 where
-  pub clean : doubt old.is_clean ≤ doubt new.is_clean
-  pub counts : old.faults ≤ new.faults
-  pub closes : HasCleanDisk new → IsTrue old.is_open → IsTrue new.is_open ⊎ HasRisen old.faults new.faults
 
 -- a call has left the tables as they were
 pub record Same (old new : State) : Type 0 where

@@ -1,20 +1,35 @@
 -- The tables of an office, and what they say.
 use Rattle.std.specs.Ordering.{nat_cmp}
 use Rattle.std.specs.declared.cmp.Ordering.{Ordering}
-use Rattle.std.specs.Prelude.{◌≡◌, length, filter_map, ℕ, pos, negsuc, List, Option, Some, None, IsTrue, false, nat_lt, if◌then◌else◌}
+use Rattle.std.specs.Prelude.{◌≡◌, ◌≤◌, ◌⊎◌, length, filter_map, ℕ, pos, negsuc, List, Option, Some, None, IsTrue, false, nat_lt, if◌then◌else◌}
 use Rattle.std.specs.FinMap.{FinMap, find, len, from_entries}
 use Rattle.office_keeper.specs.declared.values.Reports.{Reports}
 use Rattle.office_store.specs.declared.said.Said.{Said}
 use Rattle.sqlite.specs.Order.{Row, column}
 use Rattle.sqlite.specs.State.{State, HasCleanDisk}
+use Rattle.sqlite_trees.specs.View.{doubt}
+use Rattle.office_mail.specs.Counts.{HasRisen}
 use Rattle.sqlite.specs.declared.types.Value.{Value}
 use Rattle.sqlite.specs.declared.types.Value.TheVariants.{Null, Int, Real, Text, Blob}
 use Rattle.office_mail.specs.Kept.{Kept, Place}
 use Rattle.office_store.specs.Layout.{office_schema}
 
--- Nobody else writes the tables, the disk returns what was written, and no fault of the disk has shut the connection.
+-- Nobody else writes the tables, the disk returns what was written, no fault of the disk has shut the connection, and no
+-- limit is set on the steps of a statement. An open sets one, which none reaches, where other tables stand beside the
+-- office's: so nothing is promised of what is kept there.
 abbrev pub IsTrusted : State → Type 0
-IsTrusted s = HasCleanDisk s × IsTrue s.is_open
+IsTrusted s = HasCleanDisk s × IsTrue s.is_open × (s.step_limit ≡ None)
+
+-- no fault of the disk is forgotten, and only such a fault shuts the connection
+pub record Endures (old new : State) : Type 0 where
+  pub clean : doubt old.is_clean ≤ doubt new.is_clean
+  pub counts : old.faults ≤ new.faults
+  pub closes : HasCleanDisk new → IsTrue old.is_open → IsTrue new.is_open ⊎ HasRisen old.faults new.faults
+
+-- so it is, and the limit on the steps of a statement stays
+pub record Lasts (old new : State) : Type 0 where
+  pub endures : Endures old new
+  pub limit : new.step_limit ≡ old.step_limit
 
 -- between calls: the five tables and no others, no transaction, and nothing that isn't committed
 pub record IsOurs (s : State) : Type 0 where

@@ -3,8 +3,8 @@ ghost use Rattle.std.specs.Prelude.{◌≡◌, ◌≢◌, Err, Some, OnOk, OnErr
 ghost use Rattle.std.specs.Str.{IsUtf8};
 ghost use Rattle.sqlite.specs.Held.{state};
 ghost use Rattle.sqlite.specs.State.{HasCleanDisk};
-ghost use Rattle.office_store.specs.Tables.{IsTrusted, IsOurs, said_in};
-ghost use Rattle.office_store.specs.TableSteps.{Lasts, IsInside, WentOn};
+ghost use Rattle.office_store.specs.Tables.{IsTrusted, IsOurs, said_in, Lasts};
+ghost use Rattle.office_store.specs.TableSteps.{IsInside, WentOn};
 ghost use Rattle.office_store.specs.Legible.{SaysOnce};
 ghost use Rattle.testing_model.specs.InOrder.{IsInOrder};
 ghost use Rattle.office_store.specs.Finishing.{WritesRun, FinishesRun, with_count};

@@ -1,7 +1,8 @@
-//! Whether a database has the office's tables and no others, column by column.
+//! Whether a database has the office's tables, column by column, alone or beside others.
 ghost use Rattle.std.specs.Prelude.{◌≡◌, ◌↔◌, [], ◌∷◌, codes, IsTrue, IfOk};
-ghost use Rattle.office_store.specs.Layout.{column_by, to_mail, office, mail, run, testing_source, testing_row, no_schema, office_schema};
-ghost use Rattle.office_store.specs.LayoutSteps.{key_index, IsBare, IsAt, IsNumbered, IsKeyed, standing, office_tables, office_indexes, mail_index, testing_source_index, testing_row_index};
+ghost use Rattle.std.specs.Option.{option_copied};
+ghost use Rattle.office_store.specs.Layout.{column_by, to_mail, office, mail, run, testing_source, testing_row, no_schema, office_schema, standing, is_free, has_none, table_by, IsFound, HasEach};
+ghost use Rattle.office_store.specs.LayoutSteps.{key_index, IsBare, IsAt, IsNumbered, IsKeyed, office_tables, office_indexes, mail_index, testing_source_index, testing_row_index};
 ghost use Rattle.sqlite_value.specs.Keys.{plain};
 
 use sqlite_items::Items;
@@ -225,65 +226,65 @@ fn is_key_index(index: &Index, name: &[u8], tree: u32, table: u32, places: &[usi
         && index.is_unique
 }
 
-/// Whether a table is the office's.
-fn is_office(alloc: Global, table: &Table) -> Result<bool, AllocError>
-    ensures { IfOk result (λ same. IsTrue same ↔ (table.now ≡ standing office 0)) }
+/// Whether a table is the office's, in this tree.
+fn is_office(alloc: Global, table: &Table, tree: u32) -> Result<bool, AllocError>
+    ensures { IfOk result (λ same. IsTrue same ↔ (table.now ≡ standing office tree)) }
 {
     Ok(
         is_bare(alloc, table)?
-            && is_at(table, b"office", 0)
+            && is_at(table, b"office", tree)
             && are_of_office(table.columns.as_slice())
             && is_numbered(table)
             && table.references.is_empty(),
     )
 }
 
-/// Whether a table is that of mail.
-fn is_mail(alloc: Global, table: &Table) -> Result<bool, AllocError>
-    ensures { IfOk result (λ same. IsTrue same ↔ (table.now ≡ standing mail 1)) }
+/// Whether a table is that of mail, in this tree.
+fn is_mail(alloc: Global, table: &Table, tree: u32) -> Result<bool, AllocError>
+    ensures { IfOk result (λ same. IsTrue same ↔ (table.now ≡ standing mail tree)) }
 {
     Ok(
         is_bare(alloc, table)?
-            && is_at(table, b"mail", 1)
+            && is_at(table, b"mail", tree)
             && are_of_mail(table.columns.as_slice())
             && is_keyed(table, &[1, 2])
             && table.references.is_empty(),
     )
 }
 
-/// Whether a table is that of finished runs.
-fn is_run(alloc: Global, table: &Table) -> Result<bool, AllocError>
-    ensures { IfOk result (λ same. IsTrue same ↔ (table.now ≡ standing run 3)) }
+/// Whether a table is that of finished runs, in this tree.
+fn is_run(alloc: Global, table: &Table, tree: u32) -> Result<bool, AllocError>
+    ensures { IfOk result (λ same. IsTrue same ↔ (table.now ≡ standing run tree)) }
 {
     Ok(
         is_bare(alloc, table)?
-            && is_at(table, b"run", 3)
+            && is_at(table, b"run", tree)
             && are_of_run(table.columns.as_slice())
             && is_numbered(table)
             && table.references.is_empty(),
     )
 }
 
-/// Whether a table is that of testing's sources.
-fn is_testing_source(alloc: Global, table: &Table) -> Result<bool, AllocError>
-    ensures { IfOk result (λ same. IsTrue same ↔ (table.now ≡ standing testing_source 4)) }
+/// Whether a table is that of testing's sources, in this tree.
+fn is_testing_source(alloc: Global, table: &Table, tree: u32) -> Result<bool, AllocError>
+    ensures { IfOk result (λ same. IsTrue same ↔ (table.now ≡ standing testing_source tree)) }
 {
     Ok(
         is_bare(alloc, table)?
-            && is_at(table, b"testing_source", 4)
+            && is_at(table, b"testing_source", tree)
             && are_of_testing_source(table.columns.as_slice())
             && is_keyed(table, &[1])
             && refers_to_mail(table.references.as_slice(), &[2, 3]),
     )
 }
 
-/// Whether a table is that of testing's rows.
-fn is_testing_row(alloc: Global, table: &Table) -> Result<bool, AllocError>
-    ensures { IfOk result (λ same. IsTrue same ↔ (table.now ≡ standing testing_row 6)) }
+/// Whether a table is that of testing's rows, in this tree.
+fn is_testing_row(alloc: Global, table: &Table, tree: u32) -> Result<bool, AllocError>
+    ensures { IfOk result (λ same. IsTrue same ↔ (table.now ≡ standing testing_row tree)) }
 {
     Ok(
         is_bare(alloc, table)?
-            && is_at(table, b"testing_row", 6)
+            && is_at(table, b"testing_row", tree)
             && are_of_testing_row(table.columns.as_slice())
             && is_keyed(table, &[1, 2])
             && refers_to_mail(table.references.as_slice(), &[3, 4]),
@@ -297,11 +298,11 @@ fn are_tables(alloc: Global, tables: &[Table]) -> Result<bool, AllocError>
 {
     match tables {
         [office, mail, run, source, row] => Ok(
-            is_office(alloc, office)?
-                && is_mail(alloc, mail)?
-                && is_run(alloc, run)?
-                && is_testing_source(alloc, source)?
-                && is_testing_row(alloc, row)?,
+            is_office(alloc, office, 0)?
+                && is_mail(alloc, mail, 1)?
+                && is_run(alloc, run, 3)?
+                && is_testing_source(alloc, source, 4)?
+                && is_testing_row(alloc, row, 6)?,
         ),
         _ => Ok(false),
     }
@@ -359,4 +360,95 @@ pub(crate) fn is_fresh(schema: &Schema) -> bool
     ensures { IsTrue result ↔ (schema.now ≡ no_schema) }
 {
     schema.tables.is_empty() && schema.indexes.is_empty() && schema.views.is_empty()
+}
+
+/// Whether no table, index or view has a name.
+fn is_free(schema: &Schema, name: &[u8]) -> bool
+    ensures { result ≡ is_free name.now schema.now }
+{
+    schema.table_named(name).is_none()
+        && schema.index_named(name).is_none()
+        && schema.view_named(name).is_none()
+}
+
+/// Whether no name of the office's five tables is taken.
+pub(crate) fn has_none(schema: &Schema) -> bool
+    ensures { result ≡ has_none schema.now }
+{
+    is_free(schema, b"office")
+        && is_free(schema, b"mail")
+        && is_free(schema, b"run")
+        && is_free(schema, b"testing_source")
+        && is_free(schema, b"testing_row")
+}
+
+/// The table of a name.
+fn table_by<'a>(schema: &'a Schema, name: &[u8]) -> Option<&'a Table>
+    ensures { option_copied result ≡ table_by name.now schema.now }
+{
+    let at = schema.table_named(name)?;
+    schema.tables.as_slice().get(at)
+}
+
+/// Whether the office's table is there, in whatever tree.
+fn has_office(alloc: Global, schema: &Schema) -> Result<bool, AllocError>
+    ensures { IfOk result (λ has. IsTrue has ↔ IsFound office (table_by (codes "office") schema.now)) }
+{
+    match table_by(schema, b"office") {
+        Some(table) => is_office(alloc, table, table.tree),
+        None => Ok(false),
+    }
+}
+
+/// Whether the table of mail is there, in whatever tree.
+fn has_mail(alloc: Global, schema: &Schema) -> Result<bool, AllocError>
+    ensures { IfOk result (λ has. IsTrue has ↔ IsFound mail (table_by (codes "mail") schema.now)) }
+{
+    match table_by(schema, b"mail") {
+        Some(table) => is_mail(alloc, table, table.tree),
+        None => Ok(false),
+    }
+}
+
+/// Whether the table of finished runs is there, in whatever tree.
+fn has_run(alloc: Global, schema: &Schema) -> Result<bool, AllocError>
+    ensures { IfOk result (λ has. IsTrue has ↔ IsFound run (table_by (codes "run") schema.now)) }
+{
+    match table_by(schema, b"run") {
+        Some(table) => is_run(alloc, table, table.tree),
+        None => Ok(false),
+    }
+}
+
+/// Whether the table of testing's sources is there, in whatever tree.
+fn has_testing_source(alloc: Global, schema: &Schema) -> Result<bool, AllocError>
+    ensures { IfOk result (λ has. IsTrue has ↔ IsFound testing_source (table_by (codes "testing_source") schema.now)) }
+{
+    match table_by(schema, b"testing_source") {
+        Some(table) => is_testing_source(alloc, table, table.tree),
+        None => Ok(false),
+    }
+}
+
+/// Whether the table of testing's rows is there, in whatever tree.
+fn has_testing_row(alloc: Global, schema: &Schema) -> Result<bool, AllocError>
+    ensures { IfOk result (λ has. IsTrue has ↔ IsFound testing_row (table_by (codes "testing_row") schema.now)) }
+{
+    match table_by(schema, b"testing_row") {
+        Some(table) => is_testing_row(alloc, table, table.tree),
+        None => Ok(false),
+    }
+}
+
+/// Whether each of the office's five tables is there, whatever else is.
+pub(crate) fn has_each(alloc: Global, schema: &Schema) -> Result<bool, AllocError>
+    ensures { IfOk result (λ all. IsTrue all ↔ HasEach schema.now) }
+{
+    Ok(
+        has_office(alloc, schema)?
+            && has_mail(alloc, schema)?
+            && has_run(alloc, schema)?
+            && has_testing_source(alloc, schema)?
+            && has_testing_row(alloc, schema)?,
+    )
 }

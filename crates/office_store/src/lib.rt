@@ -14,8 +14,6 @@ mod schema;
 mod setup_text;
 mod testing;
 
-pub use office_keeper::{
-    Cause, Finished, KeepFault, Keeper, Letter, MailText, Plain, Reports, keep_if_free,
-};
+pub use office_keeper::{Cause, Finished, KeepFault, Keeper, Letter, MailText, Plain, Reports};
 pub use on_sqlite::Tables;
 pub use opening::OpenFault;

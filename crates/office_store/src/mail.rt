@@ -7,8 +7,8 @@ ghost use Rattle.sqlite.specs.Order.{column};
 ghost use Rattle.sqlite.specs.declared.types.Value.TheVariants.{Int, Blob};
 ghost use Rattle.sqlite.specs.Held.{state};
 ghost use Rattle.sqlite.specs.State.{HasCleanDisk};
-ghost use Rattle.office_store.specs.Tables.{IsTrusted, IsOurs, kept_rows};
-ghost use Rattle.office_store.specs.TableSteps.{Lasts, IsInside, WentOn, Same, AddsLetter, IsCrowded, IsOnly, is_at, is_between, letter_columns, shown_letter, letter_entry, ShowsLetters, rises_from};
+ghost use Rattle.office_store.specs.Tables.{IsTrusted, IsOurs, kept_rows, Lasts};
+ghost use Rattle.office_store.specs.TableSteps.{IsInside, WentOn, Same, AddsLetter, IsCrowded, IsOnly, is_at, is_between, letter_columns, shown_letter, letter_entry, ShowsLetters, rises_from};
 
 use crate::faults::unread;
 use office_keeper::{Cause, KeepFault, Letter, MailText};

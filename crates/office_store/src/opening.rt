@@ -1,19 +1,21 @@
 //! Opening an office's tables in a database, fresh or kept.
-ghost use Rattle.std.specs.Prelude.{◌≡◌, ◌≢◌, Some, None, Err, IfOk, IfErr, OnOk, OnErr};
+ghost use Rattle.std.specs.Prelude.{◌≡◌, ◌≢◌, ◌⊎◌, false, IsTrue, Some, None, Err, IfOk, IfErr, OnOk, OnErr};
 ghost use Rattle.std.specs.Option.{option_copied};
 ghost use Rattle.sqlite.specs.Order.{column};
 ghost use Rattle.sqlite.specs.Held.{state};
+ghost use Rattle.sqlite.specs.State.{HasCleanDisk};
 ghost use Rattle.office_mail.specs.Lists.{Lists};
-ghost use Rattle.office_store.specs.Tables.{IsTrusted, IsOurs, number_in, text_in};
+ghost use Rattle.office_store.specs.Tables.{IsTrusted, IsOurs, number_in, text_in, Endures, Lasts};
 ghost use Rattle.office_store.specs.TableSteps.{Same};
-ghost use Rattle.office_store.specs.Opening.{open_fault, text_by, shown_office, text_of_one, kept_text, lists_by, IsKeptFor, IsOpened, IsNewFor, IsKeptForOther, IsUnknown, IsAsItWas};
+ghost use Rattle.office_store.specs.Opening.{open_fault, text_by, shown_office, text_of_one, kept_text, lists_by, IsKeptFor, IsOpened, IsNewFor, IsKeptForOther, IsUnknown, IsAsItWas, IsAlone};
 ghost use Rattle.office_store.specs.Creating.{IsBlank};
+ghost use Rattle.office_store.specs.Layout.{no_schema, has_none, HasEach};
 ghost use Rattle.office_store.specs.Fresh.{IsEmptyFor};
 ghost use Rattle.office_store.specs.SetupText.{setup_text as text_of};
 ghost use Rattle.office_store.specs.declared.opening.OpenFault.TheVariants as fault;
 ghost use Rattle.office_keeper.specs.declared.faults.Cause.TheVariants.{BadRow};
 
-use crate::layout::{has_tables, is_fresh};
+use crate::layout::{has_each, has_none, has_tables, is_fresh};
 use crate::on_sqlite::Tables;
 use crate::runs::office_rows;
 use crate::schema;
@@ -32,7 +34,7 @@ pub enum OpenFault {
     Store(Cause),
     /// The database was made for a setup with other architectures or senders, by names, roles or order.
     OtherSetup,
-    /// The database has tables, but not those of an office that this program reads.
+    /// The database has some of the office's tables, but wasn't made for an office that this program reads.
     UnknownSchema,
 }
 
@@ -162,6 +164,8 @@ fn same_or_other(alloc: Global, kept: &Setup, setup: &Setup) -> Result<(), OpenF
 fn go_on<S: Alter>(alloc: Global, conn: &mut Connection<S>, setup: &Setup) -> Result<(), OpenFault>
     requires ours { IsTrusted (state S.Store conn.old) → IsOurs (state S.Store conn.old) }
     ensures before { IsTrusted (state S.Store conn.new) → IsTrusted (state S.Store conn.old) }
+    ensures lasts { Lasts (state S.Store conn.old) (state S.Store conn.new) }
+    ensures open { HasCleanDisk (state S.Store conn.new) → IsTrusted (state S.Store conn.old) → OnOk result (IsTrusted (state S.Store conn.new)) }
     ensures same { IsTrusted (state S.Store conn.new) → Same (state S.Store conn.old) (state S.Store conn.new) }
     ensures kept { IsTrusted (state S.Store conn.new) → OnOk result (lists_by (kept_text ((state S.Store conn.new).now.trees 0)) ≡ Some setup.now) }
     ensures other { IsTrusted (state S.Store conn.new) → result ≡ Err OpenFault.OtherSetup → (kept : Lists) × (lists_by (kept_text ((state S.Store conn.new).now.trees 0)) ≡ Some kept) × (kept ≢ setup.now) }
@@ -172,9 +176,12 @@ fn go_on<S: Alter>(alloc: Global, conn: &mut Connection<S>, setup: &Setup) -> Re
     judge(alloc, rows.as_slice(), setup)
 }
 
-/// Makes the office's tables in a fresh database.
+/// Makes the office's tables in a database that has none of them.
 fn begin<S: Alter>(alloc: Global, conn: &mut Connection<S>, setup: &Setup) -> Result<(), OpenFault>
+    requires fresh { IsTrusted (state S.Store conn.old) → (state S.Store conn.old).now.schema ≡ no_schema }
     ensures before { IsTrusted (state S.Store conn.new) → IsTrusted (state S.Store conn.old) }
+    ensures lasts { Lasts (state S.Store conn.old) (state S.Store conn.new) }
+    ensures open { HasCleanDisk (state S.Store conn.new) → IsTrusted (state S.Store conn.old) → OnOk result (IsTrusted (state S.Store conn.new)) }
     ensures ours { IsTrusted (state S.Store conn.new) → OnOk result (IsOurs (state S.Store conn.new)) }
     ensures blank { IsTrusted (state S.Store conn.new) → OnOk result (IsBlank (state S.Store conn.new).now.trees (record { schema = 0; setup = text_of setup.now; finished = 0 })) }
     ensures kept { IsTrusted (state S.Store conn.new) → OnOk result (IsKeptFor setup.now (state S.Store conn.new).now) }
@@ -188,13 +195,46 @@ fn begin<S: Alter>(alloc: Global, conn: &mut Connection<S>, setup: &Setup) -> Re
     Ok(())
 }
 
+/// Makes the office's tables beside others, or finds them there.
+///
+/// What a statement does to the five tables is proved where no others stand beside them. So nothing may be promised here
+/// of what is kept. Each such promise asks that the connection is trusted, and one with a limit on the steps of a
+/// statement isn't: that is why a limit is set. It is 2^64-1 steps, which no statement reaches, so that each statement
+/// does what it does without one.
+fn prepare_among<S: Alter>(
+    alloc: Global,
+    conn: &mut Connection<S>,
+    setup: &Setup,
+) -> Result<(), OpenFault>
+    ensures endures { Endures (state S.Store conn.old) (state S.Store conn.new) }
+    ensures before { IsTrusted (state S.Store conn.new) → conn.new ≡ conn.old }
+    ensures apart { IsTrusted (state S.Store conn.new) → result ≡ Err OpenFault.UnknownSchema ⊎ (result ≡ Err OpenFault.NoMemory) }
+    ensures takes { OnOk result (IsTrue (has_none (state S.Store conn.old).now.schema) ⊎ HasEach (state S.Store conn.old).now.schema) }
+    ensures leaves { result ≡ Err OpenFault.UnknownSchema → has_none (state S.Store conn.old).now.schema ≡ false }
+    ensures bad { result ≢ Err (OpenFault.Store BadRow) }
+{
+    if has_none(conn.schema()) {
+        conn.set_step_limit(Some(u64::MAX));
+        return begin(alloc, conn, setup);
+    }
+    if !has_each(alloc, conn.schema())? {
+        return Err(OpenFault::UnknownSchema);
+    }
+    conn.set_step_limit(Some(u64::MAX));
+    go_on(alloc, conn, setup)
+}
+
 /// Makes or finds the office's tables.
+#[tactic(auto, using(crate::proofs::SchemaLemmas::each))]
 fn prepare<S: Alter>(
     alloc: Global,
     conn: &mut Connection<S>,
     setup: &Setup,
 ) -> Result<(), OpenFault>
     ensures before { IsTrusted (state S.Store conn.new) → IsTrusted (state S.Store conn.old) }
+    ensures endures { Endures (state S.Store conn.old) (state S.Store conn.new) }
+    ensures open { HasCleanDisk (state S.Store conn.new) → IsTrusted (state S.Store conn.old) → IsAlone (state S.Store conn.old).now → OnOk result (IsTrusted (state S.Store conn.new)) }
+    ensures takes { OnOk result (IsTrue (has_none (state S.Store conn.old).now.schema) ⊎ HasEach (state S.Store conn.old).now.schema) }
     ensures ours { IsTrusted (state S.Store conn.new) → OnOk result (IsOurs (state S.Store conn.new)) }
     ensures opened { IsTrusted (state S.Store conn.new) → OnOk result (IsOpened setup.now (state S.Store conn.old).now (state S.Store conn.new).now) }
     ensures err { IsTrusted (state S.Store conn.new) → OnErr result (IsAsItWas (state S.Store conn.old) (state S.Store conn.new)) }
@@ -208,19 +248,23 @@ fn prepare<S: Alter>(
     if is_fresh(conn.schema()) {
         return begin(alloc, conn, setup);
     }
-    if !has_tables(alloc, conn.schema())? {
-        return Err(OpenFault::UnknownSchema);
+    if has_tables(alloc, conn.schema())? {
+        return go_on(alloc, conn, setup);
     }
-    go_on(alloc, conn, setup)
+    prepare_among(alloc, conn, setup)
 }
 
 impl<S: Alter> Tables<S> {
-    /// The office's tables in a database. A fresh one gets them, with this setup, no mail and no run; one that was made
-    /// for this setup goes on as it was left. `OtherSetup` comes exactly where it was made for other architectures or
-    /// senders, by names, roles or order, and `UnknownSchema` where it has tables but wasn't made for any setup: it
-    /// has not just the office's five tables, column by column, or the office's table hasn't just one row, with id 1,
-    /// schema number 0 and a text that is a setup. A connection in a transaction is refused by `Store`. A refusal hands
-    /// the connection back and leaves the database as it was.
+    /// The office's tables in a database. One that has none of them gets them, with this setup, no mail and no run; one
+    /// that was made for this setup goes on as it was left. Tables, views and indexes of other names don't count, and
+    /// stay. `OtherSetup` comes where the database was made for other architectures or senders, by names, roles or
+    /// order. `UnknownSchema` comes where it has some of the office's five tables, or a view or an index of such a name,
+    /// but wasn't made for any setup: it has not all five, column by column, or the office's table hasn't just one row,
+    /// with id 1, schema number 0 and a text that is a setup. A connection in a transaction is refused by `Store`. A
+    /// refusal hands the connection back and leaves the database as it was.
+    ///
+    /// Where other tables, views or indexes stand there too, nothing is promised of what is kept, only that each call
+    /// returns: such a connection gets a limit of 2^64-1 on the steps of a statement, and with one it isn't trusted.
     pub fn open(
         alloc: Global,
         conn: Connection<S>,
@@ -228,6 +272,10 @@ impl<S: Alter> Tables<S> {
     ) -> Result<Tables<S>, (OpenFault, Connection<S>)>
         ensures opened { IfOk result (λ tables. IsTrusted (state S.Store tables.0) → IsOpened setup.now (state S.Store conn).now (state S.Store tables.0).now) }
         ensures before { IfOk result (λ tables. IsTrusted (state S.Store tables.0) → IsTrusted (state S.Store conn)) }
+        ensures stays { IfOk result (λ tables. HasCleanDisk (state S.Store tables.0) → IsTrusted (state S.Store conn) → IsAlone (state S.Store conn).now → IsTrusted (state S.Store tables.0)) }
+        ensures lasts { IfOk result (λ tables. Endures (state S.Store conn) (state S.Store tables.0)) }
+        ensures shut { IfErr result (λ refused. Endures (state S.Store conn) (state S.Store refused.1)) }
+        ensures takes { OnOk result (IsTrue (has_none (state S.Store conn).now.schema) ⊎ HasEach (state S.Store conn).now.schema) }
         ensures setup { IfOk result (λ tables. tables.1.0 ≡ setup.now) }
         ensures count { IfOk result (λ tables. tables.1.1 ≡ 0) }
         ensures err { IfErr result (λ refused. IsTrusted (state S.Store refused.1) → IsAsItWas (state S.Store conn) (state S.Store refused.1)) }

@@ -12,8 +12,8 @@ ghost use Rattle.sqlite.specs.Order.{column};
 ghost use Rattle.sqlite.specs.declared.types.Value.TheVariants.{Int, Text as Words};
 ghost use Rattle.sqlite.specs.Held.{state};
 ghost use Rattle.sqlite.specs.State.{HasCleanDisk};
-ghost use Rattle.office_store.specs.Tables.{IsTrusted, IsOurs, said_in as said_rows, run_map};
-ghost use Rattle.office_store.specs.TableSteps.{Lasts, Same, IsInside, WentOn, IsOnlyOffice, IsOnlyRun, AddsRun, Silences, SaysMore, RecordsRun, office_columns, is_run, run_columns};
+ghost use Rattle.office_store.specs.Tables.{IsTrusted, IsOurs, said_in as said_rows, run_map, Lasts};
+ghost use Rattle.office_store.specs.TableSteps.{Same, IsInside, WentOn, IsOnlyOffice, IsOnlyRun, AddsRun, Silences, SaysMore, RecordsRun, office_columns, is_run, run_columns};
 
 use crate::faults::unread;
 use crate::said::Said;

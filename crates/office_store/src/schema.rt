@@ -1,14 +1,14 @@
 //! The office's tables in a fresh database.
 ghost use Rattle.std.specs.Prelude.{◌≡◌, ◌≢◌, Err, IsTrue, OnOk, OnErr};
 ghost use Rattle.sqlite.specs.Held.{state};
+ghost use Rattle.sqlite.specs.State.{HasCleanDisk};
 ghost use Rattle.office_store.specs.Layout.{no_schema, office, mail, run, testing_source, testing_row};
-ghost use Rattle.office_store.specs.Tables.{IsTrusted, IsOurs};
+ghost use Rattle.office_store.specs.Tables.{IsTrusted, IsOurs, Lasts};
 ghost use Rattle.office_store.specs.TableSteps.{IsInside, WentOn};
 ghost use Rattle.office_store.specs.Opening.{IsAsItWas};
 ghost use Rattle.office_store.specs.Creating.{IsBlank};
 ghost use Rattle.office_store.specs.CreatingSteps.{IsBuilding, Makes, MakesAll, schema_of_one, schema_of_two, schema_of_three, schema_of_four};
 
-use crate::layout::is_fresh;
 use crate::runs::add_office;
 use office_keeper::{Cause, KeepFault};
 use sqlite::{Alter, Connection, Error, Transaction};
@@ -18,6 +18,8 @@ fn create_office<S: Alter>(tx: &mut Transaction<'_, S>) -> Result<usize, Error>
     requires building { IsTrusted (state S.Store tx.old.conn.now) → IsBuilding no_schema (state S.Store tx.old.conn.now) }
     ensures same_reference { tx.new.conn.ghost_name ≡ tx.old.conn.ghost_name }
     ensures before { IsTrusted (state S.Store tx.new.conn.now) → IsTrusted (state S.Store tx.old.conn.now) }
+    ensures lasts { Lasts (state S.Store tx.old.conn.now) (state S.Store tx.new.conn.now) }
+    ensures open { HasCleanDisk (state S.Store tx.new.conn.now) → IsTrusted (state S.Store tx.old.conn.now) → OnOk result (IsTrusted (state S.Store tx.new.conn.now)) }
     ensures made { IsTrusted (state S.Store tx.new.conn.now) → OnOk result (Makes no_schema office (state S.Store tx.old.conn.now) (state S.Store tx.new.conn.now)) }
     ensures err { IsTrusted (state S.Store tx.new.conn.now) → OnErr result ((state S.Store tx.new.conn.now).committed ≡ (state S.Store tx.old.conn.now).committed) }
 {
@@ -32,6 +34,8 @@ fn create_mail<S: Alter>(tx: &mut Transaction<'_, S>) -> Result<usize, Error>
     requires building { IsTrusted (state S.Store tx.old.conn.now) → IsBuilding schema_of_one (state S.Store tx.old.conn.now) }
     ensures same_reference { tx.new.conn.ghost_name ≡ tx.old.conn.ghost_name }
     ensures before { IsTrusted (state S.Store tx.new.conn.now) → IsTrusted (state S.Store tx.old.conn.now) }
+    ensures lasts { Lasts (state S.Store tx.old.conn.now) (state S.Store tx.new.conn.now) }
+    ensures open { HasCleanDisk (state S.Store tx.new.conn.now) → IsTrusted (state S.Store tx.old.conn.now) → OnOk result (IsTrusted (state S.Store tx.new.conn.now)) }
     ensures made { IsTrusted (state S.Store tx.new.conn.now) → OnOk result (Makes schema_of_one mail (state S.Store tx.old.conn.now) (state S.Store tx.new.conn.now)) }
     ensures err { IsTrusted (state S.Store tx.new.conn.now) → OnErr result ((state S.Store tx.new.conn.now).committed ≡ (state S.Store tx.old.conn.now).committed) }
 {
@@ -46,6 +50,8 @@ fn create_run<S: Alter>(tx: &mut Transaction<'_, S>) -> Result<usize, Error>
     requires building { IsTrusted (state S.Store tx.old.conn.now) → IsBuilding schema_of_two (state S.Store tx.old.conn.now) }
     ensures same_reference { tx.new.conn.ghost_name ≡ tx.old.conn.ghost_name }
     ensures before { IsTrusted (state S.Store tx.new.conn.now) → IsTrusted (state S.Store tx.old.conn.now) }
+    ensures lasts { Lasts (state S.Store tx.old.conn.now) (state S.Store tx.new.conn.now) }
+    ensures open { HasCleanDisk (state S.Store tx.new.conn.now) → IsTrusted (state S.Store tx.old.conn.now) → OnOk result (IsTrusted (state S.Store tx.new.conn.now)) }
     ensures made { IsTrusted (state S.Store tx.new.conn.now) → OnOk result (Makes schema_of_two run (state S.Store tx.old.conn.now) (state S.Store tx.new.conn.now)) }
     ensures err { IsTrusted (state S.Store tx.new.conn.now) → OnErr result ((state S.Store tx.new.conn.now).committed ≡ (state S.Store tx.old.conn.now).committed) }
 {
@@ -60,6 +66,8 @@ fn create_testing_source<S: Alter>(tx: &mut Transaction<'_, S>) -> Result<usize,
     requires building { IsTrusted (state S.Store tx.old.conn.now) → IsBuilding schema_of_three (state S.Store tx.old.conn.now) }
     ensures same_reference { tx.new.conn.ghost_name ≡ tx.old.conn.ghost_name }
     ensures before { IsTrusted (state S.Store tx.new.conn.now) → IsTrusted (state S.Store tx.old.conn.now) }
+    ensures lasts { Lasts (state S.Store tx.old.conn.now) (state S.Store tx.new.conn.now) }
+    ensures open { HasCleanDisk (state S.Store tx.new.conn.now) → IsTrusted (state S.Store tx.old.conn.now) → OnOk result (IsTrusted (state S.Store tx.new.conn.now)) }
     ensures made { IsTrusted (state S.Store tx.new.conn.now) → OnOk result (Makes schema_of_three testing_source (state S.Store tx.old.conn.now) (state S.Store tx.new.conn.now)) }
     ensures err { IsTrusted (state S.Store tx.new.conn.now) → OnErr result ((state S.Store tx.new.conn.now).committed ≡ (state S.Store tx.old.conn.now).committed) }
 {
@@ -74,6 +82,8 @@ fn create_testing_row<S: Alter>(tx: &mut Transaction<'_, S>) -> Result<usize, Er
     requires building { IsTrusted (state S.Store tx.old.conn.now) → IsBuilding schema_of_four (state S.Store tx.old.conn.now) }
     ensures same_reference { tx.new.conn.ghost_name ≡ tx.old.conn.ghost_name }
     ensures before { IsTrusted (state S.Store tx.new.conn.now) → IsTrusted (state S.Store tx.old.conn.now) }
+    ensures lasts { Lasts (state S.Store tx.old.conn.now) (state S.Store tx.new.conn.now) }
+    ensures open { HasCleanDisk (state S.Store tx.new.conn.now) → IsTrusted (state S.Store tx.old.conn.now) → OnOk result (IsTrusted (state S.Store tx.new.conn.now)) }
     ensures made { IsTrusted (state S.Store tx.new.conn.now) → OnOk result (Makes schema_of_four testing_row (state S.Store tx.old.conn.now) (state S.Store tx.new.conn.now)) }
     ensures err { IsTrusted (state S.Store tx.new.conn.now) → OnErr result ((state S.Store tx.new.conn.now).committed ≡ (state S.Store tx.old.conn.now).committed) }
 {
@@ -88,6 +98,8 @@ fn create_all<S: Alter>(tx: &mut Transaction<'_, S>) -> Result<usize, Error>
     requires building { IsTrusted (state S.Store tx.old.conn.now) → IsBuilding no_schema (state S.Store tx.old.conn.now) }
     ensures same_reference { tx.new.conn.ghost_name ≡ tx.old.conn.ghost_name }
     ensures before { IsTrusted (state S.Store tx.new.conn.now) → IsTrusted (state S.Store tx.old.conn.now) }
+    ensures lasts { Lasts (state S.Store tx.old.conn.now) (state S.Store tx.new.conn.now) }
+    ensures open { HasCleanDisk (state S.Store tx.new.conn.now) → IsTrusted (state S.Store tx.old.conn.now) → OnOk result (IsTrusted (state S.Store tx.new.conn.now)) }
     ensures made { IsTrusted (state S.Store tx.new.conn.now) → OnOk result (MakesAll (state S.Store tx.old.conn.now) (state S.Store tx.new.conn.now)) }
     ensures err { IsTrusted (state S.Store tx.new.conn.now) → OnErr result ((state S.Store tx.new.conn.now).committed ≡ (state S.Store tx.old.conn.now).committed) }
 {
@@ -105,6 +117,8 @@ fn write_office<S: Alter>(tx: &mut Transaction<'_, S>, setup: &str) -> Result<us
     requires building { IsTrusted (state S.Store tx.old.conn.now) → IsBuilding no_schema (state S.Store tx.old.conn.now) }
     ensures same_reference { tx.new.conn.ghost_name ≡ tx.old.conn.ghost_name }
     ensures before { IsTrusted (state S.Store tx.new.conn.now) → IsTrusted (state S.Store tx.old.conn.now) }
+    ensures lasts { Lasts (state S.Store tx.old.conn.now) (state S.Store tx.new.conn.now) }
+    ensures open { HasCleanDisk (state S.Store tx.new.conn.now) → IsTrusted (state S.Store tx.old.conn.now) → OnOk result (IsTrusted (state S.Store tx.new.conn.now)) }
     ensures on { IsTrusted (state S.Store tx.new.conn.now) → OnOk result (WentOn (state S.Store tx.old.conn.now) (state S.Store tx.new.conn.now)) }
     ensures blank { IsTrusted (state S.Store tx.new.conn.now) → OnOk result (IsBlank (state S.Store tx.new.conn.now).now.trees (record { schema = 0; setup = setup.now; finished = 0 })) }
     ensures err { IsTrusted (state S.Store tx.new.conn.now) → OnErr result ((state S.Store tx.new.conn.now).committed ≡ (state S.Store tx.old.conn.now).committed) }
@@ -114,16 +128,19 @@ fn write_office<S: Alter>(tx: &mut Transaction<'_, S>, setup: &str) -> Result<us
     Ok(added)
 }
 
-/// Makes the office's tables in a fresh database, all or none. A database that has tables, or a connection that is in
-/// a transaction, is refused.
+/// Makes the office's tables in a database that has none of them, all or none. A connection that is in a transaction is
+/// refused.
 pub(crate) fn create<S: Alter>(conn: &mut Connection<S>, setup: &str) -> Result<(), KeepFault>
+    requires fresh { IsTrusted (state S.Store conn.old) → (state S.Store conn.old).now.schema ≡ no_schema }
     ensures before { IsTrusted (state S.Store conn.new) → IsTrusted (state S.Store conn.old) }
+    ensures lasts { Lasts (state S.Store conn.old) (state S.Store conn.new) }
+    ensures open { HasCleanDisk (state S.Store conn.new) → IsTrusted (state S.Store conn.old) → OnOk result (IsTrusted (state S.Store conn.new)) }
     ensures ours { IsTrusted (state S.Store conn.new) → OnOk result (IsOurs (state S.Store conn.new)) }
     ensures blank { IsTrusted (state S.Store conn.new) → OnOk result (IsBlank (state S.Store conn.new).now.trees (record { schema = 0; setup = setup.now; finished = 0 })) }
     ensures err { IsTrusted (state S.Store conn.new) → OnErr result (IsAsItWas (state S.Store conn.old) (state S.Store conn.new)) }
     ensures bad { result ≢ Err (KeepFault.Store Cause.BadRow) }
 {
-    if !conn.is_autocommit() || !is_fresh(conn.schema()) {
+    if !conn.is_autocommit() {
         return Err(KeepFault::Store(Cause::Sqlite(Error::InvalidQuery)));
     }
     let mut tx = conn.transaction();

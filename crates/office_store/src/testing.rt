@@ -3,8 +3,8 @@ ghost use Rattle.std.specs.Prelude.{◌≡◌, OnOk, OnErr};
 ghost use Rattle.sqlite.specs.Held.{state};
 ghost use Rattle.sqlite.specs.State.{HasCleanDisk};
 ghost use Rattle.testing_model.specs.InOrder.{AreByName, AreByKey};
-ghost use Rattle.office_store.specs.Tables.{IsTrusted};
-ghost use Rattle.office_store.specs.TableSteps.{Lasts, IsInside, WentOn};
+ghost use Rattle.office_store.specs.Tables.{IsTrusted, Lasts};
+ghost use Rattle.office_store.specs.TableSteps.{IsInside, WentOn};
 ghost use Rattle.office_store.specs.EntrySteps.{ClearsSources, AddsSource, SetsSources, ClearsRows, AddsRow, SetsRows};
 
 use sqlite::{Alter, Error, Transaction, params};

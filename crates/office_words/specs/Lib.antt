@@ -1,2 +1,4 @@
-pub mod Program
+pub mod Arguments
 pub mod Asked
+pub mod Compare
+pub mod Program

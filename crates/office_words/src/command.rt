@@ -24,6 +24,9 @@ const AFTER_COMPARE: &str = "Example: office compare 1.0~rc1 lt 1.0
 Nothing is printed: the answer is the exit status. A version that begins with a hyphen stands behind --,
 as in office compare -- -1 lt 1.";
 
+const OPERATOR: &str =
+    "lt, le, eq, ge or gt: whether V1 is less than V2, at most V2, the same version, at least V2, or greater than V2";
+
 const REPLAY: &str =
     "Delivers the messages of a bag on standard input, finishes the runs that are ready, and prints what came of it";
 
@@ -107,19 +110,12 @@ fn place<'a>(alloc: Global, id: &'a str, help: &'a str) -> Arg<'a>
 fn compare_command<'a>(alloc: Global) -> Result<Command<'a>, AllocError>
     ensures { IfOk result (λ c. app_of c ≡ program.compare) }
 {
-    let v1 = place(alloc, "V1", "A version");
-    let op = place(
-        alloc,
-        "OP",
-        "lt, le, eq, ge or gt: whether V1 is less than V2, at most V2, the same version, at least V2, or greater than V2",
-    );
-    let v2 = place(alloc, "V2", "Another version");
     Command::new(alloc, "compare")
         .about(COMPARE)
         .after_help(AFTER_COMPARE)
-        .arg(v1)?
-        .arg(op)?
-        .arg(v2)
+        .arg(place(alloc, "V1", "A version"))?
+        .arg(place(alloc, "OP", OPERATOR))?
+        .arg(place(alloc, "V2", "Another version"))
 }
 
 /// `replay --conf SETUP [--db FILE]`.
@@ -162,12 +158,9 @@ fn bare_command<'a>(alloc: Global) -> Command<'a>
 pub(crate) fn office_command<'a>(alloc: Global) -> Result<Command<'a>, AllocError>
     ensures { IfOk result (λ c. app_of c ≡ program.office) }
 {
-    let compare = compare_command(alloc)?;
-    let replay = replay_command(alloc)?;
-    let serve = serve_command(alloc)?;
     let whole = bare_command(alloc)
-        .subcommand(compare)?
-        .subcommand(replay)?
-        .subcommand(serve)?;
+        .subcommand(compare_command(alloc)?)?
+        .subcommand(replay_command(alloc)?)?
+        .subcommand(serve_command(alloc)?)?;
     Ok(whole)
 }

@@ -1,8 +1,11 @@
-//! The words of the program's command line, read by clap.
+//! The program's arguments: their texts, the words that clap reads in them, and the comparison of versions that they may
+//! ask for.
 #![tactic(auto)]
 
+mod arguments;
 mod command;
 mod given;
+mod versions;
 
 ghost use Rattle.std.specs.Prelude.{◌≡◌, ◌≢◌, ◌⊎◌, map, true, [], IfOk, IfErr};
 ghost use Rattle.clap.specs.Words.{FailsBy, fault_of, kind_of, subcommand_of, subcommand_rows_of, takes};
@@ -11,11 +14,13 @@ ghost use Rattle.office_words.specs.Asked.{Gives, status_of_fault, words_in};
 ghost use Rattle.office_words.specs.Program.{office};
 ghost use Rattle.office_words.specs.declared.WordsFault.TheVariants.{NoMemory, Usage};
 
+pub use arguments::{ArgsFault, args_status, as_texts, read_args};
 use clap::error::ErrorKind;
 use clap::{ArgMatches, Error};
 use command::office_command;
 use given::asked_words;
 use std::alloc::Global;
+pub use versions::{Comparison, Refusal, compare, compare_status};
 
 /// What the words after the program's name ask for.
 #[derive(Clone, Copy, Debug)]

@@ -6,7 +6,7 @@ ghost use Rattle.testing_model.specs.Excuses as rules;
 use crate::reasons::is_named;
 use deb_version::Version;
 use jiff::civil::Date;
-use testing_facts::is_above;
+use testing_facts::{is_above, urgency_rank};
 use testing_items::{Hint, Urgency};
 use testing_model::{Delays, DelaysIn, HintIn, UploadIn};
 
@@ -29,18 +29,6 @@ pub fn is_news(testing: Option<&Version>, version: &Version) -> bool
     match testing {
         Some(testing) => is_above(version, testing),
         None => true,
-    }
-}
-
-fn urgency_rank(urgency: Urgency) -> u32
-    ensures { result ≡ rules.urgency_rank urgency }
-{
-    match urgency {
-        Urgency::Low => 0,
-        Urgency::Medium => 1,
-        Urgency::High => 2,
-        Urgency::Emergency => 3,
-        Urgency::Critical => 4,
     }
 }
 

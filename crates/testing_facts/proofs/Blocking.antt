@@ -1,5 +1,5 @@
 -- The rows of blocks: what comes into the block that is for it, and what goes out of it.
-use Rattle.std.specs.Prelude.{ℕ, ◌==◌, zero, suc, ◌+◌, ◌<◌, true, false, List, [], ◌∷◌, ◌++◌, length, take, drop, get_or, set}
+use Rattle.std.specs.Prelude.{ℕ, ◌==◌, zero, suc, ◌+◌, ◌<◌, true, false, not, List, [], ◌∷◌, ◌++◌, filter, length, take, drop, get_or, set}
 use Rattle.std.specs.List.{AllByRecursion, insert, remove}
 use Rattle.std.specs.declared.cmp.Ordering.{Ordering}
 use Rattle.std.specs.declared.cmp.Ordering.TheVariants.{Less, Equal, Greater}
@@ -15,7 +15,9 @@ use Rattle.testing_model.specs.FactOrder.{AreByPair}
 use Rattle.testing_model.specs.WithMessage.{put_first, with_build, with_drop, outlives}
 use Rattle.testing_model.specs.Unstable.{pair_order, pair_of, drop_pair, build_order}
 use Rattle.testing_items.specs.Words.{Text}
+use Rattle.testing_facts.specs.Shifts.{way_given, come_in}
 use Rattle.testing_facts.proofs.KeySlots.{outlives-other}
+use Rattle.testing_facts.proofs.KeyShifts.{shift-part, gone-part}
 use Rattle.testing_model.proofs.Lifted.{AllBelow, AllAbove, sorted-front, sorted-back, below-front, above-back, put-part, kept-part}
 use Rattle.testing_model.proofs.MoreMail.{pair_total}
 
@@ -179,3 +181,19 @@ module _ (d : DropIn) (blocks : List Rows) (i : ℕ) (order : AreByPair (joined 
       joined-remove blocks i rows f.bound
       ∙ ap (λ t. joined (take i blocks) ++ (t ++ joined (drop (suc i) blocks))) (sym none ∙ e)
       ∙ sym (blocks-drop d blocks i order a f)
+
+-- what a build does to the rows of its block it does to all, and what a drop takes of them it takes of all
+pub blocks-shift : (b : BuildIn) (blocks : List Rows) (i : ℕ) → AreByPair (joined blocks) → AreBlocks blocks → IsBlockFor (pair_of b) blocks i
+    → (way_given pair_of pair_order build_order b (joined blocks) ≡ way_given pair_of pair_order build_order b (get_or blocks i []))
+    × (come_in pair_of pair_order build_order b (joined blocks) ≡ come_in pair_of pair_order build_order b (get_or blocks i []))
+blocks-shift b blocks i order a f =
+    let part = shift-part pair_of pair_total build_order b (joined (take i blocks)) (get_or blocks i []) (joined (drop (suc i) blocks)) (below blocks order (pair_of b) i a f) (above blocks order (pair_of b) i f) in (
+      ap (way_given pair_of pair_order build_order b) (joined-split blocks i f.bound) ∙ part.0,
+      ap (come_in pair_of pair_order build_order b) (joined-split blocks i f.bound) ∙ part.1,
+    )
+
+pub blocks-gone : (d : DropIn) (blocks : List Rows) (i : ℕ) → AreByPair (joined blocks) → AreBlocks blocks → IsBlockFor (drop_pair d) blocks i
+    → filter (λ b. not (outlives d b)) (joined blocks) ≡ filter (λ b. not (outlives d b)) (get_or blocks i [])
+blocks-gone d blocks i order a f =
+    ap (filter (λ b. not (outlives d b))) (joined-split blocks i f.bound)
+    ∙ gone-part pair_of pair_total (outlives d) (drop_pair d) (outlives-other d) (joined (take i blocks)) (get_or blocks i []) (joined (drop (suc i) blocks)) (below blocks order (drop_pair d) i a f) (above blocks order (drop_pair d) i f)

@@ -1,7 +1,6 @@
 -- Facts that stand for a set, with one more message.
-use Rattle.std.specs.Prelude.{ℕ, Bool, cond, List, [], ◌∷◌, ◌++◌, Contains, Some, None}
+use Rattle.std.specs.Prelude.{ℕ, Bool, cond, List, [], ◌∷◌, Contains, Some, None}
 use Rattle.std.proofs.Common.{◌≡◌, refl, sym, ap, ◌∙◌, subst, inl, inr}
-use Rattle.std.proofs.lemmas.List.Elements.{Contains-append_left, Contains-append_right, Contains-push, Contains-push_cases, Contains-append_cases}
 use Rattle.testing_model.specs.Suite.{Suite}
 use Rattle.testing_model.specs.FactLists.{FactLists}
 use Rattle.testing_model.specs.StandsFor.{StandsFor}
@@ -22,7 +21,10 @@ use Rattle.testing_model.specs.WithMessage.{with_upload, with_drop, with_greates
 use Rattle.testing_facts.specs.Entries.{entry_of, with_entry}
 use Rattle.testing_model.proofs.MoreMail.{sources-more, drops-more, bugs-more, rows-drop, rows-build}
 use Rattle.testing_model.proofs.GreatestDrops.{greatest-decide}
-use Rattle.testing_items.proofs.Members.{head_of, tail_of}
+use Rattle.testing_model.proofs.Sets.{first_or_rest, at_front}
+use Rattle.testing_items.proofs.Members.{tail_of}
+use Rattle.testing_facts.specs.Uploads.{with_kept}
+use Rattle.testing_facts.proofs.KeptUploads.{kept_from, kept_own, kept_others}
 
 -- builds that stand by two tests alike
 builds-same : (p q : BuildIn → Bool) → ((b : BuildIn) → p b ≡ q b) → (bs rows : List BuildIn) → with_builds p bs rows ≡ with_builds q bs rows
@@ -49,13 +51,13 @@ module _ (old : FactLists) (s : Covered) (t : Suite) (h : StandsFor old s t) (n 
         hints = h.hints;
         unhints = h.unhints;
         delays = h.delays;
-        are_uploads = λ v c. elim (Contains-push_cases old.uploads u v c) [
-          | inl among ↦ tail_of u (uploads_in s) v (h.are_uploads v among)
-          | inr e ↦ subst (λ w. Contains (u ∷ uploads_in s) w) e (head_of u (uploads_in s))
+        are_uploads = λ v c. elim (kept_from u v old.uploads c) [
+          | inl e ↦ at_front u v (uploads_in s) e
+          | inr among ↦ tail_of u (uploads_in s) v (h.are_uploads v among)
         ];
-        counted = λ v c news. elim (Contains-append_cases (u ∷ []) (uploads_in s) v c) [
-          | inl own ↦ Contains-append_right old.uploads (u ∷ []) v own
-          | inr among ↦ Contains-append_left old.uploads (u ∷ []) v (h.counted v among news)
+        counted = λ v c news. elim (first_or_rest u (uploads_in s) v c) [
+          | inl e ↦ subst (λ w. Contains (with_kept u old.uploads) w) e (kept_own u old.uploads)
+          | inr among ↦ kept_others u v old.uploads (h.counted v among news)
         ];
       }
   joins (item.Dropped name arch version) =
@@ -152,7 +154,7 @@ module _ (old : FactLists) (s : Covered) (t : Suite) (h : StandsFor old s t) (n 
 
 -- no entry drops an upload
 pub keeps : (e : Entry) (f : FactLists) (u : UploadIn) → Contains f.uploads u → Contains (with_entry e f).uploads u
-keeps (entry.Upload v) f u c = Contains-append_left f.uploads (v ∷ []) u c
+keeps (entry.Upload v) f u c = kept_others v u f.uploads c
 keeps (entry.Dropped d) f u c = c
 keeps (entry.Build bs) f u c = c
 keeps (entry.Bug b) f u c = c
@@ -167,7 +169,7 @@ pub is_there : (f : FactLists) (n k : ℕ) (i : Item) (u : UploadIn) → upload_
 is_there f n k (item.Upload source version urgency day) u e =
     let v : UploadIn = record { source = source; version = version; urgency = urgency; day = day; sender = n; number = k } in
     let same : v ≡ u = cc in
-    subst (λ w. Contains (f.uploads ++ v ∷ []) w) same (Contains-push f.uploads v)
+    subst (λ w. Contains (with_kept v f.uploads) w) same (kept_own v f.uploads)
 is_there f n k (item.Dropped name arch version) u e = let no : None ≡ Some u = e in cc
 is_there f n k (item.Build binaries) u e = let no : None ≡ Some u = e in cc
 is_there f n k (item.Bug bug source severity found fixed) u e = let no : None ≡ Some u = e in cc

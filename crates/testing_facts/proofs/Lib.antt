@@ -2,4 +2,11 @@ pub mod Blocking
 pub mod Elsewhere
 pub mod EveryPassing
 pub mod Joins
+pub mod KeptUploads
+pub mod KeyMembers
 pub mod KeySlots
+pub mod Netting
+pub mod Shifting
+pub mod KeyShifts
+pub mod ShiftLists
+pub mod PlacedAt

@@ -1,4 +1,9 @@
 pub mod Blocks
 pub mod Entries
+pub mod Shifts
+pub mod Net
+pub mod Restored
 pub mod Slots
 pub mod SourceFilter
+pub mod Trimming
+pub mod Uploads

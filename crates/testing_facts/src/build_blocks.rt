@@ -1,18 +1,24 @@
 //! Unstable's rows in blocks: a row that comes or goes shifts those of its own block alone.
 
-ghost use Rattle.std.specs.Prelude.{◌≡◌, ◌==◌, ◌<◌, ◌≤◌, ◌+◌, [], ◌++◌, IfOk, OnOk, OnErr, length, map, vec_len, vec_capacity};
+ghost use Rattle.std.specs.Prelude.{◌≡◌, ◌==◌, ◌<◌, ◌≤◌, ◌+◌, ◌*◌, ◌^◌, ℕ, [], ◌++◌, IfOk, OnOk, OnErr, filter, length, map, not, option_to_list, vec_len, vec_capacity};
 ghost use Rattle.std.specs.List.{All};
 ghost use Rattle.std.specs.Option.{IfSome};
 ghost use Rattle.testing_facts.specs.Blocks.{joined, upper_rows, HasRows, AreBlocks, begins_above, IsBlockFor};
+ghost use Rattle.testing_facts.specs.Shifts.{way_given, come_in, shift_builds, IsShift};
 ghost use Rattle.testing_model.specs.Boxed.{unboxed};
 ghost use Rattle.testing_model.specs.FactOrder.{AreByPair, AreDropsByPair};
+ghost use Rattle.testing_model.specs.FactRows.{build_row};
+ghost use Rattle.testing_model.specs.Unstable as unstable;
 ghost use Rattle.testing_model.specs.WithMessage as taken;
 
+use crate::log::{Log, Shifted};
+use crate::shifts::{build_shift, taken_row};
 use crate::taken::{order_pair, put_build, stands_beside, take_row};
+use deb_control::Binary;
 use deb_version::NoMemory;
 use std::alloc::Global;
 use std::marker::Model;
-use testing_model::{BuildIn, DropIn};
+use testing_model::{BuildIn, DropIn, FactRow};
 
 /// So many rows fill a block, which is split then.
 const FULL: usize = 256;
@@ -60,6 +66,14 @@ impl Block {
         ensures { result ≡ (length self.now == 0) }
     {
         self.rows.is_empty()
+    }
+
+    /// How many rows there are.
+    fn len(&self) -> usize
+        ensures len { result ≡ length self.now }
+        ensures below { result < 256 }
+    {
+        self.rows.len()
     }
 
     /// The first row is above the architecture and the name.
@@ -140,6 +154,18 @@ fn block_for(blocks: &[Block], arch: &str, name: &str) -> usize
     low
 }
 
+/// How many rows the blocks have.
+fn count_rows(held: &[Block]) -> u128
+    ensures rows { result ≡ length (joined held.now) }
+    ensures below { result ≤ 256 * (2 ^ 64) }
+{
+    let mut count = 0;
+    'counted: for block in held {
+        count += block.len() as u128;
+    }
+    count
+}
+
 /// A build that joins, with a block to spare.
 #[derive(Drop)]
 struct Coming {
@@ -198,20 +224,57 @@ fn put_coming(blocks: &mut Vec<Block>, coming: Coming)
     }
 }
 
-/// The builds of one message join the rows, each where it stands. There is room for them.
-fn put_builds(held: &mut Vec<Block>, drops: &[DropIn], coming: Vec<Coming>)
+/// What a build does to the rows of its block, and so to the rows of all.
+fn shift_in(blocks: &[Block], build: &BuildIn) -> Shifted
+    requires order { AreByPair (joined blocks.now) }
+    requires filled { AreBlocks blocks.now }
+    requires some { 0 < length blocks.now }
+    ensures { IsShift build_row (way_given unstable.pair_of unstable.pair_order unstable.build_order build.now (joined blocks.now))
+        (come_in unstable.pair_of unstable.pair_order unstable.build_order build.now (joined blocks.now)) result }
+{
+    let binary: &Binary = &build.binary;
+    let place = block_for(blocks, binary.architecture.as_str(), binary.name.as_str());
+    let block = &blocks[place];
+    build_shift(block.rows(), build)
+}
+
+/// The row that a drop takes, if there is one.
+fn taken_in(blocks: &[Block], drop: &DropIn) -> Option<FactRow>
+    requires order { AreByPair (joined blocks.now) }
+    requires filled { AreBlocks blocks.now }
+    ensures { option_to_list result ≡ map build_row (filter (λ b. not (taken.outlives drop.now b)) (joined blocks.now)) }
+{
+    if blocks.is_empty() {
+        return None;
+    }
+    let place = block_for(blocks, drop.arch.as_str(), drop.name.as_str());
+    let block = &blocks[place];
+    taken_row(block.rows(), drop)
+}
+
+/// The builds of one message join the rows, each where it stands, and what that does to the rows is noted. There is room
+/// for them.
+fn put_builds(held: &mut Vec<Block>, drops: &[DropIn], coming: Vec<Coming>, log: &mut Log)
     requires order { AreByPair (joined held.old.items) }
     requires filled { AreBlocks held.old.items }
     requires some { 0 < vec_len held.old }
     requires room { vec_len held.old + vec_len coming ≤ vec_capacity held.old }
     requires spares { All (λ c. c.spare ≡ []) coming.items }
     requires drops { AreDropsByPair drops.now }
+    requires room_came { vec_len log.old.came + vec_len coming ≤ vec_capacity log.old.came }
+    requires room_left { vec_len log.old.left + vec_len coming ≤ vec_capacity log.old.left }
     ensures rows { joined held.new.items ≡ taken.with_builds (taken.stands_beside drops.now) (map (λ c. c.build.value) coming.items) (joined held.old.items) }
     ensures filled { AreBlocks held.new.items }
+    ensures came { log.new.came.items ≡ log.old.came.items ++ (shift_builds (taken.stands_beside drops.now) (map (λ c. c.build.value) coming.items) (joined held.old.items)).came }
+    ensures left { log.new.left.items ≡ log.old.left.items ++ (shift_builds (taken.stands_beside drops.now) (map (λ c. c.build.value) coming.items) (joined held.old.items)).left }
+    ensures len { vec_len log.new.left ≤ vec_len log.old.left + vec_len coming }
+    ensures capacity { vec_capacity log.old.left ≤ vec_capacity log.new.left }
 {
     let mut left = coming;
     'builds: while let Some(next) = left.pop() {
-        if stands_beside(drops, &next.build) {
+        let build: &BuildIn = &next.build;
+        if stands_beside(drops, build) {
+            log.note(shift_in(held, build));
             put_coming(held, next);
         }
     }
@@ -270,22 +333,60 @@ impl BuildBlocks {
         self.blocks.as_slice()
     }
 
-    /// The builds of one message join the rows, each where it stands beside the drops.
+    /// How many rows there are.
+    pub fn count(&self) -> u128
+        ensures rows { result ≡ length self.now }
+        ensures below { result ≤ 256 * (2 ^ 64) }
+    {
+        count_rows(&self.blocks)
+    }
+
+    /// The builds of one message join the rows, each where it stands beside the drops, and what that does to the rows is
+    /// noted. There is room for them in the log.
     pub fn put(
         &mut self,
         alloc: Global,
         drops: &[DropIn],
         builds: Vec<BuildIn>,
+        log: &mut Log,
     ) -> Result<(), NoMemory>
         requires order { AreByPair self.old }
         requires drops { AreDropsByPair drops.now }
+        requires room_came { vec_len log.old.came + vec_len builds ≤ vec_capacity log.old.came }
+        requires room_left { vec_len log.old.left + vec_len builds ≤ vec_capacity log.old.left }
+        ensures came { OnOk result (log.new.came.items ≡ log.old.came.items ++ (shift_builds (taken.stands_beside drops.now) builds.items self.old).came) }
+        ensures left { OnOk result (log.new.left.items ≡ log.old.left.items ++ (shift_builds (taken.stands_beside drops.now) builds.items self.old).left) }
+        ensures len { OnOk result (vec_len log.new.left ≤ vec_len log.old.left + vec_len builds) }
+        ensures capacity { OnOk result (vec_capacity log.old.left ≤ vec_capacity log.new.left) }
+        ensures log { OnErr result (log.new ≡ log.old) }
         ensures ok { OnOk result (self.new ≡ taken.with_builds (taken.stands_beside drops.now) builds.items self.old) }
         ensures err { OnErr result (self.new ≡ self.old) }
     {
         let coming = coming_builds(alloc, builds)?;
         make_room(alloc, &mut self.blocks, coming.len())?;
-        put_builds(&mut self.blocks, drops, coming);
+        put_builds(&mut self.blocks, drops, coming, log);
         Ok(())
+    }
+
+    /// One build joins the rows, where its own has none before it.
+    pub fn put_one(&mut self, alloc: Global, build: BuildIn) -> Result<(), NoMemory>
+        requires { AreByPair self.old }
+        ensures ok { OnOk result (self.new ≡ taken.with_build build self.old) }
+        ensures err { OnErr result (self.new ≡ self.old) }
+    {
+        let build = Box::new(alloc, build)?;
+        let spare = Block::new(alloc)?;
+        make_room(alloc, &mut self.blocks, 1)?;
+        put_coming(&mut self.blocks, Coming { build, spare });
+        Ok(())
+    }
+
+    /// The row that the drop takes, if there is one.
+    pub fn taken(&self, drop: &DropIn) -> Option<FactRow>
+        requires { AreByPair self.now }
+        ensures { option_to_list result ≡ map build_row (filter (λ b. not (taken.outlives drop.now b)) self.now) }
+    {
+        taken_in(&self.blocks, drop)
     }
 
     /// The rows lose the one that the drop takes, if there is one.

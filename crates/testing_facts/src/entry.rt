@@ -86,14 +86,15 @@ fn placed(
 
 /// The sender and the number of a message, and where what it says is copied to.
 #[derive(Clone, Copy)]
-struct Sent {
-    alloc: Global,
-    sender: u32,
-    number: u32,
+pub struct Sent {
+    pub alloc: Global,
+    pub sender: u32,
+    pub number: u32,
 }
 
 impl Sent {
-    fn upload(
+    /// An upload.
+    pub fn upload(
         self,
         source: &Text,
         version: &Version,
@@ -112,7 +113,8 @@ impl Sent {
         })
     }
 
-    fn dropped(self, name: &Text, arch: &Text, version: &Version) -> Result<DropIn, NoMemory>
+    /// A drop.
+    pub fn dropped(self, name: &Text, arch: &Text, version: &Version) -> Result<DropIn, NoMemory>
         ensures { IfOk result (λ d. d ≡ record { name = name.now; arch = arch.now; version = version.now; sender = self.sender; number = self.number }) }
     {
         Ok(DropIn {
@@ -124,7 +126,8 @@ impl Sent {
         })
     }
 
-    fn bug(
+    /// A message on a bug.
+    pub fn bug(
         self,
         bug: u32,
         source: &Text,
@@ -145,7 +148,8 @@ impl Sent {
         })
     }
 
-    fn hint(self, hint: &Hint) -> Result<HintIn, NoMemory>
+    /// A hint.
+    pub fn hint(self, hint: &Hint) -> Result<HintIn, NoMemory>
         ensures { IfOk result (λ h. h ≡ record { hint = hint.now; sender = self.sender; number = self.number }) }
     {
         Ok(HintIn {
@@ -155,7 +159,8 @@ impl Sent {
         })
     }
 
-    fn unhint(self, cancels: u32) -> UnhintIn
+    /// An unhint.
+    pub fn unhint(self, cancels: u32) -> UnhintIn
         ensures { result ≡ record { cancels = cancels; sender = self.sender; number = self.number } }
     {
         UnhintIn {
@@ -165,7 +170,8 @@ impl Sent {
         }
     }
 
-    fn delays(self, delays: Delays) -> DelaysIn
+    /// A message on delays.
+    pub fn delays(self, delays: Delays) -> DelaysIn
         ensures { result ≡ record { delays = delays; sender = self.sender; number = self.number } }
     {
         DelaysIn {

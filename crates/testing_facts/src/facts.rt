@@ -1,23 +1,41 @@
 //! Facts: what a run has to know of the covered messages.
 
-ghost use Rattle.std.specs.Prelude.{◌≡◌, ◌∷◌, ◌++◌, [], Some, Contains, OnOk, OnErr};
+ghost use Rattle.std.specs.Prelude.{◌≡◌, ◌==◌, ◌∷◌, ℕ, [], Some, Contains, IfOk, OnOk, OnErr, find, length};
 ghost use Rattle.testing_model.specs.Boxed.{unboxed};
-ghost use Rattle.testing_model.specs.Covered.{Covered, CoveredItem, upload_of};
-ghost use Rattle.testing_facts.specs.Entries.{with_entry};
+ghost use Rattle.testing_model.specs.Covered.{Covered, CoveredItem, upload_of, drop_of, bug_of, hint_of, unhint_of, delays_of, builds_of};
+ghost use Rattle.testing_facts.specs.Entries.{with_entry, noted};
+ghost use Rattle.testing_facts.specs.Restored.{said, put_given, last_given, restored};
+ghost use Rattle.testing_facts.specs.Shifts.{shift_builds};
+ghost use Rattle.testing_facts.specs.Uploads.{AreByMessage, with_kept};
+ghost use Rattle.testing_facts.specs.declared.entry.Entry.TheVariants.{Upload, Dropped, Bug, Hint as AHint, Unhint, Delays};
+ghost use Rattle.testing_model.specs.FactDifference.{IsChangedFrom, IsDifference};
+ghost use Rattle.testing_model.specs.KeptFacts.{trimmed};
+ghost use Rattle.testing_model.specs.declared.fact_row.FactRow.{FactRow as ARow};
 ghost use Rattle.testing_model.specs.FactOrder.{AreBySource, AreByPair};
+ghost use Rattle.testing_model.specs.FactRows.{rows_of};
 ghost use Rattle.testing_model.specs.StandsFor.{StandsFor};
 ghost use Rattle.testing_model.specs.Suite.{Suite};
-ghost use Rattle.testing_model.specs.WithMessage.{with_upload, with_drop, with_greatest, with_builds, with_bug, stands_beside};
+ghost use Rattle.testing_model.specs.WithMessage.{with_upload, with_build, with_builds, with_greatest, with_bug, with_hint, with_unhint, stands_beside};
 ghost use Rattle.testing_model.specs.declared.facts.UploadIn.{UploadIn as AnUpload};
 
 use crate::build_blocks::BuildBlocks;
-use crate::entry::{Entry, entry_of};
-use crate::taken::{later_delays, put_bug, put_drop, put_hint, put_unhint, put_upload};
+use crate::changes::changes;
+use crate::entry::{Entry, Sent, entry_of};
+use crate::log::{Log, Shifted};
+use crate::restoring::{
+    said_bug, said_build, said_delays, said_drop, said_hint, said_unhint, said_upload,
+};
+use crate::rows::{hint_row, unhint_row};
+use crate::shifts::{bug_shift, drop_shift, hint_left, last_row, source_shift, unhint_left};
+use crate::taken::{later_delays, put_bug, put_drop, put_hint, put_kept, put_unhint, put_upload};
+use crate::trimming::trim_uploads;
 use deb_version::NoMemory;
 use std::alloc::Global;
 use std::marker::Model;
 use testing_items::{Hint, Item};
-use testing_model::{BugIn, BuildIn, DelaysIn, DropIn, HintIn, UnhintIn, UploadIn};
+use testing_model::{
+    BugIn, BuildIn, DelaysIn, DropIn, FactChanges, FactRow, HasSources, HintIn, UnhintIn, UploadIn,
+};
 
 /// The facts of a set of messages.
 #[derive(Drop)]
@@ -31,12 +49,15 @@ pub struct Facts {
     hints: Vec<HintIn>,
     unhints: Vec<UnhintIn>,
     delays: Option<DelaysIn>,
+    log: Log,
 }
 
 impl Model for Facts {
+    ghost use Rattle.testing_facts.specs.Uploads.{AreByMessage};
     ghost use Rattle.testing_model.specs.Boxed.{unboxed};
     ghost use Rattle.testing_model.specs.FactLists.{FactLists};
     ghost use Rattle.testing_model.specs.FactOrder.{IsFactOrder};
+    ghost use Rattle.std.specs.Prelude.{◌+◌, ◌≤◌, vec_len, vec_capacity};
 
     ghost Value = { FactLists };
 
@@ -49,9 +70,13 @@ impl Model for Facts {
       hints = a.hints.items;
       unhints = a.unhints.items;
       delays = a.delays;
+      came = a.log.came.items;
+      left = a.log.left.items;
     } };
 
-    ghost invariant = { λ a. IsFactOrder (unboxed a.sources.items) a.rows a.drops.items a.bugs.items };
+    ghost invariant = { λ a. IsFactOrder (unboxed a.sources.items) a.rows a.drops.items a.bugs.items
+        × (vec_len a.log.left + vec_len a.uploads ≤ vec_capacity a.log.left)
+        × AreByMessage a.uploads.items };
 }
 
 impl Facts {
@@ -71,6 +96,7 @@ impl Facts {
             hints: Vec::new(alloc),
             unhints: Vec::new(alloc),
             delays: None,
+            log: Log::new(alloc),
         }
     }
 
@@ -82,9 +108,10 @@ impl Facts {
         self.sources.as_slice()
     }
 
-    /// The uploads, all that count among them.
+    /// The uploads, all that count among them, by sender and number, each once.
     pub fn uploads(&self) -> &[UploadIn]
-        ensures { result.now ≡ self.now.uploads }
+        ensures uploads { result.now ≡ self.now.uploads }
+        ensures ordered { AreByMessage result.now }
     {
         self.uploads.as_slice()
     }
@@ -125,6 +152,40 @@ impl Facts {
         self.delays
     }
 
+    /// How many rows the facts have. A `usize` might not count those of all lists together.
+    pub fn count(&self) -> u128
+        ensures { result ≡ length (rows_of self.now) }
+    {
+        let stand = self.sources.len() as u128 + self.uploads.len() as u128 + self.rows.count();
+        let said = self.drops.len() as u128 + self.bugs.len() as u128;
+        let asked = self.hints.len() as u128 + self.unhints.len() as u128;
+        let last = if self.delays.is_some() { 1 } else { 0 };
+        stand + said + asked + last
+    }
+
+    /// What changed of the rows since the facts were kept: the rows that came without those that left, and the other way
+    /// round. NoMemory where memory runs out.
+    pub fn changes(&self) -> Result<FactChanges, NoMemory>
+        ensures { IfOk result (λ c. IsDifference self.now.came self.now.left c.put c.gone) }
+    {
+        changes(self.alloc, &self.log.came, &self.log.left)
+    }
+
+    /// The facts' rows are kept as they are now: nothing has changed of them.
+    pub fn keep(&mut self)
+        ensures { self.new ≡ record self.old { came = []; left = [] } }
+    {
+        self.log.clear();
+    }
+
+    /// Leaves, of the uploads, those alone that count beside the testing. It takes no memory.
+    pub fn trim<T: HasSources>(&mut self, testing: &T)
+        ensures { self.new ≡ trimmed (T.suite testing.now) self.old }
+    {
+        let sources = testing.sources_by_name();
+        trim_uploads(&mut self.uploads, &mut self.log.left, sources);
+    }
+
     /// Takes what one more message says.
     pub fn take(&mut self, sender: u32, number: u32, item: &Item) -> Result<(), NoMemory>
         ensures ok { OnOk result ((s : Covered) (t : Suite) → let m : CoveredItem = record { sender = sender; number = number; item = item.now } in
@@ -132,6 +193,7 @@ impl Facts {
         ensures kept { OnOk result ((u : AnUpload) → Contains self.old.uploads u → Contains self.new.uploads u) }
         ensures there { OnOk result ((u : AnUpload) → let m : CoveredItem = record { sender = sender; number = number; item = item.now } in
             upload_of m ≡ Some u → Contains self.new.uploads u) }
+        ensures moved { OnOk result ((count : ARow → ℕ) → IsChangedFrom count self.old → IsChangedFrom count self.new) }
         ensures err { OnErr result (self.new ≡ self.old) }
     {
         let entry = entry_of(self.alloc, sender, number, item)?;
@@ -149,57 +211,237 @@ impl Facts {
             Entry::Dropped(drop) => self.take_drop(drop),
             Entry::Build(builds) => self.take_builds(builds.into_vec()),
             Entry::Bug(bug) => self.take_bug(bug),
-            Entry::Hint(hint) => put_hint(&mut self.hints, hint),
-            Entry::Unhint(unhint) => put_unhint(&mut self.unhints, unhint),
-            Entry::Delays(delays) => {
-                self.delays = later_delays(self.delays, delays);
-                Ok(())
-            }
+            Entry::Hint(hint) => self.take_hint(hint),
+            Entry::Unhint(unhint) => self.take_unhint(unhint),
+            Entry::Delays(delays) => self.take_delays(delays),
             Entry::Nothing => Ok(()),
         }
     }
 
-    /// An upload joins the sources and the uploads.
+    /// An upload joins the sources, and the uploads unless it is there.
     fn take_upload(&mut self, upload: UploadIn) -> Result<(), NoMemory>
-        ensures ok { OnOk result (self.new ≡ record self.old { sources = with_upload upload self.old.sources; uploads = self.old.uploads ++ upload ∷ [] }) }
+        ensures ok { OnOk result (self.new ≡ with_entry (Upload upload) self.old) }
         ensures err { OnErr result (self.new ≡ self.old) }
     {
         let kept = upload.copy(self.alloc)?;
         let boxed = Box::new(self.alloc, upload)?;
-        self.uploads.push(kept)?;
-        if put_upload(&mut self.sources, boxed).is_err() {
-            self.uploads.pop();
-            return Err(NoMemory);
-        }
+        let shifted = source_shift(&self.sources, &kept);
+        self.log.reserve(self.uploads.len(), 3)?;
+        self.uploads.reserve(1)?;
+        put_upload(&mut self.sources, boxed)?;
+        let came = put_kept(&mut self.uploads, kept);
+        self.log.note(shifted);
+        self.log.note(Shifted { left: None, came });
         Ok(())
     }
 
     /// A drop joins the greatest drops, and takes its row.
     fn take_drop(&mut self, drop: DropIn) -> Result<(), NoMemory>
-        ensures ok { OnOk result (self.new ≡ record self.old { rows = with_drop drop self.old.rows; drops = with_greatest drop self.old.drops }) }
+        ensures ok { OnOk result (self.new ≡ with_entry (Dropped drop) self.old) }
         ensures err { OnErr result (self.new ≡ self.old) }
     {
         let kept = drop.copy(self.alloc)?;
+        let shifted = drop_shift(&self.drops, &drop);
+        let taken = Shifted {
+            left: self.rows.taken(&drop),
+            came: None,
+        };
+        self.log.reserve(self.uploads.len(), 2)?;
         put_drop(&mut self.drops, kept)?;
         self.rows.take(&drop);
+        self.log.note(taken);
+        self.log.note(shifted);
         Ok(())
     }
 
     /// A message on a bug joins the states of the bugs.
     fn take_bug(&mut self, bug: BugIn) -> Result<(), NoMemory>
-        ensures ok { OnOk result (self.new ≡ record self.old { bugs = with_bug bug self.old.bugs }) }
+        ensures ok { OnOk result (self.new ≡ with_entry (Bug bug) self.old) }
         ensures err { OnErr result (self.new ≡ self.old) }
     {
+        let shifted = bug_shift(&self.bugs, &bug);
+        self.log.reserve(self.uploads.len(), 1)?;
         put_bug(&mut self.bugs, bug)?;
+        self.log.note(shifted);
         Ok(())
     }
 
     /// The builds of one message join the rows, each where it stands beside the drops.
     fn take_builds(&mut self, builds: Vec<BuildIn>) -> Result<(), NoMemory>
-        ensures ok { OnOk result (self.new ≡ record self.old { rows = with_builds (stands_beside self.old.drops) builds.items self.old.rows }) }
+        ensures ok { OnOk result (self.new ≡ noted (shift_builds (stands_beside self.old.drops) builds.items self.old.rows)
+            (record self.old { rows = with_builds (stands_beside self.old.drops) builds.items self.old.rows })) }
         ensures err { OnErr result (self.new ≡ self.old) }
     {
-        self.rows.put(self.alloc, &self.drops, builds)?;
+        self.log.reserve(self.uploads.len(), builds.len())?;
+        self.rows
+            .put(self.alloc, &self.drops, builds, &mut self.log)?;
+        Ok(())
+    }
+
+    /// A hint joins the hints.
+    fn take_hint(&mut self, hint: HintIn) -> Result<(), NoMemory>
+        ensures ok { OnOk result (self.new ≡ with_entry (AHint hint) self.old) }
+        ensures err { OnErr result (self.new ≡ self.old) }
+    {
+        let shifted = Shifted {
+            left: hint_left(&self.hints, &hint),
+            came: Some(hint_row(&hint)),
+        };
+        self.log.reserve(self.uploads.len(), 1)?;
+        put_hint(&mut self.hints, hint)?;
+        self.log.note(shifted);
+        Ok(())
+    }
+
+    /// An unhint joins the unhints.
+    fn take_unhint(&mut self, unhint: UnhintIn) -> Result<(), NoMemory>
+        ensures ok { OnOk result (self.new ≡ with_entry (Unhint unhint) self.old) }
+        ensures err { OnErr result (self.new ≡ self.old) }
+    {
+        let shifted = Shifted {
+            left: unhint_left(&self.unhints, &unhint),
+            came: Some(unhint_row(&unhint)),
+        };
+        self.log.reserve(self.uploads.len(), 1)?;
+        put_unhint(&mut self.unhints, unhint)?;
+        self.log.note(shifted);
+        Ok(())
+    }
+
+    /// A message on delays gives way to the last one, or comes in its place.
+    fn take_delays(&mut self, delays: DelaysIn) -> Result<(), NoMemory>
+        ensures ok { OnOk result (self.new ≡ with_entry (Delays delays) self.old) }
+        ensures err { OnErr result (self.new ≡ self.old) }
+    {
+        let last = later_delays(self.delays, delays);
+        let shifted = Shifted {
+            left: last_row(self.delays),
+            came: last_row(last),
+        };
+        self.log.reserve(self.uploads.len(), 1)?;
+        self.delays = last;
+        self.log.note(shifted);
+        Ok(())
+    }
+
+    /// Puts one kept row back, with the item of the message that it names. A row of which the item gives no fact puts
+    /// nothing back. The log stays: what is put back hasn't come since. NoMemory where memory runs out, and then nothing
+    /// changes.
+    pub fn restore(&mut self, row: FactRow, item: &Item) -> Result<(), NoMemory>
+        ensures ok { OnOk result (self.new ≡ restored (row, item.now) self.old) }
+        ensures err { OnErr result (self.new ≡ self.old) }
+    {
+        let sent = Sent {
+            alloc: self.alloc,
+            sender: row.sender,
+            number: row.number,
+        };
+        if row.kind == 3 {
+            return self.restore_build(sent, item, row.place);
+        }
+        if row.place > 0 {
+            return Ok(());
+        }
+        match row.kind {
+            1 => self.restore_source(sent, item),
+            2 => self.restore_upload(sent, item),
+            4 => self.restore_drop(sent, item),
+            5 => self.restore_bug(sent, item),
+            6 => self.restore_hint(sent, item),
+            7 => self.restore_unhint(sent, item),
+            8 => self.restore_delays(sent, item),
+            _ => Ok(()),
+        }
+    }
+
+    /// An upload comes back among unstable's sources.
+    fn restore_source(&mut self, sent: Sent, item: &Item) -> Result<(), NoMemory>
+        ensures ok { OnOk result (let m = said sent.sender sent.number item.now in self.new ≡ record self.old { sources = put_given with_upload (upload_of m) self.old.sources }) }
+        ensures err { OnErr result (self.new ≡ self.old) }
+    {
+        if let Some(upload) = said_upload(sent, item)? {
+            let boxed = Box::new(self.alloc, upload)?;
+            put_upload(&mut self.sources, boxed)?;
+        }
+        Ok(())
+    }
+
+    /// An upload comes back among the uploads, unless it is there.
+    fn restore_upload(&mut self, sent: Sent, item: &Item) -> Result<(), NoMemory>
+        ensures ok { OnOk result (let m = said sent.sender sent.number item.now in self.new ≡ record self.old { uploads = put_given with_kept (upload_of m) self.old.uploads }) }
+        ensures err { OnErr result (self.new ≡ self.old) }
+    {
+        if let Some(upload) = said_upload(sent, item)? {
+            self.log.reserve(self.uploads.len(), 1)?;
+            self.uploads.reserve(1)?;
+            let _ = put_kept(&mut self.uploads, upload);
+        }
+        Ok(())
+    }
+
+    /// A build comes back among unstable's rows.
+    fn restore_build(&mut self, sent: Sent, item: &Item, place: u32) -> Result<(), NoMemory>
+        ensures ok { OnOk result (let m = said sent.sender sent.number item.now in self.new ≡ record self.old { rows = put_given with_build (find (λ b. b.place == place) (builds_of m)) self.old.rows }) }
+        ensures err { OnErr result (self.new ≡ self.old) }
+    {
+        if let Some(build) = said_build(sent, item, place)? {
+            self.rows.put_one(self.alloc, build)?;
+        }
+        Ok(())
+    }
+
+    /// A drop comes back among the greatest ones. It takes no row.
+    fn restore_drop(&mut self, sent: Sent, item: &Item) -> Result<(), NoMemory>
+        ensures ok { OnOk result (let m = said sent.sender sent.number item.now in self.new ≡ record self.old { drops = put_given with_greatest (drop_of m) self.old.drops }) }
+        ensures err { OnErr result (self.new ≡ self.old) }
+    {
+        if let Some(drop) = said_drop(sent, item)? {
+            put_drop(&mut self.drops, drop)?;
+        }
+        Ok(())
+    }
+
+    /// A message on a bug comes back.
+    fn restore_bug(&mut self, sent: Sent, item: &Item) -> Result<(), NoMemory>
+        ensures ok { OnOk result (let m = said sent.sender sent.number item.now in self.new ≡ record self.old { bugs = put_given with_bug (bug_of m) self.old.bugs }) }
+        ensures err { OnErr result (self.new ≡ self.old) }
+    {
+        if let Some(bug) = said_bug(sent, item)? {
+            put_bug(&mut self.bugs, bug)?;
+        }
+        Ok(())
+    }
+
+    /// A hint comes back.
+    fn restore_hint(&mut self, sent: Sent, item: &Item) -> Result<(), NoMemory>
+        ensures ok { OnOk result (let m = said sent.sender sent.number item.now in self.new ≡ record self.old { hints = put_given with_hint (hint_of m) self.old.hints }) }
+        ensures err { OnErr result (self.new ≡ self.old) }
+    {
+        if let Some(hint) = said_hint(sent, item)? {
+            put_hint(&mut self.hints, hint)?;
+        }
+        Ok(())
+    }
+
+    /// An unhint comes back.
+    fn restore_unhint(&mut self, sent: Sent, item: &Item) -> Result<(), NoMemory>
+        ensures ok { OnOk result (let m = said sent.sender sent.number item.now in self.new ≡ record self.old { unhints = put_given with_unhint (unhint_of m) self.old.unhints }) }
+        ensures err { OnErr result (self.new ≡ self.old) }
+    {
+        if let Some(unhint) = said_unhint(sent, item) {
+            put_unhint(&mut self.unhints, unhint)?;
+        }
+        Ok(())
+    }
+
+    /// A message on delays comes back, unless a later one is there.
+    fn restore_delays(&mut self, sent: Sent, item: &Item) -> Result<(), NoMemory>
+        ensures ok { OnOk result (let m = said sent.sender sent.number item.now in self.new ≡ record self.old { delays = last_given (delays_of m) self.old.delays }) }
+        ensures err { OnErr result (self.new ≡ self.old) }
+    {
+        if let Some(delays) = said_delays(sent, item) {
+            self.delays = later_delays(self.delays, delays);
+        }
         Ok(())
     }
 }

@@ -2,11 +2,14 @@
 
 ghost use Rattle.std.specs.Prelude.{◌≡◌};
 ghost use Rattle.testing_model.specs.JudgedRows.{row_of};
+ghost use Rattle.testing_facts.specs.Uploads as uploads;
 ghost use Rattle.testing_items.specs.Words as words;
+ghost use Rattle.testing_model.specs.Excuses as rules;
 ghost use Rattle.testing_model.specs.Unstable as unstable;
 
 use deb_version::Version;
 use std::cmp::Ordering;
+use testing_items::Urgency;
 use testing_model::{BugIn, BuildIn, DelaysIn, DropIn, HintIn, LentRow, UnhintIn, UploadIn};
 
 /// The first version is above the second.
@@ -30,6 +33,45 @@ pub fn upload_order(upload: &UploadIn, other: &UploadIn) -> Ordering
     let numbers = upload.number.cmp(&other.number);
     let senders = upload.sender.cmp(&other.sender).then(numbers);
     other.version.order(&upload.version).then(senders)
+}
+
+/// The rank of an urgency, from the least urgent.
+pub fn urgency_rank(urgency: Urgency) -> u32
+    ensures { result ≡ rules.urgency_rank urgency }
+{
+    match urgency {
+        Urgency::Low => 0,
+        Urgency::Medium => 1,
+        Urgency::High => 2,
+        Urgency::Emergency => 3,
+        Urgency::Critical => 4,
+    }
+}
+
+/// By source, text of the version, urgency and day.
+fn said_order(upload: &UploadIn, other: &UploadIn) -> Ordering
+    ensures { result ≡ uploads.said_order upload.now other.now }
+{
+    let day = upload.day.to_plain().to_unix_epoch_day();
+    let days = day.cmp(&other.day.to_plain().to_unix_epoch_day());
+    let urgencies = urgency_rank(upload.urgency).cmp(&urgency_rank(other.urgency));
+    let versions = upload.version.text().cmp(other.version.text());
+    let sources = upload.source.as_str().cmp(other.source.as_str());
+    sources.then(versions.then(urgencies.then(days)))
+}
+
+/// By sender and number, and among those of one number by what they say.
+pub fn message_order(upload: &UploadIn, other: &UploadIn) -> Ordering
+    ensures { result ≡ uploads.message_order upload.now other.now }
+{
+    match upload.sender.cmp(&other.sender) {
+        Ordering::Equal => {}
+        apart => return apart,
+    }
+    match upload.number.cmp(&other.number) {
+        Ordering::Equal => said_order(upload, other),
+        apart => apart,
+    }
 }
 
 /// The greatest version first, and among the same version by sender, number and place.

@@ -1,23 +1,27 @@
 //! One more message, in the lists of facts.
 
-ghost use Rattle.std.specs.Prelude.{◌≡◌, ◌<◌, ◌≤◌, ◌+◌, OnOk, OnErr, length, vec_len, vec_capacity};
+ghost use Rattle.std.specs.Prelude.{◌≡◌, ◌<◌, ◌≤◌, ◌+◌, OnOk, OnErr, length, map, option_to_list, vec_len, vec_capacity};
 ghost use Rattle.std.specs.Ordering.{nat_cmp};
 ghost use Rattle.std.specs.List.Sorted.{IsBinarySearchResult, IsSearchInRange};
 ghost use Rattle.testing_model.specs.Boxed.{unboxed};
 ghost use Rattle.testing_model.specs.FactOrder.{AreBySource, AreByPair, AreDropsByPair, AreByNumber};
 ghost use Rattle.testing_model.specs.Unstable.{pair_order, pair_of, drop_pair};
+ghost use Rattle.testing_facts.specs.Shifts.{come_in};
 ghost use Rattle.testing_facts.specs.Slots.{IsSlotFor};
+ghost use Rattle.testing_facts.specs.Uploads.{message_order, AreByMessage, first_stays, with_kept};
+ghost use Rattle.testing_model.specs.FactRows as rows;
 ghost use Rattle.testing_model.specs.WithMessage as taken;
 ghost use Rattle.testing_items.specs.Words.{byte_cmp};
 
+use crate::rows::upload_row;
 use crate::select::{
-    bug_order, build_order, delays_order, drop_order, hint_order, is_above, unhint_order,
-    upload_order,
+    bug_order, build_order, delays_order, drop_order, hint_order, is_above, message_order,
+    unhint_order, upload_order,
 };
 use deb_control::Binary;
 use deb_version::NoMemory;
 use std::cmp::Ordering;
-use testing_model::{BugIn, BuildIn, DelaysIn, DropIn, HintIn, UnhintIn, UploadIn};
+use testing_model::{BugIn, BuildIn, DelaysIn, DropIn, FactRow, HintIn, UnhintIn, UploadIn};
 
 /// Where a list takes an element: over the one at a place, before it, or nowhere.
 #[derive(Clone, Copy, Debug, PartialEq, Eq)]
@@ -70,6 +74,36 @@ pub fn put_upload(sources: &mut Vec<Box<UploadIn>>, upload: Box<UploadIn>) -> Re
     Ok(())
 }
 
+/// Where the uploads have this one, or else where it belongs.
+fn place_of_kept(uploads: &[UploadIn], upload: &UploadIn) -> Result<usize, usize>
+    ensures bound { IsSearchInRange result (length uploads.now) }
+    ensures found { IsBinarySearchResult (λ u. message_order u upload.now) uploads.now result }
+{
+    uploads.binary_search_by(
+        |other: &UploadIn| -> Ordering
+            ensures { result ≡ message_order other.now upload.entry.now }
+        { message_order(other, upload) },
+    )
+}
+
+/// An upload joins the uploads, unless it is there. Gives its row where it came. There is room for it.
+pub fn put_kept(uploads: &mut Vec<UploadIn>, upload: UploadIn) -> Option<FactRow>
+    requires order { AreByMessage uploads.old.items }
+    requires room { vec_len uploads.old < vec_capacity uploads.old }
+    ensures items { uploads.new.items ≡ with_kept upload uploads.old.items }
+    ensures came { option_to_list result ≡ map rows.upload_row (come_in (λ u. u) message_order first_stays upload uploads.old.items) }
+    ensures len { vec_len uploads.new ≤ vec_len uploads.old + 1 }
+{
+    match place_of_kept(uploads, &upload) {
+        Ok(_place) => None,
+        Err(place) => {
+            let row = upload_row(&upload);
+            let _ = uploads.insert(place, upload);
+            Some(row)
+        }
+    }
+}
+
 /// The order of a drop's architecture and name beside these.
 fn order_drop(drop: &DropIn, arch: &str, name: &str) -> Ordering
     ensures { result ≡ pair_order (drop_pair drop.now) (arch.now, name.now) }
@@ -79,7 +113,7 @@ fn order_drop(drop: &DropIn, arch: &str, name: &str) -> Ordering
 }
 
 /// Where the drops have the architecture and the name, or else where these belong.
-fn place_of_drop(drops: &[DropIn], arch: &str, name: &str) -> Result<usize, usize>
+pub fn place_of_drop(drops: &[DropIn], arch: &str, name: &str) -> Result<usize, usize>
     ensures bound { IsSearchInRange result (length drops.now) }
     ensures found { IsBinarySearchResult (λ d. pair_order (drop_pair d) (arch.now, name.now)) drops.now result }
 {
@@ -122,7 +156,7 @@ pub fn put_drop(drops: &mut Vec<DropIn>, drop: DropIn) -> Result<(), NoMemory>
 }
 
 /// Where the bugs have the number, or else where it belongs.
-fn place_of_bug(bugs: &[BugIn], bug: u32) -> Result<usize, usize>
+pub fn place_of_bug(bugs: &[BugIn], bug: u32) -> Result<usize, usize>
     ensures bound { IsSearchInRange result (length bugs.now) }
     ensures found { IsBinarySearchResult (λ b. nat_cmp b.bug bug) bugs.now result }
 {
@@ -173,7 +207,7 @@ pub fn order_pair(build: &BuildIn, arch: &str, name: &str) -> Ordering
 }
 
 /// Where the rows have the architecture and the name, or else where these belong.
-fn place_of_pair(rows: &[Box<BuildIn>], arch: &str, name: &str) -> Result<usize, usize>
+pub fn place_of_pair(rows: &[Box<BuildIn>], arch: &str, name: &str) -> Result<usize, usize>
     ensures bound { IsSearchInRange result (length (unboxed rows.now)) }
     ensures found { IsBinarySearchResult (λ b. pair_order (pair_of b) (arch.now, name.now)) (unboxed rows.now) result }
 {
@@ -220,7 +254,7 @@ pub fn put_build(rows: &mut Vec<Box<BuildIn>>, build: Box<BuildIn>)
 }
 
 /// The build is of another architecture or name than the drop, or of a version above it.
-fn outlives(drop: &DropIn, build: &BuildIn) -> bool
+pub fn outlives(drop: &DropIn, build: &BuildIn) -> bool
     ensures { result ≡ taken.outlives drop.now build.now }
 {
     !(drop.arch.as_str() == build.binary.architecture.as_str()

@@ -1,3 +1,5 @@
+pub mod ArchFacts
+pub mod DistinctFacts
 pub mod Each
 pub mod Grouping
 pub mod Last

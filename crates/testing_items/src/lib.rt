@@ -1,8 +1,12 @@
 //! What the messages of the office say: architectures, uploads, builds, bugs and wishes, as values.
 #![tactic(auto)]
 
+mod arch_names;
 mod archs;
+mod distinct;
 mod item;
 
-pub use archs::{ALL, Archs};
+pub use arch_names::are_archs;
+pub use archs::{ALL, Archs, ArchsFault};
+pub use distinct::are_distinct;
 pub use item::{Binaries, Hint, HintItem, HintItems, Item, Names, Severity, Urgency, copy_version};

@@ -14,15 +14,17 @@ use Rattle.testing_items.specs.declared.item.Item.{Item}
 use Rattle.testing_items.specs.declared.item.Item.TheVariants.{Upload, Dropped, Build, Bug, Hint, Unhint, Delays, Nothing}
 use Rattle.testing_model.specs.declared.facts.UploadIn.{UploadIn}
 use Rattle.testing_model.specs.declared.facts.BuildIn.{BuildIn}
+use Rattle.testing_model.specs.declared.facts.HintIn.{HintIn}
+use Rattle.testing_model.specs.declared.facts.UnhintIn.{UnhintIn}
 use Rattle.testing_model.specs.declared.suite.SourceIn.{SourceIn}
 use Rattle.testing_model.specs.declared.suite.RowIn.{RowIn}
 use Rattle.testing_model.specs.declared.excuse.Excuse.{Excuse}
 use Rattle.testing_items.specs.Words.{Text, byte_cmp, arch_name, sorted_by}
 use Rattle.testing_model.specs.Suite.{Suite}
 use Rattle.testing_model.specs.Covered.{Covered, CoveredItem, upload_of, builds_of, placed_from, uploads_in, builds_in}
-use Rattle.testing_model.specs.Unstable.{unstable_source, unstable_sources, unstable_row, is_build_of, is_above_drops, unstable_builds, pair_of, pair_order, places, row_at, built_on, unstable_rows, is_current, hints_by_number, unhints_by_number}
+use Rattle.testing_model.specs.Unstable.{unstable_source, unstable_sources, unstable_row, is_build_of, is_above_drops, unstable_builds, pair_of, pair_order, places, row_at, built_on, built_rows, is_current, hints_by_number, unhints_by_number}
 use Rattle.testing_model.specs.Moves.{row_key, row_cmp, put_source, as_source, is_row_of, source_in, group_sources, move_group, remove_source}
-use Rattle.testing_model.specs.Updates.{update_of}
+use Rattle.testing_model.specs.Updates.{update_by, update_of}
 use Rattle.testing_model.specs.Provenance.{IsUploaded, IsBuilt, IsArchPlace, IsGivenBy, KnowsArchs, binary_in}
 use Rattle.testing_items.proofs.Each.{each-weaker, each-append, each-filter, each-put, each-put_all}
 use Rattle.testing_model.proofs.Least.{from_filter, least_from}
@@ -58,11 +60,12 @@ upload_given s u c =
       upload = subst (λ (n : CoveredItem). Contains s n) (says_upload m.0.sender m.0.number m.0.item u m.2) m.1;
     }
 
-source_given : (s : Covered) (u : UploadIn) → Contains (unstable_sources s) u → IsUploaded s (as_source u)
-source_given s u c =
+-- unstable's sources are said by uploads
+source_said : (s : Covered) (u : UploadIn) → Contains (unstable_sources s) u → Contains (uploads_in s) u
+source_said s u c =
     let n = given_by (unstable_source s) (sorted_by (λ name. name) byte_cmp (map (λ (v : UploadIn). v.source) (uploads_in s))) u c in
     let among = least_from upload_total (filter (λ (v : UploadIn). bytes_eq v.source n.0) (uploads_in s)) u n.2 in
-    upload_given s u (from_filter (λ (v : UploadIn). bytes_eq v.source n.0) (uploads_in s) u among).0
+    (from_filter (λ (v : UploadIn). bytes_eq v.source n.0) (uploads_in s) u among).0
 
 -- Unstable's rows.
 
@@ -108,13 +111,17 @@ says_build s sender number (Unhint cancels) b c d = none_among b d
 says_build s sender number (Delays low medium high critical) b c d = none_among b d
 says_build s sender number Nothing b c d = none_among b d
 
-build_given : (s : Covered) (b : BuildIn) → Contains (unstable_builds s) b → IsInBuild s b
+build_given : (s : Covered) (b : BuildIn) → Contains (builds_in s) b → IsInBuild s b
 build_given s b c =
+    let m = spread_from builds_of s b c in
+    says_build s m.0.sender m.0.number m.0.item b m.1 m.2
+
+-- unstable's builds are said by builds
+build_said : (s : Covered) (b : BuildIn) → Contains (unstable_builds s) b → Contains (builds_in s) b
+build_said s b c =
     let p = given_by (λ (q : Text × Text). unstable_row s q.0 q.1) (sorted_by (λ q. q) pair_order (map pair_of (builds_in s))) b c in
     let test : BuildIn → Bool = λ v. is_build_of p.0.0 p.0.1 v && is_above_drops s v in
-    let among = (from_filter test (builds_in s) b (least_from build_total (filter test (builds_in s)) b p.2)).0 in
-    let m = spread_from builds_of s b among in
-    says_build s m.0.sender m.0.number m.0.item b m.1 m.2
+    (from_filter test (builds_in s) b (least_from build_total (filter test (builds_in s)) b p.2)).0
 
 -- the places of the architectures, and what stands there
 record IsPlaceOf (archs : List Text) (p : ℕ × Text) : Type 0 where
@@ -138,13 +145,14 @@ place_of archs p few c = elim (Contains-append_cases (enumerate_from 0 archs) ((
   ]
 ]
 
-row_given : (archs : List Text) (s : Covered) (r : RowIn) → length archs ≤ 16 → Contains (unstable_rows archs s) r → IsBuilt archs s r
-row_given archs s r few c =
-    let p = spread_from (built_on (unstable_builds s)) (places archs) r c in
+row_given : (archs : List Text) (s : Covered) (builds : List BuildIn) → ((b : BuildIn) → Contains builds b → Contains (builds_in s) b) → (r : RowIn) → length archs ≤ 16
+    → Contains (built_rows archs builds) r → IsBuilt archs s r
+row_given archs s builds said r few c =
+    let p = spread_from (built_on builds) (places archs) r c in
     let place = place_of archs p.0 few p.1 in
-    let b = mapped_from (row_at p.0.0) (filter (λ (b : BuildIn). bytes_eq b.binary.architecture p.0.1) (unstable_builds s)) r p.2 in
-    let among = from_filter (λ (b : BuildIn). bytes_eq b.binary.architecture p.0.1) (unstable_builds s) b.0 b.1 in
-    let given = build_given s b.0 among.0 in
+    let b = mapped_from (row_at p.0.0) (filter (λ (b : BuildIn). bytes_eq b.binary.architecture p.0.1) builds) r p.2 in
+    let among = from_filter (λ (b : BuildIn). bytes_eq b.binary.architecture p.0.1) builds b.0 b.1 in
+    let given = build_given s b.0 (said b.0 among.0) in
     let same : b.0.binary.architecture ≡ p.0.1 = (bytes_eq-Decides b.0.binary.architecture p.0.1).0 among.1 in
     subst (λ (q : RowIn). IsBuilt archs s q) b.2 (record {
       binaries = given.binaries;
@@ -209,25 +217,34 @@ module _ (P : SourceIn → Type 0) (Q : RowIn → Type 0) where
 
 -- A run.
 
-pub update-given : (archs : List Text) (s : Covered) (excuses : List Excuse) (old : Suite) → length archs ≤ 16 → IsGivenBy archs s old (update_of archs s excuses old).suite
-update-given archs s excuses old few =
+-- uploads and builds that a set says give all that a run brings into testing
+pub by-given : (archs : List Text) (s : Covered) (sources : List UploadIn) (builds : List BuildIn) (hints : List HintIn) (unhints : List UnhintIn) (excuses : List Excuse) (old : Suite)
+    → length archs ≤ 16 → ((u : UploadIn) → Contains sources u → Contains (uploads_in s) u) → ((b : BuildIn) → Contains builds b → Contains (builds_in s) b)
+    → IsGivenBy archs s old (update_by archs sources (built_rows archs builds) hints unhints excuses old).suite
+by-given archs s sources builds hints unhints excuses old few sources-said builds-said =
     let P : SourceIn → Type 0 = λ x. Contains old.sources x ⊎ IsUploaded s x in
     let Q : RowIn → Type 0 = λ r. Contains old.rows r ⊎ IsBuilt archs s r in
-    let sources = unstable_sources s in
-    let rows = unstable_rows archs s in
-    let sources-have : (u : UploadIn) → Contains sources u → P (as_source u) = λ u c. inr (source_given s u c) in
-    let rows-have : AllByRecursion Q rows = each_of Q rows (λ r c. inr (row_given archs s r few c)) in
+    let rows = built_rows archs builds in
+    let sources-have : (u : UploadIn) → Contains sources u → P (as_source u) = λ u c. inr (upload_given s u (sources-said u c)) in
+    let rows-have : AllByRecursion Q rows = each_of Q rows (λ r c. inr (row_given archs s builds builds-said r few c)) in
     let before : Has P Q old = (each_of P old.sources (λ x c. inl c), each_of Q old.rows (λ r c. inl c)) in
     let after = run-keeps (Has P Q) archs (λ name t none h. removal-has P Q name t h) sources rows
-    (λ group t none h. move-has P Q sources rows sources-have rows-have group t h) (hints_by_number s) (unhints_by_number s) excuses old before in
-    let new = (update_of archs s excuses old).suite in
+    (λ group t none h. move-has P Q sources rows sources-have rows-have group t h) hints unhints excuses old before in
+    let new = (update_by archs sources rows hints unhints excuses old).suite in
     record { sources = of_each P new.sources after.0; rows = of_each Q new.rows after.1 }
+
+pub update-given : (archs : List Text) (s : Covered) (excuses : List Excuse) (old : Suite) → length archs ≤ 16 → IsGivenBy archs s old (update_of archs s excuses old).suite
+update-given archs s excuses old few =
+    by-given archs s (unstable_sources s) (unstable_builds s) (hints_by_number s) (unhints_by_number s) excuses old few (source_said s) (build_said s)
 
 known_at : (archs : List Text) (s : Covered) (old : List RowIn) (r : RowIn) → KnowsArchs archs old → Contains old r ⊎ IsBuilt archs s r → IsArchPlace archs r.arch
 known_at archs s old r known (inl was) = known.each r was
 known_at archs s old r known (inr came) = came.known
 
+-- what covered messages give is of listed architectures
+pub given-known : (archs : List Text) (s : Covered) (old new : Suite) → IsGivenBy archs s old new → KnowsArchs archs old.rows → KnowsArchs archs new.rows
+given-known archs s old new given known = record { each = λ r c. known_at archs s old.rows r known (given.rows r c) }
+
 pub archs-known : (archs : List Text) (s : Covered) (excuses : List Excuse) (old : Suite) → length archs ≤ 16
     → KnowsArchs archs old.rows → KnowsArchs archs (update_of archs s excuses old).suite.rows
-archs-known archs s excuses old few known =
-    record { each = λ r c. known_at archs s old.rows r known ((update-given archs s excuses old few).rows r c) }
+archs-known archs s excuses old few = given-known archs s old (update_of archs s excuses old).suite (update-given archs s excuses old few)

@@ -40,27 +40,27 @@ module _ (n k : ℕ) where
   abbrev said : Item → CoveredItem
   said i = record { sender = n; number = k; item = i }
 
-  upload_bears : (i : Item) (y : UploadIn) → upload_of (said i) ≡ Some y → (y.sender ≡ n) × (y.number ≡ k)
+  pub upload_bears : (i : Item) (y : UploadIn) → upload_of (said i) ≡ Some y → (y.sender ≡ n) × (y.number ≡ k)
   upload_bears (item.Upload a b c d) y e = let s : y.sender ≡ n = cc in let t : y.number ≡ k = cc in (s, t)
   upload_bears i y e = let no : None ≡ Some y = e in absurd (let never : ⊥ = cc in never)
 
-  drop_bears : (i : Item) (y : DropIn) → drop_of (said i) ≡ Some y → (y.sender ≡ n) × (y.number ≡ k)
+  pub drop_bears : (i : Item) (y : DropIn) → drop_of (said i) ≡ Some y → (y.sender ≡ n) × (y.number ≡ k)
   drop_bears (item.Dropped a b c) y e = let s : y.sender ≡ n = cc in let t : y.number ≡ k = cc in (s, t)
   drop_bears i y e = let no : None ≡ Some y = e in absurd (let never : ⊥ = cc in never)
 
-  bug_bears : (i : Item) (y : BugIn) → bug_of (said i) ≡ Some y → (y.sender ≡ n) × (y.number ≡ k)
+  pub bug_bears : (i : Item) (y : BugIn) → bug_of (said i) ≡ Some y → (y.sender ≡ n) × (y.number ≡ k)
   bug_bears (item.Bug a b c d f) y e = let s : y.sender ≡ n = cc in let t : y.number ≡ k = cc in (s, t)
   bug_bears i y e = let no : None ≡ Some y = e in absurd (let never : ⊥ = cc in never)
 
-  hint_bears : (i : Item) (y : HintIn) → hint_of (said i) ≡ Some y → (y.sender ≡ n) × (y.number ≡ k)
+  pub hint_bears : (i : Item) (y : HintIn) → hint_of (said i) ≡ Some y → (y.sender ≡ n) × (y.number ≡ k)
   hint_bears (item.Hint a) y e = let s : y.sender ≡ n = cc in let t : y.number ≡ k = cc in (s, t)
   hint_bears i y e = let no : None ≡ Some y = e in absurd (let never : ⊥ = cc in never)
 
-  unhint_bears : (i : Item) (y : UnhintIn) → unhint_of (said i) ≡ Some y → (y.sender ≡ n) × (y.number ≡ k)
+  pub unhint_bears : (i : Item) (y : UnhintIn) → unhint_of (said i) ≡ Some y → (y.sender ≡ n) × (y.number ≡ k)
   unhint_bears (item.Unhint a) y e = let s : y.sender ≡ n = cc in let t : y.number ≡ k = cc in (s, t)
   unhint_bears i y e = let no : None ≡ Some y = e in absurd (let never : ⊥ = cc in never)
 
-  delays_bears : (i : Item) (y : DelaysIn) → delays_of (said i) ≡ Some y → (y.sender ≡ n) × (y.number ≡ k)
+  pub delays_bears : (i : Item) (y : DelaysIn) → delays_of (said i) ≡ Some y → (y.sender ≡ n) × (y.number ≡ k)
   delays_bears (item.Delays a b c d) y e = let s : y.sender ≡ n = cc in let t : y.number ≡ k = cc in (s, t)
   delays_bears i y e = let no : None ≡ Some y = e in absurd (let never : ⊥ = cc in never)
 
@@ -135,11 +135,11 @@ module _ (n k : ℕ) where
     ]
   ]
 
-  builds_bear : (i : Item) (b : BuildIn) → Contains (builds_of (said n k i)) b → (b.sender ≡ n) × (b.number ≡ k)
+  pub builds_bear : (i : Item) (b : BuildIn) → Contains (builds_of (said n k i)) b → (b.sender ≡ n) × (b.number ≡ k)
   builds_bear (item.Build bs) b c = let h = placed_bears 1 bs b c in (h.0, h.1)
   builds_bear i b c = none_among b c
 
-  one_build : (i : Item) (a b : BuildIn) → Contains (builds_of (said n k i)) a → Contains (builds_of (said n k i)) b → a.place ≡ b.place → a ≡ b
+  pub one_build : (i : Item) (a b : BuildIn) → Contains (builds_of (said n k i)) a → Contains (builds_of (said n k i)) b → a.place ≡ b.place → a ≡ b
   one_build (item.Build bs) a b c d e = one_place 1 bs a b c d e
   one_build i a b c d e = none_among a c
 

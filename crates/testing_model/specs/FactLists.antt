@@ -1,5 +1,6 @@
--- What facts hold.
+-- What facts hold, and the rows that came and those that left since they were kept.
 use Rattle.std.specs.Prelude.{List, Option}
+use Rattle.testing_model.specs.declared.fact_row.FactRow.{FactRow}
 use Rattle.testing_model.specs.declared.facts.UploadIn.{UploadIn}
 use Rattle.testing_model.specs.declared.facts.BuildIn.{BuildIn}
 use Rattle.testing_model.specs.declared.facts.DropIn.{DropIn}
@@ -17,3 +18,5 @@ pub record FactLists : Type 0 where
   pub hints : List HintIn
   pub unhints : List UnhintIn
   pub delays : Option DelaysIn
+  pub came : List FactRow
+  pub left : List FactRow

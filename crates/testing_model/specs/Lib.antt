@@ -3,6 +3,9 @@ pub mod Covered
 pub mod Excuses
 pub mod FactLists
 pub mod FactOrder
+pub mod FactRows
+pub mod FactDifference
+pub mod KeptFacts
 pub mod Provenance
 pub mod InOrder
 pub mod JudgedRows

@@ -17,6 +17,7 @@ pub enum Reason {
     RemovalAsked,
 }
 
+/// What keeps a source out, in the order in which the report tells it; none where it may move.
 #[derive(Drop)]
 pub struct Reasons {
     reasons: Vec<Reason>,
@@ -58,12 +59,14 @@ impl Model for Excuses {
 }
 
 impl Reasons {
+    /// These reasons. It takes no memory.
     pub fn new(reasons: Vec<Reason>) -> Reasons
         ensures { result ≡ reasons.items }
     {
         Reasons { reasons }
     }
 
+    /// The reasons, in their order.
     pub fn as_slice(&self) -> &[Reason]
         ensures { result.now ≡ self.now }
     {
@@ -79,6 +82,7 @@ impl Excuses {
         Excuses { excuses }
     }
 
+    /// The excuses, by name.
     pub fn as_slice(&self) -> &[Excuse]
         ensures { result.now ≡ self.now }
     {

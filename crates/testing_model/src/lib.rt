@@ -2,13 +2,17 @@
 #![tactic(auto)]
 
 mod excuse;
+mod fact_row;
 mod facts;
+mod has_sources;
 mod shared_binary;
 mod suite;
 mod update;
 
 pub use excuse::{Excuse, Excuses, Reason, Reasons};
+pub use fact_row::{FactChanges, FactRow, FactRows};
 pub use facts::{BugIn, BuildIn, Delays, DelaysIn, DropIn, HintIn, UnhintIn, UploadIn};
+pub use has_sources::HasSources;
 pub use shared_binary::SharedBinary;
 pub use suite::{LentRow, RowIn, SourceIn};
 pub use update::{Decision, Moved, MovedItems, Offender, Update};

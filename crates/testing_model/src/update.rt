@@ -20,6 +20,7 @@ pub struct Moved {
     pub version: Version,
 }
 
+/// The sources that moved together, in the order of the hint.
 #[derive(Drop)]
 pub struct MovedItems {
     items: Vec<Moved>,
@@ -88,12 +89,14 @@ impl Model for Update {
 }
 
 impl MovedItems {
+    /// These sources. It takes no memory.
     pub fn new(items: Vec<Moved>) -> MovedItems
         ensures { result ≡ items.items }
     {
         MovedItems { items }
     }
 
+    /// The sources, in their order.
     pub fn as_slice(&self) -> &[Moved]
         ensures { result.now ≡ self.now }
     {
@@ -109,6 +112,7 @@ impl Update {
         Update { decisions }
     }
 
+    /// The decisions, in their order.
     pub fn as_slice(&self) -> &[Decision]
         ensures { result.now ≡ self.now }
     {

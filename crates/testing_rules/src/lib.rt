@@ -6,10 +6,12 @@ pub use testing_facts::Facts;
 pub use testing_items::{
     ALL, Archs, Binaries, Hint, HintItem, HintItems, Item, Names, Severity, Urgency,
 };
+pub use testing_kept::{fallen, laws as kept_laws};
 pub use testing_laws::laws;
 pub use testing_model::{
-    BugIn, BuildIn, Decision, Delays, DelaysIn, DropIn, Excuse, Excuses, HintIn, Moved, MovedItems,
-    Offender, Reason, Reasons, RowIn, SharedBinary, SourceIn, UnhintIn, Update, UploadIn,
+    BugIn, BuildIn, Decision, Delays, DelaysIn, DropIn, Excuse, Excuses, FactChanges, FactRow,
+    FactRows, HasSources, HintIn, Moved, MovedItems, Offender, Reason, Reasons, RowIn,
+    SharedBinary, SourceIn, UnhintIn, Update, UploadIn,
 };
 pub use testing_moves::migrate;
 pub use testing_reports::{excuses_text, testing_text, update_text};

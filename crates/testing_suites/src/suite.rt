@@ -14,7 +14,7 @@ use std::alloc::{AllocError, Global};
 use std::cmp::Ordering;
 use std::marker::Model;
 use std::rc::Rc;
-use testing_model::{RowIn, SourceIn};
+use testing_model::{HasSources, RowIn, SourceIn};
 
 /// The sources by name, and the rows by architecture and name.
 #[derive(Drop)]
@@ -253,6 +253,14 @@ fn put_shared_row(alloc: Global, entries: &mut Rc<SuiteEntries>, row: RowIn) -> 
             *entries = Rc::new(alloc, own)?;
             Ok(())
         }
+    }
+}
+
+impl HasSources for Testing {
+    ghost suite = { λ t. t };
+
+    fn sources_by_name(&self) -> &[SourceIn] {
+        self.sources()
     }
 }
 

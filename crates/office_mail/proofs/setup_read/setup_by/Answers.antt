@@ -3,7 +3,8 @@ use Rattle.testing_items.specs.Archs.{IsArchs}
 use Rattle.office_mail.specs.Setup.{are_senders, are_roles, IsSetup}
 use Rattle.office_mail.proofs.Each.{texts}
 use Rattle.office_mail.proofs.Views.{sender_lines}
-use Rattle.office_mail.proofs.SetupFacts.{archs_kept, few_texts, setup_kept}
+use Rattle.testing_items.proofs.ArchFacts.{archs_kept, few_texts}
+use Rattle.office_mail.proofs.SetupFacts.{setup_kept}
 use Rattle.office_mail.proofs.setup_read.setup_by.Goals as goal
 
 pub of-requires : goal.of-requires

@@ -36,6 +36,7 @@ loop-text-init g c =
       open_yet = c.requires;
       reads = refl;
       calls = omega arith;
+      counts = (omega arith, omega arith);
       failures = refl;
     }
 
@@ -48,6 +49,7 @@ loop-text-preserved g c =
     let s2 = c.deliver_one.new.office in
     let l = c.loop-text.invariant in
     let step = c.in_ok-mark-in-Ok-Some.ensures in
+    let n = c.next.ensures.counts in
     let took = rw c.in-Ok-Some.field-0-is at c.in-Ok-Some.ensures.message in
     let text = c.deref.result.now in
     let lost : c.if-lost.lost ≡ (c.loop-text.lost || is_lost c.in_ok-mark-in-Ok-Some.mark) = elim c.if-lost.branch [
@@ -63,6 +65,7 @@ loop-text-preserved g c =
       open_yet = not_true c.next.new.self.ended (λ t. cc (c.in-Ok-Some.ensures.ends.0 t, c.in-Ok-Some.field-0-is));
       reads = unfailed c.in-Ok-Some.field-0 c.loop-text.bag.failures c.next.new.self.failures c.in-Ok-Some.ensures.clean ∙ l.reads;
       calls = omega (arith, l.calls, c.next.ensures.calls);
+      counts = (omega (arith, l.counts.0, n.0), omega (arith, l.counts.0, l.counts.1, n.0, n.1));
       failures = step.clean ∙ l.failures;
     }
 

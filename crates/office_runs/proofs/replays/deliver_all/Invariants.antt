@@ -1,4 +1,5 @@
 use Rattle.std.proofs.Common.{◌≡◌, ◌+◌, ◌≤◌, false}
+use Rattle.office_mail.specs.BagSteps.{CountsEach}
 use Rattle.office_runs.specs.Preserves.{Preserves, Holds, StoreRefused}
 use Rattle.office_runs.specs.DeliverySteps.{Delivers}
 use Rattle.office_runs.specs.State.{state_of}
@@ -11,6 +12,7 @@ invariant-loop-text g l = record {
   open_yet : l.bag.ended ≡ false;
   reads : l.bag.failures ≡ l.fn.bag.failures;
   calls : l.bag.calls + l.fn.bag.reads ≤ l.fn.bag.calls + l.bag.reads;
+  counts : CountsEach l.fn.bag l.bag;
   failures : g.W.Sink.failures l.writer ≡ g.W.Sink.failures l.fn.writer;
 }
 

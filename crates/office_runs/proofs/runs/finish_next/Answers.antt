@@ -5,6 +5,7 @@ use Rattle.office_mail.specs.declared.message.RunOrder.{RunOrder}
 use Rattle.office_mail.specs.Kept.{Kept}
 use Rattle.office_mail.specs.Lists.{Lists}
 use Rattle.office_mail.specs.Runs.{IsReady}
+use Rattle.testing_model.specs.Suite.{Suite}
 use Rattle.office_keeper.specs.Content.{Content, with_run}
 use Rattle.office_keeper.specs.Provenance.{AreOwnTexts, IsGiven}
 use Rattle.office_runs.specs.declared.covered.KnownFacts.{KnownFacts}
@@ -16,6 +17,10 @@ use Rattle.office_runs.proofs.CountFacts.{IsCounted-later}
 use Rattle.office_runs.proofs.FinishFacts.{IsOffice-finished}
 use Rattle.office_runs.proofs.TakenFacts.{if_known-counted, if_stand}
 use Rattle.office_runs.proofs.runs.finish_next.Goals as goal
+
+-- what is given stays so by equal lists, over equal contents
+given_by_same : (lists setup : Lists) (late mid : Content) (testing : Suite) → lists ≡ setup → late ≡ mid → IsGiven setup mid testing → IsGiven lists late testing
+given_by_same lists setup late mid testing e f given = subst (λ (u : Lists). IsGiven u late testing) (sym e) (subst (λ (m : Content). IsGiven setup m testing) (sym f) given)
 
 pub returns-clause-office : goal.returns-clause-office
 returns-clause-office g c = λ trusted legible office.
@@ -43,8 +48,9 @@ returns-clause-office g c = λ trusted legible office.
     let there : IsOffice setup mid = subst (IsOffice setup) (sym same1) office in
     let legible2 = at2.looks.legible t2 (at1.looks.legible t1 legible) in
     let lists : g.K.Keeper.setup c.next_outcome.new.keeper ≡ setup = at2.looks.setup ∙ at1.looks.setup ∙ c.requires.lists in
-    let own : AreOwnTexts (g.K.Keeper.setup c.next_outcome.new.keeper) late.kept = subst (λ (u : Lists). AreOwnTexts u late.kept) (sym lists) (subst (λ (m : Content). AreOwnTexts setup m.kept) (sym same2) office.texts) in
-    let next : new ≡ with_run old c.in_ok-done.done = at3.done trusted legible2 own ∙ ap (λ (m : Content). with_run m c.in_ok-done.done) same2 in
+    let own : AreOwnTexts setup mid.kept = subst (λ (m : Content). AreOwnTexts setup m.kept) (sym same1) office.texts in
+    let gives = given_by_same (g.K.Keeper.setup c.next_outcome.new.keeper) setup late mid c.in_ok-done.done.testing lists (at2.looks.same t2) (at2.given t2 own) in
+    let next : new ≡ with_run old c.in_ok-done.done = at3.done trusted legible2 gives ∙ ap (λ (m : Content). with_run m c.in_ok-done.done) same2 in
     let given : List RunOrder = c.deref.result.now in
     let first : FirstOrders setup mid.kept given = subst (FirstOrders setup mid.kept) (sym c.deref.ensures.value) (subst (λ (m : Content). FirstOrders setup m.kept orders) (sym same1) known.first) in
     let whole : length given ≡ length mid.reports + 1 = ap length c.deref.ensures.value ∙ size ∙ ap (λ (m : Content). length m.reports + 1) (sym same1) in
@@ -66,10 +72,10 @@ returns-clause-legible g c = λ trusted legible office.
     let at2 = c.in_ok-done.ensures in
     let t1 = at2.looks.before t2 in
     let at1 = c.in_ok-next_is_ready.ensures in
-    let same : late ≡ old = at2.looks.same t2 ∙ at1.looks.same t1 in
     let lists : g.K.Keeper.setup c.next_outcome.new.keeper ≡ setup = at2.looks.setup ∙ at1.looks.setup ∙ c.requires.lists in
-    let own : AreOwnTexts (g.K.Keeper.setup c.next_outcome.new.keeper) late.kept = subst (λ (u : Lists). AreOwnTexts u late.kept) (sym lists) (subst (λ (m : Content). AreOwnTexts setup m.kept) (sym same) office.texts) in
-    at3.legible trusted (at2.looks.legible t2 (at1.looks.legible t1 legible)) own
+    let own : AreOwnTexts setup mid.kept = subst (λ (m : Content). AreOwnTexts setup m.kept) (sym (at1.looks.same t1)) office.texts in
+    let gives = given_by_same (g.K.Keeper.setup c.next_outcome.new.keeper) setup late mid c.in_ok-done.done.testing lists (at2.looks.same t2) (at2.given t2 own) in
+    at3.legible trusted (at2.looks.legible t2 (at1.looks.legible t1 legible)) gives
 
 pub next_outcome-requires-clause-known : goal.next_outcome-requires-clause-known
 next_outcome-requires-clause-known g c = λ trusted.
@@ -80,20 +86,6 @@ next_outcome-requires-clause-known g c = λ trusted.
     let was = if_stand setup (content c.args.keeper.now).kept before (c.requires.facts (at1.looks.before trusted)) in
     subst (λ (o : Option KnownFacts). IfSome o (λ known. FactsStand setup (content c.next_is_ready.new.keeper).kept known)) (sym c.take.ensures.value)
     (subst (λ (m : Content). IfSome before (λ known. FactsStand setup m.kept known)) (sym (at1.looks.same trusted)) was)
-
-pub finish-requires-clause-given : goal.finish-requires-clause-given
-finish-requires-clause-given g c = λ trusted legible own.
-    let setup = c.args.setup.now in
-    let content = g.K.Keeper.content in
-    let mid : Content = content c.next_is_ready.new.keeper in
-    let late : Content = content c.next_outcome.new.keeper in
-    let at1 = c.in_ok-next_is_ready.ensures in
-    let at2 = c.in_ok-done.ensures in
-    let same : late ≡ mid = at2.looks.same trusted in
-    let lists : g.K.Keeper.setup c.next_outcome.new.keeper ≡ setup = at2.looks.setup ∙ at1.looks.setup ∙ c.requires.lists in
-    let texts : AreOwnTexts setup mid.kept = subst (λ (m : Content). AreOwnTexts setup m.kept) same (subst (λ (u : Lists). AreOwnTexts u late.kept) lists own) in
-    let testing = c.in_ok-done.done.testing in
-    subst (λ (u : Lists). IsGiven u late testing) (sym lists) (subst (λ (m : Content). IsGiven setup m testing) (sym same) (at2.given trusted texts))
 
 pub returns-clause-known : goal.returns-clause-known
 returns-clause-known g c = λ trusted.

@@ -1,8 +1,8 @@
 use Rattle.std.proofs.Common.{◌≡◌, map, take, Some}
 use Rattle.sqlite.specs.Held.{state}
 use Rattle.sqlite.specs.State.{HasCleanDisk}
-use Rattle.office_store.specs.Tables.{IsTrusted, kept_rows}
-use Rattle.office_store.specs.TableSteps.{Same, Lasts}
+use Rattle.office_store.specs.Tables.{IsTrusted, kept_rows, Lasts}
+use Rattle.office_store.specs.TableSteps.{Same}
 use Rattle.std.specs.List.{AllByRecursion}
 use Rattle.office_keeper.specs.Provenance.{IsArchPlace}
 use Rattle.office_store.specs.TableContent.{row_of}

@@ -11,13 +11,13 @@ use Rattle.office_store.proofs.EntryShows.{shows_sources, sources_plain}
 use Rattle.office_store.proofs.entries.source_rows.Goals as goal
 
 asked : (g : _) (c : goal.After-query_all g) → Asked (λ r. r.items) sources_text [] (state g.S.Store c.args.conn.now) (state g.S.Store c.query_all.new.self) c.query_all.result
-asked g c = record { clean = c.query_all.ensures.survives.clean; ok = c.query_all.ensures.ok; err = c.query_all.ensures.err }
+asked g c = record { clean = c.query_all.ensures.survives.clean; limit = c.query_all.ensures.survives.limit; ok = c.query_all.ensures.ok; err = c.query_all.ensures.err }
 
 pub returns-clause-before : goal.returns-clause-before
 returns-clause-before g c trusted = asked_before _ _ _ _ _ _ (asked g c) trusted
 
 pub returns-clause-open : goal.returns-clause-open
-returns-clause-open g c clean trusted = asked_open _ _ _ _ _ _ (asked g c) clean
+returns-clause-open g c clean trusted = asked_open _ _ _ _ _ _ (asked g c) clean trusted
 
 pub returns-clause-same : goal.returns-clause-same
 returns-clause-same g c trusted = asked_same _ _ _ _ _ _ (asked g c) sources_plain.0 (c.requires.ours (asked_before _ _ _ _ _ _ (asked g c) trusted)) trusted

@@ -1,8 +1,8 @@
 use Rattle.std.proofs.Common.{◌≡◌, map, take, Some}
 use Rattle.sqlite.specs.Held.{state}
 use Rattle.sqlite.specs.State.{HasCleanDisk}
-use Rattle.office_store.specs.Tables.{IsTrusted, kept_rows}
-use Rattle.office_store.specs.TableSteps.{Same, Lasts}
+use Rattle.office_store.specs.Tables.{IsTrusted, kept_rows, Lasts}
+use Rattle.office_store.specs.TableSteps.{Same}
 use Rattle.office_store.specs.TableContent.{source_of}
 use Rattle.office_store.proofs.entries.sources_at.Given as goal
 

@@ -15,6 +15,7 @@ use Rattle.office_store.proofs.mail.letters.Goals as goal
 asked : (g : _) (c : goal.After-query_all g) → Asked (λ r. r.items) find_text (Int (pos c.args.sender) ∷ Int (pos c.args.number) ∷ []) (state g.S.Store c.args.conn.now) (state g.S.Store c.query_all.new.self) c.query_all.result
 asked g c = record {
   clean = c.query_all.ensures.survives.clean;
+  limit = c.query_all.ensures.survives.limit;
   ok = rw (c.params-to_sql.ensures, c.params-to_sql-2.ensures) at c.query_all.ensures.ok;
   err = rw (c.params-to_sql.ensures, c.params-to_sql-2.ensures) at c.query_all.ensures.err;
 }
@@ -36,4 +37,4 @@ returns-clause-rows g c trusted =
     (λ rows h. subst (λ (d : Database). found d.trees rows) (sym same.now) (finds_rows c.args.sender c.args.number old new rows ours.schema h))
 
 pub returns-clause-open : goal.returns-clause-open
-returns-clause-open g c clean trusted = asked_open _ _ _ _ _ _ (asked g c) clean
+returns-clause-open g c clean trusted = asked_open _ _ _ _ _ _ (asked g c) clean trusted

@@ -10,6 +10,7 @@ use Rattle.office_store.proofs.runs.add_run.Goals as goal
 stepped : (g : _) (c : goal.After-execute g) → Stepped add_run_text (Int (pos c.args.number) ∷ Text c.args.excuses.now ∷ Text c.args.updates.now ∷ []) (state g.S.Store c.args.tx.now.conn.now) (state g.S.Store c.execute.new.self.conn.now) c.execute.result
 stepped g c = record {
   clean = c.execute.ensures.survives.clean;
+  limit = c.execute.ensures.survives.limit;
   ended = λ idle. (_, (c.execute.ensures.ended idle).0);
   runs = rw (c.params-to_sql.ensures, c.params-to_sql-2.ensures, c.params-to_sql-3.ensures) at c.execute.ensures.runs;
 }
@@ -29,4 +30,4 @@ returns-clause-added g c trusted =
     (λ count inside h. adds_run c.args.number (record { excuses = c.args.excuses.now; updates = c.args.updates.now }) old new count inside.schema h)
 
 pub returns-clause-open : goal.returns-clause-open
-returns-clause-open g c clean trusted = step_open _ _ _ _ c.execute.result (stepped g c) clean
+returns-clause-open g c clean trusted = step_open _ _ _ _ c.execute.result (stepped g c) clean trusted

@@ -9,6 +9,7 @@ use Rattle.office_store.proofs.runs.clear_office.Goals as goal
 stepped : (g : _) (c : goal.After-execute g) → Stepped clear_office_text ([]) (state g.S.Store c.args.tx.now.conn.now) (state g.S.Store c.execute.new.self.conn.now) c.execute.result
 stepped g c = record {
   clean = c.execute.ensures.survives.clean;
+  limit = c.execute.ensures.survives.limit;
   ended = λ idle. (_, (c.execute.ensures.ended idle).0);
   runs = c.execute.ensures.runs;
 }
@@ -28,4 +29,4 @@ returns-clause-cleared g c trusted =
     (λ count inside h. silences old new count inside.schema h)
 
 pub returns-clause-open : goal.returns-clause-open
-returns-clause-open g c clean trusted = step_open _ _ _ _ c.execute.result (stepped g c) clean
+returns-clause-open g c clean trusted = step_open _ _ _ _ c.execute.result (stepped g c) clean trusted

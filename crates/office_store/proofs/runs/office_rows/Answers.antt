@@ -11,7 +11,7 @@ use Rattle.office_store.proofs.RunLemmas.{shows_office, office_plain}
 use Rattle.office_store.proofs.runs.office_rows.Goals as goal
 
 asked : (g : _) (c : goal.After-query_all g) → Asked (λ r. r.items) office_text [] (state g.S.Store c.args.conn.now) (state g.S.Store c.query_all.new.self) c.query_all.result
-asked g c = record { clean = c.query_all.ensures.survives.clean; ok = c.query_all.ensures.ok; err = c.query_all.ensures.err }
+asked g c = record { clean = c.query_all.ensures.survives.clean; limit = c.query_all.ensures.survives.limit; ok = c.query_all.ensures.ok; err = c.query_all.ensures.err }
 
 pub returns-clause-before : goal.returns-clause-before
 returns-clause-before g c trusted = asked_before _ _ _ _ _ _ (asked g c) trusted
@@ -30,4 +30,4 @@ returns-clause-rows g c trusted =
     (λ rows h. subst (λ (d : Database). found d.trees rows) (sym same.now) (shows_office old new rows ours.schema h))
 
 pub returns-clause-open : goal.returns-clause-open
-returns-clause-open g c clean trusted = asked_open _ _ _ _ _ _ (asked g c) clean
+returns-clause-open g c clean trusted = asked_open _ _ _ _ _ _ (asked g c) clean trusted

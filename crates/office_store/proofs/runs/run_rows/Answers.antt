@@ -14,6 +14,7 @@ use Rattle.office_store.proofs.runs.run_rows.Goals as goal
 asked : (g : _) (c : goal.After-query_all g) → Asked (λ r. r.items) reports_text (Int (pos c.args.run) ∷ []) (state g.S.Store c.args.conn.now) (state g.S.Store c.query_all.new.self) c.query_all.result
 asked g c = record {
   clean = c.query_all.ensures.survives.clean;
+  limit = c.query_all.ensures.survives.limit;
   ok = rw c.params-to_sql.ensures at c.query_all.ensures.ok;
   err = rw c.params-to_sql.ensures at c.query_all.ensures.err;
 }
@@ -35,4 +36,4 @@ returns-clause-rows g c trusted =
     (λ rows h. subst (λ (d : Database). found d.trees rows) (sym same.now) (shows_runs c.args.run old new rows ours.schema h))
 
 pub returns-clause-open : goal.returns-clause-open
-returns-clause-open g c clean trusted = asked_open _ _ _ _ _ _ (asked g c) clean
+returns-clause-open g c clean trusted = asked_open _ _ _ _ _ _ (asked g c) clean trusted

@@ -10,6 +10,7 @@ use Rattle.office_store.proofs.testing.add_source.Goals as goal
 stepped : (g : _) (c : goal.After-execute g) → Stepped add_source_text (Text c.args.name.now ∷ Int (pos c.args.sender) ∷ Int (pos c.args.number) ∷ []) (state g.S.Store c.args.tx.now.conn.now) (state g.S.Store c.execute.new.self.conn.now) c.execute.result
 stepped g c = record {
   clean = c.execute.ensures.survives.clean;
+  limit = c.execute.ensures.survives.limit;
   ended = λ idle. (_, (c.execute.ensures.ended idle).0);
   runs = rw (c.params-to_sql.ensures, c.params-to_sql-2.ensures, c.params-to_sql-3.ensures) at c.execute.ensures.runs;
 }
@@ -29,4 +30,4 @@ returns-clause-added g c trusted =
     (λ count inside h. adds_source c.args.name.now c.args.sender c.args.number (omega (arith, c.ranges.sender.fits)) (omega (arith, c.ranges.number.fits)) old new count inside.schema h)
 
 pub returns-clause-open : goal.returns-clause-open
-returns-clause-open g c clean trusted = step_open _ _ _ _ c.execute.result (stepped g c) clean
+returns-clause-open g c clean trusted = step_open _ _ _ _ c.execute.result (stepped g c) clean trusted

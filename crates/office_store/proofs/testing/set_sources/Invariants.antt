@@ -1,7 +1,6 @@
 use Rattle.std.proofs.Common.{◌≡◌, take}
 use Rattle.sqlite.specs.Held.{state}
-use Rattle.office_store.specs.Tables.{IsTrusted}
-use Rattle.office_store.specs.TableSteps.{Lasts}
+use Rattle.office_store.specs.Tables.{IsTrusted, Lasts}
 use Rattle.sqlite.specs.State.{HasCleanDisk}
 use Rattle.office_store.specs.EntrySteps.{SetsSources}
 use Rattle.office_store.proofs.StepLemmas.{IsUnderWay}

@@ -11,11 +11,11 @@ local groups external globals more plain = not-true globals (and_parts _ _ (and_
 pub returns : goal.returns
 unfolding office
 returns c =
-    let one : (app_of c.in_ok-compare.compare).top.is_plain ≡ true = ap (λ (a : App). a.top.is_plain) c.in_ok-compare.ensures in
-    let two : (app_of c.in_ok-replay.replay).top.is_plain ≡ true = ap (λ (a : App). a.top.is_plain) c.in_ok-replay.ensures in
-    let three : (app_of c.in_ok-serve.serve).top.is_plain ≡ true = ap (λ (a : App). a.top.is_plain) c.in_ok-serve.ensures in
+    let one : (app_of c.in_ok-compare_command.field-0).top.is_plain ≡ true = ap (λ (a : App). a.top.is_plain) c.in_ok-compare_command.ensures in
+    let two : (app_of c.in_ok-replay_command.field-0).top.is_plain ≡ true = ap (λ (a : App). a.top.is_plain) c.in_ok-replay_command.ensures in
+    let three : (app_of c.in_ok-serve_command.field-0).top.is_plain ≡ true = ap (λ (a : App). a.top.is_plain) c.in_ok-serve_command.ensures in
     c.in_ok-whole.ensures.shape (local _ _ _ _ three)
     ∙ ap₂ with_subcommand (c.in_ok-subcommand-2.ensures.shape (local _ _ _ _ two)
     ∙ ap₂ with_subcommand (c.in_ok-subcommand.ensures.shape (local _ _ _ _ one)
-    ∙ ap₂ with_subcommand c.bare_command.ensures (ap (λ (a : App). a.top) c.in_ok-compare.ensures))
-    (ap (λ (a : App). a.top) c.in_ok-replay.ensures)) (ap (λ (a : App). a.top) c.in_ok-serve.ensures)
+    ∙ ap₂ with_subcommand c.bare_command.ensures (ap (λ (a : App). a.top) c.in_ok-compare_command.ensures))
+    (ap (λ (a : App). a.top) c.in_ok-replay_command.ensures)) (ap (λ (a : App). a.top) c.in_ok-serve_command.ensures)

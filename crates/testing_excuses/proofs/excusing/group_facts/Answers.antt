@@ -23,5 +23,5 @@ returns c = λ name among.
     ∙ own_passing archs c.args.news.now passing f.rows c.in_ok-passing.ensures name among)
     (c.in_ok-bugs_by_source.ensures name among ∙ ap (filter (λ (b : BugIn). bytes_eq name b.source)) c.bugs.ensures)
     (c.in_ok-in_force.ensures ∙ ap (λ us. filter (is_in_force us) c.hints.result.now) c.unhints.ensures ∙ ap (filter (is_in_force f.unhints)) c.hints.ensures)
-    (c.in_ok-uploads_by_source.ensures name among ∙ ap (filter (λ (u : UploadIn). bytes_eq name u.source)) c.uploads.ensures)
+    (c.in_ok-uploads_by_source.ensures name among ∙ ap (filter (λ (u : UploadIn). bytes_eq name u.source)) c.uploads.ensures.uploads)
     (c.delays_in_force.ensures ∙ ap delays_in_force c.delays.ensures))

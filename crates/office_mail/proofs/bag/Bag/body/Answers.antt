@@ -7,7 +7,7 @@ pub loop-i-init : goal.loop-i-init
 loop-i-init g c = record {
   body = rw c.new-message.ensures.items (body_none c.args.self.now);
   clean = refl;
-  goes_on = record { failures = omega arith; reads = omega arith; calls = omega arith; room = omega arith; ended = refl };
+  goes_on = record { failures = omega arith; counts = (omega arith, omega arith); calls = omega arith; room = omega arith; ended = refl };
 }
 
 pub returns-in_err-byte-clause-fault : goal.returns-in_err-byte-clause-fault

@@ -1,7 +1,7 @@
 use Rattle.std.proofs.Common.{◌≡◌, ◌+◌, ◌++◌, ◌∷◌, [], length, OnOk, sym, subst, arith}
 use Rattle.sqlite.specs.Held.{state}
 use Rattle.office_keeper.specs.Content.{reports_in, with_run}
-use Rattle.office_keeper.specs.Provenance.{AreOwnTexts, IsGiven}
+use Rattle.office_keeper.specs.Provenance.{IsGiven}
 use Rattle.office_store.specs.TableContent.{content_in}
 use Rattle.office_store.specs.Legible.{IsLegible}
 use Rattle.office_store.specs.Tables.{IsTrusted}
@@ -26,21 +26,17 @@ pub returns-clause-done : goal.returns-clause-done
 returns-clause-done g c trusted =
     let inside = c.self.inside in
     let next = (state g.S.Store c.finish.new.conn).now.trees in
-    subst (λ v. (IsTrusted (state g.S.Store v.0) → IsLegible v.1.0 (state g.S.Store v.0).now.trees → AreOwnTexts v.1.0 (content_in v.1.0 (state g.S.Store v.0).now.trees).kept → IsGiven v.1.0 (content_in v.1.0 (state g.S.Store v.0).now.trees) c.args.done.now.testing)
-    → IsLegible v.1.0 (state g.S.Store v.0).now.trees → AreOwnTexts v.1.0 (content_in v.1.0 (state g.S.Store v.0).now.trees).kept
+    subst (λ v. IsLegible v.1.0 (state g.S.Store v.0).now.trees → IsGiven v.1.0 (content_in v.1.0 (state g.S.Store v.0).now.trees) c.args.done.now.testing
     → OnOk c.count.result (content_in inside.setup next ≡ with_run (content_in v.1.0 (state g.S.Store v.0).now.trees) c.args.done.now)) c.self.view_is
-    (λ given was own. content_on c.count.result c.finish.result c.count.ensures.same inside.setup (state g.S.Store inside.conn).now.trees next c.args.run c.args.done.now (c.finish.ensures.done trusted) c.finish.ensures.ordered (next_run g c trusted)
-    (given (c.finish.ensures.before trusted) was own)) c.requires.given
+    (λ was given. content_on c.count.result c.finish.result c.count.ensures.same inside.setup (state g.S.Store inside.conn).now.trees next c.args.run c.args.done.now (c.finish.ensures.done trusted) c.finish.ensures.ordered (next_run g c trusted) given)
 
 pub returns-clause-legible : goal.returns-clause-legible
 returns-clause-legible g c trusted =
     let inside = c.self.inside in
     let old = (state g.S.Store inside.conn).now in
     let new = (state g.S.Store c.finish.new.conn).now in
-    subst (λ v. (IsTrusted (state g.S.Store v.0) → IsLegible v.1.0 (state g.S.Store v.0).now.trees → AreOwnTexts v.1.0 (content_in v.1.0 (state g.S.Store v.0).now.trees).kept → IsGiven v.1.0 (content_in v.1.0 (state g.S.Store v.0).now.trees) c.args.done.now.testing)
-    → IsLegible v.1.0 (state g.S.Store v.0).now.trees → AreOwnTexts v.1.0 (content_in v.1.0 (state g.S.Store v.0).now.trees).kept → IsLegible inside.setup new.trees) c.self.view_is
-    (λ given was own. finish_legible_on c.finish.result inside.setup old new c.args.run c.args.done.now (c.finish.ensures.done trusted) (c.finish.ensures.err trusted) c.finish.ensures.texts (omega (arith, c.ranges.run.fits)) (next_run g c trusted)
-    (given (c.finish.ensures.before trusted) was own) was) c.requires.given
+    subst (λ v. IsLegible v.1.0 (state g.S.Store v.0).now.trees → IsGiven v.1.0 (content_in v.1.0 (state g.S.Store v.0).now.trees) c.args.done.now.testing → IsLegible inside.setup new.trees) c.self.view_is
+    (λ was given. finish_legible_on c.finish.result inside.setup old new c.args.run c.args.done.now (c.finish.ensures.done trusted) (c.finish.ensures.err trusted) c.finish.ensures.texts (omega (arith, c.ranges.run.fits)) (next_run g c trusted) given was)
 
 pub returns-clause-bad : goal.returns-clause-bad
 returns-clause-bad g c trusted legible own =

@@ -2,7 +2,9 @@ use Rattle.std.proofs.Common.{◌∷◌, Contains, sym, ap, ◌∙◌, subst}
 use Rattle.testing_model.specs.FactLists.{FactLists}
 use Rattle.testing_model.specs.StandsFor.{StandsFor}
 use Rattle.testing_facts.specs.Entries.{with_entry}
+use Rattle.testing_model.specs.FactDifference.{IsChangedFrom}
 use Rattle.testing_facts.proofs.Joins.{joins, keeps, is_there}
+use Rattle.testing_facts.proofs.Shifting.{takes_log}
 use Rattle.testing_facts.proofs.facts.Facts.take.Goals as goal
 
 pub returns-clause-ok : goal.returns-clause-ok
@@ -26,3 +28,6 @@ returns-clause-there c = λ u e.
     let old = c.args.self.now in
     let became = c.in_ok-put.ensures.ok ∙ ap (λ e. with_entry e old) c.in_ok-entry.ensures in
     subst (λ (f : FactLists). Contains f.uploads u) (sym became) (is_there old n k i u e)
+
+pub returns-clause-moved : goal.returns-clause-moved
+returns-clause-moved c = λ count h. subst (IsChangedFrom count) (sym c.in_ok-put.ensures.ok) (takes_log count c.in_ok-entry.entry c.args.self.now h)

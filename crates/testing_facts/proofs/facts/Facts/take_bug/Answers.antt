@@ -1,13 +1,16 @@
-use Rattle.std.proofs.Common.{sym, subst}
+use Rattle.std.proofs.Common.{arith, sym, subst}
 use Rattle.testing_model.specs.FactOrder.{AreByNumber}
 use Rattle.testing_facts.proofs.KeySlots.{by_number-bug}
 use Rattle.testing_facts.proofs.facts.Facts.take_bug.Goals as goal
 
 pub invariant_of-self-2 : goal.invariant_of-self-2
-invariant_of-self-2 c =
-    record {
-      by_source = c.self.invariant.by_source;
-      by_pair = c.self.invariant.by_pair;
-      drops_by_pair = c.self.invariant.drops_by_pair;
-      by_number = subst AreByNumber (sym c.in_ok-put_bug.ensures.ok) (by_number-bug c.args.bug c.self.inside.bugs.items c.self.invariant.by_number);
-    }
+invariant_of-self-2 c = (
+  record {
+    by_source = c.self.invariant.0.by_source;
+    by_pair = c.self.invariant.0.by_pair;
+    drops_by_pair = c.self.invariant.0.drops_by_pair;
+    by_number = subst AreByNumber (sym c.in_ok-put_bug.ensures.ok) (by_number-bug c.args.bug c.self.inside.bugs.items c.self.invariant.0.by_number);
+  },
+  omega (arith, c.note.ensures.len_left, c.note.ensures.capacity_left, c.in_ok-reserve.ensures.room_left, c.len.ensures),
+  c.self.invariant.2,
+)

@@ -1,0 +1,38 @@
+//! A reader that keeps why a read failed.
+
+use std::io;
+use std::io::Read;
+
+/// A reader, and the system's refusal of the last read that failed.
+#[derive(Drop)]
+pub struct Noted<R> {
+    reader: R,
+    fault: Option<io::Error>,
+}
+
+impl<R> Noted<R> {
+    /// No read has failed.
+    pub fn new(reader: R) -> Noted<R> {
+        Noted {
+            reader,
+            fault: None,
+        }
+    }
+
+    /// Why the last read that failed did.
+    pub fn fault(&self) -> Option<io::Error> {
+        self.fault
+    }
+}
+
+impl<R: Read> Read for Noted<R> {
+    ghost remaining = { λ n. R.remaining n.reader };
+
+    fn read(&mut self, buf: &mut [u8]) -> io::Result<usize> {
+        let got = self.reader.read(buf);
+        if let Err(fault) = &got {
+            self.fault = Some(*fault);
+        }
+        got
+    }
+}

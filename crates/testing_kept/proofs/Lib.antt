@@ -1,0 +1,9 @@
+pub mod AllCame
+pub mod BesideTesting
+pub mod FallenNames
+pub mod Giving
+pub mod Logging
+pub mod Naming
+pub mod Orderly
+pub mod Restoring
+pub mod Telling

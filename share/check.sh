@@ -1,0 +1,230 @@
+#!/bin/sh
+# Checks what stands in this folder, and says how much passed: the lints of mandoc, shellcheck, systemd-analyze and
+# lintian, and what the scripts do with small texts. With PROGRAM, the built program, it also tries the scripts on a
+# store of examples/archive.bag, and compares manual page and completions with the program's own help.
+#
+# Usage: share/check.sh [PROGRAM]
+# What isn't installed is skipped, and told. Status 0: nothing failed, 1: something did, 2: the words are wrong.
+set -u
+
+if [ $# -gt 1 ]; then
+    echo "usage: $0 [PROGRAM]" >&2
+    exit 2
+fi
+program=
+if [ $# -eq 1 ]; then
+    program=$(realpath -e -- "$1") || exit 2
+fi
+share=$(cd "$(dirname "$0")" && pwd) || exit 1
+cd "$share" || exit 1
+work=$(mktemp -d)
+trap 'rm -rf "$work"' EXIT
+trap 'exit 1' HUP INT TERM
+passed=0 failed=0
+
+# try WHAT COMMAND..: passes where the command ends with status 0.
+try() {
+    what=$1
+    shift
+    if "$@" > "$work/told" 2>&1; then
+        passed=$((passed + 1))
+    else
+        failed=$((failed + 1))
+        echo "failed: $what"
+        sed 's/^/    /' "$work/told"
+    fi
+}
+
+# try_by TOOL WHAT COMMAND..: the same, where the tool is installed.
+try_by() {
+    tool=$1
+    shift
+    if command -v "$tool" > /dev/null; then
+        try "$@"
+    else
+        echo "skipped: $1: $tool isn't installed"
+    fi
+}
+
+# ends STATUS COMMAND..: whether a command ends with this status.
+ends() {
+    due=$1
+    shift
+    "$@"
+    found=$?
+    [ "$found" -eq "$due" ] || { echo "status $found, due $due" && false; }
+}
+
+page_is_clean() {
+    # Pages of other packages that aren't installed here aren't this page's fault, nor is mandoc's own list of pages.
+    mandoc -T lint "$1" > "$work/lint" 2>&1
+    ! grep -v -e 'referenced manual not found' -e 'outdated mandoc.db' "$work/lint"
+}
+
+links_are_there() {
+    sed -n 's/^\.Xr \(office[a-z-]*\) 1.*/\1/p' man/*.1 | sort -u | while read -r name; do
+        [ -f "man/$name.1" ] || { echo "man/$name.1 is missing" && exit 1; }
+    done
+}
+
+unit_is_known() {
+    sed 's|/usr/bin/office|/bin/true|; /^Documentation=/d' systemd/office.service > "$work/office.service"
+    systemd-analyze verify "$work/office.service"
+}
+
+make_reports() {
+    cat > "$work/excuses" << 'END'
+excuses 7 2025-04-01
+c++lib 1.0-1 2:1.0-1+b1
+ age 3 of 10
+ too young
+ new bug 1042
+ missing on amd64
+ blocked
+ not a candidate
+stuck - 2-1
+ age 12 of 10
+ candidate
+END
+    cat > "$work/update" << 'END'
+update 7 2025-04-01
+remove 3 accept old 1.0
+remove 4 refuse gone 1.0 uninstallable amd64 app
+easy 5 refuse c++lib/1.1-1 not a candidate
+easy 6 refuse uninstallable arm64 libx1
+easy 8 accept one 1.0 two 2:2.0~rc1
+accept three 3
+wait stuck 2-1 uninstallable amd64 stuck-bin
+END
+    cat > "$work/testing" << 'END'
+testing 7
+source c++lib 1.0-1
+source one 1.0
+binary all c++lib-doc 1.0-1 c++lib
+END
+}
+
+reports_are_read() {
+    python3 -B ./excuses.py --excuses "$work/excuses" --update "$work/update" --testing "$work/testing" \
+        --json "$work/json" --html "$work/html" || return 1
+    python3 - "$work/json" "$work/html" << 'END'
+import json, re, sys
+whole = json.load(open(sys.argv[1]))
+page = open(sys.argv[2]).read()
+anchors, links = re.findall(r'id="([^"]*)"', page), re.findall(r'href="#([^"]*)"', page)
+keys = [(s["item-name"], s["old-version"], s["new-version"], s["is-candidate"]) for s in whole["sources"]]
+assert keys == [("c++lib", "1.0-1", "2:1.0-1+b1", False), ("stuck", "-", "2-1", True)], keys
+assert whole["sources"][0]["reason"] == ["too young", "new bug 1042", "missing on amd64", "blocked"]
+assert len(whole["update"]) == 7 and page.count("<table>") == 3
+assert len(anchors) == len(set(anchors)), "an anchor stands twice"
+assert set(links) <= set(anchors), "a link has no anchor"
+END
+}
+
+# A grep-excuses whose wget hands out the file that was made.
+excuses_are_grepped() {
+    mkdir "$work/bin"
+    printf '#!/bin/sh\nexec cat "%s"\n' "$work/json" > "$work/bin/wget"
+    chmod +x "$work/bin/wget"
+    PATH=$work/bin:$PATH grep-excuses --no-conf --no-autoremovals c++lib > "$work/grepped" || return 1
+    cat "$work/grepped"
+    grep -qx 'c++lib (1.0-1 to 2:1.0-1+b1)' "$work/grepped" && grep -qx '    Blocked by a hint' "$work/grepped"
+}
+
+files_are_installed() {
+    make -s install PROGRAM="${program:-/bin/true}" PREFIX=/usr DESTDIR="$work/root" || return 1
+    for file in bin/office bin/office-excuses share/man/man1/office.1 lib/systemd/system/office.service \
+        share/bash-completion/completions/office share/zsh/vendor-completions/_office share/doc/office/RULES.md; do
+        [ -f "$work/root/usr/$file" ] || { echo "$file is missing" && return 1; }
+    done
+    make -s uninstall PREFIX=/usr DESTDIR="$work/root" || return 1
+    [ -z "$(find "$work/root" -type f)" ]
+}
+
+# With another program than the built one, where that isn't there; the version is made up for this check.
+package_is_made() {
+    ./debian/build 0.1.0-1 'Share Check <check@example.org>' "${program:-/bin/true}" "$work" > "$work/package"
+}
+
+package_is_clean() {
+    if [ "$(id -u)" -eq 0 ]; then
+        set -- --allow-root
+    else
+        set --
+    fi
+    lintian "$@" --fail-on error,warning "$(cat "$work/package")"
+}
+
+options_are_told() {
+    for command in compare replay serve; do
+        "$program" "$command" --help | sed -n 's/^  *\(-h, \)\{0,1\}--\([a-z]*\).*/\2/p' > "$work/options"
+        grep -qx help "$work/options" || { echo "$command --help tells no option" && return 1; }
+        while read -r option; do
+            grep -q -e "Fl -$option" man/office.1 || { echo "man/office.1: --$option" && return 1; }
+            for file in completion/office.bash completion/_office; do
+                grep -q -e "--$option" "$file" || { echo "$file: --$option" && return 1; }
+            done
+        done < "$work/options"
+    done
+}
+
+example_is_true() {
+    "$program" replay --conf ../examples/setup.conf < ../examples/first.bag > "$work/first" || return 1
+    while read -r line; do
+        grep -qxF -e "$line" man/office.1 || { echo "man/office.1 lacks: $line" && return 1; }
+    done < "$work/first"
+}
+
+store_is_exported() {
+    "$program" replay --conf ../examples/setup.conf --db "$work/store" < ../examples/archive.bag > "$work/replayed" ||
+        return 1
+    ./office-export "$work/store" > "$work/bag" || return 1
+    "$program" replay --conf ../examples/setup.conf < "$work/bag" > "$work/again" || return 1
+    [ "$(wc -c < "$work/bag")" -eq "$(wc -c < ../examples/archive.bag)" ] || return 1
+    sed -n '/^ready /,$p' "$work/replayed" > "$work/due"
+    sed -n '/^ready /,$p' "$work/again" | cmp - "$work/due"
+}
+
+store_differs() {
+    sqlite3 "$work/store" "UPDATE run SET updates = updates || 'accept more 1' || char(10) WHERE number = 1" || return 1
+    ends 1 ./office-check-store ../examples/setup.conf "$work/store"
+}
+
+for page in man/*.1; do
+    try_by mandoc "$page: mandoc's lint" page_is_clean "$page"
+done
+try "man: the pages that others name are there" links_are_there
+for script in office-export office-check-store check.sh debian/build completion/office.bash; do
+    try_by shellcheck "$script: shellcheck" shellcheck "$script"
+done
+try_by bash "completion/office.bash: its syntax" bash -n completion/office.bash
+try_by zsh "completion/_office: its syntax" zsh -n completion/_office
+try_by systemd-analyze "systemd/office.service: exposure of at most 2.0" \
+    systemd-analyze security --offline=true --threshold=20 --no-pager systemd/office.service
+try_by systemd-analyze "systemd/office.service: systemd knows each line" unit_is_known
+make_reports
+try_by python3 "excuses.py: JSON and page of a run" reports_are_read
+try_by grep-excuses "excuses.py: grep-excuses reads the JSON" excuses_are_grepped
+try_by python3 "excuses.py: reports of two runs are refused" \
+    ends 1 python3 -B ./excuses.py --excuses "$work/update" --update "$work/excuses"
+try "office-export: no words" ends 2 ./office-export
+try "office-export: no file" ends 1 ./office-export "$work/none"
+try "office-check-store: no words" ends 2 ./office-check-store
+try "office-check-store: no file" ends 3 ./office-check-store ../examples/setup.conf "$work/none"
+try_by make "Makefile: install and uninstall" files_are_installed
+try_by dpkg-deb "debian/build: a package" package_is_made
+try_by lintian "debian/build: lintian" package_is_clean
+if [ -n "$program" ]; then
+    OFFICE=$program
+    export OFFICE
+    try "manual page and completions: the options of the program's help" options_are_told
+    try "manual page: the replay of its example" example_is_true
+    try_by sqlite3 "office-export: a store's mail as a bag" store_is_exported
+    try_by sqlite3 "office-check-store: a store as it was left" \
+        ./office-check-store ../examples/setup.conf "$work/store"
+    try_by sqlite3 "office-check-store: a report that was edited" store_differs
+else
+    echo "skipped: what needs the built program: none is named"
+fi
+echo "$passed passed, $failed failed"
+[ "$failed" -eq 0 ]

@@ -1,0 +1,59 @@
+# Completion of office(1) for bash: commands, options, operators, files.
+# shellcheck shell=bash
+
+# _office_words WORDS: those of some words, separated by white, that begin with the current one.
+_office_words() {
+    local word
+    for word in $1; do
+        [[ $word == "$2"* ]] && COMPREPLY+=("$word")
+    done
+}
+
+# _office_options OPTION..: the options that aren't given yet, and help where none is.
+_office_options() {
+    local option word given left=
+    for option; do
+        given=
+        for word in "${COMP_WORDS[@]:2:COMP_CWORD-2}"; do
+            [[ $word == "$option" ]] && given=yes
+        done
+        [[ $given ]] || left+="$option "
+    done
+    ((COMP_CWORD == 2)) && left+='--help '
+    printf '%s' "$left"
+}
+
+_office() {
+    local current=${COMP_WORDS[COMP_CWORD]} option=${COMP_WORDS[COMP_CWORD - 1]} command=${COMP_WORDS[1]}
+    COMPREPLY=()
+    # `--conf=F` comes as the three words `--conf`, `=` and `F`.
+    if [[ $current == = ]]; then
+        current=
+    elif [[ $option == = ]]; then
+        option=${COMP_WORDS[COMP_CWORD - 2]}
+    fi
+    case $option in
+        --conf | --db)
+            compopt -o filenames 2> /dev/null
+            mapfile -t COMPREPLY < <(compgen -f -- "$current")
+            return
+            ;;
+        --port | --connections) return ;;
+    esac
+    if ((COMP_CWORD == 1)); then
+        _office_words 'compare replay serve --help' "$current"
+        return
+    fi
+    case $command in
+        compare)
+            case $COMP_CWORD in
+                2) _office_words '--help' "$current" ;;
+                3) _office_words 'lt le eq ge gt' "$current" ;;
+            esac
+            ;;
+        replay) _office_words "$(_office_options --conf --db)" "$current" ;;
+        serve) _office_words "$(_office_options --conf --port --db --connections)" "$current" ;;
+    esac
+}
+
+complete -F _office office

@@ -1,0 +1,48 @@
+#!/bin/sh
+# Runs all checks over the built program, one after the other, and prints a line for each and `N passed, N failed`.
+#
+# Usage: tests/all.sh OFFICE [STEP [PARTS]]
+#
+# OFFICE is the built program, crates/office/out/office. With STEP only each STEPth growth, call and place is tried (1):
+# 23 is a sample. PARTS is a built program that judges itself (see tests/memory/refused.py). What each check prints
+# stands in a file of a new folder, whose name is told, and is printed where the check failed. The exit status is 1
+# where one failed.
+set -u
+if [ $# -lt 1 ] || [ ! -x "$1" ]; then
+    echo "usage: $0 OFFICE [STEP [PARTS]]" >&2
+    exit 2
+fi
+here=$(cd "$(dirname "$0")" && pwd)
+office=$(cd "$(dirname "$1")" && pwd)/$(basename "$1")
+step=${2:-1}
+parts=${3:-}
+told=$(mktemp -d)
+passed=0
+failed=0
+export PYTHONDONTWRITEBYTECODE=1
+
+# try NAME COMMAND..
+try() {
+    name=$1
+    shift
+    began=$(date +%s)
+    if "$@" > "$told/$name" 2>&1 < /dev/null; then
+        passed=$((passed + 1))
+        echo "ok: $name, $(($(date +%s) - began)) s: $(tail -n 1 "$told/$name")"
+    else
+        failed=$((failed + 1))
+        echo "not ok: $name, $(($(date +%s) - began)) s"
+        sed 's/^/  /' "$told/$name"
+    fi
+}
+
+try clients python3 "$here/service/clients.py" "$office"
+try stores python3 "$here/service/stores.py" "$office"
+try peers sh "$here/peers/store.sh" --by "$office"
+try rows python3 "$here/rows/check.py"
+try stopped timeout 3600 python3 "$here/stops/stopped.py" "$office" "$step"
+try surroundings timeout 3600 python3 "$here/surroundings/hostile.py" "$office" "$step"
+try refused timeout 36000 python3 "$here/memory/refused.py" "$office" "$step" ${parts:+"$parts"}
+echo "what each printed: $told"
+echo "$passed passed, $failed failed"
+[ "$failed" -eq 0 ]
