@@ -18,6 +18,12 @@ fn names_of_architectures(rt: HostRuntime) {
     assert_eq!(rt; counted(alloc, &many[..16]), Ok(16));
     assert_eq!(rt; counted(alloc, &many), Err(ArchsFault::TooMany));
     assert_eq!(rt; counted(alloc, &[]), Err(ArchsFault::BadArchitecture));
-    assert_eq!(rt; counted(alloc, &["amd64", "amd64"]), Err(ArchsFault::BadArchitecture));
-    assert_eq!(rt; counted(alloc, &["amd64", "all"]), Err(ArchsFault::BadArchitecture));
+    assert_eq!(rt;
+        counted(alloc, &["amd64", "amd64"]),
+        Err(ArchsFault::BadArchitecture)
+    );
+    assert_eq!(rt;
+        counted(alloc, &["amd64", "all"]),
+        Err(ArchsFault::BadArchitecture)
+    );
 }
