@@ -104,7 +104,7 @@ impl Facts {
 
     /// The facts of no message, with what came and what left before.
     fn of_log(alloc: Global, log: Log) -> Facts
-        ensures { result ≡ record no_facts { came = log.entry.came.items; left = log.entry.left.items } }
+        ensures { result ≡ record no_facts { came = log.came.items; left = log.left.items } }
     {
         Facts {
             alloc,

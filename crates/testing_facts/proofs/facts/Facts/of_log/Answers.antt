@@ -1,6 +1,6 @@
 use Rattle.std.proofs.Common.{arith, ap, length}
 use Rattle.std.specs.List.Sorted.{IsStrictlySortedBy}
-use Rattle.testing_facts.proofs.facts.Facts.new.Goals as goal
+use Rattle.testing_facts.proofs.facts.Facts.of_log.Goals as goal
 
 pub invariant_of-result : goal.invariant_of-result
 unfolding IsStrictlySortedBy
