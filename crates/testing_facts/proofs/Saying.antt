@@ -15,10 +15,7 @@ use Rattle.testing_model.specs.declared.facts.HintIn.{HintIn}
 use Rattle.testing_model.specs.declared.facts.UnhintIn.{UnhintIn}
 use Rattle.testing_model.specs.declared.facts.DelaysIn.{DelaysIn}
 use Rattle.testing_model.specs.declared.fact_row.FactRow.{FactRow}
-use Rattle.testing_model.specs.FactDifference.{IsChangedFrom}
 use Rattle.testing_model.specs.FactLists.{FactLists, no_facts}
-use Rattle.testing_model.specs.FactRows.{times}
-use Rattle.testing_model.specs.StandsFor.{StandsForNone}
 use Rattle.testing_model.specs.Tells.{AreSaidBy, AreOrderly, Tells}
 use Rattle.testing_model.specs.Covered.{Covered, placed_from, uploads_in, builds_in, drops_in, bugs_in, hints_in, unhints_in, delays_in}
 use Rattle.testing_model.specs.Unstable.{upload_order, build_order, drop_order, bug_order, hint_order, unhint_order, delays_order, pair_of, drop_pair}
@@ -275,36 +272,19 @@ module _ (old : FactLists) (s : Covered) (h : Tells old s) (n k : ℕ) where
     };
   }
 
--- No facts, of which rows left.
-module _ (left : List FactRow) where
-  abbrev pub none_left : FactLists
-  none_left = record no_facts { left = left }
-
-  pub none_stand : StandsForNone none_left
-  none_stand t = record {
-    sources = refl;
-    rows = refl;
-    drops = refl;
-    bugs = refl;
-    hints = refl;
-    unhints = refl;
-    delays = refl;
-    are_uploads = λ u c. none_among u c;
-    counted = λ u c news. none_among u c;
-  }
-
-  pub none_tell : Tells none_left []
-  unfolding IsStrictlySortedBy
-  none_tell = record {
-    said = record {
-      sources = λ z c. none_among z c;
-      uploads = λ z c. none_among z c;
-      rows = λ z c. none_among z c;
-      drops = λ z c. none_among z c;
-      bugs = λ z c. none_among z c;
-      hints = λ z c. none_among z c;
-      unhints = λ z c. none_among z c;
-      delays = λ z c. none_among z c;
-    };
-    orderly = record { by_source = tt; by_pair = tt; drops_by_pair = tt; by_number = tt; hints = tt; unhints = tt };
-  }
+-- No message says no facts, of which rows left.
+pub none_tell : (left : List FactRow) → Tells (record no_facts { left = left }) []
+unfolding IsStrictlySortedBy
+none_tell left = record {
+  said = record {
+    sources = λ z c. none_among z c;
+    uploads = λ z c. none_among z c;
+    rows = λ z c. none_among z c;
+    drops = λ z c. none_among z c;
+    bugs = λ z c. none_among z c;
+    hints = λ z c. none_among z c;
+    unhints = λ z c. none_among z c;
+    delays = λ z c. none_among z c;
+  };
+  orderly = record { by_source = tt; by_pair = tt; drops_by_pair = tt; by_number = tt; hints = tt; unhints = tt };
+}
