@@ -38,14 +38,17 @@ use Rattle.testing_kept.proofs.Orderly.{above_has, not_itself}
 use Rattle.testing_kept.proofs.Restoring.{in_order_itself}
 use Rattle.testing_kept.proofs.Telling.{told_build}
 
+abbrev one_if : Bool → ℕ
+one_if b = cond b 1 0
+
 -- How often a row stands in a list.
 module _ (r : FactRow) where
-  counted : (x : FactRow) (rows : List FactRow) → times r (x ∷ rows) ≡ cond (is_row r x) 1 0 + times r rows
-  counted x rows = sum_by-cons (λ y. cond (is_row r y) 1 0) x rows
+  counted : (x : FactRow) (rows : List FactRow) → times r (x ∷ rows) ≡ one_if (is_row r x) + times r rows
+  counted x rows = sum_by-cons (λ y. one_if (is_row r y)) x rows
 
   none_at : (b : Bool) (x : FactRow) (rows : List FactRow) → is_row r x ≡ b → (is_row r x ≡ true → ⊥) → times r rows ≡ 0 → times r (x ∷ rows) ≡ 0
   none_at true x rows e other none = absurd (other e)
-  none_at false x rows e other none = let own : cond (is_row r x) 1 0 ≡ 0 = ap (λ b. cond b 1 0) e in omega (arith, counted x rows, own, none)
+  none_at false x rows e other none = let own : one_if (is_row r x) ≡ 0 = ap one_if e in omega (arith, counted x rows, own, none)
 
   none_of : (rows : List FactRow) → ((x : FactRow) → Contains rows x → is_row r x ≡ true → ⊥) → times r rows ≡ 0
   none_of [] other = refl
@@ -55,8 +58,8 @@ module _ (r : FactRow) where
   one_of d = at (is_row r d) refl
     where
       at : (b : Bool) → is_row r d ≡ b → times r (d ∷ []) ≤ 1
-      at true e = let own : cond (is_row r d) 1 0 ≡ 1 = ap (λ b. cond b 1 0) e in omega (arith, counted d [], own)
-      at false e = let own : cond (is_row r d) 1 0 ≡ 0 = ap (λ b. cond b 1 0) e in omega (arith, counted d [], own)
+      at true e = let own : one_if (is_row r d) ≡ 1 = ap one_if e in omega (arith, counted d [], own)
+      at false e = let own : one_if (is_row r d) ≡ 0 = ap one_if e in omega (arith, counted d [], own)
 
   -- rows of one kind in front of those of greater kinds
   front : (n : ℕ) (rows others : List FactRow) → ((x : FactRow) → Contains rows x → x.kind ≡ n) → ((x : FactRow) → Contains others x → n + 1 ≤ x.kind)
@@ -74,11 +77,11 @@ module _ (r : FactRow) where
 module _ {B K : Type 0} (key : B → K) {cmp : K → K → Ordering} (o : IsTotalOrder cmp) (row : B → FactRow) (r : FactRow) where
   once_at : (b : Bool) (x : B) (xs : List B) → is_row r (row x) ≡ b → (is_row r (row x) ≡ true → times r (map row xs) ≡ 0) → times r (map row xs) ≤ 1 → times r (map row (x ∷ xs)) ≤ 1
   once_at true x xs e none rest =
-      let own : cond (is_row r (row x)) 1 0 ≡ 1 = ap (λ b. cond b 1 0) e in
+      let own : one_if (is_row r (row x)) ≡ 1 = ap one_if e in
       let others = none e in
       omega (arith, counted r (row x) (map row xs), own, others)
   once_at false x xs e none rest =
-      let own : cond (is_row r (row x)) 1 0 ≡ 0 = ap (λ b. cond b 1 0) e in
+      let own : one_if (is_row r (row x)) ≡ 0 = ap one_if e in
       omega (arith, counted r (row x) (map row xs), own, rest)
 
   once : (xs : List B) → ((x y : B) → Contains xs x → Contains xs y → row x ≡ row y → x ≡ y) → IsStrictlySortedBy cmp (map key xs) → times r (map row xs) ≤ 1
