@@ -54,6 +54,18 @@ impl Log {
         }
     }
 
+    /// All of these rows left, and none came. NoMemory where memory runs out.
+    pub fn of_left(alloc: Global, rows: &[FactRow]) -> Result<Log, NoMemory>
+        ensures came { IfOk result (λ log. log.came.items ≡ []) }
+        ensures left { IfOk result (λ log. log.left.items ≡ rows.now) }
+        ensures room { IfOk result (λ log. vec_len log.left ≤ vec_capacity log.left) }
+    {
+        let mut log = Log::new(alloc);
+        log.left.extend_from_slice(rows)?;
+        log.reserve(0, 0)?;
+        Ok(log)
+    }
+
     /// Makes room for so many more rows on each side, and for those of so many uploads among those that left.
     pub fn reserve(&mut self, uploads: usize, more: usize) -> Result<(), NoMemory>
         ensures came { self.new.came.items ≡ self.old.came.items }
