@@ -54,7 +54,11 @@ fn remaining(alloc: Global, rows: &[FactRow], gone: &[FactRow]) -> Result<Vec<Fa
 }
 
 /// The rows without those that are gone, and those that are put behind them.
-pub fn rows_after(alloc: Global, rows: &[FactRow], changes: &FactChanges) -> Result<Vec<FactRow>, NoMemory>
+pub fn rows_after(
+    alloc: Global,
+    rows: &[FactRow],
+    changes: &FactChanges,
+) -> Result<Vec<FactRow>, NoMemory>
     ensures { IfOk result (λ new. set_of_rows new.items ≡ facts_after changes.now (set_of_rows rows.now)) }
 {
     let gone = sorted(alloc, changes.gone.as_slice())?;
