@@ -187,7 +187,7 @@ counted_alike false false e = refl
 pub same_counts : (a b : FactSet) → ((r : FactRow) → count_in a r ≡ count_in b r) → a ≡ b
 same_counts a b is = same_sets a b (λ r. counted_alike (has a r) (has b r) (is r))
 
--- Where a row stands at most once now, and isn't both put and gone, the set has it after the changes as often as it stands now.
+-- A row that stands at most once, and isn't both put and gone, is in the set after the changes as often as it stands.
 after_counts : (h : Bool) (p g n : ℕ) → n ≤ 1 → n + g ≡ bit h + p → (p ≡ 0) ⊎ (g ≡ 0) → bit (nat_lt 0 p || (not (nat_lt 0 g) && h)) ≡ n
 after_counts true zero zero n few balance apart = grind (arith, nat_tests)
 after_counts true zero (suc g) n few balance apart = grind (arith, nat_tests)
