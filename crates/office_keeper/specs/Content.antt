@@ -4,6 +4,7 @@ use Rattle.std.specs.List.{range_with_len}
 use Rattle.std.specs.FinMap.{get, insert, empty}
 use Rattle.office_mail.specs.Kept.{Kept}
 use Rattle.testing_model.specs.Suite.{Suite}
+use Rattle.office_keeper.specs.FactSet.{FactSet, facts_after}
 use Rattle.office_keeper.specs.declared.values.Reports.{Reports}
 use Rattle.office_keeper.specs.declared.values.Finished.{Finished}
 use Rattle.office_keeper.specs.declared.values.Letter.{Letter}
@@ -15,22 +16,25 @@ pub record Content : Type 0 where
   pub reports : List Reports
   -- testing, as the last finished run left it
   pub testing : Suite
+  -- the facts of the mail that the finished runs cover, as rows
+  pub facts : FactSet
 
 -- nothing is kept, and no run is finished
 abbrev pub no_content : Content
-no_content = record { kept = empty; reports = []; testing = record { sources = []; rows = [] } }
+no_content = record { kept = empty; reports = []; testing = record { sources = []; rows = [] }; facts = empty }
 
 -- this text stands for a sender under a number, and all else stays
 abbrev pub with_text : Content → ℕ → ℕ → List ℕ → Content
-with_text c sender number text = record { kept = insert c.kept (sender, number) text; reports = c.reports; testing = c.testing }
+with_text c sender number text = record { kept = insert c.kept (sender, number) text; reports = c.reports; testing = c.testing; facts = c.facts }
 
 -- the two reports of what a run leaves
 abbrev pub reports_in : Finished → Reports
 reports_in done = record { excuses = done.excuses; updates = done.updates }
 
--- one more run is finished: its reports stand behind the earlier ones and its testing in place of the old, and all mail stays
+-- one more run is finished: its reports stand behind the earlier ones and its testing in place of the old, the rows of facts
+-- are changed as it says, and all mail stays
 abbrev pub with_run : Content → Finished → Content
-with_run c done = record { kept = c.kept; reports = c.reports ++ reports_in done ∷ []; testing = done.testing }
+with_run c done = record { kept = c.kept; reports = c.reports ++ reports_in done ∷ []; testing = done.testing; facts = facts_after done.facts c.facts }
 
 -- the item at a place counted from 1
 abbrev pub item_from_one : {A : Type 0} → ℕ → List A → Option A

@@ -1,3 +1,4 @@
+pub mod FactSet
 pub mod Content
 pub mod Keeping
 pub mod Provenance

@@ -4,16 +4,18 @@ ghost use Rattle.std.specs.FinMap.{get, insert};
 ghost use Rattle.office_mail.specs.Counts.{HasRisen};
 ghost use Rattle.office_mail.specs.Lists.{Lists};
 ghost use Rattle.office_keeper.specs.Content.{Content, reports_in, with_text, with_run, item_from_one, letters_within};
+ghost use Rattle.office_keeper.specs.FactSet.{AreHoldable, facts_after, rows_in};
 ghost use Rattle.office_keeper.specs.Provenance.{AreOwnTexts, IsGiven, KnowsArchs};
 ghost use Rattle.office_keeper.specs.Keeping.{Counted};
 
 use crate::faults::{Cause, KeepFault};
 use crate::values::{Finished, Letter, MailText, Reports};
+use testing_model::FactRows;
 use testing_suites::Testing;
 
-/// A store of the office: kept mail, the reports of finished runs, and testing. What its calls make of these is known
-/// while `is_trusted` holds: nobody else writes what is kept, it is read back as it was written, and no fault has shut
-/// the store. A fault of the store is answered only where its count of refusals rises.
+/// A store of the office: kept mail, the reports of finished runs, testing, and the rows of the facts that go with them.
+/// What its calls make of these is known while `is_trusted` holds: nobody else writes what is kept, it is read back as it
+/// was written, and no fault has shut the store. A fault of the store is answered only where its count of refusals rises.
 pub trait Keeper {
     // Nobody else writes what is kept, and it is read back as it was written.
     ghost is_clean: { Self → Type 0 };
@@ -56,6 +58,7 @@ pub trait Keeper {
         ensures kept { is_trusted self.new → is_legible self.old → OnOk result (content self.new ≡ with_text (content self.old) sender number text.now) }
         ensures mail { is_trusted self.new → OnOk result ((content self.new).kept ≡ insert (content self.old).kept (sender, number) text.now) }
         ensures reports { is_trusted self.new → (content self.new).reports ≡ (content self.old).reports }
+        ensures facts { is_trusted self.new → (content self.new).facts ≡ (content self.old).facts }
         ensures err { is_trusted self.new → OnErr result (content self.new ≡ content self.old) }
         ensures setup { setup self.new ≡ setup self.old }
         ensures clean { is_clean self.new → is_clean self.old }
@@ -95,14 +98,16 @@ pub trait Keeper {
         ensures bad { is_trusted self.new → is_legible self.old → AreOwnTexts (setup self.old) (content self.old).kept → result ≢ Err (KeepFault.Store Cause.BadRow) }
         ensures counted { Counted (refusals self.old) (refusals self.new) result };
 
-    /// Makes the next run finished, with its reports and its testing all at once. Testing is kept as it is handed over
-    /// where each entry that the kept one hasn't names a kept message that gives it.
+    /// Makes the next run finished, with its reports, its testing and what changed of the rows of facts, all at once.
+    /// Testing is kept as it is handed over where each entry that the kept one hasn't names a kept message that gives it,
+    /// and the rows of facts where a store has a place for them.
     fn finish(&mut self, run: u32, done: &Finished) -> Result<(), KeepFault>
         requires next { is_trusted self.old → run ≡ length (content self.old).reports + 1 }
         requires known { is_trusted self.old → KnowsArchs (setup self.old).archs done.now.testing.rows }
-        ensures done { is_trusted self.new → is_legible self.old → IsGiven (setup self.old) (content self.old) done.now.testing → OnOk result (content self.new ≡ with_run (content self.old) done.now) }
+        ensures done { is_trusted self.new → is_legible self.old → IsGiven (setup self.old) (content self.old) done.now.testing → AreHoldable (setup self.old) (facts_after done.now.facts (content self.old).facts) → OnOk result (content self.new ≡ with_run (content self.old) done.now) }
         ensures mail { is_trusted self.new → (content self.new).kept ≡ (content self.old).kept }
         ensures reports { is_trusted self.new → OnOk result ((content self.new).reports ≡ (content self.old).reports ++ reports_in done.now ∷ []) }
+        ensures facts { is_trusted self.new → AreHoldable (setup self.old) (facts_after done.now.facts (content self.old).facts) → OnOk result ((content self.new).facts ≡ facts_after done.now.facts (content self.old).facts) }
         ensures err { is_trusted self.new → OnErr result (content self.new ≡ content self.old) }
         ensures setup { setup self.new ≡ setup self.old }
         ensures clean { is_clean self.new → is_clean self.old }
@@ -110,7 +115,7 @@ pub trait Keeper {
         ensures before { is_trusted self.new → is_trusted self.old }
         ensures open { is_clean self.new → is_trusted self.old → OnOk result (is_trusted self.new) }
         ensures shut { is_clean self.new → is_trusted self.old → is_trusted self.new ⊎ HasRisen (disk_faults self.old) (disk_faults self.new) }
-        ensures legible { is_trusted self.new → is_legible self.old → IsGiven (setup self.old) (content self.old) done.now.testing → is_legible self.new }
+        ensures legible { is_trusted self.new → is_legible self.old → IsGiven (setup self.old) (content self.old) done.now.testing → AreHoldable (setup self.old) (facts_after done.now.facts (content self.old).facts) → is_legible self.new }
         ensures bad { is_trusted self.new → is_legible self.old → AreOwnTexts (setup self.old) (content self.old).kept → result ≢ Err (KeepFault.Store Cause.BadRow) }
         ensures counted { Counted (refusals self.old) (refusals self.new) result };
 
@@ -144,14 +149,29 @@ pub trait Keeper {
         ensures bad { is_trusted self.new → is_legible self.old → AreOwnTexts (setup self.old) (content self.old).kept → result ≢ Err (KeepFault.Store Cause.BadRow) }
         ensures counted { Counted (refusals self.old) (refusals self.new) result };
 
+    /// The rows of the facts of the mail that the finished runs cover, by kind, sender, number and place.
+    fn facts(&mut self) -> Result<FactRows, KeepFault>
+        ensures value { is_trusted self.new → IfOk result (λ rows. rows ≡ rows_in (content self.old).facts) }
+        ensures same { is_trusted self.new → content self.new ≡ content self.old }
+        ensures setup { setup self.new ≡ setup self.old }
+        ensures clean { is_clean self.new → is_clean self.old }
+        ensures faults { disk_faults self.old ≤ disk_faults self.new }
+        ensures before { is_trusted self.new → is_trusted self.old }
+        ensures open { is_clean self.new → is_trusted self.old → OnOk result (is_trusted self.new) }
+        ensures shut { is_clean self.new → is_trusted self.old → is_trusted self.new ⊎ HasRisen (disk_faults self.old) (disk_faults self.new) }
+        ensures legible { is_trusted self.new → is_legible self.old → is_legible self.new }
+        ensures bad { is_trusted self.new → is_legible self.old → AreOwnTexts (setup self.old) (content self.old).kept → result ≢ Err (KeepFault.Store Cause.BadRow) }
+        ensures counted { Counted (refusals self.old) (refusals self.new) result };
+
     /// Makes the next run finished, as `finish` does, with what it is handed to keep. A store that needs no more than
     /// the value itself has no copy to make.
     fn take_finished(&mut self, run: u32, done: Finished) -> Result<(), KeepFault>
         requires next { is_trusted self.old → run ≡ length (content self.old).reports + 1 }
         requires known { is_trusted self.old → KnowsArchs (setup self.old).archs done.testing.rows }
-        ensures done { is_trusted self.new → is_legible self.old → IsGiven (setup self.old) (content self.old) done.testing → OnOk result (content self.new ≡ with_run (content self.old) done) }
+        ensures done { is_trusted self.new → is_legible self.old → IsGiven (setup self.old) (content self.old) done.testing → AreHoldable (setup self.old) (facts_after done.facts (content self.old).facts) → OnOk result (content self.new ≡ with_run (content self.old) done) }
         ensures mail { is_trusted self.new → (content self.new).kept ≡ (content self.old).kept }
         ensures reports { is_trusted self.new → OnOk result ((content self.new).reports ≡ (content self.old).reports ++ reports_in done ∷ []) }
+        ensures facts { is_trusted self.new → AreHoldable (setup self.old) (facts_after done.facts (content self.old).facts) → OnOk result ((content self.new).facts ≡ facts_after done.facts (content self.old).facts) }
         ensures err { is_trusted self.new → OnErr result (content self.new ≡ content self.old) }
         ensures setup { setup self.new ≡ setup self.old }
         ensures clean { is_clean self.new → is_clean self.old }
@@ -159,7 +179,7 @@ pub trait Keeper {
         ensures before { is_trusted self.new → is_trusted self.old }
         ensures open { is_clean self.new → is_trusted self.old → OnOk result (is_trusted self.new) }
         ensures shut { is_clean self.new → is_trusted self.old → is_trusted self.new ⊎ HasRisen (disk_faults self.old) (disk_faults self.new) }
-        ensures legible { is_trusted self.new → is_legible self.old → IsGiven (setup self.old) (content self.old) done.testing → is_legible self.new }
+        ensures legible { is_trusted self.new → is_legible self.old → IsGiven (setup self.old) (content self.old) done.testing → AreHoldable (setup self.old) (facts_after done.facts (content self.old).facts) → is_legible self.new }
         ensures bad { is_trusted self.new → is_legible self.old → AreOwnTexts (setup self.old) (content self.old).kept → result ≢ Err (KeepFault.Store Cause.BadRow) }
         ensures counted { Counted (refusals self.old) (refusals self.new) result }
     {

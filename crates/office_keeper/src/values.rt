@@ -5,6 +5,7 @@ ghost use Rattle.office_keeper.specs.Content.{reports_in};
 use deb_control::{NoMemory, Text};
 use std::alloc::{AllocError, Global};
 use std::marker::Model;
+use testing_model::FactChanges;
 use testing_suites::Testing;
 
 /// The bytes of a text that came by mail. Contracts see their list.
@@ -72,12 +73,13 @@ impl Reports {
     }
 }
 
-/// What a finished run leaves: the testing suite and the two reports.
+/// What a finished run leaves: the testing suite, the two reports, and what changed of the rows of facts.
 #[derive(Drop)]
 pub struct Finished {
     pub testing: Testing,
     pub excuses: Text,
     pub updates: Text,
+    pub facts: FactChanges,
 }
 
 impl Finished {
