@@ -6,16 +6,21 @@ mod bytes;
 mod chains;
 mod failing;
 mod office_over;
+mod replay_trials;
 mod replaying;
+mod request_trials;
 mod sitting;
 mod steps;
+mod trials;
 
 use deb_version::NoMemory;
 use office_over::{in_memory, in_tables};
 use std::alloc::Global;
 use std::io;
+use trials::put_trials;
 
-/// What a row prints: what came of it in memory, and what came of it over tables, where that is something else.
+/// What a row prints: what came of it in memory, what came of it over tables, where that is something else, and what
+/// came of its trials.
 fn shown(alloc: Global, row: &str) -> Result<Vec<u8>, NoMemory> {
     let mut shown = in_memory(alloc, row)?;
     let told = in_tables(alloc, row)?;
@@ -23,6 +28,7 @@ fn shown(alloc: Global, row: &str) -> Result<Vec<u8>, NoMemory> {
         shown.extend_from_slice(b"over tables:\n")?;
         shown.extend_from_slice(&told)?;
     }
+    put_trials(alloc, row, &mut shown)?;
     Ok(shown)
 }
 
