@@ -11,6 +11,8 @@ mod replaying;
 mod request_trials;
 mod sitting;
 mod steps;
+mod stop_trials;
+mod stopping;
 mod trials;
 
 use deb_version::NoMemory;

@@ -1,10 +1,11 @@
-//! Trials of a row's first step: each read and each write of it fails in turn.
+//! Trials of a row's first step: each read and each write of it fails in turn, and its store stops at each call.
 
 use crate::bytes::{bag_of, plain_bytes};
 use crate::failing::{Failure, Halting};
 use crate::replay_trials::{printed, try_read, try_write};
 use crate::request_trials::{replied, try_request_read, try_request_write};
 use crate::sitting::setup_in;
+use crate::stop_trials::put_stops;
 use deb_version::NoMemory;
 use office_mail::Setup;
 use std::alloc::Global;
@@ -87,6 +88,8 @@ pub fn put_trials(alloc: Global, row: &str, came: &mut Vec<u8>) -> Result<(), No
     for what in steps {
         if let Some(words) = what.strip_prefix("each ") {
             put_failures(alloc, &setup, kind == "request", text, words, came)?;
+        } else if let Some(words) = what.strip_prefix("stop ") {
+            put_stops(alloc, &setup, text, words, came)?;
         }
     }
     Ok(())
