@@ -122,6 +122,9 @@ def judged(lines, statement):
     for what, text in steps_of(lines):
         if what == "reopen" or is_trial(what):
             continue
+        if what == "facts":
+            out += office.told()
+            continue
         if bag_of(what, text) is None:
             return None
         out += replayed(office, what, text, parts.pop(0) if parts else [])

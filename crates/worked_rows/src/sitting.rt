@@ -61,8 +61,8 @@ pub fn sit<K: Keeper>(
     Ok(())
 }
 
-/// Takes one step: mail or a request. A setup and a statement are none, since they come before an opening, nor is a
-/// trial, which is made in offices of its own.
+/// Takes one step: mail or a request. A setup and a statement are none, since they come before an opening, nor are the
+/// facts, which are told behind the last step, and a trial, which is made in offices of its own.
 fn take<K: Keeper>(
     alloc: Global,
     office: &mut Office<K>,
@@ -78,11 +78,16 @@ fn take<K: Keeper>(
         serve_in(alloc, office, &plain_bytes(alloc, text)?, came)
     } else if let Some(what) = what.strip_prefix("http ") {
         serve_in(alloc, office, &request_of(alloc, what, text)?, came)
-    } else if what == "setup" || what.starts_with("sql ") || is_trial(what) {
+    } else if what == "setup" || what == "facts" || what.starts_with("sql ") || is_trial(what) {
         Ok(())
     } else {
         take_call(alloc, office, what, text, came)
     }
+}
+
+/// Whether the facts that are kept are told behind these steps.
+pub fn tells_facts(steps: &str) -> bool {
+    steps.lines().last() == Some("> facts")
 }
 
 /// Whether a step is made by [`crate::trials`].

@@ -5,7 +5,7 @@ use crate::failing::{Broken, Halting};
 use deb_version::NoMemory;
 use office_http::{Office, Progress, ServeFault, Served, StoreFault, serve_one};
 use office_mail::{FromRead, ToWrite};
-use office_store::Keeper;
+use office_store::{KeepFault, Keeper};
 use std::alloc::Global;
 
 /// Serves the request that a reader gives, to a writer.
@@ -83,6 +83,33 @@ fn put_progress(
         }
         Err(fault) => format!(in alloc; "failed: {fault:?}\n")?,
     };
+    came.extend_from_slice(line.as_bytes())?;
+    Ok(())
+}
+
+/// Adds the rows of facts that a store keeps: how many there are, and of each its kind, sender, number and place.
+pub fn facts_in<K: Keeper>(
+    alloc: Global,
+    keeper: &mut K,
+    came: &mut Vec<u8>,
+) -> Result<(), NoMemory> {
+    let rows = match keeper.facts() {
+        Ok(rows) => rows,
+        Err(fault) => return put_fault(alloc, fault, came),
+    };
+    let line = format!(in alloc; "facts {}\n", rows.as_slice().len())?;
+    came.extend_from_slice(line.as_bytes())?;
+    for row in rows.as_slice() {
+        let line =
+            format!(in alloc; "fact {} {} {} {}\n", row.kind, row.sender, row.number, row.place)?;
+        came.extend_from_slice(line.as_bytes())?;
+    }
+    Ok(())
+}
+
+/// Adds why a store gives no rows of facts.
+fn put_fault(alloc: Global, fault: KeepFault, came: &mut Vec<u8>) -> Result<(), NoMemory> {
+    let line = format!(in alloc; "facts refused: {fault:?}\n")?;
     came.extend_from_slice(line.as_bytes())?;
     Ok(())
 }
