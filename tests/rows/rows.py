@@ -122,6 +122,9 @@ def judged(lines, statement):
     for what, text in steps_of(lines):
         if what == "reopen" or is_trial(what):
             continue
+        if what == "asked":
+            out += "".join(line + "\n" for line in statement.split("\n") if line.startswith("asked "))
+            continue
         if what == "facts":
             out += office.told()
             continue
