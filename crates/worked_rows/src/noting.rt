@@ -9,7 +9,7 @@ use office_mail::Setup;
 use office_store::{Finished, KeepFault, Keeper, Letter, MailText, Plain, Reports};
 use std::alloc::Global;
 use testing_model::FactRows;
-use testing_rules::Testing;
+use testing_suites::Testing;
 
 /// The least number of each sender that was asked for: the greatest `u32` where none was.
 type Least = [u32; 16];

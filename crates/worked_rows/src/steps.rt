@@ -100,8 +100,10 @@ pub fn facts_in<K: Keeper>(
     let line = format!(in alloc; "facts {}\n", rows.as_slice().len())?;
     came.extend_from_slice(line.as_bytes())?;
     for row in rows.as_slice() {
-        let line =
-            format!(in alloc; "fact {} {} {} {}\n", row.kind, row.sender, row.number, row.place)?;
+        let line = format!(in alloc;
+            "fact {} {} {} {}\n",
+            row.kind, row.sender, row.number, row.place
+        )?;
         came.extend_from_slice(line.as_bytes())?;
     }
     Ok(())
