@@ -1,6 +1,6 @@
 //! An office over two files, a log and a database, of which one stops after so many of its calls.
 
-ghost use Rattle.std.specs.Prelude.{◌×◌, IsTrue, IfOk};
+ghost use Rattle.std.specs.Prelude.{IsTrue, IfOk};
 ghost use Rattle.sqlite_disk.specs.Memory.{memory_is_usable};
 
 use crate::stopping::{

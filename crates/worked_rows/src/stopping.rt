@@ -60,9 +60,19 @@ pub fn due_of(alloc: Global, setup: &Setup, text: &str) -> Result<Due, NoMemory>
 /// Delivers each message in an office in memory, and notes what comes of it.
 fn put_due(alloc: Global, setup: &Setup, text: &str, due: &mut Due) -> Result<(), NoMemory> {
     let mut office = new_office(alloc, setup)?;
-    due.told.push(told_by(alloc, &mut office)?)?;
+    put_messages(alloc, &mut office, text, due)
+}
+
+/// Delivers each message, and notes what comes of it.
+fn put_messages<K: Keeper>(
+    alloc: Global,
+    office: &mut Office<K>,
+    text: &str,
+    due: &mut Due,
+) -> Result<(), NoMemory> {
+    due.told.push(told_by(alloc, office)?)?;
     for message in text.split("\n--\n") {
-        put_message(alloc, &mut office, message, due)?;
+        put_message(alloc, office, message, due)?;
     }
     Ok(())
 }
