@@ -11,12 +11,15 @@ use deb_version::NoMemory;
 use office_http::Office;
 use office_mail::Setup;
 use office_store::Tables;
-use sqlite::{Connection, FileStore, Files, Options};
+use sqlite::{Alter, Connection, FileStore, Files, Options};
 use sqlite_disk::{Crash, Disk, Fuse, Memory};
 use std::alloc::Global;
 
 /// More calls than a bag makes of a file.
 const MOST: u64 = 4_000;
+
+/// The frames of a log that is opened again: more than the bag writes.
+const MOST_FRAMES: usize = 1_000;
 
 /// Which file stops, after how many of its calls, and how many frames of the log are copied into the database at once.
 #[derive(Clone, Copy)]
@@ -104,35 +107,65 @@ fn new_file(alloc: Global, calls: u64) -> Fuse<Memory>
 }
 
 /// The files of an office whose mail is delivered until a stop, as it leaves them.
-fn run_until_stop(
+fn run_until_stop<D: Disk + Drop>(
     alloc: Global,
     setup: Setup,
-    files: Files<Fuse<Memory>>,
+    files: Files<D>,
     frames: usize,
     due: &Due,
     answers: &mut Answers,
-) -> Files<Fuse<Memory>>
-    requires log { IsTrue (⟦<Fuse<Memory> as Disk>⟧.is_usable files.log) }
-    requires db { IsTrue (⟦<Fuse<Memory> as Disk>⟧.is_usable files.db) }
+) -> Files<D>
+    requires log { IsTrue (D.Disk.is_usable files.log) }
+    requires db { IsTrue (D.Disk.is_usable files.db) }
+{
+    match opened(alloc, files, frames) {
+        Ok(conn) => closed(deliver_over(alloc, setup, conn, due, answers)),
+        Err(files) => {
+            answers.have_stopped = true;
+            files
+        }
+    }
+}
+
+/// A connection over files, which come back where it isn't opened.
+fn opened<D: Disk + Drop>(
+    alloc: Global,
+    files: Files<D>,
+    frames: usize,
+) -> Result<Connection<FileStore<D>>, Files<D>>
+    requires log { IsTrue (D.Disk.is_usable files.log) }
+    requires db { IsTrue (D.Disk.is_usable files.db) }
 {
     let mut options = Options::new(1);
     options.checkpoint_frames = frames;
     match Connection::open_files(alloc, files, options) {
-        Ok(conn) => match Tables::open(alloc, conn, &setup) {
-            Ok(tables) => {
-                let mut office = Office::new(alloc, setup, tables);
-                deliver_all(&mut office, due, answers);
-                let store = office.into_keeper().into_connection().into_store();
-                store.close()
-            }
-            Err((_fault, conn)) => {
-                answers.have_stopped = true;
-                conn.into_store().close()
-            }
-        },
-        Err((_error, left)) => {
+        Ok(conn) => Ok(conn),
+        Err((_error, left)) => Err(left.into_files()),
+    }
+}
+
+/// The files of a connection, as they are.
+fn closed<D: Disk + Drop>(conn: Connection<FileStore<D>>) -> Files<D> {
+    conn.into_store().close()
+}
+
+/// Delivers the mail in an office over a connection.
+fn deliver_over<S: Alter + Drop>(
+    alloc: Global,
+    setup: Setup,
+    conn: Connection<S>,
+    due: &Due,
+    answers: &mut Answers,
+) -> Connection<S> {
+    match Tables::open(alloc, conn, &setup) {
+        Ok(tables) => {
+            let mut office = Office::new(alloc, setup, tables);
+            deliver_all(&mut office, due, answers);
+            office.into_keeper().into_connection()
+        }
+        Err((_fault, conn)) => {
             answers.have_stopped = true;
-            left.into_files()
+            conn
         }
     }
 }
@@ -210,19 +243,30 @@ fn has_all(alloc: Global, setup: Setup, files: Files<Memory>, due: &Due, answers
     requires log { IsTrue (memory_is_usable files.log) }
     requires db { IsTrue (memory_is_usable files.db) }
 {
-    match Connection::open_files(alloc, files, Options::new(1)) {
-        Ok(conn) => match Tables::open(alloc, conn, &setup) {
-            Ok(tables) => {
-                let mut office = Office::new(alloc, setup, tables);
-                let tells = tells_its_runs(alloc, &mut office, due, answers);
-                let mut tables = office.into_keeper();
-                let keeps = keeps_what_was_held(&mut tables, due, answers);
-                drop(tables.into_connection());
-                tells && keeps
-            }
-            Err((_fault, _conn)) => false,
-        },
-        Err((_error, _left)) => false,
+    match opened(alloc, files, MOST_FRAMES) {
+        Ok(conn) => has_all_over(alloc, setup, conn, due, answers),
+        Err(_files) => false,
+    }
+}
+
+/// The same over a connection.
+fn has_all_over<S: Alter + Drop>(
+    alloc: Global,
+    setup: Setup,
+    conn: Connection<S>,
+    due: &Due,
+    answers: &Answers,
+) -> bool {
+    match Tables::open(alloc, conn, &setup) {
+        Ok(tables) => {
+            let mut office = Office::new(alloc, setup, tables);
+            let tells = tells_its_runs(alloc, &mut office, due, answers);
+            let mut tables = office.into_keeper();
+            let keeps = keeps_what_was_held(&mut tables, due, answers);
+            drop(tables.into_connection());
+            tells && keeps
+        }
+        Err((_fault, _conn)) => false,
     }
 }
 
@@ -231,16 +275,26 @@ fn goes_on(alloc: Global, setup: Setup, files: Files<Memory>, due: &Due) -> bool
     requires log { IsTrue (memory_is_usable files.log) }
     requires db { IsTrue (memory_is_usable files.db) }
 {
-    match Connection::open_files(alloc, files, Options::new(1)) {
-        Ok(conn) => match Tables::open(alloc, conn, &setup) {
-            Ok(tables) => {
-                let mut office = Office::new(alloc, setup, tables);
-                let ends = ends_as_due(alloc, &mut office, due);
-                drop(office.into_keeper().into_connection());
-                ends
-            }
-            Err((_fault, _conn)) => false,
-        },
-        Err((_error, _left)) => false,
+    match opened(alloc, files, MOST_FRAMES) {
+        Ok(conn) => goes_on_over(alloc, setup, conn, due),
+        Err(_files) => false,
+    }
+}
+
+/// The same over a connection.
+fn goes_on_over<S: Alter + Drop>(
+    alloc: Global,
+    setup: Setup,
+    conn: Connection<S>,
+    due: &Due,
+) -> bool {
+    match Tables::open(alloc, conn, &setup) {
+        Ok(tables) => {
+            let mut office = Office::new(alloc, setup, tables);
+            let ends = ends_as_due(alloc, &mut office, due);
+            drop(office.into_keeper().into_connection());
+            ends
+        }
+        Err((_fault, _conn)) => false,
     }
 }
