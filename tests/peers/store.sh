@@ -5,9 +5,9 @@
 # tests/peers/store.sh --by OFFICE, where OFFICE is the built program, which then writes a store of
 # examples/archive.bag to be read. Debian's package sqlite3 is needed.
 #
-# The file must pass PRAGMA integrity_check and foreign_key_check, have the five tables of the
+# The file must pass PRAGMA integrity_check and foreign_key_check, have the seven tables of the
 # office, each STRICT and with no column that may be null, and one row of the office, with id 1 and
-# schema number 0. The exit status is 1 where any of these fails.
+# schema number 2. The exit status is 1 where any of these fails.
 set -eu
 
 usage() {
@@ -48,13 +48,15 @@ expect "integrity_check" "$(ask 'PRAGMA integrity_check')" "ok"
 expect "foreign_key_check" "$(ask 'PRAGMA foreign_key_check')" ""
 expect "the tables, all STRICT" \
     "$(ask "SELECT group_concat(name || ' ' || strict) FROM (SELECT name, strict FROM pragma_table_list WHERE schema = 'main' AND name NOT LIKE 'sqlite_%' ORDER BY name)")" \
-    "mail 1,office 1,run 1,testing_row 1,testing_source 1"
+    "fact 1,fact_delays 1,mail 1,office 1,run 1,testing_row 1,testing_source 1"
 expect "no column may be null but the integer keys" \
-    "$(ask "SELECT group_concat(t.name || '.' || c.name) FROM pragma_table_list t JOIN pragma_table_info(t.name) c WHERE t.schema = 'main' AND t.name NOT LIKE 'sqlite_%' AND NOT c.\"notnull\" AND NOT (c.pk AND t.name IN ('office', 'run'))")" \
+    "$(ask "SELECT group_concat(t.name || '.' || c.name) FROM pragma_table_list t JOIN pragma_table_info(t.name) c WHERE t.schema = 'main' AND t.name NOT LIKE 'sqlite_%' AND NOT c.\"notnull\" AND NOT (c.pk AND t.name IN ('office', 'run', 'fact_delays'))")" \
     ""
-expect "one row of the office, id 1, schema number 0" "$(ask 'SELECT id, schema FROM office')" "1|0"
+expect "one row of the office, id 1, schema number 2" "$(ask 'SELECT id, schema FROM office')" "1|2"
+expect "kinds of facts from 1 to 7, with a place at rows of unstable alone" \
+    "$(ask 'SELECT count(*) FROM fact WHERE kind NOT BETWEEN 1 AND 7 OR (place > 0) <> (kind = 3)')" "0"
 expect "as many runs as the office says are finished, numbered from 1" \
     "$(ask 'SELECT count(*), coalesce(min(number), 1), coalesce(max(number), 0) FROM run')" \
     "$(ask 'SELECT finished, 1, finished FROM office')"
-echo "mail $(ask 'SELECT count(*) FROM mail'), runs $(ask 'SELECT finished FROM office'), sources in testing $(ask 'SELECT count(*) FROM testing_source'), rows in testing $(ask 'SELECT count(*) FROM testing_row')"
+echo "mail $(ask 'SELECT count(*) FROM mail'), runs $(ask 'SELECT finished FROM office'), facts $(ask 'SELECT count(*) FROM fact'), sources in testing $(ask 'SELECT count(*) FROM testing_source'), rows in testing $(ask 'SELECT count(*) FROM testing_row')"
 exit $failed

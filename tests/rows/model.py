@@ -122,7 +122,7 @@ class Office:
     def __init__(self):
         self.kept, self.finished = {}, 0
         self.sources, self.rows = {}, {}
-        self.reports = {}
+        self.reports, self.facts = {}, []
 
     def deliver(self, text):
         ps = paragraphs(text)
@@ -159,6 +159,7 @@ class Office:
     def run(self, k):
         cover, day = self.covers(k)
         uploads, rows, drops, bugs, hints, unhinted, delays = [], [], [], {}, {}, set(), None
+        said, last_delays = [], []
         for (s, n) in sorted(self.kept):
             if s == 4 or n > cover[s]:
                 continue
@@ -166,24 +167,28 @@ class Office:
             p = ps[0]
             kind = p["kind"]
             if kind == "upload":
-                uploads.append((p["source"], p["version"], p["urgency"].split()[0].lower(), p["day"]))
+                uploads.append((p["source"], p["version"], p["urgency"].split()[0].lower(), p["day"], s, n))
             elif kind == "drop":
-                drops.append((p["architecture"], p["package"], p["version"]))
+                drops.append((p["architecture"], p["package"], p["version"], s, n))
             elif kind == "build":
-                for b in ps[1:]:
+                for place, b in enumerate(ps[1:], 1):
                     m = re.fullmatch(r"([^\s(]+)\s*(?:\(\s*([^\s)]+)\s*\))?", b.get("source", b["package"]))
                     rows.append(dict(arch=b["architecture"], package=b["package"], version=b["version"],
                                      source=m.group(1), source_version=m.group(2) or b["version"],
                                      clauses=items(b.get("pre-depends")) + items(b.get("depends")),
-                                     provides=[a[0] for a in items(b.get("provides"))]))
+                                     provides=[a[0] for a in items(b.get("provides"))],
+                                     message=(s, n, place)))
             elif kind == "bug":
                 if n >= bugs.get(int(p["bug"]), (0,))[0]:
                     bugs[int(p["bug"])] = (n, p)
             elif kind == "hint":
                 hints[n] = p["hint"].split()
+                said.append((6, s, n, 0))
             elif kind == "unhint":
                 unhinted.add(int(p["cancels"]))
+                said.append((7, s, n, 0))
             elif kind == "delays":
+                last_delays = [(8, s, n, 0)]
                 delays = {"low": p["low"], "medium": p["medium"], "high": p["high"],
                           "critical": p["critical"], "emergency": p["critical"]}
         need_of = {u: int(d) for u, d in (delays or DAYS).items()}
@@ -317,6 +322,23 @@ class Office:
             new, coming = moved([s])
             lines.append("wait %s %s uninstallable %s %s" % (s, left[s], *offender(new, coming)))
         self.reports[k] = (excuses, "\n".join(lines) + "\n")
+        self.facts = sorted(said + last_delays + self.gave(unstable, uploads, chosen, drops, bugs))
+
+    def gave(self, unstable, uploads, chosen, drops, bugs):
+        """The messages that gave what a run knows, by kind: all but hints, their cancelling and days."""
+        rows = [(1, *u[4:], 0) for u in unstable.values()]
+        rows += [(2, *u[4:], 0) for u in uploads
+                 if u[0] not in self.sources or vcmp(u[1], self.sources[u[0]]) > 0]
+        rows += [(3, *r["message"]) for r in chosen.values()]
+        greatest = {}
+        for d in drops:
+            if d[:2] not in greatest or vcmp(d[2], greatest[d[:2]][2]) > 0:
+                greatest[d[:2]] = d
+        rows += [(4, *d[3:], 0) for d in greatest.values()]
+        return rows + [(5, SENDERS.index("bts"), n, 0) for n, _ in bugs.values()]
+
+    def told(self):
+        return "facts %d\n" % len(self.facts) + "".join("fact %d %d %d %d\n" % row for row in self.facts)
 
     def status(self):
         k = 0

@@ -1,15 +1,23 @@
 //! Offices for rows, over each store.
 
-use crate::sitting::{setup_in, sit, statement_in};
+use crate::sitting::{setup_in, sit, statement_in, tells_facts};
+use crate::steps::facts_in;
 use deb_version::NoMemory;
 use office_http::Office;
 use office_mail::{Setup, SetupFault};
-use office_store::{Plain, Tables};
+use office_store::{Keeper, Plain, Tables};
 use sqlite::{Alter, Connection};
 use std::alloc::Global;
 
 /// What parts the sittings of a row.
 const REOPEN: &str = "\n> reopen";
+
+/// An office in memory without mail.
+pub fn new_office(alloc: Global, setup: &Setup) -> Result<Office<Plain>, NoMemory> {
+    let setup = setup.copy(alloc)?;
+    let plain = Plain::new(alloc, &setup)?;
+    Ok(Office::new(alloc, setup, plain))
+}
 
 /// What comes of a row in one office in memory, which stands from its first step to its last.
 pub fn in_memory(alloc: Global, row: &str) -> Result<Vec<u8>, NoMemory> {
@@ -27,6 +35,7 @@ pub fn in_memory(alloc: Global, row: &str) -> Result<Vec<u8>, NoMemory> {
     for sitting in row.split(REOPEN) {
         sit(alloc, &mut office, sitting, &mut came)?;
     }
+    told_in(alloc, &mut office.into_keeper(), row, &mut came)?;
     Ok(came)
 }
 
@@ -80,8 +89,11 @@ fn sit_over<S: Alter + Drop>(
         Ok(tables) => {
             let mut office = Office::new(alloc, setup, tables);
             let sat = sit(alloc, &mut office, sitting, came);
-            let conn = office.into_keeper().into_connection();
+            let mut tables = office.into_keeper();
+            let told = told_in(alloc, &mut tables, sitting, came);
+            let conn = tables.into_connection();
             sat?;
+            told?;
             Ok(conn)
         }
         Err((fault, conn)) => {
@@ -90,6 +102,19 @@ fn sit_over<S: Alter + Drop>(
             Ok(conn)
         }
     }
+}
+
+/// Adds the facts that a store keeps, where they are told behind these steps.
+fn told_in<K: Keeper>(
+    alloc: Global,
+    keeper: &mut K,
+    steps: &str,
+    came: &mut Vec<u8>,
+) -> Result<(), NoMemory> {
+    if tells_facts(steps) {
+        facts_in(alloc, keeper, came)?;
+    }
+    Ok(())
 }
 
 /// Adds why a setup is refused.

@@ -61,7 +61,8 @@ pub fn sit<K: Keeper>(
     Ok(())
 }
 
-/// Takes one step: mail or a request. A setup and a statement are none, since they come before an opening.
+/// Takes one step: mail or a request. What is told before an opening or behind the last step is none, nor is a trial,
+/// which is made in offices of its own.
 fn take<K: Keeper>(
     alloc: Global,
     office: &mut Office<K>,
@@ -77,11 +78,31 @@ fn take<K: Keeper>(
         serve_in(alloc, office, &plain_bytes(alloc, text)?, came)
     } else if let Some(what) = what.strip_prefix("http ") {
         serve_in(alloc, office, &request_of(alloc, what, text)?, came)
-    } else if what == "setup" || what.starts_with("sql ") {
+    } else if is_told(what) || is_trial(what) {
         Ok(())
     } else {
         take_call(alloc, office, what, text, came)
     }
+}
+
+/// Whether a step is a setup or a statement, which come before an opening, or what is told behind the last step.
+fn is_told(what: &str) -> bool {
+    what == "setup" || what == "facts" || what == "asked" || what.starts_with("sql ")
+}
+
+/// Whether the facts that are kept are told behind these steps.
+pub fn tells_facts(steps: &str) -> bool {
+    steps.lines().last() == Some("> facts")
+}
+
+/// Whether it is told which mail these steps ask a store for.
+pub fn tells_asked(steps: &str) -> bool {
+    steps.lines().last() == Some("> asked")
+}
+
+/// Whether a step is made by [`crate::trials`].
+fn is_trial(what: &str) -> bool {
+    what.starts_with("each ") || what.starts_with("stop ")
 }
 
 /// Takes one step: the bag of a chain, one of which a read or a write fails, or a call of the office by itself.
