@@ -1,5 +1,6 @@
 #!/usr/bin/env python3
-"""Finds each file and each name that docs/TRUST.md cites, and the counts of lines that it and README.md give.
+"""Finds each file and each name that docs/TRUST.md cites, the counts of lines that it and README.md give, and the code
+that pages of docs/ quote.
 
 usage: trust.py [TOP]     (exit status 0: all are there; 1: a line for each that isn't)
 
@@ -7,6 +8,7 @@ A citation stands in backticks. One with a slash is a path, from the top or from
 the top. Any other is a name, and has to stand as a whole word in a file that the same part of its row or paragraph
 cites: in a table a name of the columns "call" and "file" in a file of these two, a name of the column "definitions" in
 a file behind it. A name in a paragraph without a file may stand in any source. The counts are those of trusted.py.
+A quotation is a fence of Rust whose first line is a comment with a path: the rest of it has to stand in that file.
 """
 import re
 import subprocess
@@ -77,6 +79,16 @@ def faults_of(number, part):
         if not is_path(word) and not has(name, places):
             yield f'docs/TRUST.md:{number}: {name} isn\'t in {", ".join(paths) or "any source"}'
 
+def quotations():
+    """The quotations of the pages that don't stand in their files, and how many there are."""
+    missing, count = [], 0
+    for page in sorted((TOP / 'docs').glob('*.md')):
+        for path, code in re.findall(r'(?s)```rust\n// (\S+)\n(.*?)```', page.read_text()):
+            count += 1
+            if not found(path) or code not in found(path).read_text():
+                missing.append(f'{page.relative_to(TOP)}: its quotation isn\'t in {path}')
+    return missing, count
+
 def counted():
     """The lines of definitions that are believed and those that are steps, as trusted.py counts them."""
     told = subprocess.run([sys.executable, TOP / 'tests' / 'trusted.py', TOP], capture_output=True, text=True, check=True)
@@ -92,9 +104,11 @@ def main():
         told = re.findall(r'\b\d,\d{3}(?=\s+(?:other\s+)?lines)', page.read_text())
         faults += [f'{page.relative_to(TOP)}: {count} lines, which are {" and ".join(counted())} (trusted.py)'
                    for count in told if count not in counted()]
+    missing, quoted = quotations()
+    faults += missing
     for fault in faults:
         print(fault)
-    print(f'{cited} citations, {len(faults)} not found')
+    print(f'{cited} citations, {quoted} quotations, {len(faults)} not found')
     sys.exit(1 if faults else 0)
 
 if __name__ == '__main__':
