@@ -8,7 +8,8 @@ A citation stands in backticks. One with a slash is a path, from the top or from
 the top. Any other is a name, and has to stand as a whole word in a file that the same part of its row or paragraph
 cites: in a table a name of the columns "call" and "file" in a file of these two, a name of the column "definitions" in
 a file behind it. A name in a paragraph without a file may stand in any source. The counts are those of trusted.py.
-A quotation is a fence of Rust whose first line is a comment with a path: the rest of it has to stand in that file.
+A quotation is a fence of Rust whose first line is a comment with a path: the rest of it has to stand in that file, with
+a line of two points where lines are left out.
 """
 import re
 import subprocess
@@ -85,7 +86,8 @@ def quotations():
     for page in sorted((TOP / 'docs').glob('*.md')):
         for path, code in re.findall(r'(?s)```rust\n// (\S+)\n(.*?)```', page.read_text()):
             count += 1
-            if not found(path) or code not in found(path).read_text():
+            whole = found(path).read_text() if found(path) else ''
+            if not whole or not all(piece in whole for piece in re.split(r'(?m)^ *\.\.\n', code)):
                 missing.append(f'{page.relative_to(TOP)}: its quotation isn\'t in {path}')
     return missing, count
 
