@@ -131,9 +131,27 @@ excuses_are_grepped() {
     grep -qx 'c++lib (1.0-1 to 2:1.0-1+b1)' "$work/grepped" && grep -qx '    Blocked by a hint' "$work/grepped"
 }
 
+# The bag of the examples' indexes: three things are left out, and each message has as many bytes as it says.
+indexes_are_read() {
+    ./office-from-packages --uploaded 2025-03-01 --run 2025-03-06 --sources ../examples/Sources \
+        "$work/week" ../examples/Packages > "$work/counts" 2> "$work/left" || return 1
+    cat "$work/counts" "$work/left"
+    [ "$(cat "$work/counts")" = 'uploads 8, builds 7 of 9 packages, hints 1, orders 1' ] || return 1
+    [ "$(grep -c ': left out: ' "$work/left")" -eq 3 ] || return 1
+    python3 - "$work/week/bag" << 'END'
+import sys
+left, messages = open(sys.argv[1], "rb").read(), []
+while left:
+    head, left = left.split(b"\n", 1)
+    size = int(head.removeprefix(b"mail "))
+    messages, left = messages + [left[:size]], left[size:]
+assert len(messages) == 17 and all(m.startswith(b"From: ") and len(m) <= 65536 for m in messages)
+END
+}
+
 files_are_installed() {
     make -s install PROGRAM="${program:-/bin/true}" PREFIX=/usr DESTDIR="$work/root" || return 1
-    for file in bin/office bin/office-excuses share/man/man1/office.1 lib/systemd/system/office.service \
+    for file in bin/office bin/office-excuses bin/office-from-packages share/man/man1/office.1 lib/systemd/system/office.service \
         share/bash-completion/completions/office share/zsh/vendor-completions/_office share/doc/office/RULES.md; do
         [ -f "$work/root/usr/$file" ] || { echo "$file is missing" && return 1; }
     done
@@ -207,6 +225,10 @@ try_by python3 "excuses.py: JSON and page of a run" reports_are_read
 try_by grep-excuses "excuses.py: grep-excuses reads the JSON" excuses_are_grepped
 try_by python3 "excuses.py: reports of two runs are refused" \
     ends 1 python3 -B ./excuses.py --excuses "$work/update" --update "$work/excuses"
+try_by python3 "office-from-packages: the examples' indexes" indexes_are_read
+try "office-from-packages: no words" ends 2 ./office-from-packages
+try "office-from-packages: no file" \
+    ends 1 ./office-from-packages --uploaded 2025-03-01 --run 2025-03-06 "$work/week" "$work/none"
 try "office-export: no words" ends 2 ./office-export
 try "office-export: no file" ends 1 ./office-export "$work/none"
 try "office-check-store: no words" ends 2 ./office-check-store

@@ -39,6 +39,8 @@ try() {
 try clients python3 "$here/service/clients.py" "$office"
 try stores python3 "$here/service/stores.py" "$office"
 try peers sh "$here/peers/store.sh" --by "$office"
+try trust python3 "$here/trust.py"
+try docs sh "$here/docs.sh" "$office"
 try rows python3 "$here/rows/check.py"
 try stopped timeout 3600 python3 "$here/stops/stopped.py" "$office" "$step"
 try surroundings timeout 3600 python3 "$here/surroundings/hostile.py" "$office" "$step"

@@ -5,6 +5,7 @@ use Rattle.std.specs.FinMap.{FinMap, get, insert, remove, keys, from_entries}
 use Rattle.testing_model.specs.declared.fact_row.FactRow.{FactRow}
 use Rattle.testing_model.specs.declared.fact_row.FactChanges.{FactChanges}
 use Rattle.testing_model.specs.FactRows.{is_row, row_order}
+pub use Rattle.testing_model.specs.FactRows.{IsFactRow}
 use Rattle.office_mail.specs.Lists.{Lists}
 use Rattle.office_mail.specs.declared.setup.Role.TheVariants.{Release}
 use Rattle.office_mail.specs.Setup.{place_of_role}
@@ -44,12 +45,6 @@ with_rows (r ∷ rs) facts = with_rows rs (insert facts r tt)
 -- the old rows without those that are gone, then with those that are put
 abbrev pub facts_after : FactChanges → FactSet → FactSet
 facts_after changes facts = with_rows changes.put (without_rows changes.gone facts)
-
--- a row of one of the eight kinds, with a place where it names a binary of a build
-pub record IsFactRow (r : FactRow) : Type 0 where
-  pub low : 1 ≤ r.kind
-  pub high : r.kind ≤ 8
-  pub place : (r.kind ≡ 3) ⊎ (r.place ≡ 0)
 
 -- Rows that an office's tables have a place for: of the eight kinds, and at most one on delays, of the release team.
 pub record AreHoldable (setup : Lists) (facts : FactSet) : Type 0 where

@@ -1,0 +1,183 @@
+#!/usr/bin/env python3
+"""Runs the commands of one document in a copy of the repository, and compares what they print with what it shows.
+
+usage: docs.py COPY DOCUMENT     (docs.sh makes the copy, and puts the program in PATH)
+
+In Markdown a command is a line of an indented block whose first word is one of WORDS or a path of the repository; what
+follows it, up to the next command or the end of the block, is what it prints. In a manual page it is a line of a
+literal display behind a dollar sign. A line goes on where it ends with a backslash or a bar, where a quote is open, and
+up to the end of a text behind `<<`. What a command prints isn't compared where the document shows nothing. It has to
+end with status 0, but for those of ENDS. Each block starts at the top of the copy. A service runs in the background
+until the next one starts or the document ends.
+"""
+import os
+import re
+import signal
+import subprocess
+import sys
+import time
+from pathlib import Path
+
+WORDS = {'office', 'rt', 'cd', 'cat', 'curl', 'grep', 'sed', 'cp', 'rm', 'mkdir', 'printf', 'sqlite3', 'cmp', 'make',
+         'systemctl', 'journalctl', 'apt', 'apt-get'}
+SECONDS = 600
+KIT = 'it needs the kit, and proves before it runs'
+# What isn't run, in which document, and why. An empty text of the environment's APT keeps apt's commands out.
+NOT_RUN = [
+    ('README.md', r'rt ci', KIT + ': the gate takes more than an hour'),
+    ('README.md', r'rt try ', KIT.split(',')[0]),
+    ('README.md', r'(office|\.\.) .*   ', 'it is a table of the commands'),
+    ('docs/FIRST_WEEK.md', r'apt-get |/usr/lib/apt/|.*bookworm', 'it needs the network and root: APT=1 runs it'),
+]
+# What is run in the place of a command: the program is given, so it isn't built first.
+INSTEAD = [(r'\brt run -- ', 'office ')]
+# Commands that end with another status than 0: here nothing is refused, so grep finds nothing.
+ENDS = {"office replay --conf examples/setup.conf < bag |\n    sed '/^ready /,$d' | grep -n refused": 1}
+# What a document takes as given, made before its commands.
+GIVEN = {'share/man/office.1': 'cp examples/setup.conf setup.conf; cp examples/archive/01-ftp-1-upload-lib message'}
+
+
+class Command:
+    """A command, the line that it starts in, and what the document shows behind it."""
+
+    def __init__(self, line, text):
+        self.line, self.text, self.shown = line, text, []
+
+    def goes_on(self):
+        """Whether the next line belongs to the command."""
+        open_text = re.search(r"<< *'?(\w+)'?", self.text.split('\n')[0])
+        if open_text and '\n' + open_text[1] not in self.text:
+            return True
+        return not open_text and (self.text.endswith(('\\', '|')) or self.text.count("'") % 2 == 1)
+
+
+def blocks(document, text):
+    """The blocks of a document, each a list of the number and the text of its lines."""
+    block, page = [], document.endswith('.1')
+    literal = False
+    for number, line in enumerate(text.split('\n') + ['', '#'], 1):
+        if page and line.startswith(('.Bd -literal', '.Ed')):
+            literal = line.startswith('.Bd')
+        inside = literal and not line.startswith('.Bd') if page else line.startswith('    ')
+        if inside:
+            block.append((number, line.replace('\\&', '').replace('\\e', '\\') if page else line[4:]))
+        elif block and not line.strip() and not page:
+            block.append((number, ''))
+        elif block:
+            yield block
+            block = []
+
+
+def is_command(document, line):
+    """Whether a line starts a command."""
+    if document.endswith('.1'):
+        return line.startswith('$ ')
+    word = line.split(' ')[0]
+    return word in WORDS or re.fullmatch(r'(share|examples|tests)/\S+|/usr/lib/\S+|\.\.', word) is not None
+
+
+def commands(document, block):
+    """The commands of a block."""
+    found = []
+    for number, line in block:
+        if found and found[-1].goes_on():
+            found[-1].text += '\n' + line
+        elif is_command(document, line):
+            found.append(Command(number, line.removeprefix('$ ')))
+        elif found:
+            found[-1].shown.append(line)
+    return found
+
+
+class Runner:
+    """Runs commands in a copy, and counts."""
+
+    def __init__(self, copy, document):
+        self.copy, self.document, self.service = copy, document, None
+        self.passed = self.failed = 0
+
+    def reason(self, command):
+        """Why a command isn't run."""
+        for document, form, reason in NOT_RUN:
+            if document == self.document and re.match(form, command.text) and not (os.environ.get('APT') and 'APT' in reason):
+                return reason
+        return None
+
+    def block(self, found):
+        """Runs the commands of a block, one after the other, in the same folder."""
+        folder = self.copy
+        for command in found:
+            reason = self.reason(command)
+            if reason:
+                print(f'not run: {self.document}:{command.line}: {command.text.strip()[:60]}: {reason}')
+                continue
+            text = command.text
+            for form, other in INSTEAD:
+                text = re.sub(form, other, text)
+            if text.startswith('office serve '):
+                status, told = self.serve(text)
+            else:
+                status, told, folder = self.run(text, folder)
+            self.judge(command, status, told)
+
+    def run(self, text, folder):
+        """Runs a command: its status, what it printed, and the folder that it leaves."""
+        where = self.copy.parent / 'folder'
+        script = f'{text}\nstatus=$?\npwd > "{where}"\nexit $status\n'
+        try:
+            done = subprocess.run(['bash', '-c', script], cwd=folder, stdin=subprocess.DEVNULL, stdout=subprocess.PIPE,
+                                  stderr=subprocess.STDOUT, timeout=SECONDS)
+        except subprocess.TimeoutExpired as late:
+            return f'no end after {SECONDS} seconds', (late.stdout or b'').decode(errors='replace'), folder
+        return done.returncode, done.stdout.decode(errors='replace'), Path(where.read_text().strip())
+
+    def serve(self, text):
+        """Starts a service: 0 and its first line once it has one."""
+        self.end()
+        told = self.copy.parent / 'service'
+        with open(told, 'wb') as output:
+            self.service = subprocess.Popen(['bash', '-c', 'exec ' + text], cwd=self.copy, stdin=subprocess.DEVNULL,
+                                            stdout=output, stderr=subprocess.STDOUT)
+        for _ in range(600):
+            if told.read_text().endswith('\n') or self.service.poll() is not None:
+                break
+            time.sleep(0.05)
+        return self.service.poll() or 0, told.read_text()
+
+    def end(self):
+        """Ends the service that runs."""
+        if self.service and self.service.poll() is None:
+            self.service.send_signal(signal.SIGTERM)
+            self.service.wait()
+        self.service = None
+
+    def judge(self, command, status, told):
+        """Counts a command, and tells what is wrong with it."""
+        due, faults = '\n'.join(command.shown).strip('\n'), []
+        if status != ENDS.get(command.text, 0):
+            faults.append(f'status {status}, due {ENDS.get(command.text, 0)}')
+        if (due or faults) and told.strip('\n') != due:
+            faults.append('it printed:\n    ' + told.strip('\n').replace('\n', '\n    '))
+        if faults:
+            self.failed += 1
+            print(f'not ok: {self.document}:{command.line}: {command.text}: {"; ".join(faults)}')
+        else:
+            self.passed += 1
+
+
+def main():
+    copy, document = Path(sys.argv[1]).resolve(), sys.argv[2]
+    runner = Runner(copy, document)
+    if document in GIVEN:
+        subprocess.run(['sh', '-c', GIVEN[document]], cwd=copy, check=True)
+    try:
+        for block in blocks(document, (copy / document).read_text()):
+            runner.block(commands(document, block))
+    finally:
+        runner.end()
+    print(f'{runner.passed} passed, {runner.failed} failed')
+    return 1 if runner.failed else 0
+
+
+if __name__ == '__main__':
+    sys.exit(main())

@@ -1,0 +1,117 @@
+#!/usr/bin/env python3
+"""Finds each file and each name that docs/TRUST.md cites, the counts of lines that it and README.md give, and the code
+that pages of docs/ quote.
+
+usage: trust.py [TOP]     (exit status 0: all are there; 1: a line for each that isn't)
+
+A citation stands in backticks. One with a slash is a path, from the top or from `crates/`; so is the name of a file at
+the top. Any other is a name, and has to stand as a whole word in a file that the same part of its row or paragraph
+cites: in a table a name of the columns "call" and "file" in a file of these two, a name of the column "definitions" in
+a file behind it. A name in a paragraph without a file may stand in any source. The counts are those of trusted.py.
+A quotation is a fence of Rust whose first line is a comment with a path: the rest of it has to stand in that file, with
+a line of two points where lines are left out.
+"""
+import re
+import subprocess
+import sys
+from pathlib import Path
+
+TOP = Path(sys.argv[1] if len(sys.argv) > 1 else Path(__file__).resolve().parents[1])
+PAGE = TOP / 'docs' / 'TRUST.md'
+SOURCES = {'.rt', '.antt', '.py', '.sh'}
+# Words of the toolchain and folders that each crate has: they name nothing in particular.
+PLAIN = {'src/', 'specs/', 'proofs/', 'must-fail/', 'crates/', 'use'}
+
+def is_path(word):
+    """Whether a citation names a file or a folder."""
+    return '/' in word or word.endswith(('.txt', '.md')) or re.fullmatch(r'[\w.-]+\.(rt|antt|py|sh)', word)
+
+def found(path):
+    """The file or folder that a path names, from the top or from crates/."""
+    for base in (TOP, TOP / 'crates'):
+        if (base / path).exists():
+            return base / path
+    return None
+
+def texts(path):
+    """The texts of a file, or of all sources in a folder that are no build output."""
+    files = [path] if path.is_file() else [f for f in path.rglob('*') if f.suffix in SOURCES and 'out' not in f.parts]
+    return [f.read_text(errors='replace') for f in files if f.is_file()]
+
+def has(name, places):
+    """Whether a name stands as a whole word in one of the files, or in any source if there are none."""
+    word = re.compile(rf"(?<![\w-]){re.escape(name)}(?![\w'-])")
+    return any(word.search(text) for place in places or [TOP / 'crates', TOP / 'tests'] for text in texts(place))
+
+def blocks():
+    """Each table row and paragraph with the number of its first line."""
+    gathered, start = [], 0
+    for number, line in enumerate(PAGE.read_text().split('\n') + [''], 1):
+        if line.startswith('|'):
+            yield number, [cell.strip() for cell in line.strip('|').split(' | ')]
+        elif re.match(r'\s*$|#|- |\d+\. ', line):
+            if gathered:
+                yield start, [' '.join(gathered)]
+            gathered, start = [line] if line.strip() else [], number
+        else:
+            gathered, start = gathered + [line], start if gathered else number
+
+def parts(cells):
+    """The parts of a row or a paragraph in which a name belongs to the files beside it."""
+    if len(cells) == 4:
+        yield cells[1] + ' ' + cells[2]
+        for chunk in cells[3].split(';'):
+            yield chunk
+    elif len(cells) > 1:
+        yield ' '.join(cells[1:])
+    else:
+        yield cells[0]
+
+def faults_of(number, part):
+    """What a part cites that isn't there."""
+    cited = [word for word in re.findall(r'`([^`]+)`', part) if word not in PLAIN]
+    paths = [word.split()[0] for word in cited if is_path(word)]
+    for path in paths:
+        if not found(path):
+            yield f'docs/TRUST.md:{number}: there is no {path}'
+    places = [found(path) for path in paths if found(path)]
+    for word in cited:
+        name = word.split('::')[-1].removeprefix('impl ')
+        if not is_path(word) and not has(name, places):
+            yield f'docs/TRUST.md:{number}: {name} isn\'t in {", ".join(paths) or "any source"}'
+
+def quotations():
+    """The quotations of the pages that don't stand in their files, and how many there are."""
+    missing, count = [], 0
+    for page in sorted((TOP / 'docs').glob('*.md')):
+        for path, code in re.findall(r'(?s)```rust\n// (\S+)\n(.*?)```', page.read_text()):
+            count += 1
+            whole = found(path).read_text() if found(path) else ''
+            if not whole or not all(piece in whole for piece in re.split(r'(?m)^ *\.\.\n', code)):
+                missing.append(f'{page.relative_to(TOP)}: its quotation isn\'t in {path}')
+    return missing, count
+
+def counted():
+    """The lines of definitions that are believed and those that are steps, as trusted.py counts them."""
+    told = subprocess.run([sys.executable, TOP / 'tests' / 'trusted.py', TOP], capture_output=True, text=True, check=True)
+    return [f'{int(n):,}' for n in told.stdout.strip().split('\n')[-1].split()[2:4]]
+
+def main():
+    faults, cited = [], 0
+    for number, cells in blocks():
+        for part in parts(cells):
+            cited += len(re.findall(r'`([^`]+)`', part))
+            faults += faults_of(number, part)
+    for page in (PAGE, TOP / 'README.md'):
+        told = re.findall(r'\b\d,\d{3}(?=\s+(?:other\s+)?lines)', page.read_text())
+        faults += [f'{page.relative_to(TOP)}: {count} lines, which are {" and ".join(counted())} (trusted.py)'
+                   for count in told if count not in counted()]
+    missing, quoted = quotations()
+    faults += missing
+    for fault in faults:
+        print(fault)
+    print(f'{cited} citations, {quoted} quotations, {len(faults)} not found')
+    sys.exit(1 if faults else 0)
+
+if __name__ == '__main__':
+    main()
