@@ -5,6 +5,8 @@ pub mod DeliverFacts
 pub mod EndFacts
 pub mod FinishFacts
 pub mod GivenFacts
+pub mod KeepingFacts
+pub mod KeptRows
 pub mod LastFacts
 pub mod LawFacts
 pub mod LetterFacts
@@ -14,6 +16,7 @@ pub mod ReadyCount
 pub mod ReplayFacts
 pub mod RiseFacts
 pub mod RunFacts
+pub mod SaidFacts
 pub mod StandFacts
 pub mod TakenFacts
 pub mod TextFacts
