@@ -20,7 +20,7 @@ use Rattle.office_mail.specs.Kept.{Kept, Place}
 use Rattle.office_mail.specs.Runs.{orders_to, latest_day, covered}
 use Rattle.office_keeper.specs.declared.values.Finished.{Finished}
 use Rattle.office_keeper.specs.declared.values.Reports.{Reports}
-use Rattle.office_keeper.specs.Content.{reports_in}
+use Rattle.office_runs.specs.declared.rules.RunOutcome.{RunOutcome}
 
 -- testing as the rules see it
 abbrev pub Testing : Type 0
@@ -49,9 +49,12 @@ pub record Outcome : Type 0 where
   pub excuses : List ℕ
   pub updates : List ℕ
 
--- the outcome in what a finished run leaves
+-- the outcome in what a finished run leaves, and in what the rules of a run give
 abbrev pub outcome_in : Finished → Outcome
 outcome_in done = record { testing = done.testing; excuses = done.excuses; updates = done.updates }
+
+abbrev pub outcome_left : RunOutcome → Outcome
+outcome_left left = record { testing = left.testing; excuses = left.excuses; updates = left.updates }
 
 -- the reports on excuses and decisions, and testing as the decisions leave it
 abbrev pub reported : Lists → ℕ → Date → List Excuse → updates.Outcome → Outcome

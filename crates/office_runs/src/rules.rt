@@ -1,16 +1,14 @@
 //! What a run writes and leaves.
-ghost use Rattle.std.specs.Prelude.{◌≡◌, ℕ, List, ◌∷◌, ◌++◌, Some, Contains, IfOk, IfErr, OnOk, max, option_to_list};
-ghost use Rattle.office_runs.specs.Outcome.{item_in_body, outcome};
+ghost use Rattle.std.specs.Prelude.{◌≡◌, ◌≤◌, ℕ, List, ◌∷◌, ◌++◌, Some, Contains, IfOk, IfErr, OnOk, length, max, option_to_list};
+ghost use Rattle.office_runs.specs.Outcome.{item_in_body, outcome, outcome_left};
 ghost use Rattle.testing_rules.specs.Covered.{Covered, CoveredItem, upload_of};
 ghost use Rattle.testing_rules.specs.FactDifference.{IsChangedFrom};
 ghost use Rattle.testing_model.specs.declared.fact_row.FactRow.{FactRow};
 ghost use Rattle.testing_model.specs.declared.facts.UploadIn.{UploadIn};
-ghost use Rattle.testing_model.specs.Tells.{Tells};
 ghost use Rattle.testing_rules.specs.Uploads.{AreByMessage};
 ghost use Rattle.testing_rules.specs.StandsFor.{StandsFor};
 ghost use Rattle.testing_rules.specs.Suite.{Suite};
-ghost use Rattle.testing_rules.specs.Updates.{update_of};
-ghost use Rattle.testing_model.specs.declared.excuse.Excuse.{Excuse};
+ghost use Rattle.testing_model.specs.Tells.{AreSaidBy, Tells};
 ghost use Rattle.testing_rules.specs.Watched.{AllWatchedWork};
 ghost use Rattle.office_mail.specs.Runs.{cover_of};
 ghost use Rattle.testing_rules.specs.Provenance.{IsGivenBy};
@@ -18,21 +16,20 @@ ghost use Rattle.testing_rules.specs.Provenance.{IsGivenBy};
 use crate::orders::stated_for;
 use deb_control::{NoMemory, Text};
 use jiff::civil::Date;
-use office_keeper::Finished;
 use office_mail::{Body, RunOrder, Setup};
 use std::alloc::Global;
-use testing_rules::laws::update_is_given;
-use testing_rules::{Archs, Facts, Item, Testing, excuses, excuses_text, migrate, update_text};
+use testing_rules::{Facts, Item, Testing, excuses, excuses_text, migrate, update_text};
 
-/// What a run brings into testing is given by the messages that it covers.
-fn gives_update(archs: &Archs)
-    ensures { (s : Covered) (excuses : List Excuse) (old : Suite) → IsGivenBy archs.now s old (update_of archs.now s excuses old).suite }
-{
-    update_is_given();
-    let _ = archs.as_slice();
+/// What a run decides: testing as it leaves it, and the two reports.
+#[derive(Drop)]
+pub struct RunOutcome {
+    pub testing: Testing,
+    pub excuses: Text,
+    pub updates: Text,
 }
 
-/// A run by the rules from this testing, over the messages that the facts stand for.
+/// A run by the rules from this testing, over the messages that the facts stand for. What it brings into testing is given by
+/// any messages that say the facts.
 #[tactic(auto, unfolding(crate::specs::Outcome::outcome))]
 pub fn run_rules(
     alloc: Global,
@@ -41,19 +38,18 @@ pub fn run_rules(
     date: Date,
     facts: &Facts,
     testing: Testing,
-) -> Result<Finished, NoMemory>
-    ensures ok { IfOk result (λ o. (s : Covered) → StandsFor facts.now s testing → o ≡ outcome setup.now run date s testing) }
-    ensures given { IfOk result (λ o. (s : Covered) → StandsFor facts.now s testing → IsGivenBy setup.now.archs s testing o.testing) }
+) -> Result<RunOutcome, NoMemory>
+    ensures ok { IfOk result (λ o. (s : Covered) → StandsFor facts.now s testing → outcome_left o ≡ outcome setup.now run date s testing) }
+    ensures given { IfOk result (λ o. (s : Covered) → AreSaidBy facts.now s → IsGivenBy setup.now.archs s testing o.testing) }
     ensures watched { IfOk result (λ o. AllWatchedWork setup.now.archs testing.rows → AllWatchedWork setup.now.archs o.testing.rows) }
 {
     let archs = setup.archs();
-    gives_update(archs);
     let excuses = excuses(alloc, archs, facts, &testing, date)?;
     let mut after = testing;
     let update = migrate(alloc, archs, facts, &excuses, &mut after)?;
     let excuses = excuses_text(alloc, archs, run, date, &excuses)?;
     let updates = update_text(alloc, archs, run, date, &update)?;
-    Ok(Finished {
+    Ok(RunOutcome {
         testing: after,
         excuses: Text::from_string(excuses),
         updates: Text::from_string(updates),

@@ -12,9 +12,11 @@ ghost use Rattle.testing_model.specs.FactDifference.{IsChangedFrom, IsDifference
 ghost use Rattle.testing_model.specs.KeptFacts.{trimmed};
 ghost use Rattle.testing_model.specs.declared.fact_row.FactRow.{FactRow as ARow};
 ghost use Rattle.testing_model.specs.FactOrder.{AreBySource, AreByPair};
-ghost use Rattle.testing_model.specs.FactRows.{rows_of};
+ghost use Rattle.testing_model.specs.FactLists.{no_facts};
+ghost use Rattle.testing_model.specs.FactRows.{rows_of, times};
 ghost use Rattle.testing_model.specs.StandsFor.{StandsFor};
 ghost use Rattle.testing_model.specs.Suite.{Suite};
+ghost use Rattle.testing_model.specs.Tells.{Tells};
 ghost use Rattle.testing_model.specs.WithMessage.{with_upload, with_build, with_builds, with_greatest, with_bug, with_hint, with_unhint, stands_beside};
 ghost use Rattle.testing_model.specs.declared.facts.UploadIn.{UploadIn as AnUpload};
 
@@ -84,7 +86,25 @@ impl Facts {
 
     /// The facts of no message.
     pub fn new(alloc: Global) -> Facts
-        ensures { StandsForNone result }
+        ensures is { result ≡ no_facts }
+        ensures none { StandsForNone result }
+    {
+        Facts::of_log(alloc, Log::new(alloc))
+    }
+
+    /// The facts of no message, which note that all of these rows have left. NoMemory where memory runs out.
+    pub fn without(alloc: Global, rows: &[FactRow]) -> Result<Facts, NoMemory>
+        ensures is { IfOk result (λ f. f ≡ record no_facts { left = rows.now }) }
+        ensures none { IfOk result (λ f. StandsForNone f) }
+        ensures tells { IfOk result (λ f. Tells f []) }
+        ensures changed { IfOk result (λ f. IsChangedFrom (λ r. times r rows.now) f) }
+    {
+        Ok(Facts::of_log(alloc, Log::of_left(alloc, rows)?))
+    }
+
+    /// The facts of no message, with what came and what left before.
+    fn of_log(alloc: Global, log: Log) -> Facts
+        ensures { result ≡ record no_facts { came = log.entry.came.items; left = log.entry.left.items } }
     {
         Facts {
             alloc,
@@ -96,7 +116,7 @@ impl Facts {
             hints: Vec::new(alloc),
             unhints: Vec::new(alloc),
             delays: None,
-            log: Log::new(alloc),
+            log,
         }
     }
 
@@ -193,6 +213,7 @@ impl Facts {
         ensures kept { OnOk result ((u : AnUpload) → Contains self.old.uploads u → Contains self.new.uploads u) }
         ensures there { OnOk result ((u : AnUpload) → let m : CoveredItem = record { sender = sender; number = number; item = item.now } in
             upload_of m ≡ Some u → Contains self.new.uploads u) }
+        ensures tells { OnOk result ((s : Covered) → let m : CoveredItem = record { sender = sender; number = number; item = item.now } in Tells self.old s → Tells self.new (m ∷ s)) }
         ensures moved { OnOk result ((count : ARow → ℕ) → IsChangedFrom count self.old → IsChangedFrom count self.new) }
         ensures err { OnErr result (self.new ≡ self.old) }
     {

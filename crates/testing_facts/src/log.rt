@@ -54,6 +54,17 @@ impl Log {
         }
     }
 
+    /// All of these rows left, and none came. NoMemory where memory runs out.
+    pub fn of_left(alloc: Global, rows: &[FactRow]) -> Result<Log, NoMemory>
+        ensures came { IfOk result (λ log. log.came.items ≡ []) }
+        ensures left { IfOk result (λ log. log.left.items ≡ rows.now) }
+    {
+        Ok(Log {
+            came: Vec::new(alloc),
+            left: rows.to_vec(alloc)?,
+        })
+    }
+
     /// Makes room for so many more rows on each side, and for those of so many uploads among those that left.
     pub fn reserve(&mut self, uploads: usize, more: usize) -> Result<(), NoMemory>
         ensures came { self.new.came.items ≡ self.old.came.items }

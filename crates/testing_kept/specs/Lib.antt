@@ -4,3 +4,4 @@ pub mod Logged
 pub mod Restored
 pub mod Retaken
 pub mod SameRows
+pub mod Told

@@ -1,6 +1,7 @@
 -- Facts put back from their rows. That facts are kept as rows is this office's own.
-use Rattle.std.specs.Prelude.{◌≡◌, List, [], ◌∷◌, length, map, Contains, None}
+use Rattle.std.specs.Prelude.{◌≡◌, List, [], ◌∷◌, length, map, Contains}
 use Rattle.testing_model.specs.FactLists.{FactLists}
+pub use Rattle.testing_model.specs.FactLists.{no_facts}
 use Rattle.testing_model.specs.Suite.{Suite}
 use Rattle.testing_model.specs.Covered.{Covered}
 use Rattle.testing_model.specs.SameMessages.{SameElements, HasOneOfEach}
@@ -8,9 +9,6 @@ use Rattle.testing_model.specs.StandsFor.{StandsFor}
 use Rattle.testing_model.specs.declared.fact_row.FactRow.{FactRow}
 use Rattle.testing_model.specs.FactRows.{rows_of, times}
 use Rattle.testing_facts.specs.Restored.{Given, message_of, restored}
-
-abbrev pub no_facts : FactLists
-no_facts = record { sources = []; uploads = []; rows = []; drops = []; bugs = []; hints = []; unhints = []; delays = None; came = []; left = [] }
 
 -- one after the other
 abbrev pub restored_all : List Given → FactLists → FactLists

@@ -6,6 +6,7 @@ ghost use Rattle.testing_kept.specs.Logged.{ChangesMake, EntryShifts, TakesLog, 
 ghost use Rattle.testing_kept.specs.Restored.{AllCame, RowsDetermine};
 ghost use Rattle.testing_kept.specs.Retaken.{TrimKeeps, RetakenStand};
 ghost use Rattle.testing_kept.specs.SameRows.{RowsTell, StandsAreSaid};
+ghost use Rattle.testing_kept.specs.Told.{AllRestoredTell, MoreTell, RestoredTell, RowsOnce, SaidRowsTell, StandTell, ToldRowsAreFactRows, TrimmedTell};
 
 /// One more message changes the rows of the facts by just those that its shift says.
 pub fn entry_shifts()
@@ -65,4 +66,44 @@ pub fn names_are_fallen()
 /// Messages that say the facts give all that a run over these facts brings into testing.
 pub fn facts_give_update()
     ensures { FactsGiveUpdate }
+{}
+
+/// Messages that say facts say them with one row more, which is that of a message among them.
+pub fn restored_tell()
+    ensures { RestoredTell }
+{}
+
+/// Messages that say facts say them with more rows, which are those of messages among them.
+pub fn all_restored_tell()
+    ensures { AllRestoredTell }
+{}
+
+/// Messages that say facts say them trimmed.
+pub fn trimmed_tell()
+    ensures { TrimmedTell }
+{}
+
+/// More messages say the same facts.
+pub fn more_tell()
+    ensures { MoreTell }
+{}
+
+/// Messages say the facts that stand for them.
+pub fn stand_tell()
+    ensures { StandTell }
+{}
+
+/// Facts that messages say, and that have the rows of facts that stand for these messages, stand for them too.
+pub fn said_rows_tell()
+    ensures { SaidRowsTell }
+{}
+
+/// No row of facts that messages say stands twice.
+pub fn rows_once()
+    ensures { RowsOnce }
+{}
+
+/// The rows of facts that messages say are rows that facts can have.
+pub fn told_rows_are_fact_rows()
+    ensures { ToldRowsAreFactRows }
 {}

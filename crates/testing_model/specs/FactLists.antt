@@ -1,5 +1,5 @@
 -- What facts hold, and the rows that came and those that left since they were kept.
-use Rattle.std.specs.Prelude.{List, Option}
+use Rattle.std.specs.Prelude.{List, [], Option, None}
 use Rattle.testing_model.specs.declared.fact_row.FactRow.{FactRow}
 use Rattle.testing_model.specs.declared.facts.UploadIn.{UploadIn}
 use Rattle.testing_model.specs.declared.facts.BuildIn.{BuildIn}
@@ -20,3 +20,7 @@ pub record FactLists : Type 0 where
   pub delays : Option DelaysIn
   pub came : List FactRow
   pub left : List FactRow
+
+-- no facts, of which no row came or left
+abbrev pub no_facts : FactLists
+no_facts = record { sources = []; uploads = []; rows = []; drops = []; bugs = []; hints = []; unhints = []; delays = None; came = []; left = [] }

@@ -1,5 +1,5 @@
 -- The rows of facts: for each fact the message that gives it. That facts are kept as rows is this office's own.
-use Rattle.std.specs.Prelude.{ℕ, ◌==◌, ◌&&◌, Bool, List, ◌++◌, map, option_to_list}
+use Rattle.std.specs.Prelude.{◌≡◌, ◌≤◌, ◌⊎◌, ℕ, ◌==◌, ◌&&◌, Bool, List, ◌++◌, map, option_to_list}
 use Rattle.std.specs.List.{count_by}
 use Rattle.std.specs.declared.cmp.Ordering.{Ordering}
 use Rattle.std.specs.Ordering.{nat_cmp, then_cmp, on}
@@ -45,6 +45,12 @@ abbrev pub rows_of : FactLists → List FactRow
 rows_of f =
     map source_row f.sources ++ (map upload_row f.uploads ++ (map build_row f.rows ++ (map drop_row f.drops
     ++ (map bug_row f.bugs ++ (map hint_row f.hints ++ (map unhint_row f.unhints ++ map delays_row (option_to_list f.delays)))))))
+
+-- a row that facts can have: of one of the eight kinds, and with a place where it is that of a paragraph
+pub record IsFactRow (r : FactRow) : Type 0 where
+  pub low : 1 ≤ r.kind
+  pub high : r.kind ≤ 8
+  pub place : (r.kind ≡ 3) ⊎ (r.place ≡ 0)
 
 -- whether a row is this one
 abbrev pub is_row : FactRow → FactRow → Bool

@@ -15,6 +15,7 @@ pub mod Places
 pub mod SameMessages
 pub mod StandsFor
 pub mod Suite
+pub mod Tells
 pub mod WithMessage
 pub mod Unstable
 pub mod Updates
