@@ -1,10 +1,14 @@
 //! What a run writes and leaves.
-ghost use Rattle.std.specs.Prelude.{◌≡◌, ◌≤◌, List, ◌++◌, IfOk, IfErr, OnOk, length, max, option_to_list};
+ghost use Rattle.std.specs.Prelude.{◌≡◌, ◌≤◌, ℕ, List, ◌∷◌, ◌++◌, Some, Contains, IfOk, IfErr, OnOk, length, max, option_to_list};
 ghost use Rattle.office_runs.specs.Outcome.{item_in_body, outcome, outcome_left};
-ghost use Rattle.testing_rules.specs.Covered.{Covered};
+ghost use Rattle.testing_rules.specs.Covered.{Covered, CoveredItem, upload_of};
+ghost use Rattle.testing_rules.specs.FactDifference.{IsChangedFrom};
+ghost use Rattle.testing_model.specs.declared.fact_row.FactRow.{FactRow};
+ghost use Rattle.testing_model.specs.declared.facts.UploadIn.{UploadIn};
+ghost use Rattle.testing_rules.specs.Uploads.{AreByMessage};
 ghost use Rattle.testing_rules.specs.StandsFor.{StandsFor};
 ghost use Rattle.testing_rules.specs.Suite.{Suite};
-ghost use Rattle.testing_model.specs.Tells.{AreSaidBy};
+ghost use Rattle.testing_model.specs.Tells.{AreSaidBy, Tells};
 ghost use Rattle.testing_rules.specs.Watched.{AllWatchedWork};
 ghost use Rattle.office_mail.specs.Runs.{cover_of};
 ghost use Rattle.testing_rules.specs.Provenance.{IsGivenBy};
@@ -14,7 +18,7 @@ use deb_control::{NoMemory, Text};
 use jiff::civil::Date;
 use office_mail::{Body, RunOrder, Setup};
 use std::alloc::Global;
-use testing_rules::{Facts, Testing, excuses, excuses_text, migrate, update_text};
+use testing_rules::{Facts, Item, Testing, excuses, excuses_text, migrate, update_text};
 
 /// What a run decides: testing as it leaves it, and the two reports.
 #[derive(Drop)]
@@ -54,12 +58,31 @@ pub fn run_rules(
 
 /// The facts take what a message says to the rules.
 pub fn take_body(facts: &mut Facts, sender: u32, number: u32, body: &Body) -> Result<(), NoMemory>
-    ensures { OnOk result ((s : Covered) (t : Suite) → StandsFor facts.old s t → StandsFor facts.new (option_to_list (item_in_body (sender, number) body.now) ++ s) t) }
+    ensures stand { OnOk result ((s : Covered) (t : Suite) → StandsFor facts.old s t → StandsFor facts.new (option_to_list (item_in_body (sender, number) body.now) ++ s) t) }
+    ensures tells { OnOk result ((s : Covered) → Tells facts.old s → Tells facts.new (option_to_list (item_in_body (sender, number) body.now) ++ s)) }
+    ensures moved { OnOk result ((count : FactRow → ℕ) → IsChangedFrom count facts.old → IsChangedFrom count facts.new) }
+    ensures by_message { OnOk result (AreByMessage facts.old.uploads → AreByMessage facts.new.uploads) }
+    ensures kept { OnOk result ((u : UploadIn) → Contains facts.old.uploads u → Contains facts.new.uploads u) }
+    ensures there { OnOk result ((m : CoveredItem) (u : UploadIn) → item_in_body (sender, number) body.now ≡ Some m → upload_of m ≡ Some u → Contains facts.new.uploads u) }
 {
     match body {
-        Body::Item(item) => facts.take(sender, number, item),
+        Body::Item(item) => take_item(facts, sender, number, item),
         Body::Run(_) => Ok(()),
     }
+}
+
+/// The facts take an item that a message says.
+fn take_item(facts: &mut Facts, sender: u32, number: u32, item: &Item) -> Result<(), NoMemory>
+    ensures stand { OnOk result ((s : Covered) (t : Suite) → let m : CoveredItem = record { sender = sender; number = number; item = item.now } in StandsFor facts.old s t → StandsFor facts.new (m ∷ s) t) }
+    ensures tells { OnOk result ((s : Covered) → let m : CoveredItem = record { sender = sender; number = number; item = item.now } in Tells facts.old s → Tells facts.new (m ∷ s)) }
+    ensures moved { OnOk result ((count : FactRow → ℕ) → IsChangedFrom count facts.old → IsChangedFrom count facts.new) }
+    ensures by_message { OnOk result (AreByMessage facts.new.uploads) }
+    ensures kept { OnOk result ((u : UploadIn) → Contains facts.old.uploads u → Contains facts.new.uploads u) }
+    ensures there { OnOk result ((u : UploadIn) → let m : CoveredItem = record { sender = sender; number = number; item = item.now } in upload_of m ≡ Some u → Contains facts.new.uploads u) }
+{
+    facts.take(sender, number, item)?;
+    let _ = facts.uploads();
+    Ok(())
 }
 
 /// The greatest number that the orders state for a sender, 0 where there is none.
