@@ -1,8 +1,8 @@
 -- What messages say of facts, with one more message.
 use Rattle.std.specs.Prelude.{ℕ, Bool, true, false, cond, List, [], ◌∷◌, ◌++◌, Contains, Option, Some, None, option_to_list}
-use Rattle.std.proofs.Common.{◌≡◌, refl, inl, inr, ◌⊎◌}
+use Rattle.std.proofs.Common.{◌≡◌, inl, inr, ◌⊎◌}
 use Rattle.std.specs.List.Sorted.{IsStrictlySortedBy}
-use Rattle.std.specs.Ordering.{nat_cmp, is_lt}
+use Rattle.std.specs.Ordering.{is_lt}
 use Rattle.std.proofs.lemmas.Cmp.{nat_cmp_total}
 use Rattle.testing_items.specs.declared.item.Item.{Item}
 use Rattle.testing_items.specs.declared.item.Item.TheVariants as item
@@ -19,7 +19,7 @@ use Rattle.testing_model.specs.FactLists.{FactLists, no_facts}
 use Rattle.testing_model.specs.Tells.{AreSaidBy, AreOrderly, Tells}
 use Rattle.testing_model.specs.Covered.{Covered, placed_from, uploads_in, builds_in, drops_in, bugs_in, hints_in, unhints_in, delays_in}
 use Rattle.testing_model.specs.Unstable.{upload_order, build_order, drop_order, bug_order, hint_order, unhint_order, delays_order, pair_of, drop_pair}
-use Rattle.testing_model.specs.WithMessage.{with_upload, with_build, with_builds, with_drop, with_greatest, with_bug, with_hint, with_unhint, with_delays, outlives, stands_beside}
+use Rattle.testing_model.specs.WithMessage.{with_upload, with_build, with_builds, with_greatest, with_bug, with_hint, with_unhint, with_delays, outlives, stands_beside}
 use Rattle.testing_model.proofs.Least.{from_filter}
 use Rattle.testing_model.proofs.MoreMail.{pair_total}
 use Rattle.testing_model.proofs.Orders.{text_order, hint_total, unhint_total}
@@ -28,7 +28,7 @@ use Rattle.testing_model.proofs.Sets.{first_or_rest, at_front, put_from}
 use Rattle.testing_facts.specs.Entries.{entry_of, with_entry}
 use Rattle.testing_facts.specs.Uploads.{with_kept}
 use Rattle.testing_facts.proofs.KeyMembers.{first_from}
-use Rattle.testing_facts.proofs.KeySlots.{by_source-upload, by_pair-build, by_pair-builds, by_pair-drop, drops_by_pair-drop, by_number-bug}
+use Rattle.testing_facts.proofs.KeySlots.{by_source-upload, by_pair-builds, by_pair-drop, drops_by_pair-drop, by_number-bug}
 use Rattle.testing_facts.proofs.KeptUploads.{kept_from}
 
 -- Which elements a list has with one more.

@@ -3,7 +3,6 @@ use Rattle.std.specs.Prelude.{ℕ, ◌+◌, ◌<◌, ◌≤◌, Bool, true, fals
 use Rattle.std.proofs.Common.{◌≡◌, refl, sym, ap, ◌∙◌, subst, inl, inr, arith}
 use Rattle.std.specs.List.Sorted.{IsStrictlySortedBy}
 use Rattle.std.specs.declared.cmp.Ordering.{Ordering}
-use Rattle.std.specs.declared.cmp.Ordering.TheVariants.{Less}
 use Rattle.std.specs.Cmp.{IsTotalOrder}
 use Rattle.std.proofs.lemmas.Bool.{cases_lt}
 use Rattle.std.proofs.lemmas.Cmp.{nat_cmp_total}
@@ -18,7 +17,7 @@ use Rattle.testing_model.specs.declared.facts.HintIn.{HintIn}
 use Rattle.testing_model.specs.declared.facts.UnhintIn.{UnhintIn}
 use Rattle.testing_model.specs.declared.facts.DelaysIn.{DelaysIn}
 use Rattle.testing_model.specs.declared.fact_row.FactRow.{FactRow}
-use Rattle.testing_model.specs.Covered.{Covered, CoveredItem, upload_of, drop_of, bug_of, hint_of, unhint_of, delays_of, builds_of}
+use Rattle.testing_model.specs.Covered.{Covered, upload_of, drop_of, bug_of, hint_of, unhint_of, delays_of, builds_of}
 use Rattle.testing_model.specs.FactLists.{FactLists}
 use Rattle.testing_model.specs.FactRows.{source_row, upload_row, build_row, drop_row, bug_row, hint_row, unhint_row, delays_row, rows_of, is_row, times, IsFactRow}
 use Rattle.testing_model.specs.SameMessages.{HasOneOfEach}
@@ -38,14 +37,17 @@ use Rattle.testing_kept.proofs.Orderly.{above_has, not_itself}
 use Rattle.testing_kept.proofs.Restoring.{in_order_itself}
 use Rattle.testing_kept.proofs.Telling.{told_build}
 
+abbrev one_if : Bool → ℕ
+one_if b = cond b 1 0
+
 -- How often a row stands in a list.
 module _ (r : FactRow) where
-  counted : (x : FactRow) (rows : List FactRow) → times r (x ∷ rows) ≡ cond (is_row r x) 1 0 + times r rows
-  counted x rows = sum_by-cons (λ y. cond (is_row r y) 1 0) x rows
+  counted : (x : FactRow) (rows : List FactRow) → times r (x ∷ rows) ≡ one_if (is_row r x) + times r rows
+  counted x rows = sum_by-cons (λ y. one_if (is_row r y)) x rows
 
   none_at : (b : Bool) (x : FactRow) (rows : List FactRow) → is_row r x ≡ b → (is_row r x ≡ true → ⊥) → times r rows ≡ 0 → times r (x ∷ rows) ≡ 0
   none_at true x rows e other none = absurd (other e)
-  none_at false x rows e other none = let own : cond (is_row r x) 1 0 ≡ 0 = ap (λ b. cond b 1 0) e in omega (arith, counted x rows, own, none)
+  none_at false x rows e other none = let own : one_if (is_row r x) ≡ 0 = ap one_if e in omega (arith, counted x rows, own, none)
 
   none_of : (rows : List FactRow) → ((x : FactRow) → Contains rows x → is_row r x ≡ true → ⊥) → times r rows ≡ 0
   none_of [] other = refl
@@ -55,8 +57,8 @@ module _ (r : FactRow) where
   one_of d = at (is_row r d) refl
     where
       at : (b : Bool) → is_row r d ≡ b → times r (d ∷ []) ≤ 1
-      at true e = let own : cond (is_row r d) 1 0 ≡ 1 = ap (λ b. cond b 1 0) e in omega (arith, counted d [], own)
-      at false e = let own : cond (is_row r d) 1 0 ≡ 0 = ap (λ b. cond b 1 0) e in omega (arith, counted d [], own)
+      at true e = let own : one_if (is_row r d) ≡ 1 = ap one_if e in omega (arith, counted d [], own)
+      at false e = let own : one_if (is_row r d) ≡ 0 = ap one_if e in omega (arith, counted d [], own)
 
   -- rows of one kind in front of those of greater kinds
   front : (n : ℕ) (rows others : List FactRow) → ((x : FactRow) → Contains rows x → x.kind ≡ n) → ((x : FactRow) → Contains others x → n + 1 ≤ x.kind)
@@ -74,11 +76,11 @@ module _ (r : FactRow) where
 module _ {B K : Type 0} (key : B → K) {cmp : K → K → Ordering} (o : IsTotalOrder cmp) (row : B → FactRow) (r : FactRow) where
   once_at : (b : Bool) (x : B) (xs : List B) → is_row r (row x) ≡ b → (is_row r (row x) ≡ true → times r (map row xs) ≡ 0) → times r (map row xs) ≤ 1 → times r (map row (x ∷ xs)) ≤ 1
   once_at true x xs e none rest =
-      let own : cond (is_row r (row x)) 1 0 ≡ 1 = ap (λ b. cond b 1 0) e in
+      let own : one_if (is_row r (row x)) ≡ 1 = ap one_if e in
       let others = none e in
       omega (arith, counted r (row x) (map row xs), own, others)
   once_at false x xs e none rest =
-      let own : cond (is_row r (row x)) 1 0 ≡ 0 = ap (λ b. cond b 1 0) e in
+      let own : one_if (is_row r (row x)) ≡ 0 = ap one_if e in
       omega (arith, counted r (row x) (map row xs), own, rest)
 
   once : (xs : List B) → ((x y : B) → Contains xs x → Contains xs y → row x ≡ row y → x ≡ y) → IsStrictlySortedBy cmp (map key xs) → times r (map row xs) ≤ 1
@@ -87,9 +89,9 @@ module _ {B K : Type 0} (key : B → K) {cmp : K → K → Ordering} (o : IsTota
   once (x ∷ xs) tell s =
       once_at (is_row r (row x)) x xs refl
       (λ e. none_of r (map row xs) (λ z c d.
-        let y = mapped_from row xs z c in
-        let same : x ≡ y.0 = tell x y.0 (head_of x xs) (tail_of x xs y.0 y.1) (row_same r (row x) e ∙ sym (row_same r z d) ∙ sym y.2) in
-        not_itself key o (key x) (ap (λ w. cmp (key x) (key w)) same ∙ above_has key o (key x) xs y.0 s.0 y.1)))
+      let y = mapped_from row xs z c in
+      let same : x ≡ y.0 = tell x y.0 (head_of x xs) (tail_of x xs y.0 y.1) (row_same r (row x) e ∙ sym (row_same r z d) ∙ sym y.2) in
+      not_itself key o (key x) (ap (λ w. cmp (key x) (key w)) same ∙ above_has key o (key x) xs y.0 s.0 y.1)))
       (once xs (λ y z c d. tell y z (tail_of x xs y c) (tail_of x xs z d)) s.1)
 
 kind_of : {B : Type 0} (row : B → FactRow) (n : ℕ) → ((b : B) → (row b).kind ≡ n) → (xs : List B) (x : FactRow) → Contains (map row xs) x → x.kind ≡ n
@@ -178,37 +180,37 @@ are_named f s h =
     let said = h.said in
     each_row (NamesMessage s) f
     (λ u c.
-      let m = given_by upload_of s u (said.sources u c) in
-      let b = upload_bears m.0.sender m.0.number m.0.item u m.2 in
-      record { message = m.0; among = m.1; sender = sym b.0; number = sym b.1; delays = apart 1 8 (omega arith) })
+    let m = given_by upload_of s u (said.sources u c) in
+    let b = upload_bears m.0.sender m.0.number m.0.item u m.2 in
+    record { message = m.0; among = m.1; sender = sym b.0; number = sym b.1; delays = apart 1 8 (omega arith) })
     (λ u c.
-      let m = given_by upload_of s u (said.uploads u c) in
-      let b = upload_bears m.0.sender m.0.number m.0.item u m.2 in
-      record { message = m.0; among = m.1; sender = sym b.0; number = sym b.1; delays = apart 2 8 (omega arith) })
+    let m = given_by upload_of s u (said.uploads u c) in
+    let b = upload_bears m.0.sender m.0.number m.0.item u m.2 in
+    record { message = m.0; among = m.1; sender = sym b.0; number = sym b.1; delays = apart 2 8 (omega arith) })
     (λ u c.
-      let m = spread_from builds_of s u (said.rows u c) in
-      let b = builds_bear m.0.sender m.0.number m.0.item u m.2 in
-      record { message = m.0; among = m.1; sender = sym b.0; number = sym b.1; delays = apart 3 8 (omega arith) })
+    let m = spread_from builds_of s u (said.rows u c) in
+    let b = builds_bear m.0.sender m.0.number m.0.item u m.2 in
+    record { message = m.0; among = m.1; sender = sym b.0; number = sym b.1; delays = apart 3 8 (omega arith) })
     (λ u c.
-      let m = given_by drop_of s u (said.drops u c) in
-      let b = drop_bears m.0.sender m.0.number m.0.item u m.2 in
-      record { message = m.0; among = m.1; sender = sym b.0; number = sym b.1; delays = apart 4 8 (omega arith) })
+    let m = given_by drop_of s u (said.drops u c) in
+    let b = drop_bears m.0.sender m.0.number m.0.item u m.2 in
+    record { message = m.0; among = m.1; sender = sym b.0; number = sym b.1; delays = apart 4 8 (omega arith) })
     (λ u c.
-      let m = given_by bug_of s u (said.bugs u c) in
-      let b = bug_bears m.0.sender m.0.number m.0.item u m.2 in
-      record { message = m.0; among = m.1; sender = sym b.0; number = sym b.1; delays = apart 5 8 (omega arith) })
+    let m = given_by bug_of s u (said.bugs u c) in
+    let b = bug_bears m.0.sender m.0.number m.0.item u m.2 in
+    record { message = m.0; among = m.1; sender = sym b.0; number = sym b.1; delays = apart 5 8 (omega arith) })
     (λ u c.
-      let m = given_by hint_of s u (said.hints u c) in
-      let b = hint_bears m.0.sender m.0.number m.0.item u m.2 in
-      record { message = m.0; among = m.1; sender = sym b.0; number = sym b.1; delays = apart 6 8 (omega arith) })
+    let m = given_by hint_of s u (said.hints u c) in
+    let b = hint_bears m.0.sender m.0.number m.0.item u m.2 in
+    record { message = m.0; among = m.1; sender = sym b.0; number = sym b.1; delays = apart 6 8 (omega arith) })
     (λ u c.
-      let m = given_by unhint_of s u (said.unhints u c) in
-      let b = unhint_bears m.0.sender m.0.number m.0.item u m.2 in
-      record { message = m.0; among = m.1; sender = sym b.0; number = sym b.1; delays = apart 7 8 (omega arith) })
+    let m = given_by unhint_of s u (said.unhints u c) in
+    let b = unhint_bears m.0.sender m.0.number m.0.item u m.2 in
+    record { message = m.0; among = m.1; sender = sym b.0; number = sym b.1; delays = apart 7 8 (omega arith) })
     (λ u c.
-      let m = given_by delays_of s u (said.delays u c) in
-      let b = delays_bears m.0.sender m.0.number m.0.item u m.2 in
-      record { message = m.0; among = m.1; sender = sym b.0; number = sym b.1; delays = λ e. ap is_some m.2 })
+    let m = given_by delays_of s u (said.delays u c) in
+    let b = delays_bears m.0.sender m.0.number m.0.item u m.2 in
+    record { message = m.0; among = m.1; sender = sym b.0; number = sym b.1; delays = λ e. ap is_some m.2 })
 
 one_last : (last : Option DelaysIn) (d e : DelaysIn) → Contains (option_to_list last) d → Contains (option_to_list last) e → d ≡ e
 one_last None d e c k = none_among d c
