@@ -83,7 +83,26 @@ pub record Leaves (setup : Lists) (old new : Content) (orders : List RunOrder) (
   pub difference : IsDifference f.came f.left changes.put changes.gone
   pub kept : AreHoldable setup (facts_after changes old.facts) → new.facts ≡ facts_after changes old.facts
 
-abbrev settled : FactLists → FactLists
+-- what a store holds by equal lists, over equal contents
+pub held_by_same : (lists setup : Lists) (late mid : Content) (changes : FactChanges) → lists ≡ setup → late ≡ mid → AreHoldable setup (facts_after changes mid.facts) → AreHoldable lists (facts_after changes late.facts)
+held_by_same lists setup late mid changes e f held =
+    subst (λ (u : Lists). AreHoldable u (facts_after changes late.facts)) (sym e) (subst (λ (m : Content). AreHoldable setup (facts_after changes m.facts)) (sym f) held)
+
+-- so it is where the store was only asked before its run was finished
+pub leaves_over : (setup lists : Lists) (old mid late new : Content) (orders given : List RunOrder) (f : FactLists) (changes : FactChanges) → mid ≡ old → late ≡ mid → lists ≡ setup → given ≡ orders
+    → FirstOrders setup old.kept orders → length orders ≡ length old.reports + 1 → AreUnderWay setup mid f → IsDifference f.came f.left changes.put changes.gone
+    → new.kept ≡ late.kept → length new.reports ≡ length late.reports + 1 → (AreHoldable lists (facts_after changes late.facts) → new.facts ≡ facts_after changes late.facts) → Leaves setup old new given f changes
+leaves_over setup lists old mid late new orders given f changes one two same is first all way difference mail more facts = record {
+  mail = mail ∙ ap (λ (m : Content). m.kept) (two ∙ one);
+  more = more ∙ ap (λ (m : Content). length m.reports + 1) (two ∙ one);
+  first = subst (FirstOrders setup old.kept) (sym is) first;
+  all = ap length is ∙ all;
+  way = subst (λ (m : Content). AreUnderWay setup m f) one way;
+  difference = difference;
+  kept = λ held. facts (held_by_same lists setup late old changes same (two ∙ one) held) ∙ ap (λ (m : Content). facts_after changes m.facts) (two ∙ one);
+}
+
+abbrev pub settled : FactLists → FactLists
 settled f = record f { came = []; left = [] }
 
 -- the same facts, whose changes are kept
