@@ -1,13 +1,15 @@
 -- Sets of rows, row by row.
 use Rattle.std.proofs.Common.{◌≡◌, ◌≤◌, ◌<◌, ◌+◌, ◌==◌, ◌⊎◌, inl, inr, ℕ, zero, suc, Bool, true, false, cond, not, ◌&&◌, ◌||◌, Option, Some, None, List, [], ◌∷◌, ◌++◌, map, refl, sym, ap, subst, ◌∙◌, arith}
 use Rattle.std.specs.Prelude.{⊤, is_some, is_ok, ◌↔◌, nat_lt, length, get_or, Result, Ok, Err}
+use lib.Dec.{T}
 use Rattle.std.specs.Cmp.{IsTotalOrder}
-use Rattle.std.specs.FinMap.{IsAntisymmetric, put, get, entries, insert, remove, get-empty, get-insert, get-remove, len-entries, len-empty, entries-insert, same_map}
+use Rattle.std.specs.FinMap.{IsAntisymmetric, put, get, entries, insert, remove, get-empty, get-insert, get-remove, len-entries, len-empty, entries_sorted, entries-insert, contains_key-keys, is_sorted, same_map}
+use Rattle.std.specs.FinMap.Entries.{below_all}
 use Rattle.std.specs.List.{list_any, AllByRecursion, dedup, dedup_from}
 use Rattle.std.specs.List.Sorted.{IsSorted, IsStrictlySortedBy, IsBinarySearchResult, IsSearchInRange}
 use Rattle.std.specs.declared.cmp.Ordering.{Ordering}
 use Rattle.std.specs.declared.cmp.Ordering.TheVariants.{Less, Equal, Greater}
-use Rattle.std.specs.Ordering.{nat_cmp, is_eq, eq_by_cmp, ordering_then}
+use Rattle.std.specs.Ordering.{nat_cmp, is_eq, is_lt, eq_by_cmp, ordering_then}
 use Rattle.std.proofs.lemmas.Bool.{false≢true}
 use Rattle.std.proofs.lemmas.Bool.Decides.{nat_tests}
 use Rattle.std.proofs.lemmas.Cmp.{nat_cmp_total, on_total, then_total, eq_by_cmp_equiv}
@@ -140,15 +142,31 @@ pub among-times : (rows : List FactRow) (r : FactRow) → is_among r rows ≡ na
 among-times [] r = refl
 among-times (x ∷ rows) r = any_counts (is_row r x) (is_among r rows) (times r rows) _ (among-times rows r) (sum_by-cons (λ y. cond (is_row r y) 1 0) x rows)
 
+above : (n : ℕ) → nat_lt 0 n ≡ true → 0 < n
+above n h = grind (arith, nat_tests)
+
+above_too : (n : ℕ) → 0 < n → nat_lt 0 n ≡ true
+above_too n h = grind (arith, nat_tests)
+
 pub HasRow-set_of_rows : (rows : List FactRow) (r : FactRow) → HasRow (set_of_rows rows) r ↔ (0 < times r rows)
 HasRow-set_of_rows rows r =
     let is : has (set_of_rows rows) r ≡ nat_lt 0 (times r rows) = has-set_of_rows rows r ∙ among-times rows r in
-    (λ h. above (times r rows) (sym is ∙ h), λ more. is ∙ tested (times r rows) more)
-  where
-    above : (n : ℕ) → nat_lt 0 n ≡ true → 0 < n
-    above n h = grind (arith, nat_tests)
-    tested : (n : ℕ) → 0 < n → nat_lt 0 n ≡ true
-    tested n h = grind (arith, nat_tests)
+    (λ h. above (times r rows) (sym is ∙ h), λ more. is ∙ above_too (times r rows) more)
+
+after_parts : (p g h : Bool) → (p || (not g && h)) ≡ true → (p ≡ true) ⊎ ((g ≡ false) × (h ≡ true))
+after_parts true g h e = inl refl
+after_parts false true h e = absurd (false≢true e)
+after_parts false false h e = inr (refl, e)
+
+not_above : (n : ℕ) → nat_lt 0 n ≡ false → n ≡ 0
+not_above n h = grind (arith, nat_tests)
+
+-- a row of the set after the changes is put, or it was there and isn't gone
+pub HasRow-after : (changes : FactChanges) (facts : FactSet) (r : FactRow) → HasRow (facts_after changes facts) r → (0 < times r changes.put) ⊎ ((times r changes.gone ≡ 0) × HasRow facts r)
+HasRow-after changes facts r h = elim (after_parts (is_among r changes.put) (is_among r changes.gone) (has facts r) (sym (has-after changes facts r) ∙ h)) [
+  | inl put ↦ inl (above (times r changes.put) (sym (among-times changes.put r) ∙ put))
+  | inr kept ↦ inr (not_above (times r changes.gone) (sym (among-times changes.gone r) ∙ kept.0), kept.1)
+]
 
 pub count-set_of_rows : (rows : List FactRow) (r : FactRow) → times r rows ≤ 1 → count_in (set_of_rows rows) r ≡ times r rows
 count-set_of_rows rows r few = ap (λ b. cond b 1 0) (has-set_of_rows rows r ∙ among-times rows r) ∙ counted (times r rows) few
@@ -169,7 +187,7 @@ counted_alike false false e = refl
 pub same_counts : (a b : FactSet) → ((r : FactRow) → count_in a r ≡ count_in b r) → a ≡ b
 same_counts a b is = same_sets a b (λ r. counted_alike (has a r) (has b r) (is r))
 
--- Where a row stands at most once now, and isn't both put and gone, the set has it after the changes as often as it stands now.
+-- A row that stands at most once, and isn't both put and gone, is in the set after the changes as often as it stands.
 after_counts : (h : Bool) (p g n : ℕ) → n ≤ 1 → n + g ≡ bit h + p → (p ≡ 0) ⊎ (g ≡ 0) → bit (nat_lt 0 p || (not (nat_lt 0 g) && h)) ≡ n
 after_counts true zero zero n few balance apart = grind (arith, nat_tests)
 after_counts true zero (suc g) n few balance apart = grind (arith, nat_tests)
@@ -304,3 +322,52 @@ module _ (same : FactRow → FactRow → Bool) (is : (x y : FactRow) → same x 
       let all : set_of_rows once ≡ set_of_rows rows = same_sets (set_of_rows once) (set_of_rows rows) (λ r.
       has-set_of_rows once r ∙ ap (is_among r) deduped ∙ among-dedup r sorted ∙ moved r ∙ sym (has-set_of_rows rows r)) in
       sym (rows_in-sorted once rising) ∙ ap rows_in all
+
+-- The rows of a set.
+
+keys_among : (ks : List FactRow) (r : FactRow) → list_any (eq_by_cmp row_order r) ks ≡ is_among r ks
+keys_among [] r = refl
+keys_among (x ∷ ks) r = rw (row_is r x, keys_among ks r) refl
+
+pub among-rows_in : (facts : FactSet) (r : FactRow) → is_among r (rows_in facts) ≡ has facts r
+among-rows_in facts r = sym (contains_key-keys facts r ∙ keys_among (rows_in facts) r)
+
+pub set_of_rows-rows_in : (facts : FactSet) → set_of_rows (rows_in facts) ≡ facts
+set_of_rows-rows_in facts = same_sets (set_of_rows (rows_in facts)) facts (λ r. has-set_of_rows (rows_in facts) r ∙ among-rows_in facts r)
+
+halves : (a b : Bool) → T (a && b) → T a × T b
+halves true b h = (tt, h)
+halves false b h = absurd h
+
+abbrev keys_of : List (FactRow × ⊤) → List FactRow
+keys_of es = map (λ e. e.0) es
+
+one_key_more : (r : FactRow) (e : FactRow × ⊤) (es : List (FactRow × ⊤)) (b : Bool) → is_row r e.0 ≡ b → times r (keys_of (e ∷ es)) ≡ bit b + times r (keys_of es)
+one_key_more r e es b is = sum_by-cons (λ y. cond (is_row r y) 1 0) e.0 (keys_of es) ∙ ap (λ c. bit c + times r (keys_of es)) is
+
+other_above : (x y : FactRow) (o : Ordering) → row_order x y ≡ o → T (is_lt o) → is_row x y ≡ false
+other_above x y Less at h = sym (row_is x y) ∙ ap is_eq at
+other_above x y Equal at h = absurd h
+other_above x y Greater at h = absurd h
+
+none_above : (x : FactRow) (es : List (FactRow × ⊤)) → T (below_all row_order x es) → times x (keys_of es) ≡ 0
+none_above x [] h = refl
+none_above x (e ∷ es) h =
+    let both = halves (is_lt (row_order x e.0)) (below_all row_order x es) h in
+    omega (arith, one_key_more x e es false (other_above x e.0 (row_order x e.0) refl both.0), none_above x es both.1)
+
+key_times : (r : FactRow) (es : List (FactRow × ⊤)) → T (is_sorted row_order es) → times r (keys_of es) ≤ 1
+key_times r [] h = omega arith
+key_times r (e ∷ es) h =
+    let both = halves (below_all row_order e.0 es) (is_sorted row_order es) h in
+    at (is_row r e.0) refl both.0 (key_times r es both.1)
+  where
+    at : (b : Bool) → is_row r e.0 ≡ b → T (below_all row_order e.0 es) → times r (keys_of es) ≤ 1 → times r (keys_of (e ∷ es)) ≤ 1
+    at true is low few = omega (arith, one_key_more r e es true is, subst (λ y. times y (keys_of es) ≡ 0) (row_same r e.0 is) (none_above e.0 es low))
+    at false is low few = omega (arith, one_key_more r e es false is, few)
+
+-- a set gives each of its rows once
+pub times-rows_in : (facts : FactSet) (r : FactRow) → times r (rows_in facts) ≡ count_in facts r
+times-rows_in facts r =
+    let few : times r (rows_in facts) ≤ 1 = key_times r (entries facts) (entries_sorted facts) in
+    sym (count-set_of_rows (rows_in facts) r few) ∙ ap (λ (s : FactSet). count_in s r) (set_of_rows-rows_in facts)

@@ -10,16 +10,6 @@ use deb_control::NoMemory;
 use std::alloc::Global;
 use testing_model::{FactChanges, FactRow, FactRows};
 
-/// These rows by kind, sender, number and place, each once.
-pub fn rows_in_order(alloc: Global, rows: &[FactRow]) -> Result<FactRows, NoMemory>
-    ensures { IfOk result (λ given. given ≡ rows_in (set_of_rows rows.now)) }
-{
-    let mut sorted = Vec::from_slice(alloc, rows)?;
-    sorted.sort_unstable();
-    sorted.dedup();
-    Ok(FactRows::of(sorted))
-}
-
 /// These rows in order.
 fn sorted(alloc: Global, rows: &[FactRow]) -> Result<Vec<FactRow>, NoMemory>
     ensures order { IfOk result (λ sorted. IsSorted row_order sorted.items) }
@@ -28,6 +18,15 @@ fn sorted(alloc: Global, rows: &[FactRow]) -> Result<Vec<FactRow>, NoMemory>
     let mut sorted = Vec::from_slice(alloc, rows)?;
     sorted.sort_unstable();
     Ok(sorted)
+}
+
+/// These rows by kind, sender, number and place, each once.
+pub fn rows_in_order(alloc: Global, rows: &[FactRow]) -> Result<FactRows, NoMemory>
+    ensures { IfOk result (λ given. given ≡ rows_in (set_of_rows rows.now)) }
+{
+    let mut once = sorted(alloc, rows)?;
+    once.dedup();
+    Ok(FactRows::of(once))
 }
 
 /// Whether a row is among those that are gone, which lie in order.
@@ -54,7 +53,11 @@ fn remaining(alloc: Global, rows: &[FactRow], gone: &[FactRow]) -> Result<Vec<Fa
 }
 
 /// The rows without those that are gone, and those that are put behind them.
-pub fn rows_after(alloc: Global, rows: &[FactRow], changes: &FactChanges) -> Result<Vec<FactRow>, NoMemory>
+pub fn rows_after(
+    alloc: Global,
+    rows: &[FactRow],
+    changes: &FactChanges,
+) -> Result<Vec<FactRow>, NoMemory>
     ensures { IfOk result (λ new. set_of_rows new.items ≡ facts_after changes.now (set_of_rows rows.now)) }
 {
     let gone = sorted(alloc, changes.gone.as_slice())?;

@@ -21,7 +21,8 @@ use std::marker::Model;
 use testing_model::{FactRow, FactRows};
 use testing_suites::Testing;
 
-/// Kept mail by sender and number, with reports, testing and the rows of facts in any order. It fails for want of memory alone.
+/// Kept mail by sender and number, with reports, testing and the rows of facts in any order. It fails for want of memory
+/// alone.
 #[derive(Drop)]
 pub struct Plain {
     alloc: Global,
