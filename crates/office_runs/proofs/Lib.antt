@@ -1,3 +1,4 @@
+pub mod AgainFacts
 pub mod CarryFacts
 pub mod CountFacts
 pub mod CourseFacts
@@ -7,6 +8,7 @@ pub mod FinishFacts
 pub mod GivenFacts
 pub mod KeepingFacts
 pub mod KeptRows
+pub mod KnownStand
 pub mod LastFacts
 pub mod LawFacts
 pub mod LetterFacts
@@ -14,6 +16,7 @@ pub mod LookFacts
 pub mod OfficeFacts
 pub mod ReadyCount
 pub mod ReplayFacts
+pub mod RestoringFacts
 pub mod RiseFacts
 pub mod RunFacts
 pub mod SaidFacts

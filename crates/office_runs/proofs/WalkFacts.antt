@@ -180,7 +180,7 @@ place_covered covers p low high = ap (λ b. b && nat_le p.1 (covers p.0)) (le-le
 some_of : {A : Type 0} (o : Option A) (x : A) → o ≡ Some x → IsSome o
 some_of o x e = rw e refl
 
-same_messages : (setup : Lists) (kept : Kept) (k : ℕ) → ((p : Place) → IsSome (get kept p) → IsPlace setup p) → SameElements (said_within setup kept (cover setup kept k) (length setup.senders)) (covered_items setup kept k)
+pub same_messages : (setup : Lists) (kept : Kept) (k : ℕ) → ((p : Place) → IsSome (get kept p) → IsPlace setup p) → SameElements (said_within setup kept (cover setup kept k) (length setup.senders)) (covered_items setup kept k)
 unfolding covered_items
 same_messages setup kept k places = (
   λ m c.
@@ -247,3 +247,8 @@ said_at-text setup kept p text e = ap (λ (o : Option (List ℕ)). option_to_lis
 pub item_at-read : (setup : Lists) (p : Place) (text : List ℕ) (r : Result Message MailFault) → read setup text ≡ r → option_to_list (item_at setup (p, text)) ≡ option_to_list (item_in_answer p r)
 unfolding item_at
 item_at-read setup p text r is = ap (λ (x : Result Message MailFault). option_to_list (item_in_answer p x)) is
+
+-- and so its item
+pub item_is : (setup : Lists) (p : Place) (text : List ℕ) (r : Result Message MailFault) → read setup text ≡ r → item_at setup (p, text) ≡ item_in_answer p r
+unfolding item_at
+item_is setup p text r is = ap (item_in_answer p) is

@@ -30,7 +30,6 @@ use office_keeper::{Keeper, Letter};
 use office_mail::{MailFault, RunOrder, Setup, read_message};
 use office_replies::StoreFault;
 use std::alloc::Global;
-use testing_rules::kept_laws::more_tell;
 use testing_rules::{FactRow, Facts};
 
 /// Facts of what each sender says up to a number, and these numbers: 0 for a sender that has none.
@@ -115,7 +114,7 @@ fn begin<K: Keeper>(
 {
     let rows = stored::facts(keeper)?;
     let facts = put_back(alloc, setup, keeper, rows.as_slice())?;
-    known_by(alloc, setup, orders, rows.as_slice(), facts)
+    Ok(known_by(alloc, setup, orders, rows.as_slice(), facts)?)
 }
 
 /// What is known by rows of facts that were put back: the facts, where they have all of these rows, and else nothing, so
@@ -136,9 +135,9 @@ fn known_by(
     ensures no_store { IfErr result (λ fault. fault ≡ StoreFault.NoMemory) }
 {
     if facts.count() == rows.len() as u128 {
-        known_at(alloc, setup, orders, facts)
+        Ok(known_at(alloc, setup, orders, facts)?)
     } else {
-        known_without(alloc, rows)
+        Ok(known_without(alloc, rows)?)
     }
 }
 
@@ -304,7 +303,6 @@ pub fn take_text(
     ensures way { OnOk result ((content : Content) → get content.kept (sender, number) ≡ Some text.now → AreUnderWay setup.now content facts.old → AreUnderWay setup.now content facts.new) }
     ensures no_store { IfErr result (λ fault. fault ≡ StoreFault.NoMemory) }
 {
-    more_tell();
     match read_message(alloc, setup, text) {
         Ok(message) => Ok(take_body(facts, sender, number, &message.body)?),
         Err(fault) => no_message(fault),

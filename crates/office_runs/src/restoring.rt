@@ -21,7 +21,6 @@ use office_keeper::{Keeper, Letter};
 use office_mail::{Body, MailFault, Message, Setup, read_message};
 use office_replies::StoreFault;
 use std::alloc::Global;
-use testing_rules::kept_laws::restored_tell;
 use testing_rules::{FactRow, Facts, Item};
 
 /// The facts of these rows, each put back with the message that it names. A row that names no kept message, or one that
@@ -224,7 +223,6 @@ fn put_facts(
         → ((k : ℕ) (d : ARow) → start ≤ k → k < end → IsItemAt s (slice_index_or rows.now k d).sender (slice_index_or rows.now k d).number item.now)
         → HavePutBack s (take start rows.now) first facts.old → HavePutBack s (take end rows.now) first facts.new) }
 {
-    restored_tell();
     'rows: for place in start..end {
         facts.restore(rows[place], item)?;
     }

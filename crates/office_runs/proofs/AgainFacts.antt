@@ -1,0 +1,93 @@
+-- Uploads that are taken again.
+use Rattle.std.proofs.Common.{◌≡◌, ⊎_elim, inl, inr, Bool, true, false, List, [], ◌++◌, Option, Some, None, option_to_list, sym, ap, subst, ◌∙◌, refl}
+use Rattle.std.specs.Prelude.{Contains}
+use Rattle.std.proofs.lemmas.List.Elements.{Contains-append_left, Contains-append_right, Contains-append_cases}
+use Rattle.testing_items.proofs.Members.{none_among}
+use Rattle.testing_items.specs.Words.{Text}
+use Rattle.testing_model.proofs.SameFacts.{stands-same}
+use Rattle.testing_model.proofs.Sets.{given_by, gives}
+use Rattle.testing_model.specs.declared.facts.UploadIn.{UploadIn}
+use Rattle.testing_rules.specs.Covered.{Covered, CoveredItem, upload_of, uploads_in}
+use Rattle.testing_rules.specs.FactLists.{FactLists}
+use Rattle.testing_rules.specs.KeptFacts.{AreFallen}
+use Rattle.testing_rules.specs.SameMessages.{SameElements, HasOneOfEach}
+use Rattle.testing_rules.specs.StandsFor.{StandsFor}
+use Rattle.testing_rules.specs.Suite.{Suite}
+use Rattle.office_runs.specs.Taking.{TookAgain}
+use Rattle.office_runs.proofs.WalkFacts.{in_option}
+
+pub again_none : (names : List Text) (s : Covered) (f : FactLists) → s ≡ [] → TookAgain names s f f
+again_none names s f e = record {
+  stand = λ o t one within h. h;
+  there = λ u c name. none_among u (subst (λ (l : Covered). Contains (uploads_in l) u) e c);
+}
+
+-- messages of a set in front of it are the same set
+front_same : (front s : Covered) → ((m : CoveredItem) → Contains front m → Contains s m) → SameElements (front ++ s) s
+front_same front s within = (
+  λ m c. elim (Contains-append_cases front s m c) [ inl own ↦ within m own | inr among ↦ among ],
+  λ m c. Contains-append_right front s m c,
+)
+
+front_one : (front s : Covered) → ((m : CoveredItem) → Contains front m → Contains s m) → HasOneOfEach s → HasOneOfEach (front ++ s)
+front_one front s within one m o c d = one m o ((front_same front s within).0 m c) ((front_same front s within).0 o d)
+
+-- an upload of one more message is that message's, or one of those before
+more_uploads : (o : Option CoveredItem) (s : Covered) (u : UploadIn) → Contains (uploads_in (option_to_list o ++ s)) u → ((m : CoveredItem) × (o ≡ Some m) × (upload_of m ≡ Some u)) ⊎ Contains (uploads_in s) u
+more_uploads o s u c =
+    let m = given_by upload_of (option_to_list o ++ s) u c in
+    elim (Contains-append_cases (option_to_list o) s m.0 m.1) [
+      | inl own ↦ inl (m.0, in_option o m.0 own, m.2)
+      | inr among ↦ inr (gives upload_of s m.0 u among m.2)
+    ]
+
+-- one more message, which was taken again
+pub again_taken : (names : List Text) (o : Option CoveredItem) (s : Covered) (first old new : FactLists) → ((l : Covered) (t : Suite) → StandsFor old l t → StandsFor new (option_to_list o ++ l) t)
+    → ((u : UploadIn) → Contains old.uploads u → Contains new.uploads u) → ((m : CoveredItem) (u : UploadIn) → o ≡ Some m → upload_of m ≡ Some u → Contains new.uploads u)
+    → TookAgain names s first old → TookAgain names (option_to_list o ++ s) first new
+again_taken names o s first old new taken kept there so = record {
+  stand = λ l t one within h.
+      let front : (m : CoveredItem) → Contains (option_to_list o) m → Contains l m = λ m c. within m (Contains-append_left (option_to_list o) s m c) in
+      let was : StandsFor old l t = so.stand l t one (λ m c. within m (Contains-append_right (option_to_list o) s m c)) h in
+      stands-same (option_to_list o ++ l) l (front_same (option_to_list o) l front) (front_one (option_to_list o) l front one) new t (taken l t was);
+  there = λ u c name. elim (more_uploads o s u c) [
+    | inl own ↦ there own.0 u own.1 own.2
+    | inr among ↦ kept u (so.there u among name)
+  ];
+}
+
+-- or which isn't an upload of these names
+pub again_passed : (names : List Text) (o : Option CoveredItem) (s : Covered) (first old : FactLists) → ((m : CoveredItem) (u : UploadIn) → o ≡ Some m → upload_of m ≡ Some u → Contains names u.source → ⊥)
+    → TookAgain names s first old → TookAgain names (option_to_list o ++ s) first old
+again_passed names o s first old other so = record {
+  stand = λ l t one within h. so.stand l t one (λ m c. within m (Contains-append_right (option_to_list o) s m c)) h;
+  there = λ u c name. elim (more_uploads o s u c) [
+    | inl own ↦ absurd (other own.0 u own.1 own.2 name)
+    | inr among ↦ so.there u among name
+  ];
+}
+
+-- facts stand beside the new testing where the uploads of the fallen names are there
+pub beside_new : (f : FactLists) (s : Covered) (names : List Text) (old new : Suite) → AreFallen names old new → ((u : UploadIn) → Contains (uploads_in s) u → Contains names u.source → Contains f.uploads u) → StandsFor f s old → StandsFor f s new
+beside_new f s names old new fallen there h = record {
+  sources = h.sources;
+  rows = h.rows;
+  drops = h.drops;
+  bugs = h.bugs;
+  hints = h.hints;
+  unhints = h.unhints;
+  delays = h.delays;
+  are_uploads = h.are_uploads;
+  counted = λ u c news. elim (fallen u.source u.version news) [
+    | inl was ↦ h.counted u c was
+    | inr name ↦ there u c name
+  ];
+}
+
+-- as they do behind the walk
+pub again_stand : (names : List Text) (s : Covered) (first now : FactLists) → HasOneOfEach s → TookAgain names s first now → (before after : Suite) → AreFallen names before after → StandsFor first s before → StandsFor now s after
+again_stand names s first now one so before after fallen h = beside_new now s names before after fallen so.there (so.stand s before one (λ m c. c) h)
+
+-- and where no name fell
+pub none_stand : (names : List Text) (s : Covered) (f : FactLists) → names ≡ [] → (before after : Suite) → AreFallen names before after → StandsFor f s before → StandsFor f s after
+none_stand names s f none before after fallen h = beside_new f s names before after fallen (λ u c name. none_among u.source (subst (λ (l : List Text). Contains l u.source) none name)) h
