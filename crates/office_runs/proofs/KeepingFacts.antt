@@ -139,7 +139,9 @@ module _ (setup : Lists) (old new : Content) (orders : List RunOrder) (f : FactL
   are_held told = holdable setup old.facts (said_all setup old.kept) f changes (one_of_all setup old.kept) leaves.way.tells leaves.way.by_message leaves.way.rows leaves.difference told
 
   settled_rows : ((r : FactRow) → count_in new.facts r ≡ times r (rows_of f)) → IsChangedFrom (count_in new.facts) (settled f)
-  settled_rows rows = λ r. omega (arith, rows r)
+  settled_rows rows = λ r.
+      let same : times r (rows_of (settled f)) ≡ count_in new.facts r = sym (rows r) in
+      ap (λ (n : ℕ). n + 0) same
 
   settled_way : new.facts ≡ facts_after changes old.facts → AreUnderWay setup new (settled f)
   settled_way is = record {

@@ -62,7 +62,7 @@ module _ (setup : Lists) (facts : FactSet) (s : Covered) (f : FactLists) (change
   holdable told =
       let rows = told_rows_are_fact_rows f s tells in
       record {
-        each = λ r h. rows.each r (stands r h);
+        each = λ r h. let row = rows.each r (stands r h) in record { low = row.low; high = row.high; place = row.place };
         release = λ r h kind. told r (stands r h) kind;
         one = λ r q hr hq kr kq. rows.one r q (stands r hr) (stands q hq) kr kq;
       }

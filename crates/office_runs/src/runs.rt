@@ -128,7 +128,8 @@ fn go_with<K: Keeper>(
     let names = fallen(alloc, before, after)?;
     retake(alloc, setup, keeper, facts, taken, &names)?;
     facts.trim(after);
-    Ok(facts.changes()?)
+    let changes = facts.changes()?;
+    Ok(changes)
 }
 
 /// What a run leaves, of which and of those before it these are the orders; and what is known for the next one.

@@ -28,7 +28,7 @@ returns-clause-held g c = λ trusted way own.
     let f : FactLists = c.trim.new.self in
     let now : AreUnderWay setup content f =
     subst (AreUnderWay setup content) (sym c.trim.ensures) (AreUnderWay-trimmed setup content c.args.after.now c.retake.new.facts (c.in_ok-retake.ensures.way trusted way)) in
-    holdable setup content.facts (said_all setup content.kept) f c.in_ok-changes.field-0 (one_of_all setup content.kept) now.tells now.by_message now.rows c.in_ok-changes.ensures
+    holdable setup content.facts (said_all setup content.kept) f c.in_ok-changes.changes (one_of_all setup content.kept) now.tells now.by_message now.rows c.in_ok-changes.ensures
     (release_by_mail setup content.kept f c.has_release.ensures own now.tells)
 
 pub returns-clause-kept : goal.returns-clause-kept
