@@ -1,9 +1,11 @@
 -- Uploads that are taken again.
-use Rattle.std.proofs.Common.{◌≡◌, ⊎_elim, inl, inr, Bool, true, false, List, [], ◌++◌, Option, Some, None, option_to_list, sym, ap, subst, ◌∙◌, refl}
+use Rattle.std.proofs.Common.{◌≡◌, ◌⊎◌, ⊎_elim, inl, inr, ℕ, List, [], ◌++◌, Option, Some, None, option_to_list, sym, ap, subst, ◌∙◌, refl}
 use Rattle.std.specs.Prelude.{Contains}
 use Rattle.std.proofs.lemmas.List.Elements.{Contains-append_left, Contains-append_right, Contains-append_cases}
 use Rattle.testing_items.proofs.Members.{none_among}
 use Rattle.testing_items.specs.Words.{Text}
+use Rattle.testing_items.specs.declared.item.Item.{Item}
+use Rattle.testing_facts.specs.Restored.{said}
 use Rattle.testing_model.proofs.SameFacts.{stands-same}
 use Rattle.testing_model.proofs.Sets.{given_by, gives}
 use Rattle.testing_model.specs.declared.facts.UploadIn.{UploadIn}
@@ -13,7 +15,7 @@ use Rattle.testing_rules.specs.KeptFacts.{AreFallen}
 use Rattle.testing_rules.specs.SameMessages.{SameElements, HasOneOfEach}
 use Rattle.testing_rules.specs.StandsFor.{StandsFor}
 use Rattle.testing_rules.specs.Suite.{Suite}
-use Rattle.office_runs.specs.Taking.{TookAgain}
+use Rattle.office_runs.specs.Taking.{IsSaidItem, TookAgain}
 use Rattle.office_runs.proofs.WalkFacts.{in_option}
 
 pub again_none : (names : List Text) (s : Covered) (f : FactLists) → s ≡ [] → TookAgain names s f f
@@ -91,3 +93,13 @@ again_stand names s first now one so before after fallen h = beside_new now s na
 -- and where no name fell
 pub none_stand : (names : List Text) (s : Covered) (f : FactLists) → names ≡ [] → (before after : Suite) → AreFallen names before after → StandsFor f s before → StandsFor f s after
 none_stand names s f none before after fallen h = beside_new f s names before after fallen (λ u c name. none_among u.source (subst (λ (l : List Text). Contains l u.source) none name)) h
+
+-- the upload of a message is that of its item
+pub said_upload : (sender number : ℕ) (item : Item) (says : Option CoveredItem) (m : CoveredItem) (u : UploadIn) → IsSaidItem says sender number item → says ≡ Some m → upload_of m ≡ Some u → upload_of (said sender number item) ≡ Some u
+said_upload sender number item says m u so is up = ⊎_elim
+    (λ e. ap upload_of (same_message (said sender number item) m (sym e ∙ is)) ∙ up)
+    (λ none. absurd (cc (sym none.0 ∙ is)))
+    so
+  where
+    same_message : (a b : CoveredItem) → Some a ≡ Some b → a ≡ b
+    same_message a b e = cc

@@ -1,9 +1,9 @@
 -- Facts that have the kept rows stand for the covered mail of the finished runs.
 use Rattle.std.proofs.Common.{◌≡◌, ⊎_elim, inl, inr, ℕ, zero, suc, ◌+◌, ◌-◌, ◌<◌, ◌≤◌, Bool, true, false, cond, List, [], ◌∷◌, ◌++◌, length, take, drop, max, slice_index, Option, Some, None, IsSome, option_to_list, sym, ap, subst, ◌∙◌, refl, arith}
 use Rattle.std.specs.Prelude.{Contains}
-use Rattle.std.proofs.lemmas.Bool.{false≢true}
+use Rattle.std.proofs.lemmas.Bool.{cases_lt}
 use Rattle.std.proofs.lemmas.Bool.Decides.{nat_tests}
-use Rattle.std.proofs.lemmas.List.{take-append-drop, take_at, length-append}
+use Rattle.std.proofs.lemmas.List.{get_or_append_left, get_or_push, length-append, length_push, take-append-drop, take_at}
 use Rattle.std.proofs.lemmas.List.Sums.{sum_by-cons}
 use Rattle.testing_items.proofs.Members.{none_among, tail_of}
 use Rattle.testing_model.proofs.Sets.{first_or_rest, at_front}
@@ -32,6 +32,7 @@ use Rattle.office_runs.specs.Outcome.{covered_items}
 use Rattle.office_runs.specs.Ready.{FirstOrders}
 use Rattle.office_runs.specs.State.{IsOffice}
 use Rattle.office_runs.specs.Walk.{said_within}
+use Rattle.office_runs.proofs.RestoringFacts.{IsWhole}
 use Rattle.office_runs.proofs.SaidFacts.{one_of_all, said_at_place}
 use Rattle.office_runs.proofs.TakenFacts.{said_within-same}
 use Rattle.office_runs.proofs.WalkFacts.{of_text, one_of_each, same_messages, within_place}
@@ -147,3 +148,23 @@ finished_orders setup kept orders k first size =
     let less : length orders - 1 ≡ k = omega (arith, size) in
     let are : orders ≡ orders_to setup kept (suc k) = first.same ∙ ap (orders_to setup kept) more in
     ap (λ i. take i orders) less ∙ ap (take k) are ∙ orders_before setup kept k (ap length (sym are) ∙ more)
+
+-- covers of one sender more
+pub pushed_covers : (taken more : List ℕ) (cover n : ℕ) (covers : ℕ → ℕ) → length taken ≡ n → ((s : ℕ) → s < n → slice_index taken s ≡ covers s) → more ≡ taken ++ cover ∷ [] → cover ≡ covers n
+    → (length more ≡ n + 1) × ((s : ℕ) → s < n + 1 → slice_index more s ≡ covers s)
+pushed_covers taken more cover n covers size same are is = (
+  ap length are ∙ length_push taken cover ∙ ap (λ k. k + 1) size,
+  λ s low. ⊎_elim
+      (λ (lt : s < n). ap (λ (l : List ℕ). slice_index l s) are ∙ get_or_append_left taken (cover ∷ []) 0 s (omega (arith, lt, size)) ∙ same s lt)
+      (λ (le : n ≤ s).
+      let at : s ≡ n = omega (arith, le, low) in
+      ap (λ (l : List ℕ). slice_index l s) are ∙ get_or_push taken cover 0 s (size ∙ sym at) ∙ is ∙ ap covers (sym at))
+      (cases_lt s n),
+)
+
+-- facts that were put back whole are known of the finished runs
+pub whole_stand : (setup : Lists) (content : Content) (orders : List RunOrder) (f : FactLists) (taken : List ℕ) → IsWhole setup content f → ((s : ℕ) → s < length setup.senders → slice_index taken s ≡ cover_of (take (length orders - 1) orders) s)
+    → IsOffice setup content → FirstOrders setup content.kept orders → length orders ≡ length content.reports + 1 → StandsFor f (said_within setup content.kept (slice_index taken) (length setup.senders)) content.testing
+whole_stand setup content orders f taken whole covers office first size =
+    rows_stand setup content f (slice_index taken) office whole.way.tells whole.rows
+    (λ s low. covers s low ∙ ap (λ (os : List RunOrder). cover_of os s) (finished_orders setup content.kept orders (length content.reports) first size))

@@ -7,11 +7,11 @@ use Rattle.std.specs.List.Sorted.{IsStrictlySortedBy}
 use Rattle.std.specs.Ordering.{nat_cmp, ordering_then, eq_by_cmp, is_eq, is_lt}
 use Rattle.std.specs.declared.cmp.Ordering.{Ordering}
 use Rattle.std.specs.declared.cmp.Ordering.TheVariants.{Less, Equal, Greater}
-use Rattle.std.proofs.lemmas.Bool.{false≢true}
+use Rattle.std.proofs.lemmas.Bool.{cases_lt, false≢true}
 use Rattle.std.proofs.lemmas.Cmp.{tied_itself}
 use Rattle.std.proofs.lemmas.Map.Lookups.{exact_unsigned}
 use Rattle.std.proofs.lemmas.Bool.Decides.{nat_tests}
-use Rattle.std.proofs.lemmas.List.{length-map}
+use Rattle.std.proofs.lemmas.List.{length-map, get_or_default, get_or_read}
 use Rattle.std.proofs.lemmas.List.Sums.{sum_by-cons}
 use Rattle.testing_items.proofs.Members.{none_among}
 use Rattle.testing_items.specs.declared.item.Item.{Item}
@@ -28,17 +28,21 @@ use Rattle.testing_model.specs.FactLists.{FactLists, no_facts}
 use Rattle.testing_model.specs.FactRows.{rows_of, is_row, times, row_order}
 use Rattle.testing_model.specs.Tells.{Tells}
 use Rattle.testing_rules.specs.Covered.{Covered}
-use Rattle.testing_facts.specs.Restored.{Given, restored}
+use Rattle.testing_facts.specs.Restored.{Given, restored, said}
 use Rattle.testing_facts.specs.Uploads.{AreByMessage}
 use Rattle.testing_facts.proofs.Netting.{row_same, row_total}
 use Rattle.testing_kept.specs.Restored.{restored_all}
 use Rattle.testing_kept.proofs.AllCame.{all_came}
 use Rattle.testing_kept.proofs.Said.{logged_tell, restored_tell}
+use Rattle.office_mail.specs.Kept.{Kept}
 use Rattle.office_mail.specs.Lists.{Lists}
+use Rattle.office_keeper.specs.declared.values.Letter.{Letter}
 use Rattle.office_keeper.specs.Content.{Content}
 use Rattle.office_keeper.specs.FactSet.{FactSet, count_in, rows_in}
 use Rattle.office_runs.specs.Known.{AreUnderWay, said_all}
-use Rattle.office_runs.specs.Taking.{HavePutBack, IsItemAt}
+use Rattle.office_runs.specs.Outcome.{item_at}
+use Rattle.office_runs.specs.Taking.{AreNear, HavePutBack, IsItemAt, IsNear, IsSaidItem}
+use Rattle.office_runs.proofs.SaidFacts.{said_at_place}
 
 -- one row more
 
@@ -209,3 +213,42 @@ way_without setup content rows f are is by = record {
   rows = subst (λ (g : FactLists). (r : FactRow) → times r (rows_of g) + times r g.left ≡ count_in content.facts r + times r g.came) (sym is)
       (λ r. let c : times r rows ≡ count_in content.facts r = ap (times r) are ∙ times-rows_in content.facts r in omega (arith, c));
 }
+
+-- what the messages of rows say
+
+-- a kept letter's item
+pub item_kept : (setup : Lists) (kept : Kept) (sender number : ℕ) (letter : Letter) (text : List ℕ) (item : Item) → get kept (sender, letter.number) ≡ Some letter.text → letter.number ≡ number → text ≡ letter.text
+    → IsSaidItem (item_at setup ((sender, number), text)) sender number item → IsItemAt (said_all setup kept) sender number item
+item_kept setup kept sender number letter text item stands at same says =
+    let here : get kept (sender, number) ≡ Some text = ap (λ (k : ℕ). get kept (sender, k)) (sym at) ∙ stands ∙ ap Some (sym same) in
+    ⊎_elim (λ is. inr (said_at_place setup kept (sender, number) text (said sender number item) here is)) (λ none. inl none.1) says
+
+-- rows of one number near a place, in a block of one sender
+pub items_near : (s : Covered) (rows : List FactRow) (start end place next : ℕ) (d : FactRow) (number : ℕ) (item : Item) → ((e : FactRow) → AreNear 256 (get_or rows start e) rows start end) → ((e : FactRow) → AreNear 1 (get_or rows place e) rows place next)
+    → start ≤ place → place < next → next ≤ end → ((e : FactRow) → number ≡ (get_or rows place e).number) → IsItemAt s (get_or rows start d).sender number item
+    → (k : ℕ) (e : FactRow) → place ≤ k → k < next → IsItemAt s (get_or rows k e).sender (get_or rows k e).number item
+items_near s rows start end place next d number item block message from on within is says k e low high =
+    let one = message d k e low high in
+    let all = block d k e (omega (arith, from, low)) (omega (arith, high, within)) in
+    let same : (get_or rows k e).number ≡ number = omega (arith, one.low, one.high, is d) in
+    subst (λ (n : ℕ). IsItemAt s n (get_or rows k e).number item) (sym all.sender) (subst (λ (n : ℕ). IsItemAt s (get_or rows start d).sender n item) (sym same) says)
+
+-- a row is near itself
+pub near_first : (span : ℕ) (rows : List FactRow) (start : ℕ) → 0 < span → start < length rows → (d : FactRow) → AreNear span (get_or rows start d) rows start (start + 1)
+near_first span rows start some low d k e from high =
+    let at : start ≡ k = omega (arith, from, high) in
+    subst (λ (i : ℕ). IsNear span (get_or rows start d) (get_or rows i e)) at
+    (subst (λ (r : FactRow). IsNear span r (get_or rows start e)) (get_or_default rows start e d low)
+    (record { sender = refl; low = omega arith; high = omega (arith, some) }))
+
+-- and so is the next one where it is near
+pub near_more : (span : ℕ) (rows : List FactRow) (start place : ℕ) (first row : FactRow) → start < length rows → place < length rows → first ≡ get_or rows start first → row ≡ get_or rows place row → IsNear span first row
+    → ((d : FactRow) → AreNear span (get_or rows start d) rows start place) → (d : FactRow) → AreNear span (get_or rows start d) rows start (place + 1)
+near_more span rows start place first row low within is at near so d k e from high = ⊎_elim
+    (λ (lt : k < place). so d k e from lt)
+    (λ (le : place ≤ k).
+    let here : place ≡ k = omega (arith, le, high) in
+    subst (λ (i : ℕ). IsNear span (get_or rows start d) (get_or rows i e)) here
+    (subst (λ (r : FactRow). IsNear span r (get_or rows place e)) (get_or_read rows start first low is d)
+    (subst (IsNear span first) (get_or_read rows place row within at e) near)))
+    (cases_lt k place)

@@ -127,9 +127,9 @@ fn known_by(
     facts: Facts,
 ) -> Result<KnownFacts, StoreFault>
     ensures within { IfOk result (λ known. (s : ℕ) → slice_index known.taken.items s ≤ cover_of orders.now s) }
-    ensures way { IfOk result (λ known. (content : Content) → rows.now ≡ rows_in content.facts → HavePutBack (said_all setup.now content.kept) rows.now no_facts facts.entry
+    ensures way { IfOk result (λ known. (content : Content) → rows.now ≡ rows_in content.facts → HavePutBack (said_all setup.now content.kept) rows.now no_facts facts
         → AreUnderWay setup.now content known.facts) }
-    ensures stand { IfOk result (λ known. (content : Content) → rows.now ≡ rows_in content.facts → HavePutBack (said_all setup.now content.kept) rows.now no_facts facts.entry
+    ensures stand { IfOk result (λ known. (content : Content) → rows.now ≡ rows_in content.facts → HavePutBack (said_all setup.now content.kept) rows.now no_facts facts
         → IsOffice setup.now content → FirstOrders setup.now content.kept orders.now → length orders.now ≡ length content.reports + 1
         → StandsFor known.facts (said_within setup.now content.kept (slice_index known.taken.items) (length setup.now.senders)) content.testing) }
     ensures no_store { IfErr result (λ fault. fault ≡ StoreFault.NoMemory) }
@@ -148,7 +148,7 @@ fn known_at(
     orders: &[RunOrder],
     facts: Facts,
 ) -> Result<KnownFacts, StoreFault>
-    ensures same { IfOk result (λ known. known.facts ≡ facts.entry) }
+    ensures same { IfOk result (λ known. known.facts ≡ facts) }
     ensures by_message { IfOk result (λ known. AreByMessage known.facts.uploads) }
     ensures taken { IfOk result (λ known. (s : ℕ) → s < length setup.now.senders → slice_index known.taken.items s ≡ cover_of (take (length orders.now - 1) orders.now) s) }
     ensures within { IfOk result (λ known. (s : ℕ) → slice_index known.taken.items s ≤ cover_of orders.now s) }

@@ -64,10 +64,17 @@ fn retake_all<K: Keeper>(
     ensures looks { ReadsStore K.Keeper keeper.old keeper.new result }
 {
     'senders: for sender in 0..setup.senders().len() {
-        let cover = taken.get(sender).copied().unwrap_or(0);
+        let cover = number_at(taken, sender);
         retake_sender(alloc, setup, keeper, facts, sender as u32, cover, names)?;
     }
     Ok(())
+}
+
+/// The number at a place, 0 where there is none.
+fn number_at(numbers: &[u32], place: usize) -> u32
+    ensures { result ≡ slice_index numbers.now place }
+{
+    numbers.get(place).copied().unwrap_or(0)
 }
 
 /// The facts take the uploads of these names again, of what a sender says up to a number.
@@ -149,11 +156,11 @@ fn retake_text(
     ensures again { OnOk result ((first : FactLists) (s : Covered) → TookAgain names.now s first facts.old → TookAgain names.now (option_to_list (item_at setup.now ((sender, number), text.now)) ++ s) first facts.new) }
     ensures no_store { IfErr result (λ fault. fault ≡ StoreFault.NoMemory) }
 {
-    if is_named(alloc, setup, text, names)? {
-        take_text(alloc, setup, facts, sender, number, text)
-    } else {
-        Ok(())
+    if !is_named(alloc, setup, text, names)? {
+        return Ok(());
     }
+    take_text(alloc, setup, facts, sender, number, text)?;
+    Ok(())
 }
 
 /// Whether a text is an upload of one of these names. It fails for want of memory alone.
