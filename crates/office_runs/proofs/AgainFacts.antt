@@ -103,3 +103,7 @@ said_upload sender number item says m u so is up = ⊎_elim
   where
     same_message : (a b : CoveredItem) → Some a ≡ Some b → a ≡ b
     same_message a b e = cc
+
+-- the upload of a message that is said
+pub item_upload : (m : CoveredItem) (u : UploadIn) (o : CoveredItem) → Some o ≡ Some m → upload_of m ≡ Some u → upload_of o ≡ Some u
+item_upload m u o is up = let same : o ≡ m = cc in ap upload_of same ∙ up
