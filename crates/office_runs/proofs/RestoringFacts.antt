@@ -137,7 +137,7 @@ none_below x (e ∷ es) h =
     let apart : is_row x e.0 ≡ false = same_test (is_row x e.0) refl (less_apart (row_order x e.0) (t_first (is_lt (row_order x e.0)) (below_all row_order x es) h)) in
     let rest = none_below x es (t_second (is_lt (row_order x e.0)) (below_all row_order x es) h) in
     let sum = sum_by-cons (λ y. cond (is_row x y) 1 0) e.0 (map (λ d. d.0) es) in
-    let none : cond (is_row x e.0) 1 0 ≡ 0 = ap (λ b. cond b 1 0) apart in
+    let none : ◌≡◌ {A = ℕ} (cond (is_row x e.0) 1 0) 0 = ap (λ b. cond b 1 0) apart in
     omega (arith, sum, none, rest)
   where
     same_test : (b : Bool) → is_row x e.0 ≡ b → eq_by_cmp row_order x e.0 ≡ false → b ≡ false
