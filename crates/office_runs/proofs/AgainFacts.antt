@@ -1,13 +1,18 @@
 -- Uploads that are taken again.
-use Rattle.std.proofs.Common.{◌≡◌, ◌⊎◌, ⊎_elim, inl, inr, ℕ, List, [], ◌++◌, Option, Some, None, option_to_list, sym, ap, subst, ◌∙◌, refl}
-use Rattle.std.specs.Prelude.{Contains}
+use Rattle.std.proofs.Common.{◌≡◌, ◌⊎◌, ⊎_elim, inl, inr, ℕ, ◌+◌, ◌<◌, Bool, true, false, List, [], ◌∷◌, ◌++◌, length, drop, get_or, Option, Some, None, option_to_list, sym, ap, subst, ◌∙◌, refl}
+use Rattle.std.specs.Prelude.{Contains, ◌==◌}
+use Rattle.std.specs.Str.{bytes_eq}
+use Rattle.std.proofs.lemmas.Bool.{false≢true}
+use Rattle.std.proofs.lemmas.List.{drop_more, nil_from_length}
+use Rattle.std.proofs.lemmas.Slice.Eq.{bytes_eq-Decides}
 use Rattle.std.proofs.lemmas.List.Elements.{Contains-append_left, Contains-append_right, Contains-append_cases}
 use Rattle.testing_items.proofs.Members.{none_among}
 use Rattle.testing_items.specs.Words.{Text}
 use Rattle.testing_items.specs.declared.item.Item.{Item}
 use Rattle.testing_facts.specs.Restored.{said}
 use Rattle.testing_model.proofs.SameFacts.{stands-same}
-use Rattle.testing_model.proofs.Sets.{given_by, gives}
+use Rattle.testing_kept.proofs.Naming.{same_nat}
+use Rattle.testing_model.proofs.Sets.{first_or_rest, given_by, gives}
 use Rattle.testing_model.specs.declared.facts.UploadIn.{UploadIn}
 use Rattle.testing_rules.specs.Covered.{Covered, CoveredItem, upload_of, uploads_in}
 use Rattle.testing_rules.specs.FactLists.{FactLists}
@@ -91,8 +96,8 @@ pub again_stand : (names : List Text) (s : Covered) (first now : FactLists) → 
 again_stand names s first now one so before after fallen h = beside_new now s names before after fallen so.there (so.stand s before one (λ m c. c) h)
 
 -- and where no name fell
-pub none_stand : (names : List Text) (s : Covered) (f : FactLists) → names ≡ [] → (before after : Suite) → AreFallen names before after → StandsFor f s before → StandsFor f s after
-none_stand names s f none before after fallen h = beside_new f s names before after fallen (λ u c name. none_among u.source (subst (λ (l : List Text). Contains l u.source) none name)) h
+pub none_stand : (names : List Text) (s : Covered) (f : FactLists) → (length names == 0) ≡ true → (before after : Suite) → AreFallen names before after → StandsFor f s before → StandsFor f s after
+none_stand names s f none before after fallen h = beside_new f s names before after fallen (λ u c name. none_among u.source (subst (λ (l : List Text). Contains l u.source) (nil_from_length names (same_nat (length names) 0 none)) name)) h
 
 -- the upload of a message is that of its item
 pub said_upload : (sender number : ℕ) (item : Item) (says : Option CoveredItem) (m : CoveredItem) (u : UploadIn) → IsSaidItem says sender number item → says ≡ Some m → upload_of m ≡ Some u → upload_of (said sender number item) ≡ Some u
@@ -103,3 +108,16 @@ said_upload sender number item says m u so is up = ⊎_elim
   where
     same_message : (a b : CoveredItem) → Some a ≡ Some b → a ≡ b
     same_message a b e = cc
+
+-- the upload of a message that is said
+pub item_upload : (m : CoveredItem) (u : UploadIn) (o : CoveredItem) → Some o ≡ Some m → upload_of m ≡ Some u → upload_of o ≡ Some u
+item_upload m u o is up = let same : o ≡ m = cc in ap upload_of same ∙ up
+
+-- a name that isn't the next one is among the rest
+pub name_later : (names : List Text) (i : ℕ) (other name : Text) → i < length names → other ≡ get_or names i other → bytes_eq other name ≡ false → Contains (drop i names) name → Contains (drop (i + 1) names) name
+name_later names i other name low is apart c =
+    let more : drop i names ≡ other ∷ drop (i + 1) names = drop_more names i other low ∙ ap (λ (o : Text). o ∷ drop (i + 1) names) (sym is) in
+    elim (first_or_rest other (drop (i + 1) names) name (subst (λ (l : List Text). Contains l name) more c)) [
+      | inl same ↦ absurd (false≢true (sym apart ∙ ap (λ (n : Text). bytes_eq other n) (sym same) ∙ (bytes_eq-Decides other other).1 refl))
+      | inr among ↦ among
+    ]

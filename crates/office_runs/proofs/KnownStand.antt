@@ -62,7 +62,7 @@ among_counted r [] c = none_among r c
 among_counted r (x ∷ xs) c =
     let sum = sum_by-cons (λ y. cond (is_row r y) 1 0) x xs in
     elim (first_or_rest x xs r c) [
-      | inl e ↦ let one : cond (is_row r x) 1 0 ≡ 1 = ap (λ y. cond (is_row r y) 1 0) e ∙ ap (λ b. cond b 1 0) (row_itself r) in omega (arith, sum, one)
+      | inl e ↦ let one : ◌≡◌ {A = ℕ} (cond (is_row r x) 1 0) 1 = ap (λ y. cond (is_row r y) 1 0) e ∙ ap (λ b. cond b 1 0) (row_itself r) in omega (arith, sum, one)
       | inr among ↦ let rest = among_counted r xs among in omega (arith, sum, rest)
     ]
 

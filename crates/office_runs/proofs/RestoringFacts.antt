@@ -7,11 +7,11 @@ use Rattle.std.specs.List.Sorted.{IsStrictlySortedBy}
 use Rattle.std.specs.Ordering.{nat_cmp, ordering_then, eq_by_cmp, is_eq, is_lt}
 use Rattle.std.specs.declared.cmp.Ordering.{Ordering}
 use Rattle.std.specs.declared.cmp.Ordering.TheVariants.{Less, Equal, Greater}
-use Rattle.std.proofs.lemmas.Bool.{cases_lt, false≢true}
+use Rattle.std.proofs.lemmas.Bool.{false≢true}
 use Rattle.std.proofs.lemmas.Cmp.{tied_itself}
 use Rattle.std.proofs.lemmas.Map.Lookups.{exact_unsigned}
 use Rattle.std.proofs.lemmas.Bool.Decides.{nat_tests}
-use Rattle.std.proofs.lemmas.List.{length-map, get_or_default, get_or_read}
+use Rattle.std.proofs.lemmas.List.{length-map}
 use Rattle.std.proofs.lemmas.List.Sums.{sum_by-cons}
 use Rattle.testing_items.proofs.Members.{none_among}
 use Rattle.testing_items.specs.declared.item.Item.{Item}
@@ -41,7 +41,7 @@ use Rattle.office_keeper.specs.Content.{Content}
 use Rattle.office_keeper.specs.FactSet.{FactSet, count_in, rows_in}
 use Rattle.office_runs.specs.Known.{AreUnderWay, said_all}
 use Rattle.office_runs.specs.Outcome.{item_at}
-use Rattle.office_runs.specs.Taking.{AreNear, HavePutBack, IsItemAt, IsNear, IsSaidItem}
+use Rattle.office_runs.specs.Taking.{AreNear, HavePutBack, IsItemAt, IsSaidItem}
 use Rattle.office_runs.proofs.SaidFacts.{said_at_place}
 
 -- one row more
@@ -134,18 +134,20 @@ less_apart Greater h = absurd h
 none_below : (x : FactRow) (es : List (FactRow × ⊤)) → T (below_all row_order x es) → times x (map (λ e. e.0) es) ≡ 0
 none_below x [] h = refl
 none_below x (e ∷ es) h =
-    let other : is_row x e.0 ≡ false = same_test (is_row x e.0) refl (less_apart (row_order x e.0) (t_first (is_lt (row_order x e.0)) (below_all row_order x es) h)) in
+    let apart : is_row x e.0 ≡ false = same_test (is_row x e.0) refl (less_apart (row_order x e.0) (t_first (is_lt (row_order x e.0)) (below_all row_order x es) h)) in
     let rest = none_below x es (t_second (is_lt (row_order x e.0)) (below_all row_order x es) h) in
-    sum_by-cons (λ y. cond (is_row x y) 1 0) e.0 (map (λ d. d.0) es) ∙ ap (λ b. cond b 1 0 + times x (map (λ d. d.0) es)) other ∙ rest
+    let sum = sum_by-cons (λ y. cond (is_row x y) 1 0) e.0 (map (λ d. d.0) es) in
+    let none : ◌≡◌ {A = ℕ} (cond (is_row x e.0) 1 0) 0 = ap (λ b. cond b 1 0) apart in
+    omega (arith, sum, none, rest)
   where
     same_test : (b : Bool) → is_row x e.0 ≡ b → eq_by_cmp row_order x e.0 ≡ false → b ≡ false
-    same_test true is no = absurd (false≢true (sym no ∙ tied_rows x e.0 true is))
-    same_test false is no = refl
+    same_test true is other = absurd (false≢true (sym other ∙ tied_rows x e.0 true is))
+    same_test false is other = refl
 
 once_at : (r x : FactRow) (b : Bool) (es : List (FactRow × ⊤)) → is_row r x ≡ b → (b ≡ true → times r (map (λ e. e.0) es) ≡ 0) → times r (map (λ e. e.0) es) ≡ cond (is_some (find row_order r es)) 1 0
     → cond b 1 0 + times r (map (λ e. e.0) es) ≡ cond (is_some (cond b (Some tt) (find row_order r es))) 1 0
 once_at r x true es e none rest = omega (arith, none refl)
-once_at r x false es e none rest = rest
+once_at r x false es e none rest = omega (arith, rest)
 
 once_in : (r : FactRow) (es : List (FactRow × ⊤)) → T (is_sorted row_order es) → times r (map (λ e. e.0) es) ≡ cond (is_some (find row_order r es)) 1 0
 once_in r [] s = refl
@@ -224,31 +226,16 @@ item_kept setup kept sender number letter text item stands at same says =
     ⊎_elim (λ is. inr (said_at_place setup kept (sender, number) text (said sender number item) here is)) (λ none. inl none.1) says
 
 -- rows of one number near a place, in a block of one sender
-pub items_near : (s : Covered) (rows : List FactRow) (start end place next : ℕ) (d : FactRow) (number : ℕ) (item : Item) → ((e : FactRow) → AreNear 256 (get_or rows start e) rows start end) → ((e : FactRow) → AreNear 1 (get_or rows place e) rows place next)
-    → start ≤ place → place < next → next ≤ end → ((e : FactRow) → number ≡ (get_or rows place e).number) → IsItemAt s (get_or rows start d).sender number item
+pub items_near : (s : Covered) (rows : List FactRow) (start end place next : ℕ) (d z : FactRow) (item : Item) → ((e : FactRow) → AreNear 256 (get_or rows start e) rows start end) → ((e : FactRow) → AreNear 1 (get_or rows place e) rows place next)
+    → start ≤ place → next ≤ end → IsItemAt s (get_or rows start d).sender (get_or rows place z).number item
     → (k : ℕ) (e : FactRow) → place ≤ k → k < next → IsItemAt s (get_or rows k e).sender (get_or rows k e).number item
-items_near s rows start end place next d number item block message from on within is says k e low high =
-    let one = message d k e low high in
+items_near s rows start end place next d z item block message from within says k e low high =
+    let one = message z k e low high in
     let all = block d k e (omega (arith, from, low)) (omega (arith, high, within)) in
-    let same : (get_or rows k e).number ≡ number = omega (arith, one.low, one.high, is d) in
+    let same : (get_or rows k e).number ≡ (get_or rows place z).number = omega (arith, one.low, one.high) in
     subst (λ (n : ℕ). IsItemAt s n (get_or rows k e).number item) (sym all.sender) (subst (λ (n : ℕ). IsItemAt s (get_or rows start d).sender n item) (sym same) says)
 
--- a row is near itself
-pub near_first : (span : ℕ) (rows : List FactRow) (start : ℕ) → 0 < span → start < length rows → (d : FactRow) → AreNear span (get_or rows start d) rows start (start + 1)
-near_first span rows start some low d k e from high =
-    let at : start ≡ k = omega (arith, from, high) in
-    subst (λ (i : ℕ). IsNear span (get_or rows start d) (get_or rows i e)) at
-    (subst (λ (r : FactRow). IsNear span r (get_or rows start e)) (get_or_default rows start e d low)
-    (record { sender = refl; low = omega arith; high = omega (arith, some) }))
-
--- and so is the next one where it is near
-pub near_more : (span : ℕ) (rows : List FactRow) (start place : ℕ) (first row : FactRow) → start < length rows → place < length rows → first ≡ get_or rows start first → row ≡ get_or rows place row → IsNear span first row
-    → ((d : FactRow) → AreNear span (get_or rows start d) rows start place) → (d : FactRow) → AreNear span (get_or rows start d) rows start (place + 1)
-near_more span rows start place first row low within is at near so d k e from high = ⊎_elim
-    (λ (lt : k < place). so d k e from lt)
-    (λ (le : place ≤ k).
-    let here : place ≡ k = omega (arith, le, high) in
-    subst (λ (i : ℕ). IsNear span (get_or rows start d) (get_or rows i e)) here
-    (subst (λ (r : FactRow). IsNear span r (get_or rows place e)) (get_or_read rows start first low is d)
-    (subst (IsNear span first) (get_or_read rows place row within at e) near)))
-    (cases_lt k place)
+-- facts that are known by rows that were put back
+pub known_whole : (setup : Lists) (content : Content) (rows : List FactRow) (f known : FactLists) → known ≡ f → AreByMessage known.uploads → length (rows_of f) ≡ length rows → rows ≡ rows_in content.facts → HavePutBack (said_all setup content.kept) rows no_facts f → IsWhole setup content known
+known_whole setup content rows f known same by size are back =
+    subst (IsWhole setup content) (sym same) (whole_back setup content rows f are size (subst (λ (g : FactLists). AreByMessage g.uploads) same by) back)

@@ -4,6 +4,7 @@
 ghost use Rattle.std.specs.Prelude.{◌≡◌, ◌≢◌, ℕ, ◌+◌, ◌<◌, ◌≤◌, ◌++◌, ◌-◌, [], Contains, Some, take, IsTrue, IfOk, IfErr, IfSome, OnOk, length, option_to_list, slice_index};
 ghost use Rattle.std.specs.FinMap.{get};
 ghost use Rattle.testing_model.specs.FactLists.{no_facts};
+ghost use Rattle.testing_model.specs.FactRows.{rows_of};
 ghost use Rattle.testing_model.specs.declared.facts.UploadIn.{UploadIn};
 ghost use Rattle.testing_rules.specs.Covered.{Covered, CoveredItem, upload_of};
 ghost use Rattle.testing_rules.specs.StandsFor.{StandsFor, StandsForNone};
@@ -134,11 +135,18 @@ fn known_by(
         → StandsFor known.facts (said_within setup.now content.kept (slice_index known.taken.items) (length setup.now.senders)) content.testing) }
     ensures no_store { IfErr result (λ fault. fault ≡ StoreFault.NoMemory) }
 {
-    if facts.count() == rows.len() as u128 {
+    if has_all(&facts, rows) {
         Ok(known_at(alloc, setup, orders, facts)?)
     } else {
         Ok(known_without(alloc, rows)?)
     }
+}
+
+/// Whether the facts have as many rows as these.
+fn has_all(facts: &Facts, rows: &[FactRow]) -> bool
+    ensures { IsTrue result → length (rows_of facts.now) ≡ length rows.now }
+{
+    facts.count() == rows.len() as u128
 }
 
 /// Facts that are known of the runs of all but the last of these orders. It fails for want of memory alone.

@@ -142,7 +142,7 @@ fn put_letters(
     'messages: while place < end {
         let next = rows_end(rows, place, end, 1);
         let item = item_under(alloc, setup, letters, rows[place].number)?;
-        put_facts(facts, &item, rows, place, next)?;
+        put_item(facts, item, rows, place, next)?;
         place = next;
     }
     Ok(())
@@ -210,6 +210,23 @@ fn no_item(fault: MailFault) -> Result<Item, StoreFault>
 }
 
 /// Puts the rows from a place to another back, which all name the message of this item.
+fn put_item(
+    facts: &mut Facts,
+    item: Item,
+    rows: &[FactRow],
+    start: usize,
+    end: usize,
+) -> Result<(), NoMemory>
+    requires some { start < end }
+    requires within { end ≤ length rows.now }
+    ensures back { OnOk result ((s : Covered) (first : FactLists)
+        → ((k : ℕ) (d : ARow) → start ≤ k → k < end → IsItemAt s (slice_index_or rows.now k d).sender (slice_index_or rows.now k d).number item)
+        → HavePutBack s (take start rows.now) first facts.old → HavePutBack s (take end rows.now) first facts.new) }
+{
+    put_facts(facts, &item, rows, start, end)
+}
+
+/// The same of an item that is lent.
 fn put_facts(
     facts: &mut Facts,
     item: &Item,

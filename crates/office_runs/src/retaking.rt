@@ -1,7 +1,7 @@
 //! Uploads that are taken again, since testing lost their source or has it in a lower version.
 #![tactic(auto, using(crate::proofs::LastFacts::lasting))]
 
-ghost use Rattle.std.specs.Prelude.{◌≡◌, ◌+◌, ◌<◌, ◌≤◌, ◌++◌, ℕ, Some, IsTrue, IfErr, OnOk, Contains, length, option_to_list, slice_index};
+ghost use Rattle.std.specs.Prelude.{◌≡◌, ◌+◌, ◌<◌, ◌≤◌, ◌++◌, ℕ, Some, IsTrue, IfOk, IfErr, OnOk, Contains, length, option_to_list, slice_index};
 ghost use Rattle.std.specs.FinMap.{get};
 ghost use Rattle.testing_rules.specs.Covered.{Covered, CoveredItem, upload_of};
 ghost use Rattle.testing_rules.specs.FactLists.{FactLists};
@@ -156,7 +156,8 @@ fn retake_text(
     ensures again { OnOk result ((first : FactLists) (s : Covered) → TookAgain names.now s first facts.old → TookAgain names.now (option_to_list (item_at setup.now ((sender, number), text.now)) ++ s) first facts.new) }
     ensures no_store { IfErr result (λ fault. fault ≡ StoreFault.NoMemory) }
 {
-    if !is_named(alloc, setup, text, names)? {
+    let named = is_named(alloc, setup, text, names)?;
+    if !named {
         return Ok(());
     }
     take_text(alloc, setup, facts, sender, number, text)?;

@@ -15,7 +15,7 @@ pub senders-preserved : goal.senders-preserved
 senders-preserved c =
     let so = c.senders.invariant in
     let covers : ℕ → ℕ = cover_of c.args.orders.now in
-    let pushed = pushed_covers c.senders.taken.items c.push.new.taken.items c.cover_of.result c.senders.sender covers so.size so.same c.in_ok-push.ensures.items c.cover_of.ensures in
+    let pushed = pushed_covers c.senders.taken.items c.push.new.self.items c.cover_of.result c.senders.sender covers so.size so.same c.in_ok-push.ensures.items c.cover_of.ensures in
     record { size = pushed.0; same = pushed.1 }
 
 pub returns-clause-covers : goal.returns-clause-covers

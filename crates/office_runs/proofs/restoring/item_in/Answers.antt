@@ -17,7 +17,7 @@ returns-in-Ok-clause-item c =
     let setup = c.args.setup.now in
     let text = c.args.text.now in
     let message = c.in-Ok.message in
-    λ p. subst (λ o. IsSaidItem o p.0 p.1 c.item_of-in-Ok.result) (sym (item_is setup p text (Ok message) (ok_read setup text message c.in-Ok.ensures.exact))) (c.item_of-in-Ok.ensures p)
+    λ p. subst (λ o. IsSaidItem o p.0 p.1 c.item_of.result) (sym (item_is setup p text (Ok message) (ok_read setup text message c.in-Ok.ensures.exact))) (c.item_of.ensures p)
 
 pub returns-in-Err-clause-item : goal.returns-in-Err-clause-item
 returns-in-Err-clause-item c =

@@ -1,5 +1,4 @@
-use Rattle.std.proofs.Common.{◌≡◌, ℕ, ◌<◌, ◌≤◌, List, get_or, take, sym, ap, subst, ◌∙◌, arith}
-use Rattle.std.proofs.lemmas.List.{get_or_read}
+use Rattle.std.proofs.Common.{◌≡◌, ℕ, List, get_or, take, subst, arith}
 use Rattle.testing_model.specs.declared.fact_row.FactRow.{FactRow}
 use Rattle.testing_rules.specs.Covered.{Covered}
 use Rattle.office_runs.specs.Known.{said_all}
@@ -20,16 +19,13 @@ messages-preserved c =
     let end = c.rows_end-next.ensures in
     let rows : List FactRow = c.args.rows.now in
     let place = c.messages.place in
-    let at = c.index-rows-place.result in
     record {
       from = omega (arith, so.from, end.on);
       within = end.within;
       back = λ kept d first own was.
           let s : Covered = said_all c.args.setup.now kept in
-          c.in_ok-put_facts.ensures.back s first
-          (items_near s rows c.args.start c.args.end place c.rows_end-next.result d at.number c.in_ok-item.item c.requires.near end.near so.from end.on end.within
-          (λ e. ap (λ (r : FactRow). r.number) (get_or_read rows place at (omega (arith, end.on, end.within, c.requires.within)) c.index-rows-place.is e))
-          (c.in_ok-item.ensures.item kept (get_or rows c.args.start d).sender own))
+          c.in_ok-put_item.ensures.back s first
+          (items_near s rows c.args.start c.args.end place c.rows_end-next.result d _ c.in_ok-item.item c.requires.near end.near so.from end.within (c.in_ok-item.ensures.item kept (get_or rows c.args.start d).sender own))
           (so.back kept d first own was);
     }
 

@@ -46,7 +46,7 @@ pub returns-clause-again : goal.returns-clause-again
 returns-clause-again g c = λ trusted.
     let setup = c.args.setup.now in
     let content : Content = g.K.Keeper.content c.args.keeper.now in
-    let all : c.senders.sender ≡ length setup.senders = omega (arith, c.senders-test.false, c.senders.auto.sender-end, c.senders.auto.sender-le, ap length c.senders-sender-end.ensures.same) in
+    let all : c.senders.sender ≡ length setup.senders = omega (arith, c.senders-test.false, c.senders.auto.sender-end, ap length c.senders-sender-end.ensures.same) in
     subst (λ (n : ℕ). TookAgain c.args.names.now (said_within setup content.kept (slice_index c.args.taken.now) n) c.args.facts.now c.senders.facts) all (c.senders.invariant.again trusted)
 
 pub returns-clause-way : goal.returns-clause-way

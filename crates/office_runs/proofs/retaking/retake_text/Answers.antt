@@ -11,8 +11,8 @@ returns-clause-again c = λ first s h.
     let took = c.in_ok-take_text.ensures in
     again_taken c.args.names.now (item_at c.args.setup.now (p, c.args.text.now)) s first c.args.facts.now c.take_text.new.facts took.taken took.kept took.there h
 
-pub returns-then-clause-again : goal.returns-then-clause-again
-returns-then-clause-again c = λ first s h.
+pub returns-then-not-named-clause-again : goal.returns-then-not-named-clause-again
+returns-then-not-named-clause-again c = λ first s h.
     let p : Place = (c.args.sender, c.args.number) in
     again_passed c.args.names.now (item_at c.args.setup.now (p, c.args.text.now)) s first c.args.facts.now
-    (λ m u is says name. ?) h
+    (λ m u is says name. false≢true (sym c.if-not-named.true ∙ c.in_ok-named.ensures.named p m u is says name)) h
