@@ -33,9 +33,9 @@ looked_then keeper old mid new so next = record {
   counted = next.counted ∙ so.counted;
 }
 
-counted_fails : {V W : Type 0} (fault : StoreFault) (n m k : ℕ) → m ≡ n → Counted {T = V} m k (Err fault) → Counted {T = W} n k (Err fault)
-counted_fails NoMemory n m k e h = h ∙ e
-counted_fails Store n m k e h = subst (λ (x : ℕ). HasRisen x k) e h
+counted_fails : (V W : Type 0) (fault : StoreFault) (n m k : ℕ) → m ≡ n → Counted {T = V} m k (Err fault) → Counted {T = W} n k (Err fault)
+counted_fails V W NoMemory n m k e h = h ∙ e
+counted_fails V W Store n m k e h = subst (λ (x : ℕ). HasRisen x k) e h
 
 -- and one that fails
 pub looked_fails : {K V W : Type 0} (keeper : Ghosts K) (old mid new : K) (fault other : StoreFault) (r : Result W StoreFault) → r ≡ Err other → other ≡ fault → Looked keeper old mid → ReadsStore {T = V} keeper mid new (Err fault) → ReadsStore {T = W} keeper old new r
@@ -46,6 +46,6 @@ looked_fails {K} {V} {W} keeper old mid new fault other r is same so next =
       before = λ trusted. so.before (next.before trusted);
       legible = λ trusted was. next.legible trusted (so.legible (next.before trusted) was);
       lasts = lasts_then keeper old mid new false so.lasts next.lasts;
-      counted = counted_fails fault (keeper.refusals old) (keeper.refusals mid) (keeper.refusals new) so.counted next.counted;
+      counted = counted_fails V W fault (keeper.refusals old) (keeper.refusals mid) (keeper.refusals new) so.counted next.counted;
     } in
     subst (λ (s : Result W StoreFault). ReadsStore {T = W} keeper old new s) (sym (is ∙ ap Err same)) failed

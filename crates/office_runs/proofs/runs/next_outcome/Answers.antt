@@ -93,8 +93,8 @@ pub returns-in_err-changes-clause-looks : goal.returns-in_err-changes-clause-loo
 returns-in_err-changes-clause-looks g c =
     let keeper = g.K.Keeper in
     let a = c.args.keeper.now in
-    let b = c.facts-known.new.keeper in
+    let b = c.facts.new.keeper in
     let d = c.next_testing.new.keeper in
     let so = looked_then keeper a b d (looked_then keeper a a b (looked_none keeper a) c.in_ok-known.ensures.looks) c.in_ok-testing.ensures.looks in
     let p = err_from_is_err_and c.from_residual-in_err-changes.result c.from_residual-in_err-changes.ensures.1 in
-    looked_fails keeper a d c.go_with.new.keeper c.in_err-changes.field-0 p.0 c.from_residual-in_err-changes.result p.1 (cc (p.2)) so c.in_err-changes.ensures.looks
+    looked_fails keeper a d c.go_with.new.keeper c.in_err-changes.field-0.0 p.0 c.from_residual-in_err-changes.result p.1 (cc (p.2)) so c.in_err-changes.ensures.looks
