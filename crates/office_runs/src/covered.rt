@@ -10,7 +10,6 @@ ghost use Rattle.testing_rules.specs.Covered.{Covered, CoveredItem, upload_of};
 ghost use Rattle.testing_rules.specs.StandsFor.{StandsFor, StandsForNone};
 ghost use Rattle.testing_rules.specs.Uploads.{AreByMessage};
 ghost use Rattle.testing_rules.specs.Suite.{Suite};
-ghost use Rattle.office_mail.specs.Lists.{Lists};
 ghost use Rattle.office_mail.specs.Runs.{cover_of};
 ghost use Rattle.office_keeper.specs.Content.{Content};
 ghost use Rattle.office_keeper.specs.FactSet.{rows_in};
