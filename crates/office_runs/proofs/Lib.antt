@@ -6,6 +6,8 @@ pub mod DeliverFacts
 pub mod EndFacts
 pub mod FinishFacts
 pub mod GivenFacts
+pub mod KeepingFacts
+pub mod KeptRows
 pub mod KnownStand
 pub mod LastFacts
 pub mod LawFacts
@@ -17,6 +19,7 @@ pub mod ReplayFacts
 pub mod RestoringFacts
 pub mod RiseFacts
 pub mod RunFacts
+pub mod SaidFacts
 pub mod StandFacts
 pub mod TakenFacts
 pub mod TextFacts

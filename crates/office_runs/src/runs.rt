@@ -9,7 +9,8 @@ ghost use Rattle.testing_rules.specs.StandsFor.{StandsFor};
 ghost use Rattle.testing_rules.specs.Watched.{AllWatchedWork};
 ghost use Rattle.office_mail.specs.declared.setup.Role.TheVariants.{Release as TheRelease};
 ghost use Rattle.office_mail.specs.Runs.{IsReady, IsReadyCount, cover_of};
-ghost use Rattle.office_mail.specs.Setup.{place_of_role};
+ghost use Rattle.office_mail.specs.Setup.{count_of, place_of_role, same_role};
+ghost use Rattle.office_keeper.specs.FactSet.{AreHoldable, facts_after};
 ghost use Rattle.office_keeper.specs.Provenance.{AreOwnTexts, IsGiven, KnowsArchs};
 ghost use Rattle.office_replies.specs.Counted.{Counted};
 ghost use Rattle.office_runs.specs.Known.{AreKnown, AreUnderWay};
@@ -17,7 +18,7 @@ ghost use Rattle.office_runs.specs.StaysTrusted.{StaysTrusted};
 ghost use Rattle.office_runs.specs.ReadsStore.{ReadsStore};
 ghost use Rattle.office_runs.specs.Outcome.{outcome_in, outcome_of};
 ghost use Rattle.office_runs.specs.Ready.{FirstOrders, HasEach, HasPlaces, IsCounted};
-ghost use Rattle.office_runs.specs.State.{IsOffice, KeepsFacts};
+ghost use Rattle.office_runs.specs.State.{IsOffice};
 ghost use Rattle.office_runs.specs.Walk.{said_within};
 
 use crate::covered::{KnownFacts, facts};
@@ -117,14 +118,18 @@ fn go_with<K: Keeper>(
 ) -> Result<FactChanges, StoreFault>
     ensures way { K.is_trusted keeper.new → AreUnderWay setup.now (K.content keeper.old) facts.old → OnOk result (AreUnderWay setup.now (K.content keeper.old) facts.new) }
     ensures difference { IfOk result (λ changes. IsDifference facts.new.came facts.new.left changes.put changes.gone) }
+    ensures held { K.is_trusted keeper.new → AreUnderWay setup.now (K.content keeper.old) facts.old → AreOwnTexts setup.now (K.content keeper.old).kept
+        → IfOk result (λ changes. AreHoldable setup.now (facts_after changes (K.content keeper.old).facts)) }
     ensures kept { K.is_trusted keeper.new → StandsFor facts.old (said_within setup.now (K.content keeper.old).kept (slice_index taken.now) (length setup.now.senders)) before.now
         → OnOk result (KeptFacts facts.new (said_within setup.now (K.content keeper.old).kept (slice_index taken.now) (length setup.now.senders)) after.now) }
     ensures looks { ReadsStore K.Keeper keeper.old keeper.new result }
 {
+    has_release(setup);
     let names = fallen(alloc, before, after)?;
     retake(alloc, setup, keeper, facts, taken, &names)?;
     facts.trim(after);
-    Ok(facts.changes()?)
+    let changes = facts.changes()?;
+    Ok(changes)
 }
 
 /// What a run leaves, of which and of those before it these are the orders; and what is known for the next one.
@@ -148,6 +153,7 @@ fn next_outcome<K: Keeper>(
     ensures kept { K.is_trusted keeper.new → IsOffice setup.now (K.content keeper.old) → FirstOrders setup.now (K.content keeper.old).kept orders.now → length orders.now ≡ length (K.content keeper.old).reports + 1
         → IfOk result (λ left. KeptFacts left.1.facts (said_within setup.now (K.content keeper.old).kept (cover_of orders.now) (length setup.now.senders)) left.0.testing) }
     ensures way { K.is_trusted keeper.new → IfOk result (λ left. AreUnderWay setup.now (K.content keeper.old) left.1.facts) }
+    ensures held { K.is_trusted keeper.new → AreOwnTexts setup.now (K.content keeper.old).kept → IfOk result (λ left. AreHoldable setup.now (facts_after left.0.facts (K.content keeper.old).facts)) }
     ensures difference { IfOk result (λ left. IsDifference left.1.facts.came left.1.facts.left left.0.facts.put left.0.facts.gone) }
     ensures taken { IfOk result (λ left. (s : ℕ) → s < length setup.now.senders → slice_index left.1.taken.items s ≡ cover_of orders.now s) }
     ensures looks { ReadsStore K.Keeper keeper.old keeper.new result }
@@ -157,7 +163,7 @@ fn next_outcome<K: Keeper>(
     };
     let mut known = facts(alloc, setup, keeper, before, orders)?;
     let testing = stored::next_testing(keeper)?;
-    let before = testing.copy()?;
+    let earlier = testing.copy()?;
     let left = run_rules(alloc, setup, run, date, &known.facts, testing)?;
     let changes = go_with(
         alloc,
@@ -165,7 +171,7 @@ fn next_outcome<K: Keeper>(
         keeper,
         &mut known.facts,
         &known.taken,
-        &before,
+        &earlier,
         &left.testing,
     )?;
     let done = Finished {
@@ -177,13 +183,28 @@ fn next_outcome<K: Keeper>(
     Ok((done, known))
 }
 
-/// The place of the sender of the release team.
+/// The release team has one sender.
+fn has_release(setup: &Setup)
+    ensures { count_of TheRelease setup.now.senders ≡ 1 }
+{
+    let _ = setup.archs();
+}
+
+/// Whether the release team has this role.
+fn is_release(role: Role) -> bool
+    ensures { result ≡ same_role TheRelease role }
+{
+    matches!(role, Role::Release)
+}
+
+/// The place of the release team's sender.
 fn release_place(setup: &Setup) -> u32
     ensures { result ≡ place_of_role TheRelease setup.now.senders }
 {
+    let senders = setup.senders();
     let mut place = 0;
-    'senders: for sender in setup.senders() {
-        if matches!(sender.role, Role::Release) {
+    for sender in senders {
+        if is_release(sender.role) {
             return place;
         }
         place += 1;

@@ -10,3 +10,4 @@ pub mod Shifting
 pub mod KeyShifts
 pub mod ShiftLists
 pub mod PlacedAt
+pub mod Saying

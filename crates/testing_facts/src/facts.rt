@@ -1,6 +1,6 @@
 //! Facts: what a run has to know of the covered messages.
 
-ghost use Rattle.std.specs.Prelude.{◌≡◌, ◌==◌, ◌∷◌, ℕ, [], Some, Contains, IfOk, OnOk, OnErr, find, length};
+ghost use Rattle.std.specs.Prelude.{◌≡◌, ◌==◌, ◌∷◌, ℕ, [], Some, Contains, IfOk, OnOk, OnErr, find, length, ◌≤◌, vec_len, vec_capacity};
 ghost use Rattle.testing_model.specs.Boxed.{unboxed};
 ghost use Rattle.testing_model.specs.Covered.{Covered, CoveredItem, upload_of, drop_of, bug_of, hint_of, unhint_of, delays_of, builds_of};
 ghost use Rattle.testing_facts.specs.Entries.{with_entry, noted};
@@ -104,7 +104,8 @@ impl Facts {
 
     /// The facts of no message, with what came and what left before.
     fn of_log(alloc: Global, log: Log) -> Facts
-        ensures { result ≡ record no_facts { came = log.entry.came.items; left = log.entry.left.items } }
+        requires room { vec_len log.left ≤ vec_capacity log.left }
+        ensures { result ≡ record no_facts { came = log.came.items; left = log.left.items } }
     {
         Facts {
             alloc,

@@ -58,11 +58,12 @@ impl Log {
     pub fn of_left(alloc: Global, rows: &[FactRow]) -> Result<Log, NoMemory>
         ensures came { IfOk result (λ log. log.came.items ≡ []) }
         ensures left { IfOk result (λ log. log.left.items ≡ rows.now) }
+        ensures room { IfOk result (λ log. vec_len log.left ≤ vec_capacity log.left) }
     {
-        Ok(Log {
-            came: Vec::new(alloc),
-            left: rows.to_vec(alloc)?,
-        })
+        let mut log = Log::new(alloc);
+        log.left.extend_from_slice(rows)?;
+        log.reserve(0, 0)?;
+        Ok(log)
     }
 
     /// Makes room for so many more rows on each side, and for those of so many uploads among those that left.

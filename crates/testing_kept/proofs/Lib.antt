@@ -7,3 +7,5 @@ pub mod Naming
 pub mod Orderly
 pub mod Restoring
 pub mod Telling
+pub mod Once
+pub mod Said

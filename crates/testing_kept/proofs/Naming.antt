@@ -34,46 +34,46 @@ module _ (f : FactLists) where
   last : List FactRow
   last = map delays_row (option_to_list f.delays)
 
-  abbrev from8 : List FactRow
+  abbrev pub from8 : List FactRow
   from8 = map delays_row (option_to_list f.delays)
 
-  abbrev from7 : List FactRow
+  abbrev pub from7 : List FactRow
   from7 = map unhint_row f.unhints ++ from8
 
-  abbrev from6 : List FactRow
+  abbrev pub from6 : List FactRow
   from6 = map hint_row f.hints ++ from7
 
-  abbrev from5 : List FactRow
+  abbrev pub from5 : List FactRow
   from5 = map bug_row f.bugs ++ from6
 
-  abbrev from4 : List FactRow
+  abbrev pub from4 : List FactRow
   from4 = map drop_row f.drops ++ from5
 
-  abbrev from3 : List FactRow
+  abbrev pub from3 : List FactRow
   from3 = map build_row f.rows ++ from4
 
-  abbrev from2 : List FactRow
+  abbrev pub from2 : List FactRow
   from2 = map upload_row f.uploads ++ from3
 
-  low8 : (r : FactRow) → Contains from8 r → 8 ≤ r.kind
+  pub low8 : (r : FactRow) → Contains from8 r → 8 ≤ r.kind
   low8 r c = let b = mapped_from delays_row (option_to_list f.delays) r c in let e = ap (λ (x : FactRow). x.kind) b.2 in omega (arith, e)
 
-  low7 : (r : FactRow) → Contains from7 r → 7 ≤ r.kind
+  pub low7 : (r : FactRow) → Contains from7 r → 7 ≤ r.kind
   low7 = low unhint_row 7 (λ b. refl) f.unhints from8 low8
 
-  low6 : (r : FactRow) → Contains from6 r → 6 ≤ r.kind
+  pub low6 : (r : FactRow) → Contains from6 r → 6 ≤ r.kind
   low6 = low hint_row 6 (λ b. refl) f.hints from7 low7
 
-  low5 : (r : FactRow) → Contains from5 r → 5 ≤ r.kind
+  pub low5 : (r : FactRow) → Contains from5 r → 5 ≤ r.kind
   low5 = low bug_row 5 (λ b. refl) f.bugs from6 low6
 
-  low4 : (r : FactRow) → Contains from4 r → 4 ≤ r.kind
+  pub low4 : (r : FactRow) → Contains from4 r → 4 ≤ r.kind
   low4 = low drop_row 4 (λ b. refl) f.drops from5 low5
 
-  low3 : (r : FactRow) → Contains from3 r → 3 ≤ r.kind
+  pub low3 : (r : FactRow) → Contains from3 r → 3 ≤ r.kind
   low3 = low build_row 3 (λ b. refl) f.rows from4 low4
 
-  low2 : (r : FactRow) → Contains from2 r → 2 ≤ r.kind
+  pub low2 : (r : FactRow) → Contains from2 r → 2 ≤ r.kind
   low2 = low upload_row 2 (λ b. refl) f.uploads from3 low3
 
   -- what stands from a kind on

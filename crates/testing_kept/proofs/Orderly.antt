@@ -25,7 +25,7 @@ module _ {A K : Type 0} (key : A → K) {cmp : K → K → Ordering} (o : IsTota
   abbrev pub HasOneOfKey : List A → Type 0
   HasOneOfKey xs = (x y : A) → Contains xs x → Contains xs y → cmp (key x) (key y) ≡ Equal → x ≡ y
 
-  above_has : (k : K) (xs : List A) (z : A) → AllByRecursion (λ j. cmp k j ≡ Less) (map key xs) → Contains xs z → cmp k (key z) ≡ Less
+  pub above_has : (k : K) (xs : List A) (z : A) → AllByRecursion (λ j. cmp k j ≡ Less) (map key xs) → Contains xs z → cmp k (key z) ≡ Less
   above_has k [] z a c = none_among z c
   above_has k (x ∷ xs) z a c = elim (first_or_rest x xs z c) [
     | inl e ↦ ap (λ w. cmp k (key w)) (sym e) ∙ a.0
@@ -35,7 +35,7 @@ module _ {A K : Type 0} (key : A → K) {cmp : K → K → Ordering} (o : IsTota
   less_not_equal : {P : Type 0} (j k : K) → cmp j k ≡ Less → cmp j k ≡ Equal → P
   less_not_equal j k l e = let no : Less ≡ Equal = sym l ∙ e in absurd (let never : ⊥ = cc in never)
 
-  not_itself : {P : Type 0} (k : K) → cmp k k ≡ Less → P
+  pub not_itself : {P : Type 0} (k : K) → cmp k k ≡ Less → P
   not_itself k l = less_not_equal k k l (tied_itself o k)
 
   turned_equal : (j k : K) → cmp j k ≡ Equal → cmp k j ≡ Equal

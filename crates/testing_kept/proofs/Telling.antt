@@ -44,7 +44,7 @@ module _ {B : Type 0} (row : B → FactRow) (n : ℕ) (kind : (b : B) → (row b
 
 module _ (s : Covered) (one : HasOneOfEach s) where
   -- builds of a set are told by their rows
-  told_build : (x y : BuildIn) → Contains (builds_in s) x → Contains (builds_in s) y → build_row x ≡ build_row y → x ≡ y
+  pub told_build : (x y : BuildIn) → Contains (builds_in s) x → Contains (builds_in s) y → build_row x ≡ build_row y → x ≡ y
   told_build x y c d e =
       let m = spread_from builds_of s x c in
       let o = spread_from builds_of s y d in

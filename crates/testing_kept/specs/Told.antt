@@ -20,7 +20,10 @@ RestoredTell = (x : Given) (f : FactLists) (s : Covered) → Tells f s → Conta
 abbrev pub AllRestoredTell : Type 0
 AllRestoredTell = (xs : List Given) (f : FactLists) (s : Covered) → Tells f s → ((x : Given) → Contains xs x → Contains s (message_of x)) → Tells (restored_all xs f) s
 
--- They say trimmed facts too.
+-- They say them with other rows that came and left, and trimmed.
+abbrev pub LoggedTell : Type 0
+LoggedTell = (came left : List FactRow) (f : FactLists) (s : Covered) → Tells f s → Tells (record f { came = came; left = left }) s
+
 abbrev pub TrimmedTell : Type 0
 TrimmedTell = (t : Suite) (f : FactLists) (s : Covered) → Tells f s → Tells (trimmed t f) s
 

@@ -6,7 +6,7 @@ ghost use Rattle.testing_kept.specs.Logged.{ChangesMake, EntryShifts, TakesLog, 
 ghost use Rattle.testing_kept.specs.Restored.{AllCame, RowsDetermine};
 ghost use Rattle.testing_kept.specs.Retaken.{TrimKeeps, RetakenStand};
 ghost use Rattle.testing_kept.specs.SameRows.{RowsTell, StandsAreSaid};
-ghost use Rattle.testing_kept.specs.Told.{AllRestoredTell, MoreTell, RestoredTell, RowsOnce, SaidRowsTell, StandTell, ToldRowsAreFactRows, TrimmedTell};
+ghost use Rattle.testing_kept.specs.Told.{AllRestoredTell, LoggedTell, MoreTell, RestoredTell, RowsOnce, SaidRowsTell, StandTell, ToldRowsAreFactRows, TrimmedTell};
 
 /// One more message changes the rows of the facts by just those that its shift says.
 pub fn entry_shifts()
@@ -76,6 +76,11 @@ pub fn restored_tell()
 /// Messages that say facts say them with more rows, which are those of messages among them.
 pub fn all_restored_tell()
     ensures { AllRestoredTell }
+{}
+
+/// Messages that say facts say them with other rows that came and left.
+pub fn logged_tell()
+    ensures { LoggedTell }
 {}
 
 /// Messages that say facts say them trimmed.

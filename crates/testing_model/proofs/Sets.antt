@@ -117,7 +117,7 @@ module _ {A : Type 0} {cmp : A → A → Ordering} (o : IsTotalOrder cmp) where
         | inr among ↦ elim (p among) [ inl own ↦ inl own | inr more ↦ inr (tail_of y ys z more) ]
       ]
 
-  put_from : (x z : A) (ys : List A) → Contains (put_by (λ k. k) cmp x ys) z → (x ≡ z) ⊎ Contains ys z
+  pub put_from : (x z : A) (ys : List A) → Contains (put_by (λ k. k) cmp x ys) z → (x ≡ z) ⊎ Contains ys z
   put_from x z [] c = first_or_rest x [] z c
   put_from x z (y ∷ ys) c = put_at _ x y z ys refl (put_from x z ys) c
 

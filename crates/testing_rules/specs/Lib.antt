@@ -24,6 +24,8 @@ pub use Rattle.testing_facts.specs.Shifts
 pub use Rattle.testing_model.specs.StandsFor
 pub use Rattle.testing_model.specs.Suite
 pub use Rattle.testing_laws.specs.TakenLaws
+pub use Rattle.testing_model.specs.Tells
+pub use Rattle.testing_kept.specs.Told
 pub use Rattle.testing_model.specs.Unstable
 pub use Rattle.testing_model.specs.Updates
 pub use Rattle.testing_facts.specs.Uploads

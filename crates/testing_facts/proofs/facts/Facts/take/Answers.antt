@@ -1,9 +1,11 @@
 use Rattle.std.proofs.Common.{◌∷◌, Contains, sym, ap, ◌∙◌, subst}
 use Rattle.testing_model.specs.FactLists.{FactLists}
 use Rattle.testing_model.specs.StandsFor.{StandsFor}
+use Rattle.testing_model.specs.Tells.{Tells}
 use Rattle.testing_facts.specs.Entries.{with_entry}
 use Rattle.testing_model.specs.FactDifference.{IsChangedFrom}
 use Rattle.testing_facts.proofs.Joins.{joins, keeps, is_there}
+use Rattle.testing_facts.proofs.Saying.{says_more}
 use Rattle.testing_facts.proofs.Shifting.{takes_log}
 use Rattle.testing_facts.proofs.facts.Facts.take.Goals as goal
 
@@ -31,3 +33,12 @@ returns-clause-there c = λ u e.
 
 pub returns-clause-moved : goal.returns-clause-moved
 returns-clause-moved c = λ count h. subst (IsChangedFrom count) (sym c.in_ok-put.ensures.ok) (takes_log count c.in_ok-entry.entry c.args.self.now h)
+
+pub returns-clause-tells : goal.returns-clause-tells
+returns-clause-tells c = λ s h.
+    let n = c.args.sender in
+    let k = c.args.number in
+    let i = c.args.item.now in
+    let old = c.args.self.now in
+    let became = c.in_ok-put.ensures.ok ∙ ap (λ e. with_entry e old) c.in_ok-entry.ensures in
+    subst (λ (f : FactLists). Tells f (record { sender = n; number = k; item = i } ∷ s)) (sym became) (says_more old s h n k i)
