@@ -155,8 +155,8 @@ once_in r (e ∷ es) s =
     let below = t_first (below_all row_order e.0 es) (is_sorted row_order es) s in
     sum_by-cons (λ y. cond (is_row r y) 1 0) e.0 (map (λ d. d.0) es)
     ∙ once_at r e.0 (is_row r e.0) es refl
-      (λ is. ap (λ x. times x (map (λ d. d.0) es)) (sym (row_same r e.0 is)) ∙ none_below e.0 es below)
-      (once_in r es (t_second (below_all row_order e.0 es) (is_sorted row_order es) s))
+    (λ is. ap (λ x. times x (map (λ d. d.0) es)) (sym (row_same r e.0 is)) ∙ none_below e.0 es below)
+    (once_in r es (t_second (below_all row_order e.0 es) (is_sorted row_order es) s))
     ∙ ap (λ b. cond (is_some (cond b (Some tt) (find row_order r es))) 1 0) (sym (tied_rows r e.0 (is_row r e.0) refl))
 
 pub times-rows_in : (facts : FactSet) (r : FactRow) → times r (rows_in facts) ≡ count_in facts r
@@ -197,7 +197,7 @@ whole_back setup content rows f are size by back =
     let came : f.came ≡ [] = ap (λ (g : FactLists). g.came) back.become ∙ logs.0 in
     let left : f.left ≡ [] = ap (λ (g : FactLists). g.left) back.become ∙ logs.1 in
     let count : (r : FactRow) → times r (rows_of f) ≡ count_in content.facts r = λ r.
-        ap (λ (g : FactLists). times r (rows_of g)) back.become ∙ all_came back.given long r ∙ ap (times r) (back.same ∙ are) ∙ times-rows_in content.facts r in
+    ap (λ (g : FactLists). times r (rows_of g)) back.become ∙ all_came back.given long r ∙ ap (times r) (back.same ∙ are) ∙ times-rows_in content.facts r in
     record {
       way = record {
         tells = back.tells (none_told (said_all setup content.kept));
