@@ -15,7 +15,6 @@ use Rattle.testing_rules.specs.Covered.{Covered, CoveredItem}
 use Rattle.testing_rules.specs.FactLists.{FactLists}
 use Rattle.testing_rules.specs.SameMessages.{SameElements, HasOneOfEach}
 use Rattle.testing_rules.specs.StandsFor.{StandsFor}
-use Rattle.testing_facts.proofs.Netting.{row_same}
 use Rattle.testing_kept.proofs.Restoring.{same_stand}
 use Rattle.testing_kept.proofs.Said.{more_tell, stand_tell}
 use Rattle.testing_kept.proofs.Telling.{same_facts}
@@ -24,6 +23,7 @@ use Rattle.office_mail.specs.Kept.{Kept}
 use Rattle.office_mail.specs.Lists.{Lists}
 use Rattle.office_mail.specs.Runs.{cover, cover_of, order_at, orders_to}
 use Rattle.office_keeper.specs.Content.{Content}
+use Rattle.office_keeper.proofs.FactSets.{row_same}
 use Rattle.office_keeper.specs.FactSet.{count_in}
 use Rattle.office_runs.specs.declared.covered.KnownFacts.{KnownFacts}
 use Rattle.office_runs.specs.Known.{AreKnown, said_all}
