@@ -39,7 +39,7 @@ use Rattle.office_runs.proofs.WalkFacts.{stands_for_covered}
 -- Facts under way, over more mail and the same kept rows.
 AreUnderWay-later : (setup : Lists) (old new : Content) (f : FactLists) → Within old.kept new.kept → new.facts ≡ old.facts → AreUnderWay setup old f → AreUnderWay setup new f
 AreUnderWay-later setup old new f within same way = record {
-  tells = more_tell f (said_all setup old.kept) (said_all setup new.kept) (all_later setup old.kept new.kept within) way.tells;
+  tells = more_tell (said_all setup old.kept) (said_all setup new.kept) (all_later setup old.kept new.kept within) f way.tells;
   by_message = way.by_message;
   rows = subst (λ (s : FactSet). IsChangedFrom (count_in s) f) (sym same) way.rows;
 }

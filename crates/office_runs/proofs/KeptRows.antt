@@ -38,7 +38,10 @@ some_counted : (r : FactRow) (xs : List FactRow) → 0 < times r xs → Contains
 some_counted r [] h = absurd (omega (arith, h))
 some_counted r (x ∷ xs) h = first_counted (is_row r x) r x xs refl (subst (λ n. 0 < n) (sum_by-cons (λ (y : FactRow). cond (is_row r y) 1 0) x xs) h) (some_counted r xs)
 
-counted_once : (o : Option ⊤) → IsSome o → (if is_some o then 1 else 0) ≡ 1
+abbrev row_count : Option ⊤ → ℕ
+row_count o = if is_some o then 1 else 0
+
+counted_once : (o : Option ⊤) → IsSome o → row_count o ≡ 1
 counted_once None h = absurd (cc h)
 counted_once (Some x) h = refl
 

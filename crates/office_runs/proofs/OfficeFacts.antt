@@ -27,7 +27,6 @@ use Rattle.testing_model.proofs.Sets.{at_front}
 use Rattle.testing_model.specs.FactLists.{no_facts}
 use Rattle.testing_model.specs.FactRows.{row_order}
 use Rattle.testing_model.specs.KeptFacts.{KeptFacts}
-use Rattle.testing_model.specs.Unstable.{unstable_sources, unstable_builds, greatest_drops, bug_states, hints_by_number, unhints_by_number, last_delays}
 use Rattle.testing_rules.specs.Watched.{AllWatchedWork}
 use Rattle.office_runs.proofs.WalkFacts.{none_covered}
 use Rattle.testing_rules.specs.Covered.{Covered}
@@ -147,7 +146,6 @@ nothing_in (x ∷ xs) none = absurd (none x (at_front x x xs refl))
 
 -- facts of no message are kept facts of none
 none_stand : (t : Testing) → KeptFacts no_facts [] t
-unfolding unstable_sources unstable_builds greatest_drops bug_states hints_by_number unhints_by_number last_delays
 none_stand t = record {
   stand = record {
     sources = refl; rows = refl; drops = refl; bugs = refl; hints = refl; unhints = refl; delays = refl;
@@ -158,15 +156,18 @@ none_stand t = record {
 }
 
 -- an empty set has no row
-no_row : (o : Option ⊤) → o ≡ None → 0 ≡ (if is_some o then 1 else 0)
-no_row o e = rw e refl
+abbrev row_count : Option ⊤ → ℕ
+row_count o = if is_some o then 1 else 0
+
+no_row : (o : Option ⊤) → o ≡ None → row_count o ≡ 0
+no_row o e = ap row_count e
 
 KeepsFacts-new : (setup : Lists) → KeepsFacts setup no_content
 KeepsFacts-new setup = record {
   facts = no_facts;
   kept = subst (λ (s : Covered). KeptFacts no_facts s no_content.testing)
       (sym (nothing_in (covered_items setup empty 0) (λ m c. none_covered setup 0 m c))) (none_stand no_content.testing);
-  rows = λ r. no_row (get no_content.facts r) (get-empty row_order r);
+  rows = λ r. sym (no_row (get no_content.facts r) (get-empty row_order r));
 }
 
 -- where nothing is kept and no run is finished, an office begins

@@ -1,4 +1,4 @@
-use Rattle.std.proofs.Common.{◌≡◌, List, length, slice_index, sym, ap, subst}
+use Rattle.std.proofs.Common.{◌≡◌, List, length, slice_index, sym, ap, subst, ◌∙◌}
 use Rattle.testing_items.specs.Words.{Text}
 use Rattle.testing_rules.specs.Covered.{Covered}
 use Rattle.testing_rules.specs.FactLists.{FactLists}

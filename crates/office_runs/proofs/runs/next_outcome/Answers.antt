@@ -1,4 +1,5 @@
 use Rattle.std.proofs.Common.{◌≡◌, ◌<◌, ℕ, length, slice_index, sym, ap, subst, ◌∙◌}
+use Rattle.std.proofs.lemmas.Result.{err_from_is_err_and}
 use Rattle.testing_rules.specs.Covered.{Covered}
 use Rattle.testing_rules.specs.KeptFacts.{KeptFacts}
 use Rattle.testing_rules.specs.StandsFor.{StandsFor}
@@ -11,6 +12,7 @@ use Rattle.office_keeper.specs.Provenance.{AreOwnTexts}
 use Rattle.office_runs.specs.Known.{AreUnderWay}
 use Rattle.office_runs.specs.Walk.{said_within}
 use Rattle.office_runs.proofs.GivenFacts.{given_by_mail, known_by_mail}
+use Rattle.office_runs.proofs.LookFacts.{looked_fails, looked_none, looked_then}
 use Rattle.office_runs.proofs.RunFacts.{next_run}
 use Rattle.office_runs.proofs.TakenFacts.{said_within-same}
 use Rattle.office_runs.proofs.runs.next_outcome.Goals as goal
@@ -86,3 +88,13 @@ returns-clause-held g c = λ trusted own.
     let t1 = c.in_ok-testing.ensures.looks.before t2 in
     let same : g.K.Keeper.content c.next_testing.new.keeper ≡ content = c.in_ok-testing.ensures.looks.same t2 ∙ c.in_ok-known.ensures.looks.same t1 in
     subst (λ (m : Content). AreUnderWay setup m c.in_ok-known.known.facts → AreOwnTexts setup m.kept → AreHoldable setup (facts_after c.in_ok-changes.changes m.facts)) same (c.in_ok-changes.ensures.held trusted) (c.in_ok-known.ensures.way t1) own
+
+pub returns-in_err-changes-clause-looks : goal.returns-in_err-changes-clause-looks
+returns-in_err-changes-clause-looks g c =
+    let keeper = g.K.Keeper in
+    let a = c.args.keeper.now in
+    let b = c.facts-known.new.keeper in
+    let d = c.next_testing.new.keeper in
+    let so = looked_then keeper a b d (looked_then keeper a a b (looked_none keeper a) c.in_ok-known.ensures.looks) c.in_ok-testing.ensures.looks in
+    let p = err_from_is_err_and c.from_residual-in_err-changes.result c.from_residual-in_err-changes.ensures.1 in
+    looked_fails keeper a d c.go_with.new.keeper c.in_err-changes.field-0 p.0 c.from_residual-in_err-changes.result p.1 (cc (p.2)) so c.in_err-changes.ensures.looks
