@@ -57,8 +57,8 @@ fn put_rows<K: Keeper>(
     Ok(())
 }
 
-/// The place behind the rows from a place on that are near the first of them: of its kind and sender, and of numbers less
-/// than so many above its own.
+/// The place behind the rows from a place on that are near the first of them: of its kind and sender, and of numbers
+/// less than so many above its own.
 fn rows_end(rows: &[FactRow], start: usize, end: usize, span: u32) -> usize
     requires some { start < end }
     requires within { end ≤ length rows.now }
