@@ -1,5 +1,5 @@
 -- Facts that have the kept rows stand for the covered mail of the finished runs.
-use Rattle.std.proofs.Common.{◌≡◌, ⊎_elim, inl, inr, ℕ, zero, suc, ◌+◌, ◌-◌, ◌<◌, ◌≤◌, Bool, true, false, cond, List, [], ◌∷◌, ◌++◌, length, take, drop, max, slice_index, Option, Some, None, IsSome, option_to_list, sym, ap, subst, ◌∙◌, refl, arith}
+use Rattle.std.proofs.Common.{◌≡◌, ⊎_elim, inl, inr, ℕ, zero, suc, ◌+◌, ◌-◌, ◌<◌, ◌≤◌, Bool, true, false, cond, List, [], ◌∷◌, ◌++◌, length, take, drop, max, slice_index, Option, Some, None, option_to_list, sym, ap, subst, ◌∙◌, refl, arith}
 use Rattle.std.specs.Prelude.{Contains}
 use Rattle.std.proofs.lemmas.Bool.{cases_lt}
 use Rattle.std.proofs.lemmas.Bool.Decides.{nat_tests}
@@ -15,8 +15,6 @@ use Rattle.testing_rules.specs.Covered.{Covered, CoveredItem}
 use Rattle.testing_rules.specs.FactLists.{FactLists}
 use Rattle.testing_rules.specs.SameMessages.{SameElements, HasOneOfEach}
 use Rattle.testing_rules.specs.StandsFor.{StandsFor}
-use Rattle.testing_rules.specs.Suite.{Suite}
-use Rattle.testing_facts.proofs.Netting.{row_same}
 use Rattle.testing_kept.proofs.Restoring.{same_stand}
 use Rattle.testing_kept.proofs.Said.{more_tell, stand_tell}
 use Rattle.testing_kept.proofs.Telling.{same_facts}
@@ -25,9 +23,10 @@ use Rattle.office_mail.specs.Kept.{Kept}
 use Rattle.office_mail.specs.Lists.{Lists}
 use Rattle.office_mail.specs.Runs.{cover, cover_of, order_at, orders_to}
 use Rattle.office_keeper.specs.Content.{Content}
+use Rattle.office_keeper.proofs.FactSets.{row_same}
 use Rattle.office_keeper.specs.FactSet.{count_in}
 use Rattle.office_runs.specs.declared.covered.KnownFacts.{KnownFacts}
-use Rattle.office_runs.specs.Known.{AreKnown, AreUnderWay, said_all}
+use Rattle.office_runs.specs.Known.{AreKnown, said_all}
 use Rattle.office_runs.specs.Outcome.{covered_items}
 use Rattle.office_runs.specs.Ready.{FirstOrders}
 use Rattle.office_runs.specs.State.{IsOffice}

@@ -1,16 +1,12 @@
 -- Facts put back from their rows.
-use Rattle.std.proofs.Common.{◌≡◌, ⊎_elim, inl, inr, ℕ, ◌+◌, ◌<◌, ◌≤◌, Bool, true, false, cond, List, [], ◌∷◌, ◌++◌, map, length, take, get_or, Option, Some, None, sym, ap, subst, ◌∙◌, refl, arith}
-use Rattle.std.specs.Prelude.{◌==◌, ◌&&◌, ⊤, Contains, T, is_some}
-use Rattle.std.specs.FinMap.{get, get-entries, entries, entries_sorted, find, is_sorted, keys}
+use Rattle.std.proofs.Common.{◌≡◌, ⊎_elim, inl, inr, ℕ, ◌+◌, ◌<◌, ◌≤◌, Bool, true, false, cond, List, [], ◌∷◌, ◌++◌, map, length, get_or, Option, Some, None, sym, ap, subst, ◌∙◌, refl, arith}
+use Rattle.std.specs.Prelude.{◌==◌, ◌&&◌, ⊤, T, is_some}
+use Rattle.std.specs.FinMap.{get, get-entries, entries, entries_sorted, find, is_sorted}
 use Rattle.std.specs.FinMap.Entries.{below_all}
 use Rattle.std.specs.List.Sorted.{IsStrictlySortedBy}
-use Rattle.std.specs.Ordering.{nat_cmp, ordering_then, eq_by_cmp, is_eq, is_lt}
+use Rattle.std.specs.Ordering.{is_eq, is_lt}
 use Rattle.std.specs.declared.cmp.Ordering.{Ordering}
 use Rattle.std.specs.declared.cmp.Ordering.TheVariants.{Less, Equal, Greater}
-use Rattle.std.proofs.lemmas.Bool.{false≢true}
-use Rattle.std.proofs.lemmas.Cmp.{tied_itself}
-use Rattle.std.proofs.lemmas.Map.Lookups.{exact_unsigned}
-use Rattle.std.proofs.lemmas.Bool.Decides.{nat_tests}
 use Rattle.std.proofs.lemmas.List.{length-map}
 use Rattle.std.proofs.lemmas.List.Sums.{sum_by-cons}
 use Rattle.testing_items.proofs.Members.{none_among}
@@ -30,7 +26,6 @@ use Rattle.testing_model.specs.Tells.{Tells}
 use Rattle.testing_rules.specs.Covered.{Covered}
 use Rattle.testing_facts.specs.Restored.{Given, restored, said}
 use Rattle.testing_facts.specs.Uploads.{AreByMessage}
-use Rattle.testing_facts.proofs.Netting.{row_same, row_total}
 use Rattle.testing_kept.specs.Restored.{restored_all}
 use Rattle.testing_kept.proofs.AllCame.{all_came}
 use Rattle.testing_kept.proofs.Said.{logged_tell, restored_tell}
@@ -38,6 +33,7 @@ use Rattle.office_mail.specs.Kept.{Kept}
 use Rattle.office_mail.specs.Lists.{Lists}
 use Rattle.office_keeper.specs.declared.values.Letter.{Letter}
 use Rattle.office_keeper.specs.Content.{Content}
+use Rattle.office_keeper.proofs.FactSets.{row_is, row_same}
 use Rattle.office_keeper.specs.FactSet.{FactSet, count_in, rows_in}
 use Rattle.office_runs.specs.Known.{AreUnderWay, said_all}
 use Rattle.office_runs.specs.Outcome.{item_at}
@@ -87,36 +83,6 @@ back_more s rows more first now next r item are is says back = record {
 
 -- the rows of a set, each of which stands once
 
-equal_both : (o p : Ordering) → ordering_then o p ≡ Equal → (o ≡ Equal) × (p ≡ Equal)
-equal_both Less p e = absurd (cc e)
-equal_both Equal p e = (refl, e)
-equal_both Greater p e = absurd (cc e)
-
-abbrev row : ℕ → ℕ → ℕ → ℕ → FactRow
-row kind sender number place = record { kind = kind; sender = sender; number = number; place = place }
-
-rows_tied : (x y : FactRow) → row_order x y ≡ Equal → x ≡ y
-rows_tied x y e =
-    let kind = equal_both (nat_cmp x.kind y.kind) _ e in
-    let sender = equal_both (nat_cmp x.sender y.sender) _ kind.1 in
-    let number = equal_both (nat_cmp x.number y.number) _ sender.1 in
-    ap (λ (k : ℕ). row k x.sender x.number x.place) (exact_unsigned x.kind y.kind kind.0)
-    ∙ ap (λ (k : ℕ). row y.kind k x.number x.place) (exact_unsigned x.sender y.sender sender.0)
-    ∙ ap (λ (k : ℕ). row y.kind y.sender k x.place) (exact_unsigned x.number y.number number.0)
-    ∙ ap (λ (k : ℕ). row y.kind y.sender y.number k) (exact_unsigned x.place y.place number.1)
-
-row_itself : (r : FactRow) → is_row r r ≡ true
-row_itself r = grind (arith, nat_tests)
-
-tied_rows : (r x : FactRow) (b : Bool) → is_row r x ≡ b → eq_by_cmp row_order r x ≡ b
-tied_rows r x true e = ap is_eq (ap (row_order r) (row_same r x e) ∙ tied_itself row_total r)
-tied_rows r x false e = apart (row_order r x) refl
-  where
-    apart : (o : Ordering) → row_order r x ≡ o → is_eq o ≡ false
-    apart Less h = refl
-    apart Equal h = absurd (false≢true (sym e ∙ ap (is_row r) (sym (rows_tied r x h)) ∙ row_itself r))
-    apart Greater h = refl
-
 -- behind a row that is below all of them it doesn't stand again
 t_first : (a b : Bool) → T (a && b) → T a
 t_first true b h = tt
@@ -134,15 +100,11 @@ less_apart Greater h = absurd h
 none_below : (x : FactRow) (es : List (FactRow × ⊤)) → T (below_all row_order x es) → times x (map (λ e. e.0) es) ≡ 0
 none_below x [] h = refl
 none_below x (e ∷ es) h =
-    let apart : is_row x e.0 ≡ false = same_test (is_row x e.0) refl (less_apart (row_order x e.0) (t_first (is_lt (row_order x e.0)) (below_all row_order x es) h)) in
+    let apart : is_row x e.0 ≡ false = sym (row_is x e.0) ∙ less_apart (row_order x e.0) (t_first (is_lt (row_order x e.0)) (below_all row_order x es) h) in
     let rest = none_below x es (t_second (is_lt (row_order x e.0)) (below_all row_order x es) h) in
     let sum = sum_by-cons (λ y. cond (is_row x y) 1 0) e.0 (map (λ d. d.0) es) in
     let none : ◌≡◌ {A = ℕ} (cond (is_row x e.0) 1 0) 0 = ap (λ b. cond b 1 0) apart in
     omega (arith, sum, none, rest)
-  where
-    same_test : (b : Bool) → is_row x e.0 ≡ b → eq_by_cmp row_order x e.0 ≡ false → b ≡ false
-    same_test true is other = absurd (false≢true (sym other ∙ tied_rows x e.0 true is))
-    same_test false is other = refl
 
 once_at : (r x : FactRow) (b : Bool) (es : List (FactRow × ⊤)) → is_row r x ≡ b → (b ≡ true → times r (map (λ e. e.0) es) ≡ 0) → times r (map (λ e. e.0) es) ≡ cond (is_some (find row_order r es)) 1 0
     → cond b 1 0 + times r (map (λ e. e.0) es) ≡ cond (is_some (cond b (Some tt) (find row_order r es))) 1 0
@@ -155,9 +117,9 @@ once_in r (e ∷ es) s =
     let below = t_first (below_all row_order e.0 es) (is_sorted row_order es) s in
     sum_by-cons (λ y. cond (is_row r y) 1 0) e.0 (map (λ d. d.0) es)
     ∙ once_at r e.0 (is_row r e.0) es refl
-      (λ is. ap (λ x. times x (map (λ d. d.0) es)) (sym (row_same r e.0 is)) ∙ none_below e.0 es below)
-      (once_in r es (t_second (below_all row_order e.0 es) (is_sorted row_order es) s))
-    ∙ ap (λ b. cond (is_some (cond b (Some tt) (find row_order r es))) 1 0) (sym (tied_rows r e.0 (is_row r e.0) refl))
+    (λ is. ap (λ x. times x (map (λ d. d.0) es)) (sym (row_same r e.0 is)) ∙ none_below e.0 es below)
+    (once_in r es (t_second (below_all row_order e.0 es) (is_sorted row_order es) s))
+    ∙ ap (λ b. cond (is_some (cond b (Some tt) (find row_order r es))) 1 0) (sym (row_is r e.0))
 
 pub times-rows_in : (facts : FactSet) (r : FactRow) → times r (rows_in facts) ≡ count_in facts r
 times-rows_in facts r = once_in r (entries facts) (entries_sorted facts) ∙ ap (λ o. cond (is_some o) 1 0) (sym (get-entries facts r))
@@ -197,7 +159,7 @@ whole_back setup content rows f are size by back =
     let came : f.came ≡ [] = ap (λ (g : FactLists). g.came) back.become ∙ logs.0 in
     let left : f.left ≡ [] = ap (λ (g : FactLists). g.left) back.become ∙ logs.1 in
     let count : (r : FactRow) → times r (rows_of f) ≡ count_in content.facts r = λ r.
-        ap (λ (g : FactLists). times r (rows_of g)) back.become ∙ all_came back.given long r ∙ ap (times r) (back.same ∙ are) ∙ times-rows_in content.facts r in
+    ap (λ (g : FactLists). times r (rows_of g)) back.become ∙ all_came back.given long r ∙ ap (times r) (back.same ∙ are) ∙ times-rows_in content.facts r in
     record {
       way = record {
         tells = back.tells (none_told (said_all setup content.kept));

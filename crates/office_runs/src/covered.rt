@@ -10,7 +10,6 @@ ghost use Rattle.testing_rules.specs.Covered.{Covered, CoveredItem, upload_of};
 ghost use Rattle.testing_rules.specs.StandsFor.{StandsFor, StandsForNone};
 ghost use Rattle.testing_rules.specs.Uploads.{AreByMessage};
 ghost use Rattle.testing_rules.specs.Suite.{Suite};
-ghost use Rattle.office_mail.specs.Lists.{Lists};
 ghost use Rattle.office_mail.specs.Runs.{cover_of};
 ghost use Rattle.office_keeper.specs.Content.{Content};
 ghost use Rattle.office_keeper.specs.FactSet.{rows_in};
@@ -40,8 +39,8 @@ pub struct KnownFacts {
     pub taken: Vec<u32>,
 }
 
-/// The facts of the messages that these orders cover. What was known before is taken over, or else what the store keeps, so
-/// that each message is read for the facts once and not at each run.
+/// The facts of the messages that these orders cover. What was known before is taken over, or else what the store
+/// keeps, so that each message is read for the facts once and not at each run.
 pub fn facts<K: Keeper>(
     alloc: Global,
     setup: &Setup,
@@ -64,8 +63,8 @@ pub fn facts<K: Keeper>(
     Ok(known)
 }
 
-/// What is known of the finished runs: that of the run before, where it goes no further than these orders cover, and else
-/// what the store keeps.
+/// What is known of the finished runs: that of the run before, where it goes no further than these orders cover, and
+/// else what the store keeps.
 fn known_before<K: Keeper>(
     alloc: Global,
     setup: &Setup,
@@ -86,7 +85,8 @@ fn known_before<K: Keeper>(
     }
 }
 
-/// What is known, where it goes no further than these orders cover: so it is from one run to the next, which covers more.
+/// What is known, where it goes no further than these orders cover: so it is from one run to the next, which covers
+/// more.
 fn known_within(before: Option<KnownFacts>, orders: &[RunOrder]) -> Option<KnownFacts>
     ensures same { IfSome result (λ known. before ≡ Some known) }
     ensures within { IfSome result (λ known. (s : ℕ) → slice_index known.taken.items s ≤ cover_of orders.now s) }
@@ -99,8 +99,8 @@ fn known_within(before: Option<KnownFacts>, orders: &[RunOrder]) -> Option<Known
     }
 }
 
-/// What the store keeps of the finished runs, whose orders are all but the last of these. Where its rows aren't what kept
-/// mail says, nothing is known.
+/// What the store keeps of the finished runs, whose orders are all but the last of these. Where its rows aren't what
+/// kept mail says, nothing is known.
 fn begin<K: Keeper>(
     alloc: Global,
     setup: &Setup,
@@ -118,8 +118,8 @@ fn begin<K: Keeper>(
     Ok(known_by(alloc, setup, orders, rows.as_slice(), facts)?)
 }
 
-/// What is known by rows of facts that were put back: the facts, where they have all of these rows, and else nothing, so
-/// that all of the rows have left. It fails for want of memory alone.
+/// What is known by rows of facts that were put back: the facts, where they have all of these rows, and else nothing,
+/// so that all of the rows have left. It fails for want of memory alone.
 fn known_by(
     alloc: Global,
     setup: &Setup,

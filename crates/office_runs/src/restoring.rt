@@ -1,14 +1,12 @@
 //! Facts put back from the rows that a store keeps of them, each with the message that it names.
 #![tactic(auto, using(crate::proofs::LastFacts::lasting))]
 
-ghost use Rattle.std.specs.Prelude.{◌≡◌, ◌+◌, ◌<◌, ◌≤◌, ◌⊎◌, ℕ, Some, IsTrue, IfOk, IfErr, IfSome, OnOk, Contains, length, take, slice_index_or};
+ghost use Rattle.std.specs.Prelude.{◌≡◌, ◌+◌, ◌<◌, ◌≤◌, ℕ, Some, IsTrue, IfOk, IfErr, IfSome, OnOk, Contains, length, take, slice_index_or};
 ghost use Rattle.testing_items.specs.declared.item.Item.TheVariants.{Nothing};
-ghost use Rattle.testing_facts.specs.Restored.{said};
 ghost use Rattle.testing_model.specs.FactLists.{FactLists, no_facts};
 ghost use Rattle.testing_model.specs.Covered.{Covered};
 ghost use Rattle.testing_model.specs.declared.fact_row.FactRow.{FactRow as ARow};
 ghost use Rattle.office_mail.specs.Kept.{Kept, Place};
-ghost use Rattle.office_mail.specs.Lists.{Lists};
 ghost use Rattle.office_runs.specs.Known.{said_all};
 ghost use Rattle.office_runs.specs.Outcome.{item_at, item_in_body};
 ghost use Rattle.office_runs.specs.ReadsStore.{ReadsStore};
@@ -59,8 +57,8 @@ fn put_rows<K: Keeper>(
     Ok(())
 }
 
-/// The place behind the rows from a place on that are near the first of them: of its kind and sender, and of numbers less
-/// than so many above its own.
+/// The place behind the rows from a place on that are near the first of them: of its kind and sender, and of numbers
+/// less than so many above its own.
 fn rows_end(rows: &[FactRow], start: usize, end: usize, span: u32) -> usize
     requires some { start < end }
     requires within { end ≤ length rows.now }

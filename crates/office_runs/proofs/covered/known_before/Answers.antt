@@ -1,4 +1,4 @@
-use Rattle.std.proofs.Common.{Some, IfSome, subst}
+use Rattle.std.proofs.Common.{IfSome, subst}
 use Rattle.office_keeper.specs.Content.{Content}
 use Rattle.office_runs.specs.Known.{AreKnown}
 use Rattle.office_runs.proofs.KnownStand.{known_stand}

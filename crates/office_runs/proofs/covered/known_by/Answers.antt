@@ -1,5 +1,4 @@
-use Rattle.std.proofs.Common.{◌≡◌, List, length, sym, ◌∙◌}
-use Rattle.testing_model.specs.declared.fact_row.FactRow.{FactRow}
+use Rattle.std.proofs.Common.{◌≡◌, length}
 use Rattle.testing_model.specs.FactRows.{rows_of}
 use Rattle.office_runs.proofs.KnownStand.{whole_stand}
 use Rattle.office_runs.proofs.RestoringFacts.{known_whole, way_without}

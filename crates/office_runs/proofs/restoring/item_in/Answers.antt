@@ -1,8 +1,6 @@
-use Rattle.std.proofs.Common.{◌≡◌, inr, Ok, Err, sym, subst, ◌∙◌}
+use Rattle.std.proofs.Common.{◌≡◌, inr, Ok, Err, sym, subst}
 use Rattle.std.proofs.lemmas.Result.{IfOk-weaker}
-use Rattle.testing_items.specs.declared.item.Item.{Item}
 use Rattle.testing_items.specs.declared.item.Item.TheVariants.{Nothing}
-use Rattle.testing_rules.specs.Covered.{CoveredItem}
 use Rattle.office_mail.specs.declared.message.MailFault.TheVariants.{NoMemory}
 use Rattle.office_mail.specs.Kept.{Place}
 use Rattle.office_runs.specs.Outcome.{item_at}

@@ -1,6 +1,4 @@
-use Rattle.std.proofs.Common.{◌≡◌, sym, ap, subst, ◌∙◌}
 use Rattle.std.proofs.lemmas.Result.{IfOk-weaker}
-use Rattle.testing_items.specs.declared.item.Item.{Item}
 use Rattle.office_mail.specs.Kept.{Place}
 use Rattle.office_runs.specs.Known.{said_all}
 use Rattle.office_runs.specs.Outcome.{item_at}

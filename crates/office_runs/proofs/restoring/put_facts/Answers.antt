@@ -1,4 +1,4 @@
-use Rattle.std.proofs.Common.{◌≡◌, ◌<◌, List, length, take, arith}
+use Rattle.std.proofs.Common.{◌<◌, List, length, take, arith}
 use Rattle.std.proofs.lemmas.List.{take_more}
 use Rattle.testing_model.specs.declared.fact_row.FactRow.{FactRow}
 use Rattle.office_runs.proofs.RestoringFacts.{back_more}

@@ -1,6 +1,3 @@
-use Rattle.std.proofs.Common.{◌≡◌, ⊎_elim, Some, sym, ap, ◌∙◌}
-use Rattle.testing_rules.specs.Covered.{CoveredItem, upload_of}
-use Rattle.testing_facts.specs.Restored.{said}
 use Rattle.office_runs.proofs.AgainFacts.{said_upload}
 use Rattle.office_runs.proofs.retaking.is_named.Goals as goal
 

@@ -1,4 +1,4 @@
-use Rattle.std.proofs.Common.{ℕ, ◌++◌, sym, ap, subst, arith}
+use Rattle.std.proofs.Common.{ℕ, ◌++◌, sym, subst, arith}
 use Rattle.testing_rules.specs.Covered.{Covered}
 use Rattle.office_keeper.specs.Content.{Content}
 use Rattle.office_runs.specs.Known.{AreUnderWay}

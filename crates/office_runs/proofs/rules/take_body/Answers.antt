@@ -1,6 +1,4 @@
-use Rattle.std.proofs.Common.{Some, sym, ap, ◌∙◌}
 use Rattle.std.proofs.lemmas.Result.{on_ok_weaker}
-use Rattle.testing_rules.specs.Covered.{CoveredItem, upload_of}
 use Rattle.office_runs.proofs.AgainFacts.{item_upload}
 use Rattle.office_runs.proofs.rules.take_body.Goals as goal
 
