@@ -14,9 +14,9 @@ use Rattle.office_keeper.specs.declared.values.Reports.{Reports}
 use Rattle.office_keeper.specs.declared.values.Finished.{Finished}
 use Rattle.office_keeper.specs.Content.{Content, item_from_one, reports_in, with_run}
 use Rattle.office_keeper.specs.Provenance.{AreOwnTexts}
-use Rattle.office_runs.specs.State.{IsOffice, reports_at}
+use Rattle.office_runs.specs.State.{IsOffice, KeepsFacts, reports_at}
 use Rattle.testing_rules.specs.Watched.{AllWatchedWork}
-use Rattle.office_runs.specs.Outcome.{Testing, covered_items, outcome, outcome_on, outcome_of, reports_of, reports_to, testing_after}
+use Rattle.office_runs.specs.Outcome.{Outcome, Testing, covered_items, outcome, outcome_in, outcome_on, outcome_of, reports_from, reports_of, reports_to, testing_after}
 
 pub IsReady-down : (setup : Lists) (kept : Kept) (n m : ℕ) → m ≤ n → IsReady setup kept n → IsReady setup kept m
 IsReady-down setup kept zero m le ready = let none : m ≡ 0 = omega arith in rw none ready
@@ -54,8 +54,8 @@ unfolding reports_to
 reports_to-suc setup kept n = let one : n + 1 ≡ suc n = omega arith in rw one refl
 
 -- an office with one run more
-pub IsOffice-finished : (setup : Lists) (old new : Content) (left : Finished) → IsOffice setup old → IsReady setup old.kept (length old.reports + 1) → new ≡ with_run old left → left ≡ outcome_of setup old.kept (length old.reports + 1) → AllWatchedWork setup.archs left.testing.rows → IsOffice setup new
-IsOffice-finished setup old new left office ready next is watched =
+pub IsOffice-finished : (setup : Lists) (old new : Content) (left : Finished) → IsOffice setup old → IsReady setup old.kept (length old.reports + 1) → new ≡ with_run old left → outcome_in left ≡ outcome_of setup old.kept (length old.reports + 1) → AllWatchedWork setup.archs left.testing.rows → KeepsFacts setup new → IsOffice setup new
+IsOffice-finished setup old new left office ready next is watched keeps =
     let kept : new.kept ≡ old.kept = ap (λ (c : Content). c.kept) next in
     let reports : new.reports ≡ old.reports ++ reports_in left ∷ [] = ap (λ (c : Content). c.reports) next in
     let testing : new.testing ≡ left.testing = ap (λ (c : Content). c.testing) next in
@@ -64,10 +64,11 @@ IsOffice-finished setup old new left office ready next is watched =
       places = λ p h. office.places p (subst (λ (k : Kept). IsSome (get k p)) kept h);
       texts = subst (AreOwnTexts setup) (sym kept) office.texts;
       ready = rw (size, kept) ready;
-      reports = reports ∙ ap (λ (rs : List Reports). rs ++ reports_in left ∷ []) office.reports ∙ ap (λ (o : Finished). reports_to setup old.kept (length old.reports) ++ reports_in o ∷ []) is
+      reports = reports ∙ ap (λ (rs : List Reports). rs ++ reports_in left ∷ []) office.reports ∙ ap (λ (o : Outcome). reports_to setup old.kept (length old.reports) ++ reports_from o ∷ []) is
           ∙ sym (reports_to-suc setup old.kept (length old.reports)) ∙ ap (reports_to setup old.kept) (sym size) ∙ ap (λ (k : Kept). reports_to setup k (length new.reports)) (sym kept);
-      testing_is = testing ∙ ap (λ (o : Finished). o.testing) is ∙ ap (testing_after setup old.kept) (sym size) ∙ ap (λ (k : Kept). testing_after setup k (length new.reports)) (sym kept);
+      testing_is = testing ∙ ap (λ (o : Outcome). o.testing) is ∙ ap (testing_after setup old.kept) (sym size) ∙ ap (λ (k : Kept). testing_after setup k (length new.reports)) (sym kept);
       watched = subst (λ (t : Testing). AllWatchedWork setup.archs t.rows) (sym testing) watched;
+      facts = keeps;
     }
 
 get_push_before : {A : Type 0} (xs ys : List A) (k : ℕ) → k < length xs → slice_get (xs ++ ys) k ≡ slice_get xs k

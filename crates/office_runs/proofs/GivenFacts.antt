@@ -1,6 +1,6 @@
--- What covered messages give is given by kept mail.
+-- What messages give that kept mail says is given by kept mail.
 use Rattle.std.proofs.Common.{◌≡◌, inl, inr, ℕ, zero, suc, List, Some, Result, Ok, Err, Contains, sym, ap, subst, ◌∙◌, refl}
-use Rattle.std.specs.FinMap.{get}
+use Rattle.std.specs.FinMap.{get, entries, entries_sorted, get-entries}
 use Rattle.deb_control.specs.declared.binary.Binary.{Binary}
 use Rattle.testing_rules.specs.Covered.{Covered, CoveredItem}
 use Rattle.testing_rules.specs.Suite.{Suite}
@@ -18,14 +18,15 @@ use Rattle.office_keeper.specs.Content.{Content, item_from_one}
 use Rattle.office_keeper.specs.Provenance.{AreOwnTexts, IsKept, GivesSource, GivesRow, IsGiven, KnowsArchs, IsArchPlace, upload_in, binary_in}
 use Rattle.testing_rules.specs.Provenance.{IsUploaded, IsBuilt, IsGivenBy, binary_in as built_in}
 use Rattle.office_runs.specs.Outcome.{item_at, item_in_answer, item_in_body}
-use Rattle.office_runs.specs.Walk.{said_within}
-use Rattle.office_runs.proofs.WalkFacts.{of_text, within_place}
+use Rattle.office_runs.specs.Known.{said_all}
+use Rattle.office_runs.proofs.WalkFacts.{find_entry}
+use Rattle.testing_model.proofs.Sets.{given_by}
 
--- a covered message is kept under its own sender and number
-record Says (setup : Lists) (kept : Kept) (m : CoveredItem) : Type 0 where
-  message : Message
-  is_kept : IsKept setup kept (m.sender, m.number) message
-  body : message.body ≡ Item m.item
+-- a message that is said is kept under its own sender and number
+pub record Says (setup : Lists) (kept : Kept) (m : CoveredItem) : Type 0 where
+  pub message : Message
+  pub is_kept : IsKept setup kept (m.sender, m.number) message
+  pub body : message.body ≡ Item m.item
 
 some_same : {A : Type 0} (x y : A) → Some x ≡ Some y → x ≡ y
 some_same x y e = cc
@@ -51,36 +52,36 @@ answer_at : (setup : Lists) (p : Place) (text : List ℕ) (m : CoveredItem) → 
 unfolding item_at
 answer_at setup p text m e = e
 
-says : (setup : Lists) (kept : Kept) (covers : ℕ → ℕ) (n : ℕ) (m : CoveredItem) → AreOwnTexts setup kept → Contains (said_within setup kept covers n) m → Says setup kept m
-says setup kept covers n m own c =
-    let p = within_place setup kept covers n m c in
-    let text = of_text setup p.0 (get kept p.0) m p.1.is in
-    says_answer setup kept p.0 text.0 m (read setup text.0) refl (answer_at setup p.0 text.0 m text.2) text.1 (own p.0 text.0 text.1)
+pub says : (setup : Lists) (kept : Kept) (m : CoveredItem) → AreOwnTexts setup kept → Contains (said_all setup kept) m → Says setup kept m
+says setup kept m own c =
+    let e = given_by (item_at setup) (entries kept) m c in
+    let found : get kept e.0.0 ≡ Some e.0.1 = get-entries kept e.0.0 ∙ find_entry (entries kept) e.0 (entries_sorted kept) e.1 in
+    says_answer setup kept e.0.0 e.0.1 m (read setup e.0.1) refl (answer_at setup e.0.0 e.0.1 m e.2) found (own e.0.0 e.0.1 found)
 
-gives_source : (setup : Lists) (kept : Kept) (covers : ℕ → ℕ) (n : ℕ) (source : SourceIn) → AreOwnTexts setup kept → IsUploaded (said_within setup kept covers n) source → GivesSource setup kept source
-gives_source setup kept covers n source own up =
-    let said = says setup kept covers n _ own up.upload in
+gives_source : (setup : Lists) (kept : Kept) (source : SourceIn) → AreOwnTexts setup kept → IsUploaded (said_all setup kept) source → GivesSource setup kept source
+gives_source setup kept source own up =
+    let said = says setup kept _ own up.upload in
     record { message = said.message; is_kept = said.is_kept; says = ap upload_in said.body }
 
 same_binary : (place : ℕ) (binaries : List Binary) → item_from_one place binaries ≡ built_in binaries place
 same_binary zero binaries = refl
 same_binary (suc i) binaries = refl
 
-gives_row : (setup : Lists) (kept : Kept) (covers : ℕ → ℕ) (n : ℕ) (row : RowIn) → AreOwnTexts setup kept → IsBuilt setup.archs (said_within setup kept covers n) row → GivesRow setup kept row
-gives_row setup kept covers n row own built =
-    let said = says setup kept covers n _ own built.build in
+gives_row : (setup : Lists) (kept : Kept) (row : RowIn) → AreOwnTexts setup kept → IsBuilt setup.archs (said_all setup kept) row → GivesRow setup kept row
+gives_row setup kept row own built =
+    let said = says setup kept _ own built.build in
     record { message = said.message; is_kept = said.is_kept; says = ap (binary_in row.place) said.body ∙ same_binary row.place built.binaries ∙ built.placed; known = built.known; arch = built.arch }
 
 -- what a run brings into testing is given by the mail that is kept
-pub given_by_mail : (setup : Lists) (content : Content) (covers : ℕ → ℕ) (n : ℕ) (old new : Suite) → AreOwnTexts setup content.kept → old ≡ content.testing → IsGivenBy setup.archs (said_within setup content.kept covers n) old new → IsGiven setup content new
-given_by_mail setup content covers n old new own was given = record {
+pub given_by_mail : (setup : Lists) (content : Content) (old new : Suite) → AreOwnTexts setup content.kept → old ≡ content.testing → IsGivenBy setup.archs (said_all setup content.kept) old new → IsGiven setup content new
+given_by_mail setup content old new own was given = record {
   sources = λ source c. elim (given.sources source c) [
     | inl before ↦ inl (subst (λ (t : Suite). Contains t.sources source) was before)
-    | inr up ↦ inr (gives_source setup content.kept covers n source own up)
+    | inr up ↦ inr (gives_source setup content.kept source own up)
   ];
   rows = λ row c. elim (given.rows row c) [
     | inl before ↦ inl (subst (λ (t : Suite). Contains t.rows row) was before)
-    | inr built ↦ inr (gives_row setup content.kept covers n row own built)
+    | inr built ↦ inr (gives_row setup content.kept row own built)
   ];
 }
 

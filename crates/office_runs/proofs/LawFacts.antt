@@ -6,10 +6,9 @@ use Rattle.office_mail.specs.Lists.{Lists}
 use Rattle.office_mail.specs.Runs.{IsReadyCount}
 use Rattle.office_mail.proofs.LawFacts.{same_kept_from}
 use Rattle.office_keeper.specs.Content.{Content, item_from_one}
-use Rattle.office_keeper.specs.declared.values.Finished.{Finished}
 use Rattle.office_keeper.specs.declared.values.Reports.{Reports}
 use Rattle.office_runs.specs.Laws.{RunsStand, TookTexts}
-use Rattle.office_runs.specs.Outcome.{reports_of, reports_to, testing_after}
+use Rattle.office_runs.specs.Outcome.{Outcome, reports_of, reports_to, testing_after}
 use Rattle.office_runs.specs.State.{IsOffice}
 use Rattle.office_runs.proofs.FinishFacts.{report_is, reports_to-suc}
 use Rattle.office_runs.proofs.OfficeFacts.{outcome_of-later, reports_to-later}
@@ -63,5 +62,5 @@ runs_stand setup old new was is within grown =
       more = rest.0;
       reports = is.reports ∙ ap (reports_to setup new.kept) split ∙ rest.1
           ∙ ap (λ (rs : List Reports). rs ++ rest.0) (reports_to-later setup old.kept new.kept n within was.ready ∙ sym was.reports);
-      testing = λ e. is.testing_is ∙ ap (testing_after setup new.kept) e ∙ ap (λ (o : Finished). o.testing) (outcome_of-later setup old.kept new.kept n within was.ready) ∙ sym was.testing_is;
+      testing = λ e. is.testing_is ∙ ap (testing_after setup new.kept) e ∙ ap (λ (o : Outcome). o.testing) (outcome_of-later setup old.kept new.kept n within was.ready) ∙ sym was.testing_is;
     }

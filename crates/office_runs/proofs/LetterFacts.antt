@@ -1,8 +1,11 @@
 -- The letters of a sender from one number to another.
-use Rattle.std.proofs.Common.{◌≡◌, ⊎_elim, ℕ, zero, suc, ◌+◌, ◌-◌, ◌<◌, ◌≤◌, List, [], ◌∷◌, ◌++◌, Option, Some, None, IsSome, option_to_list, option_map, filter_map, sym, ap, ◌∙◌, refl, arith}
+use Rattle.std.proofs.Common.{◌≡◌, ⊎_elim, ℕ, zero, suc, ◌+◌, ◌-◌, ◌<◌, ◌≤◌, List, [], ◌∷◌, ◌++◌, length, get_or, Option, Some, None, IsSome, option_to_list, option_map, filter_map, sym, ap, subst, ◌∙◌, refl, arith}
 use Rattle.std.specs.List.{range_with_len, cons_option}
 use Rattle.std.proofs.lemmas.Bool.{cases_lt}
+use Rattle.std.proofs.lemmas.List.Elements.{Contains-get_or}
 use Rattle.std.specs.FinMap.{get}
+use Rattle.std.specs.Prelude.{Contains}
+use Rattle.testing_model.proofs.Sets.{given_by}
 use Rattle.testing_rules.specs.Covered.{Covered}
 use Rattle.office_mail.specs.Lists.{Lists}
 use Rattle.office_mail.specs.Kept.{Kept}
@@ -10,6 +13,7 @@ use Rattle.office_keeper.specs.declared.values.Letter.{Letter}
 use Rattle.office_keeper.specs.Content.{letter_at, letters_within}
 use Rattle.office_runs.specs.Outcome.{item_at}
 use Rattle.office_runs.specs.Ready.{HasNumbers, GoesOn}
+use Rattle.office_runs.specs.Taking.{AreLettersOf}
 use Rattle.office_runs.specs.Walk.{said_by, said_in}
 use Rattle.office_runs.proofs.WalkFacts.{said_by-more, said_at-none, said_at-text}
 
@@ -144,3 +148,24 @@ left_none kept sender first number end letters is so = record {
   each = so.each;
   gap = λ below. letter_none kept sender number end below (sym is ∙ so.left);
 }
+
+-- each of them is kept under its number
+
+at_number : (number : ℕ) (text : Option (List ℕ)) (x : Letter) → with_number number text ≡ Some x → (number ≡ x.number) × (text ≡ Some x.text)
+at_number number None x e = absurd (cc e)
+at_number number (Some text) x e = let is : record { number = number; text = text } ≡ x = same_letter (record { number = number; text = text }) x e in (ap (λ (l : Letter). l.number) is, ap (λ (l : Letter). Some l.text) is)
+  where
+    same_letter : (a b : Letter) → Some a ≡ Some b → a ≡ b
+    same_letter a b e = cc
+
+pub letters_own : (kept : Kept) (sender from to : ℕ) (letters : List Letter) → letters ≡ letters_within kept sender from to → AreLettersOf kept sender letters
+unfolding letters_within
+letters_own kept sender from to letters e x c =
+    let n = given_by (letter_at kept sender) (range_with_len from (to + 1 - from)) x (subst (λ (ls : List Letter). Contains ls x) e c) in
+    let at = at_number n.0 (get kept (sender, n.0)) x n.2 in
+    ap (λ (k : ℕ). get kept (sender, k)) (sym at.0) ∙ at.1
+
+-- and so the one at a place
+pub own_letter : (kept : Kept) (sender : ℕ) (letters : List Letter) (i : ℕ) (letter : Letter) (text : List ℕ) → i < length letters → letter ≡ get_or letters i letter → text ≡ letter.text → AreLettersOf kept sender letters → get kept (sender, letter.number) ≡ Some text
+own_letter kept sender letters i letter text low is same own =
+    own letter (subst (λ (l : Letter). Contains letters l) (sym is) (Contains-get_or letters i letter low)) ∙ ap Some (sym same)

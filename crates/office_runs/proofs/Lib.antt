@@ -1,3 +1,4 @@
+pub mod AgainFacts
 pub mod CarryFacts
 pub mod CountFacts
 pub mod CourseFacts
@@ -5,6 +6,9 @@ pub mod DeliverFacts
 pub mod EndFacts
 pub mod FinishFacts
 pub mod GivenFacts
+pub mod KeepingFacts
+pub mod KeptRows
+pub mod KnownStand
 pub mod LastFacts
 pub mod LawFacts
 pub mod LetterFacts
@@ -12,8 +16,10 @@ pub mod LookFacts
 pub mod OfficeFacts
 pub mod ReadyCount
 pub mod ReplayFacts
+pub mod RestoringFacts
 pub mod RiseFacts
 pub mod RunFacts
+pub mod SaidFacts
 pub mod StandFacts
 pub mod TakenFacts
 pub mod TextFacts

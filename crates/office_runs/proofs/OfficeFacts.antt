@@ -12,20 +12,27 @@ use Rattle.office_mail.proofs.RunFacts.{IsReady-zero, orders_to-later, covered-l
 use Rattle.office_replies.specs.declared.faults.DeliverFault.{DeliverFault}
 use Rattle.office_replies.specs.declared.faults.DeliverFault.TheVariants.{Mail}
 use Rattle.office_replies.specs.declared.faults.Held.{Held}
-use Rattle.office_keeper.specs.Content.{Content, no_content, reports_in, with_text}
+use Rattle.office_keeper.specs.Content.{Content, no_content, with_text}
+use Rattle.office_keeper.specs.FactSet.{FactSet, count_in}
 use Rattle.office_keeper.specs.Provenance.{AreOwnTexts}
-use Rattle.office_runs.specs.State.{IsOffice, AnswersDelivery, answer_to, answer_by, answer_at}
+use Rattle.office_runs.specs.State.{IsOffice, KeepsFacts, AnswersDelivery, answer_to, answer_by, answer_at}
 use Rattle.office_mail.specs.declared.message.RunOrder.{RunOrder}
 use Rattle.office_mail.specs.Lists.{Lists}
 use Rattle.office_mail.specs.Runs.{orders_to, latest_day, IsReady}
 use Rattle.office_keeper.specs.declared.values.Reports.{Reports}
-use Rattle.office_keeper.specs.declared.values.Finished.{Finished}
 use Rattle.std.specs.List.{filter_map}
+use Rattle.std.specs.Prelude.{⊤, is_some, if◌then◌else◌, Contains}
+use Rattle.testing_items.proofs.Members.{none_among}
+use Rattle.testing_model.proofs.Sets.{at_front}
+use Rattle.testing_model.specs.FactLists.{no_facts}
+use Rattle.testing_model.specs.FactRows.{row_order}
+use Rattle.testing_model.specs.KeptFacts.{KeptFacts}
 use Rattle.testing_rules.specs.Watched.{AllWatchedWork}
+use Rattle.office_runs.proofs.WalkFacts.{none_covered}
 use Rattle.testing_rules.specs.Covered.{Covered}
-use Rattle.office_runs.specs.Outcome.{Testing, item_at, covered_items, outcome_on, outcome_of, reports_of, reports_to, testing_after}
+use Rattle.office_runs.specs.Outcome.{Outcome, Testing, item_at, covered_items, outcome_on, outcome_of, reports_from, reports_of, reports_to, testing_after}
 
-covered_items-later : (setup : Lists) (small large : Kept) (k : ℕ) → Within small large → IsReady setup small k → covered_items setup large k ≡ covered_items setup small k
+pub covered_items-later : (setup : Lists) (small large : Kept) (k : ℕ) → Within small large → IsReady setup small k → covered_items setup large k ≡ covered_items setup small k
 unfolding covered_items
 covered_items-later setup small large k within ready = ap (λ (m : Kept). filter_map (item_at setup) (entries m)) (covered-later setup small large k within ready)
 
@@ -36,14 +43,14 @@ outcome_of-later setup small large zero within ready = refl
 outcome_of-later setup small large (suc k) within ready =
     ap (λ (os : List RunOrder). outcome_on setup (suc k) (latest_day os) (covered_items setup large (suc k)) (outcome_of setup large k).testing) (orders_to-later setup small large (suc k) within ready.orders)
     ∙ ap (λ (mail : Covered). outcome_on setup (suc k) (latest_day (orders_to setup small (suc k))) mail (outcome_of setup large k).testing) (covered_items-later setup small large (suc k) within ready)
-    ∙ ap (λ (o : Finished). outcome_on setup (suc k) (latest_day (orders_to setup small (suc k))) (covered_items setup small (suc k)) o.testing) (outcome_of-later setup small large k within (IsReady-before setup small k ready))
+    ∙ ap (λ (o : Outcome). outcome_on setup (suc k) (latest_day (orders_to setup small (suc k))) (covered_items setup small (suc k)) o.testing) (outcome_of-later setup small large k within (IsReady-before setup small k ready))
 
 pub reports_to-later : (setup : Lists) (small large : Kept) (k : ℕ) → Within small large → IsReady setup small k → reports_to setup large k ≡ reports_to setup small k
 unfolding reports_to
 reports_to-later setup small large zero within ready = refl
 reports_to-later setup small large (suc k) within ready =
     ap (λ (rs : List Reports). rs ++ reports_of setup large (suc k) ∷ []) (reports_to-later setup small large k within (IsReady-before setup small k ready))
-    ∙ ap (λ (o : Finished). reports_to setup small k ++ reports_in o ∷ []) (outcome_of-later setup small large (suc k) within ready)
+    ∙ ap (λ (o : Outcome). reports_to setup small k ++ reports_from o ∷ []) (outcome_of-later setup small large (suc k) within ready)
 
 pub answer_due : (r due : Result Held DeliverFault) → r ≡ due → AnswersDelivery r due
 answer_due r due e = search (rules, e)
@@ -98,6 +105,15 @@ place_after : (b : Bool) (text : List ℕ) (o : Option (List ℕ)) → IsSome (c
 place_after true text o h = inl refl
 place_after false text o h = inr h
 
+-- the kept facts stand where more mail is kept
+KeepsFacts-later : (setup : Lists) (old new : Content) → KeepsFacts setup old → length new.reports ≡ length old.reports → new.testing ≡ old.testing → new.facts ≡ old.facts → covered_items setup new.kept (length old.reports) ≡ covered_items setup old.kept (length old.reports) → KeepsFacts setup new
+KeepsFacts-later setup old new keeps size testing facts same = record {
+  facts = keeps.facts;
+  kept = subst (λ (t : Testing). KeptFacts keeps.facts (covered_items setup new.kept (length new.reports)) t) (sym testing)
+      (subst (λ (s : Covered). KeptFacts keeps.facts s old.testing) (sym (ap (covered_items setup new.kept) size ∙ same)) keeps.kept);
+  rows = λ r. keeps.rows r ∙ ap (λ (s : FactSet). count_in s r) (sym facts);
+}
+
 -- an office with one text more
 pub IsOffice-kept : (setup : Lists) (old new : Content) (text : List ℕ) (message : Message) → IsOffice setup old → read setup text ≡ Ok message → get old.kept (place_of message) ≡ None → IsPlace setup (place_of message) → new ≡ with_text old message.sender message.number text → IsOffice setup new
 IsOffice-kept setup old new text message office e free place put =
@@ -115,12 +131,44 @@ IsOffice-kept setup old new text message office e free place put =
       texts = subst (AreOwnTexts setup) (sym is) (own_texts-kept_from setup old.kept (text ∷ []) office.texts);
       ready = rw size (IsReady-later setup old.kept new.kept (length old.reports) within office.ready);
       reports = reports ∙ office.reports ∙ sym (reports_to-later setup old.kept new.kept (length old.reports) within office.ready) ∙ ap (reports_to setup new.kept) (sym size);
-      testing_is = testing ∙ office.testing_is ∙ sym (ap (λ (o : Finished). o.testing) (outcome_of-later setup old.kept new.kept (length old.reports) within office.ready)) ∙ ap (testing_after setup new.kept) (sym size);
+      testing_is = testing ∙ office.testing_is ∙ sym (ap (λ (o : Outcome). o.testing) (outcome_of-later setup old.kept new.kept (length old.reports) within office.ready)) ∙ ap (testing_after setup new.kept) (sym size);
       watched = subst (λ (t : Testing). AllWatchedWork setup.archs t.rows) (sym testing) office.watched;
+      facts = KeepsFacts-later setup old new office.facts size testing (ap (λ (c : Content). c.facts) put)
+          (covered_items-later setup old.kept new.kept (length old.reports) within office.ready);
     }
 
 none_watched : (archs : List (List ℕ)) → AllWatchedWork archs []
 none_watched archs = λ arch h. tt
+
+nothing_in : {A : Type 0} (xs : List A) → ((x : A) → Contains xs x → ⊥) → xs ≡ []
+nothing_in [] none = refl
+nothing_in (x ∷ xs) none = absurd (none x (at_front x x xs refl))
+
+-- facts of no message are kept facts of none
+none_stand : (t : Testing) → KeptFacts no_facts [] t
+none_stand t = record {
+  stand = record {
+    sources = refl; rows = refl; drops = refl; bugs = refl; hints = refl; unhints = refl; delays = refl;
+    are_uploads = λ u c. none_among u c;
+    counted = λ u c h. none_among u c;
+  };
+  only = λ u c. none_among u c;
+}
+
+-- an empty set has no row
+abbrev row_count : Option ⊤ → ℕ
+row_count o = if is_some o then 1 else 0
+
+no_row : (o : Option ⊤) → o ≡ None → row_count o ≡ 0
+no_row o e = ap row_count e
+
+KeepsFacts-new : (setup : Lists) → KeepsFacts setup no_content
+KeepsFacts-new setup = record {
+  facts = no_facts;
+  kept = subst (λ (s : Covered). KeptFacts no_facts s no_content.testing)
+      (sym (nothing_in (covered_items setup empty 0) (λ m c. none_covered setup 0 m c))) (none_stand no_content.testing);
+  rows = λ r. sym (no_row (get no_content.facts r) (get-empty row_order r));
+}
 
 -- where nothing is kept and no run is finished, an office begins
 pub IsOffice-new : (setup : Lists) → IsOffice setup no_content
@@ -132,6 +180,7 @@ IsOffice-new setup = record {
   reports = refl;
   testing_is = refl;
   watched = none_watched setup.archs;
+  facts = KeepsFacts-new setup;
 }
 
 -- what holds anyway holds on Ok

@@ -1,22 +1,33 @@
 -- What is known of the mail from one run to the next.
-use Rattle.std.proofs.Common.{◌≡◌, ◌≢◌, ⊎_elim, inl, inr, ℕ, zero, suc, ◌+◌, ◌<◌, ◌≤◌, List, [], ◌++◌, length, slice_index, Option, Some, None, IfSome, option_to_list, sym, ap, subst, ◌∙◌, refl, arith}
+use Rattle.std.proofs.Common.{◌≡◌, ◌≢◌, ◌⊎◌, ⊎_elim, inl, inr, ℕ, zero, suc, ◌<◌, ◌≤◌, List, [], ◌++◌, length, slice_index, Some, Result, Err, option_to_list, sym, ap, subst, ◌∙◌, refl, arith}
 use Rattle.std.specs.Prelude.{Contains}
+use Rattle.std.specs.FinMap.{get}
 use Rattle.std.proofs.lemmas.Bool.{cases_eq}
 use Rattle.std.proofs.lemmas.List.Elements.{Contains-append_left, Contains-append_right, Contains-append_cases}
 use Rattle.testing_rules.specs.Covered.{Covered}
+use Rattle.testing_rules.specs.FactDifference.{IsChangedFrom}
 use Rattle.testing_rules.specs.FactLists.{FactLists}
 use Rattle.testing_rules.specs.StandsFor.{StandsFor}
 use Rattle.testing_rules.specs.Suite.{Suite}
 use Rattle.testing_rules.specs.SameMessages.{SameElements}
+use Rattle.testing_rules.specs.Uploads.{AreByMessage}
+use Rattle.testing_model.specs.declared.fact_row.FactRow.{FactRow}
+use Rattle.testing_model.specs.Tells.{Tells}
 use Rattle.testing_model.proofs.SameFacts.{stands-same}
+use Rattle.testing_kept.proofs.Said.{more_tell}
+use Rattle.office_mail.specs.declared.message.MailFault.{MailFault}
+use Rattle.office_mail.specs.declared.message.MailFault.TheVariants.{NoMemory}
+use Rattle.office_mail.specs.declared.message.Message.{Message}
 use Rattle.office_mail.specs.Lists.{Lists}
-use Rattle.office_mail.specs.Kept.{Kept, Within}
-use Rattle.office_runs.specs.declared.covered.KnownFacts.{KnownFacts}
-use Rattle.office_runs.specs.Known.{AreKnown, FactsStand}
-use Rattle.office_runs.specs.Ready.{HasEach, HasNumbers}
-use Rattle.office_runs.specs.Walk.{item_of, said_at, said_by, said_within}
-use Rattle.office_runs.proofs.CountFacts.{some_later}
-use Rattle.office_runs.proofs.WalkFacts.{by_place, place_by, place_within, within_place, one_of_each}
+use Rattle.office_mail.specs.Read.{read}
+use Rattle.office_mail.specs.Kept.{Kept, Place}
+use Rattle.office_keeper.specs.Content.{Content}
+use Rattle.office_keeper.specs.FactSet.{count_in}
+use Rattle.office_runs.specs.Known.{AreUnderWay, said_all}
+use Rattle.office_runs.specs.Outcome.{item_at}
+use Rattle.office_runs.specs.Walk.{said_by, said_within}
+use Rattle.office_runs.proofs.SaidFacts.{said_at_place}
+use Rattle.office_runs.proofs.WalkFacts.{by_place, in_option, place_by, place_within, within_place, one_of_each}
 
 -- what is said depends on the covers of the senders alone
 pub said_within-same : (setup : Lists) (kept : Kept) (a b : ℕ → ℕ) (n : ℕ) → ((s : ℕ) → s < n → a s ≡ b s) → said_within setup kept a n ≡ said_within setup kept b n
@@ -81,39 +92,21 @@ stand_more setup kept f a b sender n t low grows h =
     stands-same (said_by setup kept sender (b sender) ++ said_within setup kept a n) (said_within setup kept b n) same
     (λ m o cm co. one_of_each setup kept b n m o (same.0 m cm) (same.0 o co)) f t h
 
--- later mail says nothing else where each number is kept
-said_by-later : (setup : Lists) (small large : Kept) (sender n : ℕ) → Within small large → HasNumbers small sender n → said_by setup large sender n ≡ said_by setup small sender n
-unfolding said_by said_at
-said_by-later setup small large sender zero within has = refl
-said_by-later setup small large sender (suc n) within has =
-    ap (λ (o : Option (List ℕ)). option_to_list (item_of setup (sender, suc n) o) ++ said_by setup large sender n) (within (sender, suc n) (has (suc n) (omega arith) (omega arith)))
-    ∙ ap (λ (l : Covered). said_at setup small (sender, suc n) ++ l) (said_by-later setup small large sender n within (λ j low high. has j low (omega (arith, high))))
-
-said_within-later : (setup : Lists) (small large : Kept) (covers : List ℕ) (n : ℕ) → Within small large → HasEach small covers → said_within setup large (slice_index covers) n ≡ said_within setup small (slice_index covers) n
-unfolding said_within
-said_within-later setup small large covers zero within has = refl
-said_within-later setup small large covers (suc n) within has =
-    ap (λ (l : Covered). l ++ said_within setup large (slice_index covers) n) (said_by-later setup small large n (slice_index covers n) within (has n))
-    ∙ ap (λ (l : Covered). said_by setup small n (slice_index covers n) ++ l) (said_within-later setup small large covers n within has)
-
-pub AreKnown-later : (setup : Lists) (small large : Kept) (known : KnownFacts) → Within small large → AreKnown setup small known → AreKnown setup large known
-AreKnown-later setup small large known within was = record {
-  numbers = λ s j low high. some_later small large (s, j) within (was.numbers s j low high);
-  stand = λ t. subst (λ (l : Covered). StandsFor known.facts l t) (sym (said_within-later setup small large known.taken.items (length setup.senders) within was.numbers)) (was.stand t);
+-- what is under way stays so where the facts take what a kept text says
+pub way_more : (setup : Lists) (content : Content) (p : Place) (text : List ℕ) (old new : FactLists) → get content.kept p ≡ Some text
+    → ((s : Covered) → Tells old s → Tells new (option_to_list (item_at setup (p, text)) ++ s)) → ((count : FactRow → ℕ) → IsChangedFrom count old → IsChangedFrom count new) → (AreByMessage old.uploads → AreByMessage new.uploads)
+    → AreUnderWay setup content old → AreUnderWay setup content new
+way_more setup content p text old new stands tells moved by way = record {
+  tells = more_tell (option_to_list (item_at setup (p, text)) ++ said_all setup content.kept) (said_all setup content.kept)
+      (λ m c. elim (Contains-append_cases (option_to_list (item_at setup (p, text))) (said_all setup content.kept) m c) [
+        | inl own ↦ said_at_place setup content.kept p text m stands (in_option (item_at setup (p, text)) m own)
+        | inr among ↦ among
+      ])
+      new (tells (said_all setup content.kept) way.tells);
+  by_message = by way.by_message;
+  rows = moved (count_in content.facts) way.rows;
 }
 
-pub if_known-later : (setup : Lists) (small large : Kept) (o : Option KnownFacts) → Within small large → IfSome o (λ known. AreKnown setup small known) → IfSome o (λ known. AreKnown setup large known)
-if_known-later setup small large None within was = tt
-if_known-later setup small large (Some known) within was = AreKnown-later setup small large known within was
-
--- what is known stands, where it is counted too
-pub if_known-counted : (setup : Lists) (kept : Kept) (counts : List ℕ) (known : KnownFacts) (o : Option KnownFacts) → FactsStand setup kept known → HasEach kept counts → IfSome o (λ left. left ≡ known) → IfSome o (λ left. (s : ℕ) → slice_index left.taken.items s ≤ slice_index counts s) → IfSome o (λ left. AreKnown setup kept left)
-if_known-counted setup kept counts known None stand has same within = tt
-if_known-counted setup kept counts known (Some left) stand has same within = record {
-  numbers = λ s j low high. has s j low (omega (arith, high, within s));
-  stand = subst (FactsStand setup kept) (sym same) stand;
-}
-
-pub if_stand : (setup : Lists) (kept : Kept) (o : Option KnownFacts) → IfSome o (λ known. AreKnown setup kept known) → IfSome o (λ known. FactsStand setup kept known)
-if_stand setup kept None was = tt
-if_stand setup kept (Some known) was = was.stand
+-- what a text that is refused, but for want of memory, reads as
+pub err_read : (setup : Lists) (text : List ℕ) (fault : MailFault) → (Err fault ≡ read setup text) ⊎ (◌≡◌ {A = Result Message MailFault} (Err fault) (Err NoMemory)) → (fault ≡ NoMemory → ⊥) → read setup text ≡ Err fault
+err_read setup text fault exact other = ⊎_elim (λ e. sym e) (λ e. let same : fault ≡ NoMemory = cc in absurd (other same)) exact

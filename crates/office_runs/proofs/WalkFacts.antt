@@ -2,7 +2,7 @@
 use Rattle.std.proofs.Common.{◌≡◌, ⊎_elim, inl, inr, ℕ, zero, suc, ◌+◌, ◌<◌, ◌≤◌, Bool, true, false, cond, ◌&&◌, nat_le, List, [], ◌∷◌, ◌++◌, length, Option, Some, None, Result, Ok, Err, IsSome, option_to_list, sym, ap, subst, ◌∙◌, refl, arith}
 use Rattle.std.specs.Prelude.{Contains, T}
 use Rattle.std.specs.Ordering.{eq_by_cmp, is_eq, is_lt}
-use Rattle.std.specs.FinMap.{get, entries, entries_sorted, get-entries, get-retain_keys, find, is_sorted}
+use Rattle.std.specs.FinMap.{get, empty, get-empty, entries, entries_sorted, get-entries, get-retain_keys, find, is_sorted}
 use Rattle.std.specs.FinMap.Entries.{below_all}
 use Rattle.std.proofs.lemmas.Bool.{cases_lt, le-leb, lt-leb}
 use Rattle.std.proofs.lemmas.Cmp.{tied_itself}
@@ -40,7 +40,7 @@ answer_place : (p : Place) (r : Result Message MailFault) (m : CoveredItem) → 
 answer_place p (Ok message) m e = body_place p message.body m e
 answer_place p (Err fault) m e = absurd (cc (e))
 
-at_place : (setup : Lists) (e : Place × List ℕ) (m : CoveredItem) → item_at setup e ≡ Some m → e.0 ≡ (m.sender, m.number)
+pub at_place : (setup : Lists) (e : Place × List ℕ) (m : CoveredItem) → item_at setup e ≡ Some m → e.0 ≡ (m.sender, m.number)
 unfolding item_at
 at_place setup e m is = answer_place e.0 (read setup e.1) m is
 
@@ -59,7 +59,7 @@ pub record IsSaid (setup : Lists) (kept : Kept) (covers : ℕ → ℕ) (n : ℕ)
   pub high : p.1 ≤ covers p.0
   pub is : item_of setup p (get kept p) ≡ Some m
 
-in_option : {A : Type 0} (o : Option A) (x : A) → Contains (option_to_list o) x → o ≡ Some x
+pub in_option : {A : Type 0} (o : Option A) (x : A) → Contains (option_to_list o) x → o ≡ Some x
 in_option None x c = none_among x c
 in_option (Some y) x c = elim (first_or_rest y [] x c) [ inl e ↦ ap Some e | inr among ↦ none_among x among ]
 
@@ -138,7 +138,7 @@ found_rest : (q x : Place) (b : Bool) (text : List ℕ) (rest : Option (List ℕ
 found_rest q x true text rest e apart = absurd (apart (tied x q e))
 found_rest q x false text rest e apart = refl
 
-find_entry : (es : List (Place × List ℕ)) (e : Place × List ℕ) → T (is_sorted place_cmp es) → Contains es e → find place_cmp e.0 es ≡ Some e.1
+pub find_entry : (es : List (Place × List ℕ)) (e : Place × List ℕ) → T (is_sorted place_cmp es) → Contains es e → find place_cmp e.0 es ≡ Some e.1
 find_entry [] e s c = none_among e c
 find_entry (d ∷ ds) e s c = elim (first_or_rest d ds e c) [
   | inl same ↦ subst (λ (f : Place × List ℕ). find place_cmp f.0 (d ∷ ds) ≡ Some f.1) same (found_first d.0 d.0 d.1 (find place_cmp d.0 ds) refl)
@@ -151,13 +151,13 @@ found_in : (q : Place) (d : Place × List ℕ) (ds : List (Place × List ℕ)) (
 found_in q d ds text true e is rest = at_front d (q, text) ds (ap (λ (p : Place). (p, d.1)) (sym (tied d.0 q e)) ∙ ap (λ (t : List ℕ). (q, t)) (some_same d.1 text is))
 found_in q d ds text false e is rest = tail_of d ds (q, text) (rest is)
 
-entry_found : (es : List (Place × List ℕ)) (q : Place) (text : List ℕ) → find place_cmp q es ≡ Some text → Contains es (q, text)
+pub entry_found : (es : List (Place × List ℕ)) (q : Place) (text : List ℕ) → find place_cmp q es ≡ Some text → Contains es (q, text)
 entry_found [] q text is = absurd (cc (is))
 entry_found (d ∷ ds) q text is = found_in q d ds text _ refl is (entry_found ds q text)
 
 -- the covered mail has what is kept up to the cover
 
-get-covered : (setup : Lists) (kept : Kept) (k : ℕ) (p : Place) → get (covered setup kept k) p ≡ cond (is_covered (cover setup kept k) p) (get kept p) None
+pub get-covered : (setup : Lists) (kept : Kept) (k : ℕ) (p : Place) → get (covered setup kept k) p ≡ cond (is_covered (cover setup kept k) p) (get kept p) None
 unfolding covered
 get-covered setup kept k p = get-retain_keys kept (is_covered (cover setup kept k)) p (λ x e. ap (is_covered (cover setup kept k)) (sym (exact_places p x e)))
 
@@ -180,7 +180,7 @@ place_covered covers p low high = ap (λ b. b && nat_le p.1 (covers p.0)) (le-le
 some_of : {A : Type 0} (o : Option A) (x : A) → o ≡ Some x → IsSome o
 some_of o x e = rw e refl
 
-same_messages : (setup : Lists) (kept : Kept) (k : ℕ) → ((p : Place) → IsSome (get kept p) → IsPlace setup p) → SameElements (said_within setup kept (cover setup kept k) (length setup.senders)) (covered_items setup kept k)
+pub same_messages : (setup : Lists) (kept : Kept) (k : ℕ) → ((p : Place) → IsSome (get kept p) → IsPlace setup p) → SameElements (said_within setup kept (cover setup kept k) (length setup.senders)) (covered_items setup kept k)
 unfolding covered_items
 same_messages setup kept k places = (
   λ m c.
@@ -200,6 +200,15 @@ same_messages setup kept k places = (
         is = ap (item_of setup e.0.0) stood.1 ∙ e.2;
       }),
 )
+
+-- where nothing is kept, nothing is covered
+pub none_covered : (setup : Lists) (k : ℕ) (m : CoveredItem) → Contains (covered_items setup empty k) m → ⊥
+unfolding covered_items
+none_covered setup k m c =
+    let e = given_by (item_at setup) (entries (covered setup empty k)) m c in
+    let found : get (covered setup empty k) e.0.0 ≡ Some e.0.1 = get-entries (covered setup empty k) e.0.0 ∙ find_entry (entries (covered setup empty k)) e.0 (entries_sorted (covered setup empty k)) e.1 in
+    let stood = kept_by (is_covered (cover setup empty k) e.0.0) (get empty e.0.0) e.0.1 (sym (get-covered setup empty k e.0.0) ∙ found) in
+    absurd (cc (sym (get-empty place_cmp e.0.0) ∙ stood.1))
 
 pub stands_for_covered : (setup : Lists) (kept : Kept) (k : ℕ) (f : FactLists) (t : Suite) → ((p : Place) → IsSome (get kept p) → IsPlace setup p) → StandsFor f (said_within setup kept (cover setup kept k) (length setup.senders)) t → StandsFor f (covered_items setup kept k) t
 stands_for_covered setup kept k f t places stands =
@@ -238,3 +247,8 @@ said_at-text setup kept p text e = ap (λ (o : Option (List ℕ)). option_to_lis
 pub item_at-read : (setup : Lists) (p : Place) (text : List ℕ) (r : Result Message MailFault) → read setup text ≡ r → option_to_list (item_at setup (p, text)) ≡ option_to_list (item_in_answer p r)
 unfolding item_at
 item_at-read setup p text r is = ap (λ (x : Result Message MailFault). option_to_list (item_in_answer p x)) is
+
+-- and so its item
+pub item_is : (setup : Lists) (p : Place) (text : List ℕ) (r : Result Message MailFault) → read setup text ≡ r → item_at setup (p, text) ≡ item_in_answer p r
+unfolding item_at
+item_is setup p text r is = ap (item_in_answer p) is

@@ -13,4 +13,5 @@ pub mod Ready
 pub mod Replay
 pub mod OfficeState
 pub mod State
+pub mod Taking
 pub mod Walk

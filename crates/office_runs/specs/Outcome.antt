@@ -20,7 +20,7 @@ use Rattle.office_mail.specs.Kept.{Kept, Place}
 use Rattle.office_mail.specs.Runs.{orders_to, latest_day, covered}
 use Rattle.office_keeper.specs.declared.values.Finished.{Finished}
 use Rattle.office_keeper.specs.declared.values.Reports.{Reports}
-use Rattle.office_keeper.specs.Content.{reports_in}
+use Rattle.office_runs.specs.declared.rules.RunOutcome.{RunOutcome}
 
 -- testing as the rules see it
 abbrev pub Testing : Type 0
@@ -43,8 +43,21 @@ item_at setup e = item_in_answer e.0 (read setup e.1)
 unfoldable pub covered_items : Lists → Kept → ℕ → Covered
 covered_items setup kept k = filter_map (item_at setup) (entries (covered setup kept k))
 
+-- what a run decides: testing as it leaves it, and the two reports
+pub record Outcome : Type 0 where
+  pub testing : Testing
+  pub excuses : List ℕ
+  pub updates : List ℕ
+
+-- the outcome in what a finished run leaves, and in what the rules of a run give
+abbrev pub outcome_in : Finished → Outcome
+outcome_in done = record { testing = done.testing; excuses = done.excuses; updates = done.updates }
+
+abbrev pub outcome_left : RunOutcome → Outcome
+outcome_left left = record { testing = left.testing; excuses = left.excuses; updates = left.updates }
+
 -- the reports on excuses and decisions, and testing as the decisions leave it
-abbrev pub reported : Lists → ℕ → Date → List Excuse → updates.Outcome → Finished
+abbrev pub reported : Lists → ℕ → Date → List Excuse → updates.Outcome → Outcome
 reported setup run date excuses update = record {
   testing = update.suite;
   excuses = texts.excuses_text setup.archs run date excuses;
@@ -53,29 +66,33 @@ reported setup run date excuses update = record {
 
 -- The rules of a run: from its number, its date, its covered messages and the testing before it. First come the
 -- excuses, and then what is decided by them (Debian Developer's Reference 5.13.2).
-unfoldable pub outcome : Lists → ℕ → Date → Covered → Testing → Finished
+unfoldable pub outcome : Lists → ℕ → Date → Covered → Testing → Outcome
 outcome setup run date mail testing =
     let excuses : List Excuse = excuses_of setup.archs mail testing date in
     reported setup run date excuses (update_of setup.archs mail excuses testing)
 
 -- nothing has run
-abbrev pub at_start : Finished
+abbrev pub at_start : Outcome
 at_start = record { testing = record { sources = []; rows = [] }; excuses = []; updates = [] }
 
 -- where a date is known; there is none where there is no order
-abbrev pub outcome_on : Lists → ℕ → Option Date → Covered → Testing → Finished
+abbrev pub outcome_on : Lists → ℕ → Option Date → Covered → Testing → Outcome
 outcome_on setup run None mail testing = at_start
 outcome_on setup run (Some date) mail testing = outcome setup run date mail testing
 
 -- run k, over the testing that run k - 1 left
-unfoldable pub outcome_of : Lists → Kept → ℕ → Finished
+unfoldable pub outcome_of : Lists → Kept → ℕ → Outcome
 outcome_of setup kept zero = at_start
 outcome_of setup kept (suc k) =
     outcome_on setup (suc k) (latest_day (orders_to setup kept (suc k))) (covered_items setup kept (suc k)) (outcome_of setup kept k).testing
 
+-- the two reports of an outcome
+abbrev pub reports_from : Outcome → Reports
+reports_from o = record { excuses = o.excuses; updates = o.updates }
+
 -- the reports of run k, and testing after it
 abbrev pub reports_of : Lists → Kept → ℕ → Reports
-reports_of setup kept k = reports_in (outcome_of setup kept k)
+reports_of setup kept k = reports_from (outcome_of setup kept k)
 
 abbrev pub testing_after : Lists → Kept → ℕ → Testing
 testing_after setup kept k = (outcome_of setup kept k).testing

@@ -12,19 +12,31 @@ use Rattle.office_replies.specs.declared.faults.DeliverFault.{DeliverFault}
 use Rattle.office_replies.specs.declared.faults.DeliverFault.TheVariants.{Mail, OtherText, Store}
 use Rattle.office_replies.specs.declared.faults.Held.{Held}
 use Rattle.office_keeper.specs.Content.{Content}
+use Rattle.office_keeper.specs.FactSet.{count_in}
 use Rattle.office_keeper.specs.Provenance.{AreOwnTexts}
 use Rattle.office_keeper.specs.declared.values.Reports.{Reports}
 use Rattle.office_keeper.specs.declared.keeping.Keeper.{Ghosts}
 use Rattle.office_runs.specs.OfficeState.{OfficeState}
-use Rattle.office_runs.specs.Outcome.{reports_of, reports_to, testing_after}
+use Rattle.office_runs.specs.Outcome.{covered_items, reports_of, reports_to, testing_after}
+use Rattle.testing_model.specs.FactLists.{FactLists}
+use Rattle.testing_model.specs.FactRows.{rows_of, times}
+use Rattle.testing_model.specs.KeptFacts.{KeptFacts}
+use Rattle.testing_model.specs.declared.fact_row.FactRow.{FactRow}
 use Rattle.testing_rules.specs.Watched.{AllWatchedWork}
 
 -- the state of the office that a store holds
 abbrev pub state_of : {K : Type 0} → Ghosts K → K → OfficeState
 state_of keeper store = record { setup = keeper.setup store; kept = (keeper.content store).kept; finished = length (keeper.content store).reports }
 
--- Each text is kept under a place that a message may have, which is its own; the finished runs are
--- ready, their reports stand, and so does the testing that they left, where all watched rows are installable.
+-- The kept rows of facts are those of facts that stand for the covered mail of the last finished run beside the testing that it
+-- left, with exactly the uploads that count there.
+pub record KeepsFacts (setup : Lists) (content : Content) : Type 0 where
+  pub facts : FactLists
+  pub kept : KeptFacts facts (covered_items setup content.kept (length content.reports)) content.testing
+  pub rows : (r : FactRow) → times r (rows_of facts) ≡ count_in content.facts r
+
+-- Each text is kept under a place that a message may have, which is its own; the finished runs are ready, their reports stand,
+-- and so do the testing that they left, where all watched rows are installable, and the facts of what they cover.
 pub record IsOffice (setup : Lists) (content : Content) : Type 0 where
   pub places : (p : Place) → IsSome (get content.kept p) → IsPlace setup p
   pub texts : AreOwnTexts setup content.kept
@@ -32,6 +44,7 @@ pub record IsOffice (setup : Lists) (content : Content) : Type 0 where
   pub reports : content.reports ≡ reports_to setup content.kept (length content.reports)
   pub testing_is : content.testing ≡ testing_after setup content.kept (length content.reports)
   pub watched : AllWatchedWork setup.archs content.testing.rows
+  pub facts : KeepsFacts setup content
 
 -- the store holds what an office leaves
 abbrev pub IsSound : {K : Type 0} → Ghosts K → K → Type 0

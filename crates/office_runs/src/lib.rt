@@ -9,6 +9,8 @@ mod office;
 mod orders;
 mod posting;
 mod replays;
+mod restoring;
+mod retaking;
 mod rules;
 mod runs;
 mod stored;

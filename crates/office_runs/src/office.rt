@@ -10,7 +10,7 @@ ghost use Rattle.office_keeper.specs.Provenance.{AreOwnTexts};
 ghost use Rattle.office_replies.specs.Counted.{Counted, CountedDelivery};
 ghost use Rattle.office_runs.specs.StaysTrusted.{StaysTrusted};
 ghost use Rattle.office_runs.specs.Outcome.{testing_after, testing_text};
-ghost use Rattle.office_runs.specs.State.{IsSound, state_of, answer_to, AnswersDelivery, reports_at};
+ghost use Rattle.office_runs.specs.State.{IsSound, KeepsFacts, state_of, answer_to, AnswersDelivery, reports_at};
 
 use crate::covered::KnownFacts;
 use crate::posting::deliver;
@@ -47,7 +47,7 @@ impl<K: Keeper> Model for Office<K> {
 
     ghost invariant = { λ a. (K.setup a.keeper ≡ a.setup)
         × (K.is_trusted a.keeper → IsCounted a.setup (K.content a.keeper) a.counts.items a.orders.items)
-        × (K.is_trusted a.keeper → IfSome a.known (λ known. AreKnown a.setup (K.content a.keeper).kept known)) };
+        × (K.is_trusted a.keeper → IfSome a.known (λ known. AreKnown a.setup (K.content a.keeper) known)) };
 }
 
 impl<K: Keeper> Office<K> {
@@ -145,6 +145,9 @@ impl<K: Keeper> Office<K> {
         ensures only_ready { K.is_trusted self.new → IsSound K.Keeper self.old → IsReady (K.setup self.old) (K.content self.old).kept (state_of K.Keeper self.new).finished }
         // In every state all watched rows of testing are installable.
         ensures watched { K.is_trusted self.new → IsSound K.Keeper self.old → AllWatchedWork (K.setup self.new).archs (testing_after (K.setup self.new) (K.content self.new).kept (state_of K.Keeper self.new).finished).rows }
+        // Also on a fault the kept rows of facts are those of facts that stand for what the last finished run covers, with
+        // exactly the uploads that count beside the testing that it left.
+        ensures facts { K.is_trusted self.new → IsSound K.Keeper self.old → KeepsFacts (K.setup self.new) (K.content self.new) }
         ensures setup { K.setup self.new ≡ K.setup self.old }
         ensures sound { K.is_trusted self.new → IsSound K.Keeper self.old → IsSound K.Keeper self.new }
         ensures before { K.is_trusted self.new → K.is_trusted self.old }

@@ -39,6 +39,7 @@ fn post<K: Keeper>(
     ensures kept { K.is_trusted keeper.new → OnOk result ((K.content keeper.new).kept ≡ kept_from setup.now (K.content keeper.old).kept (text.now ∷ [])) }
     ensures within { K.is_trusted keeper.new → Within (K.content keeper.old).kept (K.content keeper.new).kept }
     ensures reports { K.is_trusted keeper.new → (K.content keeper.new).reports ≡ (K.content keeper.old).reports }
+    ensures facts { K.is_trusted keeper.new → (K.content keeper.new).facts ≡ (K.content keeper.old).facts }
     ensures testing { K.is_trusted keeper.new → K.is_legible keeper.old → (K.content keeper.new).testing ≡ (K.content keeper.old).testing }
     ensures office { K.is_trusted keeper.new → K.is_legible keeper.old → IsOffice setup.now (K.content keeper.old) → IsOffice setup.now (K.content keeper.new) }
     ensures err { K.is_trusted keeper.new → OnErr result (K.content keeper.new ≡ K.content keeper.old) }
@@ -73,6 +74,7 @@ pub fn deliver<K: Keeper>(
     ensures kept { K.is_trusted keeper.new → OnOk result ((K.content keeper.new).kept ≡ kept_from setup.now (K.content keeper.old).kept (text.now ∷ [])) }
     ensures within { K.is_trusted keeper.new → Within (K.content keeper.old).kept (K.content keeper.new).kept }
     ensures reports { K.is_trusted keeper.new → (K.content keeper.new).reports ≡ (K.content keeper.old).reports }
+    ensures facts { K.is_trusted keeper.new → (K.content keeper.new).facts ≡ (K.content keeper.old).facts }
     ensures testing { K.is_trusted keeper.new → K.is_legible keeper.old → (K.content keeper.new).testing ≡ (K.content keeper.old).testing }
     ensures office { K.is_trusted keeper.new → K.is_legible keeper.old → IsOffice setup.now (K.content keeper.old) → IsOffice setup.now (K.content keeper.new) }
     ensures err { K.is_trusted keeper.new → OnErr result (K.content keeper.new ≡ K.content keeper.old) }

@@ -1,11 +1,14 @@
 //! What a run writes and leaves.
-ghost use Rattle.std.specs.Prelude.{◌≡◌, List, ◌++◌, IfOk, IfErr, OnOk, max, option_to_list};
-ghost use Rattle.office_runs.specs.Outcome.{item_in_body, outcome};
-ghost use Rattle.testing_rules.specs.Covered.{Covered};
+ghost use Rattle.std.specs.Prelude.{◌≡◌, ◌≤◌, ℕ, List, ◌∷◌, ◌++◌, Some, Contains, IfOk, IfErr, OnOk, length, max, option_to_list};
+ghost use Rattle.office_runs.specs.Outcome.{item_in_body, outcome, outcome_left};
+ghost use Rattle.testing_rules.specs.Covered.{Covered, CoveredItem, upload_of};
+ghost use Rattle.testing_rules.specs.FactDifference.{IsChangedFrom};
+ghost use Rattle.testing_model.specs.declared.fact_row.FactRow.{FactRow};
+ghost use Rattle.testing_model.specs.declared.facts.UploadIn.{UploadIn};
+ghost use Rattle.testing_rules.specs.Uploads.{AreByMessage};
 ghost use Rattle.testing_rules.specs.StandsFor.{StandsFor};
 ghost use Rattle.testing_rules.specs.Suite.{Suite};
-ghost use Rattle.testing_rules.specs.Updates.{update_of};
-ghost use Rattle.testing_model.specs.declared.excuse.Excuse.{Excuse};
+ghost use Rattle.testing_model.specs.Tells.{AreSaidBy, Tells};
 ghost use Rattle.testing_rules.specs.Watched.{AllWatchedWork};
 ghost use Rattle.office_mail.specs.Runs.{cover_of};
 ghost use Rattle.testing_rules.specs.Provenance.{IsGivenBy};
@@ -13,21 +16,20 @@ ghost use Rattle.testing_rules.specs.Provenance.{IsGivenBy};
 use crate::orders::stated_for;
 use deb_control::{NoMemory, Text};
 use jiff::civil::Date;
-use office_keeper::Finished;
 use office_mail::{Body, RunOrder, Setup};
 use std::alloc::Global;
-use testing_rules::laws::update_is_given;
-use testing_rules::{Archs, Facts, Testing, excuses, excuses_text, migrate, update_text};
+use testing_rules::{Facts, Item, Testing, excuses, excuses_text, migrate, update_text};
 
-/// What a run brings into testing is given by the messages that it covers.
-fn gives_update(archs: &Archs)
-    ensures { (s : Covered) (excuses : List Excuse) (old : Suite) → IsGivenBy archs.now s old (update_of archs.now s excuses old).suite }
-{
-    update_is_given();
-    let _ = archs.as_slice();
+/// What a run decides: testing as it leaves it, and the two reports.
+#[derive(Drop)]
+pub struct RunOutcome {
+    pub testing: Testing,
+    pub excuses: Text,
+    pub updates: Text,
 }
 
-/// A run by the rules from this testing, over the messages that the facts stand for.
+/// A run by the rules from this testing, over the messages that the facts stand for. What it brings into testing is given by
+/// any messages that say the facts.
 #[tactic(auto, unfolding(crate::specs::Outcome::outcome))]
 pub fn run_rules(
     alloc: Global,
@@ -36,19 +38,18 @@ pub fn run_rules(
     date: Date,
     facts: &Facts,
     testing: Testing,
-) -> Result<Finished, NoMemory>
-    ensures ok { IfOk result (λ o. (s : Covered) → StandsFor facts.now s testing → o ≡ outcome setup.now run date s testing) }
-    ensures given { IfOk result (λ o. (s : Covered) → StandsFor facts.now s testing → IsGivenBy setup.now.archs s testing o.testing) }
+) -> Result<RunOutcome, NoMemory>
+    ensures ok { IfOk result (λ o. (s : Covered) → StandsFor facts.now s testing → outcome_left o ≡ outcome setup.now run date s testing) }
+    ensures given { IfOk result (λ o. (s : Covered) → AreSaidBy facts.now s → IsGivenBy setup.now.archs s testing o.testing) }
     ensures watched { IfOk result (λ o. AllWatchedWork setup.now.archs testing.rows → AllWatchedWork setup.now.archs o.testing.rows) }
 {
     let archs = setup.archs();
-    gives_update(archs);
     let excuses = excuses(alloc, archs, facts, &testing, date)?;
     let mut after = testing;
     let update = migrate(alloc, archs, facts, &excuses, &mut after)?;
     let excuses = excuses_text(alloc, archs, run, date, &excuses)?;
     let updates = update_text(alloc, archs, run, date, &update)?;
-    Ok(Finished {
+    Ok(RunOutcome {
         testing: after,
         excuses: Text::from_string(excuses),
         updates: Text::from_string(updates),
@@ -57,12 +58,31 @@ pub fn run_rules(
 
 /// The facts take what a message says to the rules.
 pub fn take_body(facts: &mut Facts, sender: u32, number: u32, body: &Body) -> Result<(), NoMemory>
-    ensures { OnOk result ((s : Covered) (t : Suite) → StandsFor facts.old s t → StandsFor facts.new (option_to_list (item_in_body (sender, number) body.now) ++ s) t) }
+    ensures stand { OnOk result ((s : Covered) (t : Suite) → StandsFor facts.old s t → StandsFor facts.new (option_to_list (item_in_body (sender, number) body.now) ++ s) t) }
+    ensures tells { OnOk result ((s : Covered) → Tells facts.old s → Tells facts.new (option_to_list (item_in_body (sender, number) body.now) ++ s)) }
+    ensures moved { OnOk result ((count : FactRow → ℕ) → IsChangedFrom count facts.old → IsChangedFrom count facts.new) }
+    ensures by_message { OnOk result (AreByMessage facts.old.uploads → AreByMessage facts.new.uploads) }
+    ensures kept { OnOk result ((u : UploadIn) → Contains facts.old.uploads u → Contains facts.new.uploads u) }
+    ensures there { OnOk result ((m : CoveredItem) (u : UploadIn) → item_in_body (sender, number) body.now ≡ Some m → upload_of m ≡ Some u → Contains facts.new.uploads u) }
 {
     match body {
-        Body::Item(item) => facts.take(sender, number, item),
+        Body::Item(item) => take_item(facts, sender, number, item),
         Body::Run(_) => Ok(()),
     }
+}
+
+/// The facts take an item that a message says.
+fn take_item(facts: &mut Facts, sender: u32, number: u32, item: &Item) -> Result<(), NoMemory>
+    ensures stand { OnOk result ((s : Covered) (t : Suite) → let m : CoveredItem = record { sender = sender; number = number; item = item.now } in StandsFor facts.old s t → StandsFor facts.new (m ∷ s) t) }
+    ensures tells { OnOk result ((s : Covered) → let m : CoveredItem = record { sender = sender; number = number; item = item.now } in Tells facts.old s → Tells facts.new (m ∷ s)) }
+    ensures moved { OnOk result ((count : FactRow → ℕ) → IsChangedFrom count facts.old → IsChangedFrom count facts.new) }
+    ensures by_message { OnOk result (AreByMessage facts.new.uploads) }
+    ensures kept { OnOk result ((u : UploadIn) → Contains facts.old.uploads u → Contains facts.new.uploads u) }
+    ensures there { OnOk result ((u : UploadIn) → let m : CoveredItem = record { sender = sender; number = number; item = item.now } in upload_of m ≡ Some u → Contains facts.new.uploads u) }
+{
+    facts.take(sender, number, item)?;
+    let _ = facts.uploads();
+    Ok(())
 }
 
 /// The greatest number that the orders state for a sender, 0 where there is none.

@@ -4,6 +4,7 @@
 ghost use Rattle.std.specs.Prelude.{is_ok, ◌≡◌, ◌+◌, ◌<◌, ◌≤◌, ◌++◌, ◌∷◌, [], None, IfOk, OnOk, OnErr, length};
 ghost use Rattle.std.specs.FinMap.{get, insert};
 ghost use Rattle.office_keeper.specs.Content.{with_text, with_run, reports_in, item_from_one, letters_within};
+ghost use Rattle.office_keeper.specs.FactSet.{AreHoldable, facts_after, rows_in};
 ghost use Rattle.office_keeper.specs.Provenance.{IsGiven, KnowsArchs};
 ghost use Rattle.office_replies.specs.Counted.{Counted};
 ghost use Rattle.office_runs.specs.StaysTrusted.{StaysTrusted};
@@ -11,7 +12,7 @@ ghost use Rattle.office_runs.specs.ReadsStore.{ReadsStore};
 
 use office_keeper::{Finished, Keeper, Letter, MailText, Reports};
 use office_replies::StoreFault;
-use testing_rules::Testing;
+use testing_rules::{FactRows, Testing};
 
 /// How many numbers of a sender are loaded at once, at most. So many texts of the greatest size take 17 MB.
 pub const BLOCK: u32 = 256;
@@ -68,6 +69,7 @@ pub fn keep<K: Keeper>(
     ensures kept { K.is_trusted keeper.new → K.is_legible keeper.old → OnOk result (K.content keeper.new ≡ with_text (K.content keeper.old) sender number text.now) }
     ensures mail { K.is_trusted keeper.new → OnOk result ((K.content keeper.new).kept ≡ insert (K.content keeper.old).kept (sender, number) text.now) }
     ensures reports { K.is_trusted keeper.new → (K.content keeper.new).reports ≡ (K.content keeper.old).reports }
+    ensures facts { K.is_trusted keeper.new → (K.content keeper.new).facts ≡ (K.content keeper.old).facts }
     ensures err { K.is_trusted keeper.new → OnErr result (K.content keeper.new ≡ K.content keeper.old) }
     ensures setup { K.setup keeper.new ≡ K.setup keeper.old }
     ensures before { K.is_trusted keeper.new → K.is_trusted keeper.old }
@@ -87,17 +89,18 @@ pub fn finished<K: Keeper>(keeper: &mut K) -> Result<u32, StoreFault>
     Ok(keeper.finished()?)
 }
 
-/// Makes the next run finished.
+/// Makes the next run finished, and changes the rows of facts as it says.
 pub fn finish<K: Keeper>(keeper: &mut K, run: u32, done: Finished) -> Result<(), StoreFault>
     requires next { K.is_trusted keeper.old → run ≡ length (K.content keeper.old).reports + 1 }
     requires known { K.is_trusted keeper.old → KnowsArchs (K.setup keeper.old).archs done.testing.rows }
-    ensures done { K.is_trusted keeper.new → K.is_legible keeper.old → IsGiven (K.setup keeper.old) (K.content keeper.old) done.testing → OnOk result (K.content keeper.new ≡ with_run (K.content keeper.old) done) }
+    ensures done { K.is_trusted keeper.new → K.is_legible keeper.old → IsGiven (K.setup keeper.old) (K.content keeper.old) done.testing → AreHoldable (K.setup keeper.old) (facts_after done.facts (K.content keeper.old).facts) → OnOk result (K.content keeper.new ≡ with_run (K.content keeper.old) done) }
     ensures mail { K.is_trusted keeper.new → (K.content keeper.new).kept ≡ (K.content keeper.old).kept }
     ensures reports { K.is_trusted keeper.new → OnOk result ((K.content keeper.new).reports ≡ (K.content keeper.old).reports ++ reports_in done ∷ []) }
+    ensures facts { K.is_trusted keeper.new → AreHoldable (K.setup keeper.old) (facts_after done.facts (K.content keeper.old).facts) → OnOk result ((K.content keeper.new).facts ≡ facts_after done.facts (K.content keeper.old).facts) }
     ensures err { K.is_trusted keeper.new → OnErr result (K.content keeper.new ≡ K.content keeper.old) }
     ensures setup { K.setup keeper.new ≡ K.setup keeper.old }
     ensures before { K.is_trusted keeper.new → K.is_trusted keeper.old }
-    ensures legible { K.is_trusted keeper.new → K.is_legible keeper.old → IsGiven (K.setup keeper.old) (K.content keeper.old) done.testing → K.is_legible keeper.new }
+    ensures legible { K.is_trusted keeper.new → K.is_legible keeper.old → IsGiven (K.setup keeper.old) (K.content keeper.old) done.testing → AreHoldable (K.setup keeper.old) (facts_after done.facts (K.content keeper.old).facts) → K.is_legible keeper.new }
     ensures lasts { StaysTrusted K.Keeper keeper.old keeper.new (is_ok result) }
     ensures counted { Counted (K.refusals keeper.old) (K.refusals keeper.new) result }
 {
@@ -129,4 +132,12 @@ pub fn next_testing<K: Keeper>(keeper: &mut K) -> Result<Testing, StoreFault>
     ensures looks { ReadsStore K.Keeper keeper.old keeper.new result }
 {
     Ok(keeper.next_testing()?)
+}
+
+/// The rows of the facts of the mail that the finished runs cover.
+pub fn facts<K: Keeper>(keeper: &mut K) -> Result<FactRows, StoreFault>
+    ensures value { K.is_trusted keeper.new → IfOk result (λ rows. rows ≡ rows_in (K.content keeper.old).facts) }
+    ensures looks { ReadsStore K.Keeper keeper.old keeper.new result }
+{
+    Ok(keeper.facts()?)
 }

@@ -59,6 +59,8 @@ pub fn migrate(
 ) -> Result<Update, NoMemory>
     ensures ok { IfOk result (λ u. (s : Covered) (date : Date) → StandsFor facts.now s testing.old
         → excuses.now ≡ excuses_of archs.now s testing.old date → IsUpdate archs.now s excuses.now testing.old u testing.new) }
+    // Whatever the facts stand for, the run goes by their lists.
+    ensures by_lists { IfOk result (λ u. record { decisions = u; suite = testing.new } ≡ update_by archs.now facts.now.sources (unstable_words.built_rows archs.now facts.now.rows) facts.now.hints facts.now.unhints excuses.now testing.old) }
     ensures watched { AllWatchedWork archs.now testing.old.rows → AllWatchedWork archs.now testing.new.rows }
     ensures err { OnErr result (testing.new ≡ testing.old) }
 {

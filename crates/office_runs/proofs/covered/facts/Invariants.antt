@@ -1,6 +1,10 @@
-use Rattle.std.proofs.Common.{◌≡◌, ◌<◌, ◌≤◌, ℕ, slice_index}
+use Rattle.std.proofs.Common.{◌≡◌, ◌+◌, ◌<◌, ◌≤◌, ℕ, length, slice_index}
+use Rattle.testing_rules.specs.StandsFor.{StandsFor}
 use Rattle.office_mail.specs.Runs.{cover_of}
-use Rattle.office_runs.specs.Known.{FactsStand}
+use Rattle.office_runs.specs.Known.{AreUnderWay}
+use Rattle.office_runs.specs.Ready.{FirstOrders}
+use Rattle.office_runs.specs.State.{IsOffice}
+use Rattle.office_runs.specs.Walk.{said_within}
 use Rattle.office_runs.proofs.LookFacts.{Looked}
 use Rattle.office_runs.proofs.covered.facts.Given as goal
 
@@ -9,7 +13,9 @@ invariant-senders g l =
     let trusted = g.K.Keeper.is_trusted in
     let content = g.K.Keeper.content in
     record {
-      stand : trusted l.keeper → FactsStand l.setup (content l.fn.keeper).kept l.known;
+      way : trusted l.keeper → AreUnderWay l.setup (content l.fn.keeper) l.known.facts;
+      stand : trusted l.keeper → IsOffice l.setup (content l.fn.keeper) → FirstOrders l.setup (content l.fn.keeper).kept l.orders → length l.orders ≡ length (content l.fn.keeper).reports + 1
+          → StandsFor l.known.facts (said_within l.setup (content l.fn.keeper).kept (slice_index l.known.taken.items) (length l.setup.senders)) (content l.fn.keeper).testing;
       done : (s : ℕ) → s < l.sender → slice_index l.known.taken.items s ≡ cover_of l.orders s;
       ahead : (s : ℕ) → slice_index l.known.taken.items s ≤ cover_of l.orders s;
       looks : Looked g.K.Keeper l.fn.keeper l.keeper;

@@ -8,7 +8,7 @@ use Rattle.office_runs.proofs.TakenFacts.{Grows, stand_again, stand_more}
 use Rattle.office_runs.proofs.covered.take_on.Goals as goal
 
 pub returns-clause-stand : goal.returns-clause-stand
-returns-clause-stand g c = λ trusted low was t.
+returns-clause-stand g c = λ trusted t low was.
     let setup = c.args.setup.now in
     let content : Content = g.K.Keeper.content c.args.keeper.now in
     let n = length setup.senders in
@@ -29,4 +29,7 @@ returns-clause-stand g c = λ trusted low was t.
     (subst (λ (k : ℕ). StandsFor c.take_sender.new.facts (said_by setup content.kept sender k ++ before) t) (sym own)
     (c.in_ok-take_sender.ensures.taken trusted before t
     (subst (λ (k : ℕ). StandsFor c.args.known.now.facts (said_by setup content.kept sender k ++ before) t) (sym taken)
-    (stand_again setup content.kept c.args.known.now.facts a sender n t low (was t)))))
+    (stand_again setup content.kept c.args.known.now.facts a sender n t low was))))
+
+pub returns-clause-way : goal.returns-clause-way
+returns-clause-way g c = c.in_ok-take_sender.ensures.way

@@ -1,6 +1,7 @@
 use Rattle.std.proofs.Common.{ℕ, ◌++◌, subst, arith}
 use Rattle.testing_rules.specs.StandsFor.{StandsFor}
 use Rattle.office_keeper.specs.Content.{Content}
+use Rattle.office_runs.specs.Known.{AreUnderWay}
 use Rattle.office_runs.specs.Walk.{said_by}
 use Rattle.office_runs.proofs.LookFacts.{looked_none, looked_then}
 use Rattle.office_runs.proofs.covered.take_sender.Goals as goal
@@ -11,6 +12,7 @@ loads-init g c =
     record {
       within = c.requires.within;
       taken = λ trusted s t h. h;
+      way = λ trusted was. was;
       looks = looked_none g.K.Keeper c.args.keeper.now;
     }
 
@@ -26,6 +28,9 @@ loads-preserved g c =
           let earlier = next.looks.before trusted in
           subst (λ (m : Content). StandsFor c.loads.facts (said_by setup m.kept c.args.sender c.loads.taken ++ s) t → StandsFor c.take_block.new.facts (said_by setup m.kept c.args.sender end ++ s) t) (so.looks.same earlier)
           (next.taken trusted s t) (so.taken earlier s t h);
+      way = λ trusted was.
+          let earlier = next.looks.before trusted in
+          subst (λ (m : Content). AreUnderWay setup m c.loads.facts → AreUnderWay setup m c.take_block.new.facts) (so.looks.same earlier) (next.way trusted) (so.way earlier was);
       looks = looked_then g.K.Keeper c.args.keeper.now c.loads.keeper c.take_block.new.keeper so.looks next.looks;
     }
 
@@ -35,3 +40,6 @@ returns-clause-taken g c = λ trusted s t h.
     subst (λ (n : ℕ). StandsFor c.loads.facts (said_by c.args.setup.now content.kept c.args.sender n ++ s) t)
     (omega (arith, c.loads-test.false, c.loads.invariant.within))
     (c.loads.invariant.taken trusted s t h)
+
+pub returns-clause-way : goal.returns-clause-way
+returns-clause-way g c = c.loads.invariant.way

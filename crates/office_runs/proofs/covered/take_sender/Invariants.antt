@@ -2,6 +2,7 @@ use Rattle.std.proofs.Common.{◌≤◌, ◌-◌, ◌++◌}
 use Rattle.testing_rules.specs.Covered.{Covered}
 use Rattle.testing_rules.specs.Suite.{Suite}
 use Rattle.testing_rules.specs.StandsFor.{StandsFor}
+use Rattle.office_runs.specs.Known.{AreUnderWay}
 use Rattle.office_runs.specs.Walk.{said_by}
 use Rattle.office_runs.proofs.LookFacts.{Looked}
 use Rattle.office_runs.proofs.covered.take_sender.Given as goal
@@ -13,6 +14,7 @@ invariant-loads g l =
     record {
       within : l.taken ≤ l.cover;
       taken : trusted l.keeper → (s : Covered) (t : Suite) → StandsFor l.fn.facts (said_by l.setup (content l.fn.keeper).kept l.sender l.fn.taken ++ s) t → StandsFor l.facts (said_by l.setup (content l.fn.keeper).kept l.sender l.taken ++ s) t;
+      way : trusted l.keeper → AreUnderWay l.setup (content l.fn.keeper) l.fn.facts → AreUnderWay l.setup (content l.fn.keeper) l.facts;
       looks : Looked g.K.Keeper l.fn.keeper l.keeper;
     }
 

@@ -1,14 +1,17 @@
-use Rattle.std.proofs.Common.{◌≡◌, ℕ, List, sym, ap, subst, ◌∙◌}
+use Rattle.std.proofs.Common.{◌≡◌, ◌≤◌, ℕ, List, length, sym, ap, subst, ◌∙◌}
 use Rattle.testing_rules.specs.Suite.{Suite}
 use Rattle.testing_rules.specs.Excuses.{excuses_of}
 use Rattle.testing_rules.specs.Updates.{IsUpdate}
 use Rattle.testing_rules.specs.Reports.{excuses_text, update_text}
-use Rattle.office_keeper.specs.declared.values.Finished.{Finished}
 use Rattle.testing_rules.specs.Provenance.{IsGivenBy}
+use Rattle.testing_kept.proofs.Giving.{facts_give_update}
+use Rattle.testing_kept.specs.GivenUpdate.{suite_by}
+use Rattle.testing_model.specs.Updates.{Outcome as Update}
+use Rattle.office_runs.specs.Outcome.{Outcome}
 use Rattle.office_runs.proofs.RunFacts.{reported_is}
 use Rattle.office_runs.proofs.rules.run_rules.Goals as goal
 
-abbrev left : List ℕ → List ℕ → Suite → Finished
+abbrev left : List ℕ → List ℕ → Suite → Outcome
 left excuses updates testing = record { testing = testing; excuses = excuses; updates = updates }
 
 pub returns-clause-ok : goal.returns-clause-ok
@@ -31,15 +34,13 @@ returns-clause-ok c = λ s stands.
     (subst (λ (a : List (List ℕ)). IsUpdate a s es t ds new) same moved)
 
 pub returns-clause-given : goal.returns-clause-given
-returns-clause-given c = λ s stands.
-    let setup = c.args.setup.now in
-    let date = c.args.date in
+returns-clause-given c = λ s said.
     let t = c.args.testing in
     let archs = c.archs-archs.result.now in
+    let f = c.args.facts.now in
     let es = c.in_ok-excuses.excuses in
-    let ds = c.in_ok-update.update in
     let new = c.migrate.new.testing in
     let same = c.archs-archs.ensures.same in
-    let made = c.in_ok-excuses.ensures s stands in
-    let moved : IsUpdate archs s es t ds new = c.in_ok-update.ensures.ok s date stands made in
-    subst (λ (a : List (List ℕ)). IsGivenBy a s t new) same (subst (λ (x : Suite). IsGivenBy archs s t x) (sym moved.1) (c.gives_update.ensures s es t))
+    let few : length archs ≤ 16 = subst (λ (a : List (List ℕ)). length a ≤ 16) (sym same) c.archs-archs.ensures.valid.archs.few in
+    let is : new ≡ suite_by archs f es t = ap (λ (o : Update). o.suite) c.in_ok-update.ensures.by_lists in
+    subst (λ (a : List (List ℕ)). IsGivenBy a s t new) same (subst (λ (x : Suite). IsGivenBy archs s t x) (sym is) (facts_give_update archs s f es t few said).0)

@@ -1,21 +1,26 @@
-use Rattle.std.proofs.Common.{◌≡◌, ◌+◌, List, Option, IfSome, length, sym, ap, subst, ◌∙◌, arith}
+use Rattle.std.proofs.Common.{◌≡◌, ◌+◌, ◌<◌, ℕ, List, Option, IfSome, length, slice_index, sym, ap, subst, ◌∙◌, arith}
 use Rattle.std.specs.FinMap.{get}
 use Rattle.std.proofs.lemmas.List.{length_push}
+use Rattle.testing_rules.specs.FactLists.{FactLists}
+use Rattle.testing_rules.specs.KeptFacts.{KeptFacts}
+use Rattle.testing_model.specs.Suite.{Suite}
+use Rattle.testing_model.specs.declared.fact_row.FactChanges.{FactChanges}
 use Rattle.office_mail.specs.declared.message.RunOrder.{RunOrder}
 use Rattle.office_mail.specs.Kept.{Kept}
 use Rattle.office_mail.specs.Lists.{Lists}
-use Rattle.office_mail.specs.Runs.{IsReady}
-use Rattle.testing_model.specs.Suite.{Suite}
+use Rattle.office_mail.specs.Runs.{IsReady, cover_of}
 use Rattle.office_keeper.specs.Content.{Content, with_run}
+use Rattle.office_keeper.specs.FactSet.{AreHoldable, facts_after}
 use Rattle.office_keeper.specs.Provenance.{AreOwnTexts, IsGiven}
 use Rattle.office_runs.specs.declared.covered.KnownFacts.{KnownFacts}
-use Rattle.office_runs.specs.Known.{FactsStand}
-use Rattle.office_runs.specs.Outcome.{outcome_of}
+use Rattle.office_runs.specs.Known.{AreKnown}
+use Rattle.office_runs.specs.Outcome.{outcome_in, outcome_of}
 use Rattle.office_runs.specs.Ready.{FirstOrders, HasEach}
-use Rattle.office_runs.specs.State.{IsOffice}
+use Rattle.office_runs.specs.State.{IsOffice, KeepsFacts}
+use Rattle.office_runs.specs.Walk.{said_within}
 use Rattle.office_runs.proofs.CountFacts.{IsCounted-later}
 use Rattle.office_runs.proofs.FinishFacts.{IsOffice-finished}
-use Rattle.office_runs.proofs.TakenFacts.{if_known-counted, if_stand}
+use Rattle.office_runs.proofs.KeepingFacts.{Leaves, held_by_same, if_known-then, keeps_facts, leaves_over}
 use Rattle.office_runs.proofs.runs.finish_next.Goals as goal
 
 -- what is given stays so by equal lists, over equal contents
@@ -50,15 +55,27 @@ returns-clause-office g c = λ trusted legible office.
     let lists : g.K.Keeper.setup c.next_outcome.new.keeper ≡ setup = at2.looks.setup ∙ at1.looks.setup ∙ c.requires.lists in
     let own : AreOwnTexts setup mid.kept = subst (λ (m : Content). AreOwnTexts setup m.kept) (sym same1) office.texts in
     let gives = given_by_same (g.K.Keeper.setup c.next_outcome.new.keeper) setup late mid c.in_ok-done.done.testing lists (at2.looks.same t2) (at2.given t2 own) in
-    let next : new ≡ with_run old c.in_ok-done.done = at3.done trusted legible2 gives ∙ ap (λ (m : Content). with_run m c.in_ok-done.done) same2 in
+    let changes : FactChanges = c.in_ok-done.done.facts in
+    let held : AreHoldable (g.K.Keeper.setup c.next_outcome.new.keeper) (facts_after changes late.facts) =
+    held_by_same (g.K.Keeper.setup c.next_outcome.new.keeper) setup late mid changes lists (at2.looks.same t2) (at2.held t2 own) in
+    let next : new ≡ with_run old c.in_ok-done.done = at3.done trusted legible2 gives held ∙ ap (λ (m : Content). with_run m c.in_ok-done.done) same2 in
     let given : List RunOrder = c.deref.result.now in
     let first : FirstOrders setup mid.kept given = subst (FirstOrders setup mid.kept) (sym c.deref.ensures.value) (subst (λ (m : Content). FirstOrders setup m.kept orders) (sym same1) known.first) in
     let whole : length given ≡ length mid.reports + 1 = ap length c.deref.ensures.value ∙ size ∙ ap (λ (m : Content). length m.reports + 1) (sym same1) in
     let run : c.args.finished + 1 ≡ length mid.reports + 1 = ap (λ k. k + 1) finished ∙ ap (λ (m : Content). length m.reports + 1) (sym same1) in
-    let is : c.in_ok-done.done ≡ outcome_of setup old.kept (n + 1) =
+    let is : outcome_in c.in_ok-done.done ≡ outcome_of setup old.kept (n + 1) =
     at2.outcome t2 there first whole run ∙ ap (λ (m : Content). outcome_of setup m.kept (c.args.finished + 1)) same1 ∙ ap (λ k. outcome_of setup old.kept (k + 1)) finished in
     let works = at2.watched t2 there.watched in
-    IsOffice-finished setup old new c.in_ok-done.done office ready next is works
+    let f : FactLists = c.in_ok-done.left.facts in
+    let whole_orders : FirstOrders setup old.kept orders = known.first in
+    let leaves : Leaves setup old new given f changes =
+    leaves_over setup (g.K.Keeper.setup c.next_outcome.new.keeper) old mid late new orders given f changes same1 (at2.looks.same t2) lists c.deref.ensures.value whole_orders size (at2.way t2) at2.difference
+    (at3.mail trusted) (ap length (at3.reports trusted) ∙ length_push late.reports _) (at3.facts trusted) in
+    let stand : KeptFacts f (said_within setup old.kept (cover_of given) (length setup.senders)) new.testing =
+    subst (λ (t : Suite). KeptFacts f (said_within setup old.kept (cover_of given) (length setup.senders)) t) (sym (ap (λ (m : Content). m.testing) next))
+    (subst (λ (m : Content). KeptFacts f (said_within setup m.kept (cover_of given) (length setup.senders)) c.in_ok-done.done.testing) same1 (at2.kept t2 there first whole)) in
+    let keeps : KeepsFacts setup new = keeps_facts setup old new given f changes leaves office.places (ap (λ (m : Content). m.facts) next) stand in
+    IsOffice-finished setup old new c.in_ok-done.done office ready next is works keeps
 
 pub returns-clause-legible : goal.returns-clause-legible
 returns-clause-legible g c = λ trusted legible office.
@@ -75,7 +92,8 @@ returns-clause-legible g c = λ trusted legible office.
     let lists : g.K.Keeper.setup c.next_outcome.new.keeper ≡ setup = at2.looks.setup ∙ at1.looks.setup ∙ c.requires.lists in
     let own : AreOwnTexts setup mid.kept = subst (λ (m : Content). AreOwnTexts setup m.kept) (sym (at1.looks.same t1)) office.texts in
     let gives = given_by_same (g.K.Keeper.setup c.next_outcome.new.keeper) setup late mid c.in_ok-done.done.testing lists (at2.looks.same t2) (at2.given t2 own) in
-    at3.legible trusted (at2.looks.legible t2 (at1.looks.legible t1 legible)) gives
+    let held = held_by_same (g.K.Keeper.setup c.next_outcome.new.keeper) setup late mid c.in_ok-done.done.facts lists (at2.looks.same t2) (at2.held t2 own) in
+    at3.legible trusted (at2.looks.legible t2 (at1.looks.legible t1 legible)) gives held
 
 pub next_outcome-requires-clause-known : goal.next_outcome-requires-clause-known
 next_outcome-requires-clause-known g c = λ trusted.
@@ -83,9 +101,8 @@ next_outcome-requires-clause-known g c = λ trusted.
     let content = g.K.Keeper.content in
     let before : Option KnownFacts = c.args.known.now in
     let at1 = c.in_ok-next_is_ready.ensures in
-    let was = if_stand setup (content c.args.keeper.now).kept before (c.requires.facts (at1.looks.before trusted)) in
-    subst (λ (o : Option KnownFacts). IfSome o (λ known. FactsStand setup (content c.next_is_ready.new.keeper).kept known)) (sym c.take.ensures.value)
-    (subst (λ (m : Content). IfSome before (λ known. FactsStand setup m.kept known)) (sym (at1.looks.same trusted)) was)
+    subst (λ (o : Option KnownFacts). IfSome o (λ known. AreKnown setup (content c.next_is_ready.new.keeper) known)) (sym c.take.ensures.value)
+    (subst (λ (m : Content). IfSome before (λ known. AreKnown setup m known)) (sym (at1.looks.same trusted)) (c.requires.facts (at1.looks.before trusted)))
 
 pub returns-clause-known : goal.returns-clause-known
 returns-clause-known g c = λ trusted.
@@ -117,11 +134,21 @@ returns-clause-facts g c = λ trusted.
     let at2 = c.in_ok-done.ensures in
     let t1 = at2.looks.before t2 in
     let at1 = c.in_ok-next_is_ready.ensures in
-    let kept : new.kept ≡ mid.kept = at3.mail trusted ∙ ap (λ (m : Content). m.kept) (at2.looks.same t2) in
-    let was : new.kept ≡ old.kept = kept ∙ ap (λ (m : Content). m.kept) (at1.looks.same t1) in
-    let numbers : HasEach new.kept c.deref-2.result.now = subst (HasEach new.kept) (sym c.deref-2.ensures.value) (subst (λ (k : Kept). HasEach k c.next_is_ready.new.counts.items) (sym was) (at1.known t1).numbers) in
-    if_known-counted setup new.kept c.deref-2.result.now c.in_ok-done.facts c.counted.result
-    (subst (λ (k : Kept). FactsStand setup k c.in_ok-done.facts) (sym kept) (at2.facts t2)) numbers c.counted.ensures.same c.counted.ensures.within
+    let t0 = at1.looks.before t1 in
+    let same1 : mid ≡ old = at1.looks.same t1 in
+    let known = at1.known t1 in
+    let orders : List RunOrder = c.next_is_ready.new.orders.items in
+    let given : List RunOrder = c.deref.result.now in
+    let size : length orders ≡ length old.reports + 1 = omega (arith, known.next, at1.there c.if-not-branch.false, c.requires.finished t0) in
+    let lists : g.K.Keeper.setup c.next_outcome.new.keeper ≡ setup = at2.looks.setup ∙ at1.looks.setup ∙ c.requires.lists in
+    let f : FactLists = c.in_ok-done.left.facts in
+    let changes : FactChanges = c.in_ok-done.done.facts in
+    let leaves : Leaves setup old new given f changes =
+    leaves_over setup (g.K.Keeper.setup c.next_outcome.new.keeper) old mid late new orders given f changes same1 (at2.looks.same t2) lists c.deref.ensures.value known.first size (at2.way t2) at2.difference
+    (at3.mail trusted) (ap length (at3.reports trusted) ∙ length_push late.reports _) (at3.facts trusted) in
+    let counts : List ℕ = c.deref-2.result.now in
+    let numbers : HasEach new.kept counts = subst (HasEach new.kept) (sym c.deref-2.ensures.value) (subst (λ (k : Kept). HasEach k c.next_is_ready.new.counts.items) (sym leaves.mail) known.numbers) in
+    if_known-then setup old new given f changes leaves counts _ c.counted.result c.keep.ensures numbers at2.taken c.counted.ensures.same c.counted.ensures.within c.counted.ensures.release
 
 pub returns-clause-reports : goal.returns-clause-reports
 returns-clause-reports g c = λ trusted.

@@ -12,7 +12,7 @@ invariant-runs g l =
     let legible = g.K.Keeper.is_legible in
     record {
       known : trusted l.keeper → IsCounted l.setup (content l.keeper) l.counts.items l.orders.items;
-      facts : trusted l.keeper → IfSome l.known (λ known. AreKnown l.setup (content l.keeper).kept known);
+      facts : trusted l.keeper → IfSome l.known (λ known. AreKnown l.setup (content l.keeper) known);
       finished : trusted l.keeper → l.finished ≡ length (content l.keeper).reports;
       grows : trusted l.keeper → length (content l.fn.keeper).reports ≤ length (content l.keeper).reports;
       kept : trusted l.keeper → (content l.keeper).kept ≡ (content l.fn.keeper).kept;
