@@ -25,7 +25,7 @@ use Rattle.office_store.specs.Legible.{IsLegible, IsWhole, SaysOnce, AreReported
 
 -- what the office says in new tables
 abbrev pub new_said : List ℕ → Said
-new_said text = record { schema = 0; setup = text; finished = 0 }
+new_said text = record { schema = 2; setup = text; finished = 0 }
 
 abbrev says_once : (db : Trees) (text : List ℕ) → IsUtf8 text → IsBlank db (new_said text) → SaysOnce (db 0)
 says_once db text utf8 blank = record {
