@@ -1,3 +1,4 @@
+pub use Rattle.office_keeper.specs.FactSet
 pub use Rattle.office_keeper.specs.Content
 pub use Rattle.office_keeper.specs.Keeping
 pub use Rattle.office_keeper.specs.Provenance
@@ -9,6 +10,8 @@ pub mod Tables
 pub mod TableSteps
 pub mod Entries
 pub mod EntrySteps
+pub mod FactTables
+pub mod FactSteps
 pub mod Finishing
 pub mod Creating
 pub mod CreatingSteps

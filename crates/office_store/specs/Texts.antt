@@ -56,8 +56,11 @@ add_fact_text = codes "INSERT INTO fact (kind, sender, number, place) VALUES (?1
 abbrev pub delays_text : List ℕ
 delays_text = codes "SELECT id, number FROM fact_delays"
 
-abbrev pub clear_delays_text : List ℕ
-clear_delays_text = codes "DELETE FROM fact_delays"
+abbrev pub delays_ids_text : List ℕ
+delays_ids_text = codes "SELECT id FROM fact_delays WHERE number = ?1"
+
+abbrev pub take_delays_text : List ℕ
+take_delays_text = codes "DELETE FROM fact_delays WHERE id = ?1"
 
 abbrev pub add_delays_text : List ℕ
 add_delays_text = codes "INSERT INTO fact_delays (id, number) VALUES (1, ?1)"
