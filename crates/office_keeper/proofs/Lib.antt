@@ -1,2 +1,3 @@
+pub mod FactSets
 pub mod MemoryFacts
 pub mod PartFacts

@@ -11,6 +11,7 @@ use Rattle.office_mail.specs.Lists.{Lists}
 use Rattle.office_mail.specs.Kept.{Kept, Place, place_cmp}
 use Rattle.office_mail.proofs.KeptFacts.{places_total, same_kept}
 use Rattle.office_keeper.specs.Content.{Content}
+use Rattle.office_keeper.specs.FactSet.{FactSet}
 use Rattle.office_keeper.specs.Provenance.{KnowsArchs}
 use Rattle.office_keeper.specs.declared.values.Reports.{Reports}
 use Rattle.office_keeper.specs.MemoryState.{IsMemoryState, kept_in}
@@ -40,5 +41,5 @@ memory_finished setup runs more reports new run few pushed next fits known = rec
 }
 
 -- a content with this mail
-abbrev pub with_kept : Kept → List Reports → Suite → Content
-with_kept kept runs testing = record { kept = kept; reports = runs; testing = testing }
+abbrev pub with_kept : Kept → List Reports → Suite → FactSet → Content
+with_kept kept runs testing facts = record { kept = kept; reports = runs; testing = testing; facts = facts }

@@ -1,9 +1,10 @@
 -- The kept facts: a set of rows, each of which names the message that gives a fact. That facts are kept as rows is this office's own.
-use Rattle.std.specs.Prelude.{◌≡◌, ◌≤◌, ◌⊎◌, ℕ, ⊤, tt, is_some, if◌then◌else◌, List, [], ◌∷◌, map, IsSome}
+use Rattle.std.specs.Prelude.{◌≡◌, ◌≤◌, ◌⊎◌, ℕ, ⊤, Bool, is_some, if◌then◌else◌, List, [], ◌∷◌, map, IsSome}
+use Rattle.std.specs.List.{list_any}
 use Rattle.std.specs.FinMap.{FinMap, get, insert, remove, keys, from_entries}
 use Rattle.testing_model.specs.declared.fact_row.FactRow.{FactRow}
 use Rattle.testing_model.specs.declared.fact_row.FactChanges.{FactChanges}
-use Rattle.testing_model.specs.FactRows.{row_order}
+use Rattle.testing_model.specs.FactRows.{is_row, row_order}
 use Rattle.office_mail.specs.Lists.{Lists}
 use Rattle.office_mail.specs.declared.setup.Role.TheVariants.{Release}
 use Rattle.office_mail.specs.Setup.{place_of_role}
@@ -22,6 +23,10 @@ count_in facts r = if is_some (get facts r) then 1 else 0
 -- the rows of a set, by kind, sender, number and place
 abbrev pub rows_in : FactSet → List FactRow
 rows_in facts = keys facts
+
+-- whether a row is one of these
+abbrev pub is_among : FactRow → List FactRow → Bool
+is_among r rows = list_any (is_row r) rows
 
 -- the set of these rows
 abbrev pub set_of_rows : List FactRow → FactSet

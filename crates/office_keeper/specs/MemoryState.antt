@@ -1,12 +1,15 @@
 -- The state of the store in memory.
-use Rattle.std.specs.Prelude.{◌≤◌, ℕ, List, length}
+use Rattle.std.specs.Prelude.{◌≤◌, ℕ, not, List, length}
+use Rattle.std.specs.List.{filter}
 use Rattle.std.specs.FinMap.{from_entries}
 use Rattle.office_mail.specs.Lists.{Lists}
 use Rattle.office_mail.specs.Kept.{Kept, Place}
 use Rattle.testing_model.specs.Suite.{Suite}
+use Rattle.testing_model.specs.declared.fact_row.FactRow.{FactRow}
 use Rattle.office_keeper.specs.declared.values.Letter.{Letter}
 use Rattle.office_keeper.specs.declared.values.Reports.{Reports}
 use Rattle.office_keeper.specs.Content.{Content}
+use Rattle.office_keeper.specs.FactSet.{is_among, set_of_rows}
 use Rattle.office_keeper.specs.Provenance.{KnowsArchs}
 
 pub record MemoryState : Type 0 where
@@ -16,6 +19,8 @@ pub record MemoryState : Type 0 where
   pub mail : List (Place × List ℕ)
   pub runs : List Reports
   pub testing : Suite
+  -- the rows of facts, in any order
+  pub facts : List FactRow
 
 -- the texts at their places
 abbrev pub kept_in : List (Place × List ℕ) → Kept
@@ -25,9 +30,13 @@ kept_in mail = from_entries mail
 abbrev pub letter_of : Place × List ℕ → Letter
 letter_of e = record { number = e.0.1; text = e.1 }
 
+-- the rows that aren't among those that are gone
+abbrev pub rows_left : List FactRow → List FactRow → List FactRow
+rows_left gone rows = filter (λ r. not (is_among r gone)) rows
+
 -- what the store in memory holds
 abbrev pub content_of : MemoryState → Content
-content_of s = record { kept = kept_in s.mail; reports = s.runs; testing = s.testing }
+content_of s = record { kept = kept_in s.mail; reports = s.runs; testing = s.testing; facts = set_of_rows s.facts }
 
 -- runs can be numbered, and testing has architectures of the setup
 pub record IsMemoryState (setup : Lists) (runs : List Reports) (testing : Suite) : Type 0 where

@@ -1,11 +1,13 @@
 //! What a store of the office does, behind one trait that says what each call makes of it, and the store in memory.
 #![tactic(auto)]
 
+mod fact_rows;
 mod faults;
 mod keeping;
 mod memory;
 mod values;
 
+pub use fact_rows::rows_in_order;
 pub use faults::{Cause, KeepFault};
 pub use keeping::Keeper;
 pub use memory::Plain;

@@ -9,6 +9,7 @@ ghost use Rattle.std.specs.Option.{option_copied};
 ghost use Rattle.office_keeper.specs.Content.{letters_within, item_from_one};
 ghost use Rattle.office_keeper.specs.MemoryState.{kept_in, letter_of, content_of};
 
+use crate::fact_rows::{rows_after, rows_in_order};
 use crate::faults::KeepFault;
 use crate::keeping::Keeper;
 use crate::values::{Finished, Letter, MailText, Reports};
@@ -17,9 +18,10 @@ use office_mail::Setup;
 use std::alloc::Global;
 use std::collections::BTreeMap;
 use std::marker::Model;
+use testing_model::{FactRow, FactRows};
 use testing_suites::Testing;
 
-/// Kept mail by sender and number, with reports and testing. It fails for want of memory alone.
+/// Kept mail by sender and number, with reports, testing and the rows of facts in any order. It fails for want of memory alone.
 #[derive(Drop)]
 pub struct Plain {
     alloc: Global,
@@ -27,6 +29,7 @@ pub struct Plain {
     mail: BTreeMap<(u32, u32), MailText>,
     runs: Vec<Reports>,
     testing: Testing,
+    facts: Vec<FactRow>,
 }
 
 impl Model for Plain {
@@ -34,15 +37,15 @@ impl Model for Plain {
 
     ghost Value = { MemoryState };
 
-    ghost view = { λ a. record { setup = a.setup; mail = a.mail.entries; runs = a.runs.items; testing = a.testing } };
+    ghost view = { λ a. record { setup = a.setup; mail = a.mail.entries; runs = a.runs.items; testing = a.testing; facts = a.facts.items } };
 
     ghost invariant = { λ a. IsMemoryState a.setup a.runs.items a.testing };
 }
 
 impl Plain {
-    /// A keeper for this setup, with no mail and no run.
+    /// A keeper for this setup, with no mail, no run and no facts.
     pub fn new(alloc: Global, setup: &Setup) -> Result<Plain, NoMemory>
-        ensures { IfOk result (λ plain. plain ≡ record { setup = setup.now; mail = []; runs = []; testing = record { sources = []; rows = [] } }) }
+        ensures { IfOk result (λ plain. plain ≡ record { setup = setup.now; mail = []; runs = []; testing = record { sources = []; rows = [] }; facts = [] }) }
     {
         Ok(Plain {
             alloc,
@@ -50,6 +53,7 @@ impl Plain {
             mail: BTreeMap::new(alloc),
             runs: Vec::new(alloc),
             testing: Testing::new(alloc),
+            facts: Vec::new(alloc),
         })
     }
 }
@@ -157,8 +161,10 @@ impl Keeper for Plain {
     fn finish(&mut self, _run: u32, done: &Finished) -> Result<(), KeepFault> {
         let reports = done.reports(self.alloc)?;
         let testing = done.testing.copy()?;
+        let facts = rows_after(self.alloc, &self.facts, &done.facts)?;
         self.runs.push(reports)?;
         self.testing = testing;
+        self.facts = facts;
         Ok(())
     }
 
@@ -173,14 +179,21 @@ impl Keeper for Plain {
         Ok(self.testing.copy()?)
     }
 
+    fn facts(&mut self) -> Result<FactRows, KeepFault> {
+        Ok(rows_in_order(self.alloc, &self.facts)?)
+    }
+
     fn take_finished(&mut self, _run: u32, done: Finished) -> Result<(), KeepFault> {
         let Finished {
             testing,
             excuses,
             updates,
+            facts,
         } = done;
+        let facts = rows_after(self.alloc, &self.facts, &facts)?;
         self.runs.push(Reports { excuses, updates })?;
         self.testing = testing;
+        self.facts = facts;
         Ok(())
     }
 

@@ -2,6 +2,7 @@ use Rattle.std.proofs.Common.{ap, ◌∙◌}
 use Rattle.std.specs.FinMap.{insert}
 use Rattle.office_mail.specs.Kept.{Kept, Place}
 use Rattle.office_keeper.specs.Content.{with_text}
+use Rattle.office_keeper.specs.FactSet.{set_of_rows}
 use Rattle.office_keeper.specs.MemoryState.{MemoryState, content_of, kept_in}
 use Rattle.office_keeper.proofs.MemoryFacts.{kept_in-insert, with_kept}
 use Rattle.office_keeper.proofs.memory.PlainKeeper.keep.Goals as goal
@@ -11,7 +12,7 @@ returns-clause-kept c trusted legible =
     let place : Place = (c.args.sender, c.args.number) in
     let mail = c.self.inside.mail.entries in
     let kept = kept_in-insert mail _ place c.in_ok-text.text c.in_ok-insert.ensures.updates.0 ∙ ap (insert (kept_in mail) place) c.in_ok-text.ensures in
-    ap (λ (k : Kept). with_kept k c.self.inside.runs.items c.self.inside.testing) kept ∙ ap (λ (s : MemoryState). with_text (content_of s) c.args.sender c.args.number c.args.text.now) c.self.view_is
+    ap (λ (k : Kept). with_kept k c.self.inside.runs.items c.self.inside.testing (set_of_rows c.self.inside.facts.items)) kept ∙ ap (λ (s : MemoryState). with_text (content_of s) c.args.sender c.args.number c.args.text.now) c.self.view_is
 
 pub returns-clause-mail : goal.returns-clause-mail
 returns-clause-mail c trusted =
