@@ -15,9 +15,10 @@ use Rattle.testing_model.specs.declared.fact_row.FactRow.{FactRow}
 use Rattle.office_keeper.specs.FactSet.{set_of_rows}
 use Rattle.office_store.specs.Tables.{number_in, small_of, small_in}
 use Rattle.office_store.specs.TableContent.{ReadsEach}
+use Rattle.office_store.specs.Legible.{AreRead}
 use Rattle.office_store.specs.Entries.{integer_in}
 use Rattle.office_store.specs.FactTables.{fact_entry, may_stand, fact_of, fact_by, fact_in, delays_of, delays_by, delays_in, facts_in}
-use Rattle.office_store.specs.FactSteps.{fact_columns, delays_columns, shown_delays, IsOnlyDelays, is_fact, is_delays, AreRead}
+use Rattle.office_store.specs.FactSteps.{fact_columns, delays_columns, shown_delays, IsOnlyDelays, is_fact, is_delays}
 use Rattle.office_store.proofs.EntryWrites.{Fits32, small_is, integer_is}
 use Rattle.office_store.proofs.EntryReads.{small_value}
 use Rattle.office_store.proofs.EntryValues.{read_has, has_read, has_map, map_has}

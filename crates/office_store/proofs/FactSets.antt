@@ -141,7 +141,7 @@ set_is release facts delays rows there back = same_set (set_of_rows rows) (facts
 
 -- ---- which facts a table can say
 
-same_entry : (a b : FactRow) → ◌≡◌ {A = Option (FactRow × ⊤)} (Some (fact_entry a)) (Some (fact_entry b)) → a ≡ b
+pub same_entry : (a b : FactRow) → ◌≡◌ {A = Option (FactRow × ⊤)} (Some (fact_entry a)) (Some (fact_entry b)) → a ≡ b
 same_entry a b h = let e : ◌≡◌ {A = FactRow × ⊤} (fact_entry a) (fact_entry b) = cc in ap (λ (x : FactRow × ⊤). x.0) e
 
 both : (a b : Bool) → (a && b) ≡ true → (a ≡ true) × (b ≡ true)

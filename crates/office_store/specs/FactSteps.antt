@@ -13,6 +13,7 @@ use Rattle.testing_model.specs.declared.fact_row.FactChanges.{FactChanges}
 use Rattle.office_keeper.specs.FactSet.{FactSet, without_rows, with_rows, facts_after}
 use Rattle.office_store.specs.Tables.{number_in, small_in}
 use Rattle.office_store.specs.TableSteps.{rows_in}
+use Rattle.office_store.specs.Legible.{AreRead}
 use Rattle.office_store.specs.FactTables.{fact_entry, may_stand, fact_of, fact_in, delays_of, delays_by, delays_in, facts_in}
 
 -- what is shown of a row of facts: its rowid and its columns
@@ -80,12 +81,6 @@ pub record AddsDelays (db next : Trees) (number : ℕ) : Type 0 where
   pub says : (release : ℕ) → delays_in release row ≡ Some (fact_entry (delays_of release number))
   pub free : is_taken (db 10) row ≡ false
   pub put : rows_in next ≡ record (rows_in db) { delays = put_row row (db 10) }
-
--- each row of both tables reads, and there is one of the last delays at most
-pub record AreRead (release : ℕ) (facts delays : List Row) : Type 0 where
-  pub fact : (row : Row) → Has facts row → IsSome (fact_in row)
-  pub delay : (row : Row) → Has delays row → IsSome (delays_in release row)
-  pub one : length delays ≤ 1
 
 -- both tables have a place for the fact
 abbrev pub CanStand : ℕ → FactRow → Type 0

@@ -11,12 +11,12 @@ pub mod TableSteps
 pub mod Entries
 pub mod EntrySteps
 pub mod FactTables
-pub mod FactSteps
-pub mod Finishing
 pub mod Creating
 pub mod CreatingSteps
 pub mod SetupText
 pub mod Opening
 pub mod TableContent
 pub mod Legible
+pub mod FactSteps
+pub mod Finishing
 pub mod Fresh

@@ -5,14 +5,13 @@ ghost use Rattle.sqlite.specs.Order.{column};
 ghost use Rattle.sqlite.specs.declared.types.Value.TheVariants.{Int};
 ghost use Rattle.sqlite.specs.Held.{state};
 ghost use Rattle.sqlite.specs.State.{HasCleanDisk};
-ghost use Rattle.office_mail.specs.declared.setup.Role.TheVariants.{Release};
-ghost use Rattle.office_mail.specs.Setup.{place_of_role};
 ghost use Rattle.office_keeper.specs.FactSet.{rows_in as rows_in_set, set_of_rows};
 ghost use Rattle.office_store.specs.Tables.{IsTrusted, IsOurs, Lasts};
 ghost use Rattle.office_store.specs.TableSteps.{Same};
-ghost use Rattle.office_store.specs.TableContent.{ReadsEach};
+ghost use Rattle.office_store.specs.TableContent.{ReadsEach, release_place};
+ghost use Rattle.office_store.specs.Legible.{AreRead};
 ghost use Rattle.office_store.specs.FactTables.{fact_entry, may_stand, fact_in, delays_of, facts_in};
-ghost use Rattle.office_store.specs.FactSteps.{fact_columns, delays_columns, shown_delays, IsOnlyDelays, AreRead};
+ghost use Rattle.office_store.specs.FactSteps.{fact_columns, delays_columns, shown_delays, IsOnlyDelays};
 
 use crate::entries::{number_in, rowid_in};
 use deb_control::NoMemory;
@@ -24,7 +23,7 @@ use testing_model::{FactRow, FactRows};
 
 /// The place of the release team.
 pub(crate) fn release_place(setup: &Setup) -> u32
-    ensures { result ≡ place_of_role Release setup.now.senders }
+    ensures { result ≡ release_place setup.now }
 {
     let senders = setup.senders();
     let mut place = 0;
@@ -143,14 +142,18 @@ fn delays_rows<S: Alter>(conn: &mut Connection<S>) -> Result<Vec<Row>, Error>
 }
 
 /// These facts and that of the delays, if there is one, in order and each once.
-fn in_order(facts: Vec<FactRow>, delays: Option<FactRow>) -> Result<FactRows, NoMemory>
+fn in_order(
+    alloc: Global,
+    facts: Vec<FactRow>,
+    delays: Option<FactRow>,
+) -> Result<FactRows, NoMemory>
     ensures { IfOk result (λ rows. rows ≡ rows_in_set (set_of_rows (facts.items ++ option_to_list delays))) }
 {
     let mut all = facts;
     if let Some(fact) = delays {
         all.push(fact)?;
     }
-    rows_in_order(FactRows::of(all))
+    rows_in_order(alloc, all.as_slice())
 }
 
 /// The facts that the tables keep, in order.
@@ -164,14 +167,14 @@ pub(crate) fn facts<S: Alter>(
     ensures lasts { Lasts (state S.Store conn.old) (state S.Store conn.new) }
     ensures open { HasCleanDisk (state S.Store conn.new) → IsTrusted (state S.Store conn.old) → OnOk result (IsTrusted (state S.Store conn.new)) }
     ensures same { IsTrusted (state S.Store conn.new) → Same (state S.Store conn.old) (state S.Store conn.new) }
-    ensures bad { IsTrusted (state S.Store conn.new) → AreRead (place_of_role Release setup.now.senders) ((state S.Store conn.new).now.trees 8) ((state S.Store conn.new).now.trees 10) → result ≢ Err (KeepFault.Store Cause.BadRow) }
-    ensures value { IsTrusted (state S.Store conn.new) → IfOk result (λ rows. rows ≡ rows_in_set (facts_in (place_of_role Release setup.now.senders) ((state S.Store conn.new).now.trees 8) ((state S.Store conn.new).now.trees 10))) }
+    ensures bad { IsTrusted (state S.Store conn.new) → AreRead (release_place setup.now) ((state S.Store conn.new).now.trees 8) ((state S.Store conn.new).now.trees 10) → result ≢ Err (KeepFault.Store Cause.BadRow) }
+    ensures value { IsTrusted (state S.Store conn.new) → IfOk result (λ rows. rows ≡ rows_in_set (facts_in (release_place setup.now) ((state S.Store conn.new).now.trees 8) ((state S.Store conn.new).now.trees 10))) }
 {
     let release = release_place(setup);
     let shown = fact_rows(conn)?;
     let facts = facts_said(alloc, shown.as_slice())?;
     let last = delays_rows(conn)?;
     let delays = delays_said(last.as_slice(), release)?;
-    let rows = in_order(facts, delays)?;
+    let rows = in_order(alloc, facts, delays)?;
     Ok(rows)
 }

@@ -1,0 +1,6 @@
+use Rattle.office_store.proofs.FactReads.{fact_none, fact_misplaced}
+use Rattle.office_store.proofs.Passed.{passed}
+use Rattle.office_store.proofs.fact_rows.fact_said.Goals as goal
+
+pub returns-in_err-fact-clause-bad : goal.returns-in_err-fact-clause-bad
+returns-in_err-fact-clause-bad c bad shown = fact_none c.args.row.now (c.in_err-fact.ensures.bad (passed c.from_residual.result c.in_err-fact.field-0.0 _ bad c.from_residual.ensures.1)) shown
