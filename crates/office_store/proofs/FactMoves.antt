@@ -1,5 +1,6 @@
 -- How the sets of facts are moved by the changes of their tables.
-use Rattle.std.proofs.Common.{◌≡◌, ◌≢◌, ◌≤◌, ◌<◌, ◌⊎◌, ◌+◌, inl, inr, ℕ, ℤ, pos, List, [], ◌∷◌, ◌++◌, map, filter, take, get_or, length, Bool, true, false, cond, not, ◌&&◌, ◌||◌, ◌==◌, Option, Some, None, IsSome, is_some, Result, Ok, Err, OnOk, ⊤, tt, refl, sym, ap, subst, ◌∙◌, arith}
+use Rattle.std.proofs.Common.{◌≡◌, ◌≢◌, ◌≤◌, ◌<◌, ◌⊎◌, ◌+◌, inl, inr, ℕ, ℤ, pos, List, [], ◌∷◌, ◌++◌, map, filter, take, get_or, length, Bool, true, false, cond, not, ◌&&◌, ◌||◌, ◌==◌, nat_le, Option, Some, None, IsSome, is_some, Result, Ok, Err, OnOk, refl, sym, ap, subst, ◌∙◌, arith}
+use Rattle.std.specs.Prelude.{⊤}
 use Rattle.std.proofs.lemmas.Bool.{false≢true, true≢false}
 use Rattle.std.proofs.lemmas.Bool.Decides.{nat_tests}
 use Rattle.std.proofs.lemmas.List.{take_more}
@@ -21,7 +22,7 @@ use Rattle.office_store.specs.TableSteps.{Rows, rows_in}
 use Rattle.office_store.specs.Legible.{AreRead}
 use Rattle.office_store.specs.TableContent.{release_place}
 use Rattle.office_store.specs.FactTables.{fact_entry, may_stand, fact_of, fact_in, delays_of, delays_in, facts_in}
-use Rattle.office_store.specs.FactSteps.{is_fact, is_delays, id_columns, IsOnlyId, TakesOut, TakesFact, TakesDelays, AddsFact, AddsDelays, CanStand, CanStandEach, MovesFacts, KeepsOthers, Leaves, DropsFact, DropsDelays, DropsOne, AddsOne, DropsEach, AddsEach, ChangesFacts}
+use Rattle.office_store.specs.FactSteps.{is_fact, is_delays, id_columns, IsOnlyId, IsFound, TakesOut, TakesFact, TakesDelays, AddsFact, AddsDelays, CanStand, CanStandEach, MovesFacts, KeepsOthers, Leaves, DropsFact, DropsDelays, DropsOne, AddsOne, DropsEach, AddsEach, ChangesFacts}
 use Rattle.office_store.proofs.DeleteLemmas.{itself}
 use Rattle.office_store.proofs.MailLemmas.{empty_of, as_many, only_shown}
 use Rattle.office_store.proofs.KeepLemmas.{seven}
@@ -101,31 +102,31 @@ rest_same db next same = (
   same ∙ ap (λ rows. record (rows_in db) { delays = rows }) (sym (ap (λ (r : Rows). r.delays) same)),
 )
 
-pub drops_no_fact : (db next : Trees) (fact : FactRow) (shown : List Row) → IsPermutation (map id_columns (filter (is_fact fact) (db 8))) shown → shown ≡ [] → next ≡ db → DropsFact db next fact
-drops_no_fact db next fact shown perm none same = record {
-  leaves = found_none fact_in fact (is_fact fact) (λ row is. fact_here row fact is) (λ row other passed is. fact_only row fact other passed is) (db 8) (next 8) shown perm none (ap (λ (t : Trees). t 8) same);
+pub drops_no_fact : (db next : Trees) (fact : FactRow) → IsFound (is_fact fact) (db 8) None → next ≡ db → DropsFact db next fact
+drops_no_fact db next fact it same = record {
+  leaves = found_none fact_in fact (is_fact fact) (λ row is. fact_here row fact is) (λ row other passed is. fact_only row fact other passed is) (db 8) (next 8) it.shown it.are it.only (ap (λ (t : Trees). t 8) same);
   rest = (rest_same db next (ap rows_in same)).0;
 }
 
-pub drops_a_fact : (db mid next : Trees) (fact : FactRow) (shown : List Row) (id : ℤ) (count : ℕ) → IsPermutation (map id_columns (filter (is_fact fact) (db 8))) shown → IsOnlyId (Some id) shown → mid ≡ db → TakesFact mid next id count → count ≡ 1 → DropsFact db next fact
-drops_a_fact db mid next fact shown id count perm one same taken alone =
-    let took = subst (λ (t : Trees). TakesFact t next id count) same taken in
+pub drops_a_fact : (db mid next : Trees) (fact : FactRow) (id : ℤ) → IsFound (is_fact fact) (db 8) (Some id) → mid ≡ db → TakesFact mid next id 1 → DropsFact db next fact
+drops_a_fact db mid next fact id it same taken =
+    let took = subst (λ (t : Trees). TakesFact t next id 1) same taken in
     record {
-      leaves = found_one fact_in fact (is_fact fact) (λ row is. fact_here row fact is) (λ row other passed is. fact_only row fact other passed is) (db 8) (next 8) shown id count perm one took.taken alone;
+      leaves = found_one fact_in fact (is_fact fact) (λ row is. fact_here row fact is) (λ row other passed is. fact_only row fact other passed is) (db 8) (next 8) it.shown id 1 it.are it.only took.taken refl;
       rest = took.rest;
     }
 
-pub drops_no_delays : (db next : Trees) (number : ℕ) (shown : List Row) → IsPermutation (map id_columns (filter (is_delays number) (db 10))) shown → shown ≡ [] → next ≡ db → DropsDelays db next number
-drops_no_delays db next number shown perm none same = record {
-  leaves = λ release. found_none (delays_in release) (delays_of release number) (is_delays number) (λ row is. delays_here release number row is) (λ row other passed is. delays_only release number row other passed is) (db 10) (next 10) shown perm none (ap (λ (t : Trees). t 10) same);
+pub drops_no_delays : (db next : Trees) (number : ℕ) → IsFound (is_delays number) (db 10) None → next ≡ db → DropsDelays db next number
+drops_no_delays db next number it same = record {
+  leaves = λ release. found_none (delays_in release) (delays_of release number) (is_delays number) (λ row is. delays_here release number row is) (λ row other passed is. delays_only release number row other passed is) (db 10) (next 10) it.shown it.are it.only (ap (λ (t : Trees). t 10) same);
   rest = (rest_same db next (ap rows_in same)).1;
 }
 
-pub drops_delays : (db mid next : Trees) (number : ℕ) (shown : List Row) (id : ℤ) (count : ℕ) → IsPermutation (map id_columns (filter (is_delays number) (db 10))) shown → IsOnlyId (Some id) shown → mid ≡ db → TakesDelays mid next id count → count ≡ 1 → DropsDelays db next number
-drops_delays db mid next number shown id count perm one same taken alone =
-    let took = subst (λ (t : Trees). TakesDelays t next id count) same taken in
+pub drops_delays : (db mid next : Trees) (number : ℕ) (id : ℤ) → IsFound (is_delays number) (db 10) (Some id) → mid ≡ db → TakesDelays mid next id 1 → DropsDelays db next number
+drops_delays db mid next number id it same taken =
+    let took = subst (λ (t : Trees). TakesDelays t next id 1) same taken in
     record {
-      leaves = λ release. found_one (delays_in release) (delays_of release number) (is_delays number) (λ row is. delays_here release number row is) (λ row other passed is. delays_only release number row other passed is) (db 10) (next 10) shown id count perm one took.taken alone;
+      leaves = λ release. found_one (delays_in release) (delays_of release number) (is_delays number) (λ row is. delays_here release number row is) (λ row other passed is. delays_only release number row other passed is) (db 10) (next 10) it.shown id 1 it.are it.only took.taken refl;
       rest = took.rest;
     }
 
@@ -153,6 +154,9 @@ others_then a b c first second = record {
 }
 
 -- ---- one fact
+
+pub delays_are : (release : ℕ) (fact : FactRow) → fact.kind ≡ 8 → fact.sender ≡ release → fact.place ≡ 0 → fact ≡ delays_of release fact.number
+delays_are release fact kind sender place = λ i. record { kind = kind i; sender = sender i; number = fact.number; place = place i }
 
 eight : (release : ℕ) (row : Row) (q : FactRow) → delays_in release row ≡ Some (fact_entry q) → q.kind ≡ 8
 eight release row q is = ap (λ (f : FactRow). f.kind) (delays_shape release row q is).3
@@ -317,9 +321,9 @@ module _ (release : ℕ) (db next : Trees) (fact : FactRow) where
       was_empty it was (row ∷ rows) is = at (delays_in release row) refl (was.delay row (subst (λ l. Has l row) (sym is) (inl refl)))
         where
           at : (o : Option (FactRow × ⊤)) → delays_in release row ≡ o → IsSome (delays_in release row) → row ∷ rows ≡ []
-          at None no some = absurd (false≢true (ap is_some (sym no) ∙ some))
-          at (Some (q, u)) says some =
-              let one : rowid row ≡ Int (pos 1) = (delays_shape release row q says).0 in
+          at None none some = absurd (false≢true (ap is_some (sym none) ∙ some))
+          at (Some (q, u)) own some =
+              let one : rowid row ≡ Int (pos 1) = (delays_shape release row q own).0 in
               let tie : is_eq (value_cmp (rowid row) (rowid it.row)) ≡ true = ap (λ v. is_eq (value_cmp v (rowid it.row))) one ∙ ap (λ v. is_eq (value_cmp (Int (pos 1)) v)) it.id ∙ itself (pos 1) in
               absurd (true≢false (sym (ap (λ b. b || is_taken rows it.row) tie) ∙ sym (ap (λ l. is_taken l it.row) is) ∙ it.free))
 
@@ -384,6 +388,10 @@ has_put_rows (x ∷ rows) facts q (inl (inl same)) = has_put_rows rows (insert f
 has_put_rows (x ∷ rows) facts q (inl (inr there)) = has_put_rows rows (insert facts x tt) q (inl there)
 has_put_rows (x ∷ rows) facts q (inr there) = has_put_rows rows (insert facts x tt) q (inr (inserted_has facts x q (inr there)))
 
+three_hold : (a b c : Bool) → a ≡ true → b ≡ true → (a && (b && (c || true))) ≡ true
+three_hold a b true p q = rw (p, q) refl
+three_hold a b false p q = rw (p, q) refl
+
 can_stand : (release : ℕ) (q : FactRow) → IsFactRow q → (q.kind ≡ 8 → q.sender ≡ release) → CanStand release q
 can_stand release q is own = go (q.kind == 8) refl is.place
   where
@@ -397,7 +405,10 @@ can_stand release q is own = go (q.kind == 8) refl is.place
       where
         stands : (kind place : ℕ) → 1 ≤ kind → kind ≤ 8 → kind ≢ 8 → (kind ≡ 3) ⊎ (place ≡ 0) → may_stand kind place ≡ true
         stands kind place low high other (inl three) = ap (λ k. may_stand k place) three
-        stands kind place low high other (inr zero) = ap (may_stand kind) zero ∙ grind (arith, nat_tests)
+        stands kind place low high other (inr zero) =
+            let least : nat_le 1 kind ≡ true = grind (arith, nat_tests) in
+            let most : nat_le kind 7 ≡ true = grind (arith, nat_tests) in
+            ap (may_stand kind) zero ∙ three_hold (nat_le 1 kind) (nat_le kind 7) (kind == 3) least most
 
 -- what is put can stand, where what comes of it is holdable
 pub holdable_stands : (setup : Lists) (changes : FactChanges) (facts : FactSet) → AreHoldable setup (facts_after changes facts) → CanStandEach (release_place setup) changes.put

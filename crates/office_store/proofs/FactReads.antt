@@ -1,5 +1,6 @@
 -- What is read in the tables of facts.
-use Rattle.std.proofs.Common.{◌≡◌, ◌≢◌, ◌≤◌, ◌<◌, ◌⊎◌, inl, inr, ℕ, ℤ, pos, List, [], ◌∷◌, ◌++◌, map, filter_map, length, Bool, true, false, cond, ◌&&◌, ◌==◌, nat_eq, Option, Some, None, IsSome, is_some, option_to_list, Result, Ok, Err, IfOk, ⊤, tt, refl, sym, ap, subst, ◌∙◌, arith}
+use Rattle.std.proofs.Common.{◌≡◌, ◌≢◌, ◌≤◌, ◌<◌, ◌⊎◌, inl, inr, ℕ, ℤ, pos, List, [], ◌∷◌, ◌++◌, map, filter_map, length, Bool, true, false, cond, ◌&&◌, ◌==◌, nat_eq, Option, Some, None, IsSome, is_some, option_to_list, Result, Ok, Err, IfOk, refl, sym, ap, subst, ◌∙◌, arith}
+use Rattle.std.specs.Prelude.{⊤}
 use Rattle.std.proofs.lemmas.Bool.{false≢true, true≢false}
 use Rattle.std.proofs.lemmas.Bool.Decides.{nat_tests}
 use Rattle.std.specs.Ordering.{is_eq}

@@ -16,9 +16,9 @@ use Rattle.office_store.specs.FactSteps.{MovesFacts, ChangesFacts}
 use Rattle.office_store.specs.Finishing.{WritesRun, with_count}
 
 -- the same between tables that have the same facts
-moves_between : (release : ℕ) (a c e d : Trees) (move : FactSet → FactSet) → c 8 ≡ a 8 → c 10 ≡ a 10 → d 8 ≡ e 8 → d 10 ≡ e 10 → MovesFacts release c e move → MovesFacts release a d move
-moves_between release a c e d move before last after later it = record {
-  has = ap (λ rows. facts_in release rows (d 10)) after ∙ ap (facts_in release (e 8)) later ∙ it.has ∙ ap (λ rows. move (facts_in release rows (c 10))) before ∙ ap (λ rows. move (facts_in release (a 8) rows)) last;
+moves_between : (release : ℕ) (a c e d : Trees) (made : FactSet → FactSet) → c 8 ≡ a 8 → c 10 ≡ a 10 → d 8 ≡ e 8 → d 10 ≡ e 10 → MovesFacts release c e made → MovesFacts release a d made
+moves_between release a c e d made before last after later it = record {
+  has = ap (λ rows. facts_in release rows (d 10)) after ∙ ap (facts_in release (e 8)) later ∙ it.has ∙ ap (λ rows. made (facts_in release rows (c 10))) before ∙ ap (λ rows. made (facts_in release (a 8) rows)) last;
   reads = λ was.
       let then = it.reads (subst (λ rows. AreRead release rows (c 10)) (sym before) (subst (AreRead release (a 8)) (sym last) was)) in
       subst (λ rows. AreRead release rows (d 10)) (sym after) (subst (AreRead release (e 8)) (sym later) then);

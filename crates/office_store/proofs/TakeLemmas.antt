@@ -17,7 +17,6 @@ use Rattle.sqlite.specs.Effect.{Database}
 use Rattle.sqlite.specs.declared.run.Mode.{Mode}
 use Rattle.sqlite.specs.Does.{Tally, Does, OnRows, Concludes}
 use Rattle.sqlite.specs.Rows.{Written, Deletes}
-use Rattle.sqlite_rules.specs.Edit.{row_at}
 use Rattle.sqlite_rules.specs.Action.{works}
 use Rattle.sqlite_rules.specs.Calls.{ids_of}
 use Rattle.sqlite.proofs.Callers.{one_step}
@@ -62,7 +61,7 @@ module _ (schema : Schema) (table : Table) (uncounted : table.is_counted ≡ fal
       let trees : w.trees ≡ edited.0 = ap (λ (it : Written). it.trees) is in
       let rows : edited.0 table.tree ≡ without_all (db table.tree) ids = applied.rows in
       let many : length w.rows ≡ length (filter (has_rowid id) (db table.tree)) =
-      ap (λ (it : Written). length it.rows) is ∙ length-map (row_at (db table.tree)) ids ∙ length-map (λ (r : Row). id_in (rowid r)) asked.0 ∙ sym (as_many id_columns (filter (has_rowid id) (db table.tree)) asked.0 found) in
+      ap (λ (it : Written). length it.rows) is ∙ length-map _ _ ∙ length-map _ _ ∙ sym (as_many id_columns (filter (has_rowid id) (db table.tree)) asked.0 found) in
       subst (λ (t : Trees). Taken schema table db t id (length w.rows)) (sym trees) (record {
         taken = record {
           counted = many;

@@ -1,8 +1,9 @@
 -- Steps: no contract of a call that users make rests on this file.
 -- What the statements on the tables of facts show and make of them.
-use Rattle.std.specs.Prelude.{◌≡◌, ◌≢◌, ◌≤◌, ◌⊎◌, ◌&&◌, ◌==◌, Bool, true, false, ℕ, ℤ, pos, List, [], ◌∷◌, length, filter, Option, Some, None, IsSome, ⊤, tt}
+use Rattle.std.specs.Prelude.{◌≡◌, ◌≢◌, ◌≤◌, ◌⊎◌, ◌&&◌, ◌==◌, Bool, true, false, ℕ, ℤ, pos, List, [], ◌∷◌, length, map, filter, Option, Some, None, IsSome, ⊤}
 use Rattle.std.specs.FinMap.{insert, remove}
 use Rattle.std.specs.Ordering.{is_eq}
+use Rattle.std.specs.List.Sorted.{IsPermutation}
 use Rattle.sqlite_rules.specs.Lists.{Has}
 use Rattle.sqlite_rules.specs.Edit.{is_taken}
 use Rattle.sqlite.specs.Order.{Row, column, value_cmp}
@@ -52,6 +53,12 @@ abbrev pub IsOnlyId : Option ℤ → List Row → Type 0
 IsOnlyId None rows = rows ≡ []
 IsOnlyId (Some id) rows = (row : Row) × (rows ≡ row ∷ []) × (column row 0 ≡ Int id)
 
+-- a look-up of the rows that pass a test gave this rowid, or none
+pub record IsFound (test : Row → Bool) (rows : List Row) (id : Option ℤ) : Type 0 where
+  pub shown : List Row
+  pub are : IsPermutation (map id_columns (filter test rows)) shown
+  pub only : IsOnlyId id shown
+
 -- so many rows had the rowid, and where that was one it is taken out
 pub record TakesOut (rows next : List Row) (id : ℤ) (count : ℕ) : Type 0 where
   pub counted : count ≡ length (filter (has_rowid id) rows)
@@ -90,8 +97,8 @@ abbrev pub CanStandEach : ℕ → List FactRow → Type 0
 CanStandEach release facts = (fact : FactRow) → Has facts fact → CanStand release fact
 
 -- what both tables say is moved so, and they read as they did
-pub record MovesFacts (release : ℕ) (db next : Trees) (move : FactSet → FactSet) : Type 0 where
-  pub has : facts_in release (next 8) (next 10) ≡ move (facts_in release (db 8) (db 10))
+pub record MovesFacts (release : ℕ) (db next : Trees) (made : FactSet → FactSet) : Type 0 where
+  pub has : facts_in release (next 8) (next 10) ≡ made (facts_in release (db 8) (db 10))
   pub reads : AreRead release (db 8) (db 10) → AreRead release (next 8) (next 10)
 
 -- the tables of facts alone may have changed

@@ -1,5 +1,5 @@
 -- The tables of facts, and what they say.
-use Rattle.std.specs.Prelude.{◌&&◌, ◌||◌, ◌==◌, ◌++◌, nat_le, if◌then◌else◌, Bool, ℕ, ℤ, List, filter_map, Option, Some, None, ⊤, tt}
+use Rattle.std.specs.Prelude.{◌&&◌, ◌||◌, ◌==◌, ◌++◌, nat_le, if◌then◌else◌, Bool, ℕ, ℤ, List, filter_map, Option, Some, None, ⊤}
 use Rattle.std.specs.FinMap.{from_entries}
 use Rattle.sqlite.specs.Order.{Row, column}
 use Rattle.testing_model.specs.declared.fact_row.FactRow.{FactRow}

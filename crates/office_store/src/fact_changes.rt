@@ -7,7 +7,7 @@ ghost use Rattle.sqlite.specs.Held.{state};
 ghost use Rattle.sqlite.specs.State.{HasCleanDisk};
 ghost use Rattle.office_store.specs.Tables.{IsTrusted, Lasts};
 ghost use Rattle.office_store.specs.TableSteps.{IsInside, WentOn};
-ghost use Rattle.office_store.specs.FactSteps.{is_fact, is_delays, id_columns, IsOnlyId, TakesFact, TakesDelays, AddsFact, AddsDelays, DropsFact, DropsDelays, DropsOne, AddsOne, DropsEach, AddsEach, ChangesFacts};
+ghost use Rattle.office_store.specs.FactSteps.{is_fact, is_delays, id_columns, IsOnlyId, IsFound, TakesFact, TakesDelays, AddsFact, AddsDelays, DropsFact, DropsDelays, DropsOne, AddsOne, DropsEach, AddsEach, ChangesFacts};
 
 use office_keeper::{Cause, KeepFault};
 use sqlite::{Alter, Constraint, Error, ErrorCode, Row, Transaction, params};
@@ -164,23 +164,102 @@ fn alone(count: usize) -> Result<(), KeepFault>
     }
 }
 
-/// Takes a fact out of the table of facts, if it is there.
-fn drop_fact<S: Alter>(tx: &mut Transaction<'_, S>, fact: FactRow) -> Result<(), KeepFault>
+/// The rowid of a fact, if it is there.
+fn found_fact<S: Alter>(
+    tx: &mut Transaction<'_, S>,
+    fact: &FactRow,
+) -> Result<Option<i64>, KeepFault>
     requires inside { IsTrusted (state S.Store tx.old.conn.now) → IsInside (state S.Store tx.old.conn.now) }
     ensures same_reference { tx.new.conn.ghost_name ≡ tx.old.conn.ghost_name }
     ensures before { IsTrusted (state S.Store tx.new.conn.now) → IsTrusted (state S.Store tx.old.conn.now) }
     ensures lasts { Lasts (state S.Store tx.old.conn.now) (state S.Store tx.new.conn.now) }
     ensures open { HasCleanDisk (state S.Store tx.new.conn.now) → IsTrusted (state S.Store tx.old.conn.now) → OnOk result (IsTrusted (state S.Store tx.new.conn.now)) }
     ensures on { IsTrusted (state S.Store tx.new.conn.now) → OnOk result (WentOn (state S.Store tx.old.conn.now) (state S.Store tx.new.conn.now)) }
-    ensures dropped { IsTrusted (state S.Store tx.new.conn.now) → OnOk result (DropsFact (state S.Store tx.old.conn.now).now.trees (state S.Store tx.new.conn.now).now.trees fact) }
+    ensures same { IsTrusted (state S.Store tx.new.conn.now) → OnOk result ((state S.Store tx.new.conn.now).now ≡ (state S.Store tx.old.conn.now).now) }
+    ensures found { IsTrusted (state S.Store tx.new.conn.now) → IfOk result (λ id. IsFound (is_fact fact.now) ((state S.Store tx.old.conn.now).now.trees 8) id) }
     ensures err { IsTrusted (state S.Store tx.new.conn.now) → OnErr result ((state S.Store tx.new.conn.now).committed ≡ (state S.Store tx.old.conn.now).committed) }
     ensures bad { result ≢ Err (KeepFault.Store Cause.BadRow) }
 {
     let shown = fact_ids(tx, fact.kind, fact.sender, fact.number, fact.place)?;
-    match only_id(shown.as_slice())? {
+    let id = only_id(shown.as_slice())?;
+    Ok(id)
+}
+
+/// Takes the one fact with a rowid out.
+fn take_one_fact<S: Alter>(tx: &mut Transaction<'_, S>, id: i64) -> Result<(), KeepFault>
+    requires inside { IsTrusted (state S.Store tx.old.conn.now) → IsInside (state S.Store tx.old.conn.now) }
+    ensures same_reference { tx.new.conn.ghost_name ≡ tx.old.conn.ghost_name }
+    ensures before { IsTrusted (state S.Store tx.new.conn.now) → IsTrusted (state S.Store tx.old.conn.now) }
+    ensures lasts { Lasts (state S.Store tx.old.conn.now) (state S.Store tx.new.conn.now) }
+    ensures open { HasCleanDisk (state S.Store tx.new.conn.now) → IsTrusted (state S.Store tx.old.conn.now) → OnOk result (IsTrusted (state S.Store tx.new.conn.now)) }
+    ensures on { IsTrusted (state S.Store tx.new.conn.now) → OnOk result (WentOn (state S.Store tx.old.conn.now) (state S.Store tx.new.conn.now)) }
+    ensures taken { IsTrusted (state S.Store tx.new.conn.now) → OnOk result (TakesFact (state S.Store tx.old.conn.now).now.trees (state S.Store tx.new.conn.now).now.trees id 1) }
+    ensures err { IsTrusted (state S.Store tx.new.conn.now) → OnErr result ((state S.Store tx.new.conn.now).committed ≡ (state S.Store tx.old.conn.now).committed) }
+    ensures bad { result ≢ Err (KeepFault.Store Cause.BadRow) }
+{
+    let count = take_fact(tx, id)?;
+    alone(count)?;
+    Ok(())
+}
+
+/// Takes a fact out of the table of facts, if it is there.
+fn drop_fact<S: Alter>(tx: &mut Transaction<'_, S>, fact: &FactRow) -> Result<(), KeepFault>
+    requires inside { IsTrusted (state S.Store tx.old.conn.now) → IsInside (state S.Store tx.old.conn.now) }
+    ensures same_reference { tx.new.conn.ghost_name ≡ tx.old.conn.ghost_name }
+    ensures before { IsTrusted (state S.Store tx.new.conn.now) → IsTrusted (state S.Store tx.old.conn.now) }
+    ensures lasts { Lasts (state S.Store tx.old.conn.now) (state S.Store tx.new.conn.now) }
+    ensures open { HasCleanDisk (state S.Store tx.new.conn.now) → IsTrusted (state S.Store tx.old.conn.now) → OnOk result (IsTrusted (state S.Store tx.new.conn.now)) }
+    ensures on { IsTrusted (state S.Store tx.new.conn.now) → OnOk result (WentOn (state S.Store tx.old.conn.now) (state S.Store tx.new.conn.now)) }
+    ensures dropped { IsTrusted (state S.Store tx.new.conn.now) → OnOk result (DropsFact (state S.Store tx.old.conn.now).now.trees (state S.Store tx.new.conn.now).now.trees fact.now) }
+    ensures err { IsTrusted (state S.Store tx.new.conn.now) → OnErr result ((state S.Store tx.new.conn.now).committed ≡ (state S.Store tx.old.conn.now).committed) }
+    ensures bad { result ≢ Err (KeepFault.Store Cause.BadRow) }
+{
+    let found = found_fact(tx, fact)?;
+    match found {
         None => Ok(()),
-        Some(id) => alone(take_fact(tx, id)?),
+        Some(id) => {
+            take_one_fact(tx, id)?;
+            Ok(())
+        }
     }
+}
+
+/// The rowid of the delays under a number, if they are there.
+fn found_delays<S: Alter>(
+    tx: &mut Transaction<'_, S>,
+    number: u32,
+) -> Result<Option<i64>, KeepFault>
+    requires inside { IsTrusted (state S.Store tx.old.conn.now) → IsInside (state S.Store tx.old.conn.now) }
+    ensures same_reference { tx.new.conn.ghost_name ≡ tx.old.conn.ghost_name }
+    ensures before { IsTrusted (state S.Store tx.new.conn.now) → IsTrusted (state S.Store tx.old.conn.now) }
+    ensures lasts { Lasts (state S.Store tx.old.conn.now) (state S.Store tx.new.conn.now) }
+    ensures open { HasCleanDisk (state S.Store tx.new.conn.now) → IsTrusted (state S.Store tx.old.conn.now) → OnOk result (IsTrusted (state S.Store tx.new.conn.now)) }
+    ensures on { IsTrusted (state S.Store tx.new.conn.now) → OnOk result (WentOn (state S.Store tx.old.conn.now) (state S.Store tx.new.conn.now)) }
+    ensures same { IsTrusted (state S.Store tx.new.conn.now) → OnOk result ((state S.Store tx.new.conn.now).now ≡ (state S.Store tx.old.conn.now).now) }
+    ensures found { IsTrusted (state S.Store tx.new.conn.now) → IfOk result (λ id. IsFound (is_delays number) ((state S.Store tx.old.conn.now).now.trees 10) id) }
+    ensures err { IsTrusted (state S.Store tx.new.conn.now) → OnErr result ((state S.Store tx.new.conn.now).committed ≡ (state S.Store tx.old.conn.now).committed) }
+    ensures bad { result ≢ Err (KeepFault.Store Cause.BadRow) }
+{
+    let shown = delays_ids(tx, number)?;
+    let id = only_id(shown.as_slice())?;
+    Ok(id)
+}
+
+/// Takes the one row of delays with a rowid out.
+fn take_one_delays<S: Alter>(tx: &mut Transaction<'_, S>, id: i64) -> Result<(), KeepFault>
+    requires inside { IsTrusted (state S.Store tx.old.conn.now) → IsInside (state S.Store tx.old.conn.now) }
+    ensures same_reference { tx.new.conn.ghost_name ≡ tx.old.conn.ghost_name }
+    ensures before { IsTrusted (state S.Store tx.new.conn.now) → IsTrusted (state S.Store tx.old.conn.now) }
+    ensures lasts { Lasts (state S.Store tx.old.conn.now) (state S.Store tx.new.conn.now) }
+    ensures open { HasCleanDisk (state S.Store tx.new.conn.now) → IsTrusted (state S.Store tx.old.conn.now) → OnOk result (IsTrusted (state S.Store tx.new.conn.now)) }
+    ensures on { IsTrusted (state S.Store tx.new.conn.now) → OnOk result (WentOn (state S.Store tx.old.conn.now) (state S.Store tx.new.conn.now)) }
+    ensures taken { IsTrusted (state S.Store tx.new.conn.now) → OnOk result (TakesDelays (state S.Store tx.old.conn.now).now.trees (state S.Store tx.new.conn.now).now.trees id 1) }
+    ensures err { IsTrusted (state S.Store tx.new.conn.now) → OnErr result ((state S.Store tx.new.conn.now).committed ≡ (state S.Store tx.old.conn.now).committed) }
+    ensures bad { result ≢ Err (KeepFault.Store Cause.BadRow) }
+{
+    let count = take_delays(tx, id)?;
+    alone(count)?;
+    Ok(())
 }
 
 /// Takes the delays under a number out of their table, if they are there.
@@ -195,10 +274,13 @@ fn drop_delays<S: Alter>(tx: &mut Transaction<'_, S>, number: u32) -> Result<(),
     ensures err { IsTrusted (state S.Store tx.new.conn.now) → OnErr result ((state S.Store tx.new.conn.now).committed ≡ (state S.Store tx.old.conn.now).committed) }
     ensures bad { result ≢ Err (KeepFault.Store Cause.BadRow) }
 {
-    let shown = delays_ids(tx, number)?;
-    match only_id(shown.as_slice())? {
+    let found = found_delays(tx, number)?;
+    match found {
         None => Ok(()),
-        Some(id) => alone(take_delays(tx, id)?),
+        Some(id) => {
+            take_one_delays(tx, id)?;
+            Ok(())
+        }
     }
 }
 
@@ -206,7 +288,7 @@ fn drop_delays<S: Alter>(tx: &mut Transaction<'_, S>, number: u32) -> Result<(),
 fn drop_one<S: Alter>(
     tx: &mut Transaction<'_, S>,
     release: u32,
-    fact: FactRow,
+    fact: &FactRow,
 ) -> Result<(), KeepFault>
     requires inside { IsTrusted (state S.Store tx.old.conn.now) → IsInside (state S.Store tx.old.conn.now) }
     ensures same_reference { tx.new.conn.ghost_name ≡ tx.old.conn.ghost_name }
@@ -214,24 +296,29 @@ fn drop_one<S: Alter>(
     ensures lasts { Lasts (state S.Store tx.old.conn.now) (state S.Store tx.new.conn.now) }
     ensures open { HasCleanDisk (state S.Store tx.new.conn.now) → IsTrusted (state S.Store tx.old.conn.now) → OnOk result (IsTrusted (state S.Store tx.new.conn.now)) }
     ensures on { IsTrusted (state S.Store tx.new.conn.now) → OnOk result (WentOn (state S.Store tx.old.conn.now) (state S.Store tx.new.conn.now)) }
-    ensures dropped { IsTrusted (state S.Store tx.new.conn.now) → OnOk result (DropsOne release (state S.Store tx.old.conn.now).now.trees (state S.Store tx.new.conn.now).now.trees fact) }
+    ensures dropped { IsTrusted (state S.Store tx.new.conn.now) → OnOk result (DropsOne release (state S.Store tx.old.conn.now).now.trees (state S.Store tx.new.conn.now).now.trees fact.now) }
     ensures err { IsTrusted (state S.Store tx.new.conn.now) → OnErr result ((state S.Store tx.new.conn.now).committed ≡ (state S.Store tx.old.conn.now).committed) }
     ensures bad { result ≢ Err (KeepFault.Store Cause.BadRow) }
 {
     if fact.kind != 8 {
-        return drop_fact(tx, fact);
-    }
-    if fact.sender != release || fact.place != 0 {
+        drop_fact(tx, fact)?;
         return Ok(());
     }
-    drop_delays(tx, fact.number)
+    if fact.sender != release {
+        return Ok(());
+    }
+    if fact.place != 0 {
+        return Ok(());
+    }
+    drop_delays(tx, fact.number)?;
+    Ok(())
 }
 
 /// Puts a fact into its table.
 fn add_one<S: Alter>(
     tx: &mut Transaction<'_, S>,
     release: u32,
-    fact: FactRow,
+    fact: &FactRow,
 ) -> Result<usize, Error>
     requires inside { IsTrusted (state S.Store tx.old.conn.now) → IsInside (state S.Store tx.old.conn.now) }
     ensures same_reference { tx.new.conn.ghost_name ≡ tx.old.conn.ghost_name }
@@ -239,13 +326,15 @@ fn add_one<S: Alter>(
     ensures lasts { Lasts (state S.Store tx.old.conn.now) (state S.Store tx.new.conn.now) }
     ensures open { HasCleanDisk (state S.Store tx.new.conn.now) → IsTrusted (state S.Store tx.old.conn.now) → OnOk result (IsTrusted (state S.Store tx.new.conn.now)) }
     ensures on { IsTrusted (state S.Store tx.new.conn.now) → OnOk result (WentOn (state S.Store tx.old.conn.now) (state S.Store tx.new.conn.now)) }
-    ensures added { IsTrusted (state S.Store tx.new.conn.now) → OnOk result (AddsOne release (state S.Store tx.old.conn.now).now.trees (state S.Store tx.new.conn.now).now.trees fact) }
+    ensures added { IsTrusted (state S.Store tx.new.conn.now) → OnOk result (AddsOne release (state S.Store tx.old.conn.now).now.trees (state S.Store tx.new.conn.now).now.trees fact.now) }
     ensures err { IsTrusted (state S.Store tx.new.conn.now) → OnErr result ((state S.Store tx.new.conn.now).committed ≡ (state S.Store tx.old.conn.now).committed) }
 {
     if fact.kind != 8 {
-        return add_fact(tx, fact.kind, fact.sender, fact.number, fact.place);
+        let added = add_fact(tx, fact.kind, fact.sender, fact.number, fact.place)?;
+        return Ok(added);
     }
-    add_delays(tx, fact.number)
+    let put = add_delays(tx, fact.number)?;
+    Ok(put)
 }
 
 /// Takes these facts out of their tables.
@@ -265,7 +354,7 @@ fn drop_each<S: Alter>(
     ensures bad { result ≢ Err (KeepFault.Store Cause.BadRow) }
 {
     'facts: for fact in facts {
-        drop_one(tx, release, *fact)?;
+        drop_one(tx, release, fact)?;
     }
     Ok(())
 }
@@ -286,7 +375,7 @@ fn add_each<S: Alter>(
     ensures err { IsTrusted (state S.Store tx.new.conn.now) → OnErr result ((state S.Store tx.new.conn.now).committed ≡ (state S.Store tx.old.conn.now).committed) }
 {
     'facts: for fact in facts {
-        add_one(tx, release, *fact)?;
+        add_one(tx, release, fact)?;
     }
     Ok(())
 }
