@@ -1,5 +1,5 @@
 //! The tables of facts, read back.
-ghost use Rattle.std.specs.Prelude.{◌≡◌, ◌≢◌, ◌<◌, ◌∷◌, ◌++◌, [], ℤ, ℕ, Err, Some, None, ⊤, pos, map, option_to_list, IfOk, OnOk};
+ghost use Rattle.std.specs.Prelude.{◌≡◌, ◌≢◌, ◌<◌, ◌∷◌, ◌++◌, [], ℤ, ℕ, true, Err, Some, None, pos, map, option_to_list, IfOk, OnOk};
 ghost use Rattle.std.specs.List.Sorted.{IsPermutation};
 ghost use Rattle.sqlite.specs.Order.{column};
 ghost use Rattle.sqlite.specs.declared.types.Value.TheVariants.{Int};
@@ -96,7 +96,8 @@ fn delays_number(row: &Row) -> Result<u32, KeepFault>
     if id != 1 {
         return Err(KeepFault::Store(Cause::BadRow));
     }
-    number_in(row, 1)
+    let number = number_in(row, 1)?;
+    Ok(number)
 }
 
 /// The fact that the only row of the last delays says, if there is one.

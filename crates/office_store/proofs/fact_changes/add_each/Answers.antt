@@ -16,7 +16,7 @@ facts-preserved g c = record {
         before = so.before;
         on = record { inside = on.inside; committed = on.committed ∙ so.on.committed };
         changed = adds_step c.args.release (state g.S.Store c.args.tx.now.conn.now).now.trees (state g.S.Store c.facts.tx.conn.now).now.trees (state g.S.Store c.add_one.new.tx.conn.now).now.trees
-            c.args.facts.now c.facts.fact-index c.fact-item.result c.facts-test.true c.fact-item.is so.changed (c.in_ok-add_one.ensures.added trusted);
+            c.args.facts.now c.facts.fact-index c.add_one-arg-1.result c.facts-test.true c.add_one-arg-1.is so.changed (c.in_ok-add_one.ensures.added trusted);
       };
 }
 

@@ -10,9 +10,9 @@ returns-in-None-clause-dropped g c trusted =
     let old = (state g.S.Store c.args.tx.now.conn.now).now.trees in
     drops_no_delays old (state g.S.Store c.found_delays.new.tx.conn.now).now.trees c.args.number (subst (IsFound (is_delays c.args.number) (old 10)) c.in-None.is (c.in_ok-found.ensures.found trusted)) (ap (λ (d : Database). d.trees) (c.in_ok-found.ensures.same trusted))
 
-pub returns-in-Some-clause-dropped : goal.returns-in-Some-clause-dropped
-returns-in-Some-clause-dropped g c trusted =
+pub returns-in_ok-take_one_delays-in-Some-clause-dropped : goal.returns-in_ok-take_one_delays-in-Some-clause-dropped
+returns-in_ok-take_one_delays-in-Some-clause-dropped g c trusted =
     let old = (state g.S.Store c.args.tx.now.conn.now).now.trees in
-    let before = c.in_ok-take_one_delays.ensures.before trusted in
+    let before = c.in_ok-take_one_delays-in-Some.ensures.before trusted in
     drops_delays old (state g.S.Store c.found_delays.new.tx.conn.now).now.trees (state g.S.Store c.take_one_delays.new.tx.conn.now).now.trees c.args.number c.in-Some.id
-    (subst (IsFound (is_delays c.args.number) (old 10)) c.in-Some.is (c.in_ok-found.ensures.found before)) (ap (λ (d : Database). d.trees) (c.in_ok-found.ensures.same before)) (c.in_ok-take_one_delays.ensures.taken trusted)
+    (subst (IsFound (is_delays c.args.number) (old 10)) c.in-Some.is (c.in_ok-found.ensures.found before)) (ap (λ (d : Database). d.trees) (c.in_ok-found.ensures.same before)) (c.in_ok-take_one_delays-in-Some.ensures.taken trusted)

@@ -16,7 +16,7 @@ facts-preserved g c = record {
         before = so.before;
         on = record { inside = on.inside; committed = on.committed ∙ so.on.committed };
         changed = drops_step c.args.release (state g.S.Store c.args.tx.now.conn.now).now.trees (state g.S.Store c.facts.tx.conn.now).now.trees (state g.S.Store c.drop_one.new.tx.conn.now).now.trees
-            c.args.facts.now c.facts.fact-index c.fact-item.result c.facts-test.true c.fact-item.is so.changed (c.in_ok-drop_one.ensures.dropped trusted);
+            c.args.facts.now c.facts.fact-index c.drop_one-arg-1.result c.facts-test.true c.drop_one-arg-1.is so.changed (c.in_ok-drop_one.ensures.dropped trusted);
       };
 }
 

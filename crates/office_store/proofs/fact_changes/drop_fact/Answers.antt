@@ -10,9 +10,9 @@ returns-in-None-clause-dropped g c trusted =
     let old = (state g.S.Store c.args.tx.now.conn.now).now.trees in
     drops_no_fact old (state g.S.Store c.found_fact.new.tx.conn.now).now.trees c.args.fact.now (subst (IsFound (is_fact c.args.fact.now) (old 8)) c.in-None.is (c.in_ok-found.ensures.found trusted)) (ap (λ (d : Database). d.trees) (c.in_ok-found.ensures.same trusted))
 
-pub returns-in-Some-clause-dropped : goal.returns-in-Some-clause-dropped
-returns-in-Some-clause-dropped g c trusted =
+pub returns-in_ok-take_one_fact-in-Some-clause-dropped : goal.returns-in_ok-take_one_fact-in-Some-clause-dropped
+returns-in_ok-take_one_fact-in-Some-clause-dropped g c trusted =
     let old = (state g.S.Store c.args.tx.now.conn.now).now.trees in
-    let before = c.in_ok-take_one_fact.ensures.before trusted in
+    let before = c.in_ok-take_one_fact-in-Some.ensures.before trusted in
     drops_a_fact old (state g.S.Store c.found_fact.new.tx.conn.now).now.trees (state g.S.Store c.take_one_fact.new.tx.conn.now).now.trees c.args.fact.now c.in-Some.id
-    (subst (IsFound (is_fact c.args.fact.now) (old 8)) c.in-Some.is (c.in_ok-found.ensures.found before)) (ap (λ (d : Database). d.trees) (c.in_ok-found.ensures.same before)) (c.in_ok-take_one_fact.ensures.taken trusted)
+    (subst (IsFound (is_fact c.args.fact.now) (old 8)) c.in-Some.is (c.in_ok-found.ensures.found before)) (ap (λ (d : Database). d.trees) (c.in_ok-found.ensures.same before)) (c.in_ok-take_one_fact-in-Some.ensures.taken trusted)
