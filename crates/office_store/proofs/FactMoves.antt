@@ -1,5 +1,5 @@
 -- How the sets of facts are moved by the changes of their tables.
-use Rattle.std.proofs.Common.{◌≡◌, ◌≢◌, ◌≤◌, ◌<◌, ◌⊎◌, ◌+◌, inl, inr, ℕ, ℤ, pos, List, [], ◌∷◌, ◌++◌, map, filter, take, get_or, length, Bool, true, false, cond, not, ◌&&◌, ◌||◌, ◌==◌, nat_le, Option, Some, None, IsSome, is_some, Result, Ok, Err, OnOk, refl, sym, ap, subst, ◌∙◌, arith}
+use Rattle.std.proofs.Common.{◌≡◌, ◌≢◌, ◌≤◌, ◌<◌, ◌⊎◌, ◌+◌, inl, inr, ℕ, zero, suc, ℤ, pos, List, [], ◌∷◌, ◌++◌, map, filter, take, get_or, length, Bool, true, false, cond, not, ◌&&◌, ◌||◌, ◌==◌, nat_le, Option, Some, None, IsSome, is_some, Result, Ok, Err, OnOk, refl, sym, ap, subst, ◌∙◌, arith}
 use Rattle.std.specs.Prelude.{⊤}
 use Rattle.std.proofs.lemmas.Bool.{false≢true, true≢false}
 use Rattle.std.proofs.lemmas.Bool.Decides.{nat_tests}
@@ -337,6 +337,11 @@ push_with : (xs : List FactRow) (x : FactRow) (facts : FactSet) → with_rows (x
 push_with [] x facts = refl
 push_with (y ∷ xs) x facts = push_with xs x (insert facts y tt)
 
+any_default : {X : Type 0} (xs : List X) (i : ℕ) (d e : X) → i < length xs → get_or xs i d ≡ get_or xs i e
+any_default [] i d e h = absurd (omega (arith, h))
+any_default (x ∷ xs) zero d e h = refl
+any_default (x ∷ xs) (suc i) d e h = any_default xs i d e (omega (arith, h))
+
 module _ (release : ℕ) where
   pub moves_then : (a b c : Trees) (f g : FactSet → FactSet) → MovesFacts release a b f → MovesFacts release b c g → MovesFacts release a c (λ facts. g (f facts))
   moves_then a b c f g first second = record { has = second.has ∙ ap g first.has; reads = λ was. second.reads (first.reads was) }
@@ -372,6 +377,13 @@ module _ (release : ℕ) where
             record { has = both.has ∙ sym (push_with (take i facts) fact (facts_in release (a 8) (a 10))) ∙ ap (λ l. with_rows l (facts_in release (a 8) (a 10))) (sym front); reads = both.reads };
         others = others_then a b c so_far.others one.others;
       }
+
+  -- the same of the fact at a place
+  pub drops_at : (a b c : Trees) (facts : List FactRow) (i : ℕ) (d : FactRow) → i < length facts → DropsEach release a b (take i facts) → DropsOne release b c (get_or facts i d) → DropsEach release a c (take (i + 1) facts)
+  drops_at a b c facts i d within so_far one = drops_step a b c facts i (get_or facts i d) within (any_default facts i d (get_or facts i d) within) so_far one
+
+  pub adds_at : (a b c : Trees) (facts : List FactRow) (i : ℕ) (d : FactRow) → i < length facts → AddsEach release a b (take i facts) → AddsOne release b c (get_or facts i d) → AddsEach release a c (take (i + 1) facts)
+  adds_at a b c facts i d within so_far one = adds_step a b c facts i (get_or facts i d) within (any_default facts i d (get_or facts i d) within) so_far one
 
   pub changes : (a b c : Trees) (it : FactChanges) → DropsEach release a b it.gone → AddsEach release b c it.put → ChangesFacts release a c it
   changes a b c it first second = record {

@@ -1,7 +1,7 @@
 use Rattle.std.proofs.Common.{refl, ◌∙◌}
 use Rattle.sqlite.specs.Held.{state}
 use Rattle.office_store.proofs.StateLemmas.{lasts_same, lasts_then, clean_before}
-use Rattle.office_store.proofs.FactMoves.{adds_start, adds_step}
+use Rattle.office_store.proofs.FactMoves.{adds_start, adds_at}
 use Rattle.office_store.proofs.fact_changes.add_each.Goals as goal
 
 pub facts-preserved : goal.facts-preserved
@@ -15,8 +15,8 @@ facts-preserved g c = record {
       record {
         before = so.before;
         on = record { inside = on.inside; committed = on.committed ∙ so.on.committed };
-        changed = adds_step c.args.release (state g.S.Store c.args.tx.now.conn.now).now.trees (state g.S.Store c.facts.tx.conn.now).now.trees (state g.S.Store c.add_one.new.tx.conn.now).now.trees
-            c.args.facts.now c.facts.fact-index c.add_one-arg-1.result c.facts-test.true c.add_one-arg-1.is so.changed (c.in_ok-add_one.ensures.added trusted);
+        changed = adds_at c.args.release (state g.S.Store c.args.tx.now.conn.now).now.trees (state g.S.Store c.facts.tx.conn.now).now.trees (state g.S.Store c.add_one.new.tx.conn.now).now.trees
+            c.args.facts.now c.facts.fact-index _ c.facts-test.true so.changed (c.in_ok-add_one.ensures.added trusted);
       };
 }
 

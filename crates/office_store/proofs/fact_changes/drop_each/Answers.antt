@@ -1,7 +1,7 @@
 use Rattle.std.proofs.Common.{refl, ◌∙◌}
 use Rattle.sqlite.specs.Held.{state}
 use Rattle.office_store.proofs.StateLemmas.{lasts_same, lasts_then, clean_before}
-use Rattle.office_store.proofs.FactMoves.{drops_start, drops_step}
+use Rattle.office_store.proofs.FactMoves.{drops_start, drops_at}
 use Rattle.office_store.proofs.fact_changes.drop_each.Goals as goal
 
 pub facts-preserved : goal.facts-preserved
@@ -15,8 +15,8 @@ facts-preserved g c = record {
       record {
         before = so.before;
         on = record { inside = on.inside; committed = on.committed ∙ so.on.committed };
-        changed = drops_step c.args.release (state g.S.Store c.args.tx.now.conn.now).now.trees (state g.S.Store c.facts.tx.conn.now).now.trees (state g.S.Store c.drop_one.new.tx.conn.now).now.trees
-            c.args.facts.now c.facts.fact-index c.drop_one-arg-1.result c.facts-test.true c.drop_one-arg-1.is so.changed (c.in_ok-drop_one.ensures.dropped trusted);
+        changed = drops_at c.args.release (state g.S.Store c.args.tx.now.conn.now).now.trees (state g.S.Store c.facts.tx.conn.now).now.trees (state g.S.Store c.drop_one.new.tx.conn.now).now.trees
+            c.args.facts.now c.facts.fact-index _ c.facts-test.true so.changed (c.in_ok-drop_one.ensures.dropped trusted);
       };
 }
 
