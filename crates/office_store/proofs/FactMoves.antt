@@ -409,18 +409,18 @@ can_stand release q is own = go (q.kind == 8) refl is.place
   where
     go : (b : Bool) → (q.kind == 8) ≡ b → (q.kind ≡ 3) ⊎ (q.place ≡ 0) → CanStand release q
     go true e (inl three) = let k : q.kind ≡ 8 = grind (arith, nat_tests) in absurd (omega (arith, k, three))
-    go true e (inr zero) =
+    go true e (inr none) =
         let k : q.kind ≡ 8 = grind (arith, nat_tests) in
         let s : q.sender ≡ release = own k in
-        inr (λ i. record { kind = k i; sender = s i; number = q.number; place = zero i })
+        inr (λ i. record { kind = k i; sender = s i; number = q.number; place = none i })
     go false e place = inl (stands q.kind q.place is.low is.high (let k : q.kind ≢ 8 = (λ same. false≢true (sym e ∙ (let t : (q.kind == 8) ≡ true = grind (arith, nat_tests) in t))) in k) place)
       where
         stands : (kind place : ℕ) → 1 ≤ kind → kind ≤ 8 → kind ≢ 8 → (kind ≡ 3) ⊎ (place ≡ 0) → may_stand kind place ≡ true
         stands kind place low high other (inl three) = ap (λ k. may_stand k place) three
-        stands kind place low high other (inr zero) =
+        stands kind place low high other (inr none) =
             let least : nat_le 1 kind ≡ true = grind (arith, nat_tests) in
             let most : nat_le kind 7 ≡ true = grind (arith, nat_tests) in
-            ap (may_stand kind) zero ∙ three_hold (nat_le 1 kind) (nat_le kind 7) (kind == 3) least most
+            ap (may_stand kind) none ∙ three_hold (nat_le 1 kind) (nat_le kind 7) (kind == 3) least most
 
 -- what is put can stand, where what comes of it is holdable
 pub holdable_stands : (setup : Lists) (changes : FactChanges) (facts : FactSet) → AreHoldable setup (facts_after changes facts) → CanStandEach (release_place setup) changes.put
