@@ -1,5 +1,5 @@
 -- How the sets of facts are moved by the changes of their tables.
-use Rattle.std.proofs.Common.{◌≡◌, ◌≢◌, ◌≤◌, ◌<◌, ◌⊎◌, ◌+◌, inl, inr, ℕ, zero, suc, ℤ, pos, List, [], ◌∷◌, ◌++◌, map, filter, take, get_or, length, Bool, true, false, cond, not, ◌&&◌, ◌||◌, ◌==◌, nat_le, Option, Some, None, IsSome, is_some, Result, Ok, Err, OnOk, refl, sym, ap, subst, ◌∙◌, arith}
+use Rattle.std.proofs.Common.{◌≡◌, ◌≢◌, ◌≤◌, ◌<◌, ◌⊎◌, ◌+◌, inl, inr, ℕ, zero, suc, ℤ, pos, List, [], ◌∷◌, ◌++◌, map, filter, take, get_or, length, Bool, true, false, cond, not, ◌&&◌, ◌||◌, ◌==◌, nat_le, Option, Some, None, IsSome, is_some, refl, sym, ap, subst, ◌∙◌, arith}
 use Rattle.std.specs.Prelude.{⊤}
 use Rattle.std.proofs.lemmas.Bool.{false≢true, true≢false}
 use Rattle.std.proofs.lemmas.Bool.Decides.{nat_tests}
@@ -21,12 +21,11 @@ use Rattle.office_keeper.specs.FactSet.{FactSet, HasRow, without_rows, with_rows
 use Rattle.office_store.specs.TableSteps.{Rows, rows_in}
 use Rattle.office_store.specs.Legible.{AreRead}
 use Rattle.office_store.specs.TableContent.{release_place}
-use Rattle.office_store.specs.FactTables.{fact_entry, may_stand, fact_of, fact_in, delays_of, delays_in, facts_in}
+use Rattle.office_store.specs.FactTables.{fact_entry, may_stand, fact_in, delays_of, delays_in, facts_in}
 use Rattle.office_store.specs.FactSteps.{is_fact, is_delays, id_columns, IsOnlyId, IsFound, TakesOut, TakesFact, TakesDelays, AddsFact, AddsDelays, CanStand, CanStandEach, MovesFacts, KeepsOthers, Leaves, DropsFact, DropsDelays, DropsOne, AddsOne, DropsEach, AddsEach, ChangesFacts}
 use Rattle.office_store.proofs.DeleteLemmas.{itself}
 use Rattle.office_store.proofs.MailLemmas.{empty_of, as_many, only_shown}
 use Rattle.office_store.proofs.KeepLemmas.{seven}
-use Rattle.office_store.proofs.Whole.{length_put}
 use Rattle.office_store.proofs.FactSets.{same_set, same_entry, has_joined, of_inserted, inserted_has, of_removed, removed_has, said, says, below_eight}
 use Rattle.office_store.proofs.FactReads.{fact_shape, fact_stands, fact_here, fact_only, delays_shape, delays_here, delays_only}
 
@@ -176,11 +175,11 @@ module _ (release : ℕ) (db next : Trees) (fact : FactRow) where
                 | inr b ↦ removed_has (facts_in release (db 8) (db 10)) fact q (λ same. low (ap (λ (f : FactRow). f.kind) (sym same) ∙ eight release b.0 q b.2)) (says release (db 8) (db 10) q (inr (b.0, subst (λ l. Has l b.0) last b.1, b.2)))
               ])
               (λ q h.
-                  let r = of_removed (facts_in release (db 8) (db 10)) fact q h in
-                  says release (next 8) (next 10) q (elim (said release (db 8) (db 10) q r.1) [
-                    | inl a ↦ inl (a.0, it.leaves.others a.0 q a.1 a.2 r.0, a.2)
-                    | inr b ↦ inr (b.0, subst (λ l. Has l b.0) (sym last) b.1, b.2)
-                  ]));
+              let r = of_removed (facts_in release (db 8) (db 10)) fact q h in
+              says release (next 8) (next 10) q (elim (said release (db 8) (db 10) q r.1) [
+                | inl a ↦ inl (a.0, it.leaves.others a.0 q a.1 a.2 r.0, a.2)
+                | inr b ↦ inr (b.0, subst (λ l. Has l b.0) (sym last) b.1, b.2)
+              ]));
           reads = λ was. record {
             fact = λ row there. was.fact row (it.leaves.had row there);
             delay = λ row there. was.delay row (subst (λ l. Has l row) last there);
@@ -203,11 +202,11 @@ module _ (release : ℕ) (db next : Trees) (fact : FactRow) where
                 | inr b ↦ removed_has (facts_in release (db 8) (db 10)) fact q (λ same. leaves.gone b.0 b.1 (b.2 ∙ ap (λ f. Some (fact_entry f)) (same ∙ is))) (says release (db 8) (db 10) q (inr (b.0, leaves.had b.0 b.1, b.2)))
               ])
               (λ q h.
-                  let r = of_removed (facts_in release (db 8) (db 10)) fact q h in
-                  says release (next 8) (next 10) q (elim (said release (db 8) (db 10) q r.1) [
-                    | inl a ↦ inl (a.0, subst (λ l. Has l a.0) (sym facts) a.1, a.2)
-                    | inr b ↦ inr (b.0, leaves.others b.0 q b.1 b.2 (λ same. r.0 (same ∙ sym is)), b.2)
-                  ]));
+              let r = of_removed (facts_in release (db 8) (db 10)) fact q h in
+              says release (next 8) (next 10) q (elim (said release (db 8) (db 10) q r.1) [
+                | inl a ↦ inl (a.0, subst (λ l. Has l a.0) (sym facts) a.1, a.2)
+                | inr b ↦ inr (b.0, leaves.others b.0 q b.1 b.2 (λ same. r.0 (same ∙ sym is)), b.2)
+              ]));
           reads = λ was. record {
             fact = λ row there. was.fact row (subst (λ l. Has l row) facts there);
             delay = λ row there. was.delay row (leaves.had row there);

@@ -1,20 +1,20 @@
 -- What the rows of both tables of facts say, as a set.
-use Rattle.std.proofs.Common.{◌≡◌, ◌≢◌, ◌≤◌, ◌⊎◌, inl, inr, ℕ, ℤ, pos, List, [], ◌∷◌, ◌++◌, map, filter, filter_map, length, Bool, true, false, cond, not, ◌&&◌, ◌||◌, ◌==◌, nat_le, Option, Some, None, IsSome, is_some, refl, sym, ap, subst, ◌∙◌, arith}
+use Rattle.std.proofs.Common.{◌≡◌, ◌≢◌, ◌≤◌, ◌⊎◌, inl, inr, ℕ, List, [], ◌∷◌, ◌++◌, map, filter_map, Bool, true, false, cond, ◌&&◌, nat_le, Option, Some, None, IsSome, is_some, refl, sym, ap, subst, ◌∙◌, arith}
 use Rattle.std.specs.Prelude.{⊤}
-use Rattle.std.proofs.lemmas.Bool.{true≢false, false≢true, cases_Bool}
+use Rattle.std.proofs.lemmas.Bool.{true≢false, false≢true}
 use Rattle.std.proofs.lemmas.Bool.Decides.{nat_tests}
 use Rattle.std.proofs.lemmas.Cmp.{nat_cmp_total, on_total, then_total, tied_itself}
 use Rattle.std.specs.Cmp.{IsTotalOrder}
 use Rattle.std.specs.declared.cmp.Ordering.{Ordering}
 use Rattle.std.specs.declared.cmp.Ordering.TheVariants.{Less, Equal, Greater}
 use Rattle.std.specs.Ordering.{nat_cmp, eq_by_cmp, is_eq, ordering_then}
-use Rattle.std.specs.FinMap.{FinMap, IsAntisymmetric, get, insert, remove, from_entries, get-from_entries, get-insert, get-remove, same_map, nat_cmp-IsAntisymmetric}
+use Rattle.std.specs.FinMap.{IsAntisymmetric, get, insert, remove, from_entries, get-from_entries, get-insert, get-remove, same_map, nat_cmp-IsAntisymmetric}
 use Rattle.sqlite.specs.Order.{Row}
 use Rattle.sqlite_rules.specs.Lists.{Has}
 use Rattle.testing_model.specs.declared.fact_row.FactRow.{FactRow}
 use Rattle.testing_model.specs.FactRows.{row_order}
 use Rattle.office_keeper.specs.FactSet.{FactSet, set_of_rows}
-use Rattle.office_store.specs.FactTables.{fact_entry, may_stand, fact_of, fact_in, delays_of, delays_by, delays_in, facts_in}
+use Rattle.office_store.specs.FactTables.{fact_entry, may_stand, fact_in, delays_in, facts_in}
 use Rattle.office_store.proofs.EntryMaps.{from_first, has_first}
 use Rattle.office_store.proofs.EntryValues.{read_has, has_read, has_map, map_has}
 use Rattle.office_store.proofs.KeyedFacts.{tied}

@@ -1,5 +1,5 @@
 -- What the statements on facts show.
-use Rattle.std.proofs.Common.{◌≡◌, [], ◌∷◌, List, ℕ, pos, map, filter, false, ◌&&◌, refl, codes, ap, subst, ◌∙◌}
+use Rattle.std.proofs.Common.{◌≡◌, [], ◌∷◌, List, ℕ, pos, map, filter, false, ◌&&◌, refl, codes, ap, subst}
 use Rattle.std.specs.List.Sorted.{IsPermutation}
 use Rattle.std.specs.Ordering.{is_eq}
 use Rattle.sqlite_tied.specs.Compute.{everything}

@@ -1,5 +1,5 @@
 -- What a DELETE by the rowid makes of the trees, and how many rows it counts.
-use Rattle.std.proofs.Common.{◌≡◌, ◌≢◌, ℕ, ℤ, List, [], ◌∷◌, map, filter, length, slice_get, false, Some, None, Option, Ok, unwrap_or, refl, sym, ap, subst, ◌∙◌}
+use Rattle.std.proofs.Common.{◌≡◌, ◌≢◌, ℕ, ℤ, List, [], ◌∷◌, map, filter, length, slice_get, false, Some, None, Option, Ok, unwrap_or, sym, ap, subst, ◌∙◌}
 use Rattle.std.proofs.lemmas.List.{length-map}
 use Rattle.std.specs.List.Sorted.{IsPermutation}
 use Rattle.sqlite_tied.proofs.RuleLemmas.{and_true}

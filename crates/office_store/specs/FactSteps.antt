@@ -1,6 +1,6 @@
 -- Steps: no contract of a call that users make rests on this file.
 -- What the statements on the tables of facts show and make of them.
-use Rattle.std.specs.Prelude.{◌≡◌, ◌≢◌, ◌≤◌, ◌⊎◌, ◌&&◌, ◌==◌, Bool, true, false, ℕ, ℤ, pos, List, [], ◌∷◌, length, map, filter, Option, Some, None, IsSome, ⊤}
+use Rattle.std.specs.Prelude.{◌≡◌, ◌≢◌, ◌≤◌, ◌⊎◌, ◌&&◌, Bool, true, false, ℕ, ℤ, pos, List, [], ◌∷◌, length, map, filter, Option, Some, None, ⊤}
 use Rattle.std.specs.FinMap.{insert, remove}
 use Rattle.std.specs.Ordering.{is_eq}
 use Rattle.std.specs.List.Sorted.{IsPermutation}

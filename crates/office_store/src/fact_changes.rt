@@ -127,9 +127,7 @@ fn add_delays<S: Alter>(tx: &mut Transaction<'_, S>, number: u32) -> Result<usiz
 fn stands_twice(constraint: Constraint) -> KeepFault
     ensures { result ≢ KeepFault.Store Cause.BadRow }
 {
-    KeepFault::from(Error::SqliteFailure(ErrorCode::ConstraintViolation(
-        constraint,
-    )))
+    KeepFault::from(Error::SqliteFailure(ErrorCode::ConstraintViolation(constraint)))
 }
 
 /// The rowid that is shown.

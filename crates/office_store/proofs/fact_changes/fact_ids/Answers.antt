@@ -1,7 +1,6 @@
-use Rattle.std.proofs.Common.{◌∷◌, [], List, pos, map, filter}
+use Rattle.std.proofs.Common.{List, map, filter}
 use Rattle.std.specs.List.Sorted.{IsPermutation}
 use Rattle.sqlite.specs.Order.{Row}
-use Rattle.sqlite.specs.declared.types.Value.TheVariants.{Int}
 use Rattle.sqlite.specs.Held.{state}
 use Rattle.office_store.specs.Texts.{fact_ids_text}
 use Rattle.office_store.specs.FactSteps.{id_columns, is_fact}

@@ -1,4 +1,3 @@
-use Rattle.sqlite.specs.Held.{state}
 use Rattle.office_store.proofs.fact_changes.found_fact.Goals as goal
 
 pub returns-clause-found : goal.returns-clause-found
