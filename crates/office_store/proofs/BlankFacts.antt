@@ -20,12 +20,13 @@ use Rattle.office_keeper.specs.Content.{no_content}
 use Rattle.office_store.specs.Creating.{IsBlank}
 use Rattle.office_store.specs.Tables.{kept_rows}
 use Rattle.office_store.specs.Entries.{source_map, entry_map}
-use Rattle.office_store.specs.TableContent.{content_in, reports_to, suite_in, source_at, row_at}
-use Rattle.office_store.specs.Legible.{IsLegible, IsWhole, SaysOnce, AreReported, AreNamed}
+use Rattle.office_store.specs.TableContent.{content_in, reports_to, suite_in, source_at, row_at, release_place}
+use Rattle.office_store.specs.FactTables.{facts_in}
+use Rattle.office_store.specs.Legible.{IsLegible, IsWhole, SaysOnce, AreReported, AreNamed, AreRead}
 
 -- what the office says in new tables
 abbrev pub new_said : List ℕ → Said
-new_said text = record { schema = 0; setup = text; finished = 0 }
+new_said text = record { schema = 2; setup = text; finished = 0 }
 
 abbrev says_once : (db : Trees) (text : List ℕ) → IsUtf8 text → IsBlank db (new_said text) → SaysOnce (db 0)
 says_once db text utf8 blank = record {
@@ -62,12 +63,16 @@ none_named setup db sources rows = record {
   row = λ key value found. absurd (empty_get row_cmp (Place × ℕ) key value (rw rows at found));
 }
 
+none_read : (release : ℕ) → AreRead release [] []
+none_read release = record { fact = λ row there. absurd there; delay = λ row there. absurd there; one = omega arith }
+
 pub blank_legible : (setup : Lists) (db : Trees) (text : List ℕ) → IsUtf8 text → IsBlank db (new_said text) → IsLegible setup db
 blank_legible setup db text utf8 blank = record {
   office = says_once db text utf8 blank;
   mail = subst (λ rs. IsWhole (kept_rows rs) rs) (sym blank.mail) (empty_len place_cmp (List ℕ));
   runs = subst (λ rows. AreReported rows 0) (sym blank.runs) none_reported;
   testing = none_named setup db blank.sources blank.rows;
+  facts = subst (λ rows. AreRead (release_place setup) rows (db 10)) (sym blank.facts) (subst (AreRead (release_place setup) []) (sym blank.delays) (none_read (release_place setup)));
 }
 
 suite_none : (setup : Lists) → suite_in setup empty (source_map []) (entry_map []) ≡ no_content.testing
@@ -76,10 +81,15 @@ suite_none setup =
     ap (λ sources. record { sources = filter_map (source_at setup empty) sources; rows = filter_map (row_at setup empty) (entries (entry_map [])) }) (empty_entries byte_cmp Place)
     ∙ ap (λ rows. record { sources = []; rows = filter_map (row_at setup empty) rows }) (empty_entries row_cmp (Place × ℕ))
 
+facts_none : (setup : Lists) → facts_in (release_place setup) [] [] ≡ no_content.facts
+unfolding facts_in
+facts_none setup = refl
+
 pub blank_content : (setup : Lists) (db : Trees) (said : Said) → said.finished ≡ 0 → IsBlank db said → content_in setup db ≡ no_content
 unfolding reports_to
 blank_content setup db said none blank =
-    rw (blank.mail, blank.runs, blank.sources, blank.rows, blank.says, none) (ap (λ t. record { kept = empty; reports = []; testing = t }) (suite_none setup))
+    rw (blank.mail, blank.runs, blank.sources, blank.rows, blank.facts, blank.delays, blank.says, none)
+    (λ i. record { kept = empty; reports = []; testing = suite_none setup i; facts = facts_none setup i })
 
 -- so do those of a setup's own text
 pub new_empty : (setup : Lists) (db : Trees) → IsSetup setup → IsBlank db (new_said (setup_text setup)) → IsEmptyFor setup db

@@ -22,19 +22,22 @@ use Rattle.office_mail.specs.Kept.{Kept, Place}
 use Rattle.office_mail.specs.declared.message.Message.{Message}
 use Rattle.office_keeper.specs.declared.values.Finished.{Finished}
 use Rattle.office_keeper.specs.Content.{reports_in, with_run}
+use Rattle.office_keeper.specs.FactSet.{AreHoldable, facts_after}
 use Rattle.office_keeper.specs.Provenance.{IsKept, GivesSource, IsArchPlace, GivesRow, IsGiven}
 use Rattle.office_store.specs.Tables.{kept_rows, said_in, run_map}
 use Rattle.office_store.specs.TableSteps.{Rows, AddsLetter}
 use Rattle.sqlite.specs.Effect.{Database}
 use Rattle.office_store.specs.Entries.{source_map, entry_map}
 use Rattle.office_store.specs.EntrySteps.{source_entry, row_entry}
+use Rattle.office_store.specs.FactTables.{facts_in}
 use Rattle.office_store.specs.Finishing.{FinishesRun}
-use Rattle.office_store.specs.TableContent.{own_by, message_by, message_at, source_as, source_by_message, source_at, is_arch_place, row_as, row_by_message, row_at, suite_in, reports_to, count_said, content_in}
+use Rattle.office_store.specs.TableContent.{own_by, message_by, message_at, source_as, source_by_message, source_at, is_arch_place, row_as, row_by_message, row_at, suite_in, reports_to, count_said, content_in, release_place}
 use Rattle.office_store.proofs.MailLemmas.{empty_of}
 use Rattle.office_store.proofs.SettingLemmas.{row_order}
 use Rattle.office_store.proofs.EntryLists.{suite_of}
 use Rattle.office_store.proofs.EntryValues.{read_has, source_keeps, row_keeps, all_back}
 use Rattle.office_store.proofs.ReportFacts.{length_reports, one_run_more}
+use Rattle.office_store.proofs.FactMoves.{holdable_stands}
 
 -- ---- entries that are in order
 
@@ -118,7 +121,7 @@ module _ (setup : Lists) (kept : Kept) where
 
 -- ---- a finished run
 
-module _ (setup : Lists) (db next : Trees) (run : ℕ) (done : Finished) (it : FinishesRun db next run done) where
+module _ (setup : Lists) (db next : Trees) (run : ℕ) (done : Finished) (it : FinishesRun (release_place setup) db next run done) where
   pub reports_after : run ≡ length (content_in setup db).reports + 1 → (content_in setup next).reports ≡ (content_in setup db).reports ++ reports_in done ∷ []
   reports_after is =
       let n = count_said (said_in (db 0)) in
@@ -153,25 +156,43 @@ module _ (setup : Lists) (db next : Trees) (run : ℕ) (done : Finished) (it : F
       (ap (λ (k : Kept). filter_map (source_at setup k) (entries (source_map (next 4)))) kept ∙ ap (filter_map (source_at setup (kept_rows (db 1)))) sources ∙ all_back source_entry (source_at setup (kept_rows (db 1))) done.testing.sources (sources_named given))
       (ap (λ (k : Kept). filter_map (row_at setup k) (entries (entry_map (next 6)))) kept ∙ ap (filter_map (row_at setup (kept_rows (db 1)))) rows ∙ all_back row_entry (row_at setup (kept_rows (db 1))) done.testing.rows (rows_named given))
 
-  pub content_after : run ≡ length (content_in setup db).reports + 1 → AreByName done.testing.sources → AreByKey done.testing.rows → IsGiven setup (content_in setup db) done.testing → content_in setup next ≡ with_run (content_in setup db) done
-  content_after is by_name by_key given = λ i. record { kept = kept_after i; reports = reports_after is i; testing = testing_after by_name by_key given i }
+  pub facts_now : AreHoldable setup (facts_after done.facts (content_in setup db).facts) → (content_in setup next).facts ≡ facts_after done.facts (content_in setup db).facts
+  facts_now holdable = (it.writes.facts (holdable_stands setup done.facts (content_in setup db).facts holdable)).has
+
+  pub content_after : run ≡ length (content_in setup db).reports + 1 → AreByName done.testing.sources → AreByKey done.testing.rows → IsGiven setup (content_in setup db) done.testing → AreHoldable setup (facts_after done.facts (content_in setup db).facts)
+      → content_in setup next ≡ with_run (content_in setup db) done
+  content_after is by_name by_key given holdable = λ i. record { kept = kept_after i; reports = reports_after is i; testing = testing_after by_name by_key given i; facts = facts_now holdable i }
 
 -- the same of a call that answered
-module _ {T E : Type 0} (result given : Result T E) (same : result ≡ given) (setup : Lists) (db next : Trees) (run : ℕ) (done : Finished) (finishes : OnOk given (FinishesRun db next run done)) where
+module _ {T E : Type 0} (result given : Result T E) (same : result ≡ given) (setup : Lists) (db next : Trees) (run : ℕ) (done : Finished) (finishes : OnOk given (FinishesRun (release_place setup) db next run done)) where
   pub reports_on : run ≡ length (content_in setup db).reports + 1 → OnOk result ((content_in setup next).reports ≡ (content_in setup db).reports ++ reports_in done ∷ [])
   reports_on is = subst (λ r. OnOk r ((content_in setup next).reports ≡ (content_in setup db).reports ++ reports_in done ∷ [])) (sym same) (go given finishes)
     where
-      go : (r : Result T E) → OnOk r (FinishesRun db next run done) → OnOk r ((content_in setup next).reports ≡ (content_in setup db).reports ++ reports_in done ∷ [])
+      go : (r : Result T E) → OnOk r (FinishesRun (release_place setup) db next run done) → OnOk r ((content_in setup next).reports ≡ (content_in setup db).reports ++ reports_in done ∷ [])
       go (Ok v) it = reports_after setup db next run done it is
       go (Err e) it = tt
 
-  pub content_on : OnOk given (IsInOrder done.testing.sources done.testing.rows) → run ≡ length (content_in setup db).reports + 1 → IsGiven setup (content_in setup db) done.testing
-      → OnOk result (content_in setup next ≡ with_run (content_in setup db) done)
-  content_on ordered is gives = subst (λ r. OnOk r (content_in setup next ≡ with_run (content_in setup db) done)) (sym same) (go given finishes ordered)
+  pub facts_on : AreHoldable setup (facts_after done.facts (content_in setup db).facts) → OnOk result ((content_in setup next).facts ≡ facts_after done.facts (content_in setup db).facts)
+  facts_on holdable = subst (λ r. OnOk r ((content_in setup next).facts ≡ facts_after done.facts (content_in setup db).facts)) (sym same) (go given finishes)
     where
-      go : (r : Result T E) → OnOk r (FinishesRun db next run done) → OnOk r (IsInOrder done.testing.sources done.testing.rows) → OnOk r (content_in setup next ≡ with_run (content_in setup db) done)
-      go (Ok v) it order = content_after setup db next run done it is order.by_name order.by_key gives
+      go : (r : Result T E) → OnOk r (FinishesRun (release_place setup) db next run done) → OnOk r ((content_in setup next).facts ≡ facts_after done.facts (content_in setup db).facts)
+      go (Ok v) it = facts_now setup db next run done it holdable
+      go (Err e) it = tt
+
+  pub content_on : OnOk given (IsInOrder done.testing.sources done.testing.rows) → run ≡ length (content_in setup db).reports + 1 → IsGiven setup (content_in setup db) done.testing
+      → AreHoldable setup (facts_after done.facts (content_in setup db).facts) → OnOk result (content_in setup next ≡ with_run (content_in setup db) done)
+  content_on ordered is gives holdable = subst (λ r. OnOk r (content_in setup next ≡ with_run (content_in setup db) done)) (sym same) (go given finishes ordered)
+    where
+      go : (r : Result T E) → OnOk r (FinishesRun (release_place setup) db next run done) → OnOk r (IsInOrder done.testing.sources done.testing.rows) → OnOk r (content_in setup next ≡ with_run (content_in setup db) done)
+      go (Ok v) it order = content_after setup db next run done it is order.by_name order.by_key gives holdable
       go (Err e) it order = tt
+
+-- a kept text leaves the facts, and so does a refusal
+pub facts_kept : {T E : Type 0} (given : Result T E) (setup : Lists) (old new : Database) (sender number : ℕ) (text : List ℕ) → OnOk given (AddsLetter old.trees new.trees sender number text) → OnErr given (new ≡ old)
+    → (content_in setup new.trees).facts ≡ (content_in setup old.trees).facts
+facts_kept (Ok v) setup old new sender number text it err =
+    ap (λ (r : Rows). facts_in (release_place setup) r.facts (new.trees 10)) it.put ∙ ap (λ (r : Rows). facts_in (release_place setup) (old.trees 8) r.delays) it.put
+facts_kept (Err e) setup old new sender number text it err = ap (λ (d : Database). (content_in setup d.trees).facts) err
 
 -- a kept text leaves the reports, and so does a refusal
 pub reports_kept : {T E : Type 0} (given : Result T E) (setup : Lists) (old new : Database) (sender number : ℕ) (text : List ℕ) → OnOk given (AddsLetter old.trees new.trees sender number text) → OnErr given (new ≡ old)

@@ -12,15 +12,15 @@ use Rattle.sqlite.specs.Listing.{understood}
 use Rattle.sqlite.specs.State.{State, Writes, Executes}
 use Rattle.sqlite.proofs.Callers.{IsPlain, command_of, statement_of, runs_as}
 use Rattle.sqlite_tied.specs.Compute.{everything}
-use Rattle.office_store.specs.Layout.{no_schema, office, mail, run, testing_source, testing_row}
-use Rattle.office_store.specs.Texts.{create_office_text, create_mail_text, create_run_text, create_testing_source_text, create_testing_row_text}
+use Rattle.office_store.specs.Layout.{no_schema, office, mail, run, testing_source, testing_row, fact, fact_delays}
+use Rattle.office_store.specs.Texts.{create_office_text, create_mail_text, create_run_text, create_testing_source_text, create_testing_row_text, create_fact_text, create_fact_delays_text}
 use Rattle.sqlite.specs.Tree.{Trees, put_row}
 use Rattle.office_store.specs.declared.said.Said.{Said}
 use Rattle.office_store.specs.Tables.{IsTrusted, said_in}
 use Rattle.office_store.specs.TableSteps.{Rows, SaysMore}
 use Rattle.office_store.proofs.RunLemmas.{said_one}
 use Rattle.office_store.specs.Creating.{IsBlank}
-use Rattle.office_store.specs.CreatingSteps.{IsBuilding, Makes, MakesAll, schema_of_one, schema_of_two, schema_of_three, schema_of_four}
+use Rattle.office_store.specs.CreatingSteps.{IsBuilding, Makes, MakesAll, schema_of_one, schema_of_two, schema_of_three, schema_of_four, schema_of_five, schema_of_six}
 use Rattle.office_store.proofs.StepLemmas.{Stepped, step_before, step_on, begun_ok}
 use Rattle.office_store.proofs.WriteLemmas.{went, same_value}
 
@@ -77,6 +77,14 @@ pub testing_row_is : IsDefinition schema_of_four create_testing_row_text testing
 unfolding understood everything
 testing_row_is = record { command = refl; whole = refl; plain = (refl, refl); table_is = refl; simple = refl }
 
+pub fact_is : IsDefinition schema_of_five create_fact_text fact
+unfolding understood everything
+fact_is = record { command = refl; whole = refl; plain = (refl, refl); table_is = refl; simple = refl }
+
+pub fact_delays_is : IsDefinition schema_of_six create_fact_delays_text fact_delays
+unfolding understood everything
+fact_delays_is = record { command = refl; whole = refl; plain = (refl, refl); table_is = refl; simple = refl }
+
 made_by : (schema : Schema) (text : List ℕ) (table : Table) (old new : State) (count : ℕ) → IsDefinition schema text table → Stepped text [] old new (Ok count) → IsTrusted new → (IsTrusted old → IsBuilding schema old) → Makes schema table old new
 made_by schema text table old new count it h trusted building =
     let begun = begun_ok text [] old new count h in
@@ -89,16 +97,19 @@ pub makes : (schema : Schema) (text : List ℕ) (table : Table) (old new : State
 makes schema text table old new (Ok count) it h trusted building = made_by schema text table old new count it h trusted building
 makes schema text table old new (Err e) it h trusted building = tt
 
-pub makes_all : (a b c d e f : State) → Makes no_schema office a b → Makes schema_of_one mail b c → Makes schema_of_two run c d → Makes schema_of_three testing_source d e → Makes schema_of_four testing_row e f → MakesAll a f
-makes_all a b c d e f one two three four five = record {
-  schema_is = five.schema_is;
-  begun = five.begun;
-  committed = five.committed ∙ four.committed ∙ three.committed ∙ two.committed ∙ one.committed;
-  office = five.others.0 ∙ four.others.0 ∙ three.others.0 ∙ two.others.0 ∙ one.empty;
-  mail = five.others.1.0 ∙ four.others.1.0 ∙ three.others.1.0 ∙ two.empty;
-  runs = five.others.1.1.0 ∙ four.others.1.1.0 ∙ three.empty;
-  sources = five.others.1.1.1.0 ∙ four.empty;
-  rows = five.empty;
+pub makes_all : (a b c d e f g h : State) → Makes no_schema office a b → Makes schema_of_one mail b c → Makes schema_of_two run c d → Makes schema_of_three testing_source d e → Makes schema_of_four testing_row e f
+    → Makes schema_of_five fact f g → Makes schema_of_six fact_delays g h → MakesAll a h
+makes_all a b c d e f g h one two three four five six seven = record {
+  schema_is = seven.schema_is;
+  begun = seven.begun;
+  committed = seven.committed ∙ six.committed ∙ five.committed ∙ four.committed ∙ three.committed ∙ two.committed ∙ one.committed;
+  office = seven.others.0 ∙ six.others.0 ∙ five.others.0 ∙ four.others.0 ∙ three.others.0 ∙ two.others.0 ∙ one.empty;
+  mail = seven.others.1.0 ∙ six.others.1.0 ∙ five.others.1.0 ∙ four.others.1.0 ∙ three.others.1.0 ∙ two.empty;
+  runs = seven.others.1.1.0 ∙ six.others.1.1.0 ∙ five.others.1.1.0 ∙ four.others.1.1.0 ∙ three.empty;
+  sources = seven.others.1.1.1.0 ∙ six.others.1.1.1.0 ∙ five.others.1.1.1.0 ∙ four.empty;
+  rows = seven.others.1.1.1.1.0 ∙ six.others.1.1.1.1.0 ∙ five.empty;
+  facts = seven.others.1.1.1.1.1.0 ∙ six.empty;
+  delays = seven.empty;
 }
 
 -- the row of the office alone in the new tables
@@ -112,4 +123,6 @@ blank a b next said made spoken = record {
   runs = ap (λ (r : Rows). r.runs) spoken.put ∙ made.runs;
   sources = ap (λ (r : Rows). r.sources) spoken.put ∙ made.sources;
   rows = ap (λ (r : Rows). r.rows) spoken.put ∙ made.rows;
+  facts = ap (λ (r : Rows). r.facts) spoken.put ∙ made.facts;
+  delays = ap (λ (r : Rows). r.delays) spoken.put ∙ made.delays;
 }

@@ -34,7 +34,7 @@ small_is_number : (o : Option ℕ) (m : ℕ) → small_of o ≡ Some m → (o �
 small_is_number None m h = absurd (let e = h in cc)
 small_is_number (Some n) m h = let e = below n (nat_lt n 4_294_967_296) refl m h in (ap Some e.0, e.1)
 
-small_value : (v : Value) (m : ℕ) → small_in v ≡ Some m → (v ≡ Int (pos m)) × Fits32 m
+pub small_value : (v : Value) (m : ℕ) → small_in v ≡ Some m → (v ≡ Int (pos m)) × Fits32 m
 small_value v m h = let e = small_is_number (number_in v) m h in (number_is v m e.0, e.1)
 
 -- ---- sources

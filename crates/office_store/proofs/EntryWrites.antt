@@ -4,7 +4,7 @@ use Rattle.std.proofs.lemmas.Bool.Decides.{nat_tests}
 use Rattle.sqlite.specs.declared.types.Value.{Value}
 use Rattle.sqlite.specs.declared.types.Value.TheVariants.{Null, Int, Real, Text, Blob}
 use Rattle.sqlite.specs.Order.{Row, column}
-use Rattle.sqlite.specs.Tree.{Trees, rowid, put_row}
+use Rattle.sqlite.specs.Tree.{Trees, rowid}
 use Rattle.sqlite.specs.Table.{Table}
 use Rattle.sqlite.specs.Term.{Term, lit, col}
 use Rattle.sqlite.specs.Cast.{cast_row}
@@ -27,7 +27,7 @@ use Rattle.office_store.specs.EntrySteps.{ClearsSources, AddsSource, ClearsRows,
 use Rattle.office_store.proofs.Compiled.{plain_query}
 use Rattle.office_store.proofs.WriteLemmas.{Inserted, inserts_one, cast_null, cast_int}
 use Rattle.office_store.proofs.DeleteLemmas.{Deleted, deletes_some, nothing_left}
-use Rattle.office_store.proofs.KeepLemmas.{apart, unindexed, five}
+use Rattle.office_store.proofs.KeepLemmas.{with_sources, with_rows}
 use Rattle.office_store.proofs.RunWrites.{none_said}
 use Rattle.testing_model.proofs.Orders.{text_order}
 use Rattle.office_store.proofs.SettingLemmas.{text_exact, row_order, row_exact}
@@ -88,12 +88,7 @@ clears_sources old new count has h =
     cleared db next it = record {
       none = gone db next it;
       left = λ whole. nothing_left source_in (db 4) (next 4) it.had (whole_reads text_order text_exact source_in (db 4) whole) (gone db next it);
-      rest = five (next 0) (next 1) (next 3) (next 4) (next 6) (db 0) (db 1) (db 3) (next 4) (db 6)
-          (it.others 0 (apart 0 4 refl) (unindexed 0 refl refl refl))
-          (it.others 1 (apart 1 4 refl) (unindexed 1 refl refl refl))
-          (it.others 3 (apart 3 4 refl) (unindexed 3 refl refl refl))
-          refl
-          (it.others 6 (apart 6 4 refl) (unindexed 6 refl refl refl));
+      rest = with_sources db next _ it.others refl;
     }
 
 abbrev source_values : List ℕ → ℕ → ℕ → Row
@@ -125,12 +120,7 @@ adds_source name sender number s n old new count has h =
       row = source_row (db 4) name sender number;
       says = source_row_says (db 4) name sender number s n;
       free = it.free;
-      put = five (next 0) (next 1) (next 3) (next 4) (next 6) (db 0) (db 1) (db 3) (put_row (source_row (db 4) name sender number) (db 4)) (db 6)
-          (it.others 0 (apart 0 4 refl) (unindexed 0 refl refl refl))
-          (it.others 1 (apart 1 4 refl) (unindexed 1 refl refl refl))
-          (it.others 3 (apart 3 4 refl) (unindexed 3 refl refl refl))
-          it.rows
-          (it.others 6 (apart 6 4 refl) (unindexed 6 refl refl refl));
+      put = with_sources db next _ it.others it.rows;
     }
 
 -- ---- rows
@@ -174,12 +164,7 @@ clears_rows old new count has h =
     cleared db next it = record {
       none = gone db next it;
       left = λ whole. nothing_left entry_in (db 6) (next 6) it.had (whole_reads row_order row_exact entry_in (db 6) whole) (gone db next it);
-      rest = five (next 0) (next 1) (next 3) (next 4) (next 6) (db 0) (db 1) (db 3) (db 4) (next 6)
-          (it.others 0 (apart 0 6 refl) (unindexed 0 refl refl refl))
-          (it.others 1 (apart 1 6 refl) (unindexed 1 refl refl refl))
-          (it.others 3 (apart 3 6 refl) (unindexed 3 refl refl refl))
-          (it.others 4 (apart 4 6 refl) (unindexed 4 refl refl refl))
-          refl;
+      rest = with_rows db next _ it.others refl;
     }
 
 abbrev entry_values : ℕ → List ℕ → ℕ → ℕ → ℕ → Row
@@ -219,10 +204,5 @@ adds_row arch name sender number place w x y z old new count has h =
       row = entry_row (db 6) arch name sender number place;
       says = entry_row_says (db 6) arch name sender number place w x y z;
       free = it.free;
-      put = five (next 0) (next 1) (next 3) (next 4) (next 6) (db 0) (db 1) (db 3) (db 4) (put_row (entry_row (db 6) arch name sender number place) (db 6))
-          (it.others 0 (apart 0 6 refl) (unindexed 0 refl refl refl))
-          (it.others 1 (apart 1 6 refl) (unindexed 1 refl refl refl))
-          (it.others 3 (apart 3 6 refl) (unindexed 3 refl refl refl))
-          (it.others 4 (apart 4 6 refl) (unindexed 4 refl refl refl))
-          it.rows;
+      put = with_rows db next _ it.others it.rows;
     }

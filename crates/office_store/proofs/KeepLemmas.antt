@@ -4,7 +4,7 @@ use Rattle.std.proofs.lemmas.Bool.Decides.{nat_tests}
 use Rattle.std.specs.FinMap.{get, insert}
 use Rattle.sqlite.specs.declared.types.Value.TheVariants.{Null, Int, Blob}
 use Rattle.sqlite.specs.Order.{Row}
-use Rattle.sqlite.specs.Tree.{Trees, put_row}
+use Rattle.sqlite.specs.Tree.{Trees}
 use Rattle.sqlite.specs.Term.{Term, lit, col}
 use Rattle.sqlite.specs.Cast.{cast_row}
 use Rattle.sqlite.specs.Rowids.TheVariants.{Chosen}
@@ -19,7 +19,7 @@ use Rattle.sqlite.specs.Table.{Table}
 use Rattle.office_store.specs.Layout.{office_schema, mail}
 use Rattle.office_store.specs.Texts.{keep_text}
 use Rattle.office_store.specs.Tables.{letter_in, kept_rows}
-use Rattle.office_store.specs.TableSteps.{Rows, AddsLetter}
+use Rattle.office_store.specs.TableSteps.{Rows, rows_in, AddsLetter}
 use Rattle.office_store.proofs.Compiled.{keep_is, keep_plain}
 use Rattle.office_store.proofs.WriteLemmas.{Inserted, inserts_one, cast_null, cast_int}
 use Rattle.office_store.proofs.LetterFacts.{letter_of_parts, kept_put}
@@ -43,24 +43,45 @@ letter_says rows sender number text = letter_of_parts (letter rows sender number
 pub apart : (a b : ℕ) → nat_eq a b ≡ false → a ≢ b
 apart a b is e = grind (arith, nat_tests)
 
-pub unindexed : (t : ℕ) → nat_eq 2 t ≡ false → nat_eq 5 t ≡ false → nat_eq 7 t ≡ false → IsNoIndex office_schema t
-unindexed t a b c = (apart 2 t a, (apart 5 t b, (apart 7 t c, tt)))
+pub unindexed : (t : ℕ) → nat_eq 2 t ≡ false → nat_eq 5 t ≡ false → nat_eq 7 t ≡ false → nat_eq 9 t ≡ false → IsNoIndex office_schema t
+unindexed t a b c d = (apart 2 t a, (apart 5 t b, (apart 7 t c, (apart 9 t d, tt))))
 
 -- the rows of a database, table by table
-pub five : (a b c d e v w x y z : List Row) → a ≡ v → b ≡ w → c ≡ x → d ≡ y → e ≡ z → ◌≡◌ {A = Rows} (record { office = a; mail = b; runs = c; sources = d; rows = e }) (record { office = v; mail = w; runs = x; sources = y; rows = z })
-five a b c d e v w x y z p q r s t = λ i. record { office = p i; mail = q i; runs = r i; sources = s i; rows = t i }
+pub seven : (db : Trees) (r : Rows) → db 0 ≡ r.office → db 1 ≡ r.mail → db 3 ≡ r.runs → db 4 ≡ r.sources → db 6 ≡ r.rows → db 8 ≡ r.facts → db 10 ≡ r.delays → rows_in db ≡ r
+seven db r a b c d e f g = λ i. record { office = a i; mail = b i; runs = c i; sources = d i; rows = e i; facts = f i; delays = g i }
+
+-- the tables but one stand, where all but its tree do
+pub others_stand : (db next : Trees) (at : ℕ) → ((t : ℕ) → t ≢ at → IsNoIndex office_schema t → next t ≡ db t) → (t : ℕ) → nat_eq t at ≡ false → nat_eq 2 t ≡ false → nat_eq 5 t ≡ false → nat_eq 7 t ≡ false → nat_eq 9 t ≡ false → next t ≡ db t
+others_stand db next at others t other a b c d = others t (apart t at other) (unindexed t a b c d)
+
+-- one table has these rows, and the others stand
+pub with_office : (db next : Trees) (rows : List Row) → ((t : ℕ) → t ≢ 0 → IsNoIndex office_schema t → next t ≡ db t) → next 0 ≡ rows → rows_in next ≡ record (rows_in db) { office = rows }
+with_office db next rows others is = let s = others_stand db next 0 others in seven next (record (rows_in db) { office = rows }) is (s 1 refl refl refl refl refl) (s 3 refl refl refl refl refl) (s 4 refl refl refl refl refl) (s 6 refl refl refl refl refl) (s 8 refl refl refl refl refl) (s 10 refl refl refl refl refl)
+
+pub with_mail : (db next : Trees) (rows : List Row) → ((t : ℕ) → t ≢ 1 → IsNoIndex office_schema t → next t ≡ db t) → next 1 ≡ rows → rows_in next ≡ record (rows_in db) { mail = rows }
+with_mail db next rows others is = let s = others_stand db next 1 others in seven next (record (rows_in db) { mail = rows }) (s 0 refl refl refl refl refl) is (s 3 refl refl refl refl refl) (s 4 refl refl refl refl refl) (s 6 refl refl refl refl refl) (s 8 refl refl refl refl refl) (s 10 refl refl refl refl refl)
+
+pub with_runs : (db next : Trees) (rows : List Row) → ((t : ℕ) → t ≢ 3 → IsNoIndex office_schema t → next t ≡ db t) → next 3 ≡ rows → rows_in next ≡ record (rows_in db) { runs = rows }
+with_runs db next rows others is = let s = others_stand db next 3 others in seven next (record (rows_in db) { runs = rows }) (s 0 refl refl refl refl refl) (s 1 refl refl refl refl refl) is (s 4 refl refl refl refl refl) (s 6 refl refl refl refl refl) (s 8 refl refl refl refl refl) (s 10 refl refl refl refl refl)
+
+pub with_sources : (db next : Trees) (rows : List Row) → ((t : ℕ) → t ≢ 4 → IsNoIndex office_schema t → next t ≡ db t) → next 4 ≡ rows → rows_in next ≡ record (rows_in db) { sources = rows }
+with_sources db next rows others is = let s = others_stand db next 4 others in seven next (record (rows_in db) { sources = rows }) (s 0 refl refl refl refl refl) (s 1 refl refl refl refl refl) (s 3 refl refl refl refl refl) is (s 6 refl refl refl refl refl) (s 8 refl refl refl refl refl) (s 10 refl refl refl refl refl)
+
+pub with_rows : (db next : Trees) (rows : List Row) → ((t : ℕ) → t ≢ 6 → IsNoIndex office_schema t → next t ≡ db t) → next 6 ≡ rows → rows_in next ≡ record (rows_in db) { rows = rows }
+with_rows db next rows others is = let s = others_stand db next 6 others in seven next (record (rows_in db) { rows = rows }) (s 0 refl refl refl refl refl) (s 1 refl refl refl refl refl) (s 3 refl refl refl refl refl) (s 4 refl refl refl refl refl) is (s 8 refl refl refl refl refl) (s 10 refl refl refl refl refl)
+
+pub with_facts : (db next : Trees) (rows : List Row) → ((t : ℕ) → t ≢ 8 → IsNoIndex office_schema t → next t ≡ db t) → next 8 ≡ rows → rows_in next ≡ record (rows_in db) { facts = rows }
+with_facts db next rows others is = let s = others_stand db next 8 others in seven next (record (rows_in db) { facts = rows }) (s 0 refl refl refl refl refl) (s 1 refl refl refl refl refl) (s 3 refl refl refl refl refl) (s 4 refl refl refl refl refl) (s 6 refl refl refl refl refl) is (s 10 refl refl refl refl refl)
+
+pub with_delays : (db next : Trees) (rows : List Row) → ((t : ℕ) → t ≢ 10 → IsNoIndex office_schema t → next t ≡ db t) → next 10 ≡ rows → rows_in next ≡ record (rows_in db) { delays = rows }
+with_delays db next rows others is = let s = others_stand db next 10 others in seven next (record (rows_in db) { delays = rows }) (s 0 refl refl refl refl refl) (s 1 refl refl refl refl refl) (s 3 refl refl refl refl refl) (s 4 refl refl refl refl refl) (s 6 refl refl refl refl refl) (s 8 refl refl refl refl refl) is
 
 adds : (db next : Trees) (sender number : ℕ) (text : List ℕ) → Inserted office_schema mail_table db next (letter (db 1) sender number text) → AddsLetter db next sender number text
 adds db next sender number text it = record {
   row = letter (db 1) sender number text;
   says = letter_says (db 1) sender number text;
   free = it.free;
-  put = five (next 0) (next 1) (next 3) (next 4) (next 6) (db 0) (put_row (letter (db 1) sender number text) (db 1)) (db 3) (db 4) (db 6)
-      (it.others 0 (apart 0 1 refl) (unindexed 0 refl refl refl))
-      it.rows
-      (it.others 3 (apart 3 1 refl) (unindexed 3 refl refl refl))
-      (it.others 4 (apart 4 1 refl) (unindexed 4 refl refl refl))
-      (it.others 6 (apart 6 1 refl) (unindexed 6 refl refl refl));
+  put = with_mail db next _ it.others it.rows;
 }
 
 pub keeps : (sender number : ℕ) (text : List ℕ) (old new : State) (count : ℕ) → old.now.schema ≡ office_schema → Executes keep_text (Int (pos sender) ∷ Int (pos number) ∷ Blob text ∷ []) old new (Ok count)

@@ -17,12 +17,13 @@ use Rattle.office_keeper.specs.declared.values.Finished.{Finished}
 use Rattle.office_keeper.specs.declared.values.Reports.{Reports}
 use Rattle.office_store.specs.declared.said.Said.{Said}
 use Rattle.office_keeper.specs.Content.{reports_in}
+use Rattle.office_keeper.specs.FactSet.{AreHoldable, facts_after}
 use Rattle.office_keeper.specs.Provenance.{IsGiven}
 use Rattle.office_store.specs.Tables.{IsWhole, kept_rows, said_in, run_map}
 use Rattle.office_store.specs.Entries.{source_map, entry_map}
 use Rattle.office_store.specs.EntrySteps.{source_entry, row_entry}
 use Rattle.office_store.specs.Finishing.{with_count, FinishesRun}
-use Rattle.office_store.specs.TableContent.{source_at, row_at, count_said, content_in}
+use Rattle.office_store.specs.TableContent.{source_at, row_at, count_said, content_in, release_place}
 use Rattle.office_store.specs.Legible.{SaysOnce, AreReported, AreNamed, IsLegible}
 use Rattle.office_store.proofs.LetterFacts.{nat_is}
 use Rattle.office_store.proofs.SettingLemmas.{text_exact, row_order, row_exact}
@@ -30,6 +31,7 @@ use Rattle.office_store.proofs.EntryMaps.{from_first}
 use Rattle.office_store.proofs.EntryValues.{has_map}
 use Rattle.office_store.proofs.ReportFacts.{length_reports}
 use Rattle.office_store.proofs.ContentFacts.{sources_named, rows_named}
+use Rattle.office_store.proofs.FactMoves.{holdable_stands}
 
 each_has : {X : Type 0} (P : X → Type 0) (xs : List X) (x : X) → AllByRecursion P xs → Has xs x → P x
 each_has P [] x all there = absurd there
@@ -43,7 +45,7 @@ earlier k run n other within next = grind (arith, nat_tests)
 same_value : {X : Type 0} {x y : X} → Some x ≡ Some y → x ≡ y
 same_value e = cc
 
-module _ (setup : Lists) (db next : Trees) (run : ℕ) (done : Finished) (it : FinishesRun db next run done) (was : IsLegible setup db) where
+module _ (setup : Lists) (db next : Trees) (run : ℕ) (done : Finished) (it : FinishesRun (release_place setup) db next run done) (was : IsLegible setup db) where
   same_said : it.said ≡ was.office.said
   same_said = same_value (sym it.said_is ∙ was.office.is)
 
@@ -114,17 +116,18 @@ module _ (setup : Lists) (db next : Trees) (run : ℕ) (done : Finished) (it : F
   }
 
 -- the tables stay legible
-pub finish_legible : (setup : Lists) (db next : Trees) (run : ℕ) (done : Finished) → FinishesRun db next run done → run < 4_294_967_296 → IsUtf8 done.excuses → IsUtf8 done.updates → run ≡ length (content_in setup db).reports + 1
-    → IsGiven setup (content_in setup db) done.testing → IsLegible setup db → IsLegible setup next
-finish_legible setup db next run done it fits excuses updates is given was = record {
+pub finish_legible : (setup : Lists) (db next : Trees) (run : ℕ) (done : Finished) → FinishesRun (release_place setup) db next run done → run < 4_294_967_296 → IsUtf8 done.excuses → IsUtf8 done.updates → run ≡ length (content_in setup db).reports + 1
+    → IsGiven setup (content_in setup db) done.testing → AreHoldable setup (facts_after done.facts (content_in setup db).facts) → IsLegible setup db → IsLegible setup next
+finish_legible setup db next run done it fits excuses updates is given holdable was = record {
   office = says_now setup db next run done it was fits;
   mail = subst (λ rows. IsWhole (kept_rows rows) rows) (sym it.writes.mail) was.mail;
   runs = reported_now setup db next run done it was is excuses updates;
   testing = named_now setup db next run done it was given;
+  facts = (it.writes.facts (holdable_stands setup done.facts (content_in setup db).facts holdable)).reads was.facts;
 }
 
 -- the same of a call that may have failed
-pub finish_legible_on : {T E : Type 0} (given : Result T E) (setup : Lists) (old new : Database) (run : ℕ) (done : Finished) → OnOk given (FinishesRun old.trees new.trees run done) → OnErr given (new ≡ old) → OnOk given (IsUtf8 done.excuses × IsUtf8 done.updates)
-    → run < 4_294_967_296 → run ≡ length (content_in setup old.trees).reports + 1 → IsGiven setup (content_in setup old.trees) done.testing → IsLegible setup old.trees → IsLegible setup new.trees
-finish_legible_on (Ok v) setup old new run done it err texts fits is gives was = finish_legible setup old.trees new.trees run done it fits texts.0 texts.1 is gives was
-finish_legible_on (Err e) setup old new run done it err texts fits is gives was = subst (λ (d : Database). IsLegible setup d.trees) (sym err) was
+pub finish_legible_on : {T E : Type 0} (given : Result T E) (setup : Lists) (old new : Database) (run : ℕ) (done : Finished) → OnOk given (FinishesRun (release_place setup) old.trees new.trees run done) → OnErr given (new ≡ old) → OnOk given (IsUtf8 done.excuses × IsUtf8 done.updates)
+    → run < 4_294_967_296 → run ≡ length (content_in setup old.trees).reports + 1 → IsGiven setup (content_in setup old.trees) done.testing → AreHoldable setup (facts_after done.facts (content_in setup old.trees).facts) → IsLegible setup old.trees → IsLegible setup new.trees
+finish_legible_on (Ok v) setup old new run done it err texts fits is gives holdable was = finish_legible setup old.trees new.trees run done it fits texts.0 texts.1 is gives holdable was
+finish_legible_on (Err e) setup old new run done it err texts fits is gives holdable was = subst (λ (d : Database). IsLegible setup d.trees) (sym err) was

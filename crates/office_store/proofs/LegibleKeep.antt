@@ -21,8 +21,9 @@ use Rattle.office_keeper.specs.Content.{with_text}
 use Rattle.office_store.specs.Tables.{letter_in, kept_rows, said_in, run_map}
 use Rattle.office_store.specs.TableSteps.{Rows, AddsLetter}
 use Rattle.office_store.specs.Entries.{source_map, entry_map}
-use Rattle.office_store.specs.TableContent.{message_by, message_at, source_by_message, source_at, row_by_message, row_at, suite_in, reports_to, count_said, content_in}
-use Rattle.office_store.specs.Legible.{IsWhole, SaysOnce, AreReported, AreNamed, IsLegible}
+use Rattle.office_store.specs.TableContent.{message_by, message_at, source_by_message, source_at, row_by_message, row_at, suite_in, reports_to, count_said, content_in, release_place}
+use Rattle.office_store.specs.FactTables.{facts_in}
+use Rattle.office_store.specs.Legible.{IsWhole, SaysOnce, AreReported, AreNamed, AreRead, IsLegible}
 use Rattle.office_store.proofs.KeyedFacts.{tied}
 use Rattle.office_store.proofs.KeepLemmas.{inserted}
 use Rattle.office_store.proofs.SettingLemmas.{not_tied, row_order}
@@ -162,6 +163,7 @@ module _ (setup : Lists) (db next : Trees) (sender number : ℕ) (text : List �
     mail = mail_whole;
     runs = subst (λ rows. AreReported rows was.office.said.finished) (sym runs_stay) was.runs;
     testing = names_still;
+    facts = subst (λ (r : Rows). AreRead (release_place setup) r.facts r.delays) (sym it.put) was.facts;
   }
 
   reports_stay : (content_in setup next).reports ≡ (content_in setup db).reports
@@ -176,8 +178,11 @@ module _ (setup : Lists) (db next : Trees) (sender number : ℕ) (text : List �
       ∙ ap (λ rows. suite_in setup (insert (kept_rows (db 1)) (sender, number) text) (source_map (db 4)) (entry_map rows)) rows_stay
       ∙ suite_stays setup (kept_rows (db 1)) sender number text free (source_map (db 4)) (entry_map (db 6)) was.testing.source was.testing.row
 
+  facts_stay : (content_in setup next).facts ≡ (content_in setup db).facts
+  facts_stay = ap (λ (r : Rows). facts_in (release_place setup) r.facts r.delays) it.put
+
   pub keep_content : content_in setup next ≡ with_text (content_in setup db) sender number text
-  keep_content = λ i. record { kept = kept_grows i; reports = reports_stay i; testing = testing_stays i }
+  keep_content = λ i. record { kept = kept_grows i; reports = reports_stay i; testing = testing_stays i; facts = facts_stay i }
 
 -- the same of a call that may have failed
 module _ {T E : Type 0} (given : Result T E) (setup : Lists) (old new : Database) (sender number : ℕ) (text : List ℕ) (adds : OnOk given (AddsLetter old.trees new.trees sender number text)) (free : get (kept_rows (old.trees 1)) (sender, number) ≡ None) (was : IsLegible setup old.trees) where

@@ -37,3 +37,10 @@ pub mod LoadLemmas
 pub mod LegibleKeep
 pub mod LegibleFinish
 pub mod KeeperFacts
+pub mod FactSets
+pub mod FactReads
+pub mod FactShows
+pub mod TakeLemmas
+pub mod FactWrites
+pub mod InsideLemmas
+pub mod FactMoves

@@ -36,7 +36,7 @@ shown_text (r ∷ []) (s ∷ t ∷ shown) same = absurd (omega (arith, as_many o
 shown_text (r ∷ q ∷ rows) (s ∷ []) same = absurd (omega (arith, as_many office_columns (r ∷ q ∷ rows) (s ∷ []) same))
 
 -- new tables keep the setup that they were made for
-pub new_kept : (setup : Lists) (db : Database) → IsSetup setup → db.schema ≡ office_schema → IsBlank db.trees (record { schema = 0; setup = setup_text setup; finished = 0 }) → IsKeptFor setup db
+pub new_kept : (setup : Lists) (db : Database) → IsSetup setup → db.schema ≡ office_schema → IsBlank db.trees (record { schema = 2; setup = setup_text setup; finished = 0 }) → IsKeptFor setup db
 new_kept setup db valid schema blank = record {
   schema = schema;
   setup_is = ap (λ rows. lists_by (kept_text rows)) blank.one ∙ ap (λ said. lists_by (text_by said)) blank.row_says ∙ ap result_ok (read_back setup valid);

@@ -33,7 +33,7 @@ use Rattle.office_store.proofs.WriteLemmas.{Inserted, inserts_one, cast_int}
 use Rattle.office_store.proofs.DeleteLemmas.{Deleted, deletes_some, nothing_left}
 use Rattle.office_store.proofs.KeyedFacts.{tied, map_put, put_found}
 use Rattle.office_store.proofs.LetterFacts.{number_is}
-use Rattle.office_store.proofs.KeepLemmas.{apart, unindexed, five}
+use Rattle.office_store.proofs.KeepLemmas.{with_office, with_runs}
 use Rattle.office_store.proofs.RunLemmas.{run_says, run_number, office_says}
 use Rattle.office_store.proofs.Whole.{whole_put}
 
@@ -64,12 +64,7 @@ adds db next number reports it = record {
   row = run_row (db 3) number reports;
   says = row_says (db 3) number reports;
   free = it.free;
-  put = five (next 0) (next 1) (next 3) (next 4) (next 6) (db 0) (db 1) (put_row (run_row (db 3) number reports) (db 3)) (db 4) (db 6)
-      (it.others 0 (apart 0 3 refl) (unindexed 0 refl refl refl))
-      (it.others 1 (apart 1 3 refl) (unindexed 1 refl refl refl))
-      it.rows
-      (it.others 4 (apart 4 3 refl) (unindexed 4 refl refl refl))
-      (it.others 6 (apart 6 3 refl) (unindexed 6 refl refl refl));
+  put = with_runs db next _ it.others it.rows;
 }
 
 pub adds_run : (number : ℕ) (reports : Reports) (old new : State) (count : ℕ) → old.now.schema ≡ office_schema → Executes add_run_text (Int (pos number) ∷ Text reports.excuses ∷ Text reports.updates ∷ []) old new (Ok count)
@@ -135,12 +130,7 @@ silenced db next it =
     record {
       none = none;
       left = λ alone. nothing_left office_in (db 0) (next 0) it.had (reads_alone (db 0) alone) none;
-      rest = five (next 0) (next 1) (next 3) (next 4) (next 6) (next 0) (db 1) (db 3) (db 4) (db 6)
-          refl
-          (it.others 1 (apart 1 0 refl) (unindexed 1 refl refl refl))
-          (it.others 3 (apart 3 0 refl) (unindexed 3 refl refl refl))
-          (it.others 4 (apart 4 0 refl) (unindexed 4 refl refl refl))
-          (it.others 6 (apart 6 0 refl) (unindexed 6 refl refl refl));
+      rest = with_office db next _ it.others refl;
     }
 
 pub silences : (old new : State) (count : ℕ) → old.now.schema ≡ office_schema → Executes clear_office_text [] old new (Ok count) → (new.now.schema ≡ office_schema) × Silences old.now.trees new.now.trees
@@ -166,12 +156,7 @@ spoken db next said it = record {
   row = say_row (db 0) said;
   says = says_so (db 0) said;
   free = it.free;
-  put = five (next 0) (next 1) (next 3) (next 4) (next 6) (put_row (say_row (db 0) said) (db 0)) (db 1) (db 3) (db 4) (db 6)
-      it.rows
-      (it.others 1 (apart 1 0 refl) (unindexed 1 refl refl refl))
-      (it.others 3 (apart 3 0 refl) (unindexed 3 refl refl refl))
-      (it.others 4 (apart 4 0 refl) (unindexed 4 refl refl refl))
-      (it.others 6 (apart 6 0 refl) (unindexed 6 refl refl refl));
+  put = with_office db next _ it.others it.rows;
 }
 
 pub says : (said : Said) (old new : State) (count : ℕ) → old.now.schema ≡ office_schema → Executes add_office_text (Int (pos said.schema) ∷ Text said.setup ∷ Int (pos said.finished) ∷ []) old new (Ok count)
@@ -223,4 +208,6 @@ records a b c d number reports said first second third =
       mail = ap (λ (r : Rows). r.mail) third.put ∙ ap (λ (r : Rows). r.mail) second.rest ∙ ap (λ (r : Rows). r.mail) first.put;
       sources = ap (λ (r : Rows). r.sources) third.put ∙ ap (λ (r : Rows). r.sources) second.rest ∙ ap (λ (r : Rows). r.sources) first.put;
       rows = ap (λ (r : Rows). r.rows) third.put ∙ ap (λ (r : Rows). r.rows) second.rest ∙ ap (λ (r : Rows). r.rows) first.put;
+      facts = ap (λ (r : Rows). r.facts) third.put ∙ ap (λ (r : Rows). r.facts) second.rest ∙ ap (λ (r : Rows). r.facts) first.put;
+      delays = ap (λ (r : Rows). r.delays) third.put ∙ ap (λ (r : Rows). r.delays) second.rest ∙ ap (λ (r : Rows). r.delays) first.put;
     }

@@ -4,14 +4,14 @@ use Rattle.sqlite_tied.specs.Compute.{everything}
 use Rattle.sqlite.specs.Schema.{Schema}
 use Rattle.sqlite_schema.specs.Names.{same_name}
 use Rattle.office_store.specs.Layout.{office_schema, HasEach}
-use Rattle.office_store.specs.LayoutSteps.{office_tables, office_indexes, mail_index, testing_source_index, testing_row_index}
+use Rattle.office_store.specs.LayoutSteps.{office_tables, office_indexes, mail_index, testing_source_index, testing_row_index, fact_index}
 
 tables_are : office_schema.tables ≡ office_tables
 unfolding everything office_tables
 tables_are = refl
 
 indexes_are : office_schema.indexes ≡ office_indexes
-unfolding everything office_indexes mail_index testing_source_index testing_row_index
+unfolding everything office_indexes mail_index testing_source_index testing_row_index fact_index
 indexes_are = refl
 
 with_parts : (s : Schema) → s ≡ record { tables = s.tables; indexes = s.indexes; views = s.views }
@@ -30,7 +30,7 @@ parts s is = (ap (λ (x : Schema). x.tables) is ∙ tables_are, ap (λ (x : Sche
 
 each_there : HasEach office_schema
 unfolding everything same_name
-each_there = record { has_office = refl; has_mail = refl; has_run = refl; has_source = refl; has_row = refl }
+each_there = record { has_office = refl; has_mail = refl; has_run = refl; has_source = refl; has_row = refl; has_fact = refl; has_delays = refl }
 
 pub each : (s : Schema) → s ≡ office_schema → HasEach s
 each s is = subst HasEach (sym is) each_there

@@ -21,12 +21,12 @@ use Rattle.testing_model.specs.InOrder.{AreByName, AreByKey}
 use Rattle.testing_model.proofs.Orders.{text_order}
 use Rattle.office_mail.specs.Kept.{Place}
 use Rattle.office_store.specs.Tables.{IsWhole}
-use Rattle.office_store.specs.TableSteps.{Rows}
+use Rattle.office_store.specs.TableSteps.{Rows, rows_in}
 use Rattle.office_store.specs.Entries.{source_in, source_map, entry_in, entry_map}
 use Rattle.office_store.specs.EntrySteps.{source_entry, ClearsSources, AddsSource, SetsSources, row_entry, ClearsRows, AddsRow, SetsRows}
 use Rattle.office_store.proofs.KeyedFacts.{map_put}
 use Rattle.office_store.proofs.Whole.{whole_put}
-use Rattle.office_store.proofs.KeepLemmas.{five}
+use Rattle.office_store.proofs.KeepLemmas.{seven}
 
 -- ---- an entry comes after those below it
 
@@ -108,12 +108,14 @@ sources_step a b c xs i x name ordered within is named set added =
     record {
       has = ap source_map table ∙ one_more text_order text_exact source_in source_entry xs i x added.row (b 4) within is sorted set.has says added.free;
       whole = λ was. subst (λ rows. IsWhole (source_map rows) rows) (sym table) (whole_more text_order text_exact source_in source_entry xs i x added.row (b 4) within is sorted set.has says added.free (set.whole was));
-      rest = five (c 0) (c 1) (c 3) (c 4) (c 6) (a 0) (a 1) (a 3) (c 4) (a 6)
+      rest = seven c (record (rows_in a) { sources = c 4 })
           (ap (λ (r : Rows). r.office) added.put ∙ ap (λ (r : Rows). r.office) set.rest)
           (ap (λ (r : Rows). r.mail) added.put ∙ ap (λ (r : Rows). r.mail) set.rest)
           (ap (λ (r : Rows). r.runs) added.put ∙ ap (λ (r : Rows). r.runs) set.rest)
           refl
-          (ap (λ (r : Rows). r.rows) added.put ∙ ap (λ (r : Rows). r.rows) set.rest);
+          (ap (λ (r : Rows). r.rows) added.put ∙ ap (λ (r : Rows). r.rows) set.rest)
+          (ap (λ (r : Rows). r.facts) added.put ∙ ap (λ (r : Rows). r.facts) set.rest)
+          (ap (λ (r : Rows). r.delays) added.put ∙ ap (λ (r : Rows). r.delays) set.rest);
     }
 
 -- ---- rows
@@ -140,10 +142,12 @@ rows_step a b c xs i x name ordered within is named set added =
     record {
       has = ap entry_map table ∙ one_more row_order row_exact entry_in row_entry xs i x added.row (b 6) within is sorted set.has says added.free;
       whole = λ was. subst (λ rows. IsWhole (entry_map rows) rows) (sym table) (whole_more row_order row_exact entry_in row_entry xs i x added.row (b 6) within is sorted set.has says added.free (set.whole was));
-      rest = five (c 0) (c 1) (c 3) (c 4) (c 6) (a 0) (a 1) (a 3) (a 4) (c 6)
+      rest = seven c (record (rows_in a) { rows = c 6 })
           (ap (λ (r : Rows). r.office) added.put ∙ ap (λ (r : Rows). r.office) set.rest)
           (ap (λ (r : Rows). r.mail) added.put ∙ ap (λ (r : Rows). r.mail) set.rest)
           (ap (λ (r : Rows). r.runs) added.put ∙ ap (λ (r : Rows). r.runs) set.rest)
           (ap (λ (r : Rows). r.sources) added.put ∙ ap (λ (r : Rows). r.sources) set.rest)
-          refl;
+          refl
+          (ap (λ (r : Rows). r.facts) added.put ∙ ap (λ (r : Rows). r.facts) set.rest)
+          (ap (λ (r : Rows). r.delays) added.put ∙ ap (λ (r : Rows). r.delays) set.rest);
     }

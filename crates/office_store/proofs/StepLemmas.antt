@@ -1,5 +1,5 @@
 -- What a statement within a transaction leaves.
-use Rattle.std.proofs.Common.{◌≡◌, ◌≤◌, inl, inr, ℕ, List, false, Ok, Err, Result, OnOk, IsTrue, refl, sym, ◌∙◌, arith}
+use Rattle.std.proofs.Common.{◌≡◌, ◌≤◌, inl, inr, ℕ, List, false, Ok, Err, Result, IfOk, OnOk, IsTrue, refl, sym, ◌∙◌, arith}
 use Rattle.std.proofs.lemmas.Bool.{cases_Bool}
 use Rattle.sqlite_trees.specs.View.{doubt}
 use Rattle.sqlite.specs.Order.{Row}
@@ -62,6 +62,17 @@ module _ (sql : List ℕ) (params : Row) (old new : State) where
       → ((count : ℕ) → IsInside old → Executes sql params old new (Ok count) → (new.now.schema ≡ office_schema) × P) → OnOk result P
   step_gives P (Ok count) h trusted inside gives = (went_well P count h trusted inside (gives count)).1
   step_gives P (Err e) h trusted inside gives = tt
+
+  -- the same, where what is given speaks of the count
+  pub step_counts_on : (P : ℕ → Type 0) (result : Result ℕ Error) → Stepped sql params old new result → IsTrusted new → (IsTrusted old → IsInside old)
+      → ((count : ℕ) → IsInside old → Executes sql params old new (Ok count) → (new.now.schema ≡ office_schema) × P count) → OnOk result (WentOn old new)
+  step_counts_on P (Ok count) h trusted inside gives = (went_well (P count) count h trusted inside (gives count)).0
+  step_counts_on P (Err e) h trusted inside gives = tt
+
+  pub step_counts : (P : ℕ → Type 0) (result : Result ℕ Error) → Stepped sql params old new result → IsTrusted new → (IsTrusted old → IsInside old)
+      → ((count : ℕ) → IsInside old → Executes sql params old new (Ok count) → (new.now.schema ≡ office_schema) × P count) → IfOk result P
+  step_counts P (Ok count) h trusted inside gives = (went_well (P count) count h trusted inside (gives count)).1
+  step_counts P (Err e) h trusted inside gives = tt
 
   pub step_open : (result : Result ℕ Error) → Stepped sql params old new result → HasCleanDisk new → IsTrusted old → OnOk result (IsTrusted new)
   step_open (Ok count) h clean trusted = (clean, (h.runs clean (begun_ok count h)).1.is_open, h.limit ∙ trusted.2)

@@ -15,3 +15,5 @@ pub record IsBlank (db : Trees) (said : Said) : Type 0 where
   pub runs : db 3 ≡ []
   pub sources : db 4 ≡ []
   pub rows : db 6 ≡ []
+  pub facts : db 8 ≡ []
+  pub delays : db 10 ≡ []

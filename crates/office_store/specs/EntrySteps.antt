@@ -27,20 +27,20 @@ source_entry s = (s.name, (s.sender, s.number))
 pub record ClearsSources (db next : Trees) : Type 0 where
   pub none : filter_map source_in (next 4) ≡ []
   pub left : IsWhole (source_map (db 4)) (db 4) → next 4 ≡ []
-  pub rest : rows_in next ≡ record { office = db 0; mail = db 1; runs = db 3; sources = next 4; rows = db 6 }
+  pub rest : rows_in next ≡ record (rows_in db) { sources = next 4 }
 
 -- one source's row was put in, with a rowid of its own, and the other tables stand
 pub record AddsSource (db next : Trees) (name : List ℕ) (sender number : ℕ) : Type 0 where
   pub row : Row
   pub says : source_in row ≡ Some (name, (sender, number))
   pub free : is_taken (db 4) row ≡ false
-  pub put : rows_in next ≡ record { office = db 0; mail = db 1; runs = db 3; sources = put_row row (db 4); rows = db 6 }
+  pub put : rows_in next ≡ record (rows_in db) { sources = put_row row (db 4) }
 
 -- the table has these sources alone, it stays whole, and the other tables stand
 pub record SetsSources (db next : Trees) (sources : List SourceIn) : Type 0 where
   pub has : source_map (next 4) ≡ from_entries (map source_entry sources)
   pub whole : IsWhole (source_map (db 4)) (db 4) → IsWhole (source_map (next 4)) (next 4)
-  pub rest : rows_in next ≡ record { office = db 0; mail = db 1; runs = db 3; sources = next 4; rows = db 6 }
+  pub rest : rows_in next ≡ record (rows_in db) { sources = next 4 }
 
 -- ---- rows
 
@@ -56,17 +56,17 @@ row_entry r = (row_key r, ((r.sender, r.number), r.place))
 pub record ClearsRows (db next : Trees) : Type 0 where
   pub none : filter_map entry_in (next 6) ≡ []
   pub left : IsWhole (entry_map (db 6)) (db 6) → next 6 ≡ []
-  pub rest : rows_in next ≡ record { office = db 0; mail = db 1; runs = db 3; sources = db 4; rows = next 6 }
+  pub rest : rows_in next ≡ record (rows_in db) { rows = next 6 }
 
 -- one row was put in, with a rowid of its own, and the other tables stand
 pub record AddsRow (db next : Trees) (arch : ℕ) (name : List ℕ) (sender number place : ℕ) : Type 0 where
   pub row : Row
   pub says : entry_in row ≡ Some ((arch, name), ((sender, number), place))
   pub free : is_taken (db 6) row ≡ false
-  pub put : rows_in next ≡ record { office = db 0; mail = db 1; runs = db 3; sources = db 4; rows = put_row row (db 6) }
+  pub put : rows_in next ≡ record (rows_in db) { rows = put_row row (db 6) }
 
 -- the table has these rows alone, it stays whole, and the other tables stand
 pub record SetsRows (db next : Trees) (rows : List RowIn) : Type 0 where
   pub has : entry_map (next 6) ≡ from_entries (map row_entry rows)
   pub whole : IsWhole (entry_map (db 6)) (db 6) → IsWhole (entry_map (next 6)) (next 6)
-  pub rest : rows_in next ≡ record { office = db 0; mail = db 1; runs = db 3; sources = db 4; rows = next 6 }
+  pub rest : rows_in next ≡ record (rows_in db) { rows = next 6 }

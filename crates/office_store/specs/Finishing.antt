@@ -10,18 +10,22 @@ use Rattle.office_store.specs.Tables.{IsWhole, said_in, run_map}
 use Rattle.office_store.specs.TableSteps.{SaysAlone}
 use Rattle.office_store.specs.Entries.{source_map, entry_map}
 use Rattle.office_store.specs.EntrySteps.{source_entry, row_entry}
+use Rattle.office_keeper.specs.FactSet.{facts_after}
+use Rattle.office_store.specs.FactSteps.{CanStandEach, MovesFacts}
 
 -- the office says so many runs instead, and else the same
 abbrev pub with_count : ℕ → Said → Said
 with_count run said = record { schema = said.schema; setup = said.setup; finished = run }
 
 -- The run is finished with its reports, which it hadn't before, beside the earlier ones; the tables of testing have
--- exactly the new entries; the office says this; the mail stands; and tables that are whole stay so.
-pub record WritesRun (db next : Trees) (run : ℕ) (done : Finished) (said : Said) : Type 0 where
+-- exactly the new entries; the facts are changed as it says; the office says this; the mail stands; and tables that are
+-- whole stay so.
+pub record WritesRun (release : ℕ) (db next : Trees) (run : ℕ) (done : Finished) (said : Said) : Type 0 where
   pub reported : run_map (next 3) ≡ insert (run_map (db 3)) run (reports_in done)
   pub new : get (run_map (db 3)) run ≡ None
   pub sources : source_map (next 4) ≡ from_entries (map source_entry done.testing.sources)
   pub rows : entry_map (next 6) ≡ from_entries (map row_entry done.testing.rows)
+  pub facts : CanStandEach release done.facts.put → MovesFacts release db next (facts_after done.facts)
   pub says : said_in (next 0) ≡ Some said
   pub mail : next 1 ≡ db 1
   pub once : SaysAlone (db 0) → length (next 0) ≡ 1
@@ -30,7 +34,7 @@ pub record WritesRun (db next : Trees) (run : ℕ) (done : Finished) (said : Sai
   pub whole_rows : IsWhole (entry_map (db 6)) (db 6) → IsWhole (entry_map (next 6)) (next 6)
 
 -- the same, where the office says what it said but for the count
-pub record FinishesRun (db next : Trees) (run : ℕ) (done : Finished) : Type 0 where
+pub record FinishesRun (release : ℕ) (db next : Trees) (run : ℕ) (done : Finished) : Type 0 where
   pub said : Said
   pub said_is : said_in (db 0) ≡ Some said
-  pub writes : WritesRun db next run done (with_count run said)
+  pub writes : WritesRun release db next run done (with_count run said)

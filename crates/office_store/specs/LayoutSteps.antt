@@ -4,7 +4,7 @@ use Rattle.sqlite.specs.Table.{Table}
 use Rattle.sqlite_schema.specs.declared.schema.Index.{Index}
 use Rattle.sqlite_value.specs.Keys.{plain}
 use Rattle.std.specs.Prelude.{true, false, [], ◌∷◌, Some, None, codes, List, ℕ, ◌≡◌}
-use Rattle.office_store.specs.Layout.{office, mail, run, testing_source, testing_row, standing}
+use Rattle.office_store.specs.Layout.{office, mail, run, testing_source, testing_row, fact, fact_delays, standing}
 
 -- a table has no CHECK, no default that is computed, and no AUTOINCREMENT
 pub record IsBare (table : Table) : Type 0 where
@@ -40,7 +40,7 @@ key_index name tree table places = record { name = name; tree = tree; table = ta
 
 -- the tables in their trees, and the indexes of their keys
 unfoldable pub office_tables : List Table
-office_tables = standing office 0 ∷ standing mail 1 ∷ standing run 3 ∷ standing testing_source 4 ∷ standing testing_row 6 ∷ []
+office_tables = standing office 0 ∷ standing mail 1 ∷ standing run 3 ∷ standing testing_source 4 ∷ standing testing_row 6 ∷ standing fact 8 ∷ standing fact_delays 10 ∷ []
 
 unfoldable pub mail_index : Index
 mail_index = key_index (codes "sqlite_autoindex_mail_1") 2 1 (1 ∷ 2 ∷ [])
@@ -51,5 +51,8 @@ testing_source_index = key_index (codes "sqlite_autoindex_testing_source_1") 5 4
 unfoldable pub testing_row_index : Index
 testing_row_index = key_index (codes "sqlite_autoindex_testing_row_1") 7 6 (1 ∷ 2 ∷ [])
 
+unfoldable pub fact_index : Index
+fact_index = key_index (codes "sqlite_autoindex_fact_1") 9 8 (1 ∷ 2 ∷ 3 ∷ 4 ∷ [])
+
 unfoldable pub office_indexes : List Index
-office_indexes = mail_index ∷ testing_source_index ∷ testing_row_index ∷ []
+office_indexes = mail_index ∷ testing_source_index ∷ testing_row_index ∷ fact_index ∷ []

@@ -4,6 +4,7 @@ use Rattle.std.specs.FinMap.{get}
 use Rattle.std.specs.Str.{IsUtf8}
 use Rattle.sqlite.specs.Order.{Row}
 use Rattle.sqlite.specs.Tree.{Trees}
+use Rattle.sqlite_rules.specs.Lists.{Has}
 use Rattle.office_mail.specs.Kept.{Place}
 use Rattle.office_mail.specs.Lists.{Lists}
 use Rattle.office_keeper.specs.declared.values.Reports.{Reports}
@@ -11,7 +12,8 @@ use Rattle.office_store.specs.declared.said.Said.{Said}
 pub use Rattle.office_store.specs.Tables.{IsWhole}
 use Rattle.office_store.specs.Tables.{kept_rows, said_in, run_map}
 use Rattle.office_store.specs.Entries.{source_map, entry_map}
-use Rattle.office_store.specs.TableContent.{source_at, row_at}
+use Rattle.office_store.specs.FactTables.{fact_in, delays_in}
+use Rattle.office_store.specs.TableContent.{source_at, row_at, release_place}
 
 -- the office's only row says so
 pub record SaysOnce (rows : List Row) : Type 0 where
@@ -35,9 +37,16 @@ pub record AreNamed (setup : Lists) (db : Trees) : Type 0 where
   pub rows : IsWhole (entry_map (db 6)) (db 6)
   pub row : (key : ℕ × List ℕ) (value : Place × ℕ) → get (entry_map (db 6)) key ≡ Some value → IsSome (row_at setup (kept_rows (db 1)) (key, value))
 
+-- each row of both tables reads, and there is one of the last delays at most
+pub record AreRead (release : ℕ) (facts delays : List Row) : Type 0 where
+  pub fact : (row : Row) → Has facts row → IsSome (fact_in row)
+  pub delay : (row : Row) → Has delays row → IsSome (delays_in release row)
+  pub one : length delays ≤ 1
+
 -- the tables read as an office writes them
 pub record IsLegible (setup : Lists) (db : Trees) : Type 0 where
   pub office : SaysOnce (db 0)
   pub mail : IsWhole (kept_rows (db 1)) (db 1)
   pub runs : AreReported (db 3) office.said.finished
   pub testing : AreNamed setup db
+  pub facts : AreRead (release_place setup) (db 8) (db 10)

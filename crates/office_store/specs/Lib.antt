@@ -1,3 +1,4 @@
+pub use Rattle.office_keeper.specs.FactSet
 pub use Rattle.office_keeper.specs.Content
 pub use Rattle.office_keeper.specs.Keeping
 pub use Rattle.office_keeper.specs.Provenance
@@ -9,11 +10,13 @@ pub mod Tables
 pub mod TableSteps
 pub mod Entries
 pub mod EntrySteps
-pub mod Finishing
+pub mod FactTables
 pub mod Creating
 pub mod CreatingSteps
 pub mod SetupText
 pub mod Opening
 pub mod TableContent
 pub mod Legible
+pub mod FactSteps
+pub mod Finishing
 pub mod Fresh

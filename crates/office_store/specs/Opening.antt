@@ -22,10 +22,10 @@ abbrev pub open_fault : KeepFault → OpenFault
 open_fault NoMemory = opening.NoMemory
 open_fault (Store cause) = opening.Store cause
 
--- the setup's text that the office's row says, where its id is 1, its schema's number 0, and its count of runs one of 32 bits
+-- the setup's text that the office's row says, where its id is 1, its schema's number 2, and its count of runs one of 32 bits
 abbrev pub text_by : Option (ℕ × Said) → Option (List ℕ)
 text_by None = None
-text_by (Some (id, said)) = if id == 1 && said.schema == 0 && nat_le said.finished 4_294_967_295 then Some said.setup else None
+text_by (Some (id, said)) = if id == 1 && said.schema == 2 && nat_le said.finished 4_294_967_295 then Some said.setup else None
 
 -- what a row says where its id and its copy of the rowid are shown as one
 abbrev pub shown_office : Row → Option (ℕ × Said)
@@ -54,7 +54,7 @@ pub record IsKeptFor (setup : Lists) (db : Database) : Type 0 where
 pub record IsNewFor (setup : Lists) (old new : Database) : Type 0 where
   pub fresh : old.schema ≡ no_schema
   pub kept : IsKeptFor setup new
-  pub blank : IsBlank new.trees (record { schema = 0; setup = setup_text setup; finished = 0 })
+  pub blank : IsBlank new.trees (record { schema = 2; setup = setup_text setup; finished = 0 })
   pub empty : IsEmptyFor setup new.trees
 
 -- What opening made of a database: it was new, or it was made for this setup and stands as it was.
@@ -78,6 +78,6 @@ pub record IsUnknown (db : Database) : Type 0 where
   pub used : db.schema ≢ no_schema
   pub unkept : (setup : Lists) → IsKeptFor setup db → ⊥
 
--- it has no table at all, or the office's five and no others
+-- it has no table at all, or the office's seven and no others
 abbrev pub IsAlone : Database → Type 0
 IsAlone db = (db.schema ≡ no_schema) ⊎ (db.schema ≡ office_schema)

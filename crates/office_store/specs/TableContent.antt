@@ -21,7 +21,10 @@ use Rattle.office_store.specs.declared.said.Said.{Said}
 use Rattle.office_keeper.specs.Content.{Content}
 use Rattle.office_keeper.specs.Provenance.{upload_in, binary_in}
 use Rattle.office_store.specs.Tables.{kept_rows, said_in, run_map}
+use Rattle.office_mail.specs.declared.setup.Role.TheVariants.{Release}
+use Rattle.office_mail.specs.Setup.{place_of_role}
 use Rattle.office_store.specs.Entries.{source_in, source_map, entry_in, entry_map}
+use Rattle.office_store.specs.FactTables.{facts_in}
 
 -- ---- messages
 
@@ -127,10 +130,15 @@ abbrev pub count_said : Option Said → ℕ
 count_said None = 0
 count_said (Some said) = said.finished
 
+-- the place of the release team
+abbrev pub release_place : Lists → ℕ
+release_place setup = place_of_role Release setup.senders
+
 -- what the tables hold
 abbrev pub content_in : Lists → Trees → Content
 content_in setup db = record {
   kept = kept_rows (db 1);
   reports = reports_to (run_map (db 3)) (count_said (said_in (db 0)));
   testing = suite_in setup (kept_rows (db 1)) (source_map (db 4)) (entry_map (db 6));
+  facts = facts_in (release_place setup) (db 8) (db 10);
 }

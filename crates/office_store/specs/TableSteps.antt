@@ -21,7 +21,7 @@ pub record Same (old new : State) : Type 0 where
   pub ours : IsOurs new
   pub now : new.now ≡ old.now
 
--- the five tables, in a transaction that is under way
+-- the seven tables, in a transaction that is under way
 pub record IsInside (s : State) : Type 0 where
   pub schema : s.now.schema ≡ office_schema
   pub begun : IsTrue s.in_transaction
@@ -38,10 +38,12 @@ pub record Rows : Type 0 where
   pub runs : List Row
   pub sources : List Row
   pub rows : List Row
+  pub facts : List Row
+  pub delays : List Row
 
 -- where the tables stand
 abbrev pub rows_in : Trees → Rows
-rows_in db = record { office = db 0; mail = db 1; runs = db 3; sources = db 4; rows = db 6 }
+rows_in db = record { office = db 0; mail = db 1; runs = db 3; sources = db 4; rows = db 6; facts = db 8; delays = db 10 }
 
 -- ---- mail
 
@@ -97,7 +99,7 @@ pub record AddsLetter (db next : Trees) (sender number : ℕ) (text : List ℕ) 
   pub row : Row
   pub says : letter_in row ≡ Some ((sender, number), text)
   pub free : is_taken (db 1) row ≡ false
-  pub put : rows_in next ≡ record { office = db 0; mail = put_row row (db 1); runs = db 3; sources = db 4; rows = db 6 }
+  pub put : rows_in next ≡ record (rows_in db) { mail = put_row row (db 1) }
 
 -- ---- what the office says of itself
 
@@ -137,22 +139,22 @@ pub record AddsRun (db next : Trees) (number : ℕ) (reports : Reports) : Type 0
   pub row : Row
   pub says : run_in row ≡ Some (number, reports)
   pub free : is_taken (db 3) row ≡ false
-  pub put : rows_in next ≡ record { office = db 0; mail = db 1; runs = put_row row (db 3); sources = db 4; rows = db 6 }
+  pub put : rows_in next ≡ record (rows_in db) { runs = put_row row (db 3) }
 
 -- the office says nothing any more, nothing is left of a row that said it alone, and the other tables stand
 pub record Silences (db next : Trees) : Type 0 where
   pub none : filter_map office_in (next 0) ≡ []
   pub left : SaysAlone (db 0) → next 0 ≡ []
-  pub rest : rows_in next ≡ record { office = next 0; mail = db 1; runs = db 3; sources = db 4; rows = db 6 }
+  pub rest : rows_in next ≡ record (rows_in db) { office = next 0 }
 
 -- a row of the office was put in, with a rowid of its own, and the other tables stand
 pub record SaysMore (db next : Trees) (said : Said) : Type 0 where
   pub row : Row
   pub says : office_in row ≡ Some (1, said)
   pub free : is_taken (db 0) row ≡ false
-  pub put : rows_in next ≡ record { office = put_row row (db 0); mail = db 1; runs = db 3; sources = db 4; rows = db 6 }
+  pub put : rows_in next ≡ record (rows_in db) { office = put_row row (db 0) }
 
--- a run is in the tables: its reports stand beside the earlier ones, the office says this, and mail and testing stand;
+-- a run is in the tables: its reports stand beside the earlier ones, the office says this, and mail, testing and facts stand;
 -- the table of runs stays whole, and that of the office one row
 pub record RecordsRun (db next : Trees) (number : ℕ) (reports : Reports) (said : Said) : Type 0 where
   pub reported : run_map (next 3) ≡ insert (run_map (db 3)) number reports
@@ -163,3 +165,5 @@ pub record RecordsRun (db next : Trees) (number : ℕ) (reports : Reports) (said
   pub mail : next 1 ≡ db 1
   pub sources : next 4 ≡ db 4
   pub rows : next 6 ≡ db 6
+  pub facts : next 8 ≡ db 8
+  pub delays : next 10 ≡ db 10

@@ -31,7 +31,7 @@ pub record Lasts (old new : State) : Type 0 where
   pub endures : Endures old new
   pub limit : new.step_limit ≡ old.step_limit
 
--- between calls: the five tables and no others, no transaction, and nothing that isn't committed
+-- between calls: the seven tables and no others, no transaction, and nothing that isn't committed
 pub record IsOurs (s : State) : Type 0 where
   pub schema : s.now.schema ≡ office_schema
   pub settled : s.now ≡ s.committed

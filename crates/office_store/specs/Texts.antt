@@ -41,6 +41,30 @@ sources_text = codes "SELECT rowid, name, sender, number FROM testing_source"
 abbrev pub rows_text : List ℕ
 rows_text = codes "SELECT rowid, arch, name, sender, number, place FROM testing_row"
 
+abbrev pub facts_text : List ℕ
+facts_text = codes "SELECT rowid, kind, sender, number, place FROM fact"
+
+abbrev pub fact_ids_text : List ℕ
+fact_ids_text = codes "SELECT rowid FROM fact WHERE kind = ?1 AND sender = ?2 AND number = ?3 AND place = ?4"
+
+abbrev pub take_fact_text : List ℕ
+take_fact_text = codes "DELETE FROM fact WHERE rowid = ?1"
+
+abbrev pub add_fact_text : List ℕ
+add_fact_text = codes "INSERT INTO fact (kind, sender, number, place) VALUES (?1, ?2, ?3, ?4)"
+
+abbrev pub delays_text : List ℕ
+delays_text = codes "SELECT id, number FROM fact_delays"
+
+abbrev pub delays_ids_text : List ℕ
+delays_ids_text = codes "SELECT id FROM fact_delays WHERE number = ?1"
+
+abbrev pub take_delays_text : List ℕ
+take_delays_text = codes "DELETE FROM fact_delays WHERE id = ?1"
+
+abbrev pub add_delays_text : List ℕ
+add_delays_text = codes "INSERT INTO fact_delays (id, number) VALUES (1, ?1)"
+
 abbrev pub load_text : List ℕ
 load_text = codes "SELECT sender, number, body FROM mail WHERE sender = ?1 AND number >= ?2 AND number <= ?3"
 
@@ -60,3 +84,9 @@ create_testing_source_text = codes "CREATE TABLE testing_source (name TEXT NOT N
 
 abbrev pub create_testing_row_text : List ℕ
 create_testing_row_text = codes "CREATE TABLE testing_row (arch INTEGER NOT NULL, name TEXT NOT NULL, sender INTEGER NOT NULL, number INTEGER NOT NULL, place INTEGER NOT NULL, PRIMARY KEY (arch, name), FOREIGN KEY (sender, number) REFERENCES mail (sender, number)) STRICT"
+
+abbrev pub create_fact_text : List ℕ
+create_fact_text = codes "CREATE TABLE fact (kind INTEGER NOT NULL, sender INTEGER NOT NULL, number INTEGER NOT NULL, place INTEGER NOT NULL, PRIMARY KEY (kind, sender, number, place), FOREIGN KEY (sender, number) REFERENCES mail (sender, number)) STRICT"
+
+abbrev pub create_fact_delays_text : List ℕ
+create_fact_delays_text = codes "CREATE TABLE fact_delays (id INTEGER PRIMARY KEY, number INTEGER NOT NULL) STRICT"

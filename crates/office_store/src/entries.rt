@@ -89,7 +89,7 @@ fn name_in(row: &Row, at: usize) -> Result<&[u8], KeepFault>
 }
 
 /// The rowid, in the first column.
-fn rowid_in(row: &Row) -> Result<i64, KeepFault>
+pub(crate) fn rowid_in(row: &Row) -> Result<i64, KeepFault>
     ensures ok { IfOk result (λ id. column row.now 0 ≡ Int id) }
     ensures bad { result ≡ Err (KeepFault.Store Cause.BadRow) → 0 < length row.now → (id : ℤ) → column row.now 0 ≢ Int id }
 {
@@ -97,7 +97,7 @@ fn rowid_in(row: &Row) -> Result<i64, KeepFault>
 }
 
 /// The number of 32 bits in a column.
-fn number_in(row: &Row, at: usize) -> Result<u32, KeepFault>
+pub(crate) fn number_in(row: &Row, at: usize) -> Result<u32, KeepFault>
     ensures ok { IfOk result (λ n. (column row.now at ≡ Int (pos n)) × (n < 4_294_967_296)) }
     ensures bad { result ≡ Err (KeepFault.Store Cause.BadRow) → at < length row.now → (n : ℕ) → n < 4_294_967_296 → column row.now at ≢ Int (pos n) }
 {

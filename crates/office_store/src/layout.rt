@@ -1,8 +1,8 @@
 //! Whether a database has the office's tables, column by column, alone or beside others.
 ghost use Rattle.std.specs.Prelude.{◌≡◌, ◌↔◌, [], ◌∷◌, codes, IsTrue, IfOk};
 ghost use Rattle.std.specs.Option.{option_copied};
-ghost use Rattle.office_store.specs.Layout.{column_by, to_mail, office, mail, run, testing_source, testing_row, no_schema, office_schema, standing, is_free, has_none, table_by, IsFound, HasEach};
-ghost use Rattle.office_store.specs.LayoutSteps.{key_index, IsBare, IsAt, IsNumbered, IsKeyed, office_tables, office_indexes, mail_index, testing_source_index, testing_row_index};
+ghost use Rattle.office_store.specs.Layout.{column_by, to_mail, office, mail, run, testing_source, testing_row, fact, fact_delays, no_schema, office_schema, standing, is_free, has_none, table_by, IsFound, HasEach};
+ghost use Rattle.office_store.specs.LayoutSteps.{key_index, IsBare, IsAt, IsNumbered, IsKeyed, office_tables, office_indexes, mail_index, testing_source_index, testing_row_index, fact_index};
 ghost use Rattle.sqlite_value.specs.Keys.{plain};
 
 use sqlite_items::Items;
@@ -214,6 +214,34 @@ fn are_of_testing_row(columns: &[Column]) -> bool
     }
 }
 
+/// Whether these are the columns of facts.
+fn are_of_fact(columns: &[Column]) -> bool
+    ensures { IsTrue result ↔ (columns.now ≡ fact.columns) }
+{
+    match columns {
+        [kind, sender, number, place] => {
+            is_column(kind, b"kind", Kind::Integer, true)
+                && is_column(sender, b"sender", Kind::Integer, true)
+                && is_column(number, b"number", Kind::Integer, true)
+                && is_column(place, b"place", Kind::Integer, true)
+        }
+        _ => false,
+    }
+}
+
+/// Whether these are the columns of the number of the last delays.
+fn are_of_fact_delays(columns: &[Column]) -> bool
+    ensures { IsTrue result ↔ (columns.now ≡ fact_delays.columns) }
+{
+    match columns {
+        [id, number] => {
+            is_column(id, b"id", Kind::Integer, false)
+                && is_column(number, b"number", Kind::Integer, true)
+        }
+        _ => false,
+    }
+}
+
 /// Whether an index is that of the only key of a table.
 fn is_key_index(index: &Index, name: &[u8], tree: u32, table: u32, places: &[usize]) -> bool
     ensures { IsTrue result ↔ (index.now ≡ key_index name.now tree table places.now) }
@@ -291,18 +319,52 @@ fn is_testing_row(alloc: Global, table: &Table, tree: u32) -> Result<bool, Alloc
     )
 }
 
-/// Whether these are the office's five tables.
+/// Whether a table is that of facts, in this tree.
+fn is_fact(alloc: Global, table: &Table, tree: u32) -> Result<bool, AllocError>
+    ensures { IfOk result (λ same. IsTrue same ↔ (table.now ≡ standing fact tree)) }
+{
+    Ok(
+        is_bare(alloc, table)?
+            && is_at(table, b"fact", tree)
+            && are_of_fact(table.columns.as_slice())
+            && is_keyed(table, &[1, 2, 3, 4])
+            && refers_to_mail(table.references.as_slice(), &[2, 3]),
+    )
+}
+
+/// Whether a table is that of the number of the last delays, in this tree.
+fn is_fact_delays(alloc: Global, table: &Table, tree: u32) -> Result<bool, AllocError>
+    ensures { IfOk result (λ same. IsTrue same ↔ (table.now ≡ standing fact_delays tree)) }
+{
+    Ok(
+        is_bare(alloc, table)?
+            && is_at(table, b"fact_delays", tree)
+            && are_of_fact_delays(table.columns.as_slice())
+            && is_numbered(table)
+            && table.references.is_empty(),
+    )
+}
+
+/// Whether two tables are those of facts, in their trees.
+fn are_of_facts(alloc: Global, facts: &Table, delays: &Table) -> Result<bool, AllocError>
+    ensures { IfOk result (λ same. IsTrue same ↔ ((facts.now ≡ standing fact 8) × (delays.now ≡ standing fact_delays 10))) }
+{
+    Ok(is_fact(alloc, facts, 8)? && is_fact_delays(alloc, delays, 10)?)
+}
+
+/// Whether these are the office's seven tables.
 #[tactic(auto, unfolding(crate::specs::LayoutSteps::office_tables))]
 fn are_tables(alloc: Global, tables: &[Table]) -> Result<bool, AllocError>
     ensures { IfOk result (λ same. IsTrue same ↔ (tables.now ≡ office_tables)) }
 {
     match tables {
-        [office, mail, run, source, row] => Ok(
+        [office, mail, run, source, row, facts, delays] => Ok(
             is_office(alloc, office, 0)?
                 && is_mail(alloc, mail, 1)?
                 && is_run(alloc, run, 3)?
                 && is_testing_source(alloc, source, 4)?
-                && is_testing_row(alloc, row, 6)?,
+                && is_testing_row(alloc, row, 6)?
+                && are_of_facts(alloc, facts, delays)?,
         ),
         _ => Ok(false),
     }
@@ -332,20 +394,31 @@ fn is_testing_row_index(index: &Index) -> bool
     is_key_index(index, b"sqlite_autoindex_testing_row_1", 7, 6, &[1, 2])
 }
 
+/// Whether an index is that of the key of facts.
+#[tactic(auto, unfolding(crate::specs::LayoutSteps::fact_index))]
+fn is_fact_index(index: &Index) -> bool
+    ensures { IsTrue result ↔ (index.now ≡ fact_index) }
+{
+    is_key_index(index, b"sqlite_autoindex_fact_1", 9, 8, &[1, 2, 3, 4])
+}
+
 /// Whether these are the indexes of their keys.
 #[tactic(auto, unfolding(crate::specs::LayoutSteps::office_indexes))]
 fn are_indexes(indexes: &[Index]) -> bool
     ensures { IsTrue result ↔ (indexes.now ≡ office_indexes) }
 {
     match indexes {
-        [mail, source, row] => {
-            is_mail_index(mail) && is_testing_source_index(source) && is_testing_row_index(row)
+        [mail, source, row, facts] => {
+            is_mail_index(mail)
+                && is_testing_source_index(source)
+                && is_testing_row_index(row)
+                && is_fact_index(facts)
         }
         _ => false,
     }
 }
 
-/// Whether a database has the office's five tables with the indexes of their keys, and nothing else.
+/// Whether a database has the office's seven tables with the indexes of their keys, and nothing else.
 #[tactic(auto, using(crate::proofs::SchemaLemmas::whole, crate::proofs::SchemaLemmas::parts))]
 pub(crate) fn has_tables(alloc: Global, schema: &Schema) -> Result<bool, AllocError>
     ensures { IfOk result (λ same. IsTrue same ↔ (schema.now ≡ office_schema)) }
@@ -371,7 +444,7 @@ fn is_free(schema: &Schema, name: &[u8]) -> bool
         && schema.view_named(name).is_none()
 }
 
-/// Whether no name of the office's five tables is taken.
+/// Whether no name of the office's seven tables is taken.
 pub(crate) fn has_none(schema: &Schema) -> bool
     ensures { result ≡ has_none schema.now }
 {
@@ -380,6 +453,8 @@ pub(crate) fn has_none(schema: &Schema) -> bool
         && is_free(schema, b"run")
         && is_free(schema, b"testing_source")
         && is_free(schema, b"testing_row")
+        && is_free(schema, b"fact")
+        && is_free(schema, b"fact_delays")
 }
 
 /// The table of a name.
@@ -440,7 +515,34 @@ fn has_testing_row(alloc: Global, schema: &Schema) -> Result<bool, AllocError>
     }
 }
 
-/// Whether each of the office's five tables is there, whatever else is.
+/// Whether the table of facts is there, in whatever tree.
+fn has_fact(alloc: Global, schema: &Schema) -> Result<bool, AllocError>
+    ensures { IfOk result (λ has. IsTrue has ↔ IsFound fact (table_by (codes "fact") schema.now)) }
+{
+    match table_by(schema, b"fact") {
+        Some(table) => is_fact(alloc, table, table.tree),
+        None => Ok(false),
+    }
+}
+
+/// Whether the table of the number of the last delays is there, in whatever tree.
+fn has_fact_delays(alloc: Global, schema: &Schema) -> Result<bool, AllocError>
+    ensures { IfOk result (λ has. IsTrue has ↔ IsFound fact_delays (table_by (codes "fact_delays") schema.now)) }
+{
+    match table_by(schema, b"fact_delays") {
+        Some(table) => is_fact_delays(alloc, table, table.tree),
+        None => Ok(false),
+    }
+}
+
+/// Whether both tables of facts are there.
+fn has_facts(alloc: Global, schema: &Schema) -> Result<bool, AllocError>
+    ensures { IfOk result (λ both. IsTrue both ↔ (IsFound fact (table_by (codes "fact") schema.now) × IsFound fact_delays (table_by (codes "fact_delays") schema.now))) }
+{
+    Ok(has_fact(alloc, schema)? && has_fact_delays(alloc, schema)?)
+}
+
+/// Whether each of the office's seven tables is there, whatever else is.
 pub(crate) fn has_each(alloc: Global, schema: &Schema) -> Result<bool, AllocError>
     ensures { IfOk result (λ all. IsTrue all ↔ HasEach schema.now) }
 {
@@ -449,6 +551,7 @@ pub(crate) fn has_each(alloc: Global, schema: &Schema) -> Result<bool, AllocErro
             && has_mail(alloc, schema)?
             && has_run(alloc, schema)?
             && has_testing_source(alloc, schema)?
-            && has_testing_row(alloc, schema)?,
+            && has_testing_row(alloc, schema)?
+            && has_facts(alloc, schema)?,
     )
 }

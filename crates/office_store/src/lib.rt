@@ -2,6 +2,8 @@
 #![tactic(auto)]
 
 mod entries;
+mod fact_changes;
+mod fact_rows;
 mod faults;
 mod finishing;
 mod layout;

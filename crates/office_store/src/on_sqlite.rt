@@ -7,12 +7,13 @@ ghost use Rattle.office_store.specs.Legible.{IsLegible};
 ghost use Rattle.office_store.specs.Tables.{IsTrusted, IsOurs};
 ghost use Rattle.office_keeper.specs.Keeping.{Counted};
 
-use crate::{entries, finishing, mail, runs};
+use crate::{entries, fact_rows, finishing, mail, runs};
 use office_keeper::{Finished, KeepFault, Keeper, Letter, MailText, Reports};
 use office_mail::Setup;
 use sqlite::{Alter, Connection};
 use std::alloc::Global;
 use std::marker::Model;
+use testing_model::FactRows;
 use testing_suites::Testing;
 
 /// The office's tables over a connection.
@@ -123,7 +124,7 @@ impl<S: Alter> Keeper for Tables<S> {
     fn finish(&mut self, run: u32, done: &Finished) -> Result<(), KeepFault> {
         count(
             &mut self.refusals,
-            finishing::finish(&mut self.conn, run, done),
+            finishing::finish(&mut self.conn, &self.setup, run, done),
         )
     }
 
@@ -135,6 +136,13 @@ impl<S: Alter> Keeper for Tables<S> {
         count(
             &mut self.refusals,
             entries::testing(self.alloc, &mut self.conn, &self.setup),
+        )
+    }
+
+    fn facts(&mut self) -> Result<FactRows, KeepFault> {
+        count(
+            &mut self.refusals,
+            fact_rows::facts(self.alloc, &mut self.conn, &self.setup),
         )
     }
 }

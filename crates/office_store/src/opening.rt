@@ -93,7 +93,7 @@ fn row_text<'a>(row: &'a Row) -> Option<&'a [u8]>
     let schema = number_at(row, 1)?;
     let setup = text_at(row, 2)?;
     let finished = number_at(row, 3)?;
-    if id == 1 && schema == 0 && finished <= 4_294_967_295 {
+    if id == 1 && schema == 2 && finished <= 4_294_967_295 {
         Some(setup)
     } else {
         None
@@ -183,7 +183,7 @@ fn begin<S: Alter>(alloc: Global, conn: &mut Connection<S>, setup: &Setup) -> Re
     ensures lasts { Lasts (state S.Store conn.old) (state S.Store conn.new) }
     ensures open { HasCleanDisk (state S.Store conn.new) → IsTrusted (state S.Store conn.old) → OnOk result (IsTrusted (state S.Store conn.new)) }
     ensures ours { IsTrusted (state S.Store conn.new) → OnOk result (IsOurs (state S.Store conn.new)) }
-    ensures blank { IsTrusted (state S.Store conn.new) → OnOk result (IsBlank (state S.Store conn.new).now.trees (record { schema = 0; setup = text_of setup.now; finished = 0 })) }
+    ensures blank { IsTrusted (state S.Store conn.new) → OnOk result (IsBlank (state S.Store conn.new).now.trees (record { schema = 2; setup = text_of setup.now; finished = 0 })) }
     ensures kept { IsTrusted (state S.Store conn.new) → OnOk result (IsKeptFor setup.now (state S.Store conn.new).now) }
     ensures fresh { IsTrusted (state S.Store conn.new) → OnOk result (IsEmptyFor setup.now (state S.Store conn.new).now.trees) }
     ensures err { IsTrusted (state S.Store conn.new) → OnErr result (IsAsItWas (state S.Store conn.old) (state S.Store conn.new)) }
@@ -197,7 +197,7 @@ fn begin<S: Alter>(alloc: Global, conn: &mut Connection<S>, setup: &Setup) -> Re
 
 /// Makes the office's tables beside others, or finds them there.
 ///
-/// What a statement does to the five tables is proved where no others stand beside them. So nothing may be promised here
+/// What a statement does to the seven tables is proved where no others stand beside them. So nothing may be promised here
 /// of what is kept. Each such promise asks that the connection is trusted, and one with a limit on the steps of a
 /// statement isn't: that is why a limit is set. It is 2^64-1 steps, which no statement reaches, so that each statement
 /// does what it does without one.
@@ -258,9 +258,9 @@ impl<S: Alter> Tables<S> {
     /// The office's tables in a database. One that has none of them gets them, with this setup, no mail and no run; one
     /// that was made for this setup goes on as it was left. Tables, views and indexes of other names don't count, and
     /// stay. `OtherSetup` comes where the database was made for other architectures or senders, by names, roles or
-    /// order. `UnknownSchema` comes where it has some of the office's five tables, or a view or an index of such a name,
-    /// but wasn't made for any setup: it has not all five, column by column, or the office's table hasn't just one row,
-    /// with id 1, schema number 0 and a text that is a setup. A connection in a transaction is refused by `Store`. A
+    /// order. `UnknownSchema` comes where it has some of the office's seven tables, or a view or an index of such a name,
+    /// but wasn't made for any setup: it has not all seven, column by column, or the office's table hasn't just one row,
+    /// with id 1, schema number 2 and a text that is a setup. A connection in a transaction is refused by `Store`. A
     /// refusal hands the connection back and leaves the database as it was.
     ///
     /// Where other tables, views or indexes stand there too, nothing is promised of what is kept, only that each call

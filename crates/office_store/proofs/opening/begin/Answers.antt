@@ -7,11 +7,11 @@ use Rattle.office_store.proofs.OpenLemmas.{new_kept}
 use Rattle.office_store.proofs.BlankFacts.{new_empty}
 use Rattle.office_store.proofs.opening.begin.Goals as goal
 
-own : (g : _) (c : goal.After-drop-text-2 g) → IsTrusted (state g.S.Store c.create.new.conn) → IsBlank (state g.S.Store c.create.new.conn).now.trees (record { schema = 0; setup = setup_text c.args.setup.now; finished = 0 })
+own : (g : _) (c : goal.After-drop-text-2 g) → IsTrusted (state g.S.Store c.create.new.conn) → IsBlank (state g.S.Store c.create.new.conn).now.trees (record { schema = 2; setup = setup_text c.args.setup.now; finished = 0 })
 own g c trusted =
     let db = (state g.S.Store c.create.new.conn).now in
     let text = c.as_str.ensures.value ∙ c.in_ok-text.ensures.text in
-    subst (λ (t : List ℕ). IsBlank db.trees (record { schema = 0; setup = t; finished = 0 })) text (c.in_ok-create.ensures.blank trusted)
+    subst (λ (t : List ℕ). IsBlank db.trees (record { schema = 2; setup = t; finished = 0 })) text (c.in_ok-create.ensures.blank trusted)
 
 pub returns-clause-kept : goal.returns-clause-kept
 returns-clause-kept g c trusted =

@@ -2,10 +2,11 @@ use Rattle.std.proofs.Common.{◌≡◌, ◌+◌, ◌++◌, ◌∷◌, [], lengt
 use Rattle.sqlite.specs.Held.{state}
 use Rattle.office_keeper.specs.Content.{reports_in, with_run}
 use Rattle.office_keeper.specs.Provenance.{IsGiven}
+use Rattle.office_keeper.specs.FactSet.{AreHoldable, facts_after}
 use Rattle.office_store.specs.TableContent.{content_in}
 use Rattle.office_store.specs.Legible.{IsLegible}
 use Rattle.office_store.specs.Tables.{IsTrusted}
-use Rattle.office_store.proofs.ContentFacts.{reports_on, content_on}
+use Rattle.office_store.proofs.ContentFacts.{reports_on, facts_on, content_on}
 use Rattle.office_store.proofs.KeeperFacts.{never_bad}
 use Rattle.office_store.proofs.LegibleFinish.{finish_legible_on}
 use Rattle.office_store.proofs.on_sqlite.TablesKeeper.finish.Goals as goal
@@ -22,21 +23,29 @@ returns-clause-reports g c trusted =
     subst (λ v. OnOk c.count.result ((content_in inside.setup next).reports ≡ (content_in v.1.0 (state g.S.Store v.0).now.trees).reports ++ reports_in c.args.done.now ∷ [])) c.self.view_is
     (reports_on c.count.result c.finish.result c.count.ensures.same inside.setup (state g.S.Store inside.conn).now.trees next c.args.run c.args.done.now (c.finish.ensures.done trusted) (next_run g c trusted))
 
+pub returns-clause-facts : goal.returns-clause-facts
+returns-clause-facts g c trusted =
+    let inside = c.self.inside in
+    let next = (state g.S.Store c.finish.new.conn).now.trees in
+    subst (λ v. AreHoldable v.1.0 (facts_after c.args.done.now.facts (content_in v.1.0 (state g.S.Store v.0).now.trees).facts)
+    → OnOk c.count.result ((content_in inside.setup next).facts ≡ facts_after c.args.done.now.facts (content_in v.1.0 (state g.S.Store v.0).now.trees).facts)) c.self.view_is
+    (λ holdable. facts_on c.count.result c.finish.result c.count.ensures.same inside.setup (state g.S.Store inside.conn).now.trees next c.args.run c.args.done.now (c.finish.ensures.done trusted) holdable)
+
 pub returns-clause-done : goal.returns-clause-done
 returns-clause-done g c trusted =
     let inside = c.self.inside in
     let next = (state g.S.Store c.finish.new.conn).now.trees in
-    subst (λ v. IsLegible v.1.0 (state g.S.Store v.0).now.trees → IsGiven v.1.0 (content_in v.1.0 (state g.S.Store v.0).now.trees) c.args.done.now.testing
+    subst (λ v. IsLegible v.1.0 (state g.S.Store v.0).now.trees → IsGiven v.1.0 (content_in v.1.0 (state g.S.Store v.0).now.trees) c.args.done.now.testing → AreHoldable v.1.0 (facts_after c.args.done.now.facts (content_in v.1.0 (state g.S.Store v.0).now.trees).facts)
     → OnOk c.count.result (content_in inside.setup next ≡ with_run (content_in v.1.0 (state g.S.Store v.0).now.trees) c.args.done.now)) c.self.view_is
-    (λ was given. content_on c.count.result c.finish.result c.count.ensures.same inside.setup (state g.S.Store inside.conn).now.trees next c.args.run c.args.done.now (c.finish.ensures.done trusted) c.finish.ensures.ordered (next_run g c trusted) given)
+    (λ was given holdable. content_on c.count.result c.finish.result c.count.ensures.same inside.setup (state g.S.Store inside.conn).now.trees next c.args.run c.args.done.now (c.finish.ensures.done trusted) c.finish.ensures.ordered (next_run g c trusted) given holdable)
 
 pub returns-clause-legible : goal.returns-clause-legible
 returns-clause-legible g c trusted =
     let inside = c.self.inside in
     let old = (state g.S.Store inside.conn).now in
     let new = (state g.S.Store c.finish.new.conn).now in
-    subst (λ v. IsLegible v.1.0 (state g.S.Store v.0).now.trees → IsGiven v.1.0 (content_in v.1.0 (state g.S.Store v.0).now.trees) c.args.done.now.testing → IsLegible inside.setup new.trees) c.self.view_is
-    (λ was given. finish_legible_on c.finish.result inside.setup old new c.args.run c.args.done.now (c.finish.ensures.done trusted) (c.finish.ensures.err trusted) c.finish.ensures.texts (omega (arith, c.ranges.run.fits)) (next_run g c trusted) given was)
+    subst (λ v. IsLegible v.1.0 (state g.S.Store v.0).now.trees → IsGiven v.1.0 (content_in v.1.0 (state g.S.Store v.0).now.trees) c.args.done.now.testing → AreHoldable v.1.0 (facts_after c.args.done.now.facts (content_in v.1.0 (state g.S.Store v.0).now.trees).facts) → IsLegible inside.setup new.trees) c.self.view_is
+    (λ was given holdable. finish_legible_on c.finish.result inside.setup old new c.args.run c.args.done.now (c.finish.ensures.done trusted) (c.finish.ensures.err trusted) c.finish.ensures.texts (omega (arith, c.ranges.run.fits)) (next_run g c trusted) given holdable was)
 
 pub returns-clause-bad : goal.returns-clause-bad
 returns-clause-bad g c trusted legible own =
