@@ -62,7 +62,8 @@ fn tally_of_stops(alloc: Global, setup: &Setup, due: &Due, stop: Stop) -> Result
             break;
         }
     }
-    let is_enough = tally.runs as usize > due.count() && u64::from(tally.runs) < MOST;
+    let messages = u32::try_from(due.count()).unwrap_or(u32::MAX);
+    let is_enough = tally.runs > messages && u64::from(tally.runs) < MOST;
     Ok(if is_enough {
         tally
     } else {
