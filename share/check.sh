@@ -136,7 +136,7 @@ indexes_are_read() {
     ./office-from-packages --uploaded 2025-03-01 --run 2025-03-06 --sources ../examples/Sources \
         "$work/week" ../examples/Packages > "$work/counts" 2> "$work/left" || return 1
     cat "$work/counts" "$work/left"
-    [ "$(cat "$work/counts")" = 'uploads 8, builds 7 of 9 packages, hints 1, orders 1' ] || return 1
+    [ "$(cat "$work/counts")" = 'uploads 8, drops 0, builds 7, hints 1, orders 1' ] || return 1
     [ "$(grep -c ': left out: ' "$work/left")" -eq 3 ] || return 1
     python3 - "$work/week/bag" << 'END'
 import sys
