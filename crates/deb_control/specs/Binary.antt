@@ -1,6 +1,7 @@
 -- The binary package that a paragraph describes (Debian Policy 5.3; its fields 5.6.1, 5.6.7, 5.6.8, 5.6.12, 7.2 and 7.5).
 use Rattle.std.specs.Prelude.{ℕ, Bool, false, ◌&&◌, nat_le, if◌then◌else◌, List, [], ◌∷◌, ◌++◌, length, drop, codes, Option, Some, None, unwrap_or, Result, Ok, Err, ⊤, ◌≡◌}
 use Rattle.std.specs.List.{list_all, position_or_len, before_first}
+use Rattle.deb_version.specs.Characters as chars
 use Rattle.deb_control.specs.Text.{is_white}
 use Rattle.deb_control.specs.Paragraphs.{Field, value_of}
 use Rattle.deb_control.specs.Relations.{◌>>=◌, is_package_name, is_version, is_lower_or_digit, is_qualifier_char, skip_white, after_char, ends_name, version_in, clauses_in, provisions_in}
@@ -66,7 +67,7 @@ abbrev pub after_source : List ℕ → List ℕ → List ℕ → Result (List �
 after_source version name rest =
     if is_package_name name then
     (if list_all is_white rest then Ok (name, version)
-    else (source_version (after_char 40 (skip_white rest)) >>= λ v. Ok (name, v)))
+    else (source_version (after_char chars.left_parenthesis (skip_white rest)) >>= λ v. Ok (name, v)))
     else Err relation.BadName
 
 -- A source: a name, and perhaps a version in parentheses, with white before each part (Debian Policy 5.6.1).

@@ -2,6 +2,7 @@
 use Rattle.std.specs.Prelude.{ℕ, ◌+◌, ◌≡◌, ◌≤◌, Bool, true, false, ◌&&◌, ◌==◌, nat_le, if◌then◌else◌, List, [], ◌∷◌, length, map, codes, Option, Some, None, Result, Ok}
 use Rattle.std.specs.List.{list_all, count_by}
 use Rattle.std.specs.Str.{bytes_eq}
+use Rattle.deb_version.specs.Characters as chars
 use Rattle.deb_control.specs.Paragraphs.{reading, value_of}
 use Rattle.deb_control.specs.Relations.{◌>>=◌, is_qualifier_char}
 use Rattle.office_mail.specs.declared.setup.Sender.{Sender}
@@ -16,6 +17,7 @@ use Rattle.office_mail.specs.Steps.{Paragraph, needs, given, each_of, whole, fir
 use Rattle.office_mail.specs.Values.{words}
 use Rattle.testing_items.specs.Archs.{are_archs, IsArchs}
 use Rattle.testing_items.specs.Distinct.{is_distinct}
+use Rattle.testing_items.specs.Words.{most_archs}
 
 -- how a field is spelled
 abbrev pub setup_field_name : SetupField → List ℕ
@@ -29,7 +31,7 @@ stated p f = given (value_of p (setup_field_name f)) (MissingField f)
 -- a sender's name: 1 to 32 lower case letters, digits and hyphens, a letter in front
 unfoldable pub is_sender_name : List ℕ → Bool
 is_sender_name [] = false
-is_sender_name (c ∷ cs) = nat_le 97 c && nat_le c 122 && list_all is_qualifier_char cs && nat_le (length cs) 31
+is_sender_name (c ∷ cs) = nat_le chars.lower_a c && nat_le c chars.lower_z && list_all is_qualifier_char cs && nat_le (length cs) 31
 
 unfoldable pub are_senders : List (List ℕ) → Bool
 are_senders names = list_all is_sender_name names && is_distinct names
@@ -94,7 +96,7 @@ sender_in s = given (role_named s.1) BadRoles >>= λ role. Ok (record { name = s
 
 -- a text is short enough, and has few enough architectures and senders
 abbrev pub is_small : ℕ → List (List ℕ) → List Sender → Bool
-is_small size archs senders = nat_le (length archs) 16 && nat_le (length senders) 16 && nat_le size 65_536
+is_small size archs senders = nat_le (length archs) most_archs && nat_le (length senders) 16 && nat_le size 65_536
 
 -- what the fields of a setup say
 unfoldable pub setup_by : ℕ → List (List ℕ) → List (List ℕ × List ℕ) → Result Lists SetupFault

@@ -7,7 +7,7 @@ use Rattle.sqlite.specs.Order.{Row}
 use Rattle.sqlite.specs.Tree.{Trees}
 use Rattle.deb_control.specs.declared.binary.Binary.{Binary}
 use Rattle.testing_model.specs.Suite.{Suite}
-use Rattle.testing_items.specs.Words.{byte_cmp, arch_name}
+use Rattle.testing_items.specs.Words.{byte_cmp, arch_name, all_place}
 use Rattle.testing_model.specs.Moves.{row_cmp, put_source, put_row}
 use Rattle.testing_model.specs.declared.suite.SourceIn.{SourceIn}
 use Rattle.testing_model.specs.declared.suite.RowIn.{RowIn}
@@ -64,7 +64,7 @@ source_of setup kept row = source_by_entry setup kept (source_in row)
 
 -- whether this is the place of a listed architecture or of `all`
 abbrev pub is_arch_place : List (List ℕ) → ℕ → Bool
-is_arch_place archs place = nat_lt place (length archs) || (place == 16)
+is_arch_place archs place = nat_lt place (length archs) || (place == all_place)
 
 abbrev pub row_as : List (List ℕ) → ℕ → List ℕ → ℕ → ℕ → ℕ → Option Binary → Option RowIn
 row_as archs arch name sender number place None = None

@@ -1,6 +1,6 @@
 -- What a run brings into testing, where its facts are said by covered messages. That facts are kept is this office's own.
 use Rattle.std.specs.Prelude.{◌≤◌, List, length}
-use Rattle.testing_items.specs.Words.{Text}
+use Rattle.testing_items.specs.Words.{Text, most_archs}
 use Rattle.testing_kept.specs.SameRows.{AreSaidBy}
 use Rattle.testing_model.specs.declared.excuse.Excuse.{Excuse}
 use Rattle.testing_model.specs.Covered.{Covered}
@@ -17,5 +17,5 @@ suite_by archs f excuses t = (update_by archs f.sources (built_rows archs f.rows
 -- Messages that say the facts give all that a run over the facts brings into testing, and no row of another architecture comes.
 abbrev pub FactsGiveUpdate : Type 0
 FactsGiveUpdate =
-    (archs : List Text) (s : Covered) (f : FactLists) (excuses : List Excuse) (old : Suite) → length archs ≤ 16 → AreSaidBy f s
+    (archs : List Text) (s : Covered) (f : FactLists) (excuses : List Excuse) (old : Suite) → length archs ≤ most_archs → AreSaidBy f s
     → IsGivenBy archs s old (suite_by archs f excuses old) × (KnowsArchs archs old.rows → KnowsArchs archs (suite_by archs f excuses old).rows)

@@ -11,7 +11,7 @@ use Rattle.testing_model.specs.declared.suite.SourceIn.{SourceIn}
 use Rattle.testing_model.specs.declared.suite.RowIn.{RowIn}
 use Rattle.testing_model.specs.declared.update.Offender.{Offender}
 use Rattle.testing_model.specs.Suite.{Suite}
-use Rattle.testing_items.specs.Words.{Text, byte_cmp, least, put_by}
+use Rattle.testing_items.specs.Words.{Text, byte_cmp, least, put_by, all_place}
 use Rattle.testing_model.specs.Unstable.{is_current}
 
 -- rows stand by architecture and then by name (this office decides it)
@@ -65,7 +65,7 @@ remove_source name t = record {
 
 -- the rows on an architecture are its own and those of `all` (Debian Policy 5.6.8)
 abbrev pub is_row_on : ℕ → RowIn → Bool
-is_row_on arch r = (r.arch == arch) || (r.arch == 16)
+is_row_on arch r = (r.arch == arch) || (r.arch == all_place)
 
 -- those of some rows that are on the architecture
 abbrev pub rows_on : ℕ → List RowIn → List RowIn
@@ -97,7 +97,7 @@ was_installable before r = list_any (λ j. j.is_installable && is_same_key j.row
 
 -- each architecture's own rows are watched there, and the rows of `all` on the first one (this office decides it)
 abbrev pub is_watched_on : ℕ → RowIn → Bool
-is_watched_on arch r = (r.arch == arch) || ((r.arch == 16) && (arch == 0))
+is_watched_on arch r = (r.arch == arch) || ((r.arch == all_place) && (arch == 0))
 
 -- the row fails: it isn't installable, though it came in with the group or was installable before (Debian Developer's Reference 5.13.2)
 abbrev pub fails_on : ℕ → List Text → List RowAnswer → RowAnswer → Bool

@@ -8,7 +8,7 @@ use Rattle.testing_items.specs.declared.item.Urgency.{Urgency}
 use Rattle.testing_model.specs.declared.suite.SourceIn.{SourceIn}
 use Rattle.testing_model.specs.declared.suite.RowIn.{RowIn}
 use Rattle.testing_model.specs.declared.excuse.Excuse.{Excuse}
-use Rattle.testing_items.specs.Words.{Text, arch_name}
+use Rattle.testing_items.specs.Words.{Text, arch_name, all_place, most_archs}
 use Rattle.testing_model.specs.Suite.{Suite}
 use Rattle.testing_model.specs.Covered.{Covered}
 use Rattle.testing_model.specs.Updates.{update_of}
@@ -26,7 +26,7 @@ binary_in binaries (suc i) = slice_get binaries i
 
 -- a place of an architecture: of a listed one, or of `all`
 abbrev pub IsArchPlace : List Text → ℕ → Type 0
-IsArchPlace archs place = (place < length archs) ⊎ (place ≡ 16)
+IsArchPlace archs place = (place < length archs) ⊎ (place ≡ all_place)
 
 -- a covered build has the row's binary at its place, and the row's architecture is the binary's
 pub record IsBuilt (archs : List Text) (s : Covered) (row : RowIn) : Type 0 where
@@ -48,10 +48,10 @@ pub record KnowsArchs (archs : List Text) (rows : List RowIn) : Type 0 where
 -- covered messages give all that a run brings into testing, where places below that of `all` serve for the architectures
 abbrev pub UpdateIsGiven : Type 0
 UpdateIsGiven =
-    (archs : List Text) (s : Covered) (excuses : List Excuse) (old : Suite) → length archs ≤ 16 → IsGivenBy archs s old (update_of archs s excuses old).suite
+    (archs : List Text) (s : Covered) (excuses : List Excuse) (old : Suite) → length archs ≤ most_archs → IsGivenBy archs s old (update_of archs s excuses old).suite
 
 -- and no row of another architecture comes
 abbrev pub ArchsStayKnown : Type 0
 ArchsStayKnown =
-    (archs : List Text) (s : Covered) (excuses : List Excuse) (old : Suite) → length archs ≤ 16
+    (archs : List Text) (s : Covered) (excuses : List Excuse) (old : Suite) → length archs ≤ most_archs
     → KnowsArchs archs old.rows → KnowsArchs archs (update_of archs s excuses old).suite.rows

@@ -17,7 +17,7 @@ use Rattle.testing_model.specs.declared.facts.HintIn.{HintIn}
 use Rattle.testing_model.specs.declared.facts.UnhintIn.{UnhintIn}
 use Rattle.testing_model.specs.declared.facts.DelaysIn.{DelaysIn}
 use Rattle.testing_model.specs.declared.suite.RowIn.{RowIn}
-use Rattle.testing_items.specs.Words.{Text, byte_cmp, is_above, is_same_version, least, sorted_by}
+use Rattle.testing_items.specs.Words.{Text, byte_cmp, is_above, is_same_version, least, sorted_by, all_place}
 use Rattle.testing_model.specs.Covered.{Covered, uploads_in, builds_in, drops_in, bugs_in, hints_in, unhints_in, delays_in}
 
 -- uploads in the order in which they count: the greatest version first, and among the same version by sender and number
@@ -83,13 +83,13 @@ greatest_drops s = filter_map (λ p. greatest_drop s p.0 p.1) (sorted_by (λ p. 
 abbrev pub unstable_builds : Covered → List BuildIn
 unstable_builds s = filter_map (λ p. unstable_row s p.0 p.1) (sorted_by (λ p. p) pair_order (map pair_of (builds_in s)))
 
--- the architectures with their places: the listed ones from 0, and then `all` (Debian Policy 5.6.8), whose place is 16
+-- the architectures with their places: the listed ones from 0, and then `all` (Debian Policy 5.6.8)
 abbrev pub places : List Text → List (ℕ × Text)
-places archs = enumerate_from 0 archs ++ (16, codes "all") ∷ []
+places archs = enumerate_from 0 archs ++ (all_place, codes "all") ∷ []
 
 -- the places alone
 abbrev pub place_numbers : List Text → List ℕ
-place_numbers archs = range_with_len 0 (length archs) ++ 16 ∷ []
+place_numbers archs = range_with_len 0 (length archs) ++ all_place ∷ []
 
 -- a build as a row of the architecture at this place
 abbrev pub row_at : ℕ → BuildIn → RowIn
