@@ -8,7 +8,7 @@ follows it, up to the next command or the end of the block, is what it prints. I
 literal display behind a dollar sign. A line goes on where it ends with a backslash or a bar, where a quote is open, and
 up to the end of a text behind `<<`. What a command prints isn't compared where the document shows nothing. It has to
 end with status 0, but for those of ENDS. Each block starts at the top of the copy. A service runs in the background
-until the next one starts or the document ends.
+until the next one starts, a command names its store, or the document ends; it is ended by a signal.
 """
 import os
 import re
@@ -93,13 +93,14 @@ class Runner:
     """Runs commands in a copy, and counts."""
 
     def __init__(self, copy, document):
-        self.copy, self.document, self.service = copy, document, None
+        self.copy, self.document, self.service, self.store = copy, document, None, None
         self.passed = self.failed = 0
 
     def reason(self, command):
         """Why a command isn't run."""
         for document, form, reason in NOT_RUN:
-            if document == self.document and re.match(form, command.text) and not (os.environ.get('APT') and 'APT' in reason):
+            is_wanted = 'APT' in reason and os.environ.get('APT')
+            if document == self.document and re.match(form, command.text) and not is_wanted:
                 return reason
         return None
 
@@ -114,6 +115,8 @@ class Runner:
             text = command.text
             for form, other in INSTEAD:
                 text = re.sub(form, other, text)
+            if self.store and re.search(rf'(?<!\S){re.escape(self.store)}(?!\S)', text):
+                self.end()
             if text.startswith('office serve '):
                 status, told = self.serve(text)
             else:
@@ -134,6 +137,7 @@ class Runner:
     def serve(self, text):
         """Starts a service: 0 and its first line once it has one."""
         self.end()
+        self.store = (re.findall(r'--db[ =](\S+)', text) or [None])[0]
         told = self.copy.parent / 'service'
         with open(told, 'wb') as output:
             self.service = subprocess.Popen(['bash', '-c', 'exec ' + text], cwd=self.copy, stdin=subprocess.DEVNULL,
@@ -149,7 +153,7 @@ class Runner:
         if self.service and self.service.poll() is None:
             self.service.send_signal(signal.SIGTERM)
             self.service.wait()
-        self.service = None
+        self.service = self.store = None
 
     def judge(self, command, status, told):
         """Counts a command, and tells what is wrong with it."""
@@ -172,7 +176,10 @@ def main():
         subprocess.run(['sh', '-c', GIVEN[document]], cwd=copy, check=True)
     try:
         for block in blocks(document, (copy / document).read_text()):
-            runner.block(commands(document, block))
+            found = commands(document, block)
+            if not found:
+                print(f'not run: {document}:{block[0][0]}: {block[0][1].strip()[:60]}: it is a block without a command')
+            runner.block(found)
     finally:
         runner.end()
     print(f'{runner.passed} passed, {runner.failed} failed')

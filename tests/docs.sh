@@ -32,7 +32,8 @@ for document in README.md docs/MANUAL.md docs/FIRST_WEEK.md share/man/office.1; 
     copy=$work/copy
     rm -rf "$copy"
     mkdir "$copy"
-    (cd "$top" && git ls-files -z -co --exclude-standard | xargs -0 cp --parents -t "$copy")
+    # A file that is removed and not yet committed is listed too: what isn't there isn't copied.
+    (cd "$top" && git ls-files -z -co --exclude-standard | tar --null -T - -cf - 2> /dev/null) | tar xf - -C "$copy"
     python3 "$top/tests/docs.py" "$copy" "$document" > "$work/told" || true
     sed '$d' "$work/told"
     last=$(tail -n 1 "$work/told")

@@ -93,7 +93,8 @@ def quotations():
 
 def counted():
     """The lines of definitions that are believed and those that are steps, as trusted.py counts them."""
-    told = subprocess.run([sys.executable, TOP / 'tests' / 'trusted.py', TOP], capture_output=True, text=True, check=True)
+    command = [sys.executable, TOP / 'tests' / 'trusted.py', TOP]
+    told = subprocess.run(command, capture_output=True, text=True, check=True)
     return [f'{int(n):,}' for n in told.stdout.strip().split('\n')[-1].split()[2:4]]
 
 def main():
