@@ -175,7 +175,7 @@ module _ (setup : Lists) (old new : Content) (orders : List RunOrder) (f : FactL
       let n : ℕ = length new.reports in
       let are : orders ≡ orders_to setup old.kept n = leaves.first.same ∙ ap (orders_to setup old.kept) (leaves.all ∙ sym leaves.more) in
       let covered = stands_for_covered setup old.kept n f new.testing places
-          (subst (λ (os : List RunOrder). StandsFor f (said_within setup old.kept (cover_of os) (length setup.senders)) new.testing) are stand.stand) in
+      (subst (λ (os : List RunOrder). StandsFor f (said_within setup old.kept (cover_of os) (length setup.senders)) new.testing) are stand.stand) in
       record {
         facts = f;
         kept = record { stand = subst (λ (k : Kept). StandsFor f (covered_items setup k n) new.testing) (sym leaves.mail) covered; only = stand.only };

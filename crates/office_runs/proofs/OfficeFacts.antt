@@ -148,7 +148,13 @@ nothing_in (x ∷ xs) none = absurd (none x (at_front x x xs refl))
 none_stand : (t : Testing) → KeptFacts no_facts [] t
 none_stand t = record {
   stand = record {
-    sources = refl; rows = refl; drops = refl; bugs = refl; hints = refl; unhints = refl; delays = refl;
+    sources = refl;
+    rows = refl;
+    drops = refl;
+    bugs = refl;
+    hints = refl;
+    unhints = refl;
+    delays = refl;
     are_uploads = λ u c. none_among u c;
     counted = λ u c h. none_among u c;
   };
