@@ -7,14 +7,9 @@ mod chains;
 mod failing;
 mod noting;
 mod office_over;
-mod replay_trials;
 mod replaying;
-mod request_trials;
 mod sitting;
 mod steps;
-mod stop_trials;
-mod stopping;
-mod trials;
 
 use deb_version::NoMemory;
 use noting::in_noting;
@@ -22,10 +17,9 @@ use office_over::{in_memory, in_tables};
 use sitting::tells_asked;
 use std::alloc::Global;
 use std::io;
-use trials::put_trials;
 
-/// What a row prints: what came of it in memory, what came of it over tables, where that is something else, and what
-/// came of its trials; or what came of it in memory, and which mail was asked for.
+/// What a row prints: what came of it in memory, and what came of it over tables, where that is something else; or what
+/// came of it in memory, and which mail was asked for.
 fn shown(alloc: Global, row: &str) -> Result<Vec<u8>, NoMemory> {
     if tells_asked(row) {
         return in_noting(alloc, row);
@@ -36,7 +30,6 @@ fn shown(alloc: Global, row: &str) -> Result<Vec<u8>, NoMemory> {
         shown.extend_from_slice(b"over tables:\n")?;
         shown.extend_from_slice(&told)?;
     }
-    put_trials(alloc, row, &mut shown)?;
     Ok(shown)
 }
 

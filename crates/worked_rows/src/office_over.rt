@@ -12,13 +12,6 @@ use std::alloc::Global;
 /// What parts the sittings of a row.
 const REOPEN: &str = "\n> reopen";
 
-/// An office in memory without mail.
-pub fn new_office(alloc: Global, setup: &Setup) -> Result<Office<Plain>, NoMemory> {
-    let setup = setup.copy(alloc)?;
-    let plain = Plain::new(alloc, &setup)?;
-    Ok(Office::new(alloc, setup, plain))
-}
-
 /// What comes of a row in one office in memory, which stands from its first step to its last.
 pub fn in_memory(alloc: Global, row: &str) -> Result<Vec<u8>, NoMemory> {
     let mut came = Vec::new(alloc);

@@ -61,8 +61,7 @@ pub fn sit<K: Keeper>(
     Ok(())
 }
 
-/// Takes one step: mail or a request. What is told before an opening or behind the last step is none, nor is a trial,
-/// which is made in offices of its own.
+/// Takes one step: mail or a request. What is told before an opening or behind the last step is none.
 fn take<K: Keeper>(
     alloc: Global,
     office: &mut Office<K>,
@@ -78,7 +77,7 @@ fn take<K: Keeper>(
         serve_in(alloc, office, &plain_bytes(alloc, text)?, came)
     } else if let Some(what) = what.strip_prefix("http ") {
         serve_in(alloc, office, &request_of(alloc, what, text)?, came)
-    } else if is_told(what) || is_trial(what) {
+    } else if is_told(what) {
         Ok(())
     } else {
         take_call(alloc, office, what, text, came)
@@ -98,11 +97,6 @@ pub fn tells_facts(steps: &str) -> bool {
 /// Whether it is told which mail these steps ask a store for.
 pub fn tells_asked(steps: &str) -> bool {
     steps.lines().last() == Some("> asked")
-}
-
-/// Whether a step is made by [`crate::trials`].
-fn is_trial(what: &str) -> bool {
-    what.starts_with("each ") || what.starts_with("stop ")
 }
 
 /// Takes one step: the bag of a chain, one of which a read or a write fails, or a call of the office by itself.

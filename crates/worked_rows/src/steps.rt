@@ -1,23 +1,11 @@
 //! Steps but for replays: a request, and the calls of an office one by one.
 
 use crate::bytes::put_visible;
-use crate::failing::{Broken, Halting};
 use deb_version::NoMemory;
-use office_http::{Office, Progress, ServeFault, Served, StoreFault, serve_one};
+use office_http::{Office, Progress, StoreFault, serve_one};
 use office_mail::{FromRead, ToWrite};
 use office_store::{KeepFault, Keeper};
 use std::alloc::Global;
-
-/// Serves the request that a reader gives, to a writer.
-pub fn serve_over<K: Keeper>(
-    office: &mut Office<K>,
-    reader: &mut Broken<'_>,
-    writer: &mut Halting,
-) -> Result<Served, ServeFault> {
-    let mut sink = ToWrite::new(writer);
-    let mut feed = FromRead::new(reader);
-    serve_one(office, &mut feed, &mut sink)
-}
 
 /// Serves a request, and adds how many bytes are replied, and these, each carriage return as `\r`.
 pub fn serve_in<K: Keeper>(
@@ -26,12 +14,14 @@ pub fn serve_in<K: Keeper>(
     request: &[u8],
     came: &mut Vec<u8>,
 ) -> Result<(), NoMemory> {
-    let mut writer = Halting::sound(alloc);
-    let is_served = serve_over(office, &mut Broken::sound(request), &mut writer).is_ok();
+    let mut output = Vec::new(alloc);
+    let mut writer = ToWrite::new(&mut output);
+    let mut reader = FromRead::new(request);
+    let is_served = serve_one(office, &mut reader, &mut writer).is_ok();
     let word = if is_served { "reply" } else { "failed" };
-    let line = format!(in alloc; "{word} of {} bytes\n", writer.taken.len())?;
+    let line = format!(in alloc; "{word} of {} bytes\n", output.len())?;
     came.extend_from_slice(line.as_bytes())?;
-    put_visible(came, &writer.taken)?;
+    put_visible(came, &output)?;
     came.push(b'\n')?;
     Ok(())
 }
