@@ -18,6 +18,7 @@ type Least = [u32; 16];
 const NONE: Least = [u32::MAX; 16];
 
 /// A store in memory, what it was asked for since a run was finished, and what for in the time before that.
+#[derive(Drop)]
 pub struct Noting {
     plain: Plain,
     now: Least,
