@@ -40,10 +40,11 @@ try() {
     PLANT=$fault timeout 300 python3 "$here/$check" "$work/office" "$@" > "$work/told" 2>&1 < /dev/null || status=$?
     if [ "$status" -eq 1 ] && grep -q '^FAIL' "$work/told"; then
         passed=$((passed + 1))
-        echo "seen: $fault by $check, $(tail -n 1 "$work/told"): $(grep -m 1 '^FAIL' "$work/told" | cut -c 1-100)"
+        first=$(grep -m 1 '^FAIL' "$work/told" | cut -c 1-100)
+        printf 'seen: %s by %s, %s: %s\n' "$fault" "$check${ONLY:+ ($ONLY)}" "$(tail -n 1 "$work/told")" "$first"
     else
         failed=$((failed + 1))
-        echo "NOT SEEN: $fault by $check, status $status: $(tail -n 1 "$work/told")"
+        echo "NOT SEEN: $fault by $check${ONLY:+ ($ONLY)}, status $status: $(tail -n 1 "$work/told")"
     fi
 }
 
