@@ -161,27 +161,29 @@ ssize_t write(int fd, const void *from, size_t n)
     return done == (ssize_t)length ? (ssize_t)n : done;
 }
 
+/* The connection to which another reply was written than the program's. */
+static int answered = -1;
+
+/* A reply goes out in pieces, of which the second is its status, and the last one the line end of its text. */
 ssize_t send(int fd, const void *from, size_t n, int how)
 {
     char line[128], reply[512];
+    const char *piece = from;
     REAL("send", sends);
-    size_t length = n;
-    const void *bytes = from;
-    if (n > 12 && begins(from, "HTTP/1.1 50") && planted("lost_is_held")) {
-        int told = held_line(line, sizeof line, 0);
-        if (told > 0) {
-            length = (size_t)snprintf(reply, sizeof reply, "HTTP/1.1 200 OK\r\nContent-Type: text/plain; charset=utf-8\r\n"
-                "Content-Length: %d\r\nConnection: close\r\n\r\n%s", told, line);
-            bytes = reply;
-        }
+    if (fd == answered)
+        return (ssize_t)n;
+    int told = n == 3 && piece[0] == '5' && planted("lost_is_held") ? held_line(line, sizeof line, 0) : 0;
+    if (told > 0) {
+        int length = snprintf(reply, sizeof reply, "200 OK\r\nContent-Type: text/plain; charset=utf-8\r\n"
+            "Content-Length: %d\r\nConnection: close\r\n\r\n%s", told, line);
+        answered = fd;
+        return real(fd, reply, (size_t)length, how) == length ? (ssize_t)n : -1;
     }
-    if (n > 1 && planted("cut_reply"))
-        length--;
-    ssize_t done = real(fd, bytes, length, how);
+    if (n == 1 && piece[0] == '\n' && planted("cut_reply"))
+        return 1;
+    ssize_t done = real(fd, from, n, how);
     catch_up();
-    memset(taken, 0, taken_bytes);
-    taken_bytes = 0;
-    return done == (ssize_t)length ? (ssize_t)n : done;
+    return done;
 }
 
 int listen(int fd, int waiting)
@@ -233,5 +235,10 @@ int close(int fd)
 {
     REAL("close", syncs);
     catch_up();
+    if (serves) {
+        memset(taken, 0, taken_bytes);
+        taken_bytes = 0;
+        answered = -1;
+    }
     return real(fd);
 }
