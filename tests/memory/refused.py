@@ -299,7 +299,8 @@ def try_service(folder, name, texts):
     global runs
     rules = Rules(folder, texts)
     lines, ready, reports, testing = rules.whole
-    exchanges = [(post(text), line) for text, line in zip(texts, lines)] * 2 + [(get(b"testing"), testing)]
+    posts = [(post(text), line) for text, line in zip(texts, lines)]
+    exchanges = posts + [(get(b"testing"), testing)]
     for k, two in enumerate(reports, 1):
         exchanges += [(get(b"excuses/%d" % k), two[0]), (get(b"update/%d" % k), two[1])]
     refused = 0
@@ -307,8 +308,12 @@ def try_service(folder, name, texts):
     while True:
         runs += 1
         what = "%s, as a service, growth %d" % (name, at)
-        service = Service(folder, at, len(exchanges) + 1)
+        service = Service(folder, at, len(posts) + len(exchanges) + 2)
         if service.listens:
+            for request, body in posts:
+                want(what + ", " + request.split(b"\r\n")[0].decode(), reply_of(200, b"OK", body), service.ask(request))
+            # What was held makes its runs ready before any post is made again.
+            want(what + ", ready", True, b"\r\n\r\nready %d finished " % ready in service.ask(get(b"status")))
             for request, body in exchanges:
                 want(what + ", " + request.split(b"\r\n")[0].decode(), reply_of(200, b"OK", body), service.ask(request))
             if not service.short:

@@ -63,7 +63,7 @@ def post(text):
 
 
 def status(port):
-    return exchange(port, b"GET /status HTTP/1.1\r\nHost: x\r\n\r\n").split(b"\r\n\r\n", 1)[1]
+    return exchange(port, b"GET /status HTTP/1.1\r\nHost: x\r\n\r\n").split(b"\r\n\r\n", 1)[-1]
 
 
 def early_end(port, request):
