@@ -88,30 +88,6 @@ def replayed(office, what, text, stated):
     return "%sstatus %d\n" % (out, status)
 
 
-def is_trial(what):
-    return what.startswith(("each ", "stop "))
-
-
-def tried(lines, printed):
-    """The lines of a row's trials, where its first step prints this: how many runs there are until no call fails."""
-    (kind, text), lines = steps_of(lines)[0], [what for what, _ in steps_of(lines) if is_trial(what)]
-    out = ""
-    for what in lines:
-        call, most = what.split()[1:]
-        if what.startswith("each read "):
-            # A bag is read to its end, which takes a read that gives no byte; a request's last byte is known.
-            bag = bag_of("bytes" if kind == "request" else kind, text)
-            runs = -(-len(bag) // int(most)) + (1 if kind == "request" else 2)
-            out += "%s: %d runs, 0 faults\n" % (what, runs)
-        elif what.startswith("each ") and most == "1":
-            output = re.match("reply of ([0-9]+) bytes\n", printed)
-            size = int(output.group(1)) if output else printed.index("status ")
-            out += "%s: %d runs, 0 faults\n" % (what, size + 1)
-        else:
-            out += "%s: 0 faults\n" % what
-    return out
-
-
 def judged(lines, statement):
     """What the model prints for a row, or None where the row has a step that it doesn't know."""
     parts, office, out = [], Office(), ""
@@ -120,7 +96,7 @@ def judged(lines, statement):
             parts.append([])
         parts[-1].append(line)
     for what, text in steps_of(lines):
-        if what == "reopen" or is_trial(what):
+        if what == "reopen":
             continue
         if what == "asked":
             out += "".join(line + "\n" for line in statement.split("\n") if line.startswith("asked "))
@@ -131,7 +107,7 @@ def judged(lines, statement):
         if bag_of(what, text) is None:
             return None
         out += replayed(office, what, text, parts.pop(0) if parts else [])
-    return out + tried(lines, out)
+    return out
 
 
 def agrees(statement, due):
@@ -149,9 +125,6 @@ def all_rows():
     rows, stated = rows_of(read(CRATE, "stdin")), rows_of(read(HERE, "statements"))
     assert [name for name, _ in rows] == [name for name, _ in stated], "the rows and the statements have other names"
     assert len({name for name, _ in rows}) == len(rows), "two rows have one name"
-    for (name, lines), (_, statement) in zip(rows, stated):
-        assert not is_whole(statement) or statement.endswith(tried(lines, statement)), \
-            "%s: other trials are due than the statement says" % name
     return [(name, lines, statement) for (name, lines), (_, statement) in zip(rows, stated)]
 
 
