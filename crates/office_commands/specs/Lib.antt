@@ -1,3 +1,1 @@
-pub mod Conf
 pub mod Service
-pub mod Store

@@ -1,9 +1,8 @@
 //! What the program's words ask for: a comparison, or a replay or a service over a store.
 
-use crate::conf::{conf_status, read_setup};
 use crate::noted::Noted;
 use crate::service::{serve, service_status};
-use crate::store::{StoreFault, close_store, open_store, store_status};
+use office_files::{StoreFault, close_store, conf_status, open_store, read_setup, store_status};
 use office_http::{Office, Replayed, WriteFault, replay, replay_status};
 use office_mail::{Bag, BagFault, FromRead, Setup, ToWrite};
 use office_store::{Keeper, Plain, Tables};

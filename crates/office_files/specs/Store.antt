@@ -14,8 +14,8 @@ use Rattle.office_store.specs.Tables.{IsTrusted}
 use Rattle.office_keeper.specs.declared.faults.Cause.TheVariants.{BadRow, Sqlite}
 use Rattle.office_store.specs.declared.opening.OpenFault.{OpenFault}
 use Rattle.office_store.specs.declared.opening.OpenFault.TheVariants as opening
-use Rattle.office_commands.specs.declared.store.StoreFault.{StoreFault}
-use Rattle.office_commands.specs.declared.store.StoreFault.TheVariants as fault
+use Rattle.office_files.specs.declared.store.StoreFault.{StoreFault}
+use Rattle.office_files.specs.declared.store.StoreFault.TheVariants as fault
 
 -- what a fault of opening the tables is told as; a bad row never is one
 abbrev pub told : OpenFault → StoreFault

@@ -1,5 +1,5 @@
 use Rattle.std.proofs.Common.{arith}
-use Rattle.office_commands.proofs.store.open_store.Goals as goal
+use Rattle.office_files.proofs.store.open_store.Goals as goal
 
 pub returns-clause-finds : goal.returns-clause-finds
 returns-clause-finds g c trusted =

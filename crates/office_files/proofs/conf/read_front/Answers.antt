@@ -1,6 +1,6 @@
 use Rattle.std.proofs.Common.{rules, ◌≡◌, IfSome, subst}
-use Rattle.office_commands.proofs.Front.{of_limited}
-use Rattle.office_commands.proofs.conf.read_front.Goals as goal
+use Rattle.office_files.proofs.Front.{of_limited}
+use Rattle.office_files.proofs.conf.read_front.Goals as goal
 
 -- src/conf.rt:41:1
 pub returns : goal.returns

@@ -1,7 +1,7 @@
 -- Setups read from a file, and exit statuses.
 use Rattle.std.specs.Prelude.{ℕ, Option, List, take, Result, Ok, Err}
-use Rattle.office_commands.specs.declared.conf.ConfFault.{ConfFault}
-use Rattle.office_commands.specs.declared.conf.ConfFault.TheVariants.{Refused, Unreadable}
+use Rattle.office_files.specs.declared.conf.ConfFault.{ConfFault}
+use Rattle.office_files.specs.declared.conf.ConfFault.TheVariants.{Refused, Unreadable}
 use Rattle.office_mail.specs.declared.setup.SetupFault.{SetupFault}
 use Rattle.office_mail.specs.declared.setup.SetupFault.TheVariants.{BadParagraph, MissingField, BadArchitecture, BadSender, BadRoles, TooMany, NoMemory}
 

@@ -10,7 +10,7 @@ ghost use Rattle.sqlite.specs.WalFiles.{image_at};
 ghost use Rattle.office_store.specs.Layout.{has_none, HasEach};
 ghost use Rattle.office_store.specs.Opening.{IsOpened, IsAlone};
 ghost use Rattle.office_store.specs.Tables.{IsTrusted, Endures};
-ghost use Rattle.office_commands.specs.Store.{FindsStore, OpensStore, status_of_store, told};
+ghost use Rattle.office_files.specs.Store.{FindsStore, OpensStore, status_of_store, told};
 
 use office_mail::Setup;
 use office_store::{Cause, OpenFault, Tables};

@@ -1,0 +1,2 @@
+pub mod Conf
+pub mod Store
