@@ -7,7 +7,7 @@ OFFICE is the built program, `crates/office/out/office`. It is run with `refuse.
 bags: over a store in memory, over a store in a file, and as a service. For each N from 1 on, by STEP (1), until a run
 meets no refusal: what is printed is what the rules give for the marks that its own lines show, and the exit status is 4
 where anything was lost, else 0. Then the same bag with ample memory, over the same store, leaves the row's testing and
-reports.
+reports. A store of schema 1 is opened so too: it is then of schema 1 or 2, and goes on by the delays that were kept.
 
 PARTS is a built program that judges itself: it prints a line `PART: right` for each of its parts. Each of its growths is
 refused in turn too, and each run must print what it prints with ample memory, with the same status.
@@ -24,6 +24,9 @@ import sys
 import tempfile
 
 HERE = os.path.dirname(os.path.abspath(__file__))
+sys.dont_write_bytecode = True
+sys.path.insert(0, os.path.dirname(HERE))
+import old_store
 program = os.path.abspath(sys.argv[1])
 step = int(sys.argv[2]) if len(sys.argv) > 2 else 1
 judge = os.path.abspath(sys.argv[3]) if len(sys.argv) > 3 else None
@@ -231,6 +234,34 @@ def try_replays(folder, name, texts, in_file):
     return refused
 
 
+def try_old_store(folder):
+    """Each growth of an opening of a store of schema 1 refused in turn, and then all from there on."""
+    db, old, room = (os.path.join(folder, name) for name in ("store", "old", "room"))
+    old_store.remove(db)
+    replay(folder, db, old_store.TEXTS)
+    old_store.make_old(db)
+    old_store.copy(db, old)
+    refused = 0
+    for lasting in (False, True):
+        at = 1
+        while True:
+            what = "a store of schema 1, %s %d" % ("from" if lasting else "growth", at)
+            old_store.copy(old, db)
+            output, status, grown = replay(folder, db, [], at, 2 ** 62 if lasting else at)
+            if grown < at:
+                want(what + ", with none refused", (b"ready 1 finished 1\ntesting 1\n", 0), (output, status))
+                break
+            refused += 1
+            found = old_store.held_in(db, room)
+            want(what + ", is the old one or the new one", True, found in (old_store.OLD, old_store.NEW))
+            output, status, _ = replay(folder, db, [old_store.NEXT_ORDER])
+            want(what + ", opened again", (True, 0), (output.endswith(old_store.TESTING), status))
+            schema, delays, _, reports = old_store.held_in(db, room)
+            want(what + ", goes on", (2, [1], old_store.REPORTS), (schema, delays, reports))
+            at += step
+    return refused
+
+
 def all_of(connection):
     taken = b""
     while True:
@@ -375,6 +406,8 @@ with tempfile.TemporaryDirectory() as folder:
             counted(name, "in a file", try_replays(folder, name, texts, True))
         if "service" in only:
             counted(name, "as a service", try_service(folder, name, texts))
+    if "file" in only and rows in "a store of schema 1":
+        counted("a store of schema 1", "opened", try_old_store(folder))
     if judge and "parts" in only:
         print("a program that judges itself: %d refusals" % try_parts(folder), flush=True)
 for fault in faults[:40]:

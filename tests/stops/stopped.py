@@ -6,8 +6,12 @@
 OFFICE is the built program, `crates/office/out/office`. It is run with `stop.c` before it (compiled by `cc`), on the
 mail of two runs, for each call N from 1 on, by STEP (1), until a run meets no stop. Each reply is the due one or that
 the store failed. A copy of the store, read by Python's sqlite3, has what was answered held, with or without the text in
-hand, and the reports of its finished runs. Then the whole bag again ends in the two runs' testing and reports. Exit
-status 0 where all was so.
+hand, and the reports of its finished runs. Then the whole bag again ends in the two runs' testing and reports.
+
+A store of schema 1 is stopped while it is opened, in the same ways. It is then of schema 1 or 2, with the same mail and
+reports, and the next opening makes it one of schema 2, which goes on by the delays that were kept.
+
+Exit status 0 where all was so.
 """
 import os
 import re
@@ -18,6 +22,9 @@ import sys
 import tempfile
 
 HERE = os.path.dirname(os.path.abspath(__file__))
+sys.dont_write_bytecode = True
+sys.path.insert(0, os.path.dirname(HERE))
+import old_store
 program = os.path.abspath(sys.argv[1])
 step = int(sys.argv[2]) if len(sys.argv) > 2 else 1
 SETUP = b"Architectures: amd64 arm64\n" + b"".join(b"\nSender: %s\nRole: %s\n" % pair for pair in (
@@ -154,6 +161,34 @@ def try_stop(folder, at, how):
     return True
 
 
+def try_old_store(folder, at, how):
+    """An opening of a store of schema 1 that stops; False where it met no stop."""
+    what = "a store of schema 1, %s at %d" % (how, at)
+    store = os.path.join(folder, "store")
+    old_store.copy(os.path.join(folder, "old"), store)
+    output, status, calls = replay(folder, [], at, how)
+    if calls < at:
+        want(what + ", with no stop", (b"ready 1 finished 1\ntesting 1\n", 0), (output, status))
+        return False
+    want(what + ", status", 4 if how == "fails" else 137, status)
+    found = old_store.held_in(store, os.path.join(folder, "room"))
+    want(what + ", is the old one or the new one", True, found in (old_store.OLD, old_store.NEW))
+    output, status, _ = replay(folder, [old_store.NEXT_ORDER])
+    want(what + ", opened again", (True, 0), (output.endswith(old_store.TESTING), status))
+    schema, delays, _, reports = old_store.held_in(store, os.path.join(folder, "room"))
+    want(what + ", goes on", (2, [1], old_store.REPORTS), (schema, delays, reports))
+    return True
+
+
+def make_old_store(folder):
+    """The file `old`: a store of schema 1, closed."""
+    old_store.remove(os.path.join(folder, "store"))
+    output, status, _ = replay(folder, old_store.TEXTS)
+    want("a store to be made one of schema 1", (True, 0), (output.endswith(b"testing 1\n"), status))
+    old_store.make_old(os.path.join(folder, "store"))
+    old_store.copy(os.path.join(folder, "store"), os.path.join(folder, "old"))
+
+
 with tempfile.TemporaryDirectory() as folder:
     shim = os.path.join(folder, "stop.so")
     subprocess.run(["cc", "-O1", "-shared", "-fPIC", "-o", shim, os.path.join(HERE, "stop.c"), "-ldl"], check=True)
@@ -164,6 +199,12 @@ with tempfile.TemporaryDirectory() as folder:
         while try_stop(folder, at, how):
             at += step
         print("%s: %d stops" % (how, (at - 1) // step), flush=True)
+    make_old_store(folder)
+    for how in ("fails", "ends"):
+        at = 1
+        while try_old_store(folder, at, how):
+            at += step
+        print("a store of schema 1, %s: %d stops" % (how, (at - 1) // step), flush=True)
 for fault in faults[:40]:
     print("FAIL", fault[:600])
 print("%d faults" % len(faults))
