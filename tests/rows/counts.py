@@ -131,9 +131,9 @@ def main():
         runs += some
         for what, count in counts.items():
             sums[what] += count
-    print("%d rows of %d runs, opened again %d times" % (len(rows), runs, text.count("\n> reopen\n")))
     for what, count in sums.items():
         print("%5d %s%s" % (count, what, "" if count >= ENOUGH else ": too few"))
+    print("%d rows of %d runs, opened again %d times" % (len(rows), runs, text.count("\n> reopen\n")))
     return 1 if min(sums.values()) < ENOUGH else 0
 
 
