@@ -1,14 +1,16 @@
 -- The rows that a run keeps of its facts.
-use Rattle.std.proofs.Common.{◌≡◌, ℕ, Option, Some, None, IsSome, sym, ap, ◌∙◌, refl, arith}
+use Rattle.std.proofs.Common.{◌≡◌, ℕ, ◌+◌, ◌<◌, ◌≤◌, Bool, true, false, cond, List, [], ◌∷◌, Option, Some, None, IsSome, sym, ap, subst, ◌∙◌, refl, arith}
 use Rattle.std.specs.Prelude.{⊤, Contains, is_some, if◌then◌else◌, option_to_list}
 use Rattle.std.specs.FinMap.{get}
-use Rattle.testing_model.proofs.Sets.{mapped_from}
+use Rattle.std.proofs.lemmas.List.Sums.{sum_by-cons}
+use Rattle.testing_items.proofs.Members.{tail_of}
+use Rattle.testing_model.proofs.Sets.{at_front, mapped_from}
 use Rattle.testing_model.specs.declared.fact_row.FactRow.{FactRow}
 use Rattle.testing_model.specs.declared.fact_row.FactChanges.{FactChanges}
 use Rattle.testing_model.specs.declared.facts.DelaysIn.{DelaysIn}
 use Rattle.testing_model.specs.FactDifference.{IsChangedFrom, IsDifference}
 use Rattle.testing_model.specs.FactLists.{FactLists}
-use Rattle.testing_model.specs.FactRows.{delays_row, rows_of, times}
+use Rattle.testing_model.specs.FactRows.{delays_row, is_row, rows_of, times}
 use Rattle.testing_model.specs.SameMessages.{HasOneOfEach}
 use Rattle.testing_model.specs.Tells.{Tells}
 use Rattle.testing_rules.specs.Covered.{Covered}
@@ -22,11 +24,19 @@ use Rattle.office_mail.specs.Lists.{Lists}
 use Rattle.office_mail.specs.Setup.{count_of, place_of_role}
 use Rattle.office_keeper.specs.FactSet.{FactSet, HasRow, count_in, facts_after, AreHoldable}
 use Rattle.office_keeper.specs.Provenance.{AreOwnTexts}
-use Rattle.office_keeper.proofs.FactSets.{count-after}
+use Rattle.office_keeper.proofs.FactSets.{count-after, row_same}
 use Rattle.office_runs.specs.Known.{said_all}
-use Rattle.office_runs.proofs.KnownStand.{counted_among}
 use Rattle.office_runs.proofs.SaidFacts.{told_by_release}
 use Rattle.office_runs.proofs.WalkFacts.{in_option}
+
+first_counted : (b : Bool) (r x : FactRow) (xs : List FactRow) → is_row r x ≡ b → 0 < cond b 1 0 + times r xs → (0 < times r xs → Contains xs r) → Contains (x ∷ xs) r
+first_counted true r x xs e h rest = at_front x r xs (row_same r x e)
+first_counted false r x xs e h rest = tail_of x xs r (rest (omega (arith, h)))
+
+-- a row that is counted is there
+some_counted : (r : FactRow) (xs : List FactRow) → 0 < times r xs → Contains xs r
+some_counted r [] h = absurd (omega (arith, h))
+some_counted r (x ∷ xs) h = first_counted (is_row r x) r x xs refl (subst (λ n. 0 < n) (sum_by-cons (λ (y : FactRow). cond (is_row r y) 1 0) x xs) h) (some_counted r xs)
 
 abbrev row_count : Option ⊤ → ℕ
 row_count o = if is_some o then 1 else 0
@@ -48,7 +58,7 @@ module _ (setup : Lists) (facts : FactSet) (s : Covered) (f : FactLists) (change
   stands r h =
       let is : count_in (facts_after changes facts) r ≡ 1 = counted_once (get (facts_after changes facts) r) h in
       let n : times r (rows_of f) ≡ 1 = sym (count_is r) ∙ is in
-      counted_among r (rows_of f) (omega (arith, n))
+      some_counted r (rows_of f) (omega (arith, n))
 
   -- and a store has a place for them, where the release team tells the delays
   pub holdable : ((r : FactRow) → Contains (rows_of f) r → r.kind ≡ 8 → r.sender ≡ place_of_role Release setup.senders) → AreHoldable setup (facts_after changes facts)

@@ -49,8 +49,7 @@ counts_first : (b : Bool) (r x : FactRow) (xs : List FactRow) → is_row r x ≡
 counts_first true r x xs e h rest = at_front x r xs (row_same r x e)
 counts_first false r x xs e h rest = tail_of x xs r (rest (omega (arith, h)))
 
--- a row that is counted is there
-pub counted_among : (r : FactRow) (xs : List FactRow) → 1 ≤ times r xs → Contains xs r
+counted_among : (r : FactRow) (xs : List FactRow) → 1 ≤ times r xs → Contains xs r
 counted_among r [] h = absurd (omega (arith, h))
 counted_among r (x ∷ xs) h = counts_first (is_row r x) r x xs refl (subst (λ n. 1 ≤ n) (sum_by-cons (λ y. cond (is_row r y) 1 0) x xs) h) (counted_among r xs)
 
