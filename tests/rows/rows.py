@@ -99,7 +99,7 @@ def judged(lines, statement):
         if what == "reopen":
             continue
         if what == "asked":
-            out += "".join(line + "\n" for line in statement.split("\n") if line.startswith("asked "))
+            out += "".join(line + "\n" for line in statement.split("\n") if re.match("counted |asked ", line))
             continue
         if what == "facts":
             out += office.told()
@@ -120,12 +120,19 @@ def is_whole(statement):
     return OMITTED not in statement.split("\n")
 
 
+def random_rows():
+    """The random rows: the name and the lines of each."""
+    return rows_of(read(CRATE, "data/random_rows"))
+
+
 def all_rows():
-    """Each row: its name, its lines, its statement."""
+    """Each row: its name, its lines, its statement. Of a random row nothing is stated."""
     rows, stated = rows_of(read(CRATE, "stdin")), rows_of(read(HERE, "statements"))
     assert [name for name, _ in rows] == [name for name, _ in stated], "the rows and the statements have other names"
-    assert len({name for name, _ in rows}) == len(rows), "two rows have one name"
-    return [(name, lines, statement) for (name, lines), (_, statement) in zip(rows, stated)]
+    all_of_them = [(name, lines, statement) for (name, lines), (_, statement) in zip(rows, stated)]
+    all_of_them += [(name, lines, OMITTED + "\n") for name, lines in random_rows()]
+    assert len({name for name, _, _ in all_of_them}) == len(all_of_them), "two rows have one name"
+    return all_of_them
 
 
 def due(lines, statement):

@@ -1,5 +1,6 @@
-//! The worked rows of the office: mail and requests from standard input, and what comes of them. A row is run in an
-//! office in memory, and once more over tables of sqlite, where both must print the same.
+//! The worked rows of the office: mail and requests, and what comes of them. Those that were written by hand come from
+//! standard input, and random ones from a file. A row is run in an office in memory, and once more over tables of sqlite,
+//! where both must print the same.
 #![tactic(auto)]
 
 mod bytes;
@@ -16,7 +17,10 @@ use noting::in_noting;
 use office_over::{in_memory, in_tables};
 use sitting::tells_asked;
 use std::alloc::Global;
-use std::io;
+use std::{fs, io};
+
+/// The file of the random rows.
+const RANDOM_ROWS: &str = "random_rows";
 
 /// What a row prints: what came of it in memory, and what came of it over tables, where that is something else; or what
 /// came of it in memory, and which mail was asked for.
@@ -46,13 +50,19 @@ fn show(rt: &HostRuntime, row: &str) -> io::Result<()> {
     print!(rt; "{shown}")
 }
 
-fn main(rt: HostRuntime) -> io::Result<()> {
-    let text = io::read_to_string(rt.alloc(), rt.stdin())?;
-    let text = text.as_str();
+/// Runs each row of a text.
+fn show_all(rt: &HostRuntime, text: &str) -> io::Result<()> {
     let text = text.strip_suffix('\n').unwrap_or(text);
     let text = text.strip_prefix("=== ").unwrap_or(text);
     for row in text.split("\n=== ") {
-        show(&rt, row)?;
+        show(rt, row)?;
     }
     Ok(())
+}
+
+fn main(rt: HostRuntime) -> io::Result<()> {
+    let text = io::read_to_string(rt.alloc(), rt.stdin())?;
+    show_all(&rt, text.as_str())?;
+    let text = fs::read_to_string(&rt, RANDOM_ROWS)?;
+    show_all(&rt, text.as_str())
 }

@@ -2,6 +2,7 @@
 ghost use Rattle.std.specs.Prelude.{⊤};
 ghost use Rattle.office_keeper.specs.MemoryState.{content_of};
 
+use crate::office_over::REOPEN;
 use crate::sitting::{setup_in, sit};
 use deb_version::NoMemory;
 use office_http::Office;
@@ -17,12 +18,26 @@ type Least = [u32; 16];
 /// Nothing was asked for.
 const NONE: Least = [u32::MAX; 16];
 
-/// A store in memory, what it was asked for since a run was finished, and what for in the time before that.
+/// What a store was asked for on the way to a run's end: before it was asked for its rows of facts, where it was, and
+/// since then.
+#[derive(Clone, Copy)]
+struct Notes {
+    counted: Least,
+    asked: Least,
+}
+
+/// It was asked for nothing.
+const NOTHING: Notes = Notes {
+    counted: NONE,
+    asked: NONE,
+};
+
+/// A store in memory, what it was asked for since a run was finished, and what for on the way to that run's end.
 #[derive(Drop)]
 pub struct Noting {
     plain: Plain,
-    now: Least,
-    before: Least,
+    now: Notes,
+    before: Notes,
 }
 
 /// Notes a number of a sender.
@@ -50,7 +65,7 @@ impl Keeper for Noting {
     ghost disk_faults = { λ _. 0 };
 
     fn find(&mut self, sender: u32, number: u32) -> Result<Option<MailText>, KeepFault> {
-        note(&mut self.now, sender, number);
+        note(&mut self.now.asked, sender, number);
         self.plain.find(sender, number)
     }
 
@@ -63,13 +78,13 @@ impl Keeper for Noting {
     }
 
     fn load(&mut self, sender: u32, from: u32, to: u32) -> Result<Vec<Letter>, KeepFault> {
-        note(&mut self.now, sender, from);
+        note(&mut self.now.asked, sender, from);
         self.plain.load(sender, from, to)
     }
 
     fn finish(&mut self, run: u32, done: &Finished) -> Result<(), KeepFault> {
         self.before = self.now;
-        self.now = NONE;
+        self.now = NOTHING;
         self.plain.finish(run, done)
     }
 
@@ -82,12 +97,16 @@ impl Keeper for Noting {
     }
 
     fn facts(&mut self) -> Result<FactRows, KeepFault> {
+        self.now = Notes {
+            counted: self.now.asked,
+            asked: NONE,
+        };
         self.plain.facts()
     }
 }
 
-/// What comes of a row in an office in memory, and then, of each sender that was asked for during the run that was
-/// finished last, the least number.
+/// What comes of a row in an office in memory, which is made anew over its store where the row says so; and then, of each
+/// sender that was asked for on the way to the end of the last run, the least number.
 pub fn in_noting(alloc: Global, row: &str) -> Result<Vec<u8>, NoMemory> {
     let mut came = Vec::new(alloc);
     let Ok(setup) = Setup::parse(alloc, setup_in(row).as_bytes()) else {
@@ -95,20 +114,36 @@ pub fn in_noting(alloc: Global, row: &str) -> Result<Vec<u8>, NoMemory> {
     };
     let noting = Noting {
         plain: Plain::new(alloc, &setup)?,
-        now: NONE,
-        before: NONE,
+        now: NOTHING,
+        before: NOTHING,
     };
     let mut office = Office::new(alloc, setup, noting);
-    sit(alloc, &mut office, row, &mut came)?;
-    put_least(alloc, &office.into_keeper().before, &mut came)?;
+    for sitting in row.split(REOPEN) {
+        office = made_anew(alloc, office)?;
+        sit(alloc, &mut office, sitting, &mut came)?;
+    }
+    let notes = office.into_keeper().before;
+    put_least(alloc, "counted", &notes.counted, &mut came)?;
+    put_least(alloc, "asked", &notes.asked, &mut came)?;
     Ok(came)
 }
 
-/// Adds the least number of each sender, by its place, that was asked for.
-fn put_least(alloc: Global, least: &Least, came: &mut Vec<u8>) -> Result<(), NoMemory> {
+/// An office that knows nothing yet, over the store of another.
+fn made_anew(alloc: Global, office: Office<Noting>) -> Result<Office<Noting>, NoMemory> {
+    let setup = office.setup().copy(alloc)?;
+    Ok(Office::new(alloc, setup, office.into_keeper()))
+}
+
+/// Adds the least number of each sender, by its place, behind a word.
+fn put_least(
+    alloc: Global,
+    word: &str,
+    least: &Least,
+    came: &mut Vec<u8>,
+) -> Result<(), NoMemory> {
     for (sender, number) in least.iter().enumerate() {
         if *number < u32::MAX {
-            let line = format!(in alloc; "asked sender {sender} from {number}\n")?;
+            let line = format!(in alloc; "{word} sender {sender} from {number}\n")?;
             came.extend_from_slice(line.as_bytes())?;
         }
     }

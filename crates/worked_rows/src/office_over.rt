@@ -10,7 +10,7 @@ use sqlite::{Alter, Connection};
 use std::alloc::Global;
 
 /// What parts the sittings of a row.
-const REOPEN: &str = "\n> reopen";
+pub const REOPEN: &str = "\n> reopen";
 
 /// What comes of a row in one office in memory, which stands from its first step to its last.
 pub fn in_memory(alloc: Global, row: &str) -> Result<Vec<u8>, NoMemory> {
