@@ -34,7 +34,7 @@ UPDATES = [
 STYLE = """body { font-family: sans-serif; margin: 2em } table { border-collapse: collapse; margin-bottom: 2em }
 th, td { border: 1px solid #bbb; padding: .2em .6em; text-align: left; vertical-align: top } th { background: #eee }
 tr:target { background: #ffd } ul { margin: 0; padding-left: 1.2em } .no { color: #a00 } .yes { color: #060 }
-@media (max-width: 50em) { body { margin: .6em } thead { display: none }
+@media (max-width: 50em) { body { margin: .6em } h1 { font-size: 1.4em } thead { display: none }
 table, tbody, tr, td { display: block; overflow-wrap: anywhere } tr { border: 1px solid #bbb; margin-bottom: .8em }
 td { border: 0 } td:empty { display: none } td::before { content: attr(data-name) ": "; color: #666 } }"""
 
