@@ -243,8 +243,8 @@ def page(run, date, sources, changes, testing):
     text = '<!DOCTYPE html>\n<html lang="en">\n<head>\n<meta charset="utf-8">\n'
     text += '<meta name="viewport" content="width=device-width, initial-scale=1">\n'
     text += "<title>%s</title>\n<style>%s</style>\n</head>\n" % (title, STYLE)
-    text += '<body>\n<h1>%s</h1>\n<p><a href="#excuses">Excuses</a> (%d), <a href="#update">update</a> (%d lines), ' % (
-        title, len(sources), len(changes))
+    text += '<body>\n<h1>%s</h1>\n<p><a href="#excuses">Excuses</a> (%d), <a href="#update">update</a> (%d %s), ' % (
+        title, len(sources), len(changes), "line" if len(changes) == 1 else "lines")
     text += '<a href="#testing">testing</a></p>\n'
     heads = ["Source", "Testing", "Unstable", "Candidate", "Why", "See"]
     text += table("Excuses", "excuses", heads, excuse_rows(sources, known))
