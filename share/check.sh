@@ -67,10 +67,22 @@ links_are_there() {
     done
 }
 
-unit_is_known() {
-    sed 's|/usr/bin/office|/bin/true|; /^Documentation=/d' systemd/office.service > "$work/office.service"
-    systemd-analyze verify "$work/office.service"
+units_are_known() {
+    mkdir "$work/units" || return 1
+    for unit in systemd/*; do
+        sed 's|/usr/bin/office[a-z-]*|/bin/true|; /^Documentation=/d' "$unit" > "$work/units/${unit#systemd/}"
+    done
+    systemd-analyze verify "$work"/units/*
 }
+
+# Each script of the repository whose first line names a shell, and the completion for bash.
+scripts_are_clean() (
+    cd .. || exit 1
+    grep -rlE --exclude-dir=.git --exclude-dir=out '^#!/bin/(ba)?sh' . | sort > "$work/scripts"
+    echo share/completion/office.bash >> "$work/scripts"
+    [ "$(wc -l < "$work/scripts")" -gt 10 ] || { cat "$work/scripts" && exit 1; }
+    xargs shellcheck < "$work/scripts"
+)
 
 make_reports() {
     cat > "$work/excuses" << 'END'
@@ -126,9 +138,58 @@ excuses_are_grepped() {
     mkdir "$work/bin"
     printf '#!/bin/sh\nexec cat "%s"\n' "$work/json" > "$work/bin/wget"
     chmod +x "$work/bin/wget"
-    PATH=$work/bin:$PATH grep-excuses --no-conf --no-autoremovals c++lib > "$work/grepped" || return 1
+    for source in c++lib stuck; do
+        PATH=$work/bin:$PATH grep-excuses --no-conf --no-autoremovals "$source" >> "$work/grepped" || return 1
+    done
     cat "$work/grepped"
-    grep -qx 'c++lib (1.0-1 to 2:1.0-1+b1)' "$work/grepped" && grep -qx '    Blocked by a hint' "$work/grepped"
+    # What the excuses say, and what the update says.
+    for line in 'c++lib (1.0-1 to 2:1.0-1+b1)' '    Blocked by a hint' 'stuck (- to 2-1)' \
+        '    Waits: its move would leave stuck-bin uninstallable on amd64'; do
+        grep -qxF -e "$line" "$work/grepped" || { echo "it lacks: $line" && return 1; }
+    done
+}
+
+# The keys that are written are those that the manual page names.
+keys_are_told() {
+    python3 - "$work/json" man/office-excuses.1 << 'END'
+import json, re, sys
+whole = json.load(open(sys.argv[1]))
+part = open(sys.argv[2]).read().split(".It Fl -json", 1)[1].split(".It Fl -html", 1)[0]
+told = set(re.findall(r"^\.Li ([a-z-]+)", part, re.M))
+written = set(whole) | set(whole["sources"][0])
+assert told == written, (sorted(told - written), sorted(written - told))
+END
+}
+
+# A curl that answers as a service with run 7 does, and in its first turn as one in which run 7 has just been finished.
+reports_are_published() {
+    mkdir "$work/curl" "$work/folder" || return 1
+    cat > "$work/curl/curl" << 'END'
+#!/bin/sh
+while [ $# -gt 1 ]; do
+    [ "$1" != -o ] || file=$2
+    shift
+done
+case $1 in
+    http://127.0.0.1:8080/status) echo 'ready 7 finished 7' > "$file" ;;
+    http://127.0.0.1:8080/testing) if [ -e "$TEXTS/turned" ]; then
+            cat "$TEXTS/testing"
+        else
+            : > "$TEXTS/turned" && echo 'testing 8'
+        fi > "$file" ;;
+    http://127.0.0.1:8080/excuses/7) cat "$TEXTS/excuses" > "$file" ;;
+    http://127.0.0.1:8080/update/7) cat "$TEXTS/update" > "$file" ;;
+    http://127.0.0.1:1/status) echo 'ready 0 finished 0' > "$file" ;;
+    *) exit 22 ;;
+esac
+END
+    chmod +x "$work/curl/curl"
+    TEXTS=$work PATH=$work/curl:$PATH ./office-publish "$work/folder" http://127.0.0.1:1 || return 1
+    [ -z "$(ls -A "$work/folder")" ] || return 1
+    TEXTS=$work PATH=$work/curl:$PATH ./office-publish "$work/folder" || return 1
+    [ "$(cd "$work/folder" && find . -type f | LC_ALL=C sort | tr '\n' ' ')" = './excuses.json ./index.html ' ] || return 1
+    cmp "$work/json" "$work/folder/excuses.json" && cmp "$work/html" "$work/folder/index.html" || return 1
+    ends 1 env TEXTS="$work" PATH="$work/curl:$PATH" ./office-publish "$work/folder" http://127.0.0.1:2
 }
 
 # The bag of the examples' indexes: four things are left out, and each message has as many bytes as it says.
@@ -151,7 +212,8 @@ END
 
 files_are_installed() {
     make -s install PROGRAM="${program:-/bin/true}" PREFIX=/usr DESTDIR="$work/root" || return 1
-    for file in bin/office bin/office-excuses bin/office-from-packages share/man/man1/office.1 lib/systemd/system/office.service \
+    for file in bin/office bin/office-excuses bin/office-from-packages bin/office-publish share/man/man1/office.1 \
+        share/man/man1/office-publish.1 lib/systemd/system/office.service lib/systemd/system/office-publish.timer \
         share/bash-completion/completions/office share/zsh/vendor-completions/_office share/doc/office/RULES.md; do
         [ -f "$work/root/usr/$file" ] || { echo "$file is missing" && return 1; }
     done
@@ -212,19 +274,23 @@ for page in man/*.1; do
     try_by mandoc "$page: mandoc's lint" page_is_clean "$page"
 done
 try "man: the pages that others name are there" links_are_there
-for script in office-export office-check-store check.sh debian/build completion/office.bash; do
-    try_by shellcheck "$script: shellcheck" shellcheck "$script"
-done
+try_by shellcheck "all shell scripts of the repository: shellcheck" scripts_are_clean
 try_by bash "completion/office.bash: its syntax" bash -n completion/office.bash
 try_by zsh "completion/_office: its syntax" zsh -n completion/_office
-try_by systemd-analyze "systemd/office.service: exposure of at most 2.0" \
-    systemd-analyze security --offline=true --threshold=20 --no-pager systemd/office.service
-try_by systemd-analyze "systemd/office.service: systemd knows each line" unit_is_known
+for unit in systemd/*.service; do
+    try_by systemd-analyze "$unit: exposure of at most 2.0" \
+        systemd-analyze security --offline=true --threshold=20 --no-pager "$unit"
+done
+try_by systemd-analyze "systemd/: systemd knows each line" units_are_known
 make_reports
 try_by python3 "excuses.py: JSON and page of a run" reports_are_read
+try_by python3 "excuses.py: its keys, and those of the manual page" keys_are_told
 try_by grep-excuses "excuses.py: grep-excuses reads the JSON" excuses_are_grepped
 try_by python3 "excuses.py: reports of two runs are refused" \
     ends 1 python3 -B ./excuses.py --excuses "$work/update" --update "$work/excuses"
+try_by python3 "office-publish: page and JSON of the newest run" reports_are_published
+try "office-publish: no words" ends 2 ./office-publish
+try "office-publish: no folder" ends 1 ./office-publish "$work/none"
 try_by python3 "office-from-packages: the examples' indexes" indexes_are_read
 try "office-from-packages: no words" ends 2 ./office-from-packages
 try "office-from-packages: no file" \

@@ -33,7 +33,10 @@ UPDATES = [
 ]
 STYLE = """body { font-family: sans-serif; margin: 2em } table { border-collapse: collapse; margin-bottom: 2em }
 th, td { border: 1px solid #bbb; padding: .2em .6em; text-align: left; vertical-align: top } th { background: #eee }
-tr:target { background: #ffd } ul { margin: 0; padding-left: 1.2em } .no { color: #a00 } .yes { color: #060 }"""
+tr:target { background: #ffd } ul { margin: 0; padding-left: 1.2em } .no { color: #a00 } .yes { color: #060 }
+@media (max-width: 50em) { body { margin: .6em } h1 { font-size: 1.4em } thead { display: none }
+table, tbody, tr, td { display: block; overflow-wrap: anywhere } tr { border: 1px solid #bbb; margin-bottom: .8em }
+td { border: 0 } td:empty { display: none } td::before { content: attr(data-name) ": "; color: #666 } }"""
 
 
 class Fault(Exception):
@@ -177,14 +180,15 @@ def add_outcomes(sources, changes):
         source["excuses"] += outcomes.get(source["item-name"], [])
 
 
-def table_row(anchor, cells):
+def table_row(anchor, heads, cells):
+    """A row of a table. Each cell has its column's name, which a narrow page shows before it."""
     named = ' id="%s"' % html.escape(anchor) if anchor else ""
-    return "<tr%s>%s</tr>" % (named, "".join("<td>%s</td>" % cell for cell in cells))
+    return "<tr%s>%s</tr>" % (named, "".join('<td data-name="%s">%s</td>' % pair for pair in zip(heads, cells)))
 
 
 def table(title, anchor, heads, rows):
     head = "".join("<th>%s</th>" % h for h in heads)
-    body = "\n".join(table_row(name, cells) for name, cells in rows)
+    body = "\n".join(table_row(name, heads, cells) for name, cells in rows)
     return '<h2 id="%s">%s</h2>\n<table>\n<thead><tr>%s</tr></thead>\n<tbody>\n%s\n</tbody>\n</table>\n' % (
         anchor, title, head, body)
 
@@ -237,9 +241,10 @@ def page(run, date, sources, changes, testing):
     known |= {"testing-" + name for name in (testing[1] if testing else ())}
     title = "Run %d of %s" % (run, date)
     text = '<!DOCTYPE html>\n<html lang="en">\n<head>\n<meta charset="utf-8">\n'
+    text += '<meta name="viewport" content="width=device-width, initial-scale=1">\n'
     text += "<title>%s</title>\n<style>%s</style>\n</head>\n" % (title, STYLE)
-    text += '<body>\n<h1>%s</h1>\n<p><a href="#excuses">Excuses</a> (%d), <a href="#update">update</a> (%d lines), ' % (
-        title, len(sources), len(changes))
+    text += '<body>\n<h1>%s</h1>\n<p><a href="#excuses">Excuses</a> (%d), <a href="#update">update</a> (%d %s), ' % (
+        title, len(sources), len(changes), "line" if len(changes) == 1 else "lines")
     text += '<a href="#testing">testing</a></p>\n'
     heads = ["Source", "Testing", "Unstable", "Candidate", "Why", "See"]
     text += table("Excuses", "excuses", heads, excuse_rows(sources, known))

@@ -26,7 +26,8 @@ for name, of in (("least", min), ("median", statistics.median)):
     read, taken, restored = map(of, columns)
     print(f"{name}: read {read} ms, read and taken {taken} ms, read and restored {restored} ms, ratio {restored / max(taken, 1):.2f}")
 print("peak", resource.getrusage(resource.RUSAGE_CHILDREN).ru_maxrss // 1024, "MB")'
-for sources in ${@:-34000}; do
+[ $# -gt 0 ] || set -- 34000
+for sources in "$@"; do
     python3 "$top/bench/replay/bag.py" mail "$sources" > "$work/bag"
     python3 -c "$turns" "$work/bag" "$proved/out/bench_restoring"
 done

@@ -20,7 +20,8 @@ for name in deb_version deb_control testing_install testing_items testing_model 
 peak='import resource, subprocess, sys
 subprocess.run(sys.argv[1:], check=True)
 print("peak", resource.getrusage(resource.RUSAGE_CHILDREN).ru_maxrss // 1024, "MB")'
-for sources in ${@:-400 800 2000 8000 34000}; do
+[ $# -gt 0 ] || set -- 400 800 2000 8000 34000
+for sources in "$@"; do
     python3 "$here/packages.py" "$sources" > "$work/packages"
     python3 -c "$peak" "$proved/out/bench_moves" < "$work/packages"
 done
