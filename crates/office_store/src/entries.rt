@@ -413,12 +413,12 @@ fn entry_rows<S: Alter>(conn: &mut Connection<S>) -> Result<Vec<Row>, Error>
     )
 }
 
-/// The place of the message that a shown row of testing's rows names.
+/// The place of the message that a shown row of testing's rows names, 0 for a number that doesn't read.
 fn message_place(row: &Row) -> (u32, u32) {
-    match row_entry(row) {
-        Ok(entry) => (entry.sender, entry.number),
-        Err(_) => (0, 0),
-    }
+    (
+        number_in(row, 3).unwrap_or(0),
+        number_in(row, 4).unwrap_or(0),
+    )
 }
 
 /// These rows, those of one message side by side. Nothing rests on their order.
