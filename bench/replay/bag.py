@@ -108,4 +108,5 @@ def main():
         sys.stdout.write(f"mail {len(text)}\n{text}")
 
 
-main()
+if __name__ == "__main__":
+    main()

@@ -85,4 +85,5 @@ def main():
             print("  later runs cost 1 / " + ", 1 / ".join(f"{runs[0] / run:.1f}" for run in runs[1:]) + " of the first")
 
 
-main()
+if __name__ == "__main__":
+    main()

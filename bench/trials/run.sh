@@ -23,12 +23,8 @@ fi
 if [ "$(grep -c '^Package:' "$work/archive")" -gt 1000 ]; then runs="$runs archive"; fi
 
 # The proved program, beside copies of the crates that it stands on.
-cat > "$work/crates.txt" << 'LIST'
-deb_version: thiserror
-deb_control: deb_version thiserror
-testing_install: deb_version deb_control
-bench_trials: deb_version deb_control testing_install anyhow
-LIST
+grep -E '^(deb_version|deb_control|testing_install):' "$top/crates.txt" > "$work/crates.txt"
+echo 'bench_trials: deb_version deb_control testing_install anyhow' >> "$work/crates.txt"
 proved=$work/crates/bench_trials
 mkdir -p "$proved/src"
 cp "$here/program.rattle" "$proved/src/main.rt"

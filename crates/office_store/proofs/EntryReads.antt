@@ -1,5 +1,5 @@
 -- What is read in the tables of testing.
-use Rattle.std.proofs.Common.{◌≡◌, ◌≢◌, ◌⊎◌, inl, inr, ℕ, ℤ, pos, List, [], ◌∷◌, length, ◌&&◌, ◌||◌, ◌==◌, cond, true, false, Bool, nat_lt, Some, None, Option, refl, ap, subst, ◌∙◌, arith}
+use Rattle.std.proofs.Common.{◌≡◌, ◌≢◌, ◌⊎◌, inl, inr, ℕ, ℤ, pos, List, [], ◌∷◌, length, ◌&&◌, ◌||◌, ◌==◌, cond, true, false, Bool, nat_lt, Some, None, Option, refl, sym, ap, subst, ◌∙◌, arith}
 use Rattle.std.proofs.lemmas.Bool.Decides.{nat_tests}
 use Rattle.sqlite.specs.declared.types.Value.{Value}
 use Rattle.sqlite.specs.declared.types.Value.TheVariants.{Null, Int, Real, Text, Blob}
@@ -154,6 +154,10 @@ module _ (setup : Lists) (kept : Kept) (row : Row) where
       → crowded ⊎ (row_of setup kept row ≡ None)
   row_missing crowded arch name sender number place is (inl c) = inl c
   row_missing crowded arch name sender number place is (inr none) = inr (row_by_parts arch name sender number place None is none)
+
+-- what is kept at a place, at the place that was asked for
+pub there : (setup : Lists) (kept : Kept) (sender number from at : ℕ) (o : Option Message) → from ≡ sender → at ≡ number → message_at setup kept from at ≡ o → message_at setup kept sender number ≡ o
+there setup kept sender number from at o e f h = ap (λ (n : ℕ). message_at setup kept n number) (sym e) ∙ ap (message_at setup kept from) (sym f) ∙ h
 
 -- a row that an entry names is of a listed architecture, or of `all`
 pub row_known : (archs : List (List ℕ)) (arch : ℕ) (name : List ℕ) (sender number place : ℕ) (o : Option Binary) (r : RowIn) → row_as archs arch name sender number place o ≡ Some r → IsArchPlace archs r.arch

@@ -1,5 +1,5 @@
 //! Testing, read back: each entry of its tables by the kept message that gave it.
-ghost use Rattle.std.specs.Prelude.{◌≡◌, ◌≢◌, ◌<◌, ◌∷◌, ◌⊎◌, [], List, ℕ, ℤ, Err, Some, None, pos, map, length, IfOk, OnOk, ◌&&◌};
+ghost use Rattle.std.specs.Prelude.{◌≡◌, ◌≢◌, ◌<◌, ◌∷◌, ◌⊎◌, [], List, ℕ, ℤ, Err, Some, None, pos, map, length, IfOk, IfSome, OnOk, ◌&&◌};
 ghost use Rattle.std.specs.Option.{option_copied};
 ghost use Rattle.std.specs.Str.{bytes_eq};
 ghost use Rattle.testing_items.specs.Words.{arch_name};
@@ -26,6 +26,7 @@ use office_mail::{Body, MailFault, Message, Setup, read_message};
 use sqlite::types::ValueRef;
 use sqlite::{Alter, Connection, Error, Row};
 use std::alloc::Global;
+use std::cmp::Ordering;
 use testing_items::{ALL, Archs, Item};
 use testing_model::{RowIn, SharedBinary, SourceIn};
 use testing_suites::Testing;
@@ -74,6 +75,70 @@ fn message_at<S: Alter>(
     match mail::find(conn, sender, number)? {
         None => Err(KeepFault::Store(Cause::BadRow)),
         Some(text) => own_message(alloc, setup, text.as_slice(), sender, number),
+    }
+}
+
+/// A message that was read, and the place at which it is kept.
+#[derive(Drop)]
+struct KeptAt {
+    sender: u32,
+    number: u32,
+    message: Message,
+}
+
+/// The message that is kept at a place, read.
+fn read_at<S: Alter>(
+    alloc: Global,
+    conn: &mut Connection<S>,
+    setup: &Setup,
+    sender: u32,
+    number: u32,
+) -> Result<KeptAt, KeepFault>
+    requires ours { IsTrusted (state S.Store conn.old) → IsOurs (state S.Store conn.old) }
+    ensures before { IsTrusted (state S.Store conn.new) → IsTrusted (state S.Store conn.old) }
+    ensures lasts { Lasts (state S.Store conn.old) (state S.Store conn.new) }
+    ensures open { HasCleanDisk (state S.Store conn.new) → IsTrusted (state S.Store conn.old) → OnOk result (IsTrusted (state S.Store conn.new)) }
+    ensures same { IsTrusted (state S.Store conn.new) → Same (state S.Store conn.old) (state S.Store conn.new) }
+    ensures place { IfOk result (λ kept. (kept.sender ≡ sender) × (kept.number ≡ number)) }
+    ensures ok { IsTrusted (state S.Store conn.new) → IfOk result (λ kept. kept_message setup.now (kept_rows ((state S.Store conn.new).now.trees 1)) kept.sender kept.number ≡ Some kept.message) }
+    ensures bad { IsTrusted (state S.Store conn.new) → result ≡ Err (KeepFault.Store Cause.BadRow) → IsCrowded ((state S.Store conn.new).now.trees 1) ⊎ (kept_message setup.now (kept_rows ((state S.Store conn.new).now.trees 1)) sender number ≡ None) }
+{
+    let message = message_at(alloc, conn, setup, sender, number)?;
+    Ok(KeptAt {
+        sender,
+        number,
+        message,
+    })
+}
+
+/// The message that is kept at a place: the one read last, where it is of that place.
+fn read_once<S: Alter>(
+    alloc: Global,
+    conn: &mut Connection<S>,
+    setup: &Setup,
+    last: Option<KeptAt>,
+    sender: u32,
+    number: u32,
+) -> Result<KeptAt, KeepFault>
+    requires ours { IsTrusted (state S.Store conn.old) → IsOurs (state S.Store conn.old) }
+    requires last { IsTrusted (state S.Store conn.old) → IfSome last (λ kept. kept_message setup.now (kept_rows ((state S.Store conn.old).now.trees 1)) kept.sender kept.number ≡ Some kept.message) }
+    ensures before { IsTrusted (state S.Store conn.new) → IsTrusted (state S.Store conn.old) }
+    ensures lasts { Lasts (state S.Store conn.old) (state S.Store conn.new) }
+    ensures open { HasCleanDisk (state S.Store conn.new) → IsTrusted (state S.Store conn.old) → OnOk result (IsTrusted (state S.Store conn.new)) }
+    ensures same { IsTrusted (state S.Store conn.new) → Same (state S.Store conn.old) (state S.Store conn.new) }
+    ensures place { IfOk result (λ kept. (kept.sender ≡ sender) × (kept.number ≡ number)) }
+    ensures ok { IsTrusted (state S.Store conn.new) → IfOk result (λ kept. kept_message setup.now (kept_rows ((state S.Store conn.new).now.trees 1)) kept.sender kept.number ≡ Some kept.message) }
+    ensures bad { IsTrusted (state S.Store conn.new) → result ≡ Err (KeepFault.Store Cause.BadRow) → IsCrowded ((state S.Store conn.new).now.trees 1) ⊎ (kept_message setup.now (kept_rows ((state S.Store conn.new).now.trees 1)) sender number ≡ None) }
+{
+    match last {
+        Some(kept) => {
+            if kept.sender == sender && kept.number == number {
+                Ok(kept)
+            } else {
+                read_at(alloc, conn, setup, sender, number)
+            }
+        }
+        None => read_at(alloc, conn, setup, sender, number),
     }
 }
 
@@ -298,34 +363,37 @@ fn row_in(
 fn row_named(
     alloc: Global,
     archs: &Archs,
-    message: Message,
+    message: &Message,
     entry: &RowEntry<'_>,
 ) -> Result<Option<RowIn>, NoMemory>
-    ensures named { IfOk result (λ row. row ≡ row_as archs.now entry.now.arch entry.now.name.now entry.now.sender entry.now.number entry.now.place (binary_in entry.now.place message.body)) }
+    ensures named { IfOk result (λ row. row ≡ row_as archs.now entry.now.arch entry.now.name.now entry.now.sender entry.now.number entry.now.place (binary_in entry.now.place message.now.body)) }
 {
-    row_in(alloc, archs, binary_at(&message, entry.place), entry)
+    row_in(alloc, archs, binary_at(message, entry.place), entry)
 }
 
-/// The row of testing that a shown row names.
+/// The row of testing that a shown row names, and the message that gave it. The message read last is read no more.
 fn row_at<S: Alter>(
     alloc: Global,
     conn: &mut Connection<S>,
     setup: &Setup,
     row: &Row,
-) -> Result<RowIn, KeepFault>
+    last: Option<KeptAt>,
+) -> Result<(RowIn, KeptAt), KeepFault>
     requires ours { IsTrusted (state S.Store conn.old) → IsOurs (state S.Store conn.old) }
+    requires last { IsTrusted (state S.Store conn.old) → IfSome last (λ kept. kept_message setup.now (kept_rows ((state S.Store conn.old).now.trees 1)) kept.sender kept.number ≡ Some kept.message) }
     ensures before { IsTrusted (state S.Store conn.new) → IsTrusted (state S.Store conn.old) }
     ensures lasts { Lasts (state S.Store conn.old) (state S.Store conn.new) }
     ensures open { HasCleanDisk (state S.Store conn.new) → IsTrusted (state S.Store conn.old) → OnOk result (IsTrusted (state S.Store conn.new)) }
     ensures same { IsTrusted (state S.Store conn.new) → Same (state S.Store conn.old) (state S.Store conn.new) }
-    ensures known { IfOk result (λ given. IsArchPlace setup.now.archs given.arch) }
-    ensures ok { IsTrusted (state S.Store conn.new) → IfOk result (λ given. row_of setup.now (kept_rows ((state S.Store conn.new).now.trees 1)) row.now ≡ Some given) }
+    ensures known { IfOk result (λ given. IsArchPlace setup.now.archs given.0.arch) }
+    ensures ok { IsTrusted (state S.Store conn.new) → IfOk result (λ given. row_of setup.now (kept_rows ((state S.Store conn.new).now.trees 1)) row.now ≡ Some given.0) }
+    ensures held { IsTrusted (state S.Store conn.new) → IfOk result (λ given. kept_message setup.now (kept_rows ((state S.Store conn.new).now.trees 1)) given.1.sender given.1.number ≡ Some given.1.message) }
     ensures bad { IsTrusted (state S.Store conn.new) → result ≡ Err (KeepFault.Store Cause.BadRow) → row.now ≡ entry_columns row.now → IsCrowded ((state S.Store conn.new).now.trees 1) ⊎ (row_of setup.now (kept_rows ((state S.Store conn.new).now.trees 1)) row.now ≡ None) }
 {
     let entry = row_entry(row)?;
-    let message = message_at(alloc, conn, setup, entry.sender, entry.number)?;
-    match row_named(alloc, setup.archs(), message, &entry)? {
-        Some(given) => Ok(given),
+    let kept = read_once(alloc, conn, setup, last, entry.sender, entry.number)?;
+    match row_named(alloc, setup.archs(), &kept.message, &entry)? {
+        Some(given) => Ok((given, kept)),
         None => Err(KeepFault::Store(Cause::BadRow)),
     }
 }
@@ -345,6 +413,23 @@ fn entry_rows<S: Alter>(conn: &mut Connection<S>) -> Result<Vec<Row>, Error>
     )
 }
 
+/// The place of the message that a shown row of testing's rows names, 0 for a number that doesn't read.
+fn message_place(row: &Row) -> (u32, u32) {
+    (
+        number_in(row, 3).unwrap_or(0),
+        number_in(row, 4).unwrap_or(0),
+    )
+}
+
+/// These rows, those of one message side by side. Nothing rests on their order.
+fn by_message(rows: Vec<Row>) -> Vec<Row>
+    ensures { IsPermutation rows.items result.items }
+{
+    let mut sorted = rows;
+    sorted.sort_unstable_by_key(|row| message_place(row));
+    sorted
+}
+
 /// The rows of testing that these rows of the table name.
 fn rows_at<S: Alter>(
     alloc: Global,
@@ -362,11 +447,29 @@ fn rows_at<S: Alter>(
     ensures bad { IsTrusted (state S.Store conn.new) → result ≡ Err (KeepFault.Store Cause.BadRow) → ReadsEach entry_columns (row_of setup.now (kept_rows ((state S.Store conn.new).now.trees 1))) rows.now → IsCrowded ((state S.Store conn.new).now.trees 1) }
 {
     let mut given = Vec::new(alloc);
+    let mut last = None;
     'rows: for row in rows {
-        let one = row_at(alloc, conn, setup, row)?;
+        let (one, kept) = row_at(alloc, conn, setup, row, last)?;
+        last = Some(kept);
         given.push(one)?;
     }
     Ok(given)
+}
+
+/// These rows by architecture and name, so that each goes into a suite behind those before it. Nothing rests on their
+/// order.
+fn by_key(rows: Vec<RowIn>) -> Vec<RowIn>
+    ensures { IsPermutation rows.items result.items }
+{
+    let mut sorted = rows;
+    sorted.sort_unstable_by(|row, other| order_rows(row, other));
+    sorted
+}
+
+/// The order of rows, by architecture and name.
+fn order_rows(row: &RowIn, other: &RowIn) -> Ordering {
+    let names = row.binary.name.as_str().cmp(other.binary.name.as_str());
+    row.arch.cmp(&other.arch).then(names)
 }
 
 /// Puts these rows into a suite, one by one.
@@ -412,7 +515,9 @@ pub(crate) fn testing<S: Alter>(
 {
     let named = source_rows(conn)?;
     let sources = sources_at(alloc, conn, setup, named.as_slice())?;
-    let listed = entry_rows(conn)?;
-    let rows = rows_at(alloc, conn, setup, listed.as_slice())?;
+    let found = entry_rows(conn)?;
+    let listed = by_message(found);
+    let given = rows_at(alloc, conn, setup, listed.as_slice())?;
+    let rows = by_key(given);
     gathered(alloc, sources, rows)
 }

@@ -21,6 +21,7 @@ rows-preserved g c =
       lasts = lasts_then _ _ _ invariant.lasts ensures.lasts;
       still = λ clean trusted. ensures.open clean (invariant.still (clean_before _ _ ensures.lasts clean) trusted);
       same = λ trusted. record { ours = (ensures.same trusted).ours; now = (ensures.same trusted).now ∙ (invariant.same (ensures.before trusted)).now };
+      last = λ trusted. ensures.held trusted;
       known = each_pushed (λ (r : RowIn). IsArchPlace c.args.setup.now.archs r.arch) c.rows.given.items c.push.new.self.items c.in_ok-one.one c.in_ok-push.ensures.items invariant.known ensures.known;
       so_far = λ trusted.
           read_more (read new.now) c.args.rows.now c.rows.row-index c.row-item.result c.in_ok-one.one c.rows.given.items c.push.new.self.items c.rows-test.true c.row-item.is
