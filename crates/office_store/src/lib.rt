@@ -8,6 +8,7 @@ mod faults;
 mod finishing;
 mod layout;
 mod mail;
+mod migrating;
 mod on_sqlite;
 mod opening;
 mod runs;
