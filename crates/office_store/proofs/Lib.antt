@@ -46,3 +46,4 @@ pub mod InsideLemmas
 pub mod FactMoves
 pub mod RangeFacts
 pub mod MigrateLemmas
+pub mod MigratedContent

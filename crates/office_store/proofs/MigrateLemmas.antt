@@ -1,8 +1,9 @@
 -- What the steps of the migration make of the tables.
-use Rattle.std.proofs.Common.{◌≡◌, ⊎_elim, ◌≤◌, ℕ, List, [], ◌∷◌, Bool, true, false, cond, ◌&&◌, ◌==◌, nat_le, nat_eq, Option, Some, None, IsSome, Result, Ok, Err, IfOk, length, is_some, map, refl, sym, ap, subst, ◌∙◌, arith}
+use Rattle.std.proofs.Common.{◌≡◌, ◌≢◌, inr, ◌≤◌, ℕ, List, [], ◌∷◌, Bool, true, false, cond, ◌&&◌, ◌==◌, nat_le, nat_eq, Option, Some, None, IsSome, Result, Ok, Err, IfOk, length, is_some, map, refl, sym, ap, subst, ◌∙◌, arith}
 use Rattle.std.proofs.lemmas.Bool.Decides.{nat_tests}
 use Rattle.std.specs.List.Sorted.{IsPermutation}
-use Rattle.std.specs.Result.{result_ok}
+use Rattle.deb_control.specs.declared.owned.Text.{Text as Words}
+use Rattle.std.specs.Result.{result_ok, IsErrAnd}
 use Rattle.sqlite.specs.Order.{Row, column}
 use Rattle.sqlite.specs.Effect.{Database}
 use Rattle.sqlite.specs.State.{State}
@@ -10,15 +11,22 @@ use Rattle.sqlite.specs.Tree.{Trees, put_row}
 use Rattle.office_mail.specs.Lists.{Lists}
 use Rattle.office_mail.specs.Runs.{cover}
 use Rattle.office_mail.specs.Setup.{IsSetup}
+use Rattle.office_keeper.specs.declared.faults.Cause.{Cause}
+use Rattle.office_keeper.specs.declared.faults.Cause.TheVariants.{BadRow}
+use Rattle.office_keeper.specs.declared.faults.KeepFault.{KeepFault}
+use Rattle.office_keeper.specs.declared.faults.KeepFault.TheVariants.{NoMemory, Store}
+use Rattle.office_keeper.specs.declared.faults.KeepFault.TheVariants as kept
+use Rattle.office_store.specs.declared.opening.OpenFault.{OpenFault}
+use Rattle.office_store.specs.declared.opening.OpenFault.TheVariants as opening
 use Rattle.office_store.specs.declared.said.Said.{Said}
-use Rattle.office_store.specs.Layout.{office_schema, fact_delays}
+use Rattle.office_store.specs.Layout.{schema_before, office_schema, fact_delays}
 use Rattle.office_store.specs.Tables.{number_in, text_in, office_by, office_in, said_in, kept_rows, IsWhole}
 use Rattle.office_store.specs.TableContent.{release_place}
 use Rattle.office_store.specs.TableSteps.{Rows, rows_in, SaysAlone, Silences, SaysMore, office_columns}
 use Rattle.office_store.specs.FactSteps.{AddsDelays}
 use Rattle.office_store.specs.CreatingSteps.{Makes, schema_of_six}
 use Rattle.office_store.specs.SetupText.{setup_text}
-use Rattle.office_store.specs.Opening.{text_by, shown_office, text_of_one, text_before, kept_text, lists_by, IsKeptFor}
+use Rattle.office_store.specs.Opening.{text_by, shown_office, text_of_one, text_before, kept_text, lists_by, open_fault, IsKeptFor, IsKeptBefore, IsKeptForOther, IsMigrated, IsUnreadable}
 use Rattle.office_keeper.specs.LastDelays.{IsLastTold}
 use Rattle.office_store.specs.Migrating.{AreMessages, KeepsDelays, Migrates}
 use Rattle.office_store.specs.MigratingSteps.{count_by, count_shown, IsJudged, PutsLast, Widens, WritesAnew}
@@ -55,7 +63,7 @@ tells_by : (number : ℕ) (o : Option (ℕ × Said)) (text : List ℕ) → text_
 tells_by number None text h = absurd (let e = h in cc)
 tells_by number (Some (id, said)) text h = go (id == 1) refl (said.schema == number) refl (nat_le said.finished 4_294_967_295) refl h
   where
-    go : (a : Bool) → (id == 1) ≡ a → (b : Bool) → (said.schema == number) ≡ b → (c : Bool) → nat_le said.finished 4_294_967_295 ≡ c → cond (a && (b && c)) (Some said.setup) None ≡ Some text → Tells number (Some (id, said)) text
+    go : (a : Bool) → (id == 1) ≡ a → (b : Bool) → (said.schema == number) ≡ b → (c : Bool) → nat_le said.finished 4_294_967_295 ≡ c → cond {A = Option Words} (a && (b && c)) (Some said.setup) None ≡ Some text → Tells number (Some (id, said)) text
     go true p true q true r h =
         let one : id ≡ 1 = grind (arith, nat_tests) in
         record { said = said; is = ap (λ n. Some (n, said)) one; number_is = grind (arith, nat_tests); text_is = cc; fits = grind (arith, nat_tests) }
@@ -196,3 +204,60 @@ migrated_kept setup a db valid schema done =
       schema = schema;
       setup_is = ap (λ rows. lists_by (kept_text rows)) done.one ∙ ap (λ said. lists_by (text_by 2 said)) done.row_says ∙ ap lists_by text ∙ ap result_ok (read_back setup valid);
     }
+
+-- the tables were those of a store of schema 1
+before_is : (setup : Lists) (a : Database) (b : Trees) (finished : ℕ) → a.schema ≡ schema_before → rows_in b ≡ record (rows_in a.trees) { delays = [] } → IsJudged setup (b 0) finished → IsKeptBefore setup a
+before_is setup a b finished six wide judged = record { schema = six; setup_is = subst (λ rows. lists_by (text_before rows) ≡ Some setup) (ap (λ (r : Rows). r.office) wide) judged.setup_is }
+
+-- what the whole migration makes
+pub migrated : (setup : Lists) (a b j f d : Database) (finished : ℕ) (last : Option ℕ) (text : List ℕ) → IsSetup setup → a.schema ≡ schema_before → d.schema ≡ office_schema → text ≡ setup_text setup → rows_in b.trees ≡ record (rows_in a.trees) { delays = [] }
+    → IsJudged setup (b.trees 0) finished → j ≡ b → AreMessages setup (kept_rows (j.trees 1)) finished × IsLastTold setup (kept_rows (j.trees 1)) (cover setup (kept_rows (j.trees 1)) finished (release_place setup)) last → f ≡ j
+    → WritesAnew f.trees d.trees last (record { schema = 2; setup = text; finished = finished }) → IsMigrated setup a d
+migrated setup a b j f d finished last text valid six seven is wide judged same found still written =
+    let told = subst (λ (x : Database). AreMessages setup (kept_rows (x.trees 1)) finished × IsLastTold setup (kept_rows (x.trees 1)) (cover setup (kept_rows (x.trees 1)) finished (release_place setup)) last) same found in
+    let anew = subst (λ (x : Database). WritesAnew x.trees d.trees last (record { schema = 2; setup = text; finished = finished })) (still ∙ same) written in
+    let done = migrates setup a.trees b.trees d.trees finished last wide judged told.0 told.1 (subst (λ t. WritesAnew b.trees d.trees last (record { schema = 2; setup = t; finished = finished })) is anew) in
+    record {
+      was = before_is setup a b.trees finished six wide judged;
+      kept = migrated_kept setup a.trees d valid seven done;
+      migrates = done;
+    }
+
+-- why one isn't made: an order or a text isn't a message
+pub unreadable : (setup : Lists) (a b j : Database) (finished : ℕ) → a.schema ≡ schema_before → rows_in b.trees ≡ record (rows_in a.trees) { delays = [] } → IsJudged setup (b.trees 0) finished → j ≡ b
+    → (IsWhole (kept_rows (j.trees 1)) (j.trees 1) → AreMessages setup (kept_rows (j.trees 1)) finished → ⊥) → IsUnreadable setup a
+unreadable setup a b j finished six wide judged same bad = record {
+  kept = before_is setup a b.trees finished six wide judged;
+  lacks = λ said is whole messages.
+      let mail : j.trees 1 ≡ a.trees 1 = ap (λ (x : Database). x.trees 1) same ∙ ap (λ (r : Rows). r.mail) wide in
+      let told : Some judged.said ≡ Some said = sym judged.said_is ∙ ap said_in (ap (λ (r : Rows). r.office) wide) ∙ is in
+      let one : judged.said ≡ said = cc in
+      let count : said.finished ≡ finished = sym (judged.finished_is ∙ ap (λ (s : Said). s.finished) one) in
+      bad (subst (λ rows. IsWhole (kept_rows rows) rows) (sym mail) whole)
+      (subst (λ rows. AreMessages setup (kept_rows rows) finished) (sym mail) (subst (AreMessages setup (kept_rows (a.trees 1))) count messages));
+}
+
+-- another setup is kept
+pub other_kept : (setup : Lists) (a b : Database) → a.schema ≡ schema_before → rows_in b.trees ≡ record (rows_in a.trees) { delays = [] } → (kept : Lists) × (lists_by (text_before (b.trees 0)) ≡ Some kept) × (kept ≢ setup) → IsKeptForOther setup a
+other_kept setup a b six wide other = record {
+  other = other.0;
+  kept = inr (record { schema = six; setup_is = subst (λ rows. lists_by (text_before rows) ≡ Some other.0) (ap (λ (r : Rows). r.office) wide) other.1 });
+  differs = other.2;
+}
+
+-- or none
+pub none_kept : (a b : Database) → rows_in b.trees ≡ record (rows_in a.trees) { delays = [] } → lists_by (text_before (b.trees 0)) ≡ None → lists_by (text_before (a.trees 0)) ≡ None
+none_kept a b wide none = subst (λ rows. lists_by (text_before rows) ≡ None) (ap (λ (r : Rows). r.office) wide) none
+
+-- a bad row that is told by an opening was told by the store
+pub opened_bad : {T U : Type 0} (r : Result T OpenFault) (given : KeepFault) → r ≡ Err (opening.Store BadRow) → IsErrAnd r (λ e. e ≡ open_fault given) → ◌≡◌ {A = Result U KeepFault} (Err given) (Err (kept.Store BadRow))
+opened_bad (Ok v) given h p = absurd (let e = h in cc)
+opened_bad {T} (Err e) NoMemory h p = let same : ◌≡◌ {A = Result T OpenFault} (Err opening.NoMemory) (Err (opening.Store BadRow)) = ap Err (sym p) ∙ h in absurd (let x = same in cc)
+opened_bad {T} (Err e) (Store cause) h p = let same : ◌≡◌ {A = Result T OpenFault} (Err (opening.Store cause)) (Err (opening.Store BadRow)) = ap Err (sym p) ∙ h in let is : cause ≡ BadRow = cc in ap (λ (x : Cause). Err (kept.Store x)) is
+
+is_same : {T : Type 0} (r : Result T OpenFault) (given fault : OpenFault) → r ≡ Err fault → IsErrAnd r (λ e. e ≡ given) → given ≡ fault
+is_same (Ok v) given fault h p = absurd (let e = h in cc)
+is_same (Err e) given fault h p = let same : e ≡ fault = cc in sym p ∙ same
+
+pub opened_same : {T U : Type 0} (r : Result T OpenFault) (given fault : OpenFault) → r ≡ Err fault → IsErrAnd r (λ e. e ≡ given) → ◌≡◌ {A = Result U OpenFault} (Err given) (Err fault)
+opened_same r given fault h p = ap Err (is_same r given fault h p)

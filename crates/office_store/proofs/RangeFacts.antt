@@ -1,5 +1,5 @@
 -- What the letters of a range of numbers say: the orders of runs, and the delays of the release team.
-use Rattle.std.proofs.Common.{◌≡◌, ⊎_elim, ◌≤◌, ◌<◌, ◌+◌, ◌-◌, ◌==◌, ◌&&◌, inl, inr, ℕ, zero, suc, List, [], ◌∷◌, ◌++◌, max, Bool, true, false, cond, nat_eq, Option, Some, None, option_map, option_and_then, option_to_list, is_some, slice_index, IsSome, Result, Ok, Err, IfOk, filter_map, refl, sym, ap, subst, ◌∙◌, arith}
+use Rattle.std.proofs.Common.{◌≡◌, ⊎_elim, ◌≤◌, ◌<◌, ◌+◌, ◌-◌, ◌==◌, ◌&&◌, inl, inr, ℕ, zero, suc, List, [], ◌∷◌, ◌++◌, max, Bool, true, false, cond, Option, Some, None, option_map, option_and_then, option_to_list, is_some, slice_index, IsSome, Result, Ok, Err, IfOk, filter_map, refl, sym, ap, subst, ◌∙◌, arith}
 use Rattle.std.proofs.lemmas.Bool.Decides.{nat_tests}
 use Rattle.std.proofs.lemmas.Bool.{cases_Bool, cases_lt}
 use Rattle.std.specs.List.{range_with_len, cons_option}
@@ -99,7 +99,7 @@ module _ (setup : Lists) (kept : Kept) where
       let same : last ≡ out = cc in
       let at : k ≡ k + 0 = omega arith in
       (subst (λ j. IsLast j out) at (subst (λ o. IsLast k o) same so), λ j low high some. absurd (omega (arith, low, high)))
-  told_range (suc n) k last out so h = go (get kept (release, k + 1)) refl h
+  told_range (suc n) k last out so h = go (get kept (release, k + 1)) refl (λ l. told_range n (k + 1) l out) h
     where
       at : k + 1 + n ≡ k + suc n
       at = omega arith
@@ -107,23 +107,23 @@ module _ (setup : Lists) (kept : Kept) where
       Goal : ℕ → Type 0
       Goal j = IsLast j out × AreOwn k j
 
-      go : (o : Option (List ℕ)) → get kept (release, k + 1) ≡ o → told_on setup last (cons_option (option_map (λ text. numbered (k + 1) text) o) (Letters release (k + 1 + 1) n)) ≡ Some out → Goal (k + suc n)
-      go None is h =
+      go : (o : Option (List ℕ)) → get kept (release, k + 1) ≡ o → ((l : Option ℕ) → IsLast (k + 1) l → told_on setup l (Letters release (k + 1 + 1) n) ≡ Some out → IsLast (k + 1 + n) out × AreOwn (k + 1) (k + 1 + n)) → told_on setup last (cons_option (option_map (λ text. numbered (k + 1) text) o) (Letters release (k + 1 + 1) n)) ≡ Some out → Goal (k + suc n)
+      go None is rec h =
           let none = message_none release (k + 1) is in
-          let r = told_range n (k + 1) last out (told_more k false last (ap (λ m. is_some (delays_told release (k + 1) m)) none) so) h in
+          let r = rec last (told_more k false last (ap (λ m. is_some (delays_told release (k + 1) m)) none) so) h in
           subst Goal at (r.0, own_from k (k + 1 + n) (λ some. absurd (let e = sym (ap is_some is) ∙ some in cc)) r.1)
-      go (Some text) is h = own (own_by release (k + 1) (read setup text)) (message_is release (k + 1) text is) h
+      go (Some text) is rec h = own (own_by release (k + 1) (read setup text)) (message_is release (k + 1) text is) rec h
         where
-          own : (m : Option Message) → message_at setup kept release (k + 1) ≡ m → option_and_then (λ now. told_on setup now (Letters release (k + 1 + 1) n)) (told_by release (k + 1) last m) ≡ Some out → Goal (k + suc n)
-          own None e h = absurd (let none = h in cc)
-          own (Some message) e h =
-              let r = told_range n (k + 1) _ out (told_more k (is_some (delays_told release (k + 1) (Some message))) last (ap (λ m. is_some (delays_told release (k + 1) m)) e) so) h in
+          own : (m : Option Message) → message_at setup kept release (k + 1) ≡ m → ((l : Option ℕ) → IsLast (k + 1) l → told_on setup l (Letters release (k + 1 + 1) n) ≡ Some out → IsLast (k + 1 + n) out × AreOwn (k + 1) (k + 1 + n)) → option_and_then (λ now. told_on setup now (Letters release (k + 1 + 1) n)) (told_by release (k + 1) last m) ≡ Some out → Goal (k + suc n)
+          own None e rec h = absurd (let none = h in cc)
+          own (Some message) e rec h =
+              let r = rec _ (told_more k (is_some (delays_told release (k + 1) (Some message))) last (ap (λ m. is_some (delays_told release (k + 1) m)) e) so) h in
               subst Goal at (r.0, own_from k (k + 1 + n) (λ some. ap is_some e) r.1)
 
   pub told_fails : (n k : ℕ) (last : Option ℕ) → told_on setup last (Letters release (k + 1) n) ≡ None → AreOwn k (k + n) → ⊥
   unfolding told_on next_told
   told_fails zero k last h own = let e = h in cc
-  told_fails (suc n) k last h all = go (get kept (release, k + 1)) refl h
+  told_fails (suc n) k last h all = go (get kept (release, k + 1)) refl (λ l. told_fails n (k + 1) l) h
     where
       at : k + suc n ≡ k + 1 + n
       at = omega arith
@@ -131,13 +131,13 @@ module _ (setup : Lists) (kept : Kept) where
       later : AreOwn (k + 1) (k + 1 + n)
       later j low high some = all j (omega (arith, low)) (omega (arith, high, at)) some
 
-      go : (o : Option (List ℕ)) → get kept (release, k + 1) ≡ o → told_on setup last (cons_option (option_map (λ text. numbered (k + 1) text) o) (Letters release (k + 1 + 1) n)) ≡ None → ⊥
-      go None is h = told_fails n (k + 1) last h later
-      go (Some text) is h = own (own_by release (k + 1) (read setup text)) (message_is release (k + 1) text is) h
+      go : (o : Option (List ℕ)) → get kept (release, k + 1) ≡ o → ((l : Option ℕ) → told_on setup l (Letters release (k + 1 + 1) n) ≡ None → AreOwn (k + 1) (k + 1 + n) → ⊥) → told_on setup last (cons_option (option_map (λ text. numbered (k + 1) text) o) (Letters release (k + 1 + 1) n)) ≡ None → ⊥
+      go None is rec h = rec last h later
+      go (Some text) is rec h = own (own_by release (k + 1) (read setup text)) (message_is release (k + 1) text is) rec h
         where
-          own : (m : Option Message) → message_at setup kept release (k + 1) ≡ m → option_and_then (λ now. told_on setup now (Letters release (k + 1 + 1) n)) (told_by release (k + 1) last m) ≡ None → ⊥
-          own None e h = let some = all (k + 1) (omega arith) (omega (arith, at)) (ap is_some is) in let f = sym (ap is_some e) ∙ some in cc
-          own (Some message) e h = told_fails n (k + 1) _ h later
+          own : (m : Option Message) → message_at setup kept release (k + 1) ≡ m → ((l : Option ℕ) → told_on setup l (Letters release (k + 1 + 1) n) ≡ None → AreOwn (k + 1) (k + 1 + n) → ⊥) → option_and_then (λ now. told_on setup now (Letters release (k + 1 + 1) n)) (told_by release (k + 1) last m) ≡ None → ⊥
+          own None e rec h = let some = all (k + 1) (omega arith) (omega (arith, at)) (ap is_some is) in let f = sym (ap is_some e) ∙ some in cc
+          own (Some message) e rec h = rec _ h later
 
   -- ---- the orders
 
@@ -154,12 +154,12 @@ module _ (setup : Lists) (kept : Kept) where
   -- behind a number that is missing no letter has it
   stuck : (finished k cover n from : ℕ) → k + 1 < from → k < finished → cover_on setup finished k cover (Letters (runs setup) from n) ≡ None
   unfolding cover_on next_stated
-  stuck finished k cover zero from above below = let not : nat_eq k finished ≡ false = grind (arith, nat_tests) in rw not refl
+  stuck finished k cover zero from above below = let not : (k == finished) ≡ false = grind (arith, nat_tests) in rw not refl
   stuck finished k cover (suc n) from above below = go (get kept (runs setup, from)) (stuck finished k cover n (from + 1) (omega (arith, above)) below)
     where
       go : (o : Option (List ℕ)) → cover_on setup finished k cover (Letters (runs setup) (from + 1) n) ≡ None → cover_on setup finished k cover (cons_option (option_map (λ text. numbered from text) o) (Letters (runs setup) (from + 1) n)) ≡ None
       go None h = h
-      go (Some text) h = let not : nat_eq from (k + 1) ≡ false = grind (arith, nat_tests) in rw not refl
+      go (Some text) h = let not : (from == (k + 1)) ≡ false = grind (arith, nat_tests) in rw not refl
 
   -- one order more
   order_more : (k cover : ℕ) (text : List ℕ) (order : RunOrder) → get kept (runs setup, k + 1) ≡ Some text → order_of (own_by (runs setup) (k + 1) (read setup text)) ≡ Some order → cover ≡ cover_of (orders_to setup kept k) release
@@ -176,39 +176,39 @@ module _ (setup : Lists) (kept : Kept) where
       → (out ≡ cover_of (orders_to setup kept finished) release) × AreOrders k finished
   unfolding cover_on next_stated
   cover_range zero k finished cover out all so h =
-      let here : nat_eq k finished ≡ true = grind (arith, nat_tests) in
+      let here : (k == finished) ≡ true = grind (arith, nat_tests) in
       let at : k ≡ finished = omega (arith, all) in
       let got : Some cover ≡ Some out = rw here at h in
       let same : cover ≡ out = cc in
       (sym same ∙ so ∙ ap (λ j. cover_of (orders_to setup kept j) release) at, λ j low high. absurd (omega (arith, low, high, at)))
-  cover_range (suc n) k finished cover out all so h = go (get kept (runs setup, k + 1)) refl h
+  cover_range (suc n) k finished cover out all so h = go (get kept (runs setup, k + 1)) refl (λ c. cover_range n (k + 1) finished c out (omega (arith, all))) h
     where
       Goal : Type 0
       Goal = (out ≡ cover_of (orders_to setup kept finished) release) × AreOrders k finished
 
-      own : nat_eq (k + 1) (k + 1) ≡ true
+      own : ((k + 1) == (k + 1)) ≡ true
       own = grind (arith, nat_tests)
 
-      go : (o : Option (List ℕ)) → get kept (runs setup, k + 1) ≡ o → cover_on setup finished k cover (cons_option (option_map (λ text. numbered (k + 1) text) o) (Letters (runs setup) (k + 1 + 1) n)) ≡ Some out → Goal
-      go None is h = let none = stuck finished k cover n (k + 1 + 1) (omega arith) (omega (arith, all)) in absurd (let e = sym none ∙ h in cc)
-      go (Some text) is h = at_order (order_of (own_by (runs setup) (k + 1) (read setup text))) refl (rw own at h)
+      go : (o : Option (List ℕ)) → get kept (runs setup, k + 1) ≡ o → ((c : ℕ) → c ≡ cover_of (orders_to setup kept (k + 1)) release → cover_on setup finished (k + 1) c (Letters (runs setup) (k + 1 + 1) n) ≡ Some out → (out ≡ cover_of (orders_to setup kept finished) release) × AreOrders (k + 1) finished) → cover_on setup finished k cover (cons_option (option_map (λ text. numbered (k + 1) text) o) (Letters (runs setup) (k + 1 + 1) n)) ≡ Some out → Goal
+      go None is rec h = let none = stuck finished k cover n (k + 1 + 1) (omega arith) (omega (arith, all)) in absurd (let e = sym none ∙ h in cc)
+      go (Some text) is rec h = at_order (order_of (own_by (runs setup) (k + 1) (read setup text))) refl rec (rw own at h)
         where
-          at_order : (o : Option RunOrder) → order_of (own_by (runs setup) (k + 1) (read setup text)) ≡ o
+          at_order : (o : Option RunOrder) → order_of (own_by (runs setup) (k + 1) (read setup text)) ≡ o → ((c : ℕ) → c ≡ cover_of (orders_to setup kept (k + 1)) release → cover_on setup finished (k + 1) c (Letters (runs setup) (k + 1 + 1) n) ≡ Some out → (out ≡ cover_of (orders_to setup kept finished) release) × AreOrders (k + 1) finished)
               → option_and_then (λ stated. cover_on setup finished (k + 1) (max cover stated) (Letters (runs setup) (k + 1 + 1) n)) (stated_by release o) ≡ Some out → Goal
-          at_order None e h = absurd (let none = h in cc)
-          at_order (Some order) e h =
-              let r = cover_range n (k + 1) finished (max cover (slice_index order.covers release)) out (omega (arith, all)) (order_more k cover text order is e so) h in
+          at_order None e rec h = absurd (let none = h in cc)
+          at_order (Some order) e rec h =
+              let r = rec (max cover (slice_index order.covers release)) (order_more k cover text order is e so) h in
               (r.0, orders_from k finished (ap is_some (ap order_of (message_is (runs setup) (k + 1) text is) ∙ e)) r.1)
 
   pub cover_fails : (n k finished cover : ℕ) → finished ≡ k + n → cover_on setup finished k cover (Letters (runs setup) (k + 1) n) ≡ None → AreOrders k finished → ⊥
   unfolding cover_on next_stated
   cover_fails zero k finished cover all h orders =
-      let here : nat_eq k finished ≡ true = grind (arith, nat_tests) in
+      let here : (k == finished) ≡ true = grind (arith, nat_tests) in
       let got : Some cover ≡ None = rw here at h in
       cc
-  cover_fails (suc n) k finished cover all h orders = go (get kept (runs setup, k + 1)) refl h
+  cover_fails (suc n) k finished cover all h orders = go (get kept (runs setup, k + 1)) refl (λ c. cover_fails n (k + 1) finished c (omega (arith, all))) h
     where
-      own : nat_eq (k + 1) (k + 1) ≡ true
+      own : ((k + 1) == (k + 1)) ≡ true
       own = grind (arith, nat_tests)
 
       here : IsSome (order_of (message_at setup kept (runs setup) (k + 1)))
@@ -217,14 +217,14 @@ module _ (setup : Lists) (kept : Kept) where
       later : AreOrders (k + 1) finished
       later j low high = orders j (omega (arith, low)) high
 
-      go : (o : Option (List ℕ)) → get kept (runs setup, k + 1) ≡ o → cover_on setup finished k cover (cons_option (option_map (λ text. numbered (k + 1) text) o) (Letters (runs setup) (k + 1 + 1) n)) ≡ None → ⊥
-      go None is h = let e = sym (ap is_some (no_message (runs setup) (k + 1) is)) ∙ here in cc
-      go (Some text) is h = at_order (order_of (own_by (runs setup) (k + 1) (read setup text))) (ap order_of (message_is (runs setup) (k + 1) text is)) (rw own at h)
+      go : (o : Option (List ℕ)) → get kept (runs setup, k + 1) ≡ o → ((c : ℕ) → cover_on setup finished (k + 1) c (Letters (runs setup) (k + 1 + 1) n) ≡ None → AreOrders (k + 1) finished → ⊥) → cover_on setup finished k cover (cons_option (option_map (λ text. numbered (k + 1) text) o) (Letters (runs setup) (k + 1 + 1) n)) ≡ None → ⊥
+      go None is rec h = let e = sym (ap is_some (no_message (runs setup) (k + 1) is)) ∙ here in cc
+      go (Some text) is rec h = at_order (order_of (own_by (runs setup) (k + 1) (read setup text))) (ap order_of (message_is (runs setup) (k + 1) text is)) rec (rw own at h)
         where
-          at_order : (o : Option RunOrder) → order_of (message_at setup kept (runs setup) (k + 1)) ≡ o
+          at_order : (o : Option RunOrder) → order_of (message_at setup kept (runs setup) (k + 1)) ≡ o → ((c : ℕ) → cover_on setup finished (k + 1) c (Letters (runs setup) (k + 1 + 1) n) ≡ None → AreOrders (k + 1) finished → ⊥)
               → option_and_then (λ stated. cover_on setup finished (k + 1) (max cover stated) (Letters (runs setup) (k + 1 + 1) n)) (stated_by release o) ≡ None → ⊥
-          at_order None e h = let f = sym (ap is_some e) ∙ here in cc
-          at_order (Some order) e h = cover_fails n (k + 1) finished (max cover (slice_index order.covers release)) (omega (arith, all)) h later
+          at_order None e rec h = let f = sym (ap is_some e) ∙ here in cc
+          at_order (Some order) e rec h = rec (max cover (slice_index order.covers release)) h later
 
   -- ---- from the first number on
 
@@ -232,8 +232,8 @@ module _ (setup : Lists) (kept : Kept) where
   own_by_is m number e =
       let a : m.sender ≡ release = ap (λ (p : Place). p.0) e in
       let b : m.number ≡ number = ap (λ (p : Place). p.1) e in
-      let c : nat_eq m.sender release ≡ true = grind (arith, nat_tests) in
-      let d : nat_eq m.number number ≡ true = grind (arith, nat_tests) in
+      let c : (m.sender == release) ≡ true = grind (arith, nat_tests) in
+      let d : (m.number == number) ≡ true = grind (arith, nat_tests) in
       rw (c, d) refl
 
   tells_there : (number : ℕ) → TellsDelays setup kept number → IsSome (told_at number)
@@ -246,9 +246,9 @@ module _ (setup : Lists) (kept : Kept) where
     where
       own : (text : List ℕ) → get kept (release, number) ≡ Some text → (r : Result Message MailFault) → read setup text ≡ r → IsSome (delays_told release number (own_by release number r)) → TellsDelays setup kept number
       own text is (Err f) e h = absurd (let x = h in cc)
-      own text is (Ok m) e h = at (nat_eq m.sender release) refl (nat_eq m.number number) refl h
+      own text is (Ok m) e h = at ((m.sender == release)) refl ((m.number == number)) refl h
         where
-          at : (a : Bool) → nat_eq m.sender release ≡ a → (b : Bool) → nat_eq m.number number ≡ b → IsSome (delays_told release number (cond (a && b) (Some m) None)) → TellsDelays setup kept number
+          at : (a : Bool) → (m.sender == release) ≡ a → (b : Bool) → (m.number == number) ≡ b → IsSome (delays_told release number (cond (a && b) (Some m) None)) → TellsDelays setup kept number
           at true p true q h =
               let s : m.sender ≡ release = grind (arith, nat_tests) in
               let n : m.number ≡ number = grind (arith, nat_tests) in
@@ -260,9 +260,9 @@ module _ (setup : Lists) (kept : Kept) where
       go None is = absurd (let none : told_at number ≡ None = ap (delays_told release number) (message_none release number is) in let e = sym (ap is_some none) ∙ some in cc)
       go (Some text) is = own text is (read setup text) refl (subst (λ m. IsSome (delays_told release number m)) (message_is release number text is) some)
 
-  last_told : (cover : ℕ) (last : Option ℕ) → IsLast cover last → IsLastTold setup kept cover last
-  last_told cover None so n low high t = let some = tells_there n t in let e = sym (ap is_some (so n low high)) ∙ some in cc
-  last_told cover (Some last) so = (so.0, so.1, there_tells last so.2, λ n low high t. so.3 n low high (tells_there n t))
+  last_told : (to : ℕ) (last : Option ℕ) → IsLast to last → IsLastTold setup kept to last
+  last_told to None so = λ n low high t. let some = tells_there n t in let e = sym (ap is_some (so n low high)) ∙ some in cc
+  last_told to (Some last) so = (so.0, so.1, there_tells last so.2, λ n low high t. so.3 n low high (tells_there n t))
 
   pub covers : (finished to : ℕ) → cover_on setup finished 0 0 (letters_within kept (runs setup) 1 finished) ≡ Some to → (to ≡ cover setup kept finished release) × AreOrders 0 finished
   unfolding orders_to cover_of

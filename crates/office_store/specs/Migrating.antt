@@ -3,6 +3,7 @@ use Rattle.std.specs.Prelude.{◌≡◌, ◌≤◌, ℕ, List, [], ◌∷◌, Op
 use Rattle.std.specs.FinMap.{get}
 use Rattle.sqlite.specs.Order.{Row}
 use Rattle.sqlite.specs.Tree.{Trees}
+use Rattle.sqlite_rules.specs.Lists.{Has}
 use Rattle.office_mail.specs.declared.message.Message.{Message}
 use Rattle.office_mail.specs.declared.message.RunOrder.{RunOrder}
 use Rattle.office_mail.specs.Kept.{Kept}
@@ -11,9 +12,10 @@ use Rattle.office_mail.specs.Runs.{runs, cover, order_in_body}
 use Rattle.office_keeper.specs.Content.{Content}
 use Rattle.office_keeper.specs.LastDelays.{IsLastTold}
 use Rattle.office_store.specs.declared.said.Said.{Said}
-use Rattle.office_store.specs.Tables.{kept_rows, office_in, said_in}
+use Rattle.office_store.specs.Tables.{IsWhole, kept_rows, office_in, said_in}
 use Rattle.office_store.specs.TableContent.{message_at, release_place, content_in}
-use Rattle.office_store.specs.FactTables.{fact_entry, delays_of, delays_in, facts_in}
+use Rattle.office_store.specs.FactTables.{fact_entry, fact_in, delays_of, delays_in, facts_in}
+use Rattle.office_store.specs.Legible.{SaysOnce, AreReported, AreNamed}
 use Rattle.office_store.specs.SetupText.{setup_text}
 
 -- the run order that a message is
@@ -54,3 +56,11 @@ pub record Migrates (setup : Lists) (old new : Trees) : Type 0 where
 -- what the tables of schema 1 hold
 abbrev pub content_before : Lists → Trees → Content
 content_before setup db = record (content_in setup db) { facts = facts_in (release_place setup) (db 8) [] }
+
+-- the tables of schema 1 read as an office of that schema wrote them
+pub record IsLegibleBefore (setup : Lists) (db : Trees) : Type 0 where
+  pub office : SaysOnce (db 0)
+  pub mail : IsWhole (kept_rows (db 1)) (db 1)
+  pub runs : AreReported (db 3) office.said.finished
+  pub testing : AreNamed setup db
+  pub facts : (row : Row) → Has (db 8) row → IsSome (fact_in row)

@@ -6,6 +6,7 @@ mod fact_changes;
 mod fact_rows;
 mod faults;
 mod finishing;
+pub mod laws;
 mod layout;
 mod mail;
 mod migrating;

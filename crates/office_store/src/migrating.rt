@@ -6,6 +6,7 @@ ghost use Rattle.sqlite.specs.Held.{state};
 ghost use Rattle.sqlite.specs.State.{HasCleanDisk};
 ghost use Rattle.office_mail.specs.Lists.{Lists};
 ghost use Rattle.office_mail.specs.Runs.{runs, cover, order_in_body};
+ghost use Rattle.office_mail.specs.Setup.{IsSetup};
 ghost use Rattle.office_keeper.specs.Content.{letters_within};
 ghost use Rattle.office_keeper.specs.LastDelays.{delays_in_body, IsLastTold};
 ghost use Rattle.office_keeper.specs.declared.faults.Cause.TheVariants.{BadRow};
@@ -16,7 +17,7 @@ ghost use Rattle.office_store.specs.TableContent.{release_place};
 ghost use Rattle.office_store.specs.CreatingSteps.{IsBuilding};
 ghost use Rattle.office_store.specs.SetupText.{setup_text as text_of};
 ghost use Rattle.office_store.specs.Opening.{lists_by, shown_office, text_before, text_of_one, IsAsItWas, IsKeptForOther, IsMigrated, IsUnreadable};
-ghost use Rattle.office_store.specs.Migrating.{AreMessages, Migrates};
+ghost use Rattle.office_store.specs.Migrating.{AreMessages};
 ghost use Rattle.office_store.specs.MigratingSteps.{count_by, count_shown, IsJudged, stated_by, next_stated, cover_on, next_told, told_on, PutsLast, Widens, WritesAnew};
 
 use crate::entries::own_message;
@@ -398,15 +399,16 @@ fn change_schema<S: Alter>(
     text: &str,
 ) -> Result<usize, OpenFault>
     requires building { IsTrusted (state S.Store tx.old.conn.now) → IsBuilding schema_before (state S.Store tx.old.conn.now) }
+    requires text { text.now ≡ text_of setup.now }
+    requires valid { IsSetup setup.now }
     ensures same_reference { tx.new.conn.ghost_name ≡ tx.old.conn.ghost_name }
     ensures before { IsTrusted (state S.Store tx.new.conn.now) → IsTrusted (state S.Store tx.old.conn.now) }
     ensures lasts { Lasts (state S.Store tx.old.conn.now) (state S.Store tx.new.conn.now) }
     ensures open { HasCleanDisk (state S.Store tx.new.conn.now) → IsTrusted (state S.Store tx.old.conn.now) → OnOk result (IsTrusted (state S.Store tx.new.conn.now)) }
     ensures on { IsTrusted (state S.Store tx.new.conn.now) → OnOk result (WentOn (state S.Store tx.old.conn.now) (state S.Store tx.new.conn.now)) }
-    ensures setup_is { IsTrusted (state S.Store tx.new.conn.now) → OnOk result (lists_by (text_before ((state S.Store tx.old.conn.now).now.trees 0)) ≡ Some setup.now) }
-    ensures migrates { IsTrusted (state S.Store tx.new.conn.now) → text.now ≡ text_of setup.now → OnOk result (Migrates setup.now (state S.Store tx.old.conn.now).now.trees (state S.Store tx.new.conn.now).now.trees) }
+    ensures migrated { IsTrusted (state S.Store tx.new.conn.now) → OnOk result (IsMigrated setup.now (state S.Store tx.old.conn.now).now (state S.Store tx.new.conn.now).now) }
     ensures err { IsTrusted (state S.Store tx.new.conn.now) → OnErr result ((state S.Store tx.new.conn.now).committed ≡ (state S.Store tx.old.conn.now).committed) }
-    ensures other { IsTrusted (state S.Store tx.new.conn.now) → result ≡ Err OpenFault.OtherSetup → (kept : Lists) × (lists_by (text_before ((state S.Store tx.old.conn.now).now.trees 0)) ≡ Some kept) × (kept ≢ setup.now) }
+    ensures other { IsTrusted (state S.Store tx.new.conn.now) → result ≡ Err OpenFault.OtherSetup → IsKeptForOther setup.now (state S.Store tx.old.conn.now).now }
     ensures unknown { IsTrusted (state S.Store tx.new.conn.now) → result ≡ Err OpenFault.UnknownSchema → lists_by (text_before ((state S.Store tx.old.conn.now).now.trees 0)) ≡ None }
     ensures bad { IsTrusted (state S.Store tx.new.conn.now) → result ≡ Err (OpenFault.Store BadRow) → IsUnreadable setup.now (state S.Store tx.old.conn.now).now }
 {
