@@ -2,14 +2,14 @@
 """Holds model.py against the statements, and crates/worked_rows/stdout against both. Exit status 0 where all agree."""
 import sys
 sys.dont_write_bytecode = True
-from rows import CRATE, agrees, all_rows, due, is_whole, judged, read
+from rows import CRATE, agrees, all_rows, due, in_memory, is_whole, judged, read
 
 counts = {"stated whole, the same by the model": 0, "stated in part, completed by the model": 0,
           "stated whole, not judged by the model": 0}
 faults, text = 0, ""
 for name, lines, statement in all_rows():
     came = judged(lines, statement)
-    if came is not None and not agrees(statement, came):
+    if came is not None and not agrees(in_memory(statement), came):
         print("the model says otherwise: %s\n%s" % (name, came))
         faults += 1
     kind = "not judged" if came is None else "the same" if is_whole(statement) else "in part"

@@ -7,6 +7,7 @@ HERE = os.path.dirname(os.path.abspath(__file__))
 CRATE = os.path.join(HERE, "..", "..", "crates", "worked_rows")
 LETTERS = {"n": "\n", "r": "\r", "f": "\xff", "x": "x" * 65498, "y": "y" * 8167}
 OMITTED = ".."
+OVER_TABLES = "over tables:\n"
 
 
 def read(folder, name):
@@ -89,14 +90,14 @@ def replayed(office, what, text, stated):
 
 
 def judged(lines, statement):
-    """What the model prints for a row, or None where the row has a step that it doesn't know."""
+    """What the model prints for a row in memory, or None where the row has a step that it doesn't know."""
     parts, office, out = [], Office(), ""
     for line in statement.split("\n"):
         if not parts or parts[-1][-1:] and parts[-1][-1].startswith("status "):
             parts.append([])
         parts[-1].append(line)
     for what, text in steps_of(lines):
-        if what == "reopen":
+        if what == "reopen" or what.startswith("sql "):
             continue
         if what == "asked":
             out += "".join(line + "\n" for line in statement.split("\n") if re.match("counted |asked ", line))
@@ -114,6 +115,11 @@ def agrees(statement, due):
     """Whether what is due is the statement, where a line `..` stands for any lines."""
     form = "".join("(?:.*\n)*?" if line == OMITTED else re.escape(line + "\n") for line in statement.split("\n")[:-1])
     return re.fullmatch(form, due) is not None
+
+
+def in_memory(statement):
+    """What a statement says of the office in memory."""
+    return statement.partition(OVER_TABLES)[0]
 
 
 def is_whole(statement):

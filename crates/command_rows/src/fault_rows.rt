@@ -18,6 +18,10 @@ fn faults_of_a_store(rt: HostRuntime) -> Result<(), Fail> {
             "the store was made for another setup: name that setup, or another file",
         ),
         (
+            StoreFault::Unreadable,
+            "the store is of an earlier version, and lacks an order, or has a text among its orders and its release mail that is no message of its own: put a copy in its place",
+        ),
+        (
             StoreFault::Failed(Error::SqliteFailure(ErrorCode::DiskFull)),
             "the store failed: database or disk is full: make room on the disk, and start again",
         ),

@@ -1,14 +1,13 @@
 //! The store in a file: its tables are opened, and closed.
 
-ghost use Rattle.std.specs.Prelude.{◌≡◌, ◌⊎◌, IsTrue, IfOk, OnOk};
+ghost use Rattle.std.specs.Prelude.{◌≡◌, IfOk, OnOk};
 ghost use Rattle.sqlite.specs.Files as files;
 ghost use Rattle.sqlite.specs.Files.{file_state};
 ghost use Rattle.sqlite.specs.Held.{state, IsNew};
 ghost use Rattle.sqlite.specs.Start.{FindsIn};
 ghost use Rattle.sqlite.specs.State.{HasCleanDisk};
 ghost use Rattle.sqlite.specs.WalFiles.{image_at};
-ghost use Rattle.office_store.specs.Layout.{has_none, HasEach};
-ghost use Rattle.office_store.specs.Opening.{IsOpened, IsAlone};
+ghost use Rattle.office_store.specs.Opening.{IsOpened, IsAlone, IsTakeable};
 ghost use Rattle.office_store.specs.Tables.{IsTrusted, Endures};
 ghost use Rattle.office_files.specs.Store.{FindsStore, OpensStore, status_of_store, told};
 
@@ -31,6 +30,9 @@ pub enum StoreFault {
     OtherSetup,
     #[error("the file has other tables than a store that this program reads: name another file")]
     UnknownSchema,
+    /// A store of an earlier version, which can't be migrated.
+    #[error("the store is of an earlier version, and lacks an order, or has a text among its orders and its release mail that is no message of its own: put a copy in its place")]
+    Unreadable,
     /// The database was opened, and then refused to make or to read the tables.
     #[error("the store failed: {0}: {remedy}", remedy = remedy(.0))]
     Failed(sqlite::Error),
@@ -64,6 +66,7 @@ pub fn store_status(fault: &StoreFault) -> u8
         | StoreFault::Unopened(_)
         | StoreFault::OtherSetup
         | StoreFault::UnknownSchema
+        | StoreFault::Unreadable
         | StoreFault::Failed(_)
         | StoreFault::Unclosed(_) => 4,
     }
@@ -76,7 +79,8 @@ fn told(fault: OpenFault) -> StoreFault
     match fault {
         OpenFault::NoMemory => StoreFault::NoMemory,
         OpenFault::OtherSetup => StoreFault::OtherSetup,
-        OpenFault::UnknownSchema | OpenFault::Store(Cause::BadRow) => StoreFault::UnknownSchema,
+        OpenFault::UnknownSchema => StoreFault::UnknownSchema,
+        OpenFault::Store(Cause::BadRow) => StoreFault::Unreadable,
         OpenFault::Store(Cause::Sqlite(error)) => StoreFault::Failed(error),
     }
 }
@@ -91,7 +95,7 @@ pub fn open_tables<S: Alter + Drop>(
     ensures before { IfOk result (λ tables. IsTrusted (state S.Store tables.0) → IsTrusted (state S.Store conn)) }
     ensures stays { IfOk result (λ tables. HasCleanDisk (state S.Store tables.0) → IsTrusted (state S.Store conn) → IsAlone (state S.Store conn).now → IsTrusted (state S.Store tables.0)) }
     ensures lasts { IfOk result (λ tables. Endures (state S.Store conn) (state S.Store tables.0)) }
-    ensures takes { OnOk result (IsTrue (has_none (state S.Store conn).now.schema) ⊎ HasEach (state S.Store conn).now.schema) }
+    ensures takes { OnOk result (IsTakeable (state S.Store conn).now.schema) }
     ensures setup { IfOk result (λ tables. tables.1.0 ≡ setup.now) }
 {
     match Tables::open(alloc, conn, setup) {

@@ -3,3 +3,4 @@ pub mod Content
 pub mod Keeping
 pub mod Provenance
 pub mod MemoryState
+pub mod LastDelays

@@ -24,3 +24,4 @@ pub mod StandFacts
 pub mod TakenFacts
 pub mod TextFacts
 pub mod WalkFacts
+pub mod MigratedFacts

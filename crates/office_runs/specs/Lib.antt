@@ -15,3 +15,4 @@ pub mod OfficeState
 pub mod State
 pub mod Taking
 pub mod Walk
+pub mod Migrated

@@ -4,8 +4,12 @@ ghost use Rattle.office_mail.specs.Kept.{Kept, Within};
 ghost use Rattle.office_mail.specs.Laws.{SameTexts};
 ghost use Rattle.office_mail.specs.Lists.{Lists};
 ghost use Rattle.office_mail.specs.Runs.{IsReady, IsReadyCount};
+ghost use Rattle.office_mail.specs.Setup.{count_of};
+ghost use Rattle.office_mail.specs.declared.setup.Role.TheVariants.{Release};
 ghost use Rattle.office_keeper.specs.Content.{Content, item_from_one, no_content};
+ghost use Rattle.office_keeper.specs.LastDelays.{GetsLast};
 ghost use Rattle.office_runs.specs.Laws.{RunsStand, TookTexts};
+ghost use Rattle.office_runs.specs.Migrated.{IsOfficeBefore};
 ghost use Rattle.office_runs.specs.Outcome.{outcome_of, reports_to};
 ghost use Rattle.office_runs.specs.State.{IsOffice, IsSound};
 
@@ -32,4 +36,10 @@ pub fn runs_stay()
     ensures reports { (setup : Lists) (small large : Kept) (k : ℕ) → Within small large → IsReady setup small k → reports_to setup large k ≡ reports_to setup small k }
     // So an office that went on, with more mail and more runs, has the reports that it had, and the same testing unless it finished a run.
     ensures office { (setup : Lists) (old new : Content) → IsOffice setup old → IsOffice setup new → Within old.kept new.kept → length old.reports ≤ length new.reports → RunsStand old new }
+{}
+
+/// What an office of schema 1 left, once it has the row of the last delays that the finished runs cover, is what an office
+/// leaves: its rows of facts are those of facts that stand for all covered mail.
+pub fn migrated_is_office()
+    ensures { (setup : Lists) (old new : Content) → count_of Release setup.senders ≡ 1 → IsOfficeBefore setup old → GetsLast setup old new → IsOffice setup new }
 {}

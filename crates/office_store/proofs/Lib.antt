@@ -44,3 +44,6 @@ pub mod TakeLemmas
 pub mod FactWrites
 pub mod InsideLemmas
 pub mod FactMoves
+pub mod RangeFacts
+pub mod MigrateLemmas
+pub mod MigratedContent

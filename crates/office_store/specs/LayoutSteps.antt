@@ -42,6 +42,10 @@ key_index name tree table places = record { name = name; tree = tree; table = ta
 unfoldable pub office_tables : List Table
 office_tables = standing office 0 ∷ standing mail 1 ∷ standing run 3 ∷ standing testing_source 4 ∷ standing testing_row 6 ∷ standing fact 8 ∷ standing fact_delays 10 ∷ []
 
+-- those of schema 1
+unfoldable pub tables_before : List Table
+tables_before = standing office 0 ∷ standing mail 1 ∷ standing run 3 ∷ standing testing_source 4 ∷ standing testing_row 6 ∷ standing fact 8 ∷ []
+
 unfoldable pub mail_index : Index
 mail_index = key_index (codes "sqlite_autoindex_mail_1") 2 1 (1 ∷ 2 ∷ [])
 

@@ -1,4 +1,5 @@
 pub use Rattle.office_keeper.specs.FactSet
+pub use Rattle.office_keeper.specs.LastDelays
 pub use Rattle.office_keeper.specs.Content
 pub use Rattle.office_keeper.specs.Keeping
 pub use Rattle.office_keeper.specs.Provenance
@@ -14,6 +15,8 @@ pub mod FactTables
 pub mod Creating
 pub mod CreatingSteps
 pub mod SetupText
+pub mod Migrating
+pub mod MigratingSteps
 pub mod Opening
 pub mod TableContent
 pub mod Legible

@@ -32,7 +32,7 @@ use testing_model::{RowIn, SharedBinary, SourceIn};
 use testing_suites::Testing;
 
 /// The message that a text is, where it is of this sender and number.
-fn own_message(
+pub(crate) fn own_message(
     alloc: Global,
     setup: &Setup,
     text: &[u8],

@@ -107,7 +107,7 @@ fn add_fact<S: Alter>(
 }
 
 /// Adds the number of the last delays.
-fn add_delays<S: Alter>(tx: &mut Transaction<'_, S>, number: u32) -> Result<usize, Error>
+pub(crate) fn add_delays<S: Alter>(tx: &mut Transaction<'_, S>, number: u32) -> Result<usize, Error>
     requires inside { IsTrusted (state S.Store tx.old.conn.now) → IsInside (state S.Store tx.old.conn.now) }
     ensures same_reference { tx.new.conn.ghost_name ≡ tx.old.conn.ghost_name }
     ensures before { IsTrusted (state S.Store tx.new.conn.now) → IsTrusted (state S.Store tx.old.conn.now) }

@@ -1,8 +1,8 @@
 //! Whether a database has the office's tables, column by column, alone or beside others.
 ghost use Rattle.std.specs.Prelude.{◌≡◌, ◌↔◌, [], ◌∷◌, codes, IsTrue, IfOk};
 ghost use Rattle.std.specs.Option.{option_copied};
-ghost use Rattle.office_store.specs.Layout.{column_by, to_mail, office, mail, run, testing_source, testing_row, fact, fact_delays, no_schema, office_schema, standing, is_free, has_none, table_by, IsFound, HasEach};
-ghost use Rattle.office_store.specs.LayoutSteps.{key_index, IsBare, IsAt, IsNumbered, IsKeyed, office_tables, office_indexes, mail_index, testing_source_index, testing_row_index, fact_index};
+ghost use Rattle.office_store.specs.Layout.{column_by, to_mail, office, mail, run, testing_source, testing_row, fact, fact_delays, no_schema, schema_before, office_schema, standing, is_free, has_none, table_by, IsFound, HasEach, HasEachBefore};
+ghost use Rattle.office_store.specs.LayoutSteps.{key_index, IsBare, IsAt, IsNumbered, IsKeyed, office_tables, tables_before, office_indexes, mail_index, testing_source_index, testing_row_index, fact_index};
 ghost use Rattle.sqlite_value.specs.Keys.{plain};
 
 use sqlite_items::Items;
@@ -370,6 +370,24 @@ fn are_tables(alloc: Global, tables: &[Table]) -> Result<bool, AllocError>
     }
 }
 
+/// Whether these are the office's six tables of schema 1.
+#[tactic(auto, unfolding(crate::specs::LayoutSteps::tables_before))]
+fn are_tables_before(alloc: Global, tables: &[Table]) -> Result<bool, AllocError>
+    ensures { IfOk result (λ same. IsTrue same ↔ (tables.now ≡ tables_before)) }
+{
+    match tables {
+        [office, mail, run, source, row, facts] => Ok(
+            is_office(alloc, office, 0)?
+                && is_mail(alloc, mail, 1)?
+                && is_run(alloc, run, 3)?
+                && is_testing_source(alloc, source, 4)?
+                && is_testing_row(alloc, row, 6)?
+                && is_fact(alloc, facts, 8)?,
+        ),
+        _ => Ok(false),
+    }
+}
+
 /// Whether an index is that of mail's key.
 #[tactic(auto, unfolding(crate::specs::LayoutSteps::mail_index))]
 fn is_mail_index(index: &Index) -> bool
@@ -424,6 +442,16 @@ pub(crate) fn has_tables(alloc: Global, schema: &Schema) -> Result<bool, AllocEr
     ensures { IfOk result (λ same. IsTrue same ↔ (schema.now ≡ office_schema)) }
 {
     let tables = are_tables(alloc, schema.tables.as_slice())?;
+    let indexes = are_indexes(schema.indexes.as_slice());
+    Ok(tables && indexes && schema.views.is_empty())
+}
+
+/// Whether a database has the office's six tables of schema 1 with the indexes of their keys, and nothing else.
+#[tactic(auto, using(crate::proofs::SchemaLemmas::whole_before, crate::proofs::SchemaLemmas::parts_before))]
+pub(crate) fn has_tables_before(alloc: Global, schema: &Schema) -> Result<bool, AllocError>
+    ensures { IfOk result (λ same. IsTrue same ↔ (schema.now ≡ schema_before)) }
+{
+    let tables = are_tables_before(alloc, schema.tables.as_slice())?;
     let indexes = are_indexes(schema.indexes.as_slice());
     Ok(tables && indexes && schema.views.is_empty())
 }
@@ -553,5 +581,26 @@ pub(crate) fn has_each(alloc: Global, schema: &Schema) -> Result<bool, AllocErro
             && has_testing_source(alloc, schema)?
             && has_testing_row(alloc, schema)?
             && has_facts(alloc, schema)?,
+    )
+}
+
+/// Whether the table of facts is there, and nothing has the name of the number of the last delays.
+fn has_facts_before(alloc: Global, schema: &Schema) -> Result<bool, AllocError>
+    ensures { IfOk result (λ before. IsTrue before ↔ (IsFound fact (table_by (codes "fact") schema.now) × IsTrue (is_free (codes "fact_delays") schema.now))) }
+{
+    Ok(has_fact(alloc, schema)? && is_free(schema, b"fact_delays"))
+}
+
+/// Whether each of the office's six tables of schema 1 is there, and not the seventh, whatever else is.
+pub(crate) fn has_each_before(alloc: Global, schema: &Schema) -> Result<bool, AllocError>
+    ensures { IfOk result (λ all. IsTrue all ↔ HasEachBefore schema.now) }
+{
+    Ok(
+        has_office(alloc, schema)?
+            && has_mail(alloc, schema)?
+            && has_run(alloc, schema)?
+            && has_testing_source(alloc, schema)?
+            && has_testing_row(alloc, schema)?
+            && has_facts_before(alloc, schema)?,
     )
 }

@@ -113,7 +113,7 @@ fn letter_in(row: &Row, sender: u32) -> Result<Letter, KeepFault>
 }
 
 /// The letters in these rows, in their order.
-fn letters_in(alloc: Global, rows: &[Row], sender: u32) -> Result<Vec<Letter>, KeepFault>
+pub(crate) fn letters_in(alloc: Global, rows: &[Row], sender: u32) -> Result<Vec<Letter>, KeepFault>
     ensures ok { IfOk result (λ letters. map shown_letter rows.now ≡ map Some (map (letter_entry sender) letters.items)) }
     ensures bad { result ≡ Err (KeepFault.Store Cause.BadRow) → ShowsLetters sender rows.now → ⊥ }
 {
@@ -140,7 +140,7 @@ fn are_rising(letters: &[Letter]) -> bool
 }
 
 /// These letters by their numbers. Where two have one number, the table is no office's.
-fn by_number(letters: Vec<Letter>) -> Result<Vec<Letter>, KeepFault>
+pub(crate) fn by_number(letters: Vec<Letter>) -> Result<Vec<Letter>, KeepFault>
     ensures same { IfOk result (λ sorted. IsPermutation letters.items sorted.items) }
     ensures rising { IfOk result (λ sorted. rises_from 0 sorted.items ≡ true) }
     ensures bad { result ≡ Err (KeepFault.Store Cause.BadRow) → ((number : ℕ) → length (filter (λ l. nat_eq l.number number) letters.items) ≤ 1) → ⊥ }

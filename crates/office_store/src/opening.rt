@@ -7,15 +7,16 @@ ghost use Rattle.sqlite.specs.State.{HasCleanDisk};
 ghost use Rattle.office_mail.specs.Lists.{Lists};
 ghost use Rattle.office_store.specs.Tables.{IsTrusted, IsOurs, number_in, text_in, Endures, Lasts};
 ghost use Rattle.office_store.specs.TableSteps.{Same};
-ghost use Rattle.office_store.specs.Opening.{open_fault, text_by, shown_office, text_of_one, kept_text, lists_by, IsKeptFor, IsOpened, IsNewFor, IsKeptForOther, IsUnknown, IsAsItWas, IsAlone};
+ghost use Rattle.office_store.specs.Opening.{open_fault, text_by, shown_office, text_of_one, kept_text, lists_by, IsKeptFor, IsOpened, IsKeptForOther, IsUnknown, IsUnreadable, IsAsItWas, IsAlone, IsTakeable};
 ghost use Rattle.office_store.specs.Creating.{IsBlank};
-ghost use Rattle.office_store.specs.Layout.{no_schema, has_none, HasEach};
+ghost use Rattle.office_store.specs.Layout.{no_schema, has_none, HasEachBefore};
 ghost use Rattle.office_store.specs.Fresh.{IsEmptyFor};
 ghost use Rattle.office_store.specs.SetupText.{setup_text as text_of};
 ghost use Rattle.office_store.specs.declared.opening.OpenFault.TheVariants as fault;
 ghost use Rattle.office_keeper.specs.declared.faults.Cause.TheVariants.{BadRow};
 
-use crate::layout::{has_each, has_none, has_tables, is_fresh};
+use crate::layout::{has_each, has_each_before, has_none, has_tables, has_tables_before, is_fresh};
+use crate::migrating::migrate;
 use crate::on_sqlite::Tables;
 use crate::runs::office_rows;
 use crate::schema;
@@ -66,7 +67,7 @@ impl From<Error> for OpenFault {
 }
 
 /// The number from 0 in a column, or none.
-fn number_at(row: &Row, at: usize) -> Option<u64>
+pub(crate) fn number_at(row: &Row, at: usize) -> Option<u64>
     ensures { result ≡ number_in (column row.now at) }
 {
     match row.get_ref(at) {
@@ -85,15 +86,15 @@ fn text_at<'a>(row: &'a Row, at: usize) -> Option<&'a [u8]>
     }
 }
 
-/// The setup's text in a row of the office, or none where the row isn't one of this schema.
-fn row_text<'a>(row: &'a Row) -> Option<&'a [u8]>
-    ensures { option_copied result ≡ text_by (shown_office row.now) }
+/// The setup's text in a row of the office, or none where the row isn't one of the schema of this number.
+fn row_text<'a>(row: &'a Row, expected: u64) -> Option<&'a [u8]>
+    ensures { option_copied result ≡ text_by expected (shown_office row.now) }
 {
     let id = number_at(row, 0)?;
     let schema = number_at(row, 1)?;
     let setup = text_at(row, 2)?;
     let finished = number_at(row, 3)?;
-    if id == 1 && schema == 2 && finished <= 4_294_967_295 {
+    if id == 1 && schema == expected && finished <= 4_294_967_295 {
         Some(setup)
     } else {
         None
@@ -101,11 +102,11 @@ fn row_text<'a>(row: &'a Row) -> Option<&'a [u8]>
 }
 
 /// The setup's text in the only row, or none.
-fn only_text<'a>(rows: &'a [Row]) -> Option<&'a [u8]>
-    ensures { option_copied result ≡ text_of_one shown_office rows.now }
+fn only_text<'a>(rows: &'a [Row], expected: u64) -> Option<&'a [u8]>
+    ensures { option_copied result ≡ text_of_one expected shown_office rows.now }
 {
     match rows {
-        [row] => row_text(row),
+        [row] => row_text(row, expected),
         _ => None,
     }
 }
@@ -123,24 +124,29 @@ fn setup_of(alloc: Global, text: &[u8]) -> Result<Option<Setup>, OpenFault>
 }
 
 /// The setup that the only row of the office keeps, or none.
-fn kept_setup(alloc: Global, rows: &[Row]) -> Result<Option<Setup>, OpenFault>
-    ensures value { IfOk result (λ setup. setup ≡ lists_by (text_of_one shown_office rows.now)) }
+fn kept_setup(alloc: Global, rows: &[Row], expected: u64) -> Result<Option<Setup>, OpenFault>
+    ensures value { IfOk result (λ setup. setup ≡ lists_by (text_of_one expected shown_office rows.now)) }
     ensures err { IfErr result (λ e. e ≡ OpenFault.NoMemory) }
 {
-    match only_text(rows) {
+    match only_text(rows, expected) {
         Some(text) => setup_of(alloc, text),
         None => Ok(None),
     }
 }
 
-/// Whether the rows of the office are those of one with this setup.
-fn judge(alloc: Global, rows: &[Row], setup: &Setup) -> Result<(), OpenFault>
-    ensures ok { OnOk result (lists_by (text_of_one shown_office rows.now) ≡ Some setup.now) }
-    ensures other { result ≡ Err OpenFault.OtherSetup → (kept : Lists) × (lists_by (text_of_one shown_office rows.now) ≡ Some kept) × (kept ≢ setup.now) }
-    ensures unknown { result ≡ Err OpenFault.UnknownSchema → lists_by (text_of_one shown_office rows.now) ≡ None }
+/// Whether the rows of the office are those of one with this setup, of the schema of this number.
+pub(crate) fn judge(
+    alloc: Global,
+    rows: &[Row],
+    expected: u64,
+    setup: &Setup,
+) -> Result<(), OpenFault>
+    ensures ok { OnOk result (lists_by (text_of_one expected shown_office rows.now) ≡ Some setup.now) }
+    ensures other { result ≡ Err OpenFault.OtherSetup → (kept : Lists) × (lists_by (text_of_one expected shown_office rows.now) ≡ Some kept) × (kept ≢ setup.now) }
+    ensures unknown { result ≡ Err OpenFault.UnknownSchema → lists_by (text_of_one expected shown_office rows.now) ≡ None }
     ensures bad { result ≢ Err (OpenFault.Store BadRow) }
 {
-    match kept_setup(alloc, rows)? {
+    match kept_setup(alloc, rows, expected)? {
         None => Err(OpenFault::UnknownSchema),
         Some(kept) => same_or_other(alloc, &kept, setup),
     }
@@ -173,7 +179,7 @@ fn go_on<S: Alter>(alloc: Global, conn: &mut Connection<S>, setup: &Setup) -> Re
     ensures bad { result ≢ Err (OpenFault.Store BadRow) }
 {
     let rows = office_rows(conn)?;
-    judge(alloc, rows.as_slice(), setup)
+    judge(alloc, rows.as_slice(), 2, setup)
 }
 
 /// Makes the office's tables in a database that has none of them.
@@ -195,7 +201,7 @@ fn begin<S: Alter>(alloc: Global, conn: &mut Connection<S>, setup: &Setup) -> Re
     Ok(())
 }
 
-/// Makes the office's tables beside others, or finds them there.
+/// Makes the office's tables beside others, or finds or migrates them there.
 ///
 /// What a statement does to the seven tables is proved where no others stand beside them. So nothing may be promised here
 /// of what is kept. Each such promise asks that the connection is trusted, and one with a limit on the steps of a
@@ -209,13 +215,17 @@ fn prepare_among<S: Alter>(
     ensures endures { Endures (state S.Store conn.old) (state S.Store conn.new) }
     ensures before { IsTrusted (state S.Store conn.new) → conn.new ≡ conn.old }
     ensures apart { IsTrusted (state S.Store conn.new) → result ≡ Err OpenFault.UnknownSchema ⊎ (result ≡ Err OpenFault.NoMemory) }
-    ensures takes { OnOk result (IsTrue (has_none (state S.Store conn.old).now.schema) ⊎ HasEach (state S.Store conn.old).now.schema) }
+    ensures takes { OnOk result (IsTakeable (state S.Store conn.old).now.schema) }
     ensures leaves { result ≡ Err OpenFault.UnknownSchema → has_none (state S.Store conn.old).now.schema ≡ false }
-    ensures bad { result ≢ Err (OpenFault.Store BadRow) }
+    ensures bad { result ≡ Err (OpenFault.Store BadRow) → HasEachBefore (state S.Store conn.old).now.schema }
 {
     if has_none(conn.schema()) {
         conn.set_step_limit(Some(u64::MAX));
         return begin(alloc, conn, setup);
+    }
+    if has_each_before(alloc, conn.schema())? {
+        conn.set_step_limit(Some(u64::MAX));
+        return migrate(alloc, conn, setup);
     }
     if !has_each(alloc, conn.schema())? {
         return Err(OpenFault::UnknownSchema);
@@ -224,8 +234,8 @@ fn prepare_among<S: Alter>(
     go_on(alloc, conn, setup)
 }
 
-/// Makes or finds the office's tables.
-#[tactic(auto, using(crate::proofs::SchemaLemmas::each))]
+/// Makes, finds or migrates the office's tables.
+#[tactic(auto, using(crate::proofs::SchemaLemmas::each, crate::proofs::SchemaLemmas::each_before))]
 fn prepare<S: Alter>(
     alloc: Global,
     conn: &mut Connection<S>,
@@ -234,13 +244,14 @@ fn prepare<S: Alter>(
     ensures before { IsTrusted (state S.Store conn.new) → IsTrusted (state S.Store conn.old) }
     ensures endures { Endures (state S.Store conn.old) (state S.Store conn.new) }
     ensures open { HasCleanDisk (state S.Store conn.new) → IsTrusted (state S.Store conn.old) → IsAlone (state S.Store conn.old).now → OnOk result (IsTrusted (state S.Store conn.new)) }
-    ensures takes { OnOk result (IsTrue (has_none (state S.Store conn.old).now.schema) ⊎ HasEach (state S.Store conn.old).now.schema) }
+    ensures takes { OnOk result (IsTakeable (state S.Store conn.old).now.schema) }
     ensures ours { IsTrusted (state S.Store conn.new) → OnOk result (IsOurs (state S.Store conn.new)) }
     ensures opened { IsTrusted (state S.Store conn.new) → OnOk result (IsOpened setup.now (state S.Store conn.old).now (state S.Store conn.new).now) }
     ensures err { IsTrusted (state S.Store conn.new) → OnErr result (IsAsItWas (state S.Store conn.old) (state S.Store conn.new)) }
     ensures other { IsTrusted (state S.Store conn.new) → result ≡ Err OpenFault.OtherSetup → IsKeptForOther setup.now (state S.Store conn.old).now }
     ensures unknown { IsTrusted (state S.Store conn.new) → result ≡ Err OpenFault.UnknownSchema → IsUnknown (state S.Store conn.old).now }
-    ensures bad { result ≢ Err (OpenFault.Store BadRow) }
+    ensures six { result ≡ Err (OpenFault.Store BadRow) → HasEachBefore (state S.Store conn.old).now.schema }
+    ensures bad { IsTrusted (state S.Store conn.new) → result ≡ Err (OpenFault.Store BadRow) → IsUnreadable setup.now (state S.Store conn.old).now }
 {
     if !conn.is_autocommit() {
         return Err(OpenFault::Store(Cause::Sqlite(Error::InvalidQuery)));
@@ -251,16 +262,23 @@ fn prepare<S: Alter>(
     if has_tables(alloc, conn.schema())? {
         return go_on(alloc, conn, setup);
     }
+    if has_tables_before(alloc, conn.schema())? {
+        return migrate(alloc, conn, setup);
+    }
     prepare_among(alloc, conn, setup)
 }
 
 impl<S: Alter> Tables<S> {
     /// The office's tables in a database. One that has none of them gets them, with this setup, no mail and no run; one
-    /// that was made for this setup goes on as it was left. Tables, views and indexes of other names don't count, and
-    /// stay. `OtherSetup` comes where the database was made for other architectures or senders, by names, roles or
-    /// order. `UnknownSchema` comes where it has some of the office's seven tables, or a view or an index of such a name,
-    /// but wasn't made for any setup: it has not all seven, column by column, or the office's table hasn't just one row,
-    /// with id 1, schema number 2 and a text that is a setup. A connection in a transaction is refused by `Store`. A
+    /// that was made for this setup goes on as it was left. One of schema 1 that was made for this setup is migrated, all
+    /// or nothing: it gets the seventh table, with the last delays that its finished runs cover, and the schema's number
+    /// 2. Tables, views and indexes of other names don't count, and stay. `OtherSetup` comes where the database was made
+    /// for other architectures or senders, by names, roles or order. `UnknownSchema` comes where it has some of the
+    /// office's seven tables, or a view or an index of such a name, but wasn't made for any setup: it has neither all
+    /// seven, column by column, nor all but `fact_delays`, or the office's table hasn't just one row, with id 1, the
+    /// schema's number, which is 2 for seven tables and 1 for six, and a text that is a setup. `Store` with `BadRow` comes
+    /// where a store of schema 1 lacks an order of its finished runs, or one of them, or a text of the release team up to
+    /// their cover, isn't a message of its own sender and number. A connection in a transaction is refused by `Store`. A
     /// refusal hands the connection back and leaves the database as it was.
     ///
     /// Where other tables, views or indexes stand there too, nothing is promised of what is kept, only that each call
@@ -275,13 +293,14 @@ impl<S: Alter> Tables<S> {
         ensures stays { IfOk result (λ tables. HasCleanDisk (state S.Store tables.0) → IsTrusted (state S.Store conn) → IsAlone (state S.Store conn).now → IsTrusted (state S.Store tables.0)) }
         ensures lasts { IfOk result (λ tables. Endures (state S.Store conn) (state S.Store tables.0)) }
         ensures shut { IfErr result (λ refused. Endures (state S.Store conn) (state S.Store refused.1)) }
-        ensures takes { OnOk result (IsTrue (has_none (state S.Store conn).now.schema) ⊎ HasEach (state S.Store conn).now.schema) }
+        ensures takes { OnOk result (IsTakeable (state S.Store conn).now.schema) }
         ensures setup { IfOk result (λ tables. tables.1.0 ≡ setup.now) }
         ensures count { IfOk result (λ tables. tables.1.1 ≡ 0) }
         ensures err { IfErr result (λ refused. IsTrusted (state S.Store refused.1) → IsAsItWas (state S.Store conn) (state S.Store refused.1)) }
         ensures other { IfErr result (λ refused. IsTrusted (state S.Store refused.1) → refused.0 ≡ OpenFault.OtherSetup → IsKeptForOther setup.now (state S.Store conn).now) }
         ensures unknown { IfErr result (λ refused. IsTrusted (state S.Store refused.1) → refused.0 ≡ OpenFault.UnknownSchema → IsUnknown (state S.Store conn).now) }
-        ensures bad { IfErr result (λ refused. refused.0 ≢ OpenFault.Store BadRow) }
+        ensures six { IfErr result (λ refused. refused.0 ≡ OpenFault.Store BadRow → HasEachBefore (state S.Store conn).now.schema) }
+        ensures bad { IfErr result (λ refused. IsTrusted (state S.Store refused.1) → refused.0 ≡ OpenFault.Store BadRow → IsUnreadable setup.now (state S.Store conn).now) }
     {
         let Ok(copy) = setup.copy(alloc) else {
             return Err((OpenFault::NoMemory, conn));

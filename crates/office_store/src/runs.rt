@@ -196,7 +196,7 @@ fn add_run<S: Alter>(
 }
 
 /// Takes out what the office says of itself.
-fn clear_office<S: Alter>(tx: &mut Transaction<'_, S>) -> Result<usize, Error>
+pub(crate) fn clear_office<S: Alter>(tx: &mut Transaction<'_, S>) -> Result<usize, Error>
     requires inside { IsTrusted (state S.Store tx.old.conn.now) → IsInside (state S.Store tx.old.conn.now) }
     ensures same_reference { tx.new.conn.ghost_name ≡ tx.old.conn.ghost_name }
     ensures before { IsTrusted (state S.Store tx.new.conn.now) → IsTrusted (state S.Store tx.old.conn.now) }

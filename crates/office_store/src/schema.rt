@@ -110,7 +110,7 @@ fn create_fact<S: Alter>(tx: &mut Transaction<'_, S>) -> Result<usize, Error>
 }
 
 /// Makes the table of the number of the last delays.
-fn create_fact_delays<S: Alter>(tx: &mut Transaction<'_, S>) -> Result<usize, Error>
+pub(crate) fn create_fact_delays<S: Alter>(tx: &mut Transaction<'_, S>) -> Result<usize, Error>
     requires building { IsTrusted (state S.Store tx.old.conn.now) → IsBuilding schema_of_six (state S.Store tx.old.conn.now) }
     ensures same_reference { tx.new.conn.ghost_name ≡ tx.old.conn.ghost_name }
     ensures before { IsTrusted (state S.Store tx.new.conn.now) → IsTrusted (state S.Store tx.old.conn.now) }

@@ -1,6 +1,6 @@
 //! Offices for rows, over each store.
 
-use crate::sitting::{setup_in, sit, statement_in, tells_facts};
+use crate::sitting::{setup_in, sit, tells_facts};
 use crate::steps::facts_in;
 use deb_version::NoMemory;
 use office_http::Office;
@@ -11,6 +11,9 @@ use std::alloc::Global;
 
 /// What parts the sittings of a row.
 pub const REOPEN: &str = "\n> reopen";
+
+/// What begins a statement of SQL, by which tables are changed before they are opened.
+const STATEMENT: &str = "\n> sql ";
 
 /// What comes of a row in one office in memory, which stands from its first step to its last.
 pub fn in_memory(alloc: Global, row: &str) -> Result<Vec<u8>, NoMemory> {
@@ -46,7 +49,7 @@ pub fn in_tables(alloc: Global, row: &str) -> Result<Vec<u8>, NoMemory> {
     Ok(came)
 }
 
-/// The connection after a sitting's statement, if it gives one. One that fails is told.
+/// The connection after a sitting's statements. One that fails is told.
 fn changed_in<S: Alter + Drop>(
     alloc: Global,
     conn: Connection<S>,
@@ -54,12 +57,14 @@ fn changed_in<S: Alter + Drop>(
     came: &mut Vec<u8>,
 ) -> Result<Connection<S>, NoMemory> {
     let mut conn = conn;
-    let Some(statement) = statement_in(sitting) else {
-        return Ok(conn);
-    };
-    if let Err(error) = conn.execute(statement, &[]) {
-        let line = format!(in alloc; "statement failed: {error:?}\n")?;
-        came.extend_from_slice(line.as_bytes())?;
+    let mut parts = sitting.split(STATEMENT);
+    let _before = parts.next();
+    for part in parts {
+        let statement = part.lines().next().unwrap_or("");
+        if let Err(error) = conn.execute(statement, &[]) {
+            let line = format!(in alloc; "statement failed: {error:?}\n")?;
+            came.extend_from_slice(line.as_bytes())?;
+        }
     }
     Ok(conn)
 }

@@ -39,12 +39,6 @@ pub fn setup_in(sitting: &str) -> &str {
     }
 }
 
-/// The statement of SQL that a sitting gives, which its tables are changed by before they are opened.
-pub fn statement_in(sitting: &str) -> Option<&str> {
-    let (_, rest) = sitting.split_once("\n> sql ")?;
-    rest.lines().next()
-}
-
 /// Takes the steps of a sitting in an office, and adds what comes of them. The text before the first step is none.
 pub fn sit<K: Keeper>(
     alloc: Global,
