@@ -8,7 +8,7 @@ use Rattle.sqlite.specs.Tree.{Trees}
 use Rattle.office_mail.specs.Kept.{Place, place_cmp}
 use Rattle.office_mail.specs.Lists.{Lists}
 use Rattle.office_keeper.specs.declared.values.Reports.{Reports}
-use Rattle.office_store.specs.declared.said.Said.{Said}
+use Rattle.office_tables.specs.declared.said.Said.{Said}
 use Rattle.std.specs.Ordering.{nat_cmp}
 use Rattle.testing_items.specs.Words.{byte_cmp}
 use Rattle.testing_model.specs.Moves.{row_cmp}
@@ -18,11 +18,11 @@ use Rattle.office_store.specs.Fresh.{IsEmptyFor}
 use Rattle.office_store.proofs.SetupRoundTrip.{text_utf8}
 use Rattle.office_keeper.specs.Content.{no_content}
 use Rattle.office_store.specs.Creating.{IsBlank}
-use Rattle.office_store.specs.Tables.{kept_rows}
-use Rattle.office_store.specs.Entries.{source_map, entry_map}
-use Rattle.office_store.specs.TableContent.{content_in, reports_to, suite_in, source_at, row_at, release_place}
-use Rattle.office_store.specs.FactTables.{facts_in}
-use Rattle.office_store.specs.Legible.{IsLegible, IsWhole, SaysOnce, AreReported, AreNamed, AreRead}
+use Rattle.office_tables.specs.Tables.{kept_rows}
+use Rattle.office_tables.specs.Entries.{source_map, entry_map}
+use Rattle.office_tables.specs.TableContent.{content_in, reports_to, suite_in, source_at, row_at, release_place}
+use Rattle.office_tables.specs.FactTables.{facts_in}
+use Rattle.office_tables.specs.Legible.{IsLegible, IsWhole, SaysOnce, AreReported, AreNamed, AreRead}
 
 -- what the office says in new tables
 abbrev pub new_said : List ℕ → Said

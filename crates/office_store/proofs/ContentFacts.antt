@@ -24,20 +24,20 @@ use Rattle.office_keeper.specs.declared.values.Finished.{Finished}
 use Rattle.office_keeper.specs.Content.{reports_in, with_run}
 use Rattle.office_keeper.specs.FactSet.{AreHoldable, facts_after}
 use Rattle.office_keeper.specs.Provenance.{IsKept, GivesSource, IsArchPlace, GivesRow, IsGiven}
-use Rattle.office_store.specs.Tables.{kept_rows, said_in, run_map}
-use Rattle.office_store.specs.TableSteps.{Rows, AddsLetter}
+use Rattle.office_tables.specs.Tables.{kept_rows, said_in, run_map}
+use Rattle.office_tables.specs.TableSteps.{Rows, AddsLetter}
 use Rattle.sqlite.specs.Effect.{Database}
-use Rattle.office_store.specs.Entries.{source_map, entry_map}
-use Rattle.office_store.specs.EntrySteps.{source_entry, row_entry}
-use Rattle.office_store.specs.FactTables.{facts_in}
-use Rattle.office_store.specs.Finishing.{FinishesRun}
-use Rattle.office_store.specs.TableContent.{own_by, message_by, message_at, source_as, source_by_message, source_at, is_arch_place, row_as, row_by_message, row_at, suite_in, reports_to, count_said, content_in, release_place}
-use Rattle.office_store.proofs.MailLemmas.{empty_of}
-use Rattle.office_store.proofs.SettingLemmas.{row_order}
-use Rattle.office_store.proofs.EntryLists.{suite_of}
-use Rattle.office_store.proofs.EntryValues.{read_has, source_keeps, row_keeps, all_back}
-use Rattle.office_store.proofs.ReportFacts.{length_reports, one_run_more}
-use Rattle.office_store.proofs.FactMoves.{holdable_stands}
+use Rattle.office_tables.specs.Entries.{source_map, entry_map}
+use Rattle.office_tables.specs.EntrySteps.{source_entry, row_entry}
+use Rattle.office_tables.specs.FactTables.{facts_in}
+use Rattle.office_tables.specs.Finishing.{FinishesRun}
+use Rattle.office_tables.specs.TableContent.{own_by, message_by, message_at, source_as, source_by_message, source_at, is_arch_place, row_as, row_by_message, row_at, suite_in, reports_to, count_said, content_in, release_place}
+use Rattle.office_tables.proofs.MailLemmas.{empty_of}
+use Rattle.office_tables.proofs.SettingLemmas.{row_order}
+use Rattle.office_tables.proofs.EntryLists.{suite_of}
+use Rattle.office_tables.proofs.EntryValues.{read_has, source_keeps, row_keeps, all_back}
+use Rattle.office_tables.proofs.ReportFacts.{length_reports, one_run_more}
+use Rattle.office_tables.proofs.FactMoves.{holdable_stands}
 
 -- ---- entries that are in order
 

@@ -12,17 +12,17 @@ use Rattle.sqlite.specs.Listing.{understood}
 use Rattle.sqlite.specs.State.{State, Writes, Executes}
 use Rattle.sqlite.proofs.Callers.{IsPlain, command_of, statement_of, runs_as}
 use Rattle.sqlite_tied.specs.Compute.{everything}
-use Rattle.office_store.specs.Layout.{no_schema, office, mail, run, testing_source, testing_row, fact, fact_delays}
-use Rattle.office_store.specs.Texts.{create_office_text, create_mail_text, create_run_text, create_testing_source_text, create_testing_row_text, create_fact_text, create_fact_delays_text}
+use Rattle.office_tables.specs.Layout.{no_schema, office, mail, run, testing_source, testing_row, fact, fact_delays}
+use Rattle.office_tables.specs.Texts.{create_office_text, create_mail_text, create_run_text, create_testing_source_text, create_testing_row_text, create_fact_text, create_fact_delays_text}
 use Rattle.sqlite.specs.Tree.{Trees, put_row}
-use Rattle.office_store.specs.declared.said.Said.{Said}
-use Rattle.office_store.specs.Tables.{IsTrusted, said_in}
-use Rattle.office_store.specs.TableSteps.{Rows, SaysMore}
-use Rattle.office_store.proofs.RunLemmas.{said_one}
+use Rattle.office_tables.specs.declared.said.Said.{Said}
+use Rattle.office_tables.specs.Tables.{IsTrusted, said_in}
+use Rattle.office_tables.specs.TableSteps.{Rows, SaysMore}
+use Rattle.office_tables.proofs.RunLemmas.{said_one}
 use Rattle.office_store.specs.Creating.{IsBlank}
 use Rattle.office_store.specs.CreatingSteps.{IsBuilding, Makes, MakesAll, schema_of_one, schema_of_two, schema_of_three, schema_of_four, schema_of_five, schema_of_six}
-use Rattle.office_store.proofs.StepLemmas.{Stepped, step_before, step_on, begun_ok}
-use Rattle.office_store.proofs.WriteLemmas.{went, same_value}
+use Rattle.office_tables.proofs.StepLemmas.{Stepped, step_before, step_on, begun_ok}
+use Rattle.office_tables.proofs.WriteLemmas.{went, same_value}
 
 -- the table is there, with no row, and the other tables have theirs
 pub record Defined (schema : Schema) (table : Table) (old new : Database) : Type 0 where

@@ -7,11 +7,11 @@ use Rattle.office_mail.specs.Lists.{Lists}
 use Rattle.office_keeper.specs.declared.faults.KeepFault.{KeepFault}
 use Rattle.office_keeper.specs.declared.faults.KeepFault.TheVariants.{Store}
 use Rattle.office_keeper.specs.declared.faults.Cause.TheVariants.{BadRow}
-use Rattle.office_store.specs.TableContent.{content_in, count_said}
-use Rattle.office_store.specs.Legible.{IsLegible}
-use Rattle.office_store.specs.Tables.{run_map, said_in}
-use Rattle.office_store.specs.TableSteps.{Same}
-use Rattle.office_store.proofs.ReportFacts.{length_reports}
+use Rattle.office_tables.specs.TableContent.{content_in, count_said}
+use Rattle.office_tables.specs.Legible.{IsLegible}
+use Rattle.office_tables.specs.Tables.{run_map, said_in}
+use Rattle.office_tables.specs.TableSteps.{Same}
+use Rattle.office_tables.proofs.ReportFacts.{length_reports}
 
 -- tables that a call left as they were stay legible
 pub legible_same : (setup : Lists) (old new : State) → Same old new → IsLegible setup old.now.trees → IsLegible setup new.now.trees

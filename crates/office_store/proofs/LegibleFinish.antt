@@ -15,23 +15,23 @@ use Rattle.office_mail.specs.Lists.{Lists}
 use Rattle.office_mail.specs.Kept.{Kept, Place}
 use Rattle.office_keeper.specs.declared.values.Finished.{Finished}
 use Rattle.office_keeper.specs.declared.values.Reports.{Reports}
-use Rattle.office_store.specs.declared.said.Said.{Said}
+use Rattle.office_tables.specs.declared.said.Said.{Said}
 use Rattle.office_keeper.specs.Content.{reports_in}
 use Rattle.office_keeper.specs.FactSet.{AreHoldable, facts_after}
 use Rattle.office_keeper.specs.Provenance.{IsGiven}
-use Rattle.office_store.specs.Tables.{IsWhole, kept_rows, said_in, run_map}
-use Rattle.office_store.specs.Entries.{source_map, entry_map}
-use Rattle.office_store.specs.EntrySteps.{source_entry, row_entry}
-use Rattle.office_store.specs.Finishing.{with_count, FinishesRun}
-use Rattle.office_store.specs.TableContent.{source_at, row_at, count_said, content_in, release_place}
-use Rattle.office_store.specs.Legible.{SaysOnce, AreReported, AreNamed, IsLegible}
-use Rattle.office_store.proofs.LetterFacts.{nat_is}
-use Rattle.office_store.proofs.SettingLemmas.{text_exact, row_order, row_exact}
-use Rattle.office_store.proofs.EntryMaps.{from_first}
-use Rattle.office_store.proofs.EntryValues.{has_map}
-use Rattle.office_store.proofs.ReportFacts.{length_reports}
+use Rattle.office_tables.specs.Tables.{IsWhole, kept_rows, said_in, run_map}
+use Rattle.office_tables.specs.Entries.{source_map, entry_map}
+use Rattle.office_tables.specs.EntrySteps.{source_entry, row_entry}
+use Rattle.office_tables.specs.Finishing.{with_count, FinishesRun}
+use Rattle.office_tables.specs.TableContent.{source_at, row_at, count_said, content_in, release_place}
+use Rattle.office_tables.specs.Legible.{SaysOnce, AreReported, AreNamed, IsLegible}
+use Rattle.office_tables.proofs.LetterFacts.{nat_is}
+use Rattle.office_tables.proofs.SettingLemmas.{text_exact, row_order, row_exact}
+use Rattle.office_tables.proofs.EntryMaps.{from_first}
+use Rattle.office_tables.proofs.EntryValues.{has_map}
+use Rattle.office_tables.proofs.ReportFacts.{length_reports}
 use Rattle.office_store.proofs.ContentFacts.{sources_named, rows_named}
-use Rattle.office_store.proofs.FactMoves.{holdable_stands}
+use Rattle.office_tables.proofs.FactMoves.{holdable_stands}
 
 each_has : {X : Type 0} (P : X → Type 0) (xs : List X) (x : X) → AllByRecursion P xs → Has xs x → P x
 each_has P [] x all there = absurd there

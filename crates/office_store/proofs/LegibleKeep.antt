@@ -18,16 +18,16 @@ use Rattle.office_mail.specs.Lists.{Lists}
 use Rattle.office_mail.specs.Kept.{Kept, Place, place_cmp}
 use Rattle.office_mail.proofs.KeptFacts.{places_total, exact_places}
 use Rattle.office_keeper.specs.Content.{with_text}
-use Rattle.office_store.specs.Tables.{letter_in, kept_rows, said_in, run_map}
-use Rattle.office_store.specs.TableSteps.{Rows, AddsLetter}
-use Rattle.office_store.specs.Entries.{source_map, entry_map}
-use Rattle.office_store.specs.TableContent.{message_by, message_at, source_by_message, source_at, row_by_message, row_at, suite_in, reports_to, count_said, content_in, release_place}
-use Rattle.office_store.specs.FactTables.{facts_in}
-use Rattle.office_store.specs.Legible.{IsWhole, SaysOnce, AreReported, AreNamed, AreRead, IsLegible}
-use Rattle.office_store.proofs.KeyedFacts.{tied}
-use Rattle.office_store.proofs.KeepLemmas.{inserted}
-use Rattle.office_store.proofs.SettingLemmas.{not_tied, row_order}
-use Rattle.office_store.proofs.Whole.{whole_put}
+use Rattle.office_tables.specs.Tables.{letter_in, kept_rows, said_in, run_map}
+use Rattle.office_tables.specs.TableSteps.{Rows, AddsLetter}
+use Rattle.office_tables.specs.Entries.{source_map, entry_map}
+use Rattle.office_tables.specs.TableContent.{message_by, message_at, source_by_message, source_at, row_by_message, row_at, suite_in, reports_to, count_said, content_in, release_place}
+use Rattle.office_tables.specs.FactTables.{facts_in}
+use Rattle.office_tables.specs.Legible.{IsWhole, SaysOnce, AreReported, AreNamed, AreRead, IsLegible}
+use Rattle.office_tables.proofs.KeyedFacts.{tied}
+use Rattle.office_tables.proofs.KeepLemmas.{inserted}
+use Rattle.office_tables.proofs.SettingLemmas.{not_tied, row_order}
+use Rattle.office_tables.proofs.Whole.{whole_put}
 
 -- ---- entries of a map
 

@@ -18,21 +18,21 @@ use Rattle.office_keeper.specs.declared.faults.KeepFault.TheVariants.{NoMemory, 
 use Rattle.office_keeper.specs.declared.faults.KeepFault.TheVariants as kept
 use Rattle.office_store.specs.declared.opening.OpenFault.{OpenFault}
 use Rattle.office_store.specs.declared.opening.OpenFault.TheVariants as opening
-use Rattle.office_store.specs.declared.said.Said.{Said}
-use Rattle.office_store.specs.Layout.{schema_before, office_schema, fact_delays}
-use Rattle.office_store.specs.Tables.{number_in, text_in, office_by, office_in, said_in, kept_rows, IsWhole}
-use Rattle.office_store.specs.TableContent.{release_place}
-use Rattle.office_store.specs.TableSteps.{Rows, rows_in, SaysAlone, Silences, SaysMore, office_columns}
-use Rattle.office_store.specs.FactSteps.{AddsDelays}
+use Rattle.office_tables.specs.declared.said.Said.{Said}
+use Rattle.office_tables.specs.Layout.{schema_before, office_schema, fact_delays}
+use Rattle.office_tables.specs.Tables.{number_in, text_in, office_by, office_in, said_in, kept_rows, IsWhole}
+use Rattle.office_tables.specs.TableContent.{release_place}
+use Rattle.office_tables.specs.TableSteps.{Rows, rows_in, SaysAlone, Silences, SaysMore, office_columns}
+use Rattle.office_tables.specs.FactSteps.{AddsDelays}
 use Rattle.office_store.specs.CreatingSteps.{Makes, schema_of_six}
 use Rattle.office_store.specs.SetupText.{setup_text}
 use Rattle.office_store.specs.Opening.{text_by, shown_office, text_of_one, text_before, kept_text, lists_by, open_fault, IsKeptFor, IsKeptBefore, IsKeptForOther, IsMigrated, IsUnreadable}
 use Rattle.office_keeper.specs.LastDelays.{IsLastTold}
 use Rattle.office_store.specs.Migrating.{AreMessages, KeepsDelays, Migrates}
 use Rattle.office_store.specs.MigratingSteps.{count_by, count_shown, IsJudged, PutsLast, Widens, WritesAnew}
-use Rattle.office_store.proofs.MailLemmas.{as_many, only_shown}
+use Rattle.office_tables.proofs.MailLemmas.{as_many, only_shown}
 use Rattle.office_store.proofs.OpenLemmas.{shown_text}
-use Rattle.office_store.proofs.RunLemmas.{said_one}
+use Rattle.office_tables.proofs.RunLemmas.{said_one}
 use Rattle.office_store.proofs.SetupRoundTrip.{read_back}
 
 pub widens : (a b : State) → Makes schema_of_six fact_delays a b → Widens a b

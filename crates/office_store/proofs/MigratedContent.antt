@@ -13,16 +13,16 @@ use Rattle.office_keeper.specs.Content.{Content}
 use Rattle.office_keeper.specs.FactSet.{FactSet}
 use Rattle.office_keeper.specs.LastDelays.{IsLastTold, GetsLast, release_delays, with_last}
 use Rattle.office_keeper.specs.declared.values.Reports.{Reports}
-use Rattle.office_store.specs.Entries.{source_map, entry_map}
-use Rattle.office_store.specs.FactTables.{delays_in, facts_in}
-use Rattle.office_store.specs.Legible.{IsLegible, SaysOnce, AreReported, AreNamed, AreRead}
+use Rattle.office_tables.specs.Entries.{source_map, entry_map}
+use Rattle.office_tables.specs.FactTables.{delays_in, facts_in}
+use Rattle.office_tables.specs.Legible.{IsLegible, SaysOnce, AreReported, AreNamed, AreRead}
 use Rattle.office_store.specs.Migrating.{KeepsDelays, Migrates, IsLegibleBefore, content_before}
 use Rattle.office_store.specs.SetupText.{setup_text}
-use Rattle.office_store.specs.TableContent.{content_in, count_said, release_place, reports_to, suite_in, source_at, row_at}
-use Rattle.office_store.specs.Tables.{IsWhole, kept_rows, run_map, said_in}
-use Rattle.office_store.proofs.FactSets.{same_set, same_entry, of_inserted, inserted_has, said, says}
-use Rattle.office_store.proofs.ReportFacts.{length_reports}
-use Rattle.office_store.proofs.RunLemmas.{said_one}
+use Rattle.office_tables.specs.TableContent.{content_in, count_said, release_place, reports_to, suite_in, source_at, row_at}
+use Rattle.office_tables.specs.Tables.{IsWhole, kept_rows, run_map, said_in}
+use Rattle.office_tables.proofs.FactSets.{same_set, same_entry, of_inserted, inserted_has, said, says}
+use Rattle.office_tables.proofs.ReportFacts.{length_reports}
+use Rattle.office_tables.proofs.RunLemmas.{said_one}
 use Rattle.office_store.proofs.SetupRoundTrip.{text_utf8}
 
 -- the facts that the tables say, with those of the last delays

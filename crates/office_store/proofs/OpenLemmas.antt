@@ -6,13 +6,13 @@ use Rattle.sqlite.specs.Order.{Row}
 use Rattle.sqlite.specs.Effect.{Database}
 use Rattle.office_mail.specs.Lists.{Lists}
 use Rattle.office_mail.specs.Setup.{IsSetup}
-use Rattle.office_store.specs.Layout.{office_schema}
-use Rattle.office_store.specs.Tables.{office_in}
-use Rattle.office_store.specs.TableSteps.{office_columns}
+use Rattle.office_tables.specs.Layout.{office_schema}
+use Rattle.office_tables.specs.Tables.{office_in}
+use Rattle.office_tables.specs.TableSteps.{office_columns}
 use Rattle.office_store.specs.Creating.{IsBlank}
 use Rattle.office_store.specs.SetupText.{setup_text}
 use Rattle.office_store.specs.Opening.{text_by, shown_office, text_of_one, kept_text, lists_by, IsKeptFor}
-use Rattle.office_store.proofs.MailLemmas.{as_many, only_shown}
+use Rattle.office_tables.proofs.MailLemmas.{as_many, only_shown}
 use Rattle.office_store.proofs.SetupRoundTrip.{read_back}
 
 shown_as : (row : Row) → shown_office (office_columns row) ≡ office_in row

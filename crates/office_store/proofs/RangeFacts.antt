@@ -17,7 +17,7 @@ use Rattle.office_keeper.specs.declared.values.Letter.{Letter}
 use Rattle.office_keeper.specs.Content.{letter_at, letters_within}
 use Rattle.office_keeper.specs.LastDelays.{delays_in_body, TellsDelays, IsLastTold}
 use Rattle.office_keeper.specs.Provenance.{IsKept}
-use Rattle.office_store.specs.TableContent.{own_by, message_at, release_place}
+use Rattle.office_tables.specs.TableContent.{own_by, message_at, release_place}
 use Rattle.office_store.specs.Migrating.{order_of, AreMessages}
 use Rattle.office_store.specs.MigratingSteps.{stated_by, next_stated, cover_on, delays_told, told_by, next_told, told_on}
 

@@ -3,7 +3,7 @@ use Rattle.std.proofs.Common.{◌≡◌, [], refl, sym, ap, subst, ◌∙◌}
 use Rattle.sqlite_tied.specs.Compute.{everything}
 use Rattle.sqlite.specs.Schema.{Schema}
 use Rattle.sqlite_schema.specs.Names.{same_name}
-use Rattle.office_store.specs.Layout.{office_schema, schema_before, HasEach, HasEachBefore}
+use Rattle.office_tables.specs.Layout.{office_schema, schema_before, HasEach, HasEachBefore}
 use Rattle.office_store.specs.LayoutSteps.{office_tables, tables_before, office_indexes, mail_index, testing_source_index, testing_row_index, fact_index}
 
 tables_are : office_schema.tables ≡ office_tables

@@ -2,8 +2,8 @@
 use Rattle.std.specs.Prelude.{◌≡◌, [], ◌∷◌, Some}
 use Rattle.sqlite.specs.Order.{Row}
 use Rattle.sqlite.specs.Tree.{Trees}
-use Rattle.office_store.specs.declared.said.Said.{Said}
-use Rattle.office_store.specs.Tables.{office_in, said_in}
+use Rattle.office_tables.specs.declared.said.Said.{Said}
+use Rattle.office_tables.specs.Tables.{office_in, said_in}
 
 -- the tables stand: the office says this in its one row, and all else is empty
 pub record IsBlank (db : Trees) (said : Said) : Type 0 where

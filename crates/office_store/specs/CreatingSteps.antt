@@ -5,7 +5,7 @@ use Rattle.sqlite.specs.Change.{created, next_tree, KeepsRows}
 use Rattle.sqlite.specs.Schema.{Schema}
 use Rattle.sqlite.specs.State.{State}
 use Rattle.sqlite.specs.Table.{Table}
-use Rattle.office_store.specs.Layout.{no_schema, office, mail, run, testing_source, testing_row, fact, fact_delays}
+use Rattle.office_tables.specs.Layout.{no_schema, office, mail, run, testing_source, testing_row, fact, fact_delays}
 
 -- the schema after each table in turn
 abbrev pub schema_of_one : Schema

@@ -3,8 +3,8 @@ use Rattle.std.specs.Prelude.{◌≡◌}
 use Rattle.sqlite.specs.Tree.{Trees}
 use Rattle.office_mail.specs.Lists.{Lists}
 use Rattle.office_keeper.specs.Content.{no_content}
-use Rattle.office_store.specs.TableContent.{content_in}
-use Rattle.office_store.specs.Legible.{IsLegible}
+use Rattle.office_tables.specs.TableContent.{content_in}
+use Rattle.office_tables.specs.Legible.{IsLegible}
 
 -- the tables read as an office writes them, and hold nothing
 pub record IsEmptyFor (setup : Lists) (db : Trees) : Type 0 where

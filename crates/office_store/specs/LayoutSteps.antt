@@ -4,7 +4,7 @@ use Rattle.sqlite.specs.Table.{Table}
 use Rattle.sqlite_schema.specs.declared.schema.Index.{Index}
 use Rattle.sqlite_value.specs.Keys.{plain}
 use Rattle.std.specs.Prelude.{true, false, [], ◌∷◌, Some, None, codes, List, ℕ, ◌≡◌}
-use Rattle.office_store.specs.Layout.{office, mail, run, testing_source, testing_row, fact, fact_delays, standing}
+use Rattle.office_tables.specs.Layout.{office, mail, run, testing_source, testing_row, fact, fact_delays, standing}
 
 -- a table has no CHECK, no default that is computed, and no AUTOINCREMENT
 pub record IsBare (table : Table) : Type 0 where

@@ -11,11 +11,11 @@ use Rattle.office_mail.specs.Lists.{Lists}
 use Rattle.office_mail.specs.Runs.{runs, cover, order_in_body}
 use Rattle.office_keeper.specs.Content.{Content}
 use Rattle.office_keeper.specs.LastDelays.{IsLastTold}
-use Rattle.office_store.specs.declared.said.Said.{Said}
-use Rattle.office_store.specs.Tables.{IsWhole, kept_rows, office_in, said_in}
-use Rattle.office_store.specs.TableContent.{message_at, release_place, content_in}
-use Rattle.office_store.specs.FactTables.{fact_entry, fact_in, delays_of, delays_in, facts_in}
-use Rattle.office_store.specs.Legible.{SaysOnce, AreReported, AreNamed}
+use Rattle.office_tables.specs.declared.said.Said.{Said}
+use Rattle.office_tables.specs.Tables.{IsWhole, kept_rows, office_in, said_in}
+use Rattle.office_tables.specs.TableContent.{message_at, release_place, content_in}
+use Rattle.office_tables.specs.FactTables.{fact_entry, fact_in, delays_of, delays_in, facts_in}
+use Rattle.office_tables.specs.Legible.{SaysOnce, AreReported, AreNamed}
 use Rattle.office_store.specs.SetupText.{setup_text}
 
 -- the run order that a message is

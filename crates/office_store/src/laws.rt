@@ -3,9 +3,9 @@ ghost use Rattle.sqlite.specs.Tree.{Trees};
 ghost use Rattle.office_mail.specs.Lists.{Lists};
 ghost use Rattle.office_mail.specs.Setup.{IsSetup};
 ghost use Rattle.office_keeper.specs.LastDelays.{GetsLast};
-ghost use Rattle.office_store.specs.Legible.{IsLegible};
+ghost use Rattle.office_tables.specs.Legible.{IsLegible};
 ghost use Rattle.office_store.specs.Migrating.{Migrates, IsLegibleBefore, content_before};
-ghost use Rattle.office_store.specs.TableContent.{content_in};
+ghost use Rattle.office_tables.specs.TableContent.{content_in};
 
 /// A migrated store holds what it held, with the row of the last delays that its finished runs cover; and where its tables read
 /// as an office of schema 1 wrote them, they read as an office writes them.

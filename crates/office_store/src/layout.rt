@@ -1,7 +1,7 @@
 //! Whether a database has the office's tables, column by column, alone or beside others.
 ghost use Rattle.std.specs.Prelude.{◌≡◌, ◌↔◌, [], ◌∷◌, codes, IsTrue, IfOk};
 ghost use Rattle.std.specs.Option.{option_copied};
-ghost use Rattle.office_store.specs.Layout.{column_by, to_mail, office, mail, run, testing_source, testing_row, fact, fact_delays, no_schema, schema_before, office_schema, standing, is_free, has_none, table_by, IsFound, HasEach, HasEachBefore};
+ghost use Rattle.office_tables.specs.Layout.{column_by, to_mail, office, mail, run, testing_source, testing_row, fact, fact_delays, no_schema, schema_before, office_schema, standing, is_free, has_none, table_by, IsFound, HasEach, HasEachBefore};
 ghost use Rattle.office_store.specs.LayoutSteps.{key_index, IsBare, IsAt, IsNumbered, IsKeyed, office_tables, tables_before, office_indexes, mail_index, testing_source_index, testing_row_index, fact_index};
 ghost use Rattle.sqlite_value.specs.Keys.{plain};
 

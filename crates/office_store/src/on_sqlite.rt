@@ -2,14 +2,14 @@
 ghost use Rattle.std.specs.Prelude.{◌≡◌};
 ghost use Rattle.sqlite.specs.Held.{state};
 ghost use Rattle.sqlite.specs.State.{HasCleanDisk};
-ghost use Rattle.office_store.specs.TableContent.{content_in};
-ghost use Rattle.office_store.specs.Legible.{IsLegible};
-ghost use Rattle.office_store.specs.Tables.{IsTrusted, IsOurs};
+ghost use Rattle.office_tables.specs.TableContent.{content_in};
+ghost use Rattle.office_tables.specs.Legible.{IsLegible};
+ghost use Rattle.office_tables.specs.Tables.{IsTrusted, IsOurs};
 ghost use Rattle.office_keeper.specs.Keeping.{Counted};
 
-use crate::{entries, fact_rows, finishing, mail, runs};
 use office_keeper::{Finished, KeepFault, Keeper, Letter, MailText, Reports};
 use office_mail::Setup;
+use office_tables::{entries, fact_rows, finishing, mail, runs};
 use sqlite::{Alter, Connection};
 use std::alloc::Global;
 use std::marker::Model;
@@ -28,7 +28,7 @@ impl<S: Alter> Model for Tables<S> {
     ghost use Rattle.std.specs.Prelude.{ℕ};
     ghost use Rattle.std.specs.Coded.{coded×, coded_ℕ};
     ghost use Rattle.sqlite.specs.Held.{Held, held_code, state};
-    ghost use Rattle.office_store.specs.Tables.{IsTrusted, IsOurs};
+    ghost use Rattle.office_tables.specs.Tables.{IsTrusted, IsOurs};
     ghost use Rattle.office_mail.specs.Lists.{Lists};
     ghost use Rattle.office_mail.specs.contracts.setup.Setup as setup_of;
 

@@ -2,15 +2,15 @@
 ghost use Rattle.std.specs.Prelude.{◌≡◌, ◌≢◌, Err, IsTrue, OnOk, OnErr};
 ghost use Rattle.sqlite.specs.Held.{state};
 ghost use Rattle.sqlite.specs.State.{HasCleanDisk};
-ghost use Rattle.office_store.specs.Layout.{no_schema, office, mail, run, testing_source, testing_row, fact, fact_delays};
-ghost use Rattle.office_store.specs.Tables.{IsTrusted, IsOurs, Lasts};
-ghost use Rattle.office_store.specs.TableSteps.{IsInside, WentOn};
+ghost use Rattle.office_tables.specs.Layout.{no_schema, office, mail, run, testing_source, testing_row, fact, fact_delays};
+ghost use Rattle.office_tables.specs.Tables.{IsTrusted, IsOurs, Lasts};
+ghost use Rattle.office_tables.specs.TableSteps.{IsInside, WentOn};
 ghost use Rattle.office_store.specs.Opening.{IsAsItWas};
 ghost use Rattle.office_store.specs.Creating.{IsBlank};
 ghost use Rattle.office_store.specs.CreatingSteps.{IsBuilding, Makes, MakesAll, schema_of_one, schema_of_two, schema_of_three, schema_of_four, schema_of_five, schema_of_six};
 
-use crate::runs::add_office;
 use office_keeper::{Cause, KeepFault};
+use office_tables::runs::add_office;
 use sqlite::{Alter, Connection, Error, Transaction};
 
 /// Makes the table of the office.

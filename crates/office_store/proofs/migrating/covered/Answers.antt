@@ -1,6 +1,6 @@
 use Rattle.sqlite.specs.Held.{state}
-use Rattle.office_store.proofs.Passed.{passed}
-use Rattle.office_store.proofs.Whole.{not_crowded}
+use Rattle.office_tables.proofs.Passed.{passed}
+use Rattle.office_tables.proofs.Whole.{not_crowded}
 use Rattle.office_store.proofs.migrating.covered.Goals as goal
 
 pub returns-clause-stated : goal.returns-clause-stated

@@ -2,10 +2,10 @@ use Rattle.std.proofs.Common.{◌≡◌, Some, None, Err, IfOk, subst}
 use Rattle.sqlite.specs.Effect.{Database}
 use Rattle.sqlite.specs.Held.{state}
 use Rattle.office_keeper.specs.Content.{letters_within}
-use Rattle.office_store.specs.Tables.{IsWhole, kept_rows}
-use Rattle.office_store.specs.TableContent.{release_place}
+use Rattle.office_tables.specs.Tables.{IsWhole, kept_rows}
+use Rattle.office_tables.specs.TableContent.{release_place}
 use Rattle.office_store.specs.MigratingSteps.{told_on}
-use Rattle.office_store.proofs.Passed.{passed}
+use Rattle.office_tables.proofs.Passed.{passed}
 use Rattle.office_store.proofs.RangeFacts.{tells_on, uncovered, untold}
 use Rattle.office_store.proofs.migrating.find_last.Goals as goal
 

@@ -3,10 +3,10 @@ use Rattle.std.specs.List.Sorted.{IsPermutation}
 use Rattle.sqlite.specs.Order.{Row}
 use Rattle.sqlite.specs.declared.types.Value.TheVariants.{Int}
 use Rattle.sqlite.specs.Held.{state}
-use Rattle.office_store.specs.Texts.{load_text}
-use Rattle.office_store.specs.TableSteps.{is_between, letter_columns}
-use Rattle.office_store.proofs.LoadLemmas.{load_plain, shows_between}
-use Rattle.office_store.proofs.InsideLemmas.{AskedInside, inside_before, inside_same, inside_on, inside_rows, inside_err, inside_open}
+use Rattle.office_tables.specs.Texts.{load_text}
+use Rattle.office_tables.specs.TableSteps.{is_between, letter_columns}
+use Rattle.office_tables.proofs.LoadLemmas.{load_plain, shows_between}
+use Rattle.office_tables.proofs.InsideLemmas.{AskedInside, inside_before, inside_same, inside_on, inside_rows, inside_err, inside_open}
 use Rattle.office_store.proofs.migrating.letters_between.Goals as goal
 
 asked : (g : _) (c : goal.After-query_all g) → AskedInside (λ r. r.items) load_text (Int (pos c.args.sender) ∷ Int (pos c.args.from) ∷ Int (pos c.args.to) ∷ []) (state g.S.Store c.args.tx.now.conn.now) (state g.S.Store c.query_all.new.self.conn.now) c.query_all.result

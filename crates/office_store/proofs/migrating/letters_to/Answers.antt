@@ -1,9 +1,9 @@
 use Rattle.std.proofs.Common.{sym, subst, arith}
 use Rattle.sqlite.specs.Held.{state}
-use Rattle.office_store.specs.TableSteps.{ShowsLetters}
-use Rattle.office_store.proofs.LoadFacts.{loaded_on}
-use Rattle.office_store.proofs.LoadLemmas.{shows_letters, few_letters}
-use Rattle.office_store.proofs.Passed.{passed}
+use Rattle.office_tables.specs.TableSteps.{ShowsLetters}
+use Rattle.office_tables.proofs.LoadFacts.{loaded_on}
+use Rattle.office_tables.proofs.LoadLemmas.{shows_letters, few_letters}
+use Rattle.office_tables.proofs.Passed.{passed}
 use Rattle.office_store.proofs.migrating.letters_to.Goals as goal
 
 pub returns-in_err-letters-clause-bad : goal.returns-in_err-letters-clause-bad

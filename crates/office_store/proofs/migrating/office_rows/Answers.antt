@@ -3,10 +3,10 @@ use Rattle.std.specs.List.Sorted.{IsPermutation}
 use Rattle.sqlite.specs.Order.{Row}
 use Rattle.sqlite.specs.declared.types.Value.TheVariants.{Int}
 use Rattle.sqlite.specs.Held.{state}
-use Rattle.office_store.specs.Texts.{office_text}
-use Rattle.office_store.specs.TableSteps.{office_columns}
-use Rattle.office_store.proofs.RunLemmas.{office_plain, shows_office}
-use Rattle.office_store.proofs.InsideLemmas.{AskedInside, inside_before, inside_same, inside_on, inside_rows, inside_err, inside_open}
+use Rattle.office_tables.specs.Texts.{office_text}
+use Rattle.office_tables.specs.TableSteps.{office_columns}
+use Rattle.office_tables.proofs.RunLemmas.{office_plain, shows_office}
+use Rattle.office_tables.proofs.InsideLemmas.{AskedInside, inside_before, inside_same, inside_on, inside_rows, inside_err, inside_open}
 use Rattle.office_store.proofs.migrating.office_rows.Goals as goal
 
 asked : (g : _) (c : goal.After-query_all g) → AskedInside (λ r. r.items) office_text ([]) (state g.S.Store c.args.tx.now.conn.now) (state g.S.Store c.query_all.new.self.conn.now) c.query_all.result

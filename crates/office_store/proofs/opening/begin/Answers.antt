@@ -1,7 +1,7 @@
 use Rattle.std.proofs.Common.{◌∙◌, subst, List, ℕ}
 use Rattle.sqlite.specs.Held.{state}
 use Rattle.office_store.specs.Creating.{IsBlank}
-use Rattle.office_store.specs.Tables.{IsTrusted}
+use Rattle.office_tables.specs.Tables.{IsTrusted}
 use Rattle.office_store.specs.SetupText.{setup_text}
 use Rattle.office_store.proofs.OpenLemmas.{new_kept}
 use Rattle.office_store.proofs.BlankFacts.{new_empty}

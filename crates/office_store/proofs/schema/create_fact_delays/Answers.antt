@@ -1,9 +1,9 @@
 use Rattle.std.proofs.Common.{[]}
 use Rattle.sqlite.specs.Held.{state}
-use Rattle.office_store.specs.Texts.{create_fact_delays_text}
-use Rattle.office_store.specs.Layout.{fact_delays}
+use Rattle.office_tables.specs.Texts.{create_fact_delays_text}
+use Rattle.office_tables.specs.Layout.{fact_delays}
 use Rattle.office_store.specs.CreatingSteps.{schema_of_six}
-use Rattle.office_store.proofs.StepLemmas.{Stepped, step_open}
+use Rattle.office_tables.proofs.StepLemmas.{Stepped, step_open}
 use Rattle.office_store.proofs.CreateLemmas.{makes, fact_delays_is}
 use Rattle.office_store.proofs.schema.create_fact_delays.Goals as goal
 

@@ -1,9 +1,9 @@
 use Rattle.std.proofs.Common.{[]}
 use Rattle.sqlite.specs.Held.{state}
-use Rattle.office_store.specs.Texts.{create_mail_text}
-use Rattle.office_store.specs.Layout.{mail}
+use Rattle.office_tables.specs.Texts.{create_mail_text}
+use Rattle.office_tables.specs.Layout.{mail}
 use Rattle.office_store.specs.CreatingSteps.{schema_of_one}
-use Rattle.office_store.proofs.StepLemmas.{Stepped, step_open}
+use Rattle.office_tables.proofs.StepLemmas.{Stepped, step_open}
 use Rattle.office_store.proofs.CreateLemmas.{makes, mail_is}
 use Rattle.office_store.proofs.schema.create_mail.Goals as goal
 

@@ -1,8 +1,8 @@
 use Rattle.std.proofs.Common.{[]}
 use Rattle.sqlite.specs.Held.{state}
-use Rattle.office_store.specs.Texts.{create_office_text}
-use Rattle.office_store.specs.Layout.{no_schema, office}
-use Rattle.office_store.proofs.StepLemmas.{Stepped, step_open}
+use Rattle.office_tables.specs.Texts.{create_office_text}
+use Rattle.office_tables.specs.Layout.{no_schema, office}
+use Rattle.office_tables.proofs.StepLemmas.{Stepped, step_open}
 use Rattle.office_store.proofs.CreateLemmas.{makes, office_is}
 use Rattle.office_store.proofs.schema.create_office.Goals as goal
 

@@ -1,9 +1,9 @@
 use Rattle.std.proofs.Common.{[]}
 use Rattle.sqlite.specs.Held.{state}
-use Rattle.office_store.specs.Texts.{create_run_text}
-use Rattle.office_store.specs.Layout.{run}
+use Rattle.office_tables.specs.Texts.{create_run_text}
+use Rattle.office_tables.specs.Layout.{run}
 use Rattle.office_store.specs.CreatingSteps.{schema_of_two}
-use Rattle.office_store.proofs.StepLemmas.{Stepped, step_open}
+use Rattle.office_tables.proofs.StepLemmas.{Stepped, step_open}
 use Rattle.office_store.proofs.CreateLemmas.{makes, run_is}
 use Rattle.office_store.proofs.schema.create_run.Goals as goal
 

@@ -1,9 +1,9 @@
 use Rattle.std.proofs.Common.{[]}
 use Rattle.sqlite.specs.Held.{state}
-use Rattle.office_store.specs.Texts.{create_testing_row_text}
-use Rattle.office_store.specs.Layout.{testing_row}
+use Rattle.office_tables.specs.Texts.{create_testing_row_text}
+use Rattle.office_tables.specs.Layout.{testing_row}
 use Rattle.office_store.specs.CreatingSteps.{schema_of_four}
-use Rattle.office_store.proofs.StepLemmas.{Stepped, step_open}
+use Rattle.office_tables.proofs.StepLemmas.{Stepped, step_open}
 use Rattle.office_store.proofs.CreateLemmas.{makes, testing_row_is}
 use Rattle.office_store.proofs.schema.create_testing_row.Goals as goal
 

@@ -2,8 +2,8 @@ use Rattle.std.proofs.Common.{◌≡◌, IfOk, sym, subst}
 use Rattle.sqlite.specs.Effect.{Database}
 use Rattle.sqlite.specs.Held.{state}
 use Rattle.office_keeper.specs.FactSet.{rows_in}
-use Rattle.office_store.specs.TableContent.{content_in}
-use Rattle.office_store.specs.Legible.{IsLegible}
+use Rattle.office_tables.specs.TableContent.{content_in}
+use Rattle.office_tables.specs.Legible.{IsLegible}
 use Rattle.office_store.proofs.KeeperFacts.{legible_same, value_before, never_bad}
 use Rattle.office_store.proofs.on_sqlite.TablesKeeper.facts.Goals as goal
 

@@ -2,10 +2,10 @@ use Rattle.std.proofs.Common.{◌≡◌, None, OnOk, sym, subst}
 use Rattle.std.specs.FinMap.{get, insert}
 use Rattle.sqlite.specs.Held.{state}
 use Rattle.office_keeper.specs.Content.{with_text}
-use Rattle.office_store.specs.TableContent.{content_in}
-use Rattle.office_store.specs.Legible.{IsLegible}
-use Rattle.office_store.specs.Tables.{IsTrusted, kept_rows}
-use Rattle.office_store.proofs.KeepLemmas.{inserted_on}
+use Rattle.office_tables.specs.TableContent.{content_in}
+use Rattle.office_tables.specs.Legible.{IsLegible}
+use Rattle.office_tables.specs.Tables.{IsTrusted, kept_rows}
+use Rattle.office_tables.proofs.KeepLemmas.{inserted_on}
 use Rattle.office_store.proofs.LegibleKeep.{keep_legible_on, keep_content_on}
 use Rattle.office_store.proofs.on_sqlite.TablesKeeper.keep.Goals as goal
 

@@ -1,0 +1,208 @@
+-- What the statements on testing make of its tables.
+use Rattle.std.proofs.Common.{◌≡◌, ◌<◌, ℕ, ℤ, pos, List, [], ◌∷◌, filter_map, Some, None, Option, Ok, refl, ap, subst, ◌∙◌, cond, true, nat_lt, arith}
+use Rattle.std.proofs.lemmas.Bool.Decides.{nat_tests}
+use Rattle.sqlite.specs.declared.types.Value.{Value}
+use Rattle.sqlite.specs.declared.types.Value.TheVariants.{Null, Int, Real, Text, Blob}
+use Rattle.sqlite.specs.Order.{Row, column}
+use Rattle.sqlite.specs.Tree.{Trees, rowid}
+use Rattle.sqlite.specs.Table.{Table}
+use Rattle.sqlite.specs.Term.{Term, lit, col}
+use Rattle.sqlite.specs.Cast.{cast_row}
+use Rattle.sqlite.specs.Rowids.TheVariants.{Chosen}
+use Rattle.sqlite.specs.Edit.{with_rowid}
+use Rattle.sqlite_rules.specs.Edit.{next_rowid}
+use Rattle.sqlite.specs.Source.TheVariants.{Values}
+use Rattle.sqlite.specs.Command.TheVariants.{Insert, Delete}
+use Rattle.sqlite.specs.Does.{Does}
+use Rattle.sqlite.specs.Listing.{understood}
+use Rattle.sqlite.specs.State.{State, Executes, Writes, mode_of}
+use Rattle.sqlite.proofs.Callers.{IsPlain, command_of, runs_as, statement_of}
+use Rattle.sqlite_tied.specs.Compute.{everything}
+use Rattle.office_mail.specs.Kept.{Place}
+use Rattle.office_tables.specs.Layout.{office_schema, testing_source, testing_row}
+use Rattle.office_tables.specs.Texts.{clear_sources_text, add_source_text, clear_rows_text, add_row_text}
+use Rattle.office_tables.specs.Tables.{small_of, small_in, text_in}
+use Rattle.office_tables.specs.Entries.{integer_in, source_by, source_in, row_by, entry_in}
+use Rattle.office_tables.specs.EntrySteps.{ClearsSources, AddsSource, ClearsRows, AddsRow}
+use Rattle.office_tables.proofs.Compiled.{plain_query}
+use Rattle.office_tables.proofs.WriteLemmas.{Inserted, inserts_one, cast_null, cast_int}
+use Rattle.office_tables.proofs.DeleteLemmas.{Deleted, deletes_some, nothing_left}
+use Rattle.office_tables.proofs.KeepLemmas.{with_sources, with_rows}
+use Rattle.office_tables.proofs.RunWrites.{none_said}
+use Rattle.testing_model.proofs.Orders.{text_order}
+use Rattle.office_tables.proofs.SettingLemmas.{text_exact, row_order, row_exact}
+use Rattle.office_tables.proofs.Whole.{whole_reads}
+
+-- fewer than 2 ^ 32
+abbrev pub Fits32 : ℕ → Type 0
+Fits32 n = n < 4_294_967_296
+
+pub small_is : (n : ℕ) → Fits32 n → small_of (Some n) ≡ Some n
+small_is n h = let t : nat_lt n 4_294_967_296 ≡ true = grind (arith, nat_tests) in ap (λ b. cond b (Some n) None) t
+
+pub integer_is : (v : Value) (n : ℤ) → integer_in v ≡ Some n → v ≡ Int n
+integer_is Null n h = absurd (let e = h in cc)
+integer_is (Int m) n h = let e : m ≡ n = cc in ap Int e
+integer_is (Real x) n h = absurd (let e = h in cc)
+integer_is (Text t) n h = absurd (let e = h in cc)
+integer_is (Blob b) n h = absurd (let e = h in cc)
+
+-- ---- sources
+
+clear_sources_is : (command_of (understood office_schema clear_sources_text) ≡ Delete 3 (record { lets = []; body = plain_query 4 [] (col 1 0 ∷ []) })) × IsPlain (understood office_schema clear_sources_text)
+unfolding understood everything
+clear_sources_is = (refl, (refl, refl))
+
+abbrev source_terms : List Term
+source_terms = lit Null ∷ col 0 0 ∷ col 0 1 ∷ col 0 2 ∷ []
+
+add_source_is : (command_of (understood office_schema add_source_text) ≡ Insert 3 (Values source_terms 4)) × IsPlain (understood office_schema add_source_text)
+unfolding understood everything
+add_source_is = (refl, (refl, refl))
+
+-- the table of testing's sources, where it stands in the schema
+abbrev source_table : Table
+source_table = record testing_source { tree = 4 }
+
+source_id : (row : Row) (e : List ℕ × Place) → source_in row ≡ Some e → (id : ℤ) × (rowid row ≡ Int id)
+unfolding source_in
+source_id row e h = go (integer_in (column row 0)) refl h
+  where
+    go : (o : Option ℤ) → integer_in (column row 0) ≡ o → source_by o (text_in (column row 1)) (small_in (column row 2)) (small_in (column row 3)) ≡ Some e → (id : ℤ) × (rowid row ≡ Int id)
+    go None is h = absurd (let e = h in cc)
+    go (Some id) is h = (id, integer_is (column row 0) id is)
+
+pub clears_sources : (old new : State) (count : ℕ) → old.now.schema ≡ office_schema → Executes clear_sources_text [] old new (Ok count) → (new.now.schema ≡ office_schema) × ClearsSources old.now.trees new.now.trees
+clears_sources old new count has h =
+    let command = Delete 3 (record { lets = []; body = plain_query 4 [] (col 1 0 ∷ []) }) in
+    let text = statement_of clear_sources_text (understood office_schema clear_sources_text) in
+    let went_on : Writes old new None command text [] count = runs_as clear_sources_text [] old new office_schema has command clear_sources_is.0 clear_sources_is.1 count h in
+    let done = subst (λ s. Does old.step_limit (mode_of old) [] (record old.now { schema = s }) text None command (Ok (went_on.tally, new.now))) has went_on.changed in
+    let made = deletes_some office_schema 3 source_table old.step_limit (mode_of old) [] text old.now.trees [] went_on.tally new.now refl refl refl (λ olds. refl) done in
+    (made.0, cleared old.now.trees new.now.trees made.1)
+  where
+    gone : (db next : Trees) → Deleted office_schema source_table [] [] db next → filter_map source_in (next 4) ≡ []
+    gone db next it = none_said source_in (next 4) (λ row e there says. let id = source_id row e says in it.gone row id.0 (it.had row there) id.1 refl there)
+
+    cleared : (db next : Trees) → Deleted office_schema source_table [] [] db next → ClearsSources db next
+    cleared db next it = record {
+      none = gone db next it;
+      left = λ whole. nothing_left source_in (db 4) (next 4) it.had (whole_reads text_order text_exact source_in (db 4) whole) (gone db next it);
+      rest = with_sources db next _ it.others refl;
+    }
+
+abbrev source_values : List ℕ → ℕ → ℕ → Row
+source_values name sender number = Null ∷ Text name ∷ Int (pos sender) ∷ Int (pos number) ∷ []
+
+abbrev source_row : List Row → List ℕ → ℕ → ℕ → Row
+source_row rows name sender number = with_rowid Chosen rows (cast_row source_table (source_values name sender number))
+
+pub source_says : (row : Row) (id : ℤ) (name : List ℕ) (sender number : ℕ) → column row 0 ≡ Int id → column row 1 ≡ Text name → column row 2 ≡ Int (pos sender) → column row 3 ≡ Int (pos number) → Fits32 sender → Fits32 number → source_in row ≡ Some (name, (sender, number))
+unfolding source_in
+source_says row id name sender number a b c d s n = rw (a, b, c, d) (ap (λ x. source_by (Some id) (Some name) x (small_of (Some number))) (small_is sender s) ∙ ap (source_by (Some id) (Some name) (Some sender)) (small_is number n))
+
+source_row_says : (rows : List Row) (name : List ℕ) (sender number : ℕ) → Fits32 sender → Fits32 number → source_in (source_row rows name sender number) ≡ Some (name, (sender, number))
+source_row_says rows name sender number s n = source_says (source_row rows name sender number) (next_rowid rows) name sender number (rw cast_null refl) (rw cast_null refl) (rw cast_null (cast_int (pos sender))) (rw cast_null (cast_int (pos number))) s n
+
+pub adds_source : (name : List ℕ) (sender number : ℕ) → Fits32 sender → Fits32 number → (old new : State) (count : ℕ) → old.now.schema ≡ office_schema → Executes add_source_text (Text name ∷ Int (pos sender) ∷ Int (pos number) ∷ []) old new (Ok count)
+    → (new.now.schema ≡ office_schema) × AddsSource old.now.trees new.now.trees name sender number
+adds_source name sender number s n old new count has h =
+    let params = Text name ∷ Int (pos sender) ∷ Int (pos number) ∷ [] in
+    let command = Insert 3 (Values source_terms 4) in
+    let text = statement_of add_source_text (understood office_schema add_source_text) in
+    let went_on : Writes old new None command text params count = runs_as add_source_text params old new office_schema has command add_source_is.0 add_source_is.1 count h in
+    let done = subst (λ s. Does old.step_limit (mode_of old) params (record old.now { schema = s }) text None command (Ok (went_on.tally, new.now))) has went_on.changed in
+    let made = inserts_one office_schema 3 source_table old.step_limit (mode_of old) params text old.now.trees source_terms 4 (source_values name sender number) went_on.tally new.now refl refl refl done in
+    (made.0, added old.now.trees new.now.trees made.1)
+  where
+    added : (db next : Trees) → Inserted office_schema source_table db next (source_row (db 4) name sender number) → AddsSource db next name sender number
+    added db next it = record {
+      row = source_row (db 4) name sender number;
+      says = source_row_says (db 4) name sender number s n;
+      free = it.free;
+      put = with_sources db next _ it.others it.rows;
+    }
+
+-- ---- rows
+
+clear_rows_is : (command_of (understood office_schema clear_rows_text) ≡ Delete 4 (record { lets = []; body = plain_query 6 [] (col 1 0 ∷ []) })) × IsPlain (understood office_schema clear_rows_text)
+unfolding understood everything
+clear_rows_is = (refl, (refl, refl))
+
+abbrev entry_terms : List Term
+entry_terms = lit Null ∷ col 0 0 ∷ col 0 1 ∷ col 0 2 ∷ col 0 3 ∷ col 0 4 ∷ []
+
+add_row_is : (command_of (understood office_schema add_row_text) ≡ Insert 4 (Values entry_terms 6)) × IsPlain (understood office_schema add_row_text)
+unfolding understood everything
+add_row_is = (refl, (refl, refl))
+
+-- the table of testing's rows, where it stands in the schema
+abbrev entry_table : Table
+entry_table = record testing_row { tree = 6 }
+
+entry_id : (row : Row) (e : (ℕ × List ℕ) × (Place × ℕ)) → entry_in row ≡ Some e → (id : ℤ) × (rowid row ≡ Int id)
+unfolding entry_in
+entry_id row e h = go (integer_in (column row 0)) refl h
+  where
+    go : (o : Option ℤ) → integer_in (column row 0) ≡ o → row_by o (small_in (column row 1)) (text_in (column row 2)) (small_in (column row 3)) (small_in (column row 4)) (small_in (column row 5)) ≡ Some e → (id : ℤ) × (rowid row ≡ Int id)
+    go None is h = absurd (let e = h in cc)
+    go (Some id) is h = (id, integer_is (column row 0) id is)
+
+pub clears_rows : (old new : State) (count : ℕ) → old.now.schema ≡ office_schema → Executes clear_rows_text [] old new (Ok count) → (new.now.schema ≡ office_schema) × ClearsRows old.now.trees new.now.trees
+clears_rows old new count has h =
+    let command = Delete 4 (record { lets = []; body = plain_query 6 [] (col 1 0 ∷ []) }) in
+    let text = statement_of clear_rows_text (understood office_schema clear_rows_text) in
+    let went_on : Writes old new None command text [] count = runs_as clear_rows_text [] old new office_schema has command clear_rows_is.0 clear_rows_is.1 count h in
+    let done = subst (λ s. Does old.step_limit (mode_of old) [] (record old.now { schema = s }) text None command (Ok (went_on.tally, new.now))) has went_on.changed in
+    let made = deletes_some office_schema 4 entry_table old.step_limit (mode_of old) [] text old.now.trees [] went_on.tally new.now refl refl refl (λ olds. refl) done in
+    (made.0, cleared old.now.trees new.now.trees made.1)
+  where
+    gone : (db next : Trees) → Deleted office_schema entry_table [] [] db next → filter_map entry_in (next 6) ≡ []
+    gone db next it = none_said entry_in (next 6) (λ row e there says. let id = entry_id row e says in it.gone row id.0 (it.had row there) id.1 refl there)
+
+    cleared : (db next : Trees) → Deleted office_schema entry_table [] [] db next → ClearsRows db next
+    cleared db next it = record {
+      none = gone db next it;
+      left = λ whole. nothing_left entry_in (db 6) (next 6) it.had (whole_reads row_order row_exact entry_in (db 6) whole) (gone db next it);
+      rest = with_rows db next _ it.others refl;
+    }
+
+abbrev entry_values : ℕ → List ℕ → ℕ → ℕ → ℕ → Row
+entry_values arch name sender number place = Null ∷ Int (pos arch) ∷ Text name ∷ Int (pos sender) ∷ Int (pos number) ∷ Int (pos place) ∷ []
+
+abbrev entry_row : List Row → ℕ → List ℕ → ℕ → ℕ → ℕ → Row
+entry_row rows arch name sender number place = with_rowid Chosen rows (cast_row entry_table (entry_values arch name sender number place))
+
+pub entry_says : (row : Row) (id : ℤ) (arch : ℕ) (name : List ℕ) (sender number place : ℕ) → column row 0 ≡ Int id → column row 1 ≡ Int (pos arch) → column row 2 ≡ Text name → column row 3 ≡ Int (pos sender) → column row 4 ≡ Int (pos number) → column row 5 ≡ Int (pos place)
+    → Fits32 arch → Fits32 sender → Fits32 number → Fits32 place → entry_in row ≡ Some ((arch, name), ((sender, number), place))
+unfolding entry_in
+entry_says row id arch name sender number place a b c d e f w x y z = rw (a, b, c, d, e, f)
+    (ap (λ v. row_by (Some id) v (Some name) (small_of (Some sender)) (small_of (Some number)) (small_of (Some place))) (small_is arch w)
+    ∙ ap (λ v. row_by (Some id) (Some arch) (Some name) v (small_of (Some number)) (small_of (Some place))) (small_is sender x)
+    ∙ ap (λ v. row_by (Some id) (Some arch) (Some name) (Some sender) v (small_of (Some place))) (small_is number y)
+    ∙ ap (row_by (Some id) (Some arch) (Some name) (Some sender) (Some number)) (small_is place z))
+
+entry_row_says : (rows : List Row) (arch : ℕ) (name : List ℕ) (sender number place : ℕ) → Fits32 arch → Fits32 sender → Fits32 number → Fits32 place → entry_in (entry_row rows arch name sender number place) ≡ Some ((arch, name), ((sender, number), place))
+entry_row_says rows arch name sender number place w x y z =
+    entry_says (entry_row rows arch name sender number place) (next_rowid rows) arch name sender number place
+    (rw cast_null refl) (rw cast_null (cast_int (pos arch))) (rw cast_null refl) (rw cast_null (cast_int (pos sender))) (rw cast_null (cast_int (pos number))) (rw cast_null (cast_int (pos place))) w x y z
+
+pub adds_row : (arch : ℕ) (name : List ℕ) (sender number place : ℕ) → Fits32 arch → Fits32 sender → Fits32 number → Fits32 place → (old new : State) (count : ℕ) → old.now.schema ≡ office_schema
+    → Executes add_row_text (Int (pos arch) ∷ Text name ∷ Int (pos sender) ∷ Int (pos number) ∷ Int (pos place) ∷ []) old new (Ok count)
+    → (new.now.schema ≡ office_schema) × AddsRow old.now.trees new.now.trees arch name sender number place
+adds_row arch name sender number place w x y z old new count has h =
+    let params = Int (pos arch) ∷ Text name ∷ Int (pos sender) ∷ Int (pos number) ∷ Int (pos place) ∷ [] in
+    let command = Insert 4 (Values entry_terms 6) in
+    let text = statement_of add_row_text (understood office_schema add_row_text) in
+    let went_on : Writes old new None command text params count = runs_as add_row_text params old new office_schema has command add_row_is.0 add_row_is.1 count h in
+    let done = subst (λ s. Does old.step_limit (mode_of old) params (record old.now { schema = s }) text None command (Ok (went_on.tally, new.now))) has went_on.changed in
+    let made = inserts_one office_schema 4 entry_table old.step_limit (mode_of old) params text old.now.trees entry_terms 6 (entry_values arch name sender number place) went_on.tally new.now refl refl refl done in
+    (made.0, added old.now.trees new.now.trees made.1)
+  where
+    added : (db next : Trees) → Inserted office_schema entry_table db next (entry_row (db 6) arch name sender number place) → AddsRow db next arch name sender number place
+    added db next it = record {
+      row = entry_row (db 6) arch name sender number place;
+      says = entry_row_says (db 6) arch name sender number place w x y z;
+      free = it.free;
+      put = with_rows db next _ it.others it.rows;
+    }

@@ -1,0 +1,32 @@
+use Rattle.std.proofs.Common.{◌≡◌, map, take, Some, sym, subst, ◌∙◌}
+use Rattle.sqlite.specs.Effect.{Database}
+use Rattle.sqlite.specs.Held.{state}
+use Rattle.office_tables.specs.Tables.{kept_rows}
+use Rattle.office_tables.specs.TableContent.{source_of}
+use Rattle.office_tables.proofs.StateLemmas.{lasts_then, clean_before}
+use Rattle.office_tables.proofs.Passed.{passed, no_none}
+use Rattle.office_tables.proofs.EntryLists.{read_more}
+use Rattle.office_tables.proofs.entries.sources_at.Goals as goal
+
+pub rows-preserved : goal.rows-preserved
+rows-preserved g c =
+    let ensures = c.in_ok-source.ensures in
+    let invariant = c.rows.invariant in
+    let read = λ (d : Database). source_of c.args.setup.now (kept_rows (d.trees 1)) in
+    let new = state g.S.Store c.source_at.new.conn in
+    record {
+      before = λ trusted. invariant.before (ensures.before trusted);
+      lasts = lasts_then _ _ _ invariant.lasts ensures.lasts;
+      still = λ clean trusted. ensures.open clean (invariant.still (clean_before _ _ ensures.lasts clean) trusted);
+      same = λ trusted. record { ours = (ensures.same trusted).ours; now = (ensures.same trusted).now ∙ (invariant.same (ensures.before trusted)).now };
+      so_far = λ trusted.
+          read_more (read new.now) c.args.rows.now c.rows.row-index c.row-item.result c.in_ok-source.source c.rows.sources.items c.push.new.self.items c.rows-test.true c.row-item.is
+          (subst (λ (d : Database). map (read d) (take c.rows.row-index c.args.rows.now) ≡ map Some c.rows.sources.items) (sym (ensures.same trusted).now) (invariant.so_far (ensures.before trusted)))
+          (ensures.ok trusted) c.in_ok-push.ensures.items;
+    }
+
+pub returns-in_err-source-clause-bad : goal.returns-in_err-source-clause-bad
+returns-in_err-source-clause-bad g c trusted bad reads =
+    let each = reads c.row-item.result (c.rows.row-index, c.rows-test.true, sym c.row-item.is) in
+    let fault = passed c.from_residual.result c.in_err-source.field-0.0 _ bad c.from_residual.ensures.1 in
+    no_none (c.in_err-source.ensures.bad trusted fault each.0) each.1

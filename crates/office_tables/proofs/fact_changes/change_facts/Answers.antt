@@ -1,0 +1,8 @@
+use Rattle.sqlite.specs.Held.{state}
+use Rattle.office_tables.proofs.FactMoves.{changes}
+use Rattle.office_tables.proofs.fact_changes.change_facts.Goals as goal
+
+pub returns-clause-changed : goal.returns-clause-changed
+returns-clause-changed g c trusted =
+    changes c.args.release (state g.S.Store c.args.tx.now.conn.now).now.trees (state g.S.Store c.drop_each.new.tx.conn.now).now.trees (state g.S.Store c.add_each.new.tx.conn.now).now.trees c.args.changes.now
+    (rw c.as_slice.ensures at (c.in_ok-drop_each.ensures.dropped (c.in_ok-add_each.ensures.before trusted))) (rw c.as_slice-2.ensures at (c.in_ok-add_each.ensures.added trusted))

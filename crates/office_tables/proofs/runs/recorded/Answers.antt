@@ -1,0 +1,12 @@
+use Rattle.sqlite.specs.Held.{state}
+use Rattle.office_tables.proofs.RunLemmas.{reported_is}
+use Rattle.office_tables.proofs.ReportReads.{run_reads}
+use Rattle.office_tables.proofs.runs.recorded.Goals as goal
+
+pub returns-clause-value : goal.returns-clause-value
+returns-clause-value g c trusted =
+    reported_is ((state g.S.Store c.run_rows.new.conn).now.trees 3) c.args.run c.only_reports.result c.in_ok-rows.rows.items (c.in_ok-rows.ensures.rows trusted) (rw c.as_slice.ensures.value at c.only_reports.ensures.ok)
+
+pub returns-clause-bad : goal.returns-clause-bad
+returns-clause-bad g c trusted finished reported bad =
+    run_reads ((state g.S.Store c.run_rows.new.conn).now.trees 3) c.args.run finished c.in_ok-rows.rows.items (c.in_ok-rows.ensures.rows trusted) reported (rw c.as_slice.ensures.value at (c.only_reports.ensures.none bad)) (rw c.as_slice.ensures.value at (c.only_reports.ensures.one bad))

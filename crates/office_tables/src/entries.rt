@@ -1,0 +1,523 @@
+//! Testing, read back: each entry of its tables by the kept message that gave it.
+ghost use Rattle.std.specs.Prelude.{◌≡◌, ◌≢◌, ◌<◌, ◌∷◌, ◌⊎◌, [], List, ℕ, ℤ, Err, Some, None, pos, map, length, IfOk, IfSome, OnOk, ◌&&◌};
+ghost use Rattle.std.specs.Option.{option_copied};
+ghost use Rattle.std.specs.Str.{bytes_eq};
+ghost use Rattle.testing_items.specs.Words.{arch_name};
+ghost use Rattle.std.specs.List.{AllByRecursion};
+ghost use Rattle.std.specs.List.Sorted.{IsPermutation};
+ghost use Rattle.sqlite.specs.Order.{column};
+ghost use Rattle.sqlite.specs.declared.types.Value.TheVariants.{Int, Text as Words};
+ghost use Rattle.sqlite.specs.Held.{state};
+ghost use Rattle.sqlite.specs.State.{HasCleanDisk};
+ghost use Rattle.office_mail.specs.Read.{read};
+ghost use Rattle.office_keeper.specs.Provenance.{IsArchPlace, KnowsArchs, upload_in, binary_in};
+ghost use Rattle.office_tables.specs.Tables.{IsTrusted, IsOurs, kept_rows, Lasts};
+ghost use Rattle.office_tables.specs.TableSteps.{IsCrowded, Same};
+ghost use Rattle.office_tables.specs.Legible.{IsWhole, AreNamed};
+ghost use Rattle.office_tables.specs.Entries.{source_in, source_map, entry_in, entry_map};
+ghost use Rattle.office_tables.specs.EntrySteps.{source_columns, entry_columns};
+ghost use Rattle.office_tables.specs.TableContent.{own_by, message_at as kept_message, source_as, source_of, row_as, row_of, is_arch_place, ReadsEach, put_all_sources, put_all_rows, IsGathered, suite_in};
+
+use crate::faults::unread;
+use crate::mail;
+use deb_control::{Binary, NoMemory};
+use office_keeper::{Cause, KeepFault};
+use office_mail::{Body, MailFault, Message, Setup, read_message};
+use sqlite::types::ValueRef;
+use sqlite::{Alter, Connection, Error, Row};
+use std::alloc::Global;
+use std::cmp::Ordering;
+use testing_items::{ALL, Archs, Item};
+use testing_model::{RowIn, SharedBinary, SourceIn};
+use testing_suites::Testing;
+
+/// The message that a text is, where it is of this sender and number.
+pub fn own_message(
+    alloc: Global,
+    setup: &Setup,
+    text: &[u8],
+    sender: u32,
+    number: u32,
+) -> Result<Message, KeepFault>
+    ensures ok { IfOk result (λ message. own_by sender number (read setup.now text.now) ≡ Some message) }
+    ensures bad { result ≡ Err (KeepFault.Store Cause.BadRow) → own_by sender number (read setup.now text.now) ≡ None }
+{
+    match read_message(alloc, setup, text) {
+        Ok(message) => {
+            if message.sender == sender && message.number == number {
+                Ok(message)
+            } else {
+                Err(KeepFault::Store(Cause::BadRow))
+            }
+        }
+        Err(MailFault::NoMemory) => Err(KeepFault::NoMemory),
+        Err(_) => Err(KeepFault::Store(Cause::BadRow)),
+    }
+}
+
+/// The message that is kept at a place.
+#[tactic(auto, unfolding(crate::specs::TableContent::message_at))]
+fn message_at<S: Alter>(
+    alloc: Global,
+    conn: &mut Connection<S>,
+    setup: &Setup,
+    sender: u32,
+    number: u32,
+) -> Result<Message, KeepFault>
+    requires ours { IsTrusted (state S.Store conn.old) → IsOurs (state S.Store conn.old) }
+    ensures before { IsTrusted (state S.Store conn.new) → IsTrusted (state S.Store conn.old) }
+    ensures lasts { Lasts (state S.Store conn.old) (state S.Store conn.new) }
+    ensures open { HasCleanDisk (state S.Store conn.new) → IsTrusted (state S.Store conn.old) → OnOk result (IsTrusted (state S.Store conn.new)) }
+    ensures same { IsTrusted (state S.Store conn.new) → Same (state S.Store conn.old) (state S.Store conn.new) }
+    ensures ok { IsTrusted (state S.Store conn.new) → IfOk result (λ message. kept_message setup.now (kept_rows ((state S.Store conn.new).now.trees 1)) sender number ≡ Some message) }
+    ensures bad { IsTrusted (state S.Store conn.new) → result ≡ Err (KeepFault.Store Cause.BadRow) → IsCrowded ((state S.Store conn.new).now.trees 1) ⊎ (kept_message setup.now (kept_rows ((state S.Store conn.new).now.trees 1)) sender number ≡ None) }
+{
+    match mail::find(conn, sender, number)? {
+        None => Err(KeepFault::Store(Cause::BadRow)),
+        Some(text) => own_message(alloc, setup, text.as_slice(), sender, number),
+    }
+}
+
+/// A message that was read, and the place at which it is kept.
+#[derive(Drop)]
+struct KeptAt {
+    sender: u32,
+    number: u32,
+    message: Message,
+}
+
+/// The message that is kept at a place, read.
+fn read_at<S: Alter>(
+    alloc: Global,
+    conn: &mut Connection<S>,
+    setup: &Setup,
+    sender: u32,
+    number: u32,
+) -> Result<KeptAt, KeepFault>
+    requires ours { IsTrusted (state S.Store conn.old) → IsOurs (state S.Store conn.old) }
+    ensures before { IsTrusted (state S.Store conn.new) → IsTrusted (state S.Store conn.old) }
+    ensures lasts { Lasts (state S.Store conn.old) (state S.Store conn.new) }
+    ensures open { HasCleanDisk (state S.Store conn.new) → IsTrusted (state S.Store conn.old) → OnOk result (IsTrusted (state S.Store conn.new)) }
+    ensures same { IsTrusted (state S.Store conn.new) → Same (state S.Store conn.old) (state S.Store conn.new) }
+    ensures place { IfOk result (λ kept. (kept.sender ≡ sender) × (kept.number ≡ number)) }
+    ensures ok { IsTrusted (state S.Store conn.new) → IfOk result (λ kept. kept_message setup.now (kept_rows ((state S.Store conn.new).now.trees 1)) kept.sender kept.number ≡ Some kept.message) }
+    ensures bad { IsTrusted (state S.Store conn.new) → result ≡ Err (KeepFault.Store Cause.BadRow) → IsCrowded ((state S.Store conn.new).now.trees 1) ⊎ (kept_message setup.now (kept_rows ((state S.Store conn.new).now.trees 1)) sender number ≡ None) }
+{
+    let message = message_at(alloc, conn, setup, sender, number)?;
+    Ok(KeptAt {
+        sender,
+        number,
+        message,
+    })
+}
+
+/// The message that is kept at a place: the one read last, where it is of that place.
+fn read_once<S: Alter>(
+    alloc: Global,
+    conn: &mut Connection<S>,
+    setup: &Setup,
+    last: Option<KeptAt>,
+    sender: u32,
+    number: u32,
+) -> Result<KeptAt, KeepFault>
+    requires ours { IsTrusted (state S.Store conn.old) → IsOurs (state S.Store conn.old) }
+    requires last { IsTrusted (state S.Store conn.old) → IfSome last (λ kept. kept_message setup.now (kept_rows ((state S.Store conn.old).now.trees 1)) kept.sender kept.number ≡ Some kept.message) }
+    ensures before { IsTrusted (state S.Store conn.new) → IsTrusted (state S.Store conn.old) }
+    ensures lasts { Lasts (state S.Store conn.old) (state S.Store conn.new) }
+    ensures open { HasCleanDisk (state S.Store conn.new) → IsTrusted (state S.Store conn.old) → OnOk result (IsTrusted (state S.Store conn.new)) }
+    ensures same { IsTrusted (state S.Store conn.new) → Same (state S.Store conn.old) (state S.Store conn.new) }
+    ensures place { IfOk result (λ kept. (kept.sender ≡ sender) × (kept.number ≡ number)) }
+    ensures ok { IsTrusted (state S.Store conn.new) → IfOk result (λ kept. kept_message setup.now (kept_rows ((state S.Store conn.new).now.trees 1)) kept.sender kept.number ≡ Some kept.message) }
+    ensures bad { IsTrusted (state S.Store conn.new) → result ≡ Err (KeepFault.Store Cause.BadRow) → IsCrowded ((state S.Store conn.new).now.trees 1) ⊎ (kept_message setup.now (kept_rows ((state S.Store conn.new).now.trees 1)) sender number ≡ None) }
+{
+    match last {
+        Some(kept) => {
+            if kept.sender == sender && kept.number == number {
+                Ok(kept)
+            } else {
+                read_at(alloc, conn, setup, sender, number)
+            }
+        }
+        None => read_at(alloc, conn, setup, sender, number),
+    }
+}
+
+/// The characters in a column.
+fn name_in(row: &Row, at: usize) -> Result<&[u8], KeepFault>
+    ensures ok { IfOk result (λ name. column row.now at ≡ Words name.now) }
+    ensures bad { result ≡ Err (KeepFault.Store Cause.BadRow) → at < length row.now → (name : List ℕ) → column row.now at ≢ Words name }
+{
+    match row.get_ref(at).map_err(unread)? {
+        ValueRef::Text(name) => Ok(name),
+        _ => Err(KeepFault::Store(Cause::BadRow)),
+    }
+}
+
+/// The rowid, in the first column.
+pub(crate) fn rowid_in(row: &Row) -> Result<i64, KeepFault>
+    ensures ok { IfOk result (λ id. column row.now 0 ≡ Int id) }
+    ensures bad { result ≡ Err (KeepFault.Store Cause.BadRow) → 0 < length row.now → (id : ℤ) → column row.now 0 ≢ Int id }
+{
+    Ok(row.get(0).map_err(unread)?)
+}
+
+/// The number of 32 bits in a column.
+pub(crate) fn number_in(row: &Row, at: usize) -> Result<u32, KeepFault>
+    ensures ok { IfOk result (λ n. (column row.now at ≡ Int (pos n)) × (n < 4_294_967_296)) }
+    ensures bad { result ≡ Err (KeepFault.Store Cause.BadRow) → at < length row.now → (n : ℕ) → n < 4_294_967_296 → column row.now at ≢ Int (pos n) }
+{
+    Ok(row.get(at).map_err(unread)?)
+}
+
+/// The name in a shown row of testing's sources, and the place of its message.
+fn source_entry(row: &Row) -> Result<(&[u8], u32, u32), KeepFault>
+    ensures ok { IfOk result (λ entry. source_in row.now ≡ Some (entry.0.now, (entry.1, entry.2))) }
+    ensures bad { result ≡ Err (KeepFault.Store Cause.BadRow) → (id : ℤ) (name : List ℕ) (sender number : ℕ) → sender < 4_294_967_296 → number < 4_294_967_296 → row.now ≢ Int id ∷ Words name ∷ Int (pos sender) ∷ Int (pos number) ∷ [] }
+{
+    let _rowid = rowid_in(row)?;
+    let name = name_in(row, 1)?;
+    let sender = number_in(row, 2)?;
+    let number = number_in(row, 3)?;
+    Ok((name, sender, number))
+}
+
+/// The source that an upload names, where it is of this name.
+fn source_named(message: Message, name: &[u8], sender: u32, number: u32) -> Option<SourceIn>
+    ensures { result ≡ source_as name.now sender number (upload_in message.body) }
+{
+    match message.body {
+        Body::Item(
+            Item::Upload {
+                source,
+                version,
+                ..
+            },
+        ) => {
+            if source.as_str().as_bytes() == name {
+                Some(SourceIn {
+                    name: source,
+                    version,
+                    sender,
+                    number,
+                })
+            } else {
+                None
+            }
+        }
+        _ => None,
+    }
+}
+
+/// The source that a shown row names.
+fn source_at<S: Alter>(
+    alloc: Global,
+    conn: &mut Connection<S>,
+    setup: &Setup,
+    row: &Row,
+) -> Result<SourceIn, KeepFault>
+    requires ours { IsTrusted (state S.Store conn.old) → IsOurs (state S.Store conn.old) }
+    ensures before { IsTrusted (state S.Store conn.new) → IsTrusted (state S.Store conn.old) }
+    ensures lasts { Lasts (state S.Store conn.old) (state S.Store conn.new) }
+    ensures open { HasCleanDisk (state S.Store conn.new) → IsTrusted (state S.Store conn.old) → OnOk result (IsTrusted (state S.Store conn.new)) }
+    ensures same { IsTrusted (state S.Store conn.new) → Same (state S.Store conn.old) (state S.Store conn.new) }
+    ensures ok { IsTrusted (state S.Store conn.new) → IfOk result (λ source. source_of setup.now (kept_rows ((state S.Store conn.new).now.trees 1)) row.now ≡ Some source) }
+    ensures bad { IsTrusted (state S.Store conn.new) → result ≡ Err (KeepFault.Store Cause.BadRow) → row.now ≡ source_columns row.now → IsCrowded ((state S.Store conn.new).now.trees 1) ⊎ (source_of setup.now (kept_rows ((state S.Store conn.new).now.trees 1)) row.now ≡ None) }
+{
+    let (name, sender, number) = source_entry(row)?;
+    let message = message_at(alloc, conn, setup, sender, number)?;
+    match source_named(message, name, sender, number) {
+        Some(source) => Ok(source),
+        None => Err(KeepFault::Store(Cause::BadRow)),
+    }
+}
+
+/// The rows of testing's sources, in any order.
+fn source_rows<S: Alter>(conn: &mut Connection<S>) -> Result<Vec<Row>, Error>
+    requires ours { IsTrusted (state S.Store conn.old) → IsOurs (state S.Store conn.old) }
+    ensures before { IsTrusted (state S.Store conn.new) → IsTrusted (state S.Store conn.old) }
+    ensures lasts { Lasts (state S.Store conn.old) (state S.Store conn.new) }
+    ensures open { HasCleanDisk (state S.Store conn.new) → IsTrusted (state S.Store conn.old) → OnOk result (IsTrusted (state S.Store conn.new)) }
+    ensures same { IsTrusted (state S.Store conn.new) → Same (state S.Store conn.old) (state S.Store conn.new) }
+    ensures rows { IsTrusted (state S.Store conn.new) → IfOk result (λ rows. IsPermutation (map source_columns ((state S.Store conn.new).now.trees 4)) rows.items) }
+{
+    conn.query_all(
+        "SELECT rowid, name, sender, number FROM testing_source",
+        &[],
+    )
+}
+
+/// The sources that these rows name.
+fn sources_at<S: Alter>(
+    alloc: Global,
+    conn: &mut Connection<S>,
+    setup: &Setup,
+    rows: &[Row],
+) -> Result<Vec<SourceIn>, KeepFault>
+    requires ours { IsTrusted (state S.Store conn.old) → IsOurs (state S.Store conn.old) }
+    ensures before { IsTrusted (state S.Store conn.new) → IsTrusted (state S.Store conn.old) }
+    ensures lasts { Lasts (state S.Store conn.old) (state S.Store conn.new) }
+    ensures open { HasCleanDisk (state S.Store conn.new) → IsTrusted (state S.Store conn.old) → OnOk result (IsTrusted (state S.Store conn.new)) }
+    ensures same { IsTrusted (state S.Store conn.new) → Same (state S.Store conn.old) (state S.Store conn.new) }
+    ensures ok { IsTrusted (state S.Store conn.new) → IfOk result (λ sources. map (source_of setup.now (kept_rows ((state S.Store conn.new).now.trees 1))) rows.now ≡ map Some sources.items) }
+    ensures bad { IsTrusted (state S.Store conn.new) → result ≡ Err (KeepFault.Store Cause.BadRow) → ReadsEach source_columns (source_of setup.now (kept_rows ((state S.Store conn.new).now.trees 1))) rows.now → IsCrowded ((state S.Store conn.new).now.trees 1) }
+{
+    let mut sources = Vec::new(alloc);
+    'rows: for row in rows {
+        let source = source_at(alloc, conn, setup, row)?;
+        sources.push(source)?;
+    }
+    Ok(sources)
+}
+
+/// Puts these sources into a suite, one by one.
+fn put_sources(testing: &mut Testing, sources: Vec<SourceIn>) -> Result<(), NoMemory>
+    ensures ok { OnOk result (testing.new ≡ record { sources = put_all_sources sources.items testing.old.sources; rows = testing.old.rows }) }
+{
+    'sources: for source in sources {
+        testing.set_source(source)?;
+    }
+    Ok(())
+}
+
+/// What a shown row of testing's rows says.
+#[derive(Clone, Copy)]
+struct RowEntry<'a> {
+    arch: u32,
+    name: &'a [u8],
+    sender: u32,
+    number: u32,
+    place: u32,
+}
+
+/// The architecture and name in a shown row of testing's rows, and the places of its message and binary.
+fn row_entry(row: &Row) -> Result<RowEntry<'_>, KeepFault>
+    ensures ok { IfOk result (λ e. entry_in row.now ≡ Some ((e.arch, e.name.now), ((e.sender, e.number), e.place))) }
+    ensures bad { result ≡ Err (KeepFault.Store Cause.BadRow) → (id : ℤ) (arch : ℕ) (name : List ℕ) (sender number place : ℕ) → arch < 4_294_967_296 → sender < 4_294_967_296 → number < 4_294_967_296 → place < 4_294_967_296 → row.now ≢ Int id ∷ Int (pos arch) ∷ Words name ∷ Int (pos sender) ∷ Int (pos number) ∷ Int (pos place) ∷ [] }
+{
+    let _rowid = rowid_in(row)?;
+    let arch = number_in(row, 1)?;
+    let name = name_in(row, 2)?;
+    let sender = number_in(row, 3)?;
+    let number = number_in(row, 4)?;
+    let place = number_in(row, 5)?;
+    Ok(RowEntry {
+        arch,
+        name,
+        sender,
+        number,
+        place,
+    })
+}
+
+/// The binary of a build at a place, of which the first is 1.
+fn binary_at(message: &Message, place: u32) -> Option<&Binary>
+    ensures { option_copied result ≡ binary_in place message.now.body }
+{
+    match &message.body {
+        Body::Item(Item::Build(binaries)) => {
+            if place == 0 {
+                None
+            } else {
+                binaries.as_slice().get(place as usize - 1)
+            }
+        }
+        _ => None,
+    }
+}
+
+/// Whether a binary is of this name, and of the architecture at this place.
+fn is_named(archs: &Archs, arch: u32, binary: &Binary, name: &[u8]) -> bool
+    ensures { result ≡ (is_arch_place archs.now arch && (bytes_eq binary.now.name name.now && bytes_eq (arch_name archs.now arch) binary.now.architecture)) }
+{
+    let listed = arch < archs.len() || arch == ALL;
+    listed
+        && (binary.name.as_str().as_bytes() == name
+            && archs.name(arch) == binary.architecture.as_str())
+}
+
+/// The row that a binary gives for an entry, where it is of that name and architecture.
+fn row_in(
+    alloc: Global,
+    archs: &Archs,
+    binary: Option<&Binary>,
+    entry: &RowEntry<'_>,
+) -> Result<Option<RowIn>, NoMemory>
+    ensures named { IfOk result (λ row. row ≡ row_as archs.now entry.now.arch entry.now.name.now entry.now.sender entry.now.number entry.now.place (option_copied binary.entry)) }
+{
+    let Some(binary) = binary else {
+        return Ok(None);
+    };
+    if !is_named(archs, entry.arch, binary, entry.name) {
+        return Ok(None);
+    }
+    Ok(Some(RowIn {
+        arch: entry.arch,
+        binary: SharedBinary::copy_of(alloc, binary)?,
+        sender: entry.sender,
+        number: entry.number,
+        place: entry.place,
+    }))
+}
+
+/// The row that a build gives for an entry, where it has a binary of that name and architecture at its place.
+fn row_named(
+    alloc: Global,
+    archs: &Archs,
+    message: &Message,
+    entry: &RowEntry<'_>,
+) -> Result<Option<RowIn>, NoMemory>
+    ensures named { IfOk result (λ row. row ≡ row_as archs.now entry.now.arch entry.now.name.now entry.now.sender entry.now.number entry.now.place (binary_in entry.now.place message.now.body)) }
+{
+    row_in(alloc, archs, binary_at(message, entry.place), entry)
+}
+
+/// The row of testing that a shown row names, and the message that gave it. The message read last is read no more.
+fn row_at<S: Alter>(
+    alloc: Global,
+    conn: &mut Connection<S>,
+    setup: &Setup,
+    row: &Row,
+    last: Option<KeptAt>,
+) -> Result<(RowIn, KeptAt), KeepFault>
+    requires ours { IsTrusted (state S.Store conn.old) → IsOurs (state S.Store conn.old) }
+    requires last { IsTrusted (state S.Store conn.old) → IfSome last (λ kept. kept_message setup.now (kept_rows ((state S.Store conn.old).now.trees 1)) kept.sender kept.number ≡ Some kept.message) }
+    ensures before { IsTrusted (state S.Store conn.new) → IsTrusted (state S.Store conn.old) }
+    ensures lasts { Lasts (state S.Store conn.old) (state S.Store conn.new) }
+    ensures open { HasCleanDisk (state S.Store conn.new) → IsTrusted (state S.Store conn.old) → OnOk result (IsTrusted (state S.Store conn.new)) }
+    ensures same { IsTrusted (state S.Store conn.new) → Same (state S.Store conn.old) (state S.Store conn.new) }
+    ensures known { IfOk result (λ given. IsArchPlace setup.now.archs given.0.arch) }
+    ensures ok { IsTrusted (state S.Store conn.new) → IfOk result (λ given. row_of setup.now (kept_rows ((state S.Store conn.new).now.trees 1)) row.now ≡ Some given.0) }
+    ensures held { IsTrusted (state S.Store conn.new) → IfOk result (λ given. kept_message setup.now (kept_rows ((state S.Store conn.new).now.trees 1)) given.1.sender given.1.number ≡ Some given.1.message) }
+    ensures bad { IsTrusted (state S.Store conn.new) → result ≡ Err (KeepFault.Store Cause.BadRow) → row.now ≡ entry_columns row.now → IsCrowded ((state S.Store conn.new).now.trees 1) ⊎ (row_of setup.now (kept_rows ((state S.Store conn.new).now.trees 1)) row.now ≡ None) }
+{
+    let entry = row_entry(row)?;
+    let kept = read_once(alloc, conn, setup, last, entry.sender, entry.number)?;
+    match row_named(alloc, setup.archs(), &kept.message, &entry)? {
+        Some(given) => Ok((given, kept)),
+        None => Err(KeepFault::Store(Cause::BadRow)),
+    }
+}
+
+/// The rows of testing's rows, in any order.
+fn entry_rows<S: Alter>(conn: &mut Connection<S>) -> Result<Vec<Row>, Error>
+    requires ours { IsTrusted (state S.Store conn.old) → IsOurs (state S.Store conn.old) }
+    ensures before { IsTrusted (state S.Store conn.new) → IsTrusted (state S.Store conn.old) }
+    ensures lasts { Lasts (state S.Store conn.old) (state S.Store conn.new) }
+    ensures open { HasCleanDisk (state S.Store conn.new) → IsTrusted (state S.Store conn.old) → OnOk result (IsTrusted (state S.Store conn.new)) }
+    ensures same { IsTrusted (state S.Store conn.new) → Same (state S.Store conn.old) (state S.Store conn.new) }
+    ensures rows { IsTrusted (state S.Store conn.new) → IfOk result (λ rows. IsPermutation (map entry_columns ((state S.Store conn.new).now.trees 6)) rows.items) }
+{
+    conn.query_all(
+        "SELECT rowid, arch, name, sender, number, place FROM testing_row",
+        &[],
+    )
+}
+
+/// The place of the message that a shown row of testing's rows names, 0 for a number that doesn't read.
+fn message_place(row: &Row) -> (u32, u32) {
+    (
+        number_in(row, 3).unwrap_or(0),
+        number_in(row, 4).unwrap_or(0),
+    )
+}
+
+/// These rows, those of one message side by side. Nothing rests on their order.
+fn by_message(rows: Vec<Row>) -> Vec<Row>
+    ensures { IsPermutation rows.items result.items }
+{
+    let mut sorted = rows;
+    sorted.sort_unstable_by_key(|row| message_place(row));
+    sorted
+}
+
+/// The rows of testing that these rows of the table name.
+fn rows_at<S: Alter>(
+    alloc: Global,
+    conn: &mut Connection<S>,
+    setup: &Setup,
+    rows: &[Row],
+) -> Result<Vec<RowIn>, KeepFault>
+    requires ours { IsTrusted (state S.Store conn.old) → IsOurs (state S.Store conn.old) }
+    ensures before { IsTrusted (state S.Store conn.new) → IsTrusted (state S.Store conn.old) }
+    ensures lasts { Lasts (state S.Store conn.old) (state S.Store conn.new) }
+    ensures open { HasCleanDisk (state S.Store conn.new) → IsTrusted (state S.Store conn.old) → OnOk result (IsTrusted (state S.Store conn.new)) }
+    ensures same { IsTrusted (state S.Store conn.new) → Same (state S.Store conn.old) (state S.Store conn.new) }
+    ensures known { IfOk result (λ given. AllByRecursion (λ r. IsArchPlace setup.now.archs r.arch) given.items) }
+    ensures ok { IsTrusted (state S.Store conn.new) → IfOk result (λ given. map (row_of setup.now (kept_rows ((state S.Store conn.new).now.trees 1))) rows.now ≡ map Some given.items) }
+    ensures bad { IsTrusted (state S.Store conn.new) → result ≡ Err (KeepFault.Store Cause.BadRow) → ReadsEach entry_columns (row_of setup.now (kept_rows ((state S.Store conn.new).now.trees 1))) rows.now → IsCrowded ((state S.Store conn.new).now.trees 1) }
+{
+    let mut given = Vec::new(alloc);
+    let mut last = None;
+    'rows: for row in rows {
+        let (one, kept) = row_at(alloc, conn, setup, row, last)?;
+        last = Some(kept);
+        given.push(one)?;
+    }
+    Ok(given)
+}
+
+/// These rows by architecture and name, so that each goes into a suite behind those before it. Nothing rests on their
+/// order.
+fn by_key(rows: Vec<RowIn>) -> Vec<RowIn>
+    ensures { IsPermutation rows.items result.items }
+{
+    let mut sorted = rows;
+    sorted.sort_unstable_by(|row, other| order_rows(row, other));
+    sorted
+}
+
+/// The order of rows, by architecture and name.
+fn order_rows(row: &RowIn, other: &RowIn) -> Ordering {
+    let names = row.binary.name.as_str().cmp(other.binary.name.as_str());
+    row.arch.cmp(&other.arch).then(names)
+}
+
+/// Puts these rows into a suite, one by one.
+fn put_rows(testing: &mut Testing, rows: Vec<RowIn>) -> Result<(), NoMemory>
+    ensures ok { OnOk result (testing.new ≡ record { sources = testing.old.sources; rows = put_all_rows rows.items testing.old.rows }) }
+{
+    'rows: for row in rows {
+        testing.set_row(row)?;
+    }
+    Ok(())
+}
+
+/// The suite of these sources and rows. Where two of them have one key, the tables are no office's.
+fn gathered(alloc: Global, sources: Vec<SourceIn>, rows: Vec<RowIn>) -> Result<Testing, KeepFault>
+    ensures ok { IfOk result (λ testing. IsGathered sources.items rows.items testing) }
+    ensures bad { result ≡ Err (KeepFault.Store Cause.BadRow) → length (put_all_sources sources.items []) ≡ length sources.items → length (put_all_rows rows.items []) ≢ length rows.items }
+{
+    let count = sources.len();
+    let more = rows.len();
+    let mut testing = Testing::new(alloc);
+    put_sources(&mut testing, sources)?;
+    put_rows(&mut testing, rows)?;
+    if testing.sources().len() != count || testing.rows().len() != more {
+        return Err(KeepFault::Store(Cause::BadRow));
+    }
+    Ok(testing)
+}
+
+/// Testing, as its entries and the kept mail name it.
+pub fn testing<S: Alter>(
+    alloc: Global,
+    conn: &mut Connection<S>,
+    setup: &Setup,
+) -> Result<Testing, KeepFault>
+    requires ours { IsTrusted (state S.Store conn.old) → IsOurs (state S.Store conn.old) }
+    ensures before { IsTrusted (state S.Store conn.new) → IsTrusted (state S.Store conn.old) }
+    ensures lasts { Lasts (state S.Store conn.old) (state S.Store conn.new) }
+    ensures open { HasCleanDisk (state S.Store conn.new) → IsTrusted (state S.Store conn.old) → OnOk result (IsTrusted (state S.Store conn.new)) }
+    ensures same { IsTrusted (state S.Store conn.new) → Same (state S.Store conn.old) (state S.Store conn.new) }
+    ensures bad { IsTrusted (state S.Store conn.new) → IsWhole (kept_rows ((state S.Store conn.new).now.trees 1)) ((state S.Store conn.new).now.trees 1) → AreNamed setup.now (state S.Store conn.new).now.trees → result ≢ Err (KeepFault.Store Cause.BadRow) }
+    ensures known { IfOk result (λ testing. KnowsArchs setup.now.archs testing.rows) }
+    ensures value { IsTrusted (state S.Store conn.new) → IfOk result (λ testing. testing ≡ suite_in setup.now (kept_rows ((state S.Store conn.new).now.trees 1)) (source_map ((state S.Store conn.new).now.trees 4)) (entry_map ((state S.Store conn.new).now.trees 6))) }
+{
+    let named = source_rows(conn)?;
+    let sources = sources_at(alloc, conn, setup, named.as_slice())?;
+    let found = entry_rows(conn)?;
+    let listed = by_message(found);
+    let given = rows_at(alloc, conn, setup, listed.as_slice())?;
+    let rows = by_key(given);
+    gathered(alloc, sources, rows)
+}
