@@ -1,7 +1,7 @@
 //! Whether what a replay printed is right for the refusals that it shows.
 
 use crate::given::Letter;
-use crate::met::Met;
+use crate::faults::Met;
 use crate::offices::{bag_of, new_office, replayed};
 use std::alloc::Global;
 
@@ -79,7 +79,7 @@ struct Answered<'a> {
 }
 
 /// What an output says of these letters.
-fn answered<'a>(alloc: Global, letters: &[Letter], output: &'a [u8]) -> Result<Answered<'a>, Met> {
+fn answers_in<'a>(alloc: Global, letters: &[Letter], output: &'a [u8]) -> Result<Answered<'a>, Met> {
     let mut rest = output;
     let mut held = Vec::new(alloc);
     let mut lost = false;
@@ -110,7 +110,7 @@ pub fn is_right(alloc: Global, letters: &[Letter], output: &[u8], status: u8) ->
     if output == REFUSED {
         return Ok(status == 4);
     }
-    let told = answered(alloc, letters, output)?;
+    let told = answers_in(alloc, letters, output)?;
     let due = clean_end(alloc, &told.held)?;
     if told.rest == due.as_slice() {
         return Ok(status == 4 || (status == 0 && !told.lost));

@@ -6,10 +6,10 @@
 #![tactic(auto)]
 
 mod failing;
+mod faults;
 mod given;
 mod judging;
 mod memory;
-mod met;
 mod offices;
 mod reading;
 mod stopping;
@@ -17,7 +17,7 @@ mod stops;
 mod words;
 mod writing;
 
-use met::Met;
+use faults::Met;
 use std::alloc::Global;
 use std::process::ExitCode;
 use words::{is_chosen, read_words};

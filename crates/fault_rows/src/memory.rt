@@ -5,7 +5,7 @@ use crate::given::{
     EXCUSES, GROUP, GROUP_TESTING, GROUP_UPDATE, Letter, TESTING, UPDATES, first_letters,
 };
 use crate::judging::is_right;
-use crate::met::{Met, due};
+use crate::faults::{Met, due};
 use crate::offices::{bag_of, longest_post, new_office, replayed, serve_by, setup_of};
 use deb_control::{Binary, BinaryFault, ParagraphFault, Paragraphs};
 use jiff::civil::Date;

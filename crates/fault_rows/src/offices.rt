@@ -2,7 +2,7 @@
 
 use crate::failing::{Reader, Writer, reader_of, whole_writer};
 use crate::given::{Letter, SETUP};
-use crate::met::Met;
+use crate::faults::Met;
 use deb_version::NoMemory;
 use office_http::{Office, Replayed, ServeFault, Served, WriteFault, replay, replay_status, serve_one};
 use office_mail::{Bag, FromRead, Setup, SetupFault, ToWrite};

@@ -2,7 +2,7 @@
 
 use crate::failing::{Reader, whole_writer};
 use crate::given::{BROKEN, CONTINUE, ENDS, EXPECT, OUTPUT, first_letters};
-use crate::met::{Met, due};
+use crate::faults::{Met, due};
 use crate::offices::{bag_of, is_free, longest_post, new_office, replay_by, serve_by};
 use office_http::{Replayed, ServeFault, Served};
 use office_mail::BagFault;
@@ -12,7 +12,7 @@ use std::alloc::Global;
 const MOST: u32 = 400;
 
 /// How many bytes a read of a post gives.
-const POST_READ: usize = 1_000;
+const BYTES_A_READ: usize = 1_000;
 
 /// What a replay prints whose reader fails behind so many bytes of the bag.
 fn broken_output(bytes: usize) -> &'static str {
@@ -73,7 +73,7 @@ fn post_read(alloc: Global, request: &[u8], front: &str, fails_at: u32) -> Resul
     let mut writer = whole_writer(alloc);
     let mut reader = Reader {
         bytes: request,
-        most: POST_READ,
+        most: BYTES_A_READ,
         calls: 0,
         fails_at,
     };

@@ -3,7 +3,7 @@
 ghost use Rattle.std.specs.Prelude.{IsTrue, IfOk};
 
 use crate::given::{EXCUSES, LETTERS, TESTING, UPDATES, first_letters};
-use crate::met::{Met, due};
+use crate::faults::{Met, due};
 use crate::offices::{bag_of, replayed, setup_of};
 use office_http::{DeliverFault, Held, Office, Progress};
 use office_mail::{MailFault, Setup};

@@ -1,6 +1,6 @@
 //! Each of an office's two files stops after each of its calls.
 
-use crate::met::{Met, due};
+use crate::faults::{Met, due};
 use crate::stopping::{Left, Stop, stops};
 use std::alloc::Global;
 

@@ -1,6 +1,6 @@
 //! The words that a program was started with.
 
-use crate::met::Met;
+use crate::faults::Met;
 use std::alloc::Global;
 use std::env;
 use std::env::Args;

@@ -2,7 +2,7 @@
 
 use crate::failing::{Failure, Writer, reader_of};
 use crate::given::{CONTINUE, EXPECT, OUTPUT, REPLY, TESTING, first_letters};
-use crate::met::{Met, due};
+use crate::faults::{Met, due};
 use crate::offices::{bag_of, is_free, longest_post, new_office, replay_by, replayed, serve_by};
 use office_http::{ServeFault, Served};
 use std::alloc::Global;
