@@ -1,7 +1,7 @@
 //! Whether what a replay printed is right for the refusals that it shows.
 
-use crate::given::Letter;
 use crate::faults::Met;
+use crate::given::Letter;
 use crate::offices::{bag_of, new_office, replayed};
 use std::alloc::Global;
 
@@ -79,7 +79,11 @@ struct Answered<'a> {
 }
 
 /// What an output says of these letters.
-fn answers_in<'a>(alloc: Global, letters: &[Letter], output: &'a [u8]) -> Result<Answered<'a>, Met> {
+fn answers_in<'a>(
+    alloc: Global,
+    letters: &[Letter],
+    output: &'a [u8],
+) -> Result<Answered<'a>, Met> {
     let mut rest = output;
     let mut held = Vec::new(alloc);
     let mut lost = false;
@@ -103,9 +107,9 @@ fn answers_in<'a>(alloc: Global, letters: &[Letter], output: &'a [u8]) -> Result
     Ok(Answered { held, lost, rest })
 }
 
-/// Whether what a replay of these letters printed is right for what it shows: each letter is answered by its line or by a
-/// refusal, a bag may end for want of memory, and the end is that of the letters that were held, or one of its texts is
-/// refused. The status tells of each loss. It is said for a replay that met one refusal at most.
+/// Whether what a replay of these letters printed is right for what it shows: each letter is answered by its line or by
+/// a refusal, a bag may end for want of memory, and the end is that of the letters that were held, or one of its texts
+/// is refused. The status tells of each loss. It is said for a replay that met one refusal at most.
 pub fn is_right(alloc: Global, letters: &[Letter], output: &[u8], status: u8) -> Result<bool, Met> {
     if output == REFUSED {
         return Ok(status == 4);

@@ -1,6 +1,6 @@
-//! Calls of the office where one thing fails: memory, a read, a write, or a file for good. Each part makes its calls with
-//! each failure in turn and judges what came. It prints `NAME: right`, or what is wrong. What is refused memory is made
-//! by whoever runs the program: with ample memory a part says right, and whichever one growth is refused it says so too.
+//! Calls of the office where one thing fails: memory, a read, a write, or a file for good. Each part makes its calls
+//! with each failure in turn and judges what came. It prints `NAME: right`, or what is wrong. Memory is refused by
+//! whoever runs the program: with ample memory a part says right, and whichever one growth is refused it says so too.
 //!
 //! With words, only the parts whose names begin with one of them are tried.
 #![tactic(auto)]

@@ -1,11 +1,11 @@
 //! Calls that may be refused memory: a refusal shows in its due place, and the same call with memory gives what is due.
 
 use crate::failing::{reader_of, whole_writer};
+use crate::faults::{Met, due};
 use crate::given::{
     EXCUSES, GROUP, GROUP_TESTING, GROUP_UPDATE, Letter, TESTING, UPDATES, first_letters,
 };
 use crate::judging::is_right;
-use crate::faults::{Met, due};
 use crate::offices::{bag_of, longest_post, new_office, replayed, serve_by, setup_of};
 use deb_control::{Binary, BinaryFault, ParagraphFault, Paragraphs};
 use jiff::civil::Date;
@@ -19,7 +19,10 @@ use testing_rules::{Facts, Testing, excuses, migrate, testing_text, update_text}
 /// A setup is read whole, or memory ran out.
 pub fn try_setup(alloc: Global) -> Result<(), Met> {
     let setup = setup_of(alloc)?;
-    due(setup.senders().len() == 5 && setup.archs().len() == 2, "another setup")
+    due(
+        setup.senders().len() == 5 && setup.archs().len() == 2,
+        "another setup",
+    )
 }
 
 /// A binary paragraph with each of its fields.
@@ -122,7 +125,10 @@ pub fn try_post(alloc: Global) -> Result<(), Met> {
     )?;
     writer.taken.clear();
     let served = serve_by(&mut office, &mut reader_of(OTHER), &mut writer);
-    due(served == Ok(Served { code: Some(200) }), "a 503 that added the message")
+    due(
+        served == Ok(Served { code: Some(200) }),
+        "a 503 that added the message",
+    )
 }
 
 /// What a run's reports are, by the count of the letters: those of the group, of the first run, or of both.
@@ -180,12 +186,18 @@ fn try_replay<K: Keeper>(
 ) -> Result<(), Met> {
     let bag = bag_of(alloc, letters)?;
     let (output, status) = replayed(alloc, office, &bag)?;
-    due(is_right(alloc, letters, &output, status)?, "an output that isn't due")?;
+    due(
+        is_right(alloc, letters, &output, status)?,
+        "an output that isn't due",
+    )?;
     let (again, status) = replayed(alloc, office, &bag)?;
     if status != 0 {
         return Err(Met::NoMemory);
     }
-    due(again.ends_with(due_testing(letters.len()).as_bytes()), "another testing")?;
+    due(
+        again.ends_with(due_testing(letters.len()).as_bytes()),
+        "another testing",
+    )?;
     let (excuses, updates) = due_reports(letters.len());
     tells_excuses(office, excuses)?;
     tells_updates(office, updates)

@@ -1,10 +1,12 @@
 //! Offices, bags and requests of the parts, and the calls that take them.
 
 use crate::failing::{Reader, Writer, reader_of, whole_writer};
-use crate::given::{Letter, SETUP};
 use crate::faults::Met;
+use crate::given::{Letter, SETUP};
 use deb_version::NoMemory;
-use office_http::{Office, Replayed, ServeFault, Served, WriteFault, replay, replay_status, serve_one};
+use office_http::{
+    Office, Replayed, ServeFault, Served, WriteFault, replay, replay_status, serve_one,
+};
 use office_mail::{Bag, FromRead, Setup, SetupFault, ToWrite};
 use office_store::{Keeper, Plain};
 use std::alloc::Global;
@@ -90,5 +92,7 @@ pub fn replayed<K: Keeper>(
 
 /// Whether an office holds no text under the number of the longest post yet: another text is held then.
 pub fn is_free<K: Keeper>(office: &mut Office<K>) -> bool {
-    office.deliver(b"From: ftp\nNumber: 1\nKind: none\n").is_ok()
+    office
+        .deliver(b"From: ftp\nNumber: 1\nKind: none\n")
+        .is_ok()
 }

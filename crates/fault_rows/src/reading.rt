@@ -1,8 +1,8 @@
 //! One read that fails, at each place in turn.
 
 use crate::failing::{Reader, whole_writer};
-use crate::given::{BROKEN, CONTINUE, ENDS, EXPECT, OUTPUT, first_letters};
 use crate::faults::{Met, due};
+use crate::given::{BROKEN, CONTINUE, ENDS, EXPECT, OUTPUT, first_letters};
 use crate::offices::{bag_of, is_free, longest_post, new_office, replay_by, serve_by};
 use office_http::{Replayed, ServeFault, Served};
 use office_mail::BagFault;
@@ -48,7 +48,10 @@ fn replay_read(alloc: Global, bag: &[u8], fails_at: u32) -> Result<bool, Met> {
     let given = bag.len().saturating_sub(reader.bytes.len());
     due(replayed == Ok(refused), "a failed read that isn't told")?;
     due(reader.calls == fails_at, "a read behind one that failed")?;
-    due(output == broken_output(given).as_bytes(), "another output behind a failed read")?;
+    due(
+        output == broken_output(given).as_bytes(),
+        "another output behind a failed read",
+    )?;
     Ok(true)
 }
 
@@ -63,7 +66,10 @@ pub fn try_replay_reads(alloc: Global) -> Result<(), Met> {
         failed = failed.saturating_add(1);
     }
     // Each byte is read by itself, and the end by one read more.
-    due(failed == bag.len().saturating_add(1), "another count of reads")
+    due(
+        failed == bag.len().saturating_add(1),
+        "another count of reads",
+    )
 }
 
 /// A post whose reader fails at one of its reads, and whether it did: nothing is delivered, and no more is written than
@@ -80,13 +86,22 @@ fn post_read(alloc: Global, request: &[u8], front: &str, fails_at: u32) -> Resul
     let served = serve_by(&mut office, &mut reader, &mut writer);
     let output = writer.taken.as_slice();
     if reader.calls < fails_at {
-        due(served == Ok(Served { code: Some(200) }), "a post that isn't held")?;
+        due(
+            served == Ok(Served { code: Some(200) }),
+            "a post that isn't held",
+        )?;
         due(!is_free(&mut office), "a post that isn't kept")?;
         return Ok(false);
     }
-    due(served == Err(ServeFault::Read), "a failed read that isn't told")?;
+    due(
+        served == Err(ServeFault::Read),
+        "a failed read that isn't told",
+    )?;
     due(reader.calls == fails_at, "a read behind one that failed")?;
-    due(output.is_empty() || output == front.as_bytes(), "a reply behind a failed read")?;
+    due(
+        output.is_empty() || output == front.as_bytes(),
+        "a reply behind a failed read",
+    )?;
     due(is_free(&mut office), "half a post is kept")?;
     Ok(true)
 }
@@ -102,7 +117,10 @@ fn try_reads(alloc: Global, more: &str, front: &str) -> Result<(), Met> {
         failed = failed.saturating_add(1);
     }
     // So many reads hold the request.
-    due(failed > 65 && failed < MOST.saturating_sub(1), "another count of reads")
+    due(
+        failed > 65 && failed < MOST.saturating_sub(1),
+        "another count of reads",
+    )
 }
 
 /// The same from a client that sends its body at once.
@@ -133,7 +151,13 @@ pub fn try_endless(alloc: Global) -> Result<(), Met> {
         bag: Some(BagFault::ReadFault),
         lost: false,
     };
-    due(replayed == Ok(refused), "a bag without an end that isn't refused")?;
+    due(
+        replayed == Ok(refused),
+        "a bag without an end that isn't refused",
+    )?;
     due(reader.calls == 1_000_000, "another count of reads")?;
-    due(writer.taken.as_slice() == BROKEN[0].as_bytes(), "another output")
+    due(
+        writer.taken.as_slice() == BROKEN[0].as_bytes(),
+        "another output",
+    )
 }

@@ -2,8 +2,8 @@
 
 ghost use Rattle.std.specs.Prelude.{IsTrue, IfOk};
 
-use crate::given::{EXCUSES, LETTERS, TESTING, UPDATES, first_letters};
 use crate::faults::{Met, due};
+use crate::given::{EXCUSES, LETTERS, TESTING, UPDATES, first_letters};
 use crate::offices::{bag_of, replayed, setup_of};
 use office_http::{DeliverFault, Held, Office, Progress};
 use office_mail::{MailFault, Setup};
@@ -83,9 +83,8 @@ fn settle_and_note<K: Keeper>(office: &mut Office<K>, held: usize, answers: &mut
 fn note(place: usize, told: Result<Held, DeliverFault>, answers: &mut Answers) -> bool {
     match told {
         Ok(held) => {
-            let is_due = LETTERS
-                .get(place)
-                .is_some_and(|letter| letter.sender == held.sender && letter.number == held.number);
+            let is_due = LETTERS.get(place).is_some_and(|letter| letter.sender == held.sender
+                && letter.number == held.number);
             if !is_due {
                 answers.wrong = true;
             }
@@ -182,12 +181,18 @@ fn judge_office<K: Keeper>(
     finished: u32,
     answers: &Answers,
 ) -> Result<(), Met> {
-    due(finished >= answers.finished && finished <= 2, "the count of runs")?;
+    due(
+        finished >= answers.finished && finished <= 2,
+        "the count of runs",
+    )?;
     due(tells_runs(office, finished), "testing or reports")?;
     let bag = bag_of(alloc, first_letters(7))?;
     let (output, status) = replayed(alloc, office, &bag)?;
     due(status == 0, "the bag again is refused")?;
-    due(output.ends_with(TESTING[2].as_bytes()), "testing behind the bag again")?;
+    due(
+        output.ends_with(TESTING[2].as_bytes()),
+        "testing behind the bag again",
+    )?;
     due(tells_runs(office, 2), "reports behind the bag again")
 }
 

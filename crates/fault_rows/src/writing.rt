@@ -1,8 +1,8 @@
 //! One write that fails, or takes no byte, at each place in turn.
 
 use crate::failing::{Failure, Writer, reader_of};
-use crate::given::{CONTINUE, EXPECT, OUTPUT, REPLY, TESTING, first_letters};
 use crate::faults::{Met, due};
+use crate::given::{CONTINUE, EXPECT, OUTPUT, REPLY, TESTING, first_letters};
 use crate::offices::{bag_of, is_free, longest_post, new_office, replay_by, replayed, serve_by};
 use office_http::{ServeFault, Served};
 use std::alloc::Global;
@@ -74,12 +74,18 @@ fn replay_written(alloc: Global, bag: &[u8], kind: Kind, fails_at: u32) -> Resul
     due(status == 0, "the bag again is refused")?;
     due(again.ends_with(TESTING[1].as_bytes()), "another testing")?;
     if writer.calls < fails_at {
-        due(writer.taken.as_slice() == OUTPUT.as_bytes(), "another output")?;
+        due(
+            writer.taken.as_slice() == OUTPUT.as_bytes(),
+            "another output",
+        )?;
         return Ok(false);
     }
     due(told.is_err(), "a failed write that isn't told")?;
     due(writer.calls == fails_at, "a write behind one that failed")?;
-    due(is_front(&writer.taken, OUTPUT.as_bytes()), "no front of the output")?;
+    due(
+        is_front(&writer.taken, OUTPUT.as_bytes()),
+        "no front of the output",
+    )?;
     Ok(true)
 }
 
@@ -92,7 +98,10 @@ fn try_replays(alloc: Global, bag: &[u8], kind: Kind) -> Result<(), Met> {
         }
         failed = failed.saturating_add(1);
     }
-    due(is_count(kind, failed, OUTPUT.len()), "another count of writes")
+    due(
+        is_count(kind, failed, OUTPUT.len()),
+        "another count of writes",
+    )
 }
 
 /// The same for each kind of writer.
@@ -104,8 +113,8 @@ pub fn try_replay_writes(alloc: Global) -> Result<(), Met> {
     Ok(())
 }
 
-/// A post to a writer that fails at one of its writes, and whether it did: what was written is a front of the reply, and
-/// the message is delivered unless the lines that ask the client to go on weren't taken whole.
+/// A post to a writer that fails at one of its writes, and whether it did: what was written is a front of the reply,
+/// and the message is delivered unless the lines that ask the client to go on weren't taken whole.
 fn post_written(
     alloc: Global,
     request: &[u8],
@@ -116,21 +125,39 @@ fn post_written(
     let mut office = new_office(alloc)?;
     let served = serve_by(&mut office, &mut reader_of(request), writer);
     if writer.calls < writer.fails_at {
-        due(served == Ok(Served { code: Some(200) }), "a post that isn't held")?;
+        due(
+            served == Ok(Served { code: Some(200) }),
+            "a post that isn't held",
+        )?;
         due(writer.taken.as_slice() == reply, "another reply")?;
         due(!is_free(&mut office), "a post that isn't kept")?;
         return Ok(false);
     }
-    due(served == Err(ServeFault::Write), "a failed write that isn't told")?;
-    due(writer.calls == writer.fails_at, "a write behind one that failed")?;
+    due(
+        served == Err(ServeFault::Write),
+        "a failed write that isn't told",
+    )?;
+    due(
+        writer.calls == writer.fails_at,
+        "a write behind one that failed",
+    )?;
     due(is_front(&writer.taken, reply), "no front of the reply")?;
     let is_asked = writer.taken.len() >= front;
-    due(is_free(&mut office) != is_asked, "a post that is kept where it isn't due")?;
+    due(
+        is_free(&mut office) != is_asked,
+        "a post that is kept where it isn't due",
+    )?;
     Ok(true)
 }
 
 /// A post whose nth write fails, for each n.
-fn try_posts(alloc: Global, request: &[u8], front: usize, reply: &[u8], kind: Kind) -> Result<(), Met> {
+fn try_posts(
+    alloc: Global,
+    request: &[u8],
+    front: usize,
+    reply: &[u8],
+    kind: Kind,
+) -> Result<(), Met> {
     let mut failed = 0u32;
     for fails_at in 1..MOST {
         let mut writer = writer_of(alloc, kind, fails_at);
@@ -139,7 +166,10 @@ fn try_posts(alloc: Global, request: &[u8], front: usize, reply: &[u8], kind: Ki
         }
         failed = failed.saturating_add(1);
     }
-    due(is_count(kind, failed, reply.len()), "another count of writes")
+    due(
+        is_count(kind, failed, reply.len()),
+        "another count of writes",
+    )
 }
 
 /// The same for each kind of writer, of the longest message.
