@@ -116,11 +116,8 @@ fn try_reads(alloc: Global, more: &str, front: &str) -> Result<(), Met> {
         }
         failed = failed.saturating_add(1);
     }
-    // So many reads hold the request.
-    due(
-        failed > 65 && failed < MOST.saturating_sub(1),
-        "another count of reads",
-    )
+    // The request has 65,591 bytes, or 65,613 with the header, and a read gives 1,000 of them at most.
+    due(failed == 66, "another count of reads")
 }
 
 /// The same from a client that sends its body at once.
