@@ -9,8 +9,9 @@ meets no refusal: what is printed is what the rules give for the marks that its 
 where anything was lost, else 0. Then the same bag with ample memory, over the same store, leaves the row's testing and
 reports. A store of schema 1 is opened so too: it is then of schema 1 or 2, and goes on by the delays that were kept.
 
-PARTS is a built program that judges itself: it prints a line `PART: right` for each of its parts. Each of its growths is
-refused in turn too, and each run must print what it prints with ample memory, with the same status.
+PARTS is the built program that judges itself, `crates/fault_rows/out/fault_rows`: started with the word `memory`, it
+prints a line `PART: right` for each of its parts that may be refused memory. Each of its growths is refused in turn too,
+and each run must print what it prints with ample memory, with the same status.
 
 Exit status 0 where all was so. The environment's words ONLY (of memory, file, service, parts) and ROWS (part of a
 bag's name) choose some.
@@ -372,7 +373,7 @@ def try_parts(folder):
     due, at = None, 0
     while True:
         runs += 1
-        ran = subprocess.run([judge], stdin=subprocess.DEVNULL, stdout=subprocess.PIPE, stderr=subprocess.PIPE,
+        ran = subprocess.run([judge, "memory"], stdin=subprocess.DEVNULL, stdout=subprocess.PIPE, stderr=subprocess.PIPE,
                              timeout=600, env=environment(at, at, count))
         found = ran.stdout, ran.returncode
         if at == 0:

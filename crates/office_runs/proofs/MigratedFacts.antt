@@ -13,10 +13,11 @@ use Rattle.testing_model.specs.FactLists.{FactLists}
 use Rattle.testing_model.specs.FactRows.{is_row, times, rows_of, source_row, upload_row, build_row, drop_row, bug_row, hint_row, unhint_row, delays_row}
 use Rattle.testing_model.specs.Unstable.{delays_order, last_delays}
 use Rattle.testing_items.proofs.Members.{none_among}
+use Rattle.testing_items.specs.Words.{lesser, least}
 use Rattle.testing_model.proofs.Orders.{delays_total}
 use Rattle.testing_model.proofs.Sets.{first_or_rest, given_by, gives}
-use Rattle.testing_model.proofs.Least.{least_from, none_least}
-use Rattle.testing_model.proofs.First.{NoneBelow, least-none_below}
+use Rattle.testing_model.proofs.Least.{least_from}
+use Rattle.testing_model.proofs.First.{least-none_below}
 use Rattle.testing_items.specs.declared.item.Item.{Item as Thing}
 use Rattle.testing_items.specs.declared.item.Item.TheVariants.{Upload, Dropped, Build, Bug, Hint, Unhint, Delays, Nothing}
 use Rattle.office_mail.specs.declared.message.Message.{Message}
@@ -45,7 +46,10 @@ use Rattle.office_runs.proofs.WalkFacts.{at_place, of_text, within_place, place_
 -- ---- how often a row stands among those of facts
 
 times-append : (r : FactRow) (xs ys : List FactRow) → times r (xs ++ ys) ≡ times r xs + times r ys
-times-append r [] ys = refl
+times-append r [] ys =
+    let zero : times r [] ≡ 0 = refl in
+    let same : times r ([] ++ ys) ≡ times r ys = refl in
+    omega (arith, zero, same)
 times-append r (x ∷ xs) ys =
     let one = sum_by-cons (λ (y : FactRow). cond (is_row r y) 1 0) x (xs ++ ys) in
     let two = sum_by-cons (λ (y : FactRow). cond (is_row r y) 1 0) x xs in
@@ -73,7 +77,7 @@ none_of row r other [] = refl
 none_of row r other (x ∷ xs) =
     let one = sum_by-cons (λ (y : FactRow). cond (is_row r y) 1 0) (row x) (map row xs) in
     let not : is_row r (row x) ≡ false = ap (λ b. b && (((row x).sender == r.sender) && (((row x).number == r.number) && ((row x).place == r.place)))) (other x) in
-    let zero : cond (is_row r (row x)) 1 0 ≡ 0 = rw not refl in
+    let zero : ◌≡◌ {A = ℕ} (cond (is_row r (row x)) 1 0) 0 = rw not refl in
     omega (arith, one, zero, none_of row r other xs)
 
 no_delays : (r : FactRow) (f : FactLists) → r.kind ≡ 8 → times r (rows_of (without_delays f)) ≡ 0
@@ -102,11 +106,13 @@ one_more r x facts n free same = go (is_row r x) refl (is_some (get facts r)) re
     go true p b q e =
         let none : n ≡ 0 = free p in
         let one : times r (x ∷ []) ≡ 1 = sum_by-cons (λ (y : FactRow). cond (is_row r y) 1 0) x [] ∙ rw p refl in
-        let there : count_in (insert facts x tt) r ≡ 1 = ap (λ c. cond c 1 0) (has-insert facts x r ∙ rw p refl) in
+        let has : is_some (get (insert facts x tt) r) ≡ true = has-insert facts x r ∙ rw p refl in
+        let there : count_in (insert facts x tt) r ≡ 1 = ap (λ c. cond c 1 0) has in
         omega (arith, none, one, there)
     go false p b q e =
         let none : times r (x ∷ []) ≡ 0 = sum_by-cons (λ (y : FactRow). cond (is_row r y) 1 0) x [] ∙ rw p refl in
-        let as_was : count_in (insert facts x tt) r ≡ cond b 1 0 = ap (λ c. cond c 1 0) (has-insert facts x r ∙ rw p q) in
+        let has : is_some (get (insert facts x tt) r) ≡ b = has-insert facts x r ∙ rw p q in
+        let as_was : count_in (insert facts x tt) r ≡ cond b 1 0 = ap (λ c. cond c 1 0) has in
         omega (arith, none, e, as_was)
 
 same_kind : (r x : FactRow) → is_row r x ≡ true → x.kind ≡ r.kind
@@ -151,6 +157,15 @@ below_at d (x ∷ xs) none e c = elim (first_or_rest x xs e c) [
 -- delays that aren't below others have no greater number
 not_greater : (e d : DelaysIn) → is_lt (delays_order e d) ≡ false → e.number ≤ d.number
 not_greater e d h = grind (arith, nat_tests)
+
+-- where there are delays, some are the last
+none_last : {P : Type 0} (xs : List DelaysIn) (d : DelaysIn) → least delays_order xs ≡ None → Contains xs d → P
+none_last [] d none c = none_among d c
+none_last (x ∷ xs) d none c = lesser_some (least delays_order xs) x none
+  where
+    lesser_some : {P : Type 0} (v : Option DelaysIn) (z : DelaysIn) → lesser delays_order z v ≡ None → P
+    lesser_some None z e = let no : Some z ≡ None = e in absurd (let never : ⊥ = cc in never)
+    lesser_some (Some w) z e = let no : Some (cond (is_lt (delays_order w z)) w z) ≡ None = e in absurd (let never : ⊥ = cc in never)
 
 -- a text that reads as a message of an item gives that item
 message_item : (setup : Lists) (p : Place) (text : List ℕ) (message : Message) (i : Thing) → read setup text ≡ Ok message → message.body ≡ Item i → item_at setup (p, text) ≡ Some (record { sender = p.0; number = p.1; item = i })
@@ -218,7 +233,7 @@ module _ (setup : Lists) (content : Content) (one : count_of Release setup.sende
   -- so the last delays of the facts are those
   last_are : (last : Option ℕ) (o : Option DelaysIn) → o ≡ last_delays told → IsLastTold setup content.kept upto last → map delays_row (option_to_list o) ≡ map (release_delays setup) (option_to_list last)
   last_are None None is so = refl
-  last_are (Some n) None is so = let d = there n so.0 so.1 so.2 in none_least delays_total (delays_in told) d.0 (sym is) d.1
+  last_are (Some n) None is so = let d = there n so.0 so.1 so.2 in none_last (delays_in told) d.0 (sym is) d.1
   last_are None (Some d) is so =
       let m = given_by delays_of told d (least_from delays_total (delays_in told) d (sym is)) in
       let t = is_told m.0 m.1 (ap is_some m.2) in

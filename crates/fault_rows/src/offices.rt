@@ -1,0 +1,98 @@
+//! Offices, bags and requests of the parts, and the calls that take them.
+
+use crate::failing::{Reader, Writer, reader_of, whole_writer};
+use crate::faults::Met;
+use crate::given::{Letter, SETUP};
+use deb_version::NoMemory;
+use office_http::{
+    Office, Replayed, ServeFault, Served, WriteFault, replay, replay_status, serve_one,
+};
+use office_mail::{Bag, FromRead, Setup, SetupFault, ToWrite};
+use office_store::{Keeper, Plain};
+use std::alloc::Global;
+
+/// More than any of the outputs has.
+const ROOM: usize = 4096;
+
+/// The setup of the parts.
+pub fn setup_of(alloc: Global) -> Result<Setup, Met> {
+    match Setup::parse(alloc, SETUP.as_bytes()) {
+        Ok(setup) => Ok(setup),
+        Err(SetupFault::NoMemory) => Err(Met::NoMemory),
+        Err(_) => Err(Met::Wrong("the setup is refused")),
+    }
+}
+
+/// An office over a store in memory.
+pub fn new_office(alloc: Global) -> Result<Office<Plain>, Met> {
+    let setup = setup_of(alloc)?;
+    let plain = Plain::new(alloc, &setup)?;
+    Ok(Office::new(alloc, setup, plain))
+}
+
+/// The bag of these letters.
+pub fn bag_of(alloc: Global, letters: &[Letter]) -> Result<Vec<u8>, NoMemory> {
+    let mut bag = Vec::new(alloc);
+    for letter in letters {
+        let line = format!(in alloc; "mail {}\n", letter.text.len())?;
+        bag.extend_from_slice(line.as_bytes())?;
+        bag.extend_from_slice(letter.text.as_bytes())?;
+    }
+    Ok(bag)
+}
+
+/// A post of the longest message, which says nothing in 65,536 bytes. `more` is a header or none.
+pub fn longest_post(alloc: Global, more: &str) -> Result<Vec<u8>, NoMemory> {
+    let mut request = Vec::with_capacity(alloc, 70_000)?;
+    request.extend_from_slice(b"POST /mail HTTP/1.1\r\nHost: x\r\n")?;
+    request.extend_from_slice(more.as_bytes())?;
+    request.extend_from_slice(
+        b"Content-Length: 65536\r\n\r\nFrom: ftp\nNumber: 1\nKind: none\nNote: ",
+    )?;
+    request.resize(request.len().saturating_add(65_498), b'x')?;
+    request.extend_from_slice(b"\n")?;
+    Ok(request)
+}
+
+/// Replays the bag that a reader gives, to a writer.
+pub fn replay_by<K: Keeper>(
+    alloc: Global,
+    office: &mut Office<K>,
+    reader: &mut Reader,
+    writer: &mut Writer,
+) -> Result<Replayed, WriteFault> {
+    let mut bag = Bag::new(alloc, FromRead::new(reader));
+    replay(office, &mut bag, &mut ToWrite::new(writer))
+}
+
+/// Serves the request that a reader gives, to a writer.
+pub fn serve_by<K: Keeper>(
+    office: &mut Office<K>,
+    reader: &mut Reader,
+    writer: &mut Writer,
+) -> Result<Served, ServeFault> {
+    serve_one(
+        office,
+        &mut FromRead::new(reader),
+        &mut ToWrite::new(writer),
+    )
+}
+
+/// Replays a bag of which no read and no write fails: what it prints, and its status.
+pub fn replayed<K: Keeper>(
+    alloc: Global,
+    office: &mut Office<K>,
+    bag: &[u8],
+) -> Result<(Vec<u8>, u8), NoMemory> {
+    let mut writer = whole_writer(alloc);
+    writer.taken = Vec::with_capacity(alloc, ROOM)?;
+    let replayed = replay_by(alloc, office, &mut reader_of(bag), &mut writer);
+    Ok((writer.taken, replay_status(&replayed)))
+}
+
+/// Whether an office holds no text under the number of the longest post yet: another text is held then.
+pub fn is_free<K: Keeper>(office: &mut Office<K>) -> bool {
+    office
+        .deliver(b"From: ftp\nNumber: 1\nKind: none\n")
+        .is_ok()
+}

@@ -1,0 +1,160 @@
+//! One read that fails, at each place in turn.
+
+use crate::failing::{Reader, whole_writer};
+use crate::faults::{Met, due};
+use crate::given::{BROKEN, CONTINUE, ENDS, EXPECT, OUTPUT, first_letters};
+use crate::offices::{bag_of, is_free, longest_post, new_office, replay_by, serve_by};
+use office_http::{Replayed, ServeFault, Served};
+use office_mail::BagFault;
+use std::alloc::Global;
+
+/// More reads than any call below makes.
+const MOST: u32 = 400;
+
+/// How many bytes a read of a post gives.
+const BYTES_A_READ: usize = 1_000;
+
+/// What a replay prints whose reader fails behind so many bytes of the bag.
+fn broken_output(bytes: usize) -> &'static str {
+    let mut whole = 0usize;
+    for end in ENDS {
+        if end <= bytes {
+            whole = whole.saturating_add(1);
+        }
+    }
+    BROKEN.get(whole).copied().unwrap_or("")
+}
+
+/// A replay whose reader gives a byte a read and fails at one of the reads, and whether it did.
+fn replay_read(alloc: Global, bag: &[u8], fails_at: u32) -> Result<bool, Met> {
+    let mut office = new_office(alloc)?;
+    let mut writer = whole_writer(alloc);
+    let mut reader = Reader {
+        bytes: bag,
+        most: 1,
+        calls: 0,
+        fails_at,
+    };
+    let replayed = replay_by(alloc, &mut office, &mut reader, &mut writer);
+    let output = writer.taken.as_slice();
+    if reader.calls < fails_at {
+        due(output == OUTPUT.as_bytes(), "another output")?;
+        return Ok(false);
+    }
+    let refused = Replayed {
+        bag: Some(BagFault::ReadFault),
+        lost: false,
+    };
+    let given = bag.len().saturating_sub(reader.bytes.len());
+    due(replayed == Ok(refused), "a failed read that isn't told")?;
+    due(reader.calls == fails_at, "a read behind one that failed")?;
+    due(
+        output == broken_output(given).as_bytes(),
+        "another output behind a failed read",
+    )?;
+    Ok(true)
+}
+
+/// A bag whose nth read fails, for each n: what came whole before it is delivered, and the output says so.
+pub fn try_replay_reads(alloc: Global) -> Result<(), Met> {
+    let bag = bag_of(alloc, first_letters(3))?;
+    let mut failed = 0usize;
+    for fails_at in 1..MOST {
+        if !replay_read(alloc, &bag, fails_at)? {
+            break;
+        }
+        failed = failed.saturating_add(1);
+    }
+    // Each byte is read by itself, and the end by one read more.
+    due(
+        failed == bag.len().saturating_add(1),
+        "another count of reads",
+    )
+}
+
+/// A post whose reader fails at one of its reads, and whether it did: nothing is delivered, and no more is written than
+/// the lines that ask the client to go on.
+fn post_read(alloc: Global, request: &[u8], front: &str, fails_at: u32) -> Result<bool, Met> {
+    let mut office = new_office(alloc)?;
+    let mut writer = whole_writer(alloc);
+    let mut reader = Reader {
+        bytes: request,
+        most: BYTES_A_READ,
+        calls: 0,
+        fails_at,
+    };
+    let served = serve_by(&mut office, &mut reader, &mut writer);
+    let output = writer.taken.as_slice();
+    if reader.calls < fails_at {
+        due(
+            served == Ok(Served { code: Some(200) }),
+            "a post that isn't held",
+        )?;
+        due(!is_free(&mut office), "a post that isn't kept")?;
+        return Ok(false);
+    }
+    due(
+        served == Err(ServeFault::Read),
+        "a failed read that isn't told",
+    )?;
+    due(reader.calls == fails_at, "a read behind one that failed")?;
+    due(
+        output.is_empty() || output == front.as_bytes(),
+        "a reply behind a failed read",
+    )?;
+    due(is_free(&mut office), "half a post is kept")?;
+    Ok(true)
+}
+
+/// A post of the longest message whose nth read fails, for each n.
+fn try_reads(alloc: Global, more: &str, front: &str) -> Result<(), Met> {
+    let request = longest_post(alloc, more)?;
+    let mut failed = 0u32;
+    for fails_at in 1..MOST {
+        if !post_read(alloc, &request, front, fails_at)? {
+            break;
+        }
+        failed = failed.saturating_add(1);
+    }
+    // The request has 65,591 bytes, or 65,613 with the header, and a read gives 1,000 of them at most.
+    due(failed == 66, "another count of reads")
+}
+
+/// The same from a client that sends its body at once.
+pub fn try_post_reads(alloc: Global) -> Result<(), Met> {
+    try_reads(alloc, "", "")
+}
+
+/// The same from a client that waits to be asked for its body.
+pub fn try_waiting_reads(alloc: Global) -> Result<(), Met> {
+    try_reads(alloc, EXPECT, CONTINUE)
+}
+
+/// A reader that gives a byte a read, and more of them than are ever read: the bag is given up after 1,000,000 reads.
+pub fn try_endless(alloc: Global) -> Result<(), Met> {
+    let mut office = new_office(alloc)?;
+    let mut writer = whole_writer(alloc);
+    let mut bytes = Vec::new(alloc);
+    bytes.extend_from_slice(b"mail 999999999\n")?;
+    bytes.resize(1_000_100, b'x')?;
+    let mut reader = Reader {
+        bytes: &bytes,
+        most: 1,
+        calls: 0,
+        fails_at: 0,
+    };
+    let replayed = replay_by(alloc, &mut office, &mut reader, &mut writer);
+    let refused = Replayed {
+        bag: Some(BagFault::ReadFault),
+        lost: false,
+    };
+    due(
+        replayed == Ok(refused),
+        "a bag without an end that isn't refused",
+    )?;
+    due(reader.calls == 1_000_000, "another count of reads")?;
+    due(
+        writer.taken.as_slice() == BROKEN[0].as_bytes(),
+        "another output",
+    )
+}

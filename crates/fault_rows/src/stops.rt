@@ -1,0 +1,60 @@
+//! Each of an office's two files stops after each of its calls.
+
+use crate::faults::{Met, due};
+use crate::stopping::{Left, Stop, stops};
+use std::alloc::Global;
+
+/// More calls than a run makes of a file.
+const MOST: u64 = 400;
+
+/// What the log and the database have, when the machine comes back, of that which wasn't synced.
+const LOSSES: [(Left, Left); 4] = [
+    (Left::Nothing, Left::Nothing),
+    (Left::Nothing, Left::Everything),
+    (Left::Everything, Left::Nothing),
+    (Left::Everything, Left::Everything),
+];
+
+/// A stop of the log, or of the database, after so many calls.
+fn stop_after(is_log: bool, calls: u64, left: (Left, Left)) -> Stop {
+    let (left_of_log, left_of_db) = left;
+    let (log_calls, db_calls) = if is_log {
+        (calls, u64::MAX)
+    } else {
+        (u64::MAX, calls)
+    };
+    Stop {
+        log_calls,
+        db_calls,
+        left_of_log,
+        left_of_db,
+    }
+}
+
+/// One file, the log or the database, stops after each number of its calls, until a run meets no stop.
+fn try_file(alloc: Global, is_log: bool, left: (Left, Left)) -> Result<(), Met> {
+    let mut met = 0u64;
+    for calls in 0..MOST {
+        if !stops(alloc, stop_after(is_log, calls, left))? {
+            break;
+        }
+        met = met.saturating_add(1);
+    }
+    due(met > 10 && met < MOST, "another count of stops")
+}
+
+/// The log stops, with each loss.
+pub fn try_log(alloc: Global) -> Result<(), Met> {
+    for left in LOSSES {
+        try_file(alloc, true, left)?;
+    }
+    Ok(())
+}
+
+/// The database stops, with each loss.
+pub fn try_database(alloc: Global) -> Result<(), Met> {
+    for left in LOSSES {
+        try_file(alloc, false, left)?;
+    }
+    Ok(())
+}

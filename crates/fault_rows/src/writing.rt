@@ -1,0 +1,193 @@
+//! One write that fails, or takes no byte, at each place in turn.
+
+use crate::failing::{Failure, Writer, reader_of};
+use crate::faults::{Met, due};
+use crate::given::{CONTINUE, EXPECT, OUTPUT, REPLY, TESTING, first_letters};
+use crate::offices::{bag_of, is_free, longest_post, new_office, replay_by, replayed, serve_by};
+use office_http::{ServeFault, Served};
+use std::alloc::Global;
+
+/// More writes than any call below makes.
+const MOST: u32 = 400;
+
+/// A writer of one of the kinds that are tried.
+#[derive(Clone, Copy)]
+struct Kind {
+    /// How many bytes it takes a write.
+    most: usize,
+    failure: Failure,
+}
+
+/// The kinds: each takes all bytes of a write or one, and at one write fails or takes none.
+const KINDS: [Kind; 4] = [
+    Kind {
+        most: usize::MAX,
+        failure: Failure::Fails,
+    },
+    Kind {
+        most: usize::MAX,
+        failure: Failure::TakesNone,
+    },
+    Kind {
+        most: 1,
+        failure: Failure::Fails,
+    },
+    Kind {
+        most: 1,
+        failure: Failure::TakesNone,
+    },
+];
+
+/// A writer of a kind, and the write at which it fails.
+fn writer_of(alloc: Global, kind: Kind, fails_at: u32) -> Writer {
+    Writer {
+        taken: Vec::new(alloc),
+        most: kind.most,
+        calls: 0,
+        fails_at,
+        failure: kind.failure,
+    }
+}
+
+/// Whether what was taken until a write failed is a front of what is due, and not the whole.
+fn is_front(taken: &[u8], whole: &[u8]) -> bool {
+    whole.starts_with(taken) && taken.len() < whole.len()
+}
+
+/// Whether so many writes failed in turn as a writer of the kind is asked for: one for each byte where it takes one.
+fn is_count(kind: Kind, failed: u32, bytes: usize) -> bool {
+    let places = failed as usize;
+    if kind.most == 1 {
+        places == bytes
+    } else {
+        places > 0 && places < bytes
+    }
+}
+
+/// A replay to a writer that fails at one of its writes, and whether it did: what was written is a front of the output,
+/// and the same bag again in that office ends in the testing that is due.
+fn replay_written(alloc: Global, bag: &[u8], kind: Kind, fails_at: u32) -> Result<bool, Met> {
+    let mut office = new_office(alloc)?;
+    let mut writer = writer_of(alloc, kind, fails_at);
+    let told = replay_by(alloc, &mut office, &mut reader_of(bag), &mut writer);
+    let (again, status) = replayed(alloc, &mut office, bag)?;
+    due(status == 0, "the bag again is refused")?;
+    due(again.ends_with(TESTING[1].as_bytes()), "another testing")?;
+    if writer.calls < fails_at {
+        due(
+            writer.taken.as_slice() == OUTPUT.as_bytes(),
+            "another output",
+        )?;
+        return Ok(false);
+    }
+    due(told.is_err(), "a failed write that isn't told")?;
+    due(writer.calls == fails_at, "a write behind one that failed")?;
+    due(
+        is_front(&writer.taken, OUTPUT.as_bytes()),
+        "no front of the output",
+    )?;
+    Ok(true)
+}
+
+/// A replay whose nth write fails, for each n.
+fn try_replays(alloc: Global, bag: &[u8], kind: Kind) -> Result<(), Met> {
+    let mut failed = 0u32;
+    for fails_at in 1..MOST {
+        if !replay_written(alloc, bag, kind, fails_at)? {
+            break;
+        }
+        failed = failed.saturating_add(1);
+    }
+    due(
+        is_count(kind, failed, OUTPUT.len()),
+        "another count of writes",
+    )
+}
+
+/// The same for each kind of writer.
+pub fn try_replay_writes(alloc: Global) -> Result<(), Met> {
+    let bag = bag_of(alloc, first_letters(3))?;
+    for kind in KINDS {
+        try_replays(alloc, &bag, kind)?;
+    }
+    Ok(())
+}
+
+/// A post to a writer that fails at one of its writes, and whether it did: what was written is a front of the reply,
+/// and the message is delivered unless the lines that ask the client to go on weren't taken whole.
+fn post_written(
+    alloc: Global,
+    request: &[u8],
+    front: usize,
+    reply: &[u8],
+    writer: &mut Writer,
+) -> Result<bool, Met> {
+    let mut office = new_office(alloc)?;
+    let served = serve_by(&mut office, &mut reader_of(request), writer);
+    if writer.calls < writer.fails_at {
+        due(
+            served == Ok(Served { code: Some(200) }),
+            "a post that isn't held",
+        )?;
+        due(writer.taken.as_slice() == reply, "another reply")?;
+        due(!is_free(&mut office), "a post that isn't kept")?;
+        return Ok(false);
+    }
+    due(
+        served == Err(ServeFault::Write),
+        "a failed write that isn't told",
+    )?;
+    due(
+        writer.calls == writer.fails_at,
+        "a write behind one that failed",
+    )?;
+    due(is_front(&writer.taken, reply), "no front of the reply")?;
+    let is_asked = writer.taken.len() >= front;
+    due(
+        is_free(&mut office) != is_asked,
+        "a post that is kept where it isn't due",
+    )?;
+    Ok(true)
+}
+
+/// A post whose nth write fails, for each n.
+fn try_posts(
+    alloc: Global,
+    request: &[u8],
+    front: usize,
+    reply: &[u8],
+    kind: Kind,
+) -> Result<(), Met> {
+    let mut failed = 0u32;
+    for fails_at in 1..MOST {
+        let mut writer = writer_of(alloc, kind, fails_at);
+        if !post_written(alloc, request, front, reply, &mut writer)? {
+            break;
+        }
+        failed = failed.saturating_add(1);
+    }
+    due(
+        is_count(kind, failed, reply.len()),
+        "another count of writes",
+    )
+}
+
+/// The same for each kind of writer, of the longest message.
+fn try_writes(alloc: Global, more: &str, front: &str) -> Result<(), Met> {
+    let request = longest_post(alloc, more)?;
+    let reply = format!(in alloc; "{front}{REPLY}")?;
+    for kind in KINDS {
+        try_posts(alloc, &request, front.len(), reply.as_bytes(), kind)?;
+    }
+    Ok(())
+}
+
+/// The same from a client that sends its body at once.
+pub fn try_post_writes(alloc: Global) -> Result<(), Met> {
+    try_writes(alloc, "", "")
+}
+
+/// The same from a client that waits to be asked for its body.
+pub fn try_waiting_writes(alloc: Global) -> Result<(), Met> {
+    try_writes(alloc, EXPECT, CONTINUE)
+}
