@@ -66,10 +66,13 @@ all_but r f =
     let h = map hint_row f.hints in
     let u = map unhint_row f.unhints in
     let l = map delays_row (option_to_list f.delays) in
-    behind r a _ _ (times r l) (behind r b _ _ (times r l) (behind r c _ _ (times r l) (behind r d _ _ (times r l) (behind r e _ _ (times r l) (behind r h _ _ (times r l) (behind r u l [] (times r l) refl))))))
+    behind r a _ _ (times r l) (behind r b _ _ (times r l) (behind r c _ _ (times r l) (behind r d _ _ (times r l) (behind r e _ _ (times r l) (behind r h _ _ (times r l) (behind r u l [] (times r l) (nothing r (times r l))))))))
   where
     behind : (r : FactRow) (xs ys zs : List FactRow) (n : ℕ) → times r ys ≡ times r zs + n → times r (xs ++ ys) ≡ times r (xs ++ zs) + n
     behind r xs ys zs n more = omega (arith, times-append r xs ys, times-append r xs zs, more)
+
+    nothing : (r : FactRow) (n : ℕ) → n ≡ times r [] + n
+    nothing r n = let zero : times r [] ≡ 0 = refl in omega (arith, zero)
 
 -- rows of another kind don't count
 none_of : {X : Type 0} (row : X → FactRow) (r : FactRow) → ((x : X) → ((row x).kind == r.kind) ≡ false) → (xs : List X) → times r (map row xs) ≡ 0
