@@ -17,8 +17,9 @@ impl QuickHasher {
 }
 
 impl Hasher for QuickHasher {
+    /// A map goes by the low bits, and a product has mixed the high ones best.
     fn finish(&self) -> u64 {
-        self.0
+        self.0.rotate_left(26)
     }
 
     fn write(&mut self, bytes: &[u8]) {
