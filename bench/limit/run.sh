@@ -1,5 +1,6 @@
 #!/bin/sh
-# Replays the same bags by `office replay` and by a plain Rust program that trusts its input, by turns, and compares what they print.
+# Replays the same bags by `office replay` and by a plain Rust program that trusts its input, by turns, and compares what
+# they print.
 # usage: run.sh OFFICE [SHAPE:SOURCES|PACKAGES..]
 # OFFICE is the built program. A bag is one of bench/replay/bag.py, or is made of a file of Packages.
 # ROUNDS says how often each program is run (5).
@@ -14,8 +15,8 @@ trap 'rm -rf "$work"' EXIT
 rustc -O --edition 2024 -o "$work/plain" "$here/plain/main.rs"
 for name in "$@"; do
     if [ -f "$name" ]; then
-        "$top/share/office-from-packages" --uploaded 2025-03-01 --run 2025-03-31 --no-hints "$work/archive" "$name" 2> "$work/told" ||
-            { tail -3 "$work/told"; exit 1; }
+        "$top/share/office-from-packages" --uploaded 2025-03-01 --run 2025-03-31 --no-hints "$work/archive" "$name" \
+            2> "$work/told" || { tail -3 "$work/told"; exit 1; }
         setup=$work/archive/setup.conf bag=$work/archive/bag
     else
         setup=$top/bench/replay/setup.conf bag=$work/bag

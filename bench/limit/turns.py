@@ -46,7 +46,8 @@ def main():
     for name, runs in took.items():
         times = [time for time, _ in runs]
         seconds[name], peaks[name] = statistics.median(times), max(peak for _, peak in runs)
-        print(f"  {name}: {seconds[name]:.2f} s of processor ({min(times):.2f} to {max(times):.2f}), {peaks[name]:.0f} MB")
+        print(f"  {name}: {seconds[name]:.2f} s of processor, {min(times):.2f} to {max(times):.2f}, "
+              f"{peaks[name]:.0f} MB")
     of_rounds = [ours / theirs for (ours, _), (theirs, _) in zip(took["office"], took["plain"])]
     print(f"  office / plain: time {seconds['office'] / seconds['plain']:.2f} by the medians, "
           f"{min(of_rounds):.2f} to {max(of_rounds):.2f} by rounds; memory {peaks['office'] / peaks['plain']:.2f}")

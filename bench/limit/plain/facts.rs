@@ -112,24 +112,24 @@ impl<'a> Facts<'a> {
         }
     }
 
-    /// Takes one message. Those of a sender come in the order of their numbers.
-    pub fn take(&mut self, setup: &Setup, names: &mut Names<'a>, sender: usize, number: usize, text: &'a [u8]) {
+    /// Takes the message of a sender's number. Those of a sender come in the order of their numbers.
+    pub fn take(&mut self, setup: &Setup, names: &mut Names<'a>, sender: usize, count: usize, text: &'a [u8]) {
         let (mut paragraphs, mut first) = (Paragraphs::new(text), Paragraph::default());
         paragraphs.read(&mut first);
         match first.value("Kind") {
-            b"upload" => self.take_upload(&first, names, (sender, number, 0)),
+            b"upload" => self.take_upload(&first, names, (sender, count, 0)),
             b"drop" => self.take_drop(&first, setup, names),
             b"build" => {
                 let mut place = 1;
                 while paragraphs.read(&mut first) {
-                    self.take_row(Row::read(&first, setup, names, (sender, number, place)));
+                    self.take_row(Row::read(&first, setup, names, (sender, count, place)));
                     place += 1;
                 }
             }
             b"bug" => self.take_bug(&first, names),
-            b"hint" => self.hints.push((number, Hint::read(first.value("Hint"), names))),
+            b"hint" => self.hints.push((count, Hint::read(first.value("Hint"), names))),
             b"unhint" => {
-                self.cancelled.insert(crate::control::number(first.value("Cancels")) as usize);
+                self.cancelled.insert(number(first.value("Cancels")) as usize);
             }
             b"delays" => {
                 self.delays = Delays(["Low", "Medium", "High", "Critical"].map(|urgency| days(&first, urgency)))

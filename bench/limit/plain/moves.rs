@@ -91,28 +91,39 @@ impl<'a> Moves<'_, 'a> {
         let mut waiting: Vec<&Excuse> = self.candidates.iter().copied().filter(|one| !is_moved(one)).collect();
         let mut refused = 0;
         while refused < waiting.len() {
-            let mut left = Vec::with_capacity(waiting.len());
-            for (place, candidate) in waiting.iter().enumerate() {
-                if refused >= left.len() + waiting.len() - place {
-                    left.extend_from_slice(&waiting[place..]);
-                    break;
-                }
-                if self.try_single(candidate, Offenders::Any).is_ok() {
-                    self.write(&[b"accept ", self.names.text(candidate.source), b" ", candidate.unstable.text, b"\n"]);
-                    refused = 0;
-                } else {
-                    left.push(candidate);
-                    refused += 1;
-                }
-            }
-            waiting = left;
+            waiting = self.go_round(&waiting, &mut refused);
         }
         for candidate in waiting {
-            if let Err(offender) = self.try_single(candidate, Offenders::First) {
-                self.write(&[b"wait ", self.names.text(candidate.source), b" ", candidate.unstable.text]);
-                self.write_offender(&offender);
-                self.write(&[b"\n"]);
+            self.tell_offender(candidate);
+        }
+    }
+
+    /// Tries the candidates that wait, one after the other, and tells which ones still do. It ends where as many were
+    /// refused in turn as are left.
+    fn go_round<'w>(&mut self, waiting: &[&'w Excuse<'a>], refused: &mut usize) -> Vec<&'w Excuse<'a>> {
+        let mut left = Vec::with_capacity(waiting.len());
+        for (place, &candidate) in waiting.iter().enumerate() {
+            if *refused >= left.len() + waiting.len() - place {
+                left.extend_from_slice(&waiting[place..]);
+                break;
             }
+            if self.try_single(candidate, Offenders::Any).is_ok() {
+                self.write(&[b"accept ", self.names.text(candidate.source), b" ", candidate.unstable.text, b"\n"]);
+                *refused = 0;
+            } else {
+                left.push(candidate);
+                *refused += 1;
+            }
+        }
+        left
+    }
+
+    /// A candidate that waits, and the offender of moving it alone.
+    fn tell_offender(&mut self, candidate: &Excuse<'a>) {
+        if let Err(offender) = self.try_single(candidate, Offenders::First) {
+            self.write(&[b"wait ", self.names.text(candidate.source), b" ", candidate.unstable.text]);
+            self.write_offender(&offender);
+            self.write(&[b"\n"]);
         }
     }
 

@@ -1,5 +1,5 @@
-//! One architecture's rows of testing, and which of them are installable (docs/RULES.md, parts 4 and 12.3): those in the
-//! greatest set in which each clause of each member is satisfied by a member.
+//! One architecture's rows of testing, and which of them are installable (docs/RULES.md, parts 4 and 12.3): those in
+//! the greatest set in which each clause of each member is satisfied by a member.
 
 use crate::facts::RowId;
 use crate::mail::Arch;
