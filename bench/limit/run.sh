@@ -14,15 +14,15 @@ trap 'rm -rf "$work"' EXIT
 [ $# -gt 0 ] || set -- runs:34000 both:34000
 rustc -O --edition 2024 -o "$work/plain" "$here/plain/main.rs"
 for name in "$@"; do
+    echo "$name:"
     if [ -f "$name" ]; then
         "$top/share/office-from-packages" --uploaded 2025-03-01 --run 2025-03-31 --no-hints "$work/archive" "$name" \
-            2> "$work/told" || { tail -3 "$work/told"; exit 1; }
+            > "$work/told" 2>&1 || { tail -3 "$work/told"; exit 1; }
         setup=$work/archive/setup.conf bag=$work/archive/bag
     else
         setup=$top/bench/replay/setup.conf bag=$work/bag
         case $name in both:*) setup=$top/bench/replay/both.conf ;; esac
         python3 "$top/bench/replay/bag.py" "${name%:*}" "${name#*:}" > "$bag"
     fi
-    echo "$name:"
     python3 "$here/turns.py" "$office" "$work/plain" "$setup" "$bag" "${ROUNDS:-5}"
 done
