@@ -3,7 +3,7 @@
 
 use crate::facts::RowId;
 use crate::mail::Arch;
-use crate::names::{Names, Set};
+use crate::names::Names;
 use crate::pool::{ClauseId, Pool};
 
 #[derive(Clone, Copy, PartialEq, Eq)]
@@ -75,7 +75,8 @@ impl ArchSuite {
         })
     }
 
-    /// Lets rows leave and come. Tells a watched row that isn't installable then, though it came or was so before.
+    /// Lets rows leave and come. Tells a watched row that isn't installable then: it came, or was installable before, as
+    /// all watched rows of testing are, since each change was allowed.
     pub fn change(
         &mut self,
         pool: &Pool,
@@ -87,14 +88,12 @@ impl ArchSuite {
         self.steps.clear();
         let unmet = self.leave(pool, leaving);
         let mut hoped_for = self.come(pool, coming);
-        let came = hoped_for.len();
         self.hope(pool, &mut hoped_for);
         let mut falling: Vec<RowId> = hoped_for.iter().copied().filter(|&row| !self.is_met(pool, row)).collect();
         for clause in unmet {
             self.find_falling(pool, clause, &mut falling);
         }
-        let were_broken: Set<RowId> = hoped_for.drain(came..).collect();
-        self.fall(pool, names, falling, &were_broken, offenders)
+        self.fall(pool, names, falling, offenders)
     }
 
     /// Takes rows out; tells the clauses that lost their last installable row.
@@ -142,14 +141,7 @@ impl ArchSuite {
     }
 
     /// Breaks rows until each clause of each installable row is met.
-    fn fall(
-        &mut self,
-        pool: &Pool,
-        names: &Names,
-        mut falling: Vec<RowId>,
-        were_broken: &Set<RowId>,
-        offenders: Offenders,
-    ) -> Option<RowId> {
+    fn fall(&mut self, pool: &Pool, names: &Names, mut falling: Vec<RowId>, offenders: Offenders) -> Option<RowId> {
         let name_of = |row: RowId| names.text(pool.rows[row as usize].name);
         let (mut offender, mut unmet) = (None, Vec::new());
         while let Some(row) = falling.pop() {
@@ -157,7 +149,7 @@ impl ArchSuite {
                 continue;
             }
             self.set(row, State::Broken);
-            if self.watches(pool.rows[row as usize].arch) && !were_broken.contains(&row) {
+            if self.watches(pool.rows[row as usize].arch) {
                 if offenders == Offenders::Any {
                     return Some(row);
                 }
