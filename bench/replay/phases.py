@@ -66,7 +66,9 @@ def phases(office, setup, stages):
         took.append((name, now - spent))
         spent = now
     process.stdin.close()
-    _, _, usage = os.wait4(process.pid, 0)
+    _, status, usage = os.wait4(process.pid, 0)
+    if status:
+        sys.exit(f"{office}: status {os.waitstatus_to_exitcode(status)}")
     took.append(("end", usage.ru_utime + usage.ru_stime - spent))
     return took, usage.ru_maxrss // 1024
 

@@ -28,5 +28,6 @@ ready = [line for line in told.stdout.splitlines() if line.startswith(b"ready ")
 peak = resource.getrusage(resource.RUSAGE_CHILDREN).ru_maxrss // 1024
 print(f"{name}: {messages} messages, {held} held, {ready[0].decode()}: {seconds:.2f} s, "
       f"{messages / seconds:.0f} a second, {peak} MB, status {told.returncode}")
+sys.exit(told.returncode)
 PYTHON
 done

@@ -1,4 +1,5 @@
 /* How long two commands take from start to end, by turns: the best and the median of each, and their ratio.
+   The exit status is 1 where the last turn of one ended with another status than 0.
    usage: spawn TIMES COMMAND.. -- COMMAND.. */
 #define _GNU_SOURCE
 #include <spawn.h>
@@ -59,5 +60,5 @@ int main(int argc, char **argv)
 		printf("%-40s status %d, best %.0f us, median %.0f us\n", commands[c][0], WEXITSTATUS(statuses[c]), taken[c][0], taken[c][times / 2]);
 	}
 	printf("ratio %.2f by the best, %.2f by the medians\n", taken[0][0] / taken[1][0], taken[0][times / 2] / taken[1][times / 2]);
-	return 0;
+	return statuses[0] != 0 || statuses[1] != 0;
 }
