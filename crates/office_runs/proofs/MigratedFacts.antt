@@ -53,7 +53,7 @@ times-append r (x ∷ xs) ys =
 
 -- but for the last delays
 all_but : (r : FactRow) (f : FactLists) → times r (rows_of f) ≡ times r (rows_of (without_delays f)) + times r (map delays_row (option_to_list f.delays))
-all_but r f = 
+all_but r f =
     let a = map source_row f.sources in
     let b = map upload_row f.uploads in
     let c = map build_row f.rows in
@@ -152,6 +152,11 @@ below_at d (x ∷ xs) none e c = elim (first_or_rest x xs e c) [
 not_greater : (e d : DelaysIn) → is_lt (delays_order e d) ≡ false → e.number ≤ d.number
 not_greater e d h = grind (arith, nat_tests)
 
+-- what a text says that is a message
+item_is : (setup : Lists) (p : Place) (text : List ℕ) (message : Message) (i : Thing) → read setup text ≡ Ok message → message.body ≡ Item i → item_at setup (p, text) ≡ Some (record { sender = p.0; number = p.1; item = i })
+unfolding item_at
+item_is setup p text message i says is = ap (item_in_answer p) says ∙ ap (item_in_body p) is
+
 module _ (setup : Lists) (content : Content) (one : count_of Release setup.senders ≡ 1) (office : IsOfficeBefore setup content) where
   abbrev release : ℕ
   release = place_of_role Release setup.senders
@@ -201,16 +206,12 @@ module _ (setup : Lists) (content : Content) (one : count_of Release setup.sende
       go (Item i) is h =
           let m : CoveredItem = record { sender = release; number = n; item = i } in
           let place = office.places (release, n) (ap is_some t.is_kept.stands) in
-          let item : item_at setup ((release, n), t.is_kept.text) ≡ Some m = item_is (release, n) t.is_kept.text t.message i t.is_kept.says is in
+          let item : item_at setup ((release, n), t.is_kept.text) ≡ Some m = item_is setup (release, n) t.is_kept.text t.message i t.is_kept.says is in
           let among = place_within setup content.kept (cover setup content.kept (length content.reports)) (length setup.senders) m (release, n)
-              (record { sender = place.sender; low = low; high = high; is = ap (item_of setup (release, n)) t.is_kept.stands ∙ item }) in
+          (record { sender = place.sender; low = low; high = high; is = ap (item_of setup (release, n)) t.is_kept.stands ∙ item }) in
           let messages = same_messages setup content.kept (length content.reports) office.places in
           from_message m (messages.0 m among) h
         where
-          item_is : (p : Place) (text : List ℕ) (message : Message) (i : Thing) → read setup text ≡ Ok message → message.body ≡ Item i → item_at setup (p, text) ≡ Some (record { sender = p.0; number = p.1; item = i })
-          unfolding item_at
-          item_is p text message i says is = ap (item_in_answer p) says ∙ ap (item_in_body p) is
-
           from_message : (m : CoveredItem) → Contains told m → IsSome (delays_of m) → (d : DelaysIn) × Contains (delays_in told) d × (d.number ≡ m.number)
           from_message m c h = let d = delays_are m h in (d.0, gives delays_of told m d.0 c d.1, d.2)
 
