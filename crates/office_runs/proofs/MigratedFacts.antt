@@ -13,9 +13,10 @@ use Rattle.testing_model.specs.FactLists.{FactLists}
 use Rattle.testing_model.specs.FactRows.{is_row, times, rows_of, source_row, upload_row, build_row, drop_row, bug_row, hint_row, unhint_row, delays_row}
 use Rattle.testing_model.specs.Unstable.{delays_order, last_delays}
 use Rattle.testing_items.proofs.Members.{none_among}
+use Rattle.testing_items.specs.Words.{lesser, least}
 use Rattle.testing_model.proofs.Orders.{delays_total}
 use Rattle.testing_model.proofs.Sets.{first_or_rest, given_by, gives}
-use Rattle.testing_model.proofs.Least.{least_from, none_least}
+use Rattle.testing_model.proofs.Least.{least_from}
 use Rattle.testing_model.proofs.First.{NoneBelow, least-none_below}
 use Rattle.testing_items.specs.declared.item.Item.{Item as Thing}
 use Rattle.testing_items.specs.declared.item.Item.TheVariants.{Upload, Dropped, Build, Bug, Hint, Unhint, Delays, Nothing}
@@ -44,8 +45,11 @@ use Rattle.office_runs.proofs.WalkFacts.{at_place, of_text, within_place, place_
 
 -- ---- how often a row stands among those of facts
 
+abbrev bit : Bool → ℕ
+bit b = cond b 1 0
+
 times-append : (r : FactRow) (xs ys : List FactRow) → times r (xs ++ ys) ≡ times r xs + times r ys
-times-append r [] ys = refl
+times-append r [] ys = let none : times r [] ≡ 0 = refl in omega (arith, none)
 times-append r (x ∷ xs) ys =
     let one = sum_by-cons (λ (y : FactRow). cond (is_row r y) 1 0) x (xs ++ ys) in
     let two = sum_by-cons (λ (y : FactRow). cond (is_row r y) 1 0) x xs in
@@ -62,7 +66,7 @@ all_but r f =
     let h = map hint_row f.hints in
     let u = map unhint_row f.unhints in
     let l = map delays_row (option_to_list f.delays) in
-    behind r a _ _ (times r l) (behind r b _ _ (times r l) (behind r c _ _ (times r l) (behind r d _ _ (times r l) (behind r e _ _ (times r l) (behind r h _ _ (times r l) (behind r u l [] (times r l) refl))))))
+    behind r a _ _ (times r l) (behind r b _ _ (times r l) (behind r c _ _ (times r l) (behind r d _ _ (times r l) (behind r e _ _ (times r l) (behind r h _ _ (times r l) (behind r u l [] (times r l) (let none : times r [] ≡ 0 = refl in omega (arith, none))))))))
   where
     behind : (r : FactRow) (xs ys zs : List FactRow) (n : ℕ) → times r ys ≡ times r zs + n → times r (xs ++ ys) ≡ times r (xs ++ zs) + n
     behind r xs ys zs n more = omega (arith, times-append r xs ys, times-append r xs zs, more)
@@ -73,7 +77,7 @@ none_of row r other [] = refl
 none_of row r other (x ∷ xs) =
     let one = sum_by-cons (λ (y : FactRow). cond (is_row r y) 1 0) (row x) (map row xs) in
     let not : is_row r (row x) ≡ false = ap (λ b. b && (((row x).sender == r.sender) && (((row x).number == r.number) && ((row x).place == r.place)))) (other x) in
-    let zero : cond (is_row r (row x)) 1 0 ≡ 0 = rw not refl in
+    let zero : bit (is_row r (row x)) ≡ 0 = ap bit not in
     omega (arith, one, zero, none_of row r other xs)
 
 no_delays : (r : FactRow) (f : FactLists) → r.kind ≡ 8 → times r (rows_of (without_delays f)) ≡ 0
@@ -102,11 +106,13 @@ one_more r x facts n free same = go (is_row r x) refl (is_some (get facts r)) re
     go true p b q e =
         let none : n ≡ 0 = free p in
         let one : times r (x ∷ []) ≡ 1 = sum_by-cons (λ (y : FactRow). cond (is_row r y) 1 0) x [] ∙ rw p refl in
-        let there : count_in (insert facts x tt) r ≡ 1 = ap (λ c. cond c 1 0) (has-insert facts x r ∙ rw p refl) in
+        let now : is_some (get (insert facts x tt) r) ≡ true = has-insert facts x r ∙ ap (λ c. c || is_some (get facts r)) p in
+        let there : count_in (insert facts x tt) r ≡ 1 = ap bit now in
         omega (arith, none, one, there)
     go false p b q e =
         let none : times r (x ∷ []) ≡ 0 = sum_by-cons (λ (y : FactRow). cond (is_row r y) 1 0) x [] ∙ rw p refl in
-        let as_was : count_in (insert facts x tt) r ≡ cond b 1 0 = ap (λ c. cond c 1 0) (has-insert facts x r ∙ rw p q) in
+        let now : is_some (get (insert facts x tt) r) ≡ b = has-insert facts x r ∙ ap (λ c. c || is_some (get facts r)) p ∙ q in
+        let as_was : count_in (insert facts x tt) r ≡ bit b = ap bit now in
         omega (arith, none, e, as_was)
 
 same_kind : (r x : FactRow) → is_row r x ≡ true → x.kind ≡ r.kind
@@ -140,6 +146,15 @@ delays_are m h = go (delays_of m) refl h
     go : (o : Option DelaysIn) → delays_of m ≡ o → IsSome o → (d : DelaysIn) × (delays_of m ≡ Some d) × (d.number ≡ m.number)
     go None e h = absurd (let no = h in cc)
     go (Some d) e h = (d, e, (delays_own m d e).1)
+
+some_least : {P : Type 0} (v : Option DelaysIn) (z : DelaysIn) → lesser delays_order z v ≡ None → P
+some_least None z e = let no : Some z ≡ None = e in absurd (let never : ⊥ = cc in never)
+some_least (Some w) z e = let no : Some (cond (is_lt (delays_order w z)) w z) ≡ None = e in absurd (let never : ⊥ = cc in never)
+
+-- where some are there, one is the first
+no_least : {P : Type 0} (zs : List DelaysIn) (y : DelaysIn) → least delays_order zs ≡ None → Contains zs y → P
+no_least [] y e c = none_among y c
+no_least (z ∷ zs) y e c = some_least (least delays_order zs) z e
 
 below_at : (d : DelaysIn) (xs : List DelaysIn) → AllByRecursion (λ y. is_lt (delays_order y d) ≡ false) xs → (e : DelaysIn) → Contains xs e → is_lt (delays_order e d) ≡ false
 below_at d [] none e c = none_among e c
@@ -218,7 +233,7 @@ module _ (setup : Lists) (content : Content) (one : count_of Release setup.sende
   -- so the last delays of the facts are those
   last_are : (last : Option ℕ) (o : Option DelaysIn) → o ≡ last_delays told → IsLastTold setup content.kept upto last → map delays_row (option_to_list o) ≡ map (release_delays setup) (option_to_list last)
   last_are None None is so = refl
-  last_are (Some n) None is so = let d = there n so.0 so.1 so.2 in none_least delays_total (delays_in told) d.0 (sym is) d.1
+  last_are (Some n) None is so = let d = there n so.0 so.1 so.2 in no_least (delays_in told) d.0 (sym is) d.1
   last_are None (Some d) is so =
       let m = given_by delays_of told d (least_from delays_total (delays_in told) d (sym is)) in
       let t = is_told m.0 m.1 (ap is_some m.2) in
