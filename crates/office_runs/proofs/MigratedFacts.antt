@@ -17,7 +17,7 @@ use Rattle.testing_items.specs.Words.{lesser, least}
 use Rattle.testing_model.proofs.Orders.{delays_total}
 use Rattle.testing_model.proofs.Sets.{first_or_rest, given_by, gives}
 use Rattle.testing_model.proofs.Least.{least_from}
-use Rattle.testing_model.proofs.First.{least-none_below}
+use Rattle.testing_model.proofs.First.{NoneBelow, least-none_below}
 use Rattle.testing_items.specs.declared.item.Item.{Item as Thing}
 use Rattle.testing_items.specs.declared.item.Item.TheVariants.{Upload, Dropped, Build, Bug, Hint, Unhint, Delays, Nothing}
 use Rattle.office_mail.specs.declared.message.Message.{Message}
@@ -45,11 +45,11 @@ use Rattle.office_runs.proofs.WalkFacts.{at_place, of_text, within_place, place_
 
 -- ---- how often a row stands among those of facts
 
+abbrev bit : Bool → ℕ
+bit b = cond b 1 0
+
 times-append : (r : FactRow) (xs ys : List FactRow) → times r (xs ++ ys) ≡ times r xs + times r ys
-times-append r [] ys =
-    let zero : times r [] ≡ 0 = refl in
-    let same : times r ([] ++ ys) ≡ times r ys = refl in
-    omega (arith, zero, same)
+times-append r [] ys = let none : times r [] ≡ 0 = refl in omega (arith, none)
 times-append r (x ∷ xs) ys =
     let one = sum_by-cons (λ (y : FactRow). cond (is_row r y) 1 0) x (xs ++ ys) in
     let two = sum_by-cons (λ (y : FactRow). cond (is_row r y) 1 0) x xs in
@@ -57,7 +57,7 @@ times-append r (x ∷ xs) ys =
 
 -- but for the last delays
 all_but : (r : FactRow) (f : FactLists) → times r (rows_of f) ≡ times r (rows_of (without_delays f)) + times r (map delays_row (option_to_list f.delays))
-all_but r f = 
+all_but r f =
     let a = map source_row f.sources in
     let b = map upload_row f.uploads in
     let c = map build_row f.rows in
@@ -66,13 +66,10 @@ all_but r f =
     let h = map hint_row f.hints in
     let u = map unhint_row f.unhints in
     let l = map delays_row (option_to_list f.delays) in
-    behind r a _ _ (times r l) (behind r b _ _ (times r l) (behind r c _ _ (times r l) (behind r d _ _ (times r l) (behind r e _ _ (times r l) (behind r h _ _ (times r l) (behind r u l [] (times r l) (nothing r (times r l))))))))
+    behind r a _ _ (times r l) (behind r b _ _ (times r l) (behind r c _ _ (times r l) (behind r d _ _ (times r l) (behind r e _ _ (times r l) (behind r h _ _ (times r l) (behind r u l [] (times r l) (let none : times r [] ≡ 0 = refl in omega (arith, none))))))))
   where
     behind : (r : FactRow) (xs ys zs : List FactRow) (n : ℕ) → times r ys ≡ times r zs + n → times r (xs ++ ys) ≡ times r (xs ++ zs) + n
     behind r xs ys zs n more = omega (arith, times-append r xs ys, times-append r xs zs, more)
-
-    nothing : (r : FactRow) (n : ℕ) → n ≡ times r [] + n
-    nothing r n = let zero : times r [] ≡ 0 = refl in omega (arith, zero)
 
 -- rows of another kind don't count
 none_of : {X : Type 0} (row : X → FactRow) (r : FactRow) → ((x : X) → ((row x).kind == r.kind) ≡ false) → (xs : List X) → times r (map row xs) ≡ 0
@@ -80,7 +77,7 @@ none_of row r other [] = refl
 none_of row r other (x ∷ xs) =
     let one = sum_by-cons (λ (y : FactRow). cond (is_row r y) 1 0) (row x) (map row xs) in
     let not : is_row r (row x) ≡ false = ap (λ b. b && (((row x).sender == r.sender) && (((row x).number == r.number) && ((row x).place == r.place)))) (other x) in
-    let zero : ◌≡◌ {A = ℕ} (cond (is_row r (row x)) 1 0) 0 = rw not refl in
+    let zero : bit (is_row r (row x)) ≡ 0 = ap bit not in
     omega (arith, one, zero, none_of row r other xs)
 
 no_delays : (r : FactRow) (f : FactLists) → r.kind ≡ 8 → times r (rows_of (without_delays f)) ≡ 0
@@ -109,13 +106,13 @@ one_more r x facts n free same = go (is_row r x) refl (is_some (get facts r)) re
     go true p b q e =
         let none : n ≡ 0 = free p in
         let one : times r (x ∷ []) ≡ 1 = sum_by-cons (λ (y : FactRow). cond (is_row r y) 1 0) x [] ∙ rw p refl in
-        let has : is_some (get (insert facts x tt) r) ≡ true = has-insert facts x r ∙ rw p refl in
-        let there : count_in (insert facts x tt) r ≡ 1 = ap (λ c. cond c 1 0) has in
+        let now : is_some (get (insert facts x tt) r) ≡ true = has-insert facts x r ∙ ap (λ c. c || is_some (get facts r)) p in
+        let there : count_in (insert facts x tt) r ≡ 1 = ap bit now in
         omega (arith, none, one, there)
     go false p b q e =
         let none : times r (x ∷ []) ≡ 0 = sum_by-cons (λ (y : FactRow). cond (is_row r y) 1 0) x [] ∙ rw p refl in
-        let has : is_some (get (insert facts x tt) r) ≡ b = has-insert facts x r ∙ rw p q in
-        let as_was : count_in (insert facts x tt) r ≡ cond b 1 0 = ap (λ c. cond c 1 0) has in
+        let now : is_some (get (insert facts x tt) r) ≡ b = has-insert facts x r ∙ ap (λ c. c || is_some (get facts r)) p ∙ q in
+        let as_was : count_in (insert facts x tt) r ≡ bit b = ap bit now in
         omega (arith, none, e, as_was)
 
 same_kind : (r x : FactRow) → is_row r x ≡ true → x.kind ≡ r.kind
@@ -150,6 +147,15 @@ delays_are m h = go (delays_of m) refl h
     go None e h = absurd (let no = h in cc)
     go (Some d) e h = (d, e, (delays_own m d e).1)
 
+some_least : {P : Type 0} (v : Option DelaysIn) (z : DelaysIn) → lesser delays_order z v ≡ None → P
+some_least None z e = let no : Some z ≡ None = e in absurd (let never : ⊥ = cc in never)
+some_least (Some w) z e = let no : Some (cond (is_lt (delays_order w z)) w z) ≡ None = e in absurd (let never : ⊥ = cc in never)
+
+-- where some are there, one is the first
+no_least : {P : Type 0} (zs : List DelaysIn) (y : DelaysIn) → least delays_order zs ≡ None → Contains zs y → P
+no_least [] y e c = none_among y c
+no_least (z ∷ zs) y e c = some_least (least delays_order zs) z e
+
 below_at : (d : DelaysIn) (xs : List DelaysIn) → AllByRecursion (λ y. is_lt (delays_order y d) ≡ false) xs → (e : DelaysIn) → Contains xs e → is_lt (delays_order e d) ≡ false
 below_at d [] none e c = none_among e c
 below_at d (x ∷ xs) none e c = elim (first_or_rest x xs e c) [
@@ -161,19 +167,10 @@ below_at d (x ∷ xs) none e c = elim (first_or_rest x xs e c) [
 not_greater : (e d : DelaysIn) → is_lt (delays_order e d) ≡ false → e.number ≤ d.number
 not_greater e d h = grind (arith, nat_tests)
 
--- where there are delays, some are the last
-none_last : {P : Type 0} (xs : List DelaysIn) (d : DelaysIn) → least delays_order xs ≡ None → Contains xs d → P
-none_last [] d none c = none_among d c
-none_last (x ∷ xs) d none c = lesser_some (least delays_order xs) x none
-  where
-    lesser_some : {P : Type 0} (v : Option DelaysIn) (z : DelaysIn) → lesser delays_order z v ≡ None → P
-    lesser_some None z e = let no : Some z ≡ None = e in absurd (let never : ⊥ = cc in never)
-    lesser_some (Some w) z e = let no : Some (cond (is_lt (delays_order w z)) w z) ≡ None = e in absurd (let never : ⊥ = cc in never)
-
--- a text that reads as a message of an item gives that item
-message_item : (setup : Lists) (p : Place) (text : List ℕ) (message : Message) (i : Thing) → read setup text ≡ Ok message → message.body ≡ Item i → item_at setup (p, text) ≡ Some (record { sender = p.0; number = p.1; item = i })
+-- what a text says that is a message
+item_is : (setup : Lists) (p : Place) (text : List ℕ) (message : Message) (i : Thing) → read setup text ≡ Ok message → message.body ≡ Item i → item_at setup (p, text) ≡ Some (record { sender = p.0; number = p.1; item = i })
 unfolding item_at
-message_item setup p text message i says is = ap (item_in_answer p) says ∙ ap (item_in_body p) is
+item_is setup p text message i says is = ap (item_in_answer p) says ∙ ap (item_in_body p) is
 
 module _ (setup : Lists) (content : Content) (one : count_of Release setup.senders ≡ 1) (office : IsOfficeBefore setup content) where
   abbrev release : ℕ
@@ -224,9 +221,9 @@ module _ (setup : Lists) (content : Content) (one : count_of Release setup.sende
       go (Item i) is h =
           let m : CoveredItem = record { sender = release; number = n; item = i } in
           let place = office.places (release, n) (ap is_some t.is_kept.stands) in
-          let item : item_at setup ((release, n), t.is_kept.text) ≡ Some m = message_item setup (release, n) t.is_kept.text t.message i t.is_kept.says is in
+          let item : item_at setup ((release, n), t.is_kept.text) ≡ Some m = item_is setup (release, n) t.is_kept.text t.message i t.is_kept.says is in
           let among = place_within setup content.kept (cover setup content.kept (length content.reports)) (length setup.senders) m (release, n)
-              (record { sender = place.sender; low = low; high = high; is = ap (item_of setup (release, n)) t.is_kept.stands ∙ item }) in
+          (record { sender = place.sender; low = low; high = high; is = ap (item_of setup (release, n)) t.is_kept.stands ∙ item }) in
           let messages = same_messages setup content.kept (length content.reports) office.places in
           from_message m (messages.0 m among) h
         where
@@ -236,7 +233,7 @@ module _ (setup : Lists) (content : Content) (one : count_of Release setup.sende
   -- so the last delays of the facts are those
   last_are : (last : Option ℕ) (o : Option DelaysIn) → o ≡ last_delays told → IsLastTold setup content.kept upto last → map delays_row (option_to_list o) ≡ map (release_delays setup) (option_to_list last)
   last_are None None is so = refl
-  last_are (Some n) None is so = let d = there n so.0 so.1 so.2 in none_last (delays_in told) d.0 (sym is) d.1
+  last_are (Some n) None is so = let d = there n so.0 so.1 so.2 in no_least (delays_in told) d.0 (sym is) d.1
   last_are None (Some d) is so =
       let m = given_by delays_of told d (least_from delays_total (delays_in told) d (sym is)) in
       let t = is_told m.0 m.1 (ap is_some m.2) in

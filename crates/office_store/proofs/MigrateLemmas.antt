@@ -2,7 +2,6 @@
 use Rattle.std.proofs.Common.{◌≡◌, ◌≢◌, inr, ◌≤◌, ℕ, List, [], ◌∷◌, Bool, true, false, cond, ◌&&◌, ◌==◌, nat_le, nat_eq, Option, Some, None, IsSome, Result, Ok, Err, IfOk, length, is_some, map, refl, sym, ap, subst, ◌∙◌, arith}
 use Rattle.std.proofs.lemmas.Bool.Decides.{nat_tests}
 use Rattle.std.specs.List.Sorted.{IsPermutation}
-use Rattle.deb_control.specs.declared.owned.Text.{Text as Words}
 use Rattle.std.specs.Result.{result_ok, IsErrAnd}
 use Rattle.sqlite.specs.Order.{Row, column}
 use Rattle.sqlite.specs.Effect.{Database}
@@ -63,7 +62,7 @@ tells_by : (number : ℕ) (o : Option (ℕ × Said)) (text : List ℕ) → text_
 tells_by number None text h = absurd (let e = h in cc)
 tells_by number (Some (id, said)) text h = go (id == 1) refl (said.schema == number) refl (nat_le said.finished 4_294_967_295) refl h
   where
-    go : (a : Bool) → (id == 1) ≡ a → (b : Bool) → (said.schema == number) ≡ b → (c : Bool) → nat_le said.finished 4_294_967_295 ≡ c → cond {A = Option Words} (a && (b && c)) (Some said.setup) None ≡ Some text → Tells number (Some (id, said)) text
+    go : (a : Bool) → (id == 1) ≡ a → (b : Bool) → (said.schema == number) ≡ b → (c : Bool) → nat_le said.finished 4_294_967_295 ≡ c → cond {A = Option (List ℕ)} (a && b && c) (Some said.setup) None ≡ Some text → Tells number (Some (id, said)) text
     go true p true q true r h =
         let one : id ≡ 1 = grind (arith, nat_tests) in
         record { said = said; is = ap (λ n. Some (n, said)) one; number_is = grind (arith, nat_tests); text_is = cc; fits = grind (arith, nat_tests) }

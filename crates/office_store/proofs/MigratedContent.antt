@@ -32,20 +32,20 @@ facts_with setup facts delays (Some n) keeps =
     let release = release_place setup in
     ap (facts_in release facts) keeps.1
     ∙ same_set (facts_in release facts (keeps.0 ∷ [])) (insert (facts_in release facts []) (release_delays setup n) tt)
-        (λ q h. inserted_has (facts_in release facts []) (release_delays setup n) q (elim (said release facts (keeps.0 ∷ []) q h) [
-          | inl a ↦ inr (says release facts [] q (inl a))
-          | inr b ↦ elim b.1 [
-              | inl same ↦ inl (same_entry q (release_delays setup n) (sym b.2 ∙ ap (delays_in release) same ∙ keeps.2 release))
-              | inr none ↦ absurd none
-            ]
-        ]))
-        (λ q h. says release facts (keeps.0 ∷ []) q (elim (of_inserted (facts_in release facts []) (release_delays setup n) q h) [
-          | inl same ↦ inr (keeps.0, inl refl, keeps.2 release ∙ sym (ap (λ (x : FactRow). Some (x, tt)) same))
-          | inr there ↦ elim (said release facts [] q there) [
-              | inl a ↦ inl a
-              | inr b ↦ absurd b.1
-            ]
-        ]))
+    (λ q h. inserted_has (facts_in release facts []) (release_delays setup n) q (elim (said release facts (keeps.0 ∷ []) q h) [
+      | inl a ↦ inr (says release facts [] q (inl a))
+      | inr b ↦ elim b.1 [
+        | inl same ↦ inl (same_entry q (release_delays setup n) (sym b.2 ∙ ap (delays_in release) same ∙ keeps.2 release))
+        | inr none ↦ absurd none
+      ]
+    ]))
+    (λ q h. says release facts (keeps.0 ∷ []) q (elim (of_inserted (facts_in release facts []) (release_delays setup n) q h) [
+      | inl same ↦ inr (keeps.0, inl refl, keeps.2 release ∙ sym (ap (λ (x : FactRow). Some (x, tt)) same))
+      | inr there ↦ elim (said release facts [] q there) [
+        | inl a ↦ inl a
+        | inr b ↦ absurd b.1
+      ]
+    ]))
 
 says_is : (setup : Lists) (old new : Trees) (done : Migrates setup old new) → said_in (new 0) ≡ Some (record { schema = 2; setup = setup_text setup; finished = done.said.finished })
 says_is setup old new done = ap said_in done.one ∙ said_one done.row _ done.row_says

@@ -78,10 +78,15 @@ module _ (setup : Lists) (kept : Kept) where
       none_of : (o : Option DelaysIn) → is_some o ≡ false → o ≡ None
       none_of None h = refl
       none_of (Some d) h = absurd (let e = h in cc)
-  told_more k false (Some last) is so = (so.0, omega (arith, so.1), so.2, λ n low high some. ⊎_elim
-      (λ (lt : k < n). let at : n ≡ k + 1 = omega (arith, lt, high) in let here : is_some (told_at (k + 1)) ≡ true = subst (λ j. is_some (told_at j) ≡ true) at some in absurd (let e = sym here ∙ is in cc))
-      (λ (le : n ≤ k). so.3 n low le some)
-      (cases_lt k n))
+  told_more k false (Some last) is so = (
+    so.0,
+    omega (arith, so.1),
+    so.2,
+    λ n low high some. ⊎_elim
+        (λ (lt : k < n). let at : n ≡ k + 1 = omega (arith, lt, high) in let here : is_some (told_at (k + 1)) ≡ true = subst (λ j. is_some (told_at j) ≡ true) at some in absurd (let e = sym here ∙ is in cc))
+        (λ (le : n ≤ k). so.3 n low le some)
+        (cases_lt k n),
+  )
 
   -- each kept text from one number to another is a message of the release team
   abbrev AreOwn : ℕ → ℕ → Type 0
@@ -276,11 +281,13 @@ module _ (setup : Lists) (kept : Kept) where
   tells finished to last stated told =
       let c = covers finished to stated in
       let t = told_range to 0 None last (λ n low high. absurd (omega (arith, low, high))) (subst (λ l. told_on setup None l ≡ Some last) (within_is release to) told) in
-      let none : 0 + to ≡ to = omega arith in
-      (record {
-        orders = λ k low high. c.1 k (omega (arith, low)) high;
-        release = λ n low high some. t.1 n (omega (arith, low)) (omega (arith, high, c.0)) some;
-      }, subst (λ j. IsLastTold setup kept j last) (none ∙ c.0) (last_told (0 + to) last t.0))
+      let none : 0 + to ≡ to = omega arith in (
+        record {
+          orders = λ k low high. c.1 k (omega (arith, low)) high;
+          release = λ n low high some. t.1 n (omega (arith, low)) (omega (arith, high, c.0)) some;
+        },
+        subst (λ j. IsLastTold setup kept j last) (none ∙ c.0) (last_told (0 + to) last t.0),
+      )
 
   pub untold : (finished to : ℕ) → cover_on setup finished 0 0 (letters_within kept (runs setup) 1 finished) ≡ Some to → told_on setup None (letters_within kept release 1 to) ≡ None → AreMessages setup kept finished → ⊥
   untold finished to stated told messages =

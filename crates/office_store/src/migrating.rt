@@ -174,7 +174,12 @@ fn judged<S: Alter>(
 fn stated_by(order: &RunOrder, release: u32) -> u32
     ensures { Some result ≡ stated_by release (Some order.now) }
 {
-    order.covers.as_slice().get(release as usize).copied().unwrap_or(0)
+    order
+        .covers
+        .as_slice()
+        .get(release as usize)
+        .copied()
+        .unwrap_or(0)
 }
 
 /// What the run order that a message is states for the release team; a message that is none is refused.
@@ -190,12 +195,7 @@ fn stated_in(message: Message, release: u32) -> Result<u32, KeepFault>
 
 /// What the letter after so many orders states for the release team.
 #[tactic(auto, unfolding(crate::specs::MigratingSteps::next_stated))]
-fn next_stated(
-    alloc: Global,
-    setup: &Setup,
-    count: u32,
-    letter: &Letter,
-) -> Result<u32, KeepFault>
+fn next_stated(alloc: Global, setup: &Setup, count: u32, letter: &Letter) -> Result<u32, KeepFault>
     ensures ok { IfOk result (λ stated. next_stated setup.now count letter.now ≡ Some stated) }
     ensures bad { result ≡ Err (KeepFault.Store BadRow) → next_stated setup.now count letter.now ≡ None }
     ensures next { OnOk result (letter.now.number ≡ count + 1) }
@@ -203,7 +203,13 @@ fn next_stated(
     if letter.number as u64 != count as u64 + 1 {
         return Err(KeepFault::Store(Cause::BadRow));
     }
-    let message = own_message(alloc, setup, letter.text.as_slice(), setup.runs(), letter.number)?;
+    let message = own_message(
+        alloc,
+        setup,
+        letter.text.as_slice(),
+        setup.runs(),
+        letter.number,
+    )?;
     stated_in(message, release_place(setup))
 }
 
@@ -268,11 +274,7 @@ fn next_told(
 
 /// The number of the last of these letters that tells delays. Each has to be a message of the release team.
 #[tactic(auto, unfolding(crate::specs::MigratingSteps::told_on))]
-fn last_told(
-    alloc: Global,
-    setup: &Setup,
-    letters: &[Letter],
-) -> Result<Option<u32>, KeepFault>
+fn last_told(alloc: Global, setup: &Setup, letters: &[Letter]) -> Result<Option<u32>, KeepFault>
     ensures ok { IfOk result (λ last. told_on setup.now None letters.now ≡ Some last) }
     ensures bad { result ≡ Err (KeepFault.Store BadRow) → told_on setup.now None letters.now ≡ None }
 {
