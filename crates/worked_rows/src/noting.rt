@@ -135,12 +135,7 @@ fn made_anew(alloc: Global, office: Office<Noting>) -> Result<Office<Noting>, No
 }
 
 /// Adds the least number of each sender, by its place, behind a word.
-fn put_least(
-    alloc: Global,
-    word: &str,
-    least: &Least,
-    came: &mut Vec<u8>,
-) -> Result<(), NoMemory> {
+fn put_least(alloc: Global, word: &str, least: &Least, came: &mut Vec<u8>) -> Result<(), NoMemory> {
     for (sender, number) in least.iter().enumerate() {
         if *number < u32::MAX {
             let line = format!(in alloc; "{word} sender {sender} from {number}\n")?;
