@@ -171,4 +171,5 @@ def main():
             measure(sys.argv[1], Shape(name), folder, int(os.environ.get("ROUNDS", "5")))
 
 
-main()
+if __name__ == "__main__":
+    main()
