@@ -24,6 +24,7 @@ import time
 HERE = os.path.dirname(os.path.abspath(__file__))
 REPLAY = os.path.join(os.path.dirname(HERE), "replay")
 sys.path.insert(0, REPLAY)
+sys.dont_write_bytecode = True
 from bag import NEWER, build, first_mail, order, upload
 from phases import at_rest
 
@@ -112,6 +113,13 @@ def copied(file, copy):
     return copy
 
 
+def merged(file):
+    """Takes what stands in the log beside a file into the file."""
+    opened = sqlite3.connect(file)
+    opened.execute("PRAGMA wal_checkpoint(TRUNCATE)").fetchall()
+    opened.close()
+
+
 def without_rows(file):
     """How many rows of facts a file had, none of which it has now."""
     with sqlite3.connect(file) as opened:
@@ -133,6 +141,7 @@ def measure(office, shape, folder, turns):
     before, after, last = shape.mail()
     file, bare, copy = (os.path.join(folder, name) for name in ("closed", "bare", "copy"))
     made = Opened(office, shape, file, [("mail and run", before)])
+    merged(file)
     count = without_rows(copied(file, bare))
     print(f"{shape.name}: {before.count(b'mail ') - 1} messages before, {os.path.getsize(file) / 1e6:.0f} MB, {count} rows of facts")
     print(told_of("made", [made]), flush=True)
@@ -162,4 +171,5 @@ def main():
             measure(sys.argv[1], Shape(name), folder, int(os.environ.get("ROUNDS", "5")))
 
 
-main()
+if __name__ == "__main__":
+    main()
