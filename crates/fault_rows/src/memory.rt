@@ -14,7 +14,7 @@ use office_mail::{Body, MailFault, Setup, read_message};
 use office_store::{Keeper, OpenFault, Tables};
 use sqlite::{Alter, Connection};
 use std::alloc::Global;
-use testing_rules::{Facts, Testing, excuses, migrate, testing_text, update_text};
+use testing_rules::{Archs, Facts, Testing, Update, excuses, migrate, testing_text, update_text};
 
 /// A setup is read whole, or memory ran out.
 pub fn try_setup(alloc: Global) -> Result<(), Met> {
@@ -71,26 +71,35 @@ fn group_facts(alloc: Global, setup: &Setup) -> Result<Facts, Met> {
     Ok(facts)
 }
 
-/// A group that can't move: moves that are refused leave testing as it was, and the same call again makes them.
+/// The moves of the group: moves that are refused leave testing as it was, and the same call again makes them.
+fn moved(
+    alloc: Global,
+    archs: &Archs,
+    facts: &Facts,
+    testing: &mut Testing,
+    date: Date,
+) -> Result<Update, Met> {
+    let excuses = excuses(alloc, archs, facts, testing, date)?;
+    if let Ok(update) = migrate(alloc, archs, facts, &excuses, testing) {
+        return Ok(update);
+    }
+    let unchanged = testing_text(alloc, archs, 0, testing)?;
+    due(unchanged.as_str() == TESTING[0], "testing changed")?;
+    let update = migrate(alloc, archs, facts, &excuses, testing)?;
+    Ok(update)
+}
+
+/// A group that can't move: its moves are those that are due, whether or not they were refused before.
 pub fn try_moves(alloc: Global) -> Result<(), Met> {
     let setup = setup_of(alloc)?;
-    let archs = setup.archs();
     let facts = group_facts(alloc, &setup)?;
     let Ok(date) = Date::new(2025, 3, 6) else {
         return Err(Met::Wrong("no date"));
     };
     let mut testing = Testing::new(alloc);
-    let excuses = excuses(alloc, archs, &facts, &testing, date)?;
-    let update = match migrate(alloc, archs, &facts, &excuses, &mut testing) {
-        Ok(update) => update,
-        Err(_) => {
-            let unchanged = testing_text(alloc, archs, 0, &testing)?;
-            due(unchanged.as_str() == TESTING[0], "testing changed")?;
-            migrate(alloc, archs, &facts, &excuses, &mut testing)?
-        }
-    };
-    let update = update_text(alloc, archs, 1, date, &update)?;
-    let testing = testing_text(alloc, archs, 1, &testing)?;
+    let update = moved(alloc, setup.archs(), &facts, &mut testing, date)?;
+    let update = update_text(alloc, setup.archs(), 1, date, &update)?;
+    let testing = testing_text(alloc, setup.archs(), 1, &testing)?;
     due(update.as_str() == GROUP_UPDATE, "another update")?;
     due(testing.as_str() == GROUP_TESTING, "another testing")
 }
@@ -111,18 +120,21 @@ pub fn try_post(alloc: Global) -> Result<(), Met> {
     let mut writer = whole_writer(alloc);
     writer.taken = Vec::with_capacity(alloc, 1024)?;
     let served = serve_by(&mut office, &mut reader_of(&request), &mut writer);
-    let output = writer.taken.as_slice();
     if served == Ok(Served { code: Some(200) }) {
-        return due(
-            is_reply(output, b"HTTP/1.1 200 OK\r\n", b"\r\n\r\nheld ftp 1\n"),
-            "another reply",
+        let is_held = is_reply(
+            &writer.taken,
+            b"HTTP/1.1 200 OK\r\n",
+            b"\r\n\r\nheld ftp 1\n",
         );
+        return due(is_held, "another reply");
     }
     due(served == Ok(Served { code: Some(503) }), "another code")?;
-    due(
-        is_reply(output, b"HTTP/1.1 503 ", b"\r\n\r\nrefused NoMemory\n"),
-        "another 503",
-    )?;
+    let is_refused = is_reply(
+        &writer.taken,
+        b"HTTP/1.1 503 ",
+        b"\r\n\r\nrefused NoMemory\n",
+    );
+    due(is_refused, "another 503")?;
     writer.taken.clear();
     let served = serve_by(&mut office, &mut reader_of(OTHER), &mut writer);
     due(
