@@ -1,6 +1,6 @@
 //! Calls that may be refused memory: a refusal shows in its due place, and the same call with memory gives what is due.
 
-use crate::failing::{reader_of, whole_writer};
+use crate::failing::{Writer, reader_of, whole_writer};
 use crate::faults::{Met, due};
 use crate::given::{
     EXCUSES, GROUP, GROUP_TESTING, GROUP_UPDATE, Letter, TESTING, UPDATES, first_letters,
@@ -14,7 +14,9 @@ use office_mail::{Body, MailFault, Setup, read_message};
 use office_store::{Keeper, OpenFault, Tables};
 use sqlite::{Alter, Connection};
 use std::alloc::Global;
-use testing_rules::{Archs, Facts, Testing, Update, excuses, migrate, testing_text, update_text};
+use testing_rules::{
+    Archs, Excuses, Facts, Testing, Update, excuses, migrate, testing_text, update_text,
+};
 
 /// A setup is read whole, or memory ran out.
 pub fn try_setup(alloc: Global) -> Result<(), Met> {
@@ -71,7 +73,7 @@ fn group_facts(alloc: Global, setup: &Setup) -> Result<Facts, Met> {
     Ok(facts)
 }
 
-/// The moves of the group: moves that are refused leave testing as it was, and the same call again makes them.
+/// The moves of the group, which are asked for again where they are refused.
 fn moved(
     alloc: Global,
     archs: &Archs,
@@ -80,28 +82,76 @@ fn moved(
     date: Date,
 ) -> Result<Update, Met> {
     let excuses = excuses(alloc, archs, facts, testing, date)?;
-    if let Ok(update) = migrate(alloc, archs, facts, &excuses, testing) {
-        return Ok(update);
+    moved_by(alloc, archs, facts, &excuses, testing)
+}
+
+/// The moves by these excuses, which are asked for again where they are refused.
+fn moved_by(
+    alloc: Global,
+    archs: &Archs,
+    facts: &Facts,
+    excuses: &Excuses,
+    testing: &mut Testing,
+) -> Result<Update, Met> {
+    match migrate(alloc, archs, facts, excuses, testing) {
+        Ok(update) => Ok(update),
+        Err(_) => moved_again(alloc, archs, facts, excuses, testing),
     }
-    let unchanged = testing_text(alloc, archs, 0, testing)?;
-    due(unchanged.as_str() == TESTING[0], "testing changed")?;
-    let update = migrate(alloc, archs, facts, &excuses, testing)?;
+}
+
+/// The moves behind ones that were refused, which left testing as it was.
+fn moved_again(
+    alloc: Global,
+    archs: &Archs,
+    facts: &Facts,
+    excuses: &Excuses,
+    testing: &mut Testing,
+) -> Result<Update, Met> {
+    tells_testing(alloc, archs, 0, testing, TESTING[0])?;
+    let update = migrate(alloc, archs, facts, excuses, testing)?;
     Ok(update)
+}
+
+/// Testing after so many runs is this.
+fn tells_testing(
+    alloc: Global,
+    archs: &Archs,
+    runs: u32,
+    testing: &Testing,
+    text: &str,
+) -> Result<(), Met> {
+    let told = testing_text(alloc, archs, runs, testing)?;
+    due(told.as_str() == text, "another testing")
+}
+
+/// The update of the group's moves is the one that is due.
+fn tells_update(
+    alloc: Global,
+    archs: &Archs,
+    facts: &Facts,
+    testing: &mut Testing,
+    date: Date,
+) -> Result<(), Met> {
+    let update = moved(alloc, archs, facts, testing, date)?;
+    let told = update_text(alloc, archs, 1, date, &update)?;
+    due(told.as_str() == GROUP_UPDATE, "another update")
+}
+
+/// The moves by the group's facts, from a testing that is empty.
+fn try_moves_by(alloc: Global, archs: &Archs, facts: &Facts) -> Result<(), Met> {
+    let Ok(date) = Date::new(2025, 3, 6) else {
+        return Err(Met::Wrong("no date"));
+    };
+    let mut testing = Testing::new(alloc);
+    tells_update(alloc, archs, facts, &mut testing, date)?;
+    tells_testing(alloc, archs, 1, &testing, GROUP_TESTING)
 }
 
 /// A group that can't move: its moves are those that are due, whether or not they were refused before.
 pub fn try_moves(alloc: Global) -> Result<(), Met> {
     let setup = setup_of(alloc)?;
     let facts = group_facts(alloc, &setup)?;
-    let Ok(date) = Date::new(2025, 3, 6) else {
-        return Err(Met::Wrong("no date"));
-    };
-    let mut testing = Testing::new(alloc);
-    let update = moved(alloc, setup.archs(), &facts, &mut testing, date)?;
-    let update = update_text(alloc, setup.archs(), 1, date, &update)?;
-    let testing = testing_text(alloc, setup.archs(), 1, &testing)?;
-    due(update.as_str() == GROUP_UPDATE, "another update")?;
-    due(testing.as_str() == GROUP_TESTING, "another testing")
+    try_moves_by(alloc, setup.archs(), &facts)
 }
 
 /// Another text under the number of the longest post.
@@ -115,11 +165,20 @@ fn is_reply(output: &[u8], head: &[u8], body: &[u8]) -> bool {
 
 /// A post is held, or a 503 says that nothing was added: then another text under its number is held.
 pub fn try_post(alloc: Global) -> Result<(), Met> {
-    let mut office = new_office(alloc)?;
     let request = longest_post(alloc, "")?;
     let mut writer = whole_writer(alloc);
     writer.taken = Vec::with_capacity(alloc, 1024)?;
-    let served = serve_by(&mut office, &mut reader_of(&request), &mut writer);
+    let mut office = new_office(alloc)?;
+    judge_post(&mut office, &request, &mut writer)
+}
+
+/// Serves the longest post, and judges its reply.
+fn judge_post<K: Keeper>(
+    office: &mut Office<K>,
+    request: &[u8],
+    writer: &mut Writer,
+) -> Result<(), Met> {
+    let served = serve_by(office, &mut reader_of(request), writer);
     if served == Ok(Served { code: Some(200) }) {
         let is_held = is_reply(
             &writer.taken,
@@ -129,6 +188,11 @@ pub fn try_post(alloc: Global) -> Result<(), Met> {
         return due(is_held, "another reply");
     }
     due(served == Ok(Served { code: Some(503) }), "another code")?;
+    judge_refusal(office, writer)
+}
+
+/// Behind a 503 another text under the number of the longest post is held.
+fn judge_refusal<K: Keeper>(office: &mut Office<K>, writer: &mut Writer) -> Result<(), Met> {
     let is_refused = is_reply(
         &writer.taken,
         b"HTTP/1.1 503 ",
@@ -136,7 +200,7 @@ pub fn try_post(alloc: Global) -> Result<(), Met> {
     );
     due(is_refused, "another 503")?;
     writer.taken.clear();
-    let served = serve_by(&mut office, &mut reader_of(OTHER), &mut writer);
+    let served = serve_by(office, &mut reader_of(OTHER), writer);
     due(
         served == Ok(Served { code: Some(200) }),
         "a 503 that added the message",
