@@ -1,11 +1,13 @@
 //! One read that fails, at each place in turn.
 
-use crate::failing::{Reader, whole_writer};
+use crate::failing::{Reader, Writer, whole_writer};
 use crate::faults::{Met, due};
 use crate::given::{BROKEN, CONTINUE, ENDS, EXPECT, OUTPUT, first_letters};
 use crate::offices::{bag_of, is_free, longest_post, new_office, replay_by, serve_by};
-use office_http::{Replayed, ServeFault, Served};
+use deb_version::NoMemory;
+use office_http::{Office, Replayed, ServeFault, Served};
 use office_mail::BagFault;
+use office_store::Keeper;
 use std::alloc::Global;
 
 /// More reads than any call below makes.
@@ -29,13 +31,24 @@ fn broken_output(bytes: usize) -> &'static str {
 fn replay_read(alloc: Global, bag: &[u8], fails_at: u32) -> Result<bool, Met> {
     let mut office = new_office(alloc)?;
     let mut writer = whole_writer(alloc);
+    judge_replay(alloc, &mut office, bag, fails_at, &mut writer)
+}
+
+/// The same in an office that is new, to a writer that doesn't fail.
+fn judge_replay<K: Keeper>(
+    alloc: Global,
+    office: &mut Office<K>,
+    bag: &[u8],
+    fails_at: u32,
+    writer: &mut Writer,
+) -> Result<bool, Met> {
     let mut reader = Reader {
         bytes: bag,
         most: 1,
         calls: 0,
         fails_at,
     };
-    let replayed = replay_by(alloc, &mut office, &mut reader, &mut writer);
+    let replayed = replay_by(alloc, office, &mut reader, writer);
     let output = writer.taken.as_slice();
     if reader.calls < fails_at {
         due(output == OUTPUT.as_bytes(), "another output")?;
@@ -77,20 +90,31 @@ pub fn try_replay_reads(alloc: Global) -> Result<(), Met> {
 fn post_read(alloc: Global, request: &[u8], front: &str, fails_at: u32) -> Result<bool, Met> {
     let mut office = new_office(alloc)?;
     let mut writer = whole_writer(alloc);
+    judge_post(&mut office, request, front, fails_at, &mut writer)
+}
+
+/// The same in an office that is new, to a writer that doesn't fail.
+fn judge_post<K: Keeper>(
+    office: &mut Office<K>,
+    request: &[u8],
+    front: &str,
+    fails_at: u32,
+    writer: &mut Writer,
+) -> Result<bool, Met> {
     let mut reader = Reader {
         bytes: request,
         most: BYTES_A_READ,
         calls: 0,
         fails_at,
     };
-    let served = serve_by(&mut office, &mut reader, &mut writer);
+    let served = serve_by(office, &mut reader, writer);
     let output = writer.taken.as_slice();
     if reader.calls < fails_at {
         due(
             served == Ok(Served { code: Some(200) }),
             "a post that isn't held",
         )?;
-        due(!is_free(&mut office), "a post that isn't kept")?;
+        due(!is_free(office), "a post that isn't kept")?;
         return Ok(false);
     }
     due(
@@ -102,7 +126,7 @@ fn post_read(alloc: Global, request: &[u8], front: &str, fails_at: u32) -> Resul
         output.is_empty() || output == front.as_bytes(),
         "a reply behind a failed read",
     )?;
-    due(is_free(&mut office), "half a post is kept")?;
+    due(is_free(office), "half a post is kept")?;
     Ok(true)
 }
 
@@ -132,18 +156,34 @@ pub fn try_waiting_reads(alloc: Global) -> Result<(), Met> {
 
 /// A reader that gives a byte a read, and more of them than are ever read: the bag is given up after 1,000,000 reads.
 pub fn try_endless(alloc: Global) -> Result<(), Met> {
+    let bytes = endless_bag(alloc)?;
     let mut office = new_office(alloc)?;
     let mut writer = whole_writer(alloc);
+    judge_endless(alloc, &mut office, &bytes, &mut writer)
+}
+
+/// The front of a bag whose only message is longer than 1,000,000 reads of a byte.
+fn endless_bag(alloc: Global) -> Result<Vec<u8>, NoMemory> {
     let mut bytes = Vec::new(alloc);
     bytes.extend_from_slice(b"mail 999999999\n")?;
     bytes.resize(1_000_100, b'x')?;
+    Ok(bytes)
+}
+
+/// The same in an office that is new, to a writer that doesn't fail.
+fn judge_endless<K: Keeper>(
+    alloc: Global,
+    office: &mut Office<K>,
+    bytes: &[u8],
+    writer: &mut Writer,
+) -> Result<(), Met> {
     let mut reader = Reader {
-        bytes: &bytes,
+        bytes,
         most: 1,
         calls: 0,
         fails_at: 0,
     };
-    let replayed = replay_by(alloc, &mut office, &mut reader, &mut writer);
+    let replayed = replay_by(alloc, office, &mut reader, writer);
     let refused = Replayed {
         bag: Some(BagFault::ReadFault),
         lost: false,

@@ -196,22 +196,6 @@ fn judge_office<K: Keeper>(
     due(tells_runs(office, 2), "reports behind the bag again")
 }
 
-/// The same of tables, which are given back.
-fn judge_tables<S: Alter>(
-    alloc: Global,
-    setup: Setup,
-    tables: Tables<S>,
-    answers: &Answers,
-) -> (Result<(), Met>, Tables<S>) {
-    let mut tables = tables;
-    let keeps = keeps_what_was_held(&mut tables, answers);
-    let finished = tables.finished().unwrap_or(9);
-    let mut office = Office::new(alloc, setup, tables);
-    let judged = judge_office(alloc, &mut office, finished, answers);
-    let kept = due(keeps, "the mail");
-    (kept.and(judged), office.into_keeper())
-}
-
 /// The files of an office whose mail is delivered until a stop, as they are left, and what was answered.
 fn run_until_stop<D: Disk + Drop>(
     alloc: Global,
@@ -336,14 +320,46 @@ fn judge_over<S: Alter + Drop>(
     answers: &Answers,
 ) -> Result<(), Met> {
     match Tables::open(alloc, conn, &setup) {
+        Ok(tables) => judge_kept(alloc, setup, tables, answers),
+        Err((_fault, conn)) => {
+            drop(conn);
+            Err(Met::Wrong("the tables aren't opened again"))
+        }
+    }
+}
+
+/// The same of tables: the mail that they keep, and the office over them once they are opened once more.
+fn judge_kept<S: Alter + Drop>(
+    alloc: Global,
+    setup: Setup,
+    tables: Tables<S>,
+    answers: &Answers,
+) -> Result<(), Met> {
+    let mut tables = tables;
+    let keeps = keeps_what_was_held(&mut tables, answers);
+    let finished = tables.finished().unwrap_or(9);
+    let judged = judge_runs(alloc, setup, tables.into_connection(), finished, answers);
+    due(keeps, "the mail").and(judged)
+}
+
+/// The same of the office over a connection, by the count of its finished runs.
+fn judge_runs<S: Alter + Drop>(
+    alloc: Global,
+    setup: Setup,
+    conn: Connection<S>,
+    finished: u32,
+    answers: &Answers,
+) -> Result<(), Met> {
+    match Tables::open(alloc, conn, &setup) {
         Ok(tables) => {
-            let (judged, tables) = judge_tables(alloc, setup, tables, answers);
-            drop(tables.into_connection());
+            let mut office = Office::new(alloc, setup, tables);
+            let judged = judge_office(alloc, &mut office, finished, answers);
+            drop(office.into_keeper().into_connection());
             judged
         }
         Err((_fault, conn)) => {
             drop(conn);
-            Err(Met::Wrong("the tables aren't opened again"))
+            Err(Met::Wrong("the tables aren't opened once more"))
         }
     }
 }

@@ -4,7 +4,8 @@ use crate::failing::{Failure, Writer, reader_of};
 use crate::faults::{Met, due};
 use crate::given::{CONTINUE, EXPECT, OUTPUT, REPLY, TESTING, first_letters};
 use crate::offices::{bag_of, is_free, longest_post, new_office, replay_by, replayed, serve_by};
-use office_http::{ServeFault, Served};
+use office_http::{Office, ServeFault, Served};
+use office_store::Keeper;
 use std::alloc::Global;
 
 /// More writes than any call below makes.
@@ -69,11 +70,26 @@ fn is_count(kind: Kind, failed: u32, bytes: usize) -> bool {
 fn replay_written(alloc: Global, bag: &[u8], kind: Kind, fails_at: u32) -> Result<bool, Met> {
     let mut office = new_office(alloc)?;
     let mut writer = writer_of(alloc, kind, fails_at);
-    let told = replay_by(alloc, &mut office, &mut reader_of(bag), &mut writer);
-    let (again, status) = replayed(alloc, &mut office, bag)?;
+    judge_replay(alloc, &mut office, bag, &mut writer)
+}
+
+/// The same bag again in an office ends in the testing that is due.
+fn judge_again<K: Keeper>(alloc: Global, office: &mut Office<K>, bag: &[u8]) -> Result<(), Met> {
+    let (again, status) = replayed(alloc, office, bag)?;
     due(status == 0, "the bag again is refused")?;
-    due(again.ends_with(TESTING[1].as_bytes()), "another testing")?;
-    if writer.calls < fails_at {
+    due(again.ends_with(TESTING[1].as_bytes()), "another testing")
+}
+
+/// A replay in an office that is new, to a writer that fails at one of its writes, and whether it did.
+fn judge_replay<K: Keeper>(
+    alloc: Global,
+    office: &mut Office<K>,
+    bag: &[u8],
+    writer: &mut Writer,
+) -> Result<bool, Met> {
+    let told = replay_by(alloc, office, &mut reader_of(bag), writer);
+    judge_again(alloc, office, bag)?;
+    if writer.calls < writer.fails_at {
         due(
             writer.taken.as_slice() == OUTPUT.as_bytes(),
             "another output",
@@ -81,7 +97,10 @@ fn replay_written(alloc: Global, bag: &[u8], kind: Kind, fails_at: u32) -> Resul
         return Ok(false);
     }
     due(told.is_err(), "a failed write that isn't told")?;
-    due(writer.calls == fails_at, "a write behind one that failed")?;
+    due(
+        writer.calls == writer.fails_at,
+        "a write behind one that failed",
+    )?;
     due(
         is_front(&writer.taken, OUTPUT.as_bytes()),
         "no front of the output",
@@ -123,14 +142,25 @@ fn post_written(
     writer: &mut Writer,
 ) -> Result<bool, Met> {
     let mut office = new_office(alloc)?;
-    let served = serve_by(&mut office, &mut reader_of(request), writer);
+    judge_post(&mut office, request, front, reply, writer)
+}
+
+/// The same in an office that is new.
+fn judge_post<K: Keeper>(
+    office: &mut Office<K>,
+    request: &[u8],
+    front: usize,
+    reply: &[u8],
+    writer: &mut Writer,
+) -> Result<bool, Met> {
+    let served = serve_by(office, &mut reader_of(request), writer);
     if writer.calls < writer.fails_at {
         due(
             served == Ok(Served { code: Some(200) }),
             "a post that isn't held",
         )?;
         due(writer.taken.as_slice() == reply, "another reply")?;
-        due(!is_free(&mut office), "a post that isn't kept")?;
+        due(!is_free(office), "a post that isn't kept")?;
         return Ok(false);
     }
     due(
@@ -144,7 +174,7 @@ fn post_written(
     due(is_front(&writer.taken, reply), "no front of the reply")?;
     let is_asked = writer.taken.len() >= front;
     due(
-        is_free(&mut office) != is_asked,
+        is_free(office) != is_asked,
         "a post that is kept where it isn't due",
     )?;
     Ok(true)
