@@ -26,6 +26,7 @@ pub mod ReportReads
 pub mod NamedReads
 pub mod LoadFacts
 pub mod LoadLemmas
+pub mod NearFacts
 pub mod FactSets
 pub mod FactReads
 pub mod FactShows

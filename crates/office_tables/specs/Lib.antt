@@ -9,3 +9,4 @@ pub mod TableContent
 pub mod Legible
 pub mod FactSteps
 pub mod Finishing
+pub mod Nearby

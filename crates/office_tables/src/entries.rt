@@ -9,6 +9,8 @@ ghost use Rattle.sqlite.specs.Order.{column};
 ghost use Rattle.sqlite.specs.declared.types.Value.TheVariants.{Int, Text as Words};
 ghost use Rattle.sqlite.specs.Held.{state};
 ghost use Rattle.sqlite.specs.State.{HasCleanDisk};
+ghost use Rattle.std.specs.FinMap.{get};
+ghost use Rattle.office_mail.specs.Kept.{Kept};
 ghost use Rattle.office_mail.specs.Read.{read};
 ghost use Rattle.office_keeper.specs.Provenance.{IsArchPlace, KnowsArchs, upload_in, binary_in};
 ghost use Rattle.office_tables.specs.Tables.{IsTrusted, IsOurs, kept_rows, Lasts};
@@ -16,10 +18,12 @@ ghost use Rattle.office_tables.specs.TableSteps.{IsCrowded, Same};
 ghost use Rattle.office_tables.specs.Legible.{IsWhole, AreNamed};
 ghost use Rattle.office_tables.specs.Entries.{source_in, source_map, entry_in, entry_map};
 ghost use Rattle.office_tables.specs.EntrySteps.{source_columns, entry_columns};
+ghost use Rattle.office_tables.specs.Nearby.{AreLettersOf};
 ghost use Rattle.office_tables.specs.TableContent.{own_by, message_at as kept_message, source_as, source_of, row_as, row_of, is_arch_place, ReadsEach, put_all_sources, put_all_rows, IsGathered, suite_in};
 
 use crate::faults::unread;
 use crate::mail;
+use crate::nearby::{Block, Columns, Listed, bring, loaded_text, message_place, no_block};
 use deb_control::{Binary, NoMemory};
 use office_keeper::{Cause, KeepFault};
 use office_mail::{Body, MailFault, Message, Setup, read_message};
@@ -30,6 +34,18 @@ use std::cmp::Ordering;
 use testing_items::{ALL, Archs, Item};
 use testing_model::{RowIn, SharedBinary, SourceIn};
 use testing_suites::Testing;
+
+/// Where the place of its upload stands in a shown row of testing's sources.
+const UPLOAD: Columns = Columns {
+    sender: 2,
+    number: 3,
+};
+
+/// Where the place of its build stands in a shown row of testing's rows.
+const BUILD: Columns = Columns {
+    sender: 3,
+    number: 4,
+};
 
 /// The message that a text is, where it is of this sender and number.
 pub fn own_message(
@@ -78,6 +94,48 @@ fn message_at<S: Alter>(
     }
 }
 
+/// What a text that is kept at a place says.
+#[tactic(auto, unfolding(crate::specs::TableContent::message_at))]
+fn said_there(
+    alloc: Global,
+    setup: &Setup,
+    text: &[u8],
+    sender: u32,
+    number: u32,
+) -> Result<Message, KeepFault>
+    ensures ok { IfOk result (λ message. (kept : Kept) → get kept (sender, number) ≡ Some text.now → kept_message setup.now kept sender number ≡ Some message) }
+    ensures bad { result ≡ Err (KeepFault.Store Cause.BadRow) → (kept : Kept) → get kept (sender, number) ≡ Some text.now → kept_message setup.now kept sender number ≡ None }
+{
+    own_message(alloc, setup, text, sender, number)
+}
+
+/// The message that is kept at a place, by the text that was loaded where there is one.
+fn message_near<S: Alter>(
+    alloc: Global,
+    conn: &mut Connection<S>,
+    setup: &Setup,
+    block: &mut Block,
+    listed: Listed<'_>,
+    sender: u32,
+    number: u32,
+) -> Result<Message, KeepFault>
+    requires ours { IsTrusted (state S.Store conn.old) → IsOurs (state S.Store conn.old) }
+    requires block { IsTrusted (state S.Store conn.old) → AreLettersOf (kept_rows ((state S.Store conn.old).now.trees 1)) block.old.sender block.old.letters.items }
+    ensures before { IsTrusted (state S.Store conn.new) → IsTrusted (state S.Store conn.old) }
+    ensures lasts { Lasts (state S.Store conn.old) (state S.Store conn.new) }
+    ensures open { HasCleanDisk (state S.Store conn.new) → IsTrusted (state S.Store conn.old) → OnOk result (IsTrusted (state S.Store conn.new)) }
+    ensures same { IsTrusted (state S.Store conn.new) → Same (state S.Store conn.old) (state S.Store conn.new) }
+    ensures block { IsTrusted (state S.Store conn.new) → OnOk result (AreLettersOf (kept_rows ((state S.Store conn.new).now.trees 1)) block.new.sender block.new.letters.items) }
+    ensures ok { IsTrusted (state S.Store conn.new) → IfOk result (λ message. kept_message setup.now (kept_rows ((state S.Store conn.new).now.trees 1)) sender number ≡ Some message) }
+    ensures bad { IsTrusted (state S.Store conn.new) → result ≡ Err (KeepFault.Store Cause.BadRow) → IsCrowded ((state S.Store conn.new).now.trees 1) ⊎ (kept_message setup.now (kept_rows ((state S.Store conn.new).now.trees 1)) sender number ≡ None) }
+{
+    bring(alloc, conn, block, listed, sender, number)?;
+    match loaded_text(block, sender, number) {
+        Some(text) => said_there(alloc, setup, text, sender, number),
+        None => message_at(alloc, conn, setup, sender, number),
+    }
+}
+
 /// A message that was read, and the place at which it is kept.
 #[derive(Drop)]
 struct KeptAt {
@@ -91,19 +149,23 @@ fn read_at<S: Alter>(
     alloc: Global,
     conn: &mut Connection<S>,
     setup: &Setup,
+    block: &mut Block,
+    listed: Listed<'_>,
     sender: u32,
     number: u32,
 ) -> Result<KeptAt, KeepFault>
     requires ours { IsTrusted (state S.Store conn.old) → IsOurs (state S.Store conn.old) }
+    requires block { IsTrusted (state S.Store conn.old) → AreLettersOf (kept_rows ((state S.Store conn.old).now.trees 1)) block.old.sender block.old.letters.items }
     ensures before { IsTrusted (state S.Store conn.new) → IsTrusted (state S.Store conn.old) }
     ensures lasts { Lasts (state S.Store conn.old) (state S.Store conn.new) }
     ensures open { HasCleanDisk (state S.Store conn.new) → IsTrusted (state S.Store conn.old) → OnOk result (IsTrusted (state S.Store conn.new)) }
     ensures same { IsTrusted (state S.Store conn.new) → Same (state S.Store conn.old) (state S.Store conn.new) }
+    ensures block { IsTrusted (state S.Store conn.new) → OnOk result (AreLettersOf (kept_rows ((state S.Store conn.new).now.trees 1)) block.new.sender block.new.letters.items) }
     ensures place { IfOk result (λ kept. (kept.sender ≡ sender) × (kept.number ≡ number)) }
     ensures ok { IsTrusted (state S.Store conn.new) → IfOk result (λ kept. kept_message setup.now (kept_rows ((state S.Store conn.new).now.trees 1)) kept.sender kept.number ≡ Some kept.message) }
     ensures bad { IsTrusted (state S.Store conn.new) → result ≡ Err (KeepFault.Store Cause.BadRow) → IsCrowded ((state S.Store conn.new).now.trees 1) ⊎ (kept_message setup.now (kept_rows ((state S.Store conn.new).now.trees 1)) sender number ≡ None) }
 {
-    let message = message_at(alloc, conn, setup, sender, number)?;
+    let message = message_near(alloc, conn, setup, block, listed, sender, number)?;
     Ok(KeptAt {
         sender,
         number,
@@ -116,16 +178,20 @@ fn read_once<S: Alter>(
     alloc: Global,
     conn: &mut Connection<S>,
     setup: &Setup,
+    block: &mut Block,
+    listed: Listed<'_>,
     last: Option<KeptAt>,
     sender: u32,
     number: u32,
 ) -> Result<KeptAt, KeepFault>
     requires ours { IsTrusted (state S.Store conn.old) → IsOurs (state S.Store conn.old) }
+    requires block { IsTrusted (state S.Store conn.old) → AreLettersOf (kept_rows ((state S.Store conn.old).now.trees 1)) block.old.sender block.old.letters.items }
     requires last { IsTrusted (state S.Store conn.old) → IfSome last (λ kept. kept_message setup.now (kept_rows ((state S.Store conn.old).now.trees 1)) kept.sender kept.number ≡ Some kept.message) }
     ensures before { IsTrusted (state S.Store conn.new) → IsTrusted (state S.Store conn.old) }
     ensures lasts { Lasts (state S.Store conn.old) (state S.Store conn.new) }
     ensures open { HasCleanDisk (state S.Store conn.new) → IsTrusted (state S.Store conn.old) → OnOk result (IsTrusted (state S.Store conn.new)) }
     ensures same { IsTrusted (state S.Store conn.new) → Same (state S.Store conn.old) (state S.Store conn.new) }
+    ensures block { IsTrusted (state S.Store conn.new) → OnOk result (AreLettersOf (kept_rows ((state S.Store conn.new).now.trees 1)) block.new.sender block.new.letters.items) }
     ensures place { IfOk result (λ kept. (kept.sender ≡ sender) × (kept.number ≡ number)) }
     ensures ok { IsTrusted (state S.Store conn.new) → IfOk result (λ kept. kept_message setup.now (kept_rows ((state S.Store conn.new).now.trees 1)) kept.sender kept.number ≡ Some kept.message) }
     ensures bad { IsTrusted (state S.Store conn.new) → result ≡ Err (KeepFault.Store Cause.BadRow) → IsCrowded ((state S.Store conn.new).now.trees 1) ⊎ (kept_message setup.now (kept_rows ((state S.Store conn.new).now.trees 1)) sender number ≡ None) }
@@ -135,10 +201,10 @@ fn read_once<S: Alter>(
             if kept.sender == sender && kept.number == number {
                 Ok(kept)
             } else {
-                read_at(alloc, conn, setup, sender, number)
+                read_at(alloc, conn, setup, block, listed, sender, number)
             }
         }
-        None => read_at(alloc, conn, setup, sender, number),
+        None => read_at(alloc, conn, setup, block, listed, sender, number),
     }
 }
 
@@ -213,18 +279,22 @@ fn source_at<S: Alter>(
     alloc: Global,
     conn: &mut Connection<S>,
     setup: &Setup,
+    block: &mut Block,
+    listed: Listed<'_>,
     row: &Row,
 ) -> Result<SourceIn, KeepFault>
     requires ours { IsTrusted (state S.Store conn.old) → IsOurs (state S.Store conn.old) }
+    requires block { IsTrusted (state S.Store conn.old) → AreLettersOf (kept_rows ((state S.Store conn.old).now.trees 1)) block.old.sender block.old.letters.items }
     ensures before { IsTrusted (state S.Store conn.new) → IsTrusted (state S.Store conn.old) }
     ensures lasts { Lasts (state S.Store conn.old) (state S.Store conn.new) }
     ensures open { HasCleanDisk (state S.Store conn.new) → IsTrusted (state S.Store conn.old) → OnOk result (IsTrusted (state S.Store conn.new)) }
     ensures same { IsTrusted (state S.Store conn.new) → Same (state S.Store conn.old) (state S.Store conn.new) }
+    ensures block { IsTrusted (state S.Store conn.new) → OnOk result (AreLettersOf (kept_rows ((state S.Store conn.new).now.trees 1)) block.new.sender block.new.letters.items) }
     ensures ok { IsTrusted (state S.Store conn.new) → IfOk result (λ source. source_of setup.now (kept_rows ((state S.Store conn.new).now.trees 1)) row.now ≡ Some source) }
     ensures bad { IsTrusted (state S.Store conn.new) → result ≡ Err (KeepFault.Store Cause.BadRow) → row.now ≡ source_columns row.now → IsCrowded ((state S.Store conn.new).now.trees 1) ⊎ (source_of setup.now (kept_rows ((state S.Store conn.new).now.trees 1)) row.now ≡ None) }
 {
     let (name, sender, number) = source_entry(row)?;
-    let message = message_at(alloc, conn, setup, sender, number)?;
+    let message = message_near(alloc, conn, setup, block, listed, sender, number)?;
     match source_named(message, name, sender, number) {
         Some(source) => Ok(source),
         None => Err(KeepFault::Store(Cause::BadRow)),
@@ -262,11 +332,28 @@ fn sources_at<S: Alter>(
     ensures bad { IsTrusted (state S.Store conn.new) → result ≡ Err (KeepFault.Store Cause.BadRow) → ReadsEach source_columns (source_of setup.now (kept_rows ((state S.Store conn.new).now.trees 1))) rows.now → IsCrowded ((state S.Store conn.new).now.trees 1) }
 {
     let mut sources = Vec::new(alloc);
+    let mut block = no_block(alloc);
+    let columns = UPLOAD;
+    let listed = Listed { rows, columns };
     'rows: for row in rows {
-        let source = source_at(alloc, conn, setup, row)?;
+        let source = source_at(alloc, conn, setup, &mut block, listed, row)?;
         sources.push(source)?;
     }
     Ok(sources)
+}
+
+/// These sources by name, so that each goes into a suite behind those before it. Nothing rests on their order.
+fn by_name(sources: Vec<SourceIn>) -> Vec<SourceIn>
+    ensures { IsPermutation sources.items result.items }
+{
+    let mut sorted = sources;
+    sorted.sort_unstable_by(|source, other| order_sources(source, other));
+    sorted
+}
+
+/// The order of sources, by name.
+fn order_sources(source: &SourceIn, other: &SourceIn) -> Ordering {
+    source.name.as_str().cmp(other.name.as_str())
 }
 
 /// Puts these sources into a suite, one by one.
@@ -376,22 +463,35 @@ fn row_at<S: Alter>(
     alloc: Global,
     conn: &mut Connection<S>,
     setup: &Setup,
+    block: &mut Block,
+    listed: Listed<'_>,
     row: &Row,
     last: Option<KeptAt>,
 ) -> Result<(RowIn, KeptAt), KeepFault>
     requires ours { IsTrusted (state S.Store conn.old) → IsOurs (state S.Store conn.old) }
+    requires block { IsTrusted (state S.Store conn.old) → AreLettersOf (kept_rows ((state S.Store conn.old).now.trees 1)) block.old.sender block.old.letters.items }
     requires last { IsTrusted (state S.Store conn.old) → IfSome last (λ kept. kept_message setup.now (kept_rows ((state S.Store conn.old).now.trees 1)) kept.sender kept.number ≡ Some kept.message) }
     ensures before { IsTrusted (state S.Store conn.new) → IsTrusted (state S.Store conn.old) }
     ensures lasts { Lasts (state S.Store conn.old) (state S.Store conn.new) }
     ensures open { HasCleanDisk (state S.Store conn.new) → IsTrusted (state S.Store conn.old) → OnOk result (IsTrusted (state S.Store conn.new)) }
     ensures same { IsTrusted (state S.Store conn.new) → Same (state S.Store conn.old) (state S.Store conn.new) }
+    ensures block { IsTrusted (state S.Store conn.new) → OnOk result (AreLettersOf (kept_rows ((state S.Store conn.new).now.trees 1)) block.new.sender block.new.letters.items) }
     ensures known { IfOk result (λ given. IsArchPlace setup.now.archs given.0.arch) }
     ensures ok { IsTrusted (state S.Store conn.new) → IfOk result (λ given. row_of setup.now (kept_rows ((state S.Store conn.new).now.trees 1)) row.now ≡ Some given.0) }
     ensures held { IsTrusted (state S.Store conn.new) → IfOk result (λ given. kept_message setup.now (kept_rows ((state S.Store conn.new).now.trees 1)) given.1.sender given.1.number ≡ Some given.1.message) }
     ensures bad { IsTrusted (state S.Store conn.new) → result ≡ Err (KeepFault.Store Cause.BadRow) → row.now ≡ entry_columns row.now → IsCrowded ((state S.Store conn.new).now.trees 1) ⊎ (row_of setup.now (kept_rows ((state S.Store conn.new).now.trees 1)) row.now ≡ None) }
 {
     let entry = row_entry(row)?;
-    let kept = read_once(alloc, conn, setup, last, entry.sender, entry.number)?;
+    let kept = read_once(
+        alloc,
+        conn,
+        setup,
+        block,
+        listed,
+        last,
+        entry.sender,
+        entry.number,
+    )?;
     match row_named(alloc, setup.archs(), &kept.message, &entry)? {
         Some(given) => Ok((given, kept)),
         None => Err(KeepFault::Store(Cause::BadRow)),
@@ -413,20 +513,12 @@ fn entry_rows<S: Alter>(conn: &mut Connection<S>) -> Result<Vec<Row>, Error>
     )
 }
 
-/// The place of the message that a shown row of testing's rows names, 0 for a number that doesn't read.
-fn message_place(row: &Row) -> (u32, u32) {
-    (
-        number_in(row, 3).unwrap_or(0),
-        number_in(row, 4).unwrap_or(0),
-    )
-}
-
 /// These rows, those of one message side by side. Nothing rests on their order.
-fn by_message(rows: Vec<Row>) -> Vec<Row>
+fn by_message(rows: Vec<Row>, columns: Columns) -> Vec<Row>
     ensures { IsPermutation rows.items result.items }
 {
     let mut sorted = rows;
-    sorted.sort_unstable_by_key(|row| message_place(row));
+    sorted.sort_unstable_by_key(|row| message_place(row, columns));
     sorted
 }
 
@@ -448,8 +540,11 @@ fn rows_at<S: Alter>(
 {
     let mut given = Vec::new(alloc);
     let mut last = None;
+    let mut block = no_block(alloc);
+    let columns = BUILD;
+    let listed = Listed { rows, columns };
     'rows: for row in rows {
-        let (one, kept) = row_at(alloc, conn, setup, row, last)?;
+        let (one, kept) = row_at(alloc, conn, setup, &mut block, listed, row, last)?;
         last = Some(kept);
         given.push(one)?;
     }
@@ -514,9 +609,11 @@ pub fn testing<S: Alter>(
     ensures value { IsTrusted (state S.Store conn.new) → IfOk result (λ testing. testing ≡ suite_in setup.now (kept_rows ((state S.Store conn.new).now.trees 1)) (source_map ((state S.Store conn.new).now.trees 4)) (entry_map ((state S.Store conn.new).now.trees 6))) }
 {
     let named = source_rows(conn)?;
-    let sources = sources_at(alloc, conn, setup, named.as_slice())?;
+    let uploads = by_message(named, UPLOAD);
+    let read = sources_at(alloc, conn, setup, uploads.as_slice())?;
+    let sources = by_name(read);
     let found = entry_rows(conn)?;
-    let listed = by_message(found);
+    let listed = by_message(found, BUILD);
     let given = rows_at(alloc, conn, setup, listed.as_slice())?;
     let rows = by_key(given);
     gathered(alloc, sources, rows)

@@ -7,6 +7,7 @@ pub mod fact_rows;
 mod faults;
 pub mod finishing;
 pub mod mail;
+mod nearby;
 pub mod runs;
 pub mod said;
 mod testing;

@@ -23,6 +23,7 @@ rows-preserved g c =
       same = λ trusted. record { ours = (ensures.same trusted).ours; now = (ensures.same trusted).now ∙ (invariant.same (ensures.before trusted)).now };
       last = λ trusted. ensures.held trusted;
       known = each_pushed (λ (r : RowIn). IsArchPlace c.args.setup.now.archs r.arch) c.rows.given.items c.push.new.self.items c.in_ok-one.one c.in_ok-push.ensures.items invariant.known ensures.known;
+      block = λ trusted. ensures.block trusted;
       so_far = λ trusted.
           read_more (read new.now) c.args.rows.now c.rows.row-index c.row-item.result c.in_ok-one.one c.rows.given.items c.push.new.self.items c.rows-test.true c.row-item.is
           (subst (λ (d : Database). map (read d) (take c.rows.row-index c.args.rows.now) ≡ map Some c.rows.given.items) (sym (ensures.same trusted).now) (invariant.so_far (ensures.before trusted)))

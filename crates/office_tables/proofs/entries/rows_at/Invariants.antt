@@ -5,6 +5,7 @@ use Rattle.office_tables.specs.Tables.{IsTrusted, kept_rows, Lasts}
 use Rattle.office_tables.specs.TableSteps.{Same}
 use Rattle.std.specs.List.{AllByRecursion}
 use Rattle.office_keeper.specs.Provenance.{IsArchPlace}
+use Rattle.office_tables.specs.Nearby.{AreLettersOf}
 use Rattle.office_tables.specs.TableContent.{row_of, message_at}
 use Rattle.office_tables.proofs.entries.rows_at.Given as goal
 
@@ -17,5 +18,6 @@ invariant-rows g l = record {
   same : IsTrusted (state g.S.Store l.conn) → Same (state g.S.Store l.fn.conn) (state g.S.Store l.conn);
   last : IsTrusted (state g.S.Store l.conn) → IfSome l.last (λ kept. message_at l.setup (kept_rows ((state g.S.Store l.conn).now.trees 1)) kept.sender kept.number ≡ Some kept.message);
   known : AllByRecursion (λ r. IsArchPlace l.setup.archs r.arch) l.given.items;
+  block : IsTrusted (state g.S.Store l.conn) → AreLettersOf (kept_rows ((state g.S.Store l.conn).now.trees 1)) l.block.sender l.block.letters.items;
   so_far : IsTrusted (state g.S.Store l.conn) → map (row_of l.setup (kept_rows ((state g.S.Store l.conn).now.trees 1))) (take l.row-index l.rows) ≡ map Some l.given.items;
 }

@@ -11,15 +11,15 @@ returns-in_err-name-clause-bad g c trusted bad shown = inr (source_none c.args.s
 
 pub returns-in_err-message-clause-bad : goal.returns-in_err-message-clause-bad
 returns-in_err-message-clause-bad g c trusted bad shown =
-    let db = (state g.S.Store c.message_at.new.conn).now.trees in
+    let db = (state g.S.Store c.message_near.new.conn).now.trees in
     source_missing c.args.setup.now (kept_rows (db 1)) c.args.row.now (IsCrowded (db 1)) c.in_ok-name.name.now c.in_ok-name.sender c.in_ok-name.number c.in_ok-name.ensures.ok (c.in_err-message.ensures.bad trusted (passed c.from_residual-in_err-message.result c.in_err-message.field-0.0 _ bad c.from_residual-in_err-message.ensures.1))
 
 pub returns-in-Some-clause-ok : goal.returns-in-Some-clause-ok
 returns-in-Some-clause-ok g c trusted =
-    source_by_parts c.args.setup.now (kept_rows ((state g.S.Store c.message_at.new.conn).now.trees 1)) c.args.row.now c.in_ok-name.name.now c.in_ok-name.sender c.in_ok-name.number (Some c.in_ok-message.message) c.in_ok-name.ensures.ok (c.in_ok-message.ensures.ok trusted)
+    source_by_parts c.args.setup.now (kept_rows ((state g.S.Store c.message_near.new.conn).now.trees 1)) c.args.row.now c.in_ok-name.name.now c.in_ok-name.sender c.in_ok-name.number (Some c.in_ok-message.message) c.in_ok-name.ensures.ok (c.in_ok-message.ensures.ok trusted)
     ∙ sym c.in-Some.ensures
 
 pub returns-in-None-clause-bad : goal.returns-in-None-clause-bad
 returns-in-None-clause-bad g c trusted bad shown =
-    inr (source_by_parts c.args.setup.now (kept_rows ((state g.S.Store c.message_at.new.conn).now.trees 1)) c.args.row.now c.in_ok-name.name.now c.in_ok-name.sender c.in_ok-name.number (Some c.in_ok-message.message) c.in_ok-name.ensures.ok (c.in_ok-message.ensures.ok trusted)
+    inr (source_by_parts c.args.setup.now (kept_rows ((state g.S.Store c.message_near.new.conn).now.trees 1)) c.args.row.now c.in_ok-name.name.now c.in_ok-name.sender c.in_ok-name.number (Some c.in_ok-message.message) c.in_ok-name.ensures.ok (c.in_ok-message.ensures.ok trusted)
     ∙ sym c.in-None.ensures)

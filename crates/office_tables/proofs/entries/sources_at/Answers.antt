@@ -19,6 +19,7 @@ rows-preserved g c =
       lasts = lasts_then _ _ _ invariant.lasts ensures.lasts;
       still = λ clean trusted. ensures.open clean (invariant.still (clean_before _ _ ensures.lasts clean) trusted);
       same = λ trusted. record { ours = (ensures.same trusted).ours; now = (ensures.same trusted).now ∙ (invariant.same (ensures.before trusted)).now };
+      block = λ trusted. ensures.block trusted;
       so_far = λ trusted.
           read_more (read new.now) c.args.rows.now c.rows.row-index c.row-item.result c.in_ok-source.source c.rows.sources.items c.push.new.self.items c.rows-test.true c.row-item.is
           (subst (λ (d : Database). map (read d) (take c.rows.row-index c.args.rows.now) ≡ map Some c.rows.sources.items) (sym (ensures.same trusted).now) (invariant.so_far (ensures.before trusted)))

@@ -3,6 +3,7 @@ use Rattle.sqlite.specs.Held.{state}
 use Rattle.sqlite.specs.State.{HasCleanDisk}
 use Rattle.office_tables.specs.Tables.{IsTrusted, kept_rows, Lasts}
 use Rattle.office_tables.specs.TableSteps.{Same}
+use Rattle.office_tables.specs.Nearby.{AreLettersOf}
 use Rattle.office_tables.specs.TableContent.{source_of}
 use Rattle.office_tables.proofs.entries.sources_at.Given as goal
 
@@ -13,5 +14,6 @@ invariant-rows g l = record {
   lasts : Lasts (state g.S.Store l.fn.conn) (state g.S.Store l.conn);
   still : HasCleanDisk (state g.S.Store l.conn) → IsTrusted (state g.S.Store l.fn.conn) → IsTrusted (state g.S.Store l.conn);
   same : IsTrusted (state g.S.Store l.conn) → Same (state g.S.Store l.fn.conn) (state g.S.Store l.conn);
+  block : IsTrusted (state g.S.Store l.conn) → AreLettersOf (kept_rows ((state g.S.Store l.conn).now.trees 1)) l.block.sender l.block.letters.items;
   so_far : IsTrusted (state g.S.Store l.conn) → map (source_of l.setup (kept_rows ((state g.S.Store l.conn).now.trees 1))) (take l.row-index l.rows) ≡ map Some l.sources.items;
 }

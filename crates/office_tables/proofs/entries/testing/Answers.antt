@@ -20,7 +20,7 @@ use Rattle.office_tables.proofs.entries.testing.Goals as goal
 pub returns-clause-known : goal.returns-clause-known
 returns-clause-known g c =
     let known = λ (r : RowIn). IsArchPlace c.args.setup.now.archs r.arch in
-    known_on c.args.setup.now.archs c.in_ok-sources.sources.items c.by_key-rows.result.items c.gathered.result
+    known_on c.args.setup.now.archs c.by_name-sources.result.items c.by_key-rows.result.items c.gathered.result
     (recursion_from_All known c.by_key-rows.result.items (All-permutation known c.in_ok-given.given.items c.by_key-rows.result.items c.by_key-rows.ensures (All-from_recursion known c.in_ok-given.given.items c.in_ok-given.ensures.known)))
     c.gathered.ensures.ok
 
@@ -28,31 +28,36 @@ pub returns-clause-value : goal.returns-clause-value
 returns-clause-value g c fourth =
     let third = c.in_ok-given.ensures.before fourth in
     let second = c.in_ok-found.ensures.before third in
-    let first = c.in_ok-sources.ensures.before second in
+    let first = c.in_ok-read.ensures.before second in
     let one = state g.S.Store c.source_rows.new.conn in
     let two = state g.S.Store c.sources_at.new.conn in
     let three = state g.S.Store c.entry_rows.new.conn in
     let four = state g.S.Store c.rows_at.new.conn in
-    let b : two.now ≡ one.now = (c.in_ok-sources.ensures.same second).now in
+    let b : two.now ≡ one.now = (c.in_ok-read.ensures.same second).now in
     let d : three.now ≡ two.now = (c.in_ok-found.ensures.same third).now in
     let e : four.now ≡ three.now = (c.in_ok-given.ensures.same fourth).now in
+    let uploads = c.by_message-uploads.result.items in
+    let named = subst (λ (x : Database). IsPermutation (map source_columns (x.trees 4)) uploads) (sym (e ∙ d ∙ b)) (IsPermutation-trans (map source_columns (one.now.trees 4)) c.in_ok-named.named.items uploads (c.in_ok-named.ensures.rows first) c.by_message-uploads.ensures) in
+    let said = subst (λ (x : Database). map (source_of c.args.setup.now (kept_rows (x.trees 1))) uploads ≡ map Some c.in_ok-read.read.items) (sym (e ∙ d)) (rw c.as_slice.ensures.value at (c.in_ok-read.ensures.ok second)) in
+    let sources = reordered (source_of c.args.setup.now (kept_rows (four.now.trees 1))) uploads c.in_ok-read.read.items c.by_name-sources.result.items said c.by_name-sources.ensures in
     let put = reordered (row_of c.args.setup.now (kept_rows (four.now.trees 1))) c.by_message-listed.result.items c.in_ok-given.given.items c.by_key-rows.result.items (rw c.as_slice-2.ensures.value at (c.in_ok-given.ensures.ok fourth)) c.by_key-rows.ensures in
-    gathered_on c.args.setup.now (kept_rows (four.now.trees 1)) (four.now.trees 4) (four.now.trees 6) c.in_ok-named.named.items put.rows c.in_ok-sources.sources.items c.by_key-rows.result.items c.gathered.result
-    (subst (λ (x : Database). IsPermutation (map source_columns (x.trees 4)) c.in_ok-named.named.items) (sym (e ∙ d ∙ b)) (c.in_ok-named.ensures.rows first))
+    gathered_on c.args.setup.now (kept_rows (four.now.trees 1)) (four.now.trees 4) (four.now.trees 6) sources.rows put.rows c.by_name-sources.result.items c.by_key-rows.result.items c.gathered.result
+    (IsPermutation-trans (map source_columns (four.now.trees 4)) uploads sources.rows named sources.same)
     (subst (λ (x : Database). IsPermutation (map entry_columns (x.trees 6)) put.rows) (sym e) (IsPermutation-trans (map entry_columns (three.now.trees 6)) c.by_message-listed.result.items put.rows (IsPermutation-trans (map entry_columns (three.now.trees 6)) c.in_ok-found.found.items c.by_message-listed.result.items (c.in_ok-found.ensures.rows third) c.by_message-listed.ensures) put.same))
-    (subst (λ (x : Database). map (source_of c.args.setup.now (kept_rows (x.trees 1))) c.in_ok-named.named.items ≡ map Some c.in_ok-sources.sources.items) (sym (e ∙ d)) (rw c.as_slice.ensures.value at (c.in_ok-sources.ensures.ok second)))
+    sources.reads
     put.reads
     c.gathered.ensures.ok
 
-pub returns-in_err-sources-clause-bad : goal.returns-in_err-sources-clause-bad
-returns-in_err-sources-clause-bad g c second whole named bad =
-    let ensures = c.in_err-sources.ensures in
+pub returns-in_err-read-clause-bad : goal.returns-in_err-read-clause-bad
+returns-in_err-read-clause-bad g c second whole named bad =
+    let ensures = c.in_err-read.ensures in
     let one = state g.S.Store c.source_rows.new.conn in
     let two = state g.S.Store c.sources_at.new.conn in
     let setup = c.args.setup.now in
-    let shown = subst (λ (d : Database). IsPermutation (map source_columns (d.trees 4)) c.in_ok-named.named.items) (sym (ensures.same second).now) (c.in_ok-named.ensures.rows (ensures.before second)) in
-    let reads = sources_read setup (kept_rows (two.now.trees 1)) (two.now.trees 4) c.in_ok-named.named.items shown named.sources named.source in
-    not_crowded (two.now.trees 1) whole (ensures.bad second (passed c.from_residual-in_err-sources.result c.in_err-sources.field-0.0 _ bad c.from_residual-in_err-sources.ensures.1)
+    let uploads = c.by_message-uploads.result.items in
+    let shown = subst (λ (d : Database). IsPermutation (map source_columns (d.trees 4)) uploads) (sym (ensures.same second).now) (IsPermutation-trans (map source_columns (one.now.trees 4)) c.in_ok-named.named.items uploads (c.in_ok-named.ensures.rows (ensures.before second)) c.by_message-uploads.ensures) in
+    let reads = sources_read setup (kept_rows (two.now.trees 1)) (two.now.trees 4) uploads shown named.sources named.source in
+    not_crowded (two.now.trees 1) whole (ensures.bad second (passed c.from_residual-in_err-read.result c.in_err-read.field-0.0 _ bad c.from_residual-in_err-read.ensures.1)
     (subst (λ (rows : List Row). ReadsEach source_columns (source_of setup (kept_rows (two.now.trees 1))) rows) (sym c.as_slice.ensures.value) reads))
 
 pub returns-in_err-given-clause-bad : goal.returns-in_err-given-clause-bad
@@ -70,18 +75,20 @@ pub returns-clause-bad : goal.returns-clause-bad
 returns-clause-bad g c fourth whole named bad =
     let third = c.in_ok-given.ensures.before fourth in
     let second = c.in_ok-found.ensures.before third in
-    let first = c.in_ok-sources.ensures.before second in
+    let first = c.in_ok-read.ensures.before second in
     let one = state g.S.Store c.source_rows.new.conn in
     let two = state g.S.Store c.sources_at.new.conn in
     let three = state g.S.Store c.entry_rows.new.conn in
     let four = state g.S.Store c.rows_at.new.conn in
     let setup = c.args.setup.now in
-    let b : two.now ≡ one.now = (c.in_ok-sources.ensures.same second).now in
+    let b : two.now ≡ one.now = (c.in_ok-read.ensures.same second).now in
     let d : three.now ≡ two.now = (c.in_ok-found.ensures.same third).now in
     let e : four.now ≡ three.now = (c.in_ok-given.ensures.same fourth).now in
-    let sources = subst (λ (x : Database). IsPermutation (map source_columns (x.trees 4)) c.in_ok-named.named.items) (sym (e ∙ d ∙ b)) (c.in_ok-named.ensures.rows first) in
+    let uploads = c.by_message-uploads.result.items in
+    let shown = subst (λ (x : Database). IsPermutation (map source_columns (x.trees 4)) uploads) (sym (e ∙ d ∙ b)) (IsPermutation-trans (map source_columns (one.now.trees 4)) c.in_ok-named.named.items uploads (c.in_ok-named.ensures.rows first) c.by_message-uploads.ensures) in
+    let said = subst (λ (x : Database). map (source_of setup (kept_rows (x.trees 1))) uploads ≡ map Some c.in_ok-read.read.items) (sym (e ∙ d)) (rw c.as_slice.ensures.value at (c.in_ok-read.ensures.ok second)) in
+    let sources = reordered (source_of setup (kept_rows (four.now.trees 1))) uploads c.in_ok-read.read.items c.by_name-sources.result.items said c.by_name-sources.ensures in
     let put = reordered (row_of setup (kept_rows (four.now.trees 1))) c.by_message-listed.result.items c.in_ok-given.given.items c.by_key-rows.result.items (rw c.as_slice-2.ensures.value at (c.in_ok-given.ensures.ok fourth)) c.by_key-rows.ensures in
     let rows = subst (λ (x : Database). IsPermutation (map entry_columns (x.trees 6)) put.rows) (sym e) (IsPermutation-trans (map entry_columns (three.now.trees 6)) c.by_message-listed.result.items put.rows (IsPermutation-trans (map entry_columns (three.now.trees 6)) c.in_ok-found.found.items c.by_message-listed.result.items (c.in_ok-found.ensures.rows third) c.by_message-listed.ensures) put.same) in
-    let said = subst (λ (x : Database). map (source_of setup (kept_rows (x.trees 1))) c.in_ok-named.named.items ≡ map Some c.in_ok-sources.sources.items) (sym (e ∙ d)) (rw c.as_slice.ensures.value at (c.in_ok-sources.ensures.ok second)) in
-    c.gathered.ensures.bad bad (sources_put setup (kept_rows (four.now.trees 1)) (four.now.trees 4) c.in_ok-named.named.items sources named.sources c.in_ok-sources.sources.items said)
+    c.gathered.ensures.bad bad (sources_put setup (kept_rows (four.now.trees 1)) (four.now.trees 4) sources.rows (IsPermutation-trans (map source_columns (four.now.trees 4)) uploads sources.rows shown sources.same) named.sources c.by_name-sources.result.items sources.reads)
     (rows_put setup (kept_rows (four.now.trees 1)) (four.now.trees 6) put.rows rows named.rows c.by_key-rows.result.items put.reads)
