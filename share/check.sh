@@ -236,7 +236,7 @@ package_is_clean() {
 }
 
 options_are_told() {
-    for command in compare replay serve; do
+    for command in compare replay serve waiting report; do
         "$program" "$command" --help | sed -n 's/^  *\(-h, \)\{0,1\}--\([a-z]*\).*/\2/p' > "$work/options"
         grep -qx help "$work/options" || { echo "$command --help tells no option" && return 1; }
         while read -r option; do
@@ -246,6 +246,13 @@ options_are_told() {
             done
         done < "$work/options"
     done
+}
+
+# The program's version is the newest one that the list of changes names.
+version_is_told() {
+    newest=$(sed -n 's/^## \([0-9.]*\).*/\1/p' ../CHANGELOG.md | head -n 1)
+    "$program" --version > "$work/version" || return 1
+    [ "$(head -n 1 "$work/version")" = "office $newest" ] || { cat "$work/version" && return 1; }
 }
 
 example_is_true() {
@@ -306,6 +313,7 @@ if [ -n "$program" ]; then
     OFFICE=$program
     export OFFICE
     try "manual page and completions: the options of the program's help" options_are_told
+    try "the program's version, and that of CHANGELOG.md" version_is_told
     try "manual page: the replay of its example" example_is_true
     try_by sqlite3 "office-export: a store's mail as a bag" store_is_exported
     try_by sqlite3 "office-check-store: a store as it was left" \

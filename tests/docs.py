@@ -31,8 +31,9 @@ NOT_RUN = [
 ]
 # What is run in the place of a command: the program is given, so it isn't built first.
 INSTEAD = [(r'\brt run -- ', 'office ')]
-# Commands that end with another status than 0: here nothing is refused, so grep finds nothing.
-ENDS = {"office replay --conf examples/setup.conf < bag |\n    sed '/^ready /,$d' | grep -n refused": 1}
+# Commands that end with another status than 0: here nothing is refused, so grep finds nothing; a run waits for mail.
+ENDS = {"office replay --conf examples/setup.conf < bag |\n    sed '/^ready /,$d' | grep -n refused": 1,
+        'office waiting --conf examples/setup.conf < part': 1}
 # What a document takes as given, made before its commands.
 GIVEN = {'share/man/office.1': 'cp examples/setup.conf setup.conf; cp examples/archive/01-ftp-1-upload-lib message'}
 

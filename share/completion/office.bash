@@ -41,7 +41,7 @@ _office() {
         --port | --connections) return ;;
     esac
     if ((COMP_CWORD == 1)); then
-        _office_words 'compare replay serve --help' "$current"
+        _office_words 'compare replay serve waiting report --help --version' "$current"
         return
     fi
     case $command in
@@ -51,7 +51,14 @@ _office() {
                 3) _office_words 'lt le eq ge gt' "$current" ;;
             esac
             ;;
-        replay) _office_words "$(_office_options --conf --db)" "$current" ;;
+        replay | waiting) _office_words "$(_office_options --conf --db)" "$current" ;;
+        report)
+            case $COMP_CWORD in
+                2) _office_words 'testing' "$current" ;;
+                3) [[ ${COMP_WORDS[2]} == [0-9]* ]] && _office_words 'excuses update' "$current" ;;
+            esac
+            _office_words "$(_office_options --conf --db)" "$current"
+            ;;
         serve) _office_words "$(_office_options --conf --port --db --connections)" "$current" ;;
     esac
 }

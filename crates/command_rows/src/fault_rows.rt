@@ -1,6 +1,5 @@
-// The sentences of faults: of a store, of arguments, and of a setup's file that isn't there.
+// The sentences of faults: of a store, and of a setup's file that isn't there.
 use office_commands::{StoreFault, conf_status, read_setup, store_status};
-use office_words::{ArgsFault, args_status};
 use sqlite::{Error, ErrorCode};
 use std::test::Fail;
 
@@ -30,26 +29,6 @@ fn faults_of_a_store(rt: HostRuntime) -> Result<(), Fail> {
         let text = format!(in alloc; "{fault}")?;
         assert_eq!(rt; text.as_str(), due);
         assert_eq!(rt; store_status(&fault), 4, "at {due}");
-    }
-    Ok(())
-}
-
-/// Want of memory while the arguments are read, and an argument that is no text, as sentences.
-#[test]
-fn faults_of_arguments(rt: HostRuntime) -> Result<(), Fail> {
-    let alloc = rt.alloc();
-    let rows = [
-        (ArgsFault::NoMemory, "out of memory", 4),
-        (
-            ArgsFault::NotUtf8,
-            "the arguments can't be read: one isn't UTF-8",
-            2,
-        ),
-    ];
-    for (fault, due, status) in rows {
-        let text = format!(in alloc; "{fault}")?;
-        assert_eq!(rt; text.as_str(), due);
-        assert_eq!(rt; args_status(&fault), status, "at {due}");
     }
     Ok(())
 }

@@ -2,8 +2,6 @@
 #![tactic(auto)]
 
 #[cfg(test)]
-mod compare_rows;
-#[cfg(test)]
 mod fault_rows;
 #[cfg(test)]
 mod service_rows;

@@ -1,5 +1,6 @@
-//! Tests alone: worked rows of versions, control data, installable rows, bags, setups and messages, through the public
-//! calls of four libraries, which so have no tests of their own, for which they would be proved once more.
+//! Tests alone: worked rows of versions, control data, installable rows, bags, setups, messages and the program's words,
+//! through the public calls of five libraries, which so have no tests of their own, for which they would be proved once
+//! more.
 #![tactic(auto)]
 
 #[cfg(test)]
@@ -17,3 +18,5 @@ mod sweeps;
 mod trial_rows;
 #[cfg(test)]
 mod version_rows;
+#[cfg(test)]
+mod word_rows;

@@ -1,10 +1,11 @@
-//! What the office's program does with an office: it replays bags of mail from standard input, and serves mail and
-//! reports over HTTP on loopback, over a store in memory or in a file.
+//! What the office's program does with an office: it replays bags of mail from standard input, serves mail and reports
+//! over HTTP on loopback, and tells earlier reports and what a run waits for, over a store in memory or in a file.
 #![tactic(auto)]
 
 mod noted;
 mod service;
 mod tasks;
+mod telling;
 mod timed;
 
 pub use office_files::{

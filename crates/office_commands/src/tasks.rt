@@ -1,15 +1,16 @@
-//! What the program's words ask for: a comparison, or a replay or a service over a store.
+//! What the program's words ask for: a comparison, the version, or a task over a store.
 
 use crate::noted::Noted;
 use crate::service::{serve, service_status};
+use crate::telling::{tell_report, tell_version, tell_waiting};
 use office_files::{StoreFault, close_store, conf_status, open_store, read_setup, store_status};
 use office_http::{Office, Replayed, WriteFault, replay, replay_status};
 use office_mail::{Bag, BagFault, FromRead, Setup, ToWrite};
 use office_store::{Keeper, Plain, Tables};
-use office_words::{Words, compare};
+use office_words::{Report, Words, compare, refuse_report};
 use sqlite::{File, FileStore, Unknown};
-use std::io;
 use std::io::{BufWriter, Write};
+use std::{fs, io};
 
 /// The exit status where memory ran out.
 const FAILED: u8 = 4;
@@ -21,6 +22,12 @@ enum Task {
     Replay,
     /// So many connections are served on a port.
     Serve { port: u32, connections: u32 },
+    /// What the first run that isn't ready waits for is told.
+    Waiting,
+    /// The same, once the bag on standard input is delivered.
+    BagWaiting,
+    /// A report is told.
+    Report(Report),
 }
 
 /// Does what words ask for, and gives the exit status.
@@ -34,6 +41,11 @@ pub fn run_command(rt: &HostRuntime, words: Words) -> u8 {
             db,
             connections,
         } => run_for(rt, conf, db, Task::Serve { port, connections }),
+        Words::Waiting { conf, db: None } => run_for(rt, conf, None, Task::BagWaiting),
+        Words::Waiting { conf, db } => run_for(rt, conf, db, Task::Waiting),
+        Words::Report { conf, db, report } => run_for(rt, conf, Some(db), Task::Report(report)),
+        Words::UnknownReport { run, report } => refuse_report(rt, run, report),
+        Words::Version => tell_version(rt),
     }
 }
 
@@ -56,8 +68,20 @@ fn run_for(rt: &HostRuntime, conf: &str, db: Option<&str>, task: Task) -> u8 {
     }
 }
 
+/// Looks whether the file is there that a task tells of. Only a replay and a service make one.
+fn look_at(rt: &HostRuntime, path: &str, task: Task) -> io::Result<()> {
+    match task {
+        Task::Waiting | Task::Report(_) => fs::open(rt, path).map(drop),
+        Task::Replay | Task::Serve { .. } | Task::BagWaiting => Ok(()),
+    }
+}
+
 /// Does a task in an office whose store is in a file.
 fn run_stored(rt: &HostRuntime, path: &str, setup: Setup, task: Task) -> u8 {
+    if let Err(fault) = look_at(rt, path, task) {
+        let _ = eprintln!(rt; "office: {path}: the file can't be read: {fault}");
+        return FAILED;
+    }
     match open_store(rt, path, Unknown, &setup) {
         Ok(tables) => {
             let mut office = Office::new(rt.alloc(), setup, tables);
@@ -95,15 +119,32 @@ fn run_over<K: Keeper>(rt: &HostRuntime, office: &mut Office<K>, task: Task) -> 
     match task {
         Task::Replay => replay_over(rt, office),
         Task::Serve { port, connections } => serve_over(rt, office, port, connections),
+        Task::Waiting => tell_waiting(rt, office),
+        Task::BagWaiting => deliver_and_tell(rt, office),
+        Task::Report(report) => tell_report(rt, office, report),
     }
 }
 
-/// Replays the bag on standard input in an office.
+/// Replays the bag on standard input in an office, and prints what came of it.
 fn replay_over<K: Keeper>(rt: &HostRuntime, office: &mut Office<K>) -> u8 {
     let Ok(mut output) = BufWriter::new(rt.alloc(), rt.stdout()) else {
         return out_of_memory(rt);
     };
-    let mut writer = ToWrite::new(&mut output);
+    replay_to(rt, office, &mut output)
+}
+
+/// Delivers the bag on standard input, and tells what the first run that isn't ready waits for. Where the bag is refused
+/// or mail was lost, that alone is told.
+fn deliver_and_tell<K: Keeper>(rt: &HostRuntime, office: &mut Office<K>) -> u8 {
+    match replay_to(rt, office, &mut io::sink()) {
+        0 => tell_waiting(rt, office),
+        status => status,
+    }
+}
+
+/// Replays the bag on standard input in an office, and gives the exit status.
+fn replay_to<K: Keeper, W: Write>(rt: &HostRuntime, office: &mut Office<K>, output: &mut W) -> u8 {
+    let mut writer = ToWrite::new(&mut *output);
     let mut input = Noted::new(rt.stdin());
     let mut bag = Bag::new(rt.alloc(), FromRead::new(&mut input));
     let mut replayed = replay(office, &mut bag, &mut writer);

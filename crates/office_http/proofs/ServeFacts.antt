@@ -22,6 +22,7 @@ use Rattle.office_replies.specs.declared.faults.StoreFault.{StoreFault}
 use Rattle.office_replies.specs.declared.faults.StoreFault.TheVariants as fault
 use Rattle.office_replies.specs.declared.replies.Mark.{Mark}
 use Rattle.office_replies.specs.declared.replies.Mark.TheVariants.{Taken, LostForMemory, LostForStore}
+use Rattle.office_replies.specs.declared.waiting.Awaited.TheVariants.{Order}
 use Rattle.office_requests.specs.declared.reply.Refusal.{Refusal}
 use Rattle.office_requests.specs.declared.reply.Refusal.TheVariants as refusal
 use Rattle.office_requests.specs.declared.reply.Answer.{Answer}
@@ -47,7 +48,7 @@ use Rattle.office_runs.specs.OfficeState.{OfficeState}
 use Rattle.office_runs.specs.State.{answer_to, reports_at}
 use Rattle.office_replies.specs.Written.{AppendsFront}
 use Rattle.office_http.specs.Serve.{refusal_for, report_answer, delivery_answer, by_fault, posted_body, post_answer, answer_of, post_counts, waits_of, continued, kept_by, settles, Does, Exchange, IsUnread, IsServed, Replied, RepliedFront, Serves, IsAwaited, StopsBefore, StopsServe}
-use Rattle.office_http.specs.ServeSteps.{status_answer, text_answer, Tells, Runs, Answers, ServesHead, ServesFront, StopsRequest}
+use Rattle.office_http.specs.ServeSteps.{status_answer, text_answer, Tells, TellsAwaited, Runs, Answers, ServesHead, ServesFront, StopsRequest}
 use Rattle.office_runs.proofs.ReplayFacts.{Leaves, reply_by-mark, delivery_counted, kept_after}
 use Rattle.office_runs.proofs.RiseFacts.{delivery_weaker, text_weaker}
 use Rattle.office_runs.specs.DeliverySteps.{Settles}
@@ -55,24 +56,29 @@ use Rattle.office_replies.proofs.WrittenFacts.{front_after}
 
 -- pages
 pub told_status : (rose : Type 0) (s : OfficeState) (r : Result Progress StoreFault) → IfOk r (λ p. IsReadyCount s.setup s.kept p.ready) → IfOk r (λ p. p.finished ≡ s.finished) → (r ≡ Err fault.Store → rose) → Tells s page.Status (status_answer r) rose
-told_status rose s (Ok p) counted finished err = record { fault = None; by_store = tt; ready = p.ready; counts = λ e h. counted; answer_is = ap (λ (n : ℕ). Status (record { ready = p.ready; finished = n })) finished }
-told_status rose s (Err fault.NoMemory) counted finished err = record { fault = Some fault.NoMemory; by_store = tt; ready = 0; counts = λ e. absurd (cc (e)); answer_is = refl }
-told_status rose s (Err fault.Store) counted finished err = record { fault = Some fault.Store; by_store = err refl; ready = 0; counts = λ e. absurd (cc (e)); answer_is = refl }
+told_status rose s (Ok p) counted finished err = record { fault = None; by_store = tt; ready = p.ready; counts = λ e h. counted; awaited = Order; awaits = λ e h. absurd (cc (h)); answer_is = ap (λ (n : ℕ). Status (record { ready = p.ready; finished = n })) finished }
+told_status rose s (Err fault.NoMemory) counted finished err = record { fault = Some fault.NoMemory; by_store = tt; ready = 0; counts = λ e. absurd (cc (e)); awaited = Order; awaits = λ e. absurd (cc (e)); answer_is = refl }
+told_status rose s (Err fault.Store) counted finished err = record { fault = Some fault.Store; by_store = err refl; ready = 0; counts = λ e. absurd (cc (e)); awaited = Order; awaits = λ e. absurd (cc (e)); answer_is = refl }
 
 pub told_testing : (rose : Type 0) (s : OfficeState) (r : Result (List ℕ) StoreFault) → IfOk r (λ t. t ≡ testing_text s.setup s.finished (testing_after s.setup s.kept s.finished)) → (r ≡ Err fault.Store → rose) → Tells s page.Testing (text_answer r) rose
-told_testing rose s (Ok t) is err = record { fault = None; by_store = tt; ready = 0; counts = λ e h. absurd (cc (h)); answer_is = ap Told is }
-told_testing rose s (Err fault.NoMemory) is err = record { fault = Some fault.NoMemory; by_store = tt; ready = 0; counts = λ e. absurd (cc (e)); answer_is = refl }
-told_testing rose s (Err fault.Store) is err = record { fault = Some fault.Store; by_store = err refl; ready = 0; counts = λ e. absurd (cc (e)); answer_is = refl }
+told_testing rose s (Ok t) is err = record { fault = None; by_store = tt; ready = 0; counts = λ e h. absurd (cc (h)); awaited = Order; awaits = λ e h. absurd (cc (h)); answer_is = ap Told is }
+told_testing rose s (Err fault.NoMemory) is err = record { fault = Some fault.NoMemory; by_store = tt; ready = 0; counts = λ e. absurd (cc (e)); awaited = Order; awaits = λ e. absurd (cc (e)); answer_is = refl }
+told_testing rose s (Err fault.Store) is err = record { fault = Some fault.Store; by_store = err refl; ready = 0; counts = λ e. absurd (cc (e)); awaited = Order; awaits = λ e. absurd (cc (e)); answer_is = refl }
 
 pub told_excuses : (rose : Type 0) (s : OfficeState) (run : ℕ) (r : Result (Option (List ℕ)) StoreFault) → IfOk r (λ t. t ≡ option_map (λ reports. reports.excuses) (reports_at s run)) → (r ≡ Err fault.Store → rose) → Tells s (page.Excuses run) (report_answer r) rose
-told_excuses rose s run (Ok t) is err = record { fault = None; by_store = tt; ready = 0; counts = λ e h. absurd (cc (h)); answer_is = ap (λ (o : Option (List ℕ)). report_answer (Ok o)) is }
-told_excuses rose s run (Err fault.NoMemory) is err = record { fault = Some fault.NoMemory; by_store = tt; ready = 0; counts = λ e. absurd (cc (e)); answer_is = refl }
-told_excuses rose s run (Err fault.Store) is err = record { fault = Some fault.Store; by_store = err refl; ready = 0; counts = λ e. absurd (cc (e)); answer_is = refl }
+told_excuses rose s run (Ok t) is err = record { fault = None; by_store = tt; ready = 0; counts = λ e h. absurd (cc (h)); awaited = Order; awaits = λ e h. absurd (cc (h)); answer_is = ap (λ (o : Option (List ℕ)). report_answer (Ok o)) is }
+told_excuses rose s run (Err fault.NoMemory) is err = record { fault = Some fault.NoMemory; by_store = tt; ready = 0; counts = λ e. absurd (cc (e)); awaited = Order; awaits = λ e. absurd (cc (e)); answer_is = refl }
+told_excuses rose s run (Err fault.Store) is err = record { fault = Some fault.Store; by_store = err refl; ready = 0; counts = λ e. absurd (cc (e)); awaited = Order; awaits = λ e. absurd (cc (e)); answer_is = refl }
 
 pub told_update : (rose : Type 0) (s : OfficeState) (run : ℕ) (r : Result (Option (List ℕ)) StoreFault) → IfOk r (λ t. t ≡ option_map (λ reports. reports.updates) (reports_at s run)) → (r ≡ Err fault.Store → rose) → Tells s (page.Update run) (report_answer r) rose
-told_update rose s run (Ok t) is err = record { fault = None; by_store = tt; ready = 0; counts = λ e h. absurd (cc (h)); answer_is = ap (λ (o : Option (List ℕ)). report_answer (Ok o)) is }
-told_update rose s run (Err fault.NoMemory) is err = record { fault = Some fault.NoMemory; by_store = tt; ready = 0; counts = λ e. absurd (cc (e)); answer_is = refl }
-told_update rose s run (Err fault.Store) is err = record { fault = Some fault.Store; by_store = err refl; ready = 0; counts = λ e. absurd (cc (e)); answer_is = refl }
+told_update rose s run (Ok t) is err = record { fault = None; by_store = tt; ready = 0; counts = λ e h. absurd (cc (h)); awaited = Order; awaits = λ e h. absurd (cc (h)); answer_is = ap (λ (o : Option (List ℕ)). report_answer (Ok o)) is }
+told_update rose s run (Err fault.NoMemory) is err = record { fault = Some fault.NoMemory; by_store = tt; ready = 0; counts = λ e. absurd (cc (e)); awaited = Order; awaits = λ e. absurd (cc (e)); answer_is = refl }
+told_update rose s run (Err fault.Store) is err = record { fault = Some fault.Store; by_store = err refl; ready = 0; counts = λ e. absurd (cc (e)); awaited = Order; awaits = λ e. absurd (cc (e)); answer_is = refl }
+
+pub told_waiting : (rose : Type 0) (s : OfficeState) (r : Result (List ℕ) StoreFault) → IfOk r (λ text. TellsAwaited s text) → (r ≡ Err fault.Store → rose) → Tells s page.Waiting (text_answer r) rose
+told_waiting rose s (Ok t) h err = record { fault = None; by_store = tt; ready = h.ready; counts = λ e g. h.counts; awaited = h.awaited; awaits = λ e g. h.awaits; answer_is = ap Told h.text_is }
+told_waiting rose s (Err fault.NoMemory) h err = record { fault = Some fault.NoMemory; by_store = tt; ready = 0; counts = λ e. absurd (cc (e)); awaited = Order; awaits = λ e. absurd (cc (e)); answer_is = refl }
+told_waiting rose s (Err fault.Store) h err = record { fault = Some fault.Store; by_store = err refl; ready = 0; counts = λ e. absurd (cc (e)); awaited = Order; awaits = λ e. absurd (cc (e)); answer_is = refl }
 
 -- an answer that names no sender has a place for its name
 pub place_status : (setup : Lists) (r : Result Progress StoreFault) → HasPlace setup (status_answer r)
@@ -213,6 +219,8 @@ short_answers rose s l0 l1 w0 w1 front asked more goes_on took few wrote waited 
   ready = 0;
   whole = λ e. absurd (cc (e));
   counts = λ e. absurd (cc (e));
+  awaited = Order;
+  awaits = λ e. absurd (cc (e));
   answer_is = refl;
   does = does_nothing rose s (posted_body asked (front ++ more)) fault.NoMemory 0 tt;
   goes_on = goes_on;
@@ -231,6 +239,8 @@ refused_answers rose s l w front r due e = subst (λ (a : Asked). Answers s s l 
   ready = 0;
   whole = λ e. tt;
   counts = λ e h. absurd (cc (h));
+  awaited = Order;
+  awaits = λ e h. absurd (cc (h));
   answer_is = refl;
   does = refl;
   goes_on = false;
@@ -249,6 +259,8 @@ told_answers rose s s' l w front p answer due e t same = subst (λ (a : Asked). 
   ready = t.ready;
   whole = λ e. tt;
   counts = t.counts;
+  awaited = t.awaited;
+  awaits = t.awaits;
   answer_is = t.answer_is;
   does = same;
   goes_on = false;
@@ -283,6 +295,8 @@ whole_answers rose before after l0 l1 w0 w1 front p answer more body took few lo
       ready = r.ready;
       whole = λ e. inl long;
       counts = λ e h. r.counts e (sym (ap post_counts is) ∙ h);
+      awaited = Order;
+      awaits = λ e h. absurd (cc (h));
       answer_is = r.answer_is ∙ ap (λ (o : Option (Action × List ℕ)). by_fault r.fault (post_answer before r.ready o)) (sym is);
       does = subst (λ (o : Option (Action × List ℕ)). Does before after o r.fault r.ready rose) (sym is) r.moves;
       goes_on = p.waits;
@@ -321,12 +335,14 @@ exchanged rose before after l0 l1 w0 w1 seen headers spans answer is_head h a e 
   ready = a.ready;
   whole = a.whole;
   counts = a.counts;
+  awaited = a.awaited;
+  awaits = a.awaits;
   does = a.does;
   goes_on = a.goes_on;
   went = a.went;
   waited = a.waited;
   bytes_are = ap (λ (r : Answer). continued a.goes_on ++ reply_bytes (reply_in before.setup r) is_head) a.answer_is
-      ∙ ap (λ (b : Bool). continued a.goes_on ++ reply_bytes (reply_in before.setup (by_fault a.fault (answer_of before a.ready (asked_of h.head) (drop spans.len seen ++ a.more)))) b) e;
+      ∙ ap (λ (b : Bool). continued a.goes_on ++ reply_bytes (reply_in before.setup (by_fault a.fault (answer_of before a.ready a.awaited (asked_of h.head) (drop spans.len seen ++ a.more)))) b) e;
   code_is = ap (λ (r : Answer). (reply_in before.setup r).code) a.answer_is;
 }
 

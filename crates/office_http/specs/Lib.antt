@@ -20,5 +20,6 @@ pub use Rattle.office_requests.specs.Request
 pub use Rattle.office_requests.specs.Routes
 pub use Rattle.office_runs.specs.OfficeState
 pub use Rattle.office_runs.specs.State
+pub use Rattle.office_runs.specs.Waiting
 pub use Rattle.office_runs.specs.Walk
 pub use Rattle.office_replies.specs.Written

@@ -12,6 +12,8 @@ use Rattle.office_replies.specs.declared.faults.DeliverFault.TheVariants.{Mail, 
 use Rattle.office_replies.specs.declared.faults.Held.{Held}
 use Rattle.office_replies.specs.declared.faults.StoreFault.{StoreFault}
 use Rattle.office_replies.specs.declared.faults.StoreFault.TheVariants as fault
+use Rattle.office_replies.specs.declared.waiting.Awaited.{Awaited}
+use Rattle.office_replies.specs.Waiting.{waiting_text}
 use Rattle.office_requests.specs.declared.reply.Refusal.{Refusal}
 use Rattle.office_requests.specs.declared.reply.Refusal.TheVariants as refusal
 use Rattle.office_requests.specs.declared.reply.Answer.{Answer}
@@ -31,6 +33,7 @@ use Rattle.office_requests.specs.Reply.{refused, reply_in, reply_bytes, continue
 use Rattle.office_requests.specs.Request.{BeginsWith, body_room, field_room, head_room}
 use Rattle.office_runs.specs.OfficeState.{OfficeState}
 use Rattle.office_runs.specs.State.{answer_to, reports_at}
+use Rattle.office_runs.specs.Waiting.{Awaits}
 use Rattle.office_replies.specs.Written.{AppendsFront}
 
 -- how a fault of memory or of the store is told
@@ -64,12 +67,13 @@ abbrev pub by_fault : Option StoreFault → Answer → Answer
 by_fault None due = due
 by_fault (Some f) due = Refused (refusal_for f)
 
--- the text that a page tells, where this many runs are ready
-abbrev pub page_answer : OfficeState → ℕ → Page → Answer
-page_answer s ready page.Status = Status (record { ready = ready; finished = s.finished })
-page_answer s ready page.Testing = Told (testing_text s.setup s.finished (testing_after s.setup s.kept s.finished))
-page_answer s ready (page.Excuses run) = report_answer (Ok (option_map (λ reports. reports.excuses) (reports_at s run)))
-page_answer s ready (page.Update run) = report_answer (Ok (option_map (λ reports. reports.updates) (reports_at s run)))
+-- the text that a page tells, where this many runs are ready, and the next one waits for this
+abbrev pub page_answer : OfficeState → ℕ → Awaited → Page → Answer
+page_answer s ready awaited page.Status = Status (record { ready = ready; finished = s.finished })
+page_answer s ready awaited page.Testing = Told (testing_text s.setup s.finished (testing_after s.setup s.kept s.finished))
+page_answer s ready awaited (page.Excuses run) = report_answer (Ok (option_map (λ reports. reports.excuses) (reports_at s run)))
+page_answer s ready awaited (page.Update run) = report_answer (Ok (option_map (λ reports. reports.updates) (reports_at s run)))
+page_answer s ready awaited page.Waiting = Told (waiting_text s.setup (record { progress = record { ready = ready; finished = s.finished }; awaited = awaited }))
 
 -- the answer to a POST with this body: what is due to the delivery, or the status after the settle
 abbrev pub action_answer : OfficeState → ℕ → Action → List ℕ → Answer
@@ -90,11 +94,12 @@ abbrev pub post_answer : OfficeState → ℕ → Option (Action × List ℕ) →
 post_answer s ready None = Refused refusal.BadRequest
 post_answer s ready (Some post) = action_answer s ready post.0 post.1
 
--- THE ANSWER TO A REQUEST, by what it asks, the bytes after its head, and how many runs are ready
-abbrev pub answer_of : OfficeState → ℕ → Asked → List ℕ → Answer
-answer_of s ready (asks.Refused r) rest = Refused r
-answer_of s ready (asks.Tell page) rest = page_answer s ready page
-answer_of s ready (asks.Post p) rest = post_answer s ready (posted_body (asks.Post p) rest)
+-- THE ANSWER TO A REQUEST, by what it asks, the bytes after its head, how many runs are ready, and what the next one
+-- waits for
+abbrev pub answer_of : OfficeState → ℕ → Awaited → Asked → List ℕ → Answer
+answer_of s ready awaited (asks.Refused r) rest = Refused r
+answer_of s ready awaited (asks.Tell page) rest = page_answer s ready awaited page
+answer_of s ready awaited (asks.Post p) rest = post_answer s ready (posted_body (asks.Post p) rest)
 
 -- whether the answer tells how many runs are ready
 abbrev pub page_counts : Page → Bool
@@ -102,6 +107,7 @@ page_counts page.Status = true
 page_counts page.Testing = false
 page_counts (page.Excuses run) = false
 page_counts (page.Update run) = false
+page_counts page.Waiting = true
 
 abbrev pub action_counts : Action → Bool
 action_counts Settle = true
@@ -115,6 +121,19 @@ abbrev pub counts_ready : Asked → List ℕ → Bool
 counts_ready (asks.Refused r) rest = false
 counts_ready (asks.Tell page) rest = page_counts page
 counts_ready (asks.Post p) rest = post_counts (posted_body (asks.Post p) rest)
+
+-- whether it tells what a run waits for
+abbrev pub page_awaits : Page → Bool
+page_awaits page.Status = false
+page_awaits page.Testing = false
+page_awaits (page.Excuses run) = false
+page_awaits (page.Update run) = false
+page_awaits page.Waiting = true
+
+abbrev pub tells_awaited : Asked → Bool
+tells_awaited (asks.Refused r) = false
+tells_awaited (asks.Tell page) = page_awaits page
+tells_awaited (asks.Post p) = false
 
 -- whether a client waits for 100 Continue
 abbrev pub waits_of : Asked → Bool
@@ -189,14 +208,16 @@ pub record Exchange (before after : OfficeState) (left : Option (List ℕ)) (inp
   pub fault : Option StoreFault
   pub by_store : TextCounted rose fault
   pub ready : ℕ
+  pub awaited : Awaited
   pub whole : fault ≡ None → IsWhole (asked_of head) rest left
   pub counts : fault ≡ None → counts_ready (asked_of head) rest ≡ true → IsReadyCount before.setup before.kept ready
+  pub awaits : fault ≡ None → tells_awaited (asked_of head) ≡ true → Awaits before.setup before.kept (ready + 1) awaited
   pub does : Does before after (posted_body (asked_of head) rest) fault ready rose
   pub goes_on : Bool
   pub went : fault ≡ None → goes_on ≡ waits_of (asked_of head)
   pub waited : goes_on ≡ true → waits_of (asked_of head) ≡ true
-  pub bytes_are : bytes ≡ continued goes_on ++ reply_bytes (reply_in before.setup (by_fault fault (answer_of before ready (asked_of head) rest))) (is_head_method head)
-  pub code_is : code ≡ (reply_in before.setup (by_fault fault (answer_of before ready (asked_of head) rest))).code
+  pub bytes_are : bytes ≡ continued goes_on ++ reply_bytes (reply_in before.setup (by_fault fault (answer_of before ready awaited (asked_of head) rest))) (is_head_method head)
+  pub code_is : code ≡ (reply_in before.setup (by_fault fault (answer_of before ready awaited (asked_of head) rest))).code
 
 -- Bytes that are no request within the limits, by the cause that they are refused for, or too much for the memory.
 abbrev pub IsUnread : Option (List ℕ) → List ℕ → Refusal → Type 0

@@ -6,6 +6,8 @@ use Rattle.office_mail.specs.Runs.{IsReadyCount}
 use Rattle.office_replies.specs.declared.faults.Progress.{Progress}
 use Rattle.office_replies.specs.declared.faults.StoreFault.{StoreFault}
 use Rattle.office_replies.specs.declared.faults.StoreFault.TheVariants as fault
+use Rattle.office_replies.specs.declared.waiting.Awaited.{Awaited}
+use Rattle.office_replies.specs.Waiting.{waiting_text}
 use Rattle.office_requests.specs.declared.reply.Answer.{Answer}
 use Rattle.office_requests.specs.declared.reply.Answer.TheVariants.{Refused, Status, Told}
 use Rattle.office_requests.specs.declared.request.Action.{Action}
@@ -17,8 +19,9 @@ use Rattle.office_requests.specs.Asked.{body_size}
 use Rattle.office_runs.specs.Losses.{TextCounted}
 use Rattle.office_requests.specs.Request.{body_room}
 use Rattle.office_runs.specs.OfficeState.{OfficeState}
+use Rattle.office_runs.specs.Waiting.{Awaits}
 use Rattle.office_replies.specs.Written.{AppendsFront}
-use Rattle.office_http.specs.Serve.{refusal_for, by_fault, page_answer, action_answer, posted_body, answer_of, page_counts, action_counts, counts_ready, waits_of, continued, Moves, Does, IsWhole, IsAwaited, StopsBefore, Exchange}
+use Rattle.office_http.specs.Serve.{refusal_for, by_fault, page_answer, action_answer, posted_body, answer_of, page_counts, page_awaits, action_counts, counts_ready, tells_awaited, waits_of, continued, Moves, Does, IsWhole, IsAwaited, StopsBefore, Exchange}
 
 -- the answers of the office's calls
 abbrev pub status_answer : Result Progress StoreFault → Answer
@@ -29,6 +32,14 @@ abbrev pub text_answer : Result (List ℕ) StoreFault → Answer
 text_answer (Ok text) = Told text
 text_answer (Err f) = Refused (refusal_for f)
 
+-- the text on what the run behind the ready ones waits for
+pub record TellsAwaited (s : OfficeState) (text : List ℕ) : Type 0 where
+  pub ready : ℕ
+  pub counts : IsReadyCount s.setup s.kept ready
+  pub awaited : Awaited
+  pub awaits : Awaits s.setup s.kept (ready + 1) awaited
+  pub text_is : text ≡ waiting_text s.setup (record { progress = record { ready = ready; finished = s.finished }; awaited = awaited })
+
 -- a page was told
 pub record Tells (s : OfficeState) (page : Page) (answer : Answer) (rose : Type 0) : Type 0 where
   -- what was met
@@ -36,7 +47,9 @@ pub record Tells (s : OfficeState) (page : Page) (answer : Answer) (rose : Type 
   pub by_store : TextCounted rose fault
   pub ready : ℕ
   pub counts : fault ≡ None → page_counts page ≡ true → IsReadyCount s.setup s.kept ready
-  pub answer_is : answer ≡ by_fault fault (page_answer s ready page)
+  pub awaited : Awaited
+  pub awaits : fault ≡ None → page_awaits page ≡ true → Awaits s.setup s.kept (ready + 1) awaited
+  pub answer_is : answer ≡ by_fault fault (page_answer s ready awaited page)
 
 -- a POST was done
 pub record Runs (before after : OfficeState) (action : Action) (body : List ℕ) (answer : Answer) (rose : Type 0) : Type 0 where
@@ -59,7 +72,9 @@ pub record Answers (before after : OfficeState) (left left' written written' : O
   pub ready : ℕ
   pub whole : fault ≡ None → IsWhole asked (front ++ more) left'
   pub counts : fault ≡ None → counts_ready asked (front ++ more) ≡ true → IsReadyCount before.setup before.kept ready
-  pub answer_is : answer ≡ by_fault fault (answer_of before ready asked (front ++ more))
+  pub awaited : Awaited
+  pub awaits : fault ≡ None → tells_awaited asked ≡ true → Awaits before.setup before.kept (ready + 1) awaited
+  pub answer_is : answer ≡ by_fault fault (answer_of before ready awaited asked (front ++ more))
   pub does : Does before after (posted_body asked (front ++ more)) fault ready rose
   pub goes_on : Bool
   pub wrote : Appends written written' (continued goes_on)

@@ -2,7 +2,11 @@
 #![tactic(auto)]
 
 mod serve;
+pub mod service_laws;
 
-pub use office_replies::{DeliverFault, Delivery, Held, Mark, Progress, StoreFault, WriteFault};
+pub use office_replies::{
+    Awaited, DeliverFault, Delivery, Held, Lack, Mark, Progress, StoreFault, Waiting, WriteFault,
+    waiting_text,
+};
 pub use office_runs::{Office, Replayed, laws, replay, replay_status};
 pub use serve::{ServeFault, Served, serve_one};

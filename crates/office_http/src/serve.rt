@@ -12,15 +12,16 @@ ghost use Rattle.office_requests.specs.Reply.{continue_bytes, refused, reply_byt
 ghost use Rattle.office_requests.specs.Request.{body_room, head_room};
 ghost use Rattle.office_requests.specs.RequestSteps.{IsHeadAt};
 ghost use Rattle.office_http.specs.Serve.{refusal_for, report_answer, delivery_answer, waits_of, Does, StopsBefore, Serves, StopsServe};
-ghost use Rattle.office_http.specs.ServeSteps.{status_answer, text_answer, Tells, Runs, Answers, StopsRequest, ServesHead};
+ghost use Rattle.office_http.specs.ServeSteps.{status_answer, text_answer, Tells, TellsAwaited, Runs, Answers, StopsRequest, ServesHead};
 ghost use Rattle.office_runs.specs.State.{state_of};
+ghost use Rattle.office_replies.specs.Counted.{Counted};
 ghost use Rattle.office_replies.specs.Written.{AppendsFront};
 
 use deb_control::Text;
 use httparse::spans::{EMPTY_HEADER_SPAN, HeaderSpan, RequestSpans};
 use office_keeper::Keeper;
 use office_mail::{Feed, MailFault, ReadFailed, Setup, Sink};
-use office_replies::{DeliverFault, Held, Progress, StoreFault, WriteFault};
+use office_replies::{DeliverFault, Held, Progress, StoreFault, WriteFault, waiting_text};
 use office_requests::routes::routes;
 use office_requests::{
     Action, Answer, Asked, BodyRead, FIELD_ROOM, HeadRead, Page, Posted, Refusal, asked_of,
@@ -115,6 +116,16 @@ fn delivery_answer(reply: Result<Held, DeliverFault>) -> Answer
     }
 }
 
+/// The text that tells what the first run that isn't ready waits for.
+fn awaited_text<K: Keeper>(office: &mut Office<K>) -> Result<Text, StoreFault>
+    ensures asks { Asks K.Keeper office.old office.new }
+    ensures tells { Holds K.Keeper office.old office.new → IfOk result (λ text. TellsAwaited (state_of K.Keeper office.old) text) }
+    ensures counted { Counted (K.refusals office.old) (K.refusals office.new) result }
+{
+    let waiting = office.waiting()?;
+    Ok(waiting_text(office.alloc(), office.setup(), &waiting)?)
+}
+
 /// Tells a text of the office.
 fn tell<K: Keeper>(office: &mut Office<K>, page: Page) -> Answer
     ensures asks { Asks K.Keeper office.old office.new }
@@ -126,6 +137,7 @@ fn tell<K: Keeper>(office: &mut Office<K>, page: Page) -> Answer
         Page::Testing => text_answer(office.testing_text()),
         Page::Excuses(run) => report_answer(office.excuses_text(run)),
         Page::Update(run) => report_answer(office.update_text(run)),
+        Page::Waiting => text_answer(awaited_text(office)),
     }
 }
 

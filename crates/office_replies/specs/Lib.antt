@@ -1,3 +1,4 @@
 pub mod Counted
 pub mod Replies
+pub mod Waiting
 pub mod Written

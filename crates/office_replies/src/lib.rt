@@ -3,8 +3,10 @@
 
 mod faults;
 mod replies;
+mod waiting;
 
 pub use faults::{DeliverFault, Held, Progress, StoreFault};
 pub use replies::{
     Delivery, Digits, Mark, WriteFault, fault_words, write_all, write_parts, write_reply,
 };
+pub use waiting::{Awaited, Lack, Waiting, waiting_text};

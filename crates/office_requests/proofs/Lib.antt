@@ -2,4 +2,5 @@ pub mod FramingFacts
 pub mod HeadFacts
 pub mod LengthFacts
 pub mod RequestFacts
+pub mod RouteFacts
 pub mod SizeFacts

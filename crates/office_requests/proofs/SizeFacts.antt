@@ -16,7 +16,7 @@ use Rattle.office_requests.specs.declared.request.Framing.{Framing}
 use Rattle.office_requests.specs.declared.request.Action.{Action}
 use Rattle.office_requests.specs.declared.request.Action.TheVariants.{Deliver, Settle}
 use Rattle.office_requests.specs.declared.request.Page.{Page}
-use Rattle.office_requests.specs.declared.request.Page.TheVariants.{Status, Testing, Excuses, Update}
+use Rattle.office_requests.specs.declared.request.Page.TheVariants.{Status, Testing, Excuses, Update, Waiting}
 use Rattle.office_requests.specs.declared.request.Asked.{Asked}
 use Rattle.office_requests.specs.declared.request.Asked.TheVariants.{Refused, Tell}
 use Rattle.office_requests.specs.Asked.{Line, are_digits, number_stated, stated, values_named, framing_of, posted_length, posted_by, post_asked, tell_asked, asked_at, asked_by, asked_of, path_of, body_size}
@@ -76,6 +76,7 @@ asked_fits (Some route.Status) method path minor framing h = tell_fits Status me
 asked_fits (Some route.Testing) method path minor framing h = tell_fits Testing method
 asked_fits (Some route.Excuses) method path minor framing h = tell_fits _ method
 asked_fits (Some route.Update) method path minor framing h = tell_fits _ method
+asked_fits (Some route.Waiting) method path minor framing h = tell_fits Waiting method
 
 -- no body that is read is longer than 65,536 bytes
 pub body_fits : (head : RequestHead) → body_size (asked_of head) ≤ body_room

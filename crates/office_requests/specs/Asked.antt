@@ -6,7 +6,9 @@ use Rattle.std.specs.Str.{bytes_eq, str_eq_ignore_ascii_case}
 use Rattle.std.specs.Str.Parse.{digits_value}
 use Rattle.httparse.specs.Grammar.{RequestHead}
 use Rattle.httparse.specs.Spans.{name_and_value}
-use Rattle.office_requests.specs.Routes.{route_of}
+use Rattle.matchit.specs.Rows.{RowsOf}
+use Rattle.matchit.specs.Router.{RouteOf}
+use Rattle.office_requests.specs.Routes.{route_in, route_of}
 use Rattle.office_requests.specs.declared.routes.Route.{Route}
 use Rattle.office_requests.specs.declared.routes.Route.TheVariants as route
 use Rattle.office_requests.specs.declared.reply.Refusal.{Refusal}
@@ -18,7 +20,7 @@ use Rattle.office_requests.specs.declared.request.Framing.{Framing}
 use Rattle.office_requests.specs.declared.request.Action.{Action}
 use Rattle.office_requests.specs.declared.request.Action.TheVariants.{Deliver, Settle}
 use Rattle.office_requests.specs.declared.request.Page.{Page}
-use Rattle.office_requests.specs.declared.request.Page.TheVariants.{Status, Testing, Excuses, Update}
+use Rattle.office_requests.specs.declared.request.Page.TheVariants.{Status, Testing, Excuses, Update, Waiting}
 use Rattle.office_requests.specs.declared.request.Asked.{Asked}
 use Rattle.office_requests.specs.declared.request.Asked.TheVariants.{Refused, Tell, Post}
 
@@ -138,6 +140,7 @@ asked_at (Some route.Status) method path minor framing = tell_asked Status metho
 asked_at (Some route.Testing) method path minor framing = tell_asked Testing method
 asked_at (Some route.Excuses) method path minor framing = tell_asked (Excuses (run_number (drop 9 path))) method
 asked_at (Some route.Update) method path minor framing = tell_asked (Update (run_number (drop 8 path))) method
+asked_at (Some route.Waiting) method path minor framing = tell_asked Waiting method
 
 unfoldable pub asked_by : List ℕ → List ℕ → ℕ → Framing → Asked
 asked_by method target minor framing = asked_at (route_of (path_of target)) method (path_of target) minor framing
@@ -145,6 +148,10 @@ asked_by method target minor framing = asked_at (route_of (path_of target)) meth
 -- What a head asks for: its path is routed, then come its method and what its fields say of the body.
 unfoldable pub asked_of : RequestHead → Asked
 asked_of head = asked_by head.method head.target head.minor (framing_of (map name_and_value head.fields))
+
+-- the same by another table of routes
+abbrev pub asked_by_table : RowsOf (RouteOf Route) → RequestHead → Asked
+asked_by_table routes head = asked_at (route_in routes (path_of head.target)) head.method (path_of head.target) head.minor (framing_of (map name_and_value head.fields))
 
 -- whether the reply goes without its body
 abbrev pub is_head_method : RequestHead → Bool

@@ -4,7 +4,7 @@ use Rattle.matchit.specs.Rows.{RowsOf, param_token}
 use Rattle.matchit.specs.Router.{RouteOf}
 use Rattle.matchit.specs.Seek.{first}
 use Rattle.office_requests.specs.declared.routes.Route.{Route}
-use Rattle.office_requests.specs.declared.routes.Route.TheVariants.{Mail, Settle, Status, Testing, Excuses, Update}
+use Rattle.office_requests.specs.declared.routes.Route.TheVariants.{Mail, Settle, Status, Testing, Excuses, Update, Waiting}
 
 -- a route without parameters
 abbrev pub plain : List ℕ → Route → List ℕ × RouteOf Route
@@ -14,12 +14,19 @@ plain text value = (text, record { pattern = text; text = text; names = []; valu
 abbrev pub with_run : List ℕ → List ℕ → ℕ × ℕ → Route → List ℕ × RouteOf Route
 with_run front text name value = (front ++ param_token ∷ [], record { pattern = front ++ param_token ∷ []; text = text; names = name ∷ []; value = value })
 
--- the table, in matchit's order
-unfoldable pub office_routes : RowsOf (RouteOf Route)
-office_routes =
+-- the six routes but `/waiting`, in matchit's order
+unfoldable pub six_routes : RowsOf (RouteOf Route)
+six_routes =
     with_run (codes "/excuses/") (codes "/excuses/{run}") (10, 13) Excuses ∷ plain (codes "/mail") Mail ∷ plain (codes "/settle") Settle ∷ plain (codes "/status") Status
     ∷ plain (codes "/testing") Testing ∷ with_run (codes "/update/") (codes "/update/{run}") (9, 12) Update ∷ []
 
--- the route of a path
+-- the table: `/waiting` comes last
+unfoldable pub office_routes : RowsOf (RouteOf Route)
+office_routes = six_routes ++ plain (codes "/waiting") Waiting ∷ []
+
+-- the route of a path by a table, and by this one
+abbrev pub route_in : RowsOf (RouteOf Route) → List ℕ → Option Route
+route_in routes path = option_map (λ (r : RouteOf Route). r.value) (first routes path)
+
 abbrev pub route_of : List ℕ → Option Route
-route_of path = option_map (λ (r : RouteOf Route). r.value) (first office_routes path)
+route_of path = route_in office_routes path

@@ -2,6 +2,7 @@
 #![tactic(auto)]
 
 mod head;
+pub mod laws;
 mod reply;
 mod request;
 pub mod routes;

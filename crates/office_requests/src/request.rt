@@ -60,6 +60,8 @@ pub enum Page {
     Testing,
     Excuses(u32),
     Update(u32),
+    /// What the first run that isn't ready waits for.
+    Waiting,
 }
 
 /// What a request asks for.
@@ -336,6 +338,7 @@ fn asked_by(
         Some(Route::Testing) => tell_asked(Page::Testing, method),
         Some(Route::Excuses) => tell_asked(Page::Excuses(run_in(path, 9)), method),
         Some(Route::Update) => tell_asked(Page::Update(run_in(path, 8)), method),
+        Some(Route::Waiting) => tell_asked(Page::Waiting, method),
     }
 }
 

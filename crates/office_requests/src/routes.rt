@@ -14,6 +14,7 @@ pub enum Route {
     Testing,
     Excuses,
     Update,
+    Waiting,
 }
 
 /// The table of routes.
@@ -27,6 +28,7 @@ pub fn routes(alloc: Global) -> Result<Router<Route>, InsertError>
     router.insert("/testing", Route::Testing)?;
     router.insert("/excuses/{run}", Route::Excuses)?;
     router.insert("/update/{run}", Route::Update)?;
+    router.insert("/waiting", Route::Waiting)?;
     Ok(router)
 }
 

@@ -25,3 +25,5 @@ pub mod TakenFacts
 pub mod TextFacts
 pub mod WalkFacts
 pub mod MigratedFacts
+pub mod OrderFacts
+pub mod WaitingFacts

@@ -123,7 +123,7 @@ within_one order unbroken n greatest = (
       rw same refl,
 )
 
-ready_more : (setup : Lists) (kept : Kept) (n : ℕ) (order : RunOrder) → IsReady setup kept n → order_at setup kept (n + 1) ≡ Some order → HasEach kept order.covers → IsReady setup kept (n + 1)
+pub ready_more : (setup : Lists) (kept : Kept) (n : ℕ) (order : RunOrder) → IsReady setup kept n → order_at setup kept (n + 1) ≡ Some order → HasEach kept order.covers → IsReady setup kept (n + 1)
 ready_more setup kept n order ready at each = record {
   orders = each_more setup kept n order ready.orders at;
   mail = λ s number low high. ⊎_elim
@@ -132,7 +132,7 @@ ready_more setup kept n order ready at each = record {
       (cases_lt (cover setup kept n s) number);
 }
 
-ready_each : (setup : Lists) (kept : Kept) (n : ℕ) (order : RunOrder) → order_at setup kept (n + 1) ≡ Some order → IsReady setup kept (n + 1) → HasEach kept order.covers
+pub ready_each : (setup : Lists) (kept : Kept) (n : ℕ) (order : RunOrder) → order_at setup kept (n + 1) ≡ Some order → IsReady setup kept (n + 1) → HasEach kept order.covers
 ready_each setup kept n order at ready = λ s j low high. ready.mail s j low (omega (arith, high, cover_next setup kept n s order at))
 
 -- behind a ready run the next one is ready where all that its order states is there

@@ -16,3 +16,4 @@ pub mod State
 pub mod Taking
 pub mod Walk
 pub mod Migrated
+pub mod Waiting

@@ -1,3 +1,4 @@
+-- Steps: no contract of a call that users make rests on this file.
 -- The messages of the mail, place by place, in the order in which they are taken.
 use Rattle.std.specs.Prelude.{ℕ, zero, suc, List, [], ◌∷◌, ◌++◌, Option, Some, None, option_to_list}
 use Rattle.std.specs.FinMap.{get}

@@ -1,17 +1,21 @@
 //! What is true of every store, and of every office whatever mail comes and in whatever order.
-ghost use Rattle.std.specs.Prelude.{◌≡◌, ◌≤◌, ℕ, List, length};
+ghost use Rattle.std.specs.Prelude.{◌≡◌, ◌+◌, ◌≤◌, ◌↔◌, ℕ, List, [], length, Contains, Some, None};
+ghost use Rattle.std.specs.FinMap.{get};
 ghost use Rattle.office_mail.specs.Kept.{Kept, Within};
 ghost use Rattle.office_mail.specs.Laws.{SameTexts};
 ghost use Rattle.office_mail.specs.Lists.{Lists};
-ghost use Rattle.office_mail.specs.Runs.{IsReady, IsReadyCount};
+ghost use Rattle.office_mail.specs.Runs.{IsReady, IsReadyCount, order_at};
 ghost use Rattle.office_mail.specs.Setup.{count_of};
+ghost use Rattle.office_mail.specs.declared.message.RunOrder.{RunOrder};
 ghost use Rattle.office_mail.specs.declared.setup.Role.TheVariants.{Release};
 ghost use Rattle.office_keeper.specs.Content.{Content, item_from_one, no_content};
 ghost use Rattle.office_keeper.specs.LastDelays.{GetsLast};
+ghost use Rattle.office_replies.specs.declared.waiting.Lack.{Lack};
 ghost use Rattle.office_runs.specs.Laws.{RunsStand, TookTexts};
 ghost use Rattle.office_runs.specs.Migrated.{IsOfficeBefore};
 ghost use Rattle.office_runs.specs.Outcome.{outcome_of, reports_to};
 ghost use Rattle.office_runs.specs.State.{IsOffice, IsSound};
+ghost use Rattle.office_runs.specs.Waiting.{AreLacks};
 
 use office_keeper::Keeper;
 
@@ -42,4 +46,18 @@ pub fn runs_stay()
 /// leaves: its rows of facts are those of facts that stand for all covered mail.
 pub fn migrated_is_office()
     ensures { (setup : Lists) (old new : Content) → count_of Release setup.senders ≡ 1 → IsOfficeBefore setup old → GetsLast setup old new → IsOffice setup new }
+{}
+
+/// Behind a ready run the next one, whose order is kept, is ready exactly where no sender lacks anything by that order.
+pub fn lacks_say_why()
+    ensures why { (setup : Lists) (kept : Kept) (n : ℕ) (order : RunOrder) (lacks : List Lack) → IsReady setup kept n → order_at setup kept (n + 1) ≡ Some order → AreLacks kept order (length setup.senders) lacks → (lacks ≡ []) ↔ IsReady setup kept (n + 1) }
+    // What the senders lack is one list, by the kept mail and the order.
+    ensures one { (kept : Kept) (order : RunOrder) (n : ℕ) (xs ys : List Lack) → AreLacks kept order n xs → AreLacks kept order n ys → xs ≡ ys }
+{}
+
+/// Each number that is lacking must come: no mail that holds all of the kept mail, but lacks that number, makes the run ready.
+pub fn lacks_are_needed()
+    ensures mail { (setup : Lists) (small large : Kept) (n : ℕ) (order : RunOrder) (lacks : List Lack) (lack : Lack) → Within small large → order_at setup small (n + 1) ≡ Some order → AreLacks small order (length setup.senders) lacks → Contains lacks lack → get large (lack.sender, lack.number) ≡ None → IsReady setup large (n + 1) → ⊥ }
+    // So must an order that isn't kept.
+    ensures order { (setup : Lists) (kept : Kept) (n : ℕ) → order_at setup kept (n + 1) ≡ None → IsReady setup kept (n + 1) → ⊥ }
 {}

@@ -14,6 +14,7 @@ mod retaking;
 mod rules;
 mod runs;
 mod stored;
+mod waiting;
 
 pub use office::Office;
 pub use replays::{Replayed, replay, replay_status, settle_behind};

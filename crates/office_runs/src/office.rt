@@ -1,7 +1,7 @@
 //! The office: what it takes, finishes and reports.
 #![tactic(auto, using(crate::proofs::LastFacts::lasting))]
 
-ghost use Rattle.std.specs.Prelude.{is_ok, ◌≡◌, ℕ, ◌≤◌, ◌<◌, ◌∷◌, [], IfOk, OnOk, OnErr, length};
+ghost use Rattle.std.specs.Prelude.{is_ok, ◌≡◌, ℕ, ◌+◌, ◌≤◌, ◌<◌, ◌∷◌, [], IfOk, OnOk, OnErr, length};
 ghost use Rattle.std.specs.Option.{option_map};
 ghost use Rattle.testing_rules.specs.Watched.{AllWatchedWork};
 ghost use Rattle.office_mail.specs.Kept.{kept_from};
@@ -11,15 +11,17 @@ ghost use Rattle.office_replies.specs.Counted.{Counted, CountedDelivery};
 ghost use Rattle.office_runs.specs.StaysTrusted.{StaysTrusted};
 ghost use Rattle.office_runs.specs.Outcome.{testing_after, testing_text};
 ghost use Rattle.office_runs.specs.State.{IsSound, KeepsFacts, state_of, answer_to, AnswersDelivery, reports_at};
+ghost use Rattle.office_runs.specs.Waiting.{Awaits, AwaitsSome};
 
 use crate::covered::KnownFacts;
 use crate::posting::deliver;
 use crate::runs::{ready_count, settle};
 use crate::stored;
+use crate::waiting::waiting;
 use deb_control::{NoMemory, Text};
 use office_keeper::{Keeper, Reports};
 use office_mail::{RunOrder, Setup};
-use office_replies::{DeliverFault, Held, Progress, StoreFault};
+use office_replies::{DeliverFault, Held, Progress, StoreFault, Waiting};
 use std::alloc::Global;
 use std::marker::Model;
 use testing_rules::Testing;
@@ -188,6 +190,24 @@ impl<K: Keeper> Office<K> {
             finished,
         )?;
         Ok(Progress { ready, finished })
+    }
+
+    /// How many runs are ready and finished, and what the first run that isn't ready waits for. It fails for want of memory
+    /// or of the store alone.
+    pub fn waiting(&mut self) -> Result<Waiting, StoreFault>
+        ensures ready { K.is_trusted self.new → IsSound K.Keeper self.old → IfOk result (λ waiting. IsReadyCount (K.setup self.old) (K.content self.old).kept waiting.progress.ready) }
+        ensures finished { K.is_trusted self.new → IsSound K.Keeper self.old → IfOk result (λ waiting. waiting.progress.finished ≡ (state_of K.Keeper self.old).finished) }
+        ensures awaited { K.is_trusted self.new → IsSound K.Keeper self.old → IfOk result (λ waiting. Awaits (K.setup self.old) (K.content self.old).kept (waiting.progress.ready + 1) waiting.awaited) }
+        // Where the order is kept, mail of a sender is lacking: a run that waits for nothing is ready.
+        ensures some { K.is_trusted self.new → IsSound K.Keeper self.old → IfOk result (λ waiting. AwaitsSome waiting.awaited) }
+        ensures same { K.is_trusted self.new → K.content self.new ≡ K.content self.old }
+        ensures setup { K.setup self.new ≡ K.setup self.old }
+        ensures sound { K.is_trusted self.new → IsSound K.Keeper self.old → IsSound K.Keeper self.new }
+        ensures before { K.is_trusted self.new → K.is_trusted self.old }
+        ensures lasts { StaysTrusted K.Keeper self.old self.new (is_ok result) }
+        ensures counted { Counted (K.refusals self.old) (K.refusals self.new) result }
+    {
+        waiting(self.alloc, &self.setup, &mut self.keeper, &mut self.counts)
     }
 
     /// The text of testing, as the last finished run left it. It fails for want of memory or of the store alone.

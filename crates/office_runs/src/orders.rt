@@ -198,7 +198,7 @@ fn reach<K: Keeper>(
 }
 
 /// Counts each sender's numbers on, as far as an order wants it.
-fn reach_all<K: Keeper>(
+pub fn reach_all<K: Keeper>(
     setup: &Setup,
     keeper: &mut K,
     order: &RunOrder,

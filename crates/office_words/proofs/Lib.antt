@@ -1,4 +1,6 @@
 mod Numbers
+mod OldWords
+mod Plain
 mod Reading
 mod Rows
 mod Taken

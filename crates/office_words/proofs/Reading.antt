@@ -6,12 +6,12 @@ use Rattle.clap.specs.declared.error.Error.{Error}
 use Rattle.clap.specs.declared.error.kind.ErrorKind.{ErrorKind}
 use Rattle.clap.specs.declared.error.kind.ErrorKind.TheVariants as kind
 use Rattle.office_words.specs.Program.{office}
-use Rattle.office_words.specs.Asked.{Asked, Gives, asked_by, if_faultless, words_in}
+use Rattle.office_words.specs.Asked.{Asked, Gives, asked_by, command_words_in, if_faultless}
 use Rattle.office_words.specs.declared.WordsFault.{WordsFault}
 use Rattle.office_words.specs.declared.WordsFault.TheVariants.{NoMemory, Usage}
 
-pub faultless : (words : List Text) → fault_of office words ≡ [] → words_in words ≡ asked_by (subcommand_of office words)
-unfolding words_in
+pub faultless : (words : List Text) → fault_of office words ≡ [] → command_words_in words ≡ asked_by (subcommand_of office words)
+unfolding command_words_in
 faultless words none = ap (λ (kinds : Kinds). if_faultless kinds (asked_by (subcommand_of office words))) none
 
 gives_none : (fault : WordsFault) (said : Option Asked) → said ≡ None → Gives (Err fault) said
@@ -31,6 +31,6 @@ gives_fault fault error kinds found (inr usage) (inr among) = gives_none fault (
 
 pub gives_refusal : (fault : WordsFault) (error : Error) (words : List Text)
     → (fault ≡ NoMemory) ⊎ ((e : Error) × (fault ≡ Usage e) × (kind_of error ≢ kind.OutOfMemory))
-    → HasKind (fault_of office words) error → Gives (Err fault) (words_in words)
-unfolding words_in
+    → HasKind (fault_of office words) error → Gives (Err fault) (command_words_in words)
+unfolding command_words_in
 gives_refusal fault error words is has = gives_fault fault error (fault_of office words) (asked_by (subcommand_of office words)) is has

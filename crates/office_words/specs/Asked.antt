@@ -1,5 +1,5 @@
 -- What the words of the command line ask for.
-use Rattle.std.specs.Prelude.{◌≡◌, ⊤, Result, Ok, Err, ℕ, Bool, ◌&&◌, ◌^◌, codes, length, List, [], ◌∷◌, Option, Some, None, option_map, option_and_then, nat_lt, if◌then◌else◌}
+use Rattle.std.specs.Prelude.{◌≡◌, ⊤, Result, Ok, Err, ℕ, Bool, false, ◌&&◌, ◌==◌, ◌^◌, codes, length, List, [], ◌∷◌, Option, Some, None, option_map, option_and_then, nat_lt, if◌then◌else◌}
 use Rattle.std.specs.List.{list_all}
 use Rattle.std.specs.Str.{bytes_eq}
 use Rattle.std.specs.Str.Parse.{digits_value, without_leading_plus}
@@ -10,19 +10,29 @@ use Rattle.office_words.specs.Program.{office}
 use Rattle.office_words.specs.declared.Words.{Words}
 use Rattle.office_words.specs.declared.WordsFault.{WordsFault}
 use Rattle.office_words.specs.declared.WordsFault.TheVariants.{NoMemory, Usage}
-use Rattle.office_words.specs.declared.Words.TheVariants.{Compare, Replay, Serve}
+use Rattle.office_words.specs.declared.Words.TheVariants.{Compare, Replay, Serve, Waiting, Report, UnknownReport, Version}
+use Rattle.office_words.specs.declared.reports.Report.{Report as ReportName}
+use Rattle.office_words.specs.declared.reports.Report.TheVariants.{Testing, Excuses, Update}
 
 -- what is asked: to compare two versions by an operator; to replay a bag for the setup in a file, over a store in a file or in memory;
--- or to serve so many connections for it on a port
+-- to serve so many connections for it on a port; to tell what a run waits for; to tell a report, or one that isn't known; or the version
 pub data Asked : Type 0 where
   ToCompare : Text → Text → Text → Asked
   ToReplay : Text → Option Text → Asked
   ToServe : Text → ℕ → Option Text → ℕ → Asked
+  ToTellWaiting : Text → Option Text → Asked
+  ToReport : Text → Text → ReportName → Asked
+  ToRefuseReport : Text → Option Text → Asked
+  ToTellVersion : Asked
 
 abbrev pub asked : Words → Asked
 asked (Compare v1 op v2) = ToCompare v1.now op.now v2.now
 asked (Replay conf db) = ToReplay conf.now (option_map (λ text. text.now) db)
 asked (Serve conf port db connections) = ToServe conf.now port (option_map (λ text. text.now) db) connections
+asked (Waiting conf db) = ToTellWaiting conf.now (option_map (λ text. text.now) db)
+asked (Report conf db report) = ToReport conf.now db.now report
+asked (UnknownReport run report) = ToRefuseReport run.now (option_map (λ text. text.now) report)
+asked Version = ToTellVersion
 
 -- decimal digits, of a number of 32 bits
 abbrev pub is_number : Text → Bool
@@ -35,6 +45,22 @@ number_in text = if is_number (without_leading_plus text) then Some (digits_valu
 -- the number given under a name
 abbrev pub number_of : Text → List Row → Option ℕ
 number_of id rows = option_and_then number_in (first_of id rows)
+
+-- the number of a run, from 1 on
+abbrev pub run_in : Text → Option ℕ
+run_in text = option_and_then (λ n. if n == 0 then None else Some n) (number_in text)
+
+-- the report of a run that a word names
+abbrev pub run_report : Text → ℕ → Option ReportName
+run_report word run =
+    if bytes_eq word (codes "excuses") then Some (Excuses run)
+    else if bytes_eq word (codes "update") then Some (Update run)
+    else None
+
+-- the report that two words name: `testing` alone, or a run and one of its two reports
+abbrev pub report_of : Text → Option Text → Option ReportName
+report_of word None = if bytes_eq word (codes "testing") then Some Testing else None
+report_of run (Some word) = option_and_then (run_report word) (run_in run)
 
 -- what was given to each command
 abbrev pub compare_of : Option Text → Option Text → Option Text → Option Asked
@@ -54,11 +80,27 @@ replay_in rows = option_map (λ conf. ToReplay conf (first_of (codes "db") rows)
 abbrev pub serve_in : List Row → Option Asked
 serve_in rows = serve_of (first_of (codes "conf") rows) (number_of (codes "port") rows) (first_of (codes "db") rows) (number_of (codes "connections") rows)
 
+abbrev pub waiting_in : List Row → Option Asked
+waiting_in rows = option_map (λ conf. ToTellWaiting conf (first_of (codes "db") rows)) (first_of (codes "conf") rows)
+
+abbrev pub asked_report : Text → Text → Text → Option Text → Option ReportName → Asked
+asked_report conf db run word (Some report) = ToReport conf db report
+asked_report conf db run word None = ToRefuseReport run word
+
+abbrev pub report_from : Option Text → Option Text → Option Text → Option Text → Option Asked
+report_from (Some conf) (Some db) (Some run) word = Some (asked_report conf db run word (report_of run word))
+report_from _ _ _ _ = None
+
+abbrev pub report_in : List Row → Option Asked
+report_in rows = report_from (first_of (codes "conf") rows) (first_of (codes "db") rows) (first_of (codes "RUN") rows) (first_of (codes "REPORT") rows)
+
 abbrev pub command_in : Text → List Row → Option Asked
 command_in name rows =
     if bytes_eq name (codes "compare") then compare_in rows
     else if bytes_eq name (codes "replay") then replay_in rows
     else if bytes_eq name (codes "serve") then serve_in rows
+    else if bytes_eq name (codes "waiting") then waiting_in rows
+    else if bytes_eq name (codes "report") then report_in rows
     else None
 
 -- by the command that the words name and what they give it
@@ -70,9 +112,18 @@ abbrev pub if_faultless : Kinds → Option Asked → Option Asked
 if_faultless [] found = found
 if_faultless (kind ∷ more) found = None
 
--- what words ask for, the program's name being the first, as clap's definition reads them in the program's command
+-- what words ask for as clap's definition reads them in the program's command
+unfoldable pub command_words_in : List Text → Option Asked
+command_words_in words = if_faultless (fault_of office words) (asked_by (subcommand_of office words))
+
+-- the one word `--version`, behind the program's name
+abbrev pub asks_version : List Text → Bool
+asks_version (program ∷ word ∷ []) = bytes_eq word (codes "--version")
+asks_version _ = false
+
+-- what words ask for, the program's name being the first
 unfoldable pub words_in : List Text → Option Asked
-words_in words = if_faultless (fault_of office words) (asked_by (subcommand_of office words))
+words_in words = if asks_version words then Some ToTellVersion else command_words_in words
 
 -- what is told of the words: what they ask for, or that they ask for nothing. Want of memory may come at any place
 abbrev pub Gives : Result Words WordsFault → Option Asked → Type 0

@@ -1,4 +1,5 @@
 pub mod Arguments
 pub mod Asked
 pub mod Compare
+pub mod Laws
 pub mod Program

@@ -1,4 +1,4 @@
--- The program's command line: a command of clap with three subcommands.
+-- The program's command line: a command of clap with a subcommand for each task.
 use Rattle.std.specs.Prelude.{codes, Some, true, [], ◌∷◌}
 use Rattle.clap.specs.Words.{App, Rule, Text, new_app, new_rule, with_rule, with_subcommand}
 use Rattle.clap.specs.declared.builder.value_parser.ValueParser.TheVariants.{Unsigned}
@@ -45,6 +45,20 @@ replay = with_rule (with_rule (new_app (codes "replay")) conf) db
 abbrev pub serve : App
 serve = with_rule (with_rule (with_rule (with_rule (new_app (codes "serve")) conf) port) db) connections
 
+-- `waiting --conf F [--db F]`
+abbrev pub waiting : App
+waiting = with_rule (with_rule (new_app (codes "waiting")) conf) db
+
+-- `report RUN [REPORT] --conf F --db F`: what is told of a run is named by a value that may be left out
+abbrev pub told : Rule
+told = new_rule (codes "REPORT")
+
+abbrev pub stored : Rule
+stored = needed (codes "db")
+
+abbrev pub report : App
+report = with_rule (with_rule (with_rule (with_rule (new_app (codes "report")) (place (codes "RUN"))) told) conf) stored
+
 -- `office COMMAND ..`: a command has to be named, and no words at all are a call for help
 abbrev pub bare : App
 bare = record (new_app (codes "office")) {
@@ -55,5 +69,9 @@ bare = record (new_app (codes "office")) {
   };
 }
 
+-- the command that only compares, replays and serves
+unfoldable pub of_three : App
+of_three = with_subcommand (with_subcommand (with_subcommand bare compare.top) replay.top) serve.top
+
 unfoldable pub office : App
-office = with_subcommand (with_subcommand (with_subcommand bare compare.top) replay.top) serve.top
+office = with_subcommand (with_subcommand of_three waiting.top) report.top

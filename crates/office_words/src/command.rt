@@ -11,10 +11,12 @@ use std::alloc::{AllocError, Global};
 const ABOUT: &str = "Decides which Debian source packages migrate from unstable to testing.";
 
 const AFTER: &str =
-    "Each command has its own help: office compare --help, office replay --help, office serve --help.
+    "office --version tells the version. Each command has its own help: office compare --help, office replay --help,
+office serve --help, office waiting --help, office report --help.
 
-Exit status: 0 done, or the comparison is true; 1 the comparison is false; 2 usage, or help was asked for;
-3 a version, the setup or the bag was refused; 4 memory, a file, the store, the socket or the output failed.";
+Exit status: 0 done, or the comparison is true; 1 the comparison is false, an ordered run waits for mail, or the run
+of a report isn't finished; 2 usage, or help was asked for; 3 a version, the setup or the bag was refused; 4 memory, a
+file, the store, the socket or the output failed.";
 
 const COMPARE: &str =
     "Compares two versions as Debian Policy 5.6.12 orders them: status 0 true, 1 false";
@@ -44,10 +46,33 @@ const AFTER_SERVE: &str = "Example: office serve --conf examples/setup.conf --po
 Prints 'listening N' once it takes connections, and serves one after the other. Without --db the mail is kept
 in memory and is gone at the end.";
 
+const WAITING: &str = "Tells what the first run that isn't ready waits for: its order, or mail";
+
+const AFTER_WAITING: &str = "Example: office waiting --conf examples/setup.conf < examples/first.bag
+
+Without --db the messages of a bag on standard input are delivered first, to an office in memory. With it the
+store in the file is looked at, and standard input isn't read. Status 0: the run's order is awaited; 1: the run is
+ordered, and waits for mail.";
+
+const REPORT: &str = "Tells a report of an earlier run, or testing, from the store in a file";
+
+const AFTER_REPORT: &str =
+    "Examples: office report 3 excuses --conf examples/setup.conf --db store.db
+          office report 3 update --conf examples/setup.conf --db store.db
+          office report testing --conf examples/setup.conf --db store.db
+
+No run is finished by it. Status 1, and nothing is printed: that run isn't finished.";
+
+const RUN: &str = "The number of a finished run, from 1 on, or testing";
+
+const TOLD: &str = "excuses or update, behind the number of a run";
+
 const SETUP: &str =
     "The file of the setup: the architectures, and the senders of mail with their roles";
 
 const STORE: &str = "The file that keeps mail, reports and testing; it is made where there is none";
+
+const LOOKED_AT: &str = "The file of a store that is there";
 
 /// `--conf SETUP`, which is needed.
 fn conf_option<'a>(alloc: Global) -> Arg<'a>
@@ -62,14 +87,22 @@ fn conf_option<'a>(alloc: Global) -> Arg<'a>
 }
 
 /// `--db FILE`.
-fn db_option<'a>(alloc: Global) -> Arg<'a>
+fn db_option<'a>(alloc: Global, help: &'a str) -> Arg<'a>
     ensures rule { rule_of result ≡ program.db }
     ensures local { result.global ≡ false }
 {
     Arg::new(alloc, "db")
         .long("db")
         .value_name("FILE")
-        .help(STORE)
+        .help(help)
+}
+
+/// `--db FILE`, which is needed.
+fn stored_option<'a>(alloc: Global) -> Arg<'a>
+    ensures rule { rule_of result ≡ program.stored }
+    ensures local { result.global ≡ false }
+{
+    db_option(alloc, LOOKED_AT).required(true)
 }
 
 /// `--port PORT`, from 1 to 65,535.
@@ -106,6 +139,14 @@ fn place<'a>(alloc: Global, id: &'a str, help: &'a str) -> Arg<'a>
     Arg::new(alloc, id).help(help).required(true)
 }
 
+/// The report of a run, by its place, which may be left out.
+fn told_place<'a>(alloc: Global) -> Arg<'a>
+    ensures rule { rule_of result ≡ program.told }
+    ensures local { result.global ≡ false }
+{
+    Arg::new(alloc, "REPORT").help(TOLD)
+}
+
 /// `compare V1 OP V2`.
 fn compare_command<'a>(alloc: Global) -> Result<Command<'a>, AllocError>
     ensures { IfOk result (λ c. app_of c ≡ program.compare) }
@@ -126,7 +167,7 @@ fn replay_command<'a>(alloc: Global) -> Result<Command<'a>, AllocError>
         .about(REPLAY)
         .after_help(AFTER_REPLAY)
         .arg(conf_option(alloc))?
-        .arg(db_option(alloc))
+        .arg(db_option(alloc, STORE))
 }
 
 /// `serve --conf SETUP --port PORT [--db FILE] [--connections COUNT]`.
@@ -138,8 +179,32 @@ fn serve_command<'a>(alloc: Global) -> Result<Command<'a>, AllocError>
         .after_help(AFTER_SERVE)
         .arg(conf_option(alloc))?
         .arg(port_option(alloc))?
-        .arg(db_option(alloc))?
+        .arg(db_option(alloc, STORE))?
         .arg(connections_option(alloc))
+}
+
+/// `waiting --conf SETUP [--db FILE]`.
+fn waiting_command<'a>(alloc: Global) -> Result<Command<'a>, AllocError>
+    ensures { IfOk result (λ c. app_of c ≡ program.waiting) }
+{
+    Command::new(alloc, "waiting")
+        .about(WAITING)
+        .after_help(AFTER_WAITING)
+        .arg(conf_option(alloc))?
+        .arg(db_option(alloc, LOOKED_AT))
+}
+
+/// `report RUN [REPORT] --conf SETUP --db FILE`.
+fn report_command<'a>(alloc: Global) -> Result<Command<'a>, AllocError>
+    ensures { IfOk result (λ c. app_of c ≡ program.report) }
+{
+    Command::new(alloc, "report")
+        .about(REPORT)
+        .after_help(AFTER_REPORT)
+        .arg(place(alloc, "RUN", RUN))?
+        .arg(told_place(alloc))?
+        .arg(conf_option(alloc))?
+        .arg(stored_option(alloc))
 }
 
 /// The command without its subcommands.
@@ -154,13 +219,23 @@ fn bare_command<'a>(alloc: Global) -> Command<'a>
         .disable_help_subcommand(true)
 }
 
-/// The program's command.
-pub(crate) fn office_command<'a>(alloc: Global) -> Result<Command<'a>, AllocError>
-    ensures { IfOk result (λ c. app_of c ≡ program.office) }
+/// The command that only compares, replays and serves.
+fn command_of_three<'a>(alloc: Global) -> Result<Command<'a>, AllocError>
+    ensures { IfOk result (λ c. app_of c ≡ program.of_three) }
 {
     let whole = bare_command(alloc)
         .subcommand(compare_command(alloc)?)?
         .subcommand(replay_command(alloc)?)?
         .subcommand(serve_command(alloc)?)?;
+    Ok(whole)
+}
+
+/// The program's command.
+pub(crate) fn office_command<'a>(alloc: Global) -> Result<Command<'a>, AllocError>
+    ensures { IfOk result (λ c. app_of c ≡ program.office) }
+{
+    let whole = command_of_three(alloc)?
+        .subcommand(waiting_command(alloc)?)?
+        .subcommand(report_command(alloc)?)?;
     Ok(whole)
 }

@@ -2,9 +2,10 @@
 
 ghost use Rattle.std.specs.Prelude.{◌≡◌, option_map};
 ghost use Rattle.clap.specs.Words.{first_of, found_of, rows_of, subcommand_rows_of};
-ghost use Rattle.office_words.specs.Asked.{asked, asked_by, command_in, compare_in, number_in, number_of, replay_in, serve_in};
+ghost use Rattle.office_words.specs.Asked.{asked, asked_by, command_in, compare_in, number_of, replay_in, report_in, report_of, serve_in, asked_report, waiting_in};
 
 use crate::Words;
+use crate::reports::{number_in, report_of};
 use clap::ArgMatches;
 
 /// The text given under a name.
@@ -12,15 +13,6 @@ fn text_of<'a>(given: &ArgMatches<'a>, name: &str) -> Option<&'a str>
     ensures { option_map (λ text. text.now) result ≡ first_of name.now (rows_of (found_of given.now)) }
 {
     given.get_str(name)
-}
-
-fn number_in(text: &str) -> Option<u32>
-    ensures { result ≡ number_in text.now }
-{
-    match u32::from_str_radix(text, 10) {
-        Ok(number) => Some(number),
-        Err(_) => None,
-    }
 }
 
 /// The number given under a name.
@@ -66,6 +58,35 @@ fn serve_words<'a>(given: &ArgMatches<'a>) -> Option<Words<'a>>
     })
 }
 
+fn waiting_words<'a>(given: &ArgMatches<'a>) -> Option<Words<'a>>
+    ensures { option_map asked result ≡ waiting_in (rows_of (found_of given.now)) }
+{
+    let conf = text_of(given, "conf")?;
+    Some(Words::Waiting {
+        conf,
+        db: text_of(given, "db"),
+    })
+}
+
+/// What two words ask for that name a report of the store in a file.
+fn asked_report<'a>(conf: &'a str, db: &'a str, run: &'a str, word: Option<&'a str>) -> Words<'a>
+    ensures { asked result ≡ asked_report conf.now db.now run.now (option_map (λ text. text.now) word.entry) (report_of run.now (option_map (λ text. text.now) word.entry)) }
+{
+    match report_of(run, word) {
+        Some(report) => Words::Report { conf, db, report },
+        None => Words::UnknownReport { run, report: word },
+    }
+}
+
+fn report_words<'a>(given: &ArgMatches<'a>) -> Option<Words<'a>>
+    ensures { option_map asked result ≡ report_in (rows_of (found_of given.now)) }
+{
+    let conf = text_of(given, "conf")?;
+    let db = text_of(given, "db")?;
+    let run = text_of(given, "RUN")?;
+    Some(asked_report(conf, db, run, text_of(given, "REPORT")))
+}
+
 fn command_words<'a>(name: &str, given: &ArgMatches<'a>) -> Option<Words<'a>>
     ensures { option_map asked result ≡ command_in name.now (rows_of (found_of given.now)) }
 {
@@ -73,6 +94,8 @@ fn command_words<'a>(name: &str, given: &ArgMatches<'a>) -> Option<Words<'a>>
         "compare" => compare_words(given),
         "replay" => replay_words(given),
         "serve" => serve_words(given),
+        "waiting" => waiting_words(given),
+        "report" => report_words(given),
         _ => None,
     }
 }

@@ -5,12 +5,14 @@
 mod arguments;
 mod command;
 mod given;
+pub mod laws;
+mod reports;
 mod versions;
 
 ghost use Rattle.std.specs.Prelude.{◌≡◌, ◌≢◌, ◌⊎◌, map, true, [], IfOk, IfErr};
 ghost use Rattle.clap.specs.Words.{FailsBy, fault_of, kind_of, subcommand_of, subcommand_rows_of, takes};
 ghost use Rattle.clap.specs.declared.error.kind.ErrorKind.TheVariants as kind;
-ghost use Rattle.office_words.specs.Asked.{Gives, status_of_fault, words_in};
+ghost use Rattle.office_words.specs.Asked.{Gives, asks_version, command_words_in, status_of_fault, words_in};
 ghost use Rattle.office_words.specs.Program.{office};
 ghost use Rattle.office_words.specs.declared.WordsFault.TheVariants.{NoMemory, Usage};
 
@@ -19,6 +21,7 @@ use clap::error::ErrorKind;
 use clap::{ArgMatches, Error};
 use command::office_command;
 use given::asked_words;
+pub use reports::{Report, refuse_report};
 use std::alloc::Global;
 pub use versions::{Comparison, Refusal, compare, compare_status};
 
@@ -43,6 +46,25 @@ pub enum Words<'a> {
         db: Option<&'a str>,
         connections: u32,
     },
+    /// Tell what the first run that isn't ready waits for, for the setup in a file: over a store in a file, or over the
+    /// bag on standard input.
+    Waiting {
+        conf: &'a str,
+        db: Option<&'a str>,
+    },
+    /// Tell a report, for the setup in a file, from the store in a file.
+    Report {
+        conf: &'a str,
+        db: &'a str,
+        report: Report,
+    },
+    /// Tell a report, but the words name none.
+    UnknownReport {
+        run: &'a str,
+        report: Option<&'a str>,
+    },
+    /// Tell the program's version.
+    Version,
 }
 
 /// Why words ask for nothing.
@@ -75,10 +97,32 @@ fn matches<'a>(alloc: Global, words: &'a [&'a str]) -> Result<ArgMatches<'a>, Er
     office_command(alloc)?.try_get_matches_from(words)
 }
 
-/// What the words ask for, the program's name being the first. They are read as clap reads them in
-/// the command `office` with its subcommands `compare V1 OP V2`, `replay --conf F [--db F]` and
-/// `serve --conf F --port N [--db F] [--connections C]`, where N is from 1 to 65,535 and C from 0 to
-/// 1,000,000, which it is where it isn't given.
+/// Whether the words are the program's name and `--version`.
+fn asks_version(words: &[&str]) -> bool
+    ensures { result ≡ asks_version (map (λ word. word.now) words.now) }
+{
+    match words {
+        [_, word] => *word == "--version",
+        _ => false,
+    }
+}
+
+/// What the words ask for as clap reads them in the program's command.
+fn read_command<'a>(alloc: Global, words: &'a [&'a str]) -> Result<Words<'a>, WordsFault>
+    ensures asked { Gives result (command_words_in (map (λ word. word.now) words.now)) }
+    ensures taken { IfErr result (λ fault. takes office (map (λ word. word.now) words.now) ≡ true → fault ≡ NoMemory) }
+    ensures faultless { IfErr result (λ fault. fault_of office (map (λ word. word.now) words.now) ≡ [] → fault ≡ NoMemory) }
+{
+    match matches(alloc, words) {
+        Ok(matches) => Ok(asked_words(&matches).unwrap()),
+        Err(error) => Err(WordsFault::of(error)),
+    }
+}
+
+/// What the words ask for, the program's name being the first. `--version` alone asks for the version. All other words
+/// are read as clap reads them in the command `office` with its subcommands `compare V1 OP V2`, `replay --conf F
+/// [--db F]`, `serve --conf F --port N [--db F] [--connections C]`, `waiting --conf F [--db F]` and `report RUN
+/// [REPORT] --conf F --db F`, where N is from 1 to 65,535 and C from 0 to 1,000,000, which it is where it isn't given.
 ///
 /// Refused as `Usage` are words in which clap finds a fault, a request for help among them.
 pub fn read_words<'a>(alloc: Global, words: &'a [&'a str]) -> Result<Words<'a>, WordsFault>
@@ -87,9 +131,10 @@ pub fn read_words<'a>(alloc: Global, words: &'a [&'a str]) -> Result<Words<'a>, 
     ensures taken { IfErr result (λ fault. takes office (map (λ word. word.now) words.now) ≡ true → fault ≡ NoMemory) }
     ensures faultless { IfErr result (λ fault. fault_of office (map (λ word. word.now) words.now) ≡ [] → fault ≡ NoMemory) }
 {
-    match matches(alloc, words) {
-        Ok(matches) => Ok(asked_words(&matches).unwrap()),
-        Err(error) => Err(WordsFault::of(error)),
+    if asks_version(words) {
+        Ok(Words::Version)
+    } else {
+        read_command(alloc, words)
     }
 }
 

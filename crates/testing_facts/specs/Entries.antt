@@ -1,4 +1,3 @@
--- Steps: no contract of a call that users make rests on this file.
 -- What one message gives to the facts.
 use Rattle.std.specs.Prelude.{◌++◌}
 use Rattle.testing_items.specs.declared.item.Item.TheVariants as item

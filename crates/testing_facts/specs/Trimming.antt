@@ -1,3 +1,4 @@
+-- Steps: no contract of a call that users make rests on this file.
 -- A testing that is asked for its sources alone.
 use Rattle.std.specs.Prelude.{List, []}
 use Rattle.testing_model.specs.declared.suite.SourceIn.{SourceIn}

@@ -1,21 +1,16 @@
-use Rattle.std.proofs.Common.{ap, map, sym, ◌∙◌}
-use Rattle.clap.proofs.CallerLemmas.{some_of_text}
-use Rattle.clap.specs.Words.{subcommand_of}
-use Rattle.std.specs.Prelude.{option_map}
-use Rattle.office_words.specs.Program.{office}
-use Rattle.office_words.specs.Asked.{asked, asked_by}
-use Rattle.office_words.proofs.Reading.{faultless, gives_refusal}
-use Rattle.office_words.proofs.Taken.{taken_words_ask}
+use Rattle.std.proofs.Common.{◌≡◌, Bool, false, cond, map, ap, subst, sym, Some, ◌∙◌}
+use Rattle.office_words.specs.Asked.{Gives, ToTellVersion, asks_version, command_words_in, words_in}
 use Rattle.office_words.proofs.read_words.Goals as goal
 
-pub unwrap-requires : goal.unwrap-requires
-unwrap-requires c =
+pub returns-then-asks_version-clause-asked : goal.returns-then-asks_version-clause-asked
+unfolding words_in
+returns-then-asks_version-clause-asked c =
     let words = map (λ word. word.now) c.args.words.now in
-    some_of_text asked c.asked_words.result (asked_by (subcommand_of office words)) (c.asked_words.ensures ∙ ap asked_by c.in-Ok.ensures.ok) (taken_words_ask words c.in-Ok.ensures.kinds)
+    ap (λ (b : Bool). cond b (Some ToTellVersion) (command_words_in words)) (sym c.asks_version.ensures ∙ c.if-asks_version.true)
 
-pub returns-in-Ok-clause-asked : goal.returns-in-Ok-clause-asked
-returns-in-Ok-clause-asked c =
-    faultless (map (λ word. word.now) c.args.words.now) c.in-Ok.ensures.kinds ∙ (ap asked_by (sym c.in-Ok.ensures.ok) ∙ (sym c.asked_words.ensures ∙ ap (option_map asked) c.unwrap.ensures))
-
-pub returns-in-Err-clause-asked : goal.returns-in-Err-clause-asked
-returns-in-Err-clause-asked c = gives_refusal c.of.result c.in-Err.error (map (λ word. word.now) c.args.words.now) c.of.ensures.usage c.in-Err.ensures.kinds
+pub returns-else-asks_version-clause-asked : goal.returns-else-asks_version-clause-asked
+unfolding words_in
+returns-else-asks_version-clause-asked c =
+    let words = map (λ word. word.now) c.args.words.now in
+    let other : asks_version words ≡ false = sym c.asks_version.ensures ∙ c.if-asks_version.false in
+    subst (λ (b : Bool). Gives c.read_command.result (cond b (Some ToTellVersion) (command_words_in words))) (sym other) c.read_command.ensures.asked

@@ -1,7 +1,7 @@
 use Rattle.office_runs.specs.Preserves.{StoreRefused}
 use Rattle.office_runs.specs.State.{state_of}
 use Rattle.office_runs.proofs.CarryFacts.{risen}
-use Rattle.office_http.proofs.ServeFacts.{told_status, told_testing, told_excuses, told_update, place_status, place_text, place_report}
+use Rattle.office_http.proofs.ServeFacts.{told_status, told_testing, told_excuses, told_update, told_waiting, place_status, place_text, place_report}
 use Rattle.office_http.proofs.serve.tell.Goals as goal
 
 pub returns-in-Status-clause-place : goal.returns-in-Status-clause-place
@@ -51,3 +51,15 @@ returns-in-Update-clause-tells g c =
     let r = c.update_text.result in
     let e = c.update_text.ensures in
     λ h. rw (c.in-Update.is, c.report_answer-in-Update.ensures) (told_update (StoreRefused keeper s0 s1) (state_of keeper s0) c.in-Update.run' r (e.text h.0 h.1) (risen (keeper.refusals s0) (keeper.refusals s1) r e.counted))
+
+pub returns-in-Waiting-clause-place : goal.returns-in-Waiting-clause-place
+returns-in-Waiting-clause-place g c = rw c.text_answer-in-Waiting.ensures (place_text (g.K.Keeper.setup c.args.office.now) c.awaited_text.result)
+
+pub returns-in-Waiting-clause-tells : goal.returns-in-Waiting-clause-tells
+returns-in-Waiting-clause-tells g c =
+    let keeper = g.K.Keeper in
+    let s0 = c.args.office.now in
+    let s1 = c.awaited_text.new.office in
+    let r = c.awaited_text.result in
+    let e = c.awaited_text.ensures in
+    λ h. rw (c.in-Waiting.is, c.text_answer-in-Waiting.ensures) (told_waiting (StoreRefused keeper s0 s1) (state_of keeper s0) r (e.tells h) (risen (keeper.refusals s0) (keeper.refusals s1) r e.counted))

@@ -1,0 +1,21 @@
+-- Steps: no contract of a call that users make rests on this file.
+-- What is told without a run, and its exit status.
+use Rattle.std.specs.Prelude.{ℕ, List, Option, Some, option_map}
+use Rattle.office_runs.specs.Outcome.{testing_after, testing_text}
+use Rattle.office_runs.specs.OfficeState.{OfficeState}
+use Rattle.office_runs.specs.State.{reports_at}
+use Rattle.office_words.specs.declared.reports.Report.{Report}
+use Rattle.office_words.specs.declared.reports.Report.TheVariants.{Testing, Excuses, Update}
+use Rattle.office_replies.specs.declared.waiting.Awaited.{Awaited}
+use Rattle.office_replies.specs.declared.waiting.Awaited.TheVariants.{Order, Mail}
+
+-- the text of a report in an office's state, none where its run isn't finished
+abbrev pub report_text : OfficeState → Report → Option (List ℕ)
+report_text state Testing = Some (testing_text state.setup state.finished (testing_after state.setup state.kept state.finished))
+report_text state (Excuses run) = option_map (λ reports. reports.excuses) (reports_at state run)
+report_text state (Update run) = option_map (λ reports. reports.updates) (reports_at state run)
+
+-- 0 where a run waits for its order, 1 where it waits for mail
+abbrev pub status_of_awaited : Awaited → ℕ
+status_of_awaited Order = 0
+status_of_awaited (Mail lacks) = 1

@@ -1,0 +1,8 @@
+use Rattle.office_requests.proofs.RouteFacts.{others_stay, waiting_told}
+use Rattle.office_requests.proofs.laws.old_requests_stay.Goals as goal
+
+pub returns-clause-others : goal.returns-clause-others
+returns-clause-others c = others_stay
+
+pub returns-clause-waiting : goal.returns-clause-waiting
+returns-clause-waiting c = waiting_told

@@ -1,0 +1,28 @@
+use Rattle.std.proofs.Common.{◌≡◌, ◌+◌, sym, subst, ◌∙◌}
+use Rattle.office_mail.specs.Runs.{IsReady, IsReadyCount}
+use Rattle.office_keeper.specs.Content.{Content}
+use Rattle.office_runs.specs.Ready.{HasPlaces}
+use Rattle.office_runs.specs.Waiting.{Awaits}
+use Rattle.office_runs.proofs.WaitingFacts.{awaited_some}
+use Rattle.office_runs.proofs.waiting.waiting.Goals as goal
+
+pub returns-clause-some : goal.returns-clause-some
+returns-clause-some g c = λ trusted office.
+    let setup = c.args.setup.now in
+    let content = g.K.Keeper.content in
+    let old : Content = content c.args.keeper.now in
+    let third = c.in_ok-awaited.ensures in
+    let second = c.in_ok-ready.ensures in
+    let first = c.in_ok-finished.ensures in
+    let later = third.looks.before trusted in
+    let earlier = second.looks.before later in
+    let same : content c.finished.new.keeper ≡ old = first.looks.same earlier in
+    let same2 : content c.ready_count.new.keeper ≡ old = second.looks.same later ∙ same in
+    let n = c.in_ok-ready.ready in
+    let k = c.in_ok-finished.finished in
+    let ready : IsReady setup old.kept k = subst (IsReady setup old.kept) (sym (first.value earlier)) office.ready in
+    let count : IsReadyCount setup old.kept n =
+    subst (λ (m : Content). HasPlaces setup m.kept → IsReady setup m.kept k → IsReadyCount setup m.kept n) same (second.ready later) office.places ready in
+    let awaits : Awaits setup old.kept (n + 1) c.in_ok-awaited.awaited =
+    subst (λ (m : Content). HasPlaces setup m.kept → IsReady setup m.kept n → Awaits setup m.kept (n + 1) c.in_ok-awaited.awaited) same2 (third.awaited trusted) office.places count.holds in
+    awaited_some setup old.kept n c.in_ok-awaited.awaited count awaits
