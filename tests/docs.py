@@ -24,7 +24,7 @@ SECONDS = 600
 KIT = 'it needs the kit, and proves before it runs'
 # What isn't run, in which document, and why. An empty text of the environment's APT keeps apt's commands out.
 NOT_RUN = [
-    ('README.md', r'rt ci', KIT + ': the gate takes more than an hour'),
+    ('README.md', r'\.ci/run', KIT + ': the gate takes more than an hour'),
     ('README.md', r'rt try ', KIT.split(',')[0]),
     ('README.md', r'(office|\.\.) .*   ', 'it is a table of the commands'),
     ('docs/FIRST_WEEK.md', r'apt-get |/usr/lib/apt/|.*bookworm', 'it needs the network and root: APT=1 runs it'),

@@ -58,6 +58,7 @@ export ONLY=small_disks
 try lost_is_held surroundings/hostile.py 3
 unset ONLY
 try is_not_kept service/stores.py
+try drops_a_lack service/asking.py 1-4
 try cut_reply service/clients.py
 echo "$passed passed, $failed failed"
 [ "$failed" -eq 0 ]

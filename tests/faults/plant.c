@@ -5,6 +5,7 @@
  *   drops_a_report   behind the first line `refused NoMemory` the next report is left out
  *   cut_reply        a reply of the service lacks its last byte
  *   is_not_kept      a service writes nothing into files, and says that it did
+ *   drops_a_lack     a line that says what a run waits for is left out
  */
 #define _GNU_SOURCE
 #include <dlfcn.h>
@@ -119,11 +120,12 @@ static size_t change(const char *from, size_t n, char *to, size_t room)
         if (head)
             leaves_out = planted("drops_a_report") && refused && !left_out && !begins(line, "testing ");
         left_out |= leaves_out;
+        int lack = begins(line, "run ") && planted("drops_a_lack");
         refused |= begins(line, "refused NoMemory\n");
         int told = replies && lost && planted("lost_is_held") ? held_line(to + length, room - length, at) : 0;
         if (told > 0) {
             length += (size_t)told;
-        } else if (!leaves_out) {
+        } else if (!leaves_out && !lack) {
             memcpy(to + length, line, (size_t)(next - line));
             length += (size_t)(next - line);
         }

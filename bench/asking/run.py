@@ -1,0 +1,51 @@
+#!/usr/bin/env python3
+"""Times what an office is asked over the file of an archive, beside opening that file alone.
+
+usage: run.py OFFICE [SHAPE:SOURCES]
+
+The shapes are those of ../reopen/run.py; without one it is one:34000. By turns the program tells what the next run waits
+for, the update of run 1, and a report of a run that isn't finished, for which it opens the file and no more. ROUNDS in
+the environment is how often: 5 without it. The file is made in TMPDIR.
+"""
+import os
+import statistics
+import subprocess
+import sys
+import tempfile
+
+sys.dont_write_bytecode = True
+sys.path.insert(0, os.path.join(os.path.dirname(os.path.abspath(__file__)), "..", "reopen"))
+SHAPE = sys.argv[2] if len(sys.argv) > 2 else "one:34000"
+sys.argv[1:] = [os.path.abspath(sys.argv[1])]
+from run import Opened, Shape, merged
+
+ASKED = {"opened": (["report", "999999999", "update"], 1), "waiting": (["waiting"], 0), "update 1": (["report", "1", "update"], 0)}
+
+
+def seconds(office, words, status):
+    """The seconds of processor that the program takes."""
+    process = subprocess.Popen([office, *words], stdin=subprocess.DEVNULL, stdout=subprocess.DEVNULL)
+    _, ended, usage = os.wait4(process.pid, 0)
+    if os.waitstatus_to_exitcode(ended) != status:
+        sys.exit(f"{' '.join(words)} ended with status {os.waitstatus_to_exitcode(ended)}")
+    return usage.ru_utime + usage.ru_stime
+
+
+def main(office):
+    shape, rounds = Shape(SHAPE), int(os.environ.get("ROUNDS", "5"))
+    with tempfile.TemporaryDirectory() as folder:
+        file = os.path.join(folder, "asked")
+        Opened(office, shape, file, [("mail and run", shape.mail()[0])])
+        merged(file)
+        took = {name: [] for name in ASKED}
+        for _ in range(rounds):
+            for name, (words, status) in ASKED.items():
+                took[name].append(seconds(office, [*words, "--conf", shape.setup, "--db", file], status))
+    alone = statistics.median(took["opened"])
+    for name, each in took.items():
+        median = statistics.median(each)
+        print(f"{shape.name} {name}: {median:.2f} s ({min(each):.2f} to {max(each):.2f}), {median / alone:.2f} of opening")
+
+
+if __name__ == "__main__":
+    main(sys.argv[1])
