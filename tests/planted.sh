@@ -51,7 +51,7 @@ try() {
 try held_early stops/stopped.py 5
 export ONLY=memory
 try lost_is_held memory/refused.py 23
-try drops_a_report memory/refused.py 23
+try drops_a_report memory/refused.py 11
 export ONLY=service
 try lost_is_held memory/refused.py 97
 export ONLY=small_disks
