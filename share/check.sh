@@ -236,7 +236,7 @@ package_is_clean() {
 }
 
 options_are_told() {
-    for command in compare replay serve waiting report; do
+    for command in compare replay serve waiting report runs mail export; do
         "$program" "$command" --help | sed -n 's/^  *\(-h, \)\{0,1\}--\([a-z]*\).*/\2/p' > "$work/options"
         grep -qx help "$work/options" || { echo "$command --help tells no option" && return 1; }
         while read -r option; do

@@ -73,6 +73,9 @@ def is_command(document, line):
     """Whether a line starts a command."""
     if document.endswith('.1'):
         return line.startswith('$ ')
+    if re.match(r'rt \d', line):
+        # What `office mail --list` tells of the sender rt.
+        return False
     word = line.split(' ')[0]
     return word in WORDS or re.fullmatch(r'(share|examples|tests)/\S+|/usr/lib/\S+|\.\.', word) is not None
 

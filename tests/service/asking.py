@@ -4,9 +4,10 @@
   asking.py PROGRAM [FIRST-LAST [PORT]]
 
 PROGRAM is the built program, `crates/office/out/office`. For each seed from FIRST to LAST (1-40) some of the mail of
-tests/rows/reopened_rows.py is left out. Then `office waiting` has to tell what the model misses, over the bag and over a
-store, `office report` the texts of each finished run, and the service the same on its pages. The bytes of the store's
-file have to be the same before and after. Exit status 0 where all was as it is due.
+tests/rows/reopened_rows.py is left out. Then `office waiting` has to tell what the model misses, over the bag and over
+a store, `office report` the texts of each finished run, `office runs` and `office mail` what they count, `office
+export` the kept mail, and the service the same on its pages. The bytes of the store's file have to be the same before
+and after. A replay has to tell refused messages on standard error. Exit status 0 where all was as it is due.
 """
 import os
 import random
@@ -72,6 +73,56 @@ def awaited(office):
     return text, 1
 
 
+def run_lines(office):
+    """A line for each finished run, by counts of the lines of its reports."""
+    lines = ""
+    for run in range(1, office.finished + 1):
+        (heading, *excuses), (_, *update) = [report.splitlines() for report in office.reports[run]]
+        moves = [line.split(" ") for line in update]
+        done = {kind: sum(move[0] == kind and move[2] == "accept" for move in moves) for kind in ("easy", "remove")}
+        counts = [("excuses", sum(not line.startswith(" ") for line in excuses)),
+                  ("candidates", excuses.count(" candidate")),
+                  ("accept", sum(move[0] == "accept" for move in moves)), ("easy", done["easy"]),
+                  ("remove", done["remove"]), ("wait", sum(move[0] == "wait" for move in moves))]
+        lines += "run %d %s %s\n" % (run, heading.split()[2], " ".join("%s %d" % count for count in counts))
+    return lines
+
+
+def mail_lines(office):
+    """How much mail is kept of each sender."""
+    lines = ""
+    for place, sender in enumerate(SENDERS):
+        numbers = [number for of, number in office.kept if of == place]
+        lines += "mail %s %d kept" % (sender, len(numbers))
+        lines += ", 1 to %d" % (first_gap(office.kept, place) - 1) if first_gap(office.kept, place) > 1 else ""
+        lines += ", greatest %d\n" % max(numbers) if numbers else "\n"
+    return lines
+
+
+def about(text):
+    """The kind of a message, and what it is about."""
+    field, *binaries = paragraphs(text)
+    if field["kind"] == "run":
+        covers = sorted((SENDERS.index(sender), int(number)) for sender, number in
+                        (item.split() for item in field["covers"].split(",") if item.strip()))
+        stated = ", ".join("%s %d" % (SENDERS[sender], number) for sender, number in covers if number)
+        return ("run %s %s" % (field["day"], stated)).rstrip()
+    words = {"upload": ["source", "version"], "drop": ["package", "version", "architecture"], "build": [],
+             "bug": ["bug", "source"], "hint": ["hint"], "unhint": ["cancels"],
+             "delays": ["low", "medium", "high", "critical"], "none": []}[field["kind"]]
+    told = [str(len(binaries))] if field["kind"] == "build" else [" ".join(field[word].split()) for word in words]
+    return " ".join([field["kind"], *told])
+
+
+def list_lines(office):
+    kept = sorted(office.kept.items())
+    return "".join("%s %d %s\n" % (SENDERS[of], number, about(text)) for (of, number), text in kept)
+
+
+def kept_bag(office):
+    return mail([text for _, text in sorted(office.kept.items())])
+
+
 def texts_of(seed):
     """The mail of a seed in one bag, without some of its messages."""
     (_, lines), = rows_of(row_of(seed))
@@ -93,6 +144,11 @@ def over_a_store(seed, office, store):
             want("%d: report %d %s" % (seed, run, report), (text, 0), got)
     got = call("report", str(office.finished + 1), "excuses", "--conf", CONF, "--db", store)
     want("%d: a report of no run" % seed, ("", 1), got)
+    stored = ["--conf", CONF, "--db", store]
+    want("%d: runs" % seed, (run_lines(office), 0), call("runs", *stored))
+    want("%d: mail" % seed, (mail_lines(office), 0), call("mail", *stored))
+    want("%d: mail --list" % seed, (list_lines(office), 0), call("mail", *stored, "--list"))
+    want("%d: export" % seed, (kept_bag(office), 0), call("export", *stored))
     want("%d: the store's bytes" % seed, True, before == bytes_of(store))
     if seed % 5 == 0:
         by_service(seed, office, store, due[0])
@@ -101,6 +157,8 @@ def over_a_store(seed, office, store):
 def by_service(seed, office, store, due):
     pages = [("/waiting", due), ("/testing", office.testing())]
     pages += [("/update/%d" % run, office.reports[run][1]) for run in range(1, office.finished + 1)]
+    pages += [("/runs", run_lines(office)), ("/kept", mail_lines(office))]
+    pages += [("/kept/%s/%d" % (SENDERS[of], number), text) for (of, number), text in sorted(office.kept.items())]
     words = [program, "serve", "--conf", CONF, "--port", str(port), "--connections", str(len(pages)), "--db", store]
     with subprocess.Popen(words, stdout=subprocess.PIPE) as service:
         service.stdout.readline()
@@ -124,7 +182,8 @@ def words(folder):
     stored = ["--conf", CONF, "--db", none]
     rows = [(["report", "0", "excuses"], 2), (["report", "1"], 2), (["report", "x", "update"], 2),
             (["report", "testing", "update"], 2), (["report", "1", "testing"], 2), (["report", "1", "excuses"], 4),
-            (["report", "testing"], 4), (["waiting"], 4)]
+            (["report", "testing"], 4), (["waiting"], 4), (["runs"], 4), (["mail"], 4), (["mail", "--list"], 4),
+            (["export"], 4), (["runs", "--list"], 2)]
     for row, status in rows:
         want("words %s" % row, ("", status), call(*row, *stored))
         want("words %s, the file" % row, False, os.path.exists(none))
@@ -132,10 +191,22 @@ def words(folder):
     want("version with more words", 2, call("--version", "replay")[1])
 
 
+def refusals():
+    """A replay tells each refused message on standard error, with its place in the bag."""
+    none = "From: ftp\nNumber: 1\nKind: none\n"
+    texts = [none, "hello", "From: ftp\nNumber: 2\nKind: upload\n", none, none + "Note: other\n"]
+    due = [(2, "BadParagraph"), (3, "MissingField Source"), (5, "OtherText")]
+    words = [program, "replay", "--conf", CONF]
+    ran = subprocess.run(words, input=mail(texts).encode(), capture_output=True, timeout=60)
+    told = "".join("office: standard input: message %d: refused %s\n" % refusal for refusal in due)
+    want("refusals of a replay", (told, 0), (ran.stderr.decode(), ran.returncode))
+
+
 def main():
     first, _, last = seeds.partition("-")
     with tempfile.TemporaryDirectory() as folder:
         words(folder)
+        refusals()
         for seed in range(int(first), int(last or first) + 1):
             one(seed, folder)
     for fault in faults:

@@ -8,22 +8,29 @@ fn counted(alloc: Global, names: &[&str]) -> Result<usize, ArchsFault> {
     Ok(archs.as_slice().len())
 }
 
+/// Names, and how many architectures they give, or why none.
+static NAMES: [(&[&str], Result<usize, ArchsFault>); 6] = [
+    (&["amd64", "arm64"], Ok(2)),
+    (
+        &[
+            "a", "b", "c", "d", "e", "f", "g", "h", "i", "j", "k", "l", "m", "n", "o", "p",
+        ],
+        Ok(16),
+    ),
+    (
+        &[
+            "a", "b", "c", "d", "e", "f", "g", "h", "i", "j", "k", "l", "m", "n", "o", "p", "q",
+        ],
+        Err(ArchsFault::TooMany),
+    ),
+    (&[], Err(ArchsFault::BadArchitecture)),
+    (&["amd64", "amd64"], Err(ArchsFault::BadArchitecture)),
+    (&["amd64", "all"], Err(ArchsFault::BadArchitecture)),
+];
+
 #[test]
 fn names_of_architectures(rt: HostRuntime) {
-    let alloc = rt.alloc();
-    let many = [
-        "a", "b", "c", "d", "e", "f", "g", "h", "i", "j", "k", "l", "m", "n", "o", "p", "q",
-    ];
-    assert_eq!(rt; counted(alloc, &["amd64", "arm64"]), Ok(2));
-    assert_eq!(rt; counted(alloc, &many[..16]), Ok(16));
-    assert_eq!(rt; counted(alloc, &many), Err(ArchsFault::TooMany));
-    assert_eq!(rt; counted(alloc, &[]), Err(ArchsFault::BadArchitecture));
-    assert_eq!(rt;
-        counted(alloc, &["amd64", "amd64"]),
-        Err(ArchsFault::BadArchitecture)
-    );
-    assert_eq!(rt;
-        counted(alloc, &["amd64", "all"]),
-        Err(ArchsFault::BadArchitecture)
-    );
+    for (names, due) in &NAMES {
+        assert_eq!(rt; counted(rt.alloc(), names), *due);
+    }
 }

@@ -3,7 +3,7 @@ use deb_control::Binary;
 use office_mail::{
     Body, Field, MailFault, Role, Sender, Setup, SetupFault, SetupField, read_message,
 };
-use std::alloc::Global;
+use std::alloc::{AllocError, Global};
 use std::test::Fail;
 use testing_items::{ALL, Archs, Hint, HintItem, Item, Urgency};
 
@@ -38,15 +38,28 @@ fn has_the_worked_archs(archs: &Archs) -> bool {
         && archs.name(ALL) == "all"
 }
 
+/// Whether a setup is the worked one.
+fn is_the_worked_setup(setup: &Setup) -> bool {
+    has_the_worked_archs(setup.archs()) && has_the_worked_senders(setup) && setup.runs() == 4
+}
+
 #[test]
 fn the_worked_setup(rt: HostRuntime) -> Result<(), Fail> {
     let setup = worked_setup(rt.alloc())?;
-    let copy = setup.copy(rt.alloc())?;
-    for setup in [&setup, &copy] {
-        assert!(rt; has_the_worked_archs(setup.archs()));
-        assert!(rt; has_the_worked_senders(setup));
-        assert_eq!(rt; setup.runs(), 4);
-    }
+    assert!(rt; is_the_worked_setup(&setup));
+    Ok(())
+}
+
+/// A copy of the worked setup.
+fn copied_setup(alloc: Global) -> Result<Setup, Fail> {
+    let setup = worked_setup(alloc)?;
+    Ok(setup.copy(alloc)?)
+}
+
+#[test]
+fn a_copy_of_the_worked_setup(rt: HostRuntime) -> Result<(), Fail> {
+    let copy = copied_setup(rt.alloc())?;
+    assert!(rt; is_the_worked_setup(&copy));
     Ok(())
 }
 
@@ -56,52 +69,63 @@ const SENDERS: &str =
 const NO_BUGS: &str =
     "\n\nSender: a\nRole: upload\n\nSender: b\nRole: build\n\nSender: d\nRole: release\n\nSender: e\nRole: runs";
 
+/// Setups in two parts, and why they are refused.
+static REFUSED_SETUPS: [(&str, &str, SetupFault); 10] = [
+    ("", "", SetupFault::MissingField(SetupField::Architectures)),
+    ("Architectures amd64", "", SetupFault::BadParagraph),
+    (
+        "Architectures: amd64 all",
+        SENDERS,
+        SetupFault::BadArchitecture,
+    ),
+    (
+        "Architectures: amd64 amd64",
+        SENDERS,
+        SetupFault::BadArchitecture,
+    ),
+    (
+        "Architectures: a\n\nSender: x",
+        "",
+        SetupFault::MissingField(SetupField::Role),
+    ),
+    (
+        "Architectures: a\n\nSender: a\nRole: upload",
+        SENDERS,
+        SetupFault::BadSender,
+    ),
+    (
+        "Architectures: a\n\nSender: x\nRole: y",
+        "",
+        SetupFault::BadRoles,
+    ),
+    (
+        "Architectures: a\n\nSender: x\nRole: runs",
+        SENDERS,
+        SetupFault::BadRoles,
+    ),
+    ("Architectures: a", NO_BUGS, SetupFault::BadRoles),
+    (
+        "Architectures: a0 a1 a2 a3 a4 a5 a6 a7 a8 a9 a10 a11 a12 a13 a14 a15 a16",
+        SENDERS,
+        SetupFault::TooMany,
+    ),
+];
+
+/// Why a setup of two parts is refused.
+fn setup_fault(
+    alloc: Global,
+    archs: &str,
+    senders: &str,
+) -> Result<Option<SetupFault>, AllocError> {
+    let text = format!(in alloc; "{archs}{senders}")?;
+    Ok(Setup::parse(alloc, text.as_bytes()).err())
+}
+
 #[test]
 fn refused_setups(rt: HostRuntime) -> Result<(), Fail> {
-    let table = [
-        ("", "", SetupFault::MissingField(SetupField::Architectures)),
-        ("Architectures amd64", "", SetupFault::BadParagraph),
-        (
-            "Architectures: amd64 all",
-            SENDERS,
-            SetupFault::BadArchitecture,
-        ),
-        (
-            "Architectures: amd64 amd64",
-            SENDERS,
-            SetupFault::BadArchitecture,
-        ),
-        (
-            "Architectures: a\n\nSender: x",
-            "",
-            SetupFault::MissingField(SetupField::Role),
-        ),
-        (
-            "Architectures: a\n\nSender: a\nRole: upload",
-            SENDERS,
-            SetupFault::BadSender,
-        ),
-        (
-            "Architectures: a\n\nSender: x\nRole: y",
-            "",
-            SetupFault::BadRoles,
-        ),
-        (
-            "Architectures: a\n\nSender: x\nRole: runs",
-            SENDERS,
-            SetupFault::BadRoles,
-        ),
-        ("Architectures: a", NO_BUGS, SetupFault::BadRoles),
-        (
-            "Architectures: a0 a1 a2 a3 a4 a5 a6 a7 a8 a9 a10 a11 a12 a13 a14 a15 a16",
-            SENDERS,
-            SetupFault::TooMany,
-        ),
-    ];
-    for (archs, senders, fault) in table {
-        let text = format!(in rt.alloc(); "{archs}{senders}")?;
-        let answer = Setup::parse(rt.alloc(), text.as_bytes());
-        assert_eq!(rt; answer.err(), Some(fault));
+    for (archs, senders, fault) in &REFUSED_SETUPS {
+        let answer = setup_fault(rt.alloc(), archs, senders)?;
+        assert_eq!(rt; answer, Some(*fault));
     }
     Ok(())
 }
@@ -119,7 +143,8 @@ const RT: &str = "From: rt\nNumber: 1\n";
 
 const CLOCK: &str = "From: clock\nNumber: 1\nKind: run\nDay: 2025-03-06\n";
 
-const REFUSED: [(&str, &str, MailFault); 22] = [
+/// Messages in two parts, and why they are refused.
+static REFUSED: [(&str, &str, MailFault); 22] = [
     ("", "", MailFault::MissingField(Field::From)),
     (
         "From: ftp\n",
@@ -200,28 +225,52 @@ const REFUSED: [(&str, &str, MailFault); 22] = [
     ),
 ];
 
+/// Why a message is refused.
+fn message_fault(alloc: Global, setup: &Setup, text: &str) -> Option<MailFault> {
+    read_message(alloc, setup, text.as_bytes()).err()
+}
+
+/// Why a message of two parts is refused.
+fn fault_of(
+    alloc: Global,
+    setup: &Setup,
+    head: &str,
+    body: &str,
+) -> Result<Option<MailFault>, AllocError> {
+    let text = format!(in alloc; "{head}{body}")?;
+    Ok(message_fault(alloc, setup, text.as_str()))
+}
+
 #[test]
 fn refused_messages(rt: HostRuntime) -> Result<(), Fail> {
     let setup = worked_setup(rt.alloc())?;
-    for (head, body, fault) in REFUSED {
-        let text = format!(in rt.alloc(); "{head}{body}")?;
-        let answer = read_message(rt.alloc(), &setup, text.as_bytes());
-        assert_eq!(rt; answer.err(), Some(fault));
+    for (head, body, fault) in &REFUSED {
+        let answer = fault_of(rt.alloc(), &setup, head, body)?;
+        assert_eq!(rt; answer, Some(*fault));
     }
     Ok(())
 }
 
-#[test]
-fn too_many_binaries(rt: HostRuntime) -> Result<(), Fail> {
-    let setup = worked_setup(rt.alloc())?;
-    let mut text = String::from_str(rt.alloc(), "From: bd\nNumber: 1\nKind: build\n")?;
-    for _ in 0..64 {
+/// A build of so many binaries.
+fn build_of(alloc: Global, count: u32) -> Result<String, AllocError> {
+    let mut text = String::from_str(alloc, "From: bd\nNumber: 1\nKind: build\n")?;
+    for _ in 0..count {
         text.push_str("\nPackage: aa\nVersion: 1\nArchitecture: amd64\n")?;
     }
-    assert_eq!(rt;
-        read_message(rt.alloc(), &setup, text.as_bytes()).err(),
-        Some(MailFault::TooManyParagraphs)
-    );
+    Ok(text)
+}
+
+/// Why a build of so many binaries is refused.
+fn build_fault(alloc: Global, count: u32) -> Result<Option<MailFault>, Fail> {
+    let setup = worked_setup(alloc)?;
+    let text = build_of(alloc, count)?;
+    Ok(message_fault(alloc, &setup, text.as_str()))
+}
+
+#[test]
+fn too_many_binaries(rt: HostRuntime) -> Result<(), Fail> {
+    let fault = build_fault(rt.alloc(), 64)?;
+    assert_eq!(rt; fault, Some(MailFault::TooManyParagraphs));
     Ok(())
 }
 
@@ -238,49 +287,56 @@ const SOME_DELAYS: &str =
 
 const A_RUN: &str = "From: clock\nNumber: 1\nKind: run\nDay: 2025-03-06\nCovers: rt 8, , ftp\t2\n";
 
+/// Messages, and the place of the sender and the number of each.
+static ACCEPTED: [(&str, (u32, u32)); 14] = [
+    (AN_UPLOAD, (0, 1)),
+    (
+        "From: ftp\nNumber: 2\nKind: drop\nPackage: libfoo1\nArchitecture: arm64\nVersion: 1.0-1\n",
+        (0, 2),
+    ),
+    (A_BUILD, (1, 1)),
+    (
+        "From: bts\nNumber: 1\nKind: bug\nBug: 1042\nSource: foo\nSeverity: serious\nFound: 1.0-1\nFixed: 1.1-1\n",
+        (2, 1),
+    ),
+    ("From: bts\nNumber: 2\nKind: none\n", (2, 2)),
+    (
+        "From: rt\nNumber: 1\nKind: hint\nHint: block foo bar\n",
+        (3, 1),
+    ),
+    (
+        "From: rt\nNumber: 2\nKind: hint\nHint: unblock foo/1.0-1\n",
+        (3, 2),
+    ),
+    (A_GROUP, (3, 3)),
+    (
+        "From: rt\nNumber: 4\nKind: hint\nHint: age-days 3 foo/1.0-1\n",
+        (3, 4),
+    ),
+    (
+        "From: rt\nNumber: 5\nKind: hint\nHint: remove foo/1.0-1\n",
+        (3, 5),
+    ),
+    (
+        "From: rt\nNumber: 6\nKind: hint\nHint: block-all source\n",
+        (3, 6),
+    ),
+    ("From: rt\nNumber: 7\nKind: unhint\nCancels: 1\n", (3, 7)),
+    (SOME_DELAYS, (3, 8)),
+    (A_RUN, (4, 1)),
+];
+
+/// The place of a message's sender, and its number.
+fn place_of(alloc: Global, setup: &Setup, text: &str) -> Result<(u32, u32), MailFault> {
+    let message = read_message(alloc, setup, text.as_bytes())?;
+    Ok((message.sender, message.number))
+}
+
 #[test]
 fn accepted_messages(rt: HostRuntime) -> Result<(), Fail> {
     let setup = worked_setup(rt.alloc())?;
-    let table = [
-        (AN_UPLOAD, (0, 1)),
-        (
-            "From: ftp\nNumber: 2\nKind: drop\nPackage: libfoo1\nArchitecture: arm64\nVersion: 1.0-1\n",
-            (0, 2),
-        ),
-        (A_BUILD, (1, 1)),
-        (
-            "From: bts\nNumber: 1\nKind: bug\nBug: 1042\nSource: foo\nSeverity: serious\nFound: 1.0-1\nFixed: 1.1-1\n",
-            (2, 1),
-        ),
-        ("From: bts\nNumber: 2\nKind: none\n", (2, 2)),
-        (
-            "From: rt\nNumber: 1\nKind: hint\nHint: block foo bar\n",
-            (3, 1),
-        ),
-        (
-            "From: rt\nNumber: 2\nKind: hint\nHint: unblock foo/1.0-1\n",
-            (3, 2),
-        ),
-        (A_GROUP, (3, 3)),
-        (
-            "From: rt\nNumber: 4\nKind: hint\nHint: age-days 3 foo/1.0-1\n",
-            (3, 4),
-        ),
-        (
-            "From: rt\nNumber: 5\nKind: hint\nHint: remove foo/1.0-1\n",
-            (3, 5),
-        ),
-        (
-            "From: rt\nNumber: 6\nKind: hint\nHint: block-all source\n",
-            (3, 6),
-        ),
-        ("From: rt\nNumber: 7\nKind: unhint\nCancels: 1\n", (3, 7)),
-        (SOME_DELAYS, (3, 8)),
-        (A_RUN, (4, 1)),
-    ];
-    for (text, place) in table {
-        let message = read_message(rt.alloc(), &setup, text.as_bytes())?;
-        assert_eq!(rt; (message.sender, message.number), place);
+    for (text, place) in &ACCEPTED {
+        assert_eq!(rt; place_of(rt.alloc(), &setup, text), Ok(*place));
     }
     Ok(())
 }
@@ -305,12 +361,16 @@ fn is_the_build(body: &Body) -> bool {
     }
 }
 
+fn is_the_first_binary(foo: &Binary) -> bool {
+    foo.version.text() == "1.0-1+b1"
+        && foo.source_version.text() == "1.0-1"
+        && foo.clauses.as_slice().len() == 1
+}
+
 fn are_the_binaries(binaries: &[Binary]) -> bool {
     match binaries {
         [foo, lib] => {
-            foo.version.text() == "1.0-1+b1"
-                && foo.source_version.text() == "1.0-1"
-                && foo.clauses.as_slice().len() == 1
+            is_the_first_binary(foo)
                 && lib.source.as_str() == "foo"
                 && lib.provides.as_slice().len() == 1
         }
@@ -370,19 +430,26 @@ fn what_is_said(body: &Body) -> &'static str {
     }
 }
 
+/// Messages, and what each says.
+static SAID: [(&str, &str); 5] = [
+    (AN_UPLOAD, "upload"),
+    (A_BUILD, "build"),
+    (A_GROUP, "group"),
+    (SOME_DELAYS, "delays"),
+    (A_RUN, "run"),
+];
+
+/// Which of the messages above this text says.
+fn said_in(alloc: Global, setup: &Setup, text: &str) -> Result<&'static str, MailFault> {
+    let message = read_message(alloc, setup, text.as_bytes())?;
+    Ok(what_is_said(&message.body))
+}
+
 #[test]
 fn what_messages_say(rt: HostRuntime) -> Result<(), Fail> {
     let setup = worked_setup(rt.alloc())?;
-    let table = [
-        (AN_UPLOAD, "upload"),
-        (A_BUILD, "build"),
-        (A_GROUP, "group"),
-        (SOME_DELAYS, "delays"),
-        (A_RUN, "run"),
-    ];
-    for (text, what) in table {
-        let message = read_message(rt.alloc(), &setup, text.as_bytes())?;
-        assert_eq!(rt; what_is_said(&message.body), what);
+    for (text, what) in &SAID {
+        assert_eq!(rt; said_in(rt.alloc(), &setup, text), Ok(*what));
     }
     Ok(())
 }

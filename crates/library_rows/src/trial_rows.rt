@@ -1,7 +1,8 @@
 //! Trials and changes of a suite, beside its rows judged anew.
 
-use crate::install_rows::drawn_row;
+use crate::install_rows::{NotRead, drawn, drawn_row};
 use deb_control::Binary;
+use deb_version::NoMemory;
 use std::alloc::Global;
 use std::rc::Rc;
 use std::test::Fail;
@@ -14,32 +15,62 @@ struct Judged {
     installable: Vec<bool>,
 }
 
-// The rows that are there, judged anew.
-fn judged_anew(alloc: Global, suite: &Suite, binaries: &[Rc<Binary>]) -> Result<Judged, Fail> {
-    let mut rows = Vec::new(alloc);
+// Which of the rows are there.
+fn there_in(alloc: Global, suite: &Suite) -> Result<Vec<bool>, NoMemory> {
     let mut there = Vec::new(alloc);
-    for (place, binary) in binaries.iter().take(suite.len()).enumerate() {
+    for place in 0..suite.len() {
         there.push(suite.is_there(place))?;
-        if suite.is_there(place) {
+    }
+    Ok(there)
+}
+
+// The rows that are there.
+fn rows_there<'a>(
+    alloc: Global,
+    there: &[bool],
+    binaries: &'a [Rc<Binary>],
+) -> Result<Vec<Row<'a>>, NoMemory> {
+    let mut rows = Vec::new(alloc);
+    for (binary, is_there) in binaries.iter().zip(there) {
+        if *is_there {
             rows.push(Row {
                 binary: binary.as_ref(),
             })?;
         }
     }
-    let answers = installable(alloc, &rows)?;
+    Ok(rows)
+}
+
+// The answers for the rows that are there, each at its place among all.
+fn spread(alloc: Global, there: &[bool], answers: &[bool]) -> Result<Vec<bool>, NoMemory> {
     let mut left = answers.iter();
-    let mut judged = Vec::new(alloc);
-    for is_there in &there {
-        judged.push(*is_there && left.next().copied().unwrap_or(false))?;
+    let mut spread = Vec::new(alloc);
+    for is_there in there {
+        spread.push(*is_there && left.next().copied().unwrap_or(false))?;
     }
-    Ok(Judged {
-        there,
-        installable: judged,
-    })
+    Ok(spread)
+}
+
+// The answers for the rows that are there, judged anew.
+fn answers_anew(
+    alloc: Global,
+    there: &[bool],
+    binaries: &[Rc<Binary>],
+) -> Result<Vec<bool>, NoMemory> {
+    let rows = rows_there(alloc, there, binaries)?;
+    let answers = installable(alloc, &rows)?;
+    spread(alloc, there, &answers)
+}
+
+// The rows that are there, judged anew.
+fn judged_anew(alloc: Global, suite: &Suite, binaries: &[Rc<Binary>]) -> Result<Judged, NoMemory> {
+    let there = there_in(alloc, suite)?;
+    let installable = answers_anew(alloc, &there, binaries)?;
+    Ok(Judged { there, installable })
 }
 
 // The suite's own answers.
-fn answers_of(alloc: Global, suite: &Suite) -> Result<Vec<bool>, Fail> {
+fn answers_of(alloc: Global, suite: &Suite) -> Result<Vec<bool>, NoMemory> {
     let mut answers = Vec::new(alloc);
     for place in 0..suite.len() {
         answers.push(suite.is_installable(place))?;
@@ -47,36 +78,60 @@ fn answers_of(alloc: Global, suite: &Suite) -> Result<Vec<bool>, Fail> {
     Ok(answers)
 }
 
+// Whether a flag stands at a place.
+fn has(flags: &[bool], place: usize, flag: bool) -> bool {
+    flags.get(place).copied() == Some(flag)
+}
+
+// Whether the row at a place is lost from one judgement to the next.
+fn is_lost(before: &Judged, after: &Judged, place: usize) -> bool {
+    let was_right = has(&before.installable, place, true) || has(&before.there, place, false);
+    let is_broken = has(&after.there, place, true) && has(&after.installable, place, false);
+    was_right && is_broken
+}
+
 // The places that are lost from one judgement to the next.
-fn lost_anew(alloc: Global, before: &Judged, after: &Judged) -> Result<Vec<usize>, Fail> {
+fn lost_anew(alloc: Global, before: &Judged, after: &Judged) -> Result<Vec<usize>, NoMemory> {
     let mut lost = Vec::new(alloc);
     for place in 0..after.there.len() {
-        let was_right = before.installable.get(place) == Some(&true)
-            || before.there.get(place) == Some(&false);
-        let is_broken = after.there.get(place) == Some(&true)
-            && after.installable.get(place) == Some(&false);
-        if was_right && is_broken {
+        if is_lost(before, after, place) {
             lost.push(place)?;
         }
     }
     Ok(lost)
 }
 
-// The next number that is drawn.
-fn drawn(bits: u64) -> u64 {
-    bits.wrapping_mul(6_364_136_223_846_793_005)
-        .wrapping_add(1_442_695_040_888_963_407)
-}
-
 // Packages whose needs are read off drawn numbers.
-fn drawn_rows(alloc: Global, count: u64, seed: u64) -> Result<Vec<Rc<Binary>>, Fail> {
+fn drawn_rows(alloc: Global, count: u64, seed: u64) -> Result<Vec<Rc<Binary>>, NotRead> {
     let mut bits = seed;
     let mut binaries = Vec::new(alloc);
     for place in 0..count {
         bits = drawn(bits);
-        binaries.push(Rc::new(alloc, drawn_row(alloc, place & 3, bits)?)?)?;
+        binaries.push(shared_row(alloc, place & 3, bits)?)?;
     }
     Ok(binaries)
+}
+
+// A package whose needs are read off a drawn number, to be shared.
+fn shared_row(alloc: Global, place: u64, bits: u64) -> Result<Rc<Binary>, NotRead> {
+    let binary = drawn_row(alloc, place, bits)?;
+    Ok(Rc::new(alloc, binary)?)
+}
+
+// The packages from a place to an end.
+fn binaries_from(
+    alloc: Global,
+    binaries: &[Rc<Binary>],
+    start: usize,
+    end: usize,
+) -> Result<Vec<Rc<Binary>>, NoMemory> {
+    let mut rows = Vec::new(alloc);
+    for place in start..end {
+        if let Some(binary) = binaries.get(place) {
+            rows.push(binary.clone()?)?;
+        }
+    }
+    Ok(rows)
 }
 
 // The suite with those of the packages more that stand from its end to a place.
@@ -85,14 +140,9 @@ fn with_rows_to(
     suite: Suite,
     binaries: &[Rc<Binary>],
     end: usize,
-) -> Result<Suite, Fail> {
-    let mut rows = Vec::new(alloc);
-    for place in suite.len()..end {
-        if let Some(binary) = binaries.get(place) {
-            rows.push(binary.clone()?)?;
-        }
-    }
-    Ok(suite.with_rows(alloc, rows)?)
+) -> Result<Suite, NoMemory> {
+    let rows = binaries_from(alloc, binaries, suite.len(), end)?;
+    suite.with_rows(alloc, rows)
 }
 
 // What a suite says in a series of changes, and what is so as its rows are judged anew.
@@ -104,6 +154,37 @@ struct Outcome {
     lost_anew: Vec<usize>,
 }
 
+// What a suite says before a change and of a trial of it, and what its rows are judged.
+fn note_before(
+    alloc: Global,
+    suite: &Suite,
+    before: &Judged,
+    lost: Vec<usize>,
+    outcome: &mut Outcome,
+) -> Result<(), NoMemory> {
+    let mut lost = lost;
+    lost.sort()?;
+    outcome.lost.extend_from_slice(&lost)?;
+    let said = answers_of(alloc, suite)?;
+    outcome.said.extend_from_slice(&said)?;
+    outcome.judged.extend_from_slice(&before.installable)?;
+    Ok(())
+}
+
+// What is lost behind a change, as the rows are judged anew.
+fn note_after(
+    alloc: Global,
+    suite: &Suite,
+    binaries: &[Rc<Binary>],
+    before: &Judged,
+    outcome: &mut Outcome,
+) -> Result<(), NoMemory> {
+    let after = judged_anew(alloc, suite, binaries)?;
+    let lost = lost_anew(alloc, before, &after)?;
+    outcome.lost_anew.extend_from_slice(&lost)?;
+    Ok(())
+}
+
 // Changes that are drawn, each of which is tried first.
 fn turns(
     alloc: Global,
@@ -111,7 +192,7 @@ fn turns(
     binaries: &[Rc<Binary>],
     seed: u64,
     outcome: &mut Outcome,
-) -> Result<(), Fail> {
+) -> Result<(), NoMemory> {
     let mut bits = seed;
     for _turn in 0..20 {
         bits = drawn(bits);
@@ -122,22 +203,16 @@ fn turns(
         let leaving = [(bits >> 30) as usize % count];
         let coming = [(bits >> 36) as usize % count, (bits >> 42) as usize % count];
         let before = judged_anew(alloc, suite, binaries)?;
-        let mut lost = suite.trial(alloc, &leaving, &coming)?;
-        lost.sort()?;
-        outcome.lost.extend_from_slice(&lost)?;
-        outcome.said.extend_from_slice(&answers_of(alloc, suite)?)?;
-        outcome.judged.extend_from_slice(&before.installable)?;
+        let lost = suite.trial(alloc, &leaving, &coming)?;
+        note_before(alloc, suite, &before, lost, outcome)?;
         suite.change(alloc, &leaving, &coming)?;
-        let after = judged_anew(alloc, suite, binaries)?;
-        outcome
-            .lost_anew
-            .extend_from_slice(&lost_anew(alloc, &before, &after)?)?;
+        note_after(alloc, suite, binaries, &before, outcome)?;
     }
     Ok(())
 }
 
 // Changes among the first of the packages, and then, as the others come behind them, among all.
-fn series(alloc: Global, binaries: &[Rc<Binary>], seed: u64) -> Result<Outcome, Fail> {
+fn series(alloc: Global, binaries: &[Rc<Binary>], seed: u64) -> Result<Outcome, NoMemory> {
     let mut outcome = Outcome {
         said: Vec::new(alloc),
         judged: Vec::new(alloc),

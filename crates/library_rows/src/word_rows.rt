@@ -5,38 +5,40 @@ use office_words::{
 };
 use std::test::Fail;
 
+/// Two versions, what they are compared by, and the status.
+static STATUSES: [(&str, &str, &str, u8); 21] = [
+    ("1.0~rc1", "lt", "1.0", 0),
+    ("0:1.00", "eq", "1.0-0", 0),
+    ("1.0a", "lt", "1.0+dfsg", 0),
+    ("2.0", "lt", "1:1.0", 0),
+    ("1.10", "lt", "1.9", 1),
+    ("1~~", "lt", "1~~a", 0),
+    ("1~~a", "lt", "1~", 0),
+    ("1~", "lt", "1", 0),
+    ("1", "lt", "1a", 0),
+    ("1a", "lt", "1+", 0),
+    ("1.", "eq", "1.0", 0),
+    ("1", "eq", "1-0", 0),
+    ("1:2:3-1", "lt", "2:3-1", 0),
+    ("1:2:3-1", "gt", "2:3-1", 1),
+    ("1.0-1", "le", "1.0-1+b1", 0),
+    ("1.0-1", "ge", "1.0~rc1-1", 0),
+    (
+        "10000000000000000000000000000000000000000",
+        "gt",
+        "9999999999999999999999999999999999999999",
+        0,
+    ),
+    ("2147483648:1", "eq", "1", 3),
+    ("1", "eq", "1.0_2", 3),
+    ("1", "lte", "1", 2),
+    ("", "<<", "", 2),
+];
+
 #[test]
 fn statuses(rt: HostRuntime) {
-    let rows = [
-        ("1.0~rc1", "lt", "1.0", 0),
-        ("0:1.00", "eq", "1.0-0", 0),
-        ("1.0a", "lt", "1.0+dfsg", 0),
-        ("2.0", "lt", "1:1.0", 0),
-        ("1.10", "lt", "1.9", 1),
-        ("1~~", "lt", "1~~a", 0),
-        ("1~~a", "lt", "1~", 0),
-        ("1~", "lt", "1", 0),
-        ("1", "lt", "1a", 0),
-        ("1a", "lt", "1+", 0),
-        ("1.", "eq", "1.0", 0),
-        ("1", "eq", "1-0", 0),
-        ("1:2:3-1", "lt", "2:3-1", 0),
-        ("1:2:3-1", "gt", "2:3-1", 1),
-        ("1.0-1", "le", "1.0-1+b1", 0),
-        ("1.0-1", "ge", "1.0~rc1-1", 0),
-        (
-            "10000000000000000000000000000000000000000",
-            "gt",
-            "9999999999999999999999999999999999999999",
-            0,
-        ),
-        ("2147483648:1", "eq", "1", 3),
-        ("1", "eq", "1.0_2", 3),
-        ("1", "lte", "1", 2),
-        ("", "<<", "", 2),
-    ];
-    for (v1, op, v2, want) in rows {
-        assert_eq!(rt; compare_status(v1, op, v2), want, "{v1} {op} {v2}");
+    for (v1, op, v2, want) in &STATUSES {
+        assert_eq!(rt; compare_status(v1, op, v2), *want, "{v1} {op} {v2}");
     }
 }
 
@@ -45,22 +47,22 @@ fn refusal_told(rt: HostRuntime) {
     assert_eq!(rt; compare(&rt, "1", "eq", "2147483648:1"), 3);
 }
 
-/// Want of memory while the arguments are read, and an argument that is no text, as sentences.
+/// Want of memory while the arguments are read, and an argument that is no text: each fault, its sentence and status.
+static FAULTS: [(ArgsFault, &str, u8); 2] = [
+    (ArgsFault::NoMemory, "out of memory", 4),
+    (
+        ArgsFault::NotUtf8,
+        "the arguments can't be read: one isn't UTF-8",
+        2,
+    ),
+];
+
 #[test]
 fn faults_of_arguments(rt: HostRuntime) -> Result<(), Fail> {
-    let alloc = rt.alloc();
-    let rows = [
-        (ArgsFault::NoMemory, "out of memory", 4),
-        (
-            ArgsFault::NotUtf8,
-            "the arguments can't be read: one isn't UTF-8",
-            2,
-        ),
-    ];
-    for (fault, due, status) in rows {
-        let text = format!(in alloc; "{fault}")?;
-        assert_eq!(rt; text.as_str(), due);
-        assert_eq!(rt; args_status(&fault), status, "at {due}");
+    for (fault, due, status) in &FAULTS {
+        let text = format!(in rt.alloc(); "{fault}")?;
+        assert_eq!(rt; text.as_str(), *due);
+        assert_eq!(rt; args_status(fault), *status, "at {due}");
     }
     Ok(())
 }

@@ -1,2 +1,3 @@
 pub mod Service
 pub mod Told
+pub mod Watched

@@ -1,11 +1,13 @@
 -- Steps: no contract of a call that users make rests on this file.
 -- What is told without a run, and its exit status.
-use Rattle.std.specs.Prelude.{ℕ, List, Option, Some, option_map}
+use Rattle.std.specs.Prelude.{◌≡◌, ℕ, List, Option, Some, option_map, length}
 use Rattle.office_runs.specs.Outcome.{testing_after, testing_text}
 use Rattle.office_runs.specs.OfficeState.{OfficeState}
 use Rattle.office_runs.specs.State.{reports_at}
 use Rattle.office_words.specs.declared.reports.Report.{Report}
 use Rattle.office_words.specs.declared.reports.Report.TheVariants.{Testing, Excuses, Update}
+use Rattle.office_questions.specs.declared.mail.MailCount.{MailCount}
+use Rattle.office_questions.specs.Mail.{AreMailCounts, mail_text}
 use Rattle.office_replies.specs.declared.waiting.Awaited.{Awaited}
 use Rattle.office_replies.specs.declared.waiting.Awaited.TheVariants.{Order, Mail}
 
@@ -19,3 +21,9 @@ report_text state (Update run) = option_map (λ reports. reports.updates) (repor
 abbrev pub status_of_awaited : Awaited → ℕ
 status_of_awaited Order = 0
 status_of_awaited (Mail lacks) = 1
+
+-- a text tells how much mail an office keeps of each sender
+pub record TellsMail (state : OfficeState) (text : List ℕ) : Type 0 where
+  pub counts : List MailCount
+  pub counted : AreMailCounts state.kept (length state.setup.senders) counts
+  pub text_is : text ≡ mail_text state.setup counts

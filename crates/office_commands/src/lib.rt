@@ -1,12 +1,16 @@
 //! What the office's program does with an office: it replays bags of mail from standard input, serves mail and reports
-//! over HTTP on loopback, and tells earlier reports and what a run waits for, over a store in memory or in a file.
+//! over HTTP on loopback, tells earlier reports and what a run waits for, over a store in memory or in a file, and answers
+//! questions about the runs and the mail of a store in a file.
 #![tactic(auto)]
 
+mod asking;
+mod batched;
 mod noted;
 mod service;
 mod tasks;
 mod telling;
 mod timed;
+mod watched;
 
 pub use office_files::{
     ConfFault, StoreFault, close_store, conf_status, open_store, open_tables, read_setup,

@@ -4,12 +4,13 @@ ghost use Rattle.std.specs.Prelude.{◌≡◌};
 ghost use Rattle.std.specs.IoError.{error_kind};
 ghost use Rattle.office_commands.specs.Service.{fault_by, status_of_service};
 
+use crate::batched::Batched;
 use crate::noted::Noted;
 use crate::timed::Timed;
-use office_http::{Office, ServeFault, serve_one};
+use office_http::{Office, ServeFault, Served, serve_one};
 use office_mail::{FromRead, ToWrite};
 use office_store::Keeper;
-use std::io::{ErrorKind, Read};
+use std::io::{ErrorKind, Read, Write};
 use std::net::{Shutdown, TcpListener, TcpStream};
 use std::time::Duration;
 use std::{io, thread};
@@ -128,15 +129,26 @@ fn serve_stream<K: Keeper>(rt: &HostRuntime, stream: &TcpStream, office: &mut Of
     let _ = stream.set_write_timeout(Some(Duration::from_millis(REPLY)));
     let mut request = Noted::new(Timed::new(rt, stream, Duration::from_millis(REQUEST)));
     let mut reader = FromRead::new(&mut request);
-    let mut writer = ToWrite::new(stream);
+    let mut reply = Batched::new(stream);
+    let mut writer = ToWrite::new(&mut reply);
     let served = serve_one(office, &mut reader, &mut writer);
     drop(reader);
-    match served {
+    match sent(served, &mut reply) {
         Ok(_) => end(rt, stream),
         Err(ServeFault::Read) => tell_unread(rt, request.fault()),
         Err(ServeFault::Write) => {
             let _ = eprintln!(rt; "office: a reply can't be written: its connection is closed");
         }
+    }
+}
+
+/// What came of a connection, once all of its reply is sent.
+fn sent(served: Result<Served, ServeFault>, reply: &mut Batched<'_>) -> Result<Served, ServeFault> {
+    let flushed = reply.flush();
+    let served = served?;
+    match flushed {
+        Ok(()) => Ok(served),
+        Err(_) => Err(ServeFault::Write),
     }
 }
 

@@ -1,8 +1,10 @@
 //! What the program's words ask for: a comparison, the version, or a task over a store.
 
+use crate::asking::{Question, tell_answer};
 use crate::noted::Noted;
 use crate::service::{serve, service_status};
 use crate::telling::{tell_report, tell_version, tell_waiting};
+use crate::watched::Watched;
 use office_files::{StoreFault, close_store, conf_status, open_store, read_setup, store_status};
 use office_http::{Office, Replayed, WriteFault, replay, replay_status};
 use office_mail::{Bag, BagFault, FromRead, Setup, ToWrite};
@@ -28,6 +30,8 @@ enum Task {
     BagWaiting,
     /// A report is told.
     Report(Report),
+    /// A question is answered.
+    Answer(Question),
 }
 
 /// Does what words ask for, and gives the exit status.
@@ -45,8 +49,21 @@ pub fn run_command(rt: &HostRuntime, words: Words) -> u8 {
         Words::Waiting { conf, db } => run_for(rt, conf, db, Task::Waiting),
         Words::Report { conf, db, report } => run_for(rt, conf, Some(db), Task::Report(report)),
         Words::UnknownReport { run, report } => refuse_report(rt, run, report),
+        Words::Runs { conf, db } => answer_for(rt, conf, db, Question::Runs),
+        Words::Mail { conf, db, list } => answer_for(rt, conf, db, mail_question(list)),
+        Words::Export { conf, db } => answer_for(rt, conf, db, Question::Export),
         Words::Version => tell_version(rt),
     }
+}
+
+/// What is asked about mail: each message of it, or counts.
+fn mail_question(list: bool) -> Question {
+    if list { Question::List } else { Question::Mail }
+}
+
+/// Answers a question for the setup in a file, from the store in another.
+fn answer_for(rt: &HostRuntime, conf: &str, db: &str, question: Question) -> u8 {
+    run_for(rt, conf, Some(db), Task::Answer(question))
 }
 
 fn out_of_memory(rt: &HostRuntime) -> u8 {
@@ -71,7 +88,7 @@ fn run_for(rt: &HostRuntime, conf: &str, db: Option<&str>, task: Task) -> u8 {
 /// Looks whether the file is there that a task tells of. Only a replay and a service make one.
 fn look_at(rt: &HostRuntime, path: &str, task: Task) -> io::Result<()> {
     match task {
-        Task::Waiting | Task::Report(_) => fs::open(rt, path).map(drop),
+        Task::Waiting | Task::Report(_) | Task::Answer(_) => fs::open(rt, path).map(drop),
         Task::Replay | Task::Serve { .. } | Task::BagWaiting => Ok(()),
     }
 }
@@ -122,6 +139,7 @@ fn run_over<K: Keeper>(rt: &HostRuntime, office: &mut Office<K>, task: Task) -> 
         Task::Waiting => tell_waiting(rt, office),
         Task::BagWaiting => deliver_and_tell(rt, office),
         Task::Report(report) => tell_report(rt, office, report),
+        Task::Answer(question) => tell_answer(rt, office, question),
     }
 }
 
@@ -144,7 +162,7 @@ fn deliver_and_tell<K: Keeper>(rt: &HostRuntime, office: &mut Office<K>) -> u8 {
 
 /// Replays the bag on standard input in an office, and gives the exit status.
 fn replay_to<K: Keeper, W: Write>(rt: &HostRuntime, office: &mut Office<K>, output: &mut W) -> u8 {
-    let mut writer = ToWrite::new(&mut *output);
+    let mut writer = ToWrite::new(Watched::new(rt, &mut *output));
     let mut input = Noted::new(rt.stdin());
     let mut bag = Bag::new(rt.alloc(), FromRead::new(&mut input));
     let mut replayed = replay(office, &mut bag, &mut writer);

@@ -13,11 +13,11 @@ use office_words::Report;
 /// The exit status where memory, the store or standard output failed.
 const FAILED: u8 = 4;
 
-/// The exit status where a run isn't finished, or waits for mail.
-const MISSING: u8 = 1;
+/// The exit status where a run isn't finished, or waits for mail, and where a store isn't whole.
+pub(crate) const MISSING: u8 = 1;
 
 /// The program's version.
-const VERSION: &str = "0.9.0";
+const VERSION: &str = "0.10.0";
 
 /// The kit by which the program is proved and built.
 const KIT: &str = "rattle-kit-13f";
@@ -83,7 +83,7 @@ fn waiting_status(awaited: &Awaited) -> u8
 }
 
 /// Prints a text, and gives the exit status: the one that is handed over, unless standard output failed.
-fn print_text(rt: &HostRuntime, text: &Text, status: u8) -> u8 {
+pub(crate) fn print_text(rt: &HostRuntime, text: &Text, status: u8) -> u8 {
     match print!(rt; "{}", text.as_str()) {
         Ok(()) => status,
         Err(_) => refuse_output(rt),
@@ -91,7 +91,7 @@ fn print_text(rt: &HostRuntime, text: &Text, status: u8) -> u8 {
 }
 
 /// Says on standard error that memory ran out or the store failed, and gives the exit status.
-fn refuse(rt: &HostRuntime, fault: StoreFault) -> u8 {
+pub(crate) fn refuse(rt: &HostRuntime, fault: StoreFault) -> u8 {
     let _ = match fault {
         StoreFault::NoMemory => eprintln!(rt; "office: out of memory"),
         StoreFault::Store => {
@@ -102,7 +102,7 @@ fn refuse(rt: &HostRuntime, fault: StoreFault) -> u8 {
 }
 
 /// Says on standard error that standard output failed, and gives the exit status.
-fn refuse_output(rt: &HostRuntime) -> u8 {
+pub(crate) fn refuse_output(rt: &HostRuntime) -> u8 {
     let _ = eprintln!(rt; "office: standard output: a write failed");
     FAILED
 }

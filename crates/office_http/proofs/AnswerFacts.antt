@@ -43,6 +43,9 @@ one_page s page.Status n m x y a b h g = ap (λ (k : ℕ). Status (record { read
 one_page s page.Testing n m x y a b h g = refl
 one_page s (page.Excuses run) n m x y a b h g = refl
 one_page s (page.Update run) n m x y a b h g = refl
+one_page s page.Runs n m x y a b h g = refl
+one_page s page.Kept n m x y a b h g = refl
+one_page s (page.Letter sender number) n m x y a b h g = refl
 one_page s page.Waiting n m x y a b h g = same_text s n m x y (one_count s.setup s.kept n m (a refl) (b refl)) (h refl) (g refl)
 
 one_post : (s : OfficeState) (post : Option (Action × List ℕ)) (n m : ℕ) → (post_counts post ≡ true → IsReadyCount s.setup s.kept n) → (post_counts post ≡ true → IsReadyCount s.setup s.kept m) → post_answer s n post ≡ post_answer s m post

@@ -1,3 +1,4 @@
 pub mod AnswerFacts
+pub mod CountFacts
 pub mod ConnectionFacts
 pub mod ServeFacts

@@ -1,6 +1,7 @@
 -- What a connection comes to. P, Q and R say that the store refused: in a first part, in what follows, and in both.
 use Rattle.std.proofs.Common.{◌≡◌, inl, inr, ⊎_elim, ℕ, ◌+◌, ◌-◌, ◌≤◌, ◌<◌, Bool, true, false, cond, nat_le, List, [], ◌++◌, length, take, drop, Option, Some, None, Result, Ok, Err, IfOk, IfErr, IfSome, OnOk, is_ok, refl, sym, ap, subst, ◌∙◌, arith, append_assoc, append-nil, ◌⊎◌}
 use Rattle.std.specs.Option.{option_map}
+use Rattle.std.specs.FinMap.{get}
 use Rattle.std.specs.Io.KnownBytes.{Appends, Consumes}
 use Rattle.std.proofs.KnownBytes.{Appends-nil, Appends-trans, Consumes-nil, Consumes-trans}
 use Rattle.std.proofs.lemmas.Bool.Decides.{nat_tests}
@@ -39,6 +40,8 @@ use Rattle.office_http.specs.declared.serve.ServeFault.TheVariants.{Read, Write}
 use Rattle.office_http.specs.declared.serve.Served.{Served}
 use Rattle.office_requests.specs.Asked.{asked_of, body_size, is_head_method}
 use Rattle.office_runs.specs.Losses.{TextCounted, DeliveryCounted}
+use Rattle.office_questions.specs.Mail.{mail_text}
+use Rattle.office_questions.specs.RunLines.{runs_text}
 use Rattle.office_runs.specs.Outcome.{testing_text, testing_after}
 use Rattle.office_replies.specs.Replies.{reply_by, mark_of, if_taken}
 use Rattle.office_requests.specs.Reply.{continue_bytes, refused, reply_in, reply_bytes, HasPlace}
@@ -47,7 +50,7 @@ use Rattle.office_requests.specs.RequestSteps.{Came, IsHeadAt}
 use Rattle.office_runs.specs.OfficeState.{OfficeState}
 use Rattle.office_runs.specs.State.{answer_to, reports_at}
 use Rattle.office_replies.specs.Written.{AppendsFront}
-use Rattle.office_http.specs.Serve.{refusal_for, report_answer, delivery_answer, by_fault, posted_body, post_answer, answer_of, post_counts, waits_of, continued, kept_by, settles, Does, Exchange, IsUnread, IsServed, Replied, RepliedFront, Serves, IsAwaited, StopsBefore, StopsServe}
+use Rattle.office_http.specs.Serve.{mail_counts, page_answer, page_awaits, page_counts, refusal_for, report_answer, letter_answer, delivery_answer, by_fault, posted_body, post_answer, answer_of, post_counts, waits_of, continued, kept_by, settles, Does, Exchange, IsUnread, IsServed, Replied, RepliedFront, Serves, IsAwaited, StopsBefore, StopsServe}
 use Rattle.office_http.specs.ServeSteps.{status_answer, text_answer, Tells, TellsAwaited, Runs, Answers, ServesHead, ServesFront, StopsRequest}
 use Rattle.office_runs.proofs.ReplayFacts.{Leaves, reply_by-mark, delivery_counted, kept_after}
 use Rattle.office_runs.proofs.RiseFacts.{delivery_weaker, text_weaker}
@@ -80,6 +83,23 @@ told_waiting rose s (Ok t) h err = record { fault = None; by_store = tt; ready =
 told_waiting rose s (Err fault.NoMemory) h err = record { fault = Some fault.NoMemory; by_store = tt; ready = 0; counts = λ e. absurd (cc (e)); awaited = Order; awaits = λ e. absurd (cc (e)); answer_is = refl }
 told_waiting rose s (Err fault.Store) h err = record { fault = Some fault.Store; by_store = err refl; ready = 0; counts = λ e. absurd (cc (e)); awaited = Order; awaits = λ e. absurd (cc (e)); answer_is = refl }
 
+-- a page whose text is that of the state alone
+told_page : (rose : Type 0) (s : OfficeState) (p : Page) (due : List ℕ) (r : Result (List ℕ) StoreFault) → page_counts p ≡ false → page_awaits p ≡ false → page_answer s 0 Order p ≡ Told due → IfOk r (λ t. t ≡ due) → (r ≡ Err fault.Store → rose) → Tells s p (text_answer r) rose
+told_page rose s p due (Ok t) counts awaits answers is err = record { fault = None; by_store = tt; ready = 0; counts = λ e h. absurd (let no : true ≡ false = sym h ∙ counts in cc); awaited = Order; awaits = λ e h. absurd (let no : true ≡ false = sym h ∙ awaits in cc); answer_is = ap Told is ∙ sym answers }
+told_page rose s p due (Err fault.NoMemory) counts awaits answers is err = record { fault = Some fault.NoMemory; by_store = tt; ready = 0; counts = λ e. absurd (cc (e)); awaited = Order; awaits = λ e. absurd (cc (e)); answer_is = refl }
+told_page rose s p due (Err fault.Store) counts awaits answers is err = record { fault = Some fault.Store; by_store = err refl; ready = 0; counts = λ e. absurd (cc (e)); awaited = Order; awaits = λ e. absurd (cc (e)); answer_is = refl }
+
+pub told_runs : (rose : Type 0) (s : OfficeState) (r : Result (List ℕ) StoreFault) → IfOk r (λ t. t ≡ runs_text s) → (r ≡ Err fault.Store → rose) → Tells s page.Runs (text_answer r) rose
+told_runs rose s r is err = told_page rose s page.Runs (runs_text s) r refl refl refl is err
+
+pub told_kept : (rose : Type 0) (s : OfficeState) (r : Result (List ℕ) StoreFault) → IfOk r (λ t. t ≡ mail_text s.setup (mail_counts s.setup s.kept)) → (r ≡ Err fault.Store → rose) → Tells s page.Kept (text_answer r) rose
+told_kept rose s r is err = told_page rose s page.Kept (mail_text s.setup (mail_counts s.setup s.kept)) r refl refl refl is err
+
+pub told_letter : (rose : Type 0) (s : OfficeState) (sender number : ℕ) (r : Result (Option (List ℕ)) StoreFault) → IfOk r (λ t. t ≡ get s.kept (sender, number)) → (r ≡ Err fault.Store → rose) → Tells s (page.Letter sender number) (letter_answer r) rose
+told_letter rose s sender number (Ok t) is err = record { fault = None; by_store = tt; ready = 0; counts = λ e h. absurd (cc (h)); awaited = Order; awaits = λ e h. absurd (cc (h)); answer_is = ap (λ (o : Option (List ℕ)). letter_answer (Ok o)) is }
+told_letter rose s sender number (Err fault.NoMemory) is err = record { fault = Some fault.NoMemory; by_store = tt; ready = 0; counts = λ e. absurd (cc (e)); awaited = Order; awaits = λ e. absurd (cc (e)); answer_is = refl }
+told_letter rose s sender number (Err fault.Store) is err = record { fault = Some fault.Store; by_store = err refl; ready = 0; counts = λ e. absurd (cc (e)); awaited = Order; awaits = λ e. absurd (cc (e)); answer_is = refl }
+
 -- an answer that names no sender has a place for its name
 pub place_status : (setup : Lists) (r : Result Progress StoreFault) → HasPlace setup (status_answer r)
 place_status setup (Ok p) = tt
@@ -93,6 +113,11 @@ pub place_report : (setup : Lists) (r : Result (Option (List ℕ)) StoreFault) �
 place_report setup (Ok None) = tt
 place_report setup (Ok (Some t)) = tt
 place_report setup (Err f) = tt
+
+pub place_letter : (setup : Lists) (r : Result (Option (List ℕ)) StoreFault) → HasPlace setup (letter_answer r)
+place_letter setup (Ok None) = tt
+place_letter setup (Ok (Some t)) = tt
+place_letter setup (Err f) = tt
 
 -- a delivery
 lost_of : Mark → Option StoreFault
@@ -324,7 +349,7 @@ begins_so seen more headers spans h = record {
   few = h.few;
 }
 
-pub exchanged : (rose : Type 0) (before after : OfficeState) (l0 l1 w0 w1 : Option (List ℕ)) (seen : List ℕ) (headers : List HeaderSpan) (spans : RequestSpans) (answer : Answer) (is_head : Bool) (h : IsHeadAt seen headers spans) (a : Answers before after l0 l1 w0 w1 (drop spans.len seen) (asked_of h.head) answer rose) → is_head ≡ is_head_method h.head → Exchange before after l1 (seen ++ a.more) (continued a.goes_on ++ reply_bytes (reply_in before.setup answer) is_head) (reply_in before.setup answer).code rose
+pub exchanged : (rose : Type 0) (before after : OfficeState) (l0 l1 w0 w1 : Option (List ℕ)) (seen : List ℕ) (headers : List HeaderSpan) (spans : RequestSpans) (answer : Answer) (is_head : Bool) (h : IsHeadAt seen headers spans) (a : Answers before after l0 l1 w0 w1 (drop spans.len seen) (asked_of before.setup h.head) answer rose) → is_head ≡ is_head_method h.head → Exchange before after l1 (seen ++ a.more) (continued a.goes_on ++ reply_bytes (reply_in before.setup answer) is_head) (reply_in before.setup answer).code rose
 exchanged rose before after l0 l1 w0 w1 seen headers spans answer is_head h a e = record {
   head = h.head;
   rest = drop spans.len seen ++ a.more;
@@ -342,11 +367,11 @@ exchanged rose before after l0 l1 w0 w1 seen headers spans answer is_head h a e 
   went = a.went;
   waited = a.waited;
   bytes_are = ap (λ (r : Answer). continued a.goes_on ++ reply_bytes (reply_in before.setup r) is_head) a.answer_is
-      ∙ ap (λ (b : Bool). continued a.goes_on ++ reply_bytes (reply_in before.setup (by_fault a.fault (answer_of before a.ready a.awaited (asked_of h.head) (drop spans.len seen ++ a.more)))) b) e;
+      ∙ ap (λ (b : Bool). continued a.goes_on ++ reply_bytes (reply_in before.setup (by_fault a.fault (answer_of before a.ready a.awaited (asked_of before.setup h.head) (drop spans.len seen ++ a.more)))) b) e;
   code_is = ap (λ (r : Answer). (reply_in before.setup r).code) a.answer_is;
 }
 
-pub served_head : (rose : Type 0) (before after : OfficeState) (l0 l1 w0 w1 w2 : Option (List ℕ)) (seen : List ℕ) (headers : List HeaderSpan) (spans : RequestSpans) (setup : Lists) (answer : Answer) (is_head : Bool) (code : ℕ) (h : IsHeadAt seen headers spans) → Answers before after l0 l1 w0 w1 (drop spans.len seen) (asked_of h.head) answer rose → is_head ≡ is_head_method h.head → setup ≡ before.setup → code ≡ (reply_in setup answer).code → Appends w1 w2 (reply_bytes (reply_in setup answer) is_head) → ServesHead before after l0 l1 w0 w2 seen code rose
+pub served_head : (rose : Type 0) (before after : OfficeState) (l0 l1 w0 w1 w2 : Option (List ℕ)) (seen : List ℕ) (headers : List HeaderSpan) (spans : RequestSpans) (setup : Lists) (answer : Answer) (is_head : Bool) (code : ℕ) (h : IsHeadAt seen headers spans) → Answers before after l0 l1 w0 w1 (drop spans.len seen) (asked_of before.setup h.head) answer rose → is_head ≡ is_head_method h.head → setup ≡ before.setup → code ≡ (reply_in setup answer).code → Appends w1 w2 (reply_bytes (reply_in setup answer) is_head) → ServesHead before after l0 l1 w0 w2 seen code rose
 served_head rose before after l0 l1 w0 w1 w2 seen headers spans setup answer is_head code h a e s c wrote = record {
   more = a.more;
   took = a.took;
@@ -357,7 +382,7 @@ served_head rose before after l0 l1 w0 w1 w2 seen headers spans setup answer is_
       (subst (λ (l : Lists). Appends w1 w2 (reply_bytes (reply_in l answer) is_head)) s wrote);
 }
 
-pub served_front : (rose : Type 0) (before after : OfficeState) (l0 l1 w0 w1 w2 : Option (List ℕ)) (seen : List ℕ) (headers : List HeaderSpan) (spans : RequestSpans) (setup : Lists) (answer : Answer) (is_head : Bool) (h : IsHeadAt seen headers spans) → Answers before after l0 l1 w0 w1 (drop spans.len seen) (asked_of h.head) answer rose → is_head ≡ is_head_method h.head → setup ≡ before.setup → AppendsFront w1 w2 (reply_bytes (reply_in setup answer) is_head) → ServesFront before after l0 l1 w0 w2 seen rose
+pub served_front : (rose : Type 0) (before after : OfficeState) (l0 l1 w0 w1 w2 : Option (List ℕ)) (seen : List ℕ) (headers : List HeaderSpan) (spans : RequestSpans) (setup : Lists) (answer : Answer) (is_head : Bool) (h : IsHeadAt seen headers spans) → Answers before after l0 l1 w0 w1 (drop spans.len seen) (asked_of before.setup h.head) answer rose → is_head ≡ is_head_method h.head → setup ≡ before.setup → AppendsFront w1 w2 (reply_bytes (reply_in setup answer) is_head) → ServesFront before after l0 l1 w0 w2 seen rose
 served_front rose before after l0 l1 w0 w1 w2 seen headers spans setup answer is_head h a e s wrote = record {
   more = a.more;
   took = a.took;
@@ -388,7 +413,7 @@ replied_front rose before after l0 l1 l2 w0 w1 seen input took same s = record {
   wrote = s.wrote;
 }
 
-stop_after : (before after : OfficeState) (l0 l1 l2 w0 w1 : Option (List ℕ)) (seen input : List ℕ) → Consumes l0 l1 input → input ≡ seen → length input ≤ head_room → StopsBefore before after l1 l2 w0 w1 body_room (λ more. IsAwaited (seen ++ more)) → StopsBefore before after l0 l2 w0 w1 (head_room + body_room) IsAwaited
+stop_after : (before after : OfficeState) (l0 l1 l2 w0 w1 : Option (List ℕ)) (seen input : List ℕ) → Consumes l0 l1 input → input ≡ seen → length input ≤ head_room → StopsBefore before after l1 l2 w0 w1 body_room (λ more. IsAwaited before.setup (seen ++ more)) → StopsBefore before after l0 l2 w0 w1 (head_room + body_room) (IsAwaited before.setup)
 stop_after before after l0 l1 l2 w0 w1 seen input took same few s = record {
   same = s.same;
   input = seen ++ s.input;
@@ -402,7 +427,7 @@ stopped_head rose before after l0 l1 l2 w0 w1 seen input Read took same few s = 
 stopped_head rose before after l0 l1 l2 w0 w1 seen input Write took same few s = ⊎_elim (λ stop. inl (stop_after before after l0 l1 l2 w0 w1 seen input took same few stop)) (λ front. inr (replied_front rose before after l0 l1 l2 w0 w1 seen input took same front)) s
 
 -- a reader that failed within the head: nothing was written
-pub stopped_reading : (s : OfficeState) (l0 l1 w : Option (List ℕ)) → Came l0 l1 head_room → StopsBefore s s l0 l1 w w (head_room + body_room) IsAwaited
+pub stopped_reading : (s : OfficeState) (l0 l1 w : Option (List ℕ)) → Came l0 l1 head_room → StopsBefore s s l0 l1 w w (head_room + body_room) (IsAwaited s.setup)
 stopped_reading s l0 l1 w c = record { same = refl; input = c.input; took = c.took; few = omega (arith, c.few); wrote = inl (Appends-nil w) }
 
 -- a writer that failed at 100 Continue
@@ -434,16 +459,16 @@ stopped_post before after l0 l1 w0 w1 o p is fits s = record {
   wrote = ⊎_elim (λ none. inl none) (λ front. inr (λ due h. waits_due p due (is due h) front.0, front.1)) s.wrote;
 }
 
-pub stopped_asked : (before after : OfficeState) (l0 l1 w0 w1 : Option (List ℕ)) (o : Option Asked) (seen : List ℕ) (headers : List HeaderSpan) (spans : RequestSpans) (h : IsHeadAt seen headers spans) → IfSome o (λ a. a ≡ asked_of h.head) → StopsBefore before after l0 l1 w0 w1 body_room (λ input. (due : Asked) → IfSome o (λ a. a ≡ due) → waits_of due ≡ true) → StopsBefore before after l0 l1 w0 w1 body_room (λ more. IsAwaited (seen ++ more))
+pub stopped_asked : (before after : OfficeState) (l0 l1 w0 w1 : Option (List ℕ)) (o : Option Asked) (seen : List ℕ) (headers : List HeaderSpan) (spans : RequestSpans) (h : IsHeadAt seen headers spans) → IfSome o (λ a. a ≡ asked_of before.setup h.head) → StopsBefore before after l0 l1 w0 w1 body_room (λ input. (due : Asked) → IfSome o (λ a. a ≡ due) → waits_of due ≡ true) → StopsBefore before after l0 l1 w0 w1 body_room (λ more. IsAwaited before.setup (seen ++ more))
 stopped_asked before after l0 l1 w0 w1 o seen headers spans h is s = record {
   same = s.same;
   input = s.input;
   took = s.took;
   few = s.few;
-  wrote = ⊎_elim (λ none. inl none) (λ front. inr (record { head = h.head; rest = drop spans.len seen ++ s.input; begins = begins_so seen s.input headers spans h; waits = front.0 (asked_of h.head) is }, front.1)) s.wrote;
+  wrote = ⊎_elim (λ none. inl none) (λ front. inr (record { head = h.head; rest = drop spans.len seen ++ s.input; begins = begins_so seen s.input headers spans h; waits = front.0 (asked_of before.setup h.head) is }, front.1)) s.wrote;
 }
 
-pub stopped_request : (rose : Type 0) (before after : OfficeState) (l0 l1 w0 w1 : Option (List ℕ)) (seen : List ℕ) (f : ServeFault) → StopsBefore before after l0 l1 w0 w1 body_room (λ more. IsAwaited (seen ++ more)) → StopsRequest before after l0 l1 w0 w1 seen f rose
+pub stopped_request : (rose : Type 0) (before after : OfficeState) (l0 l1 w0 w1 : Option (List ℕ)) (seen : List ℕ) (f : ServeFault) → StopsBefore before after l0 l1 w0 w1 body_room (λ more. IsAwaited before.setup (seen ++ more)) → StopsRequest before after l0 l1 w0 w1 seen f rose
 stopped_request rose before after l0 l1 w0 w1 seen Read s = s
 stopped_request rose before after l0 l1 w0 w1 seen Write s = inl s
 
@@ -463,6 +488,6 @@ unread_err rose s l0 l1 w0 w1 input r (Ok served) took few cause h = tt
 unread_err rose s l0 l1 w0 w1 input r (Err f) took few cause h = subst (λ (f : ServeFault). StopsServe s s l0 l1 w0 w1 f rose) (sym h.0) (inr (record { input = input; took = took; bytes = reply_bytes (refused r) false; code = (refused r).code; served = unread rose s l1 input r few cause; wrote = h.1 }))
 
 -- what is asked, where it was read
-pub asked_due : (o : Option Asked) (seen : List ℕ) (headers : List HeaderSpan) (spans : RequestSpans) (head : RequestHead) → IfSome o (λ a. (h : RequestHead) → IsRequestAt seen headers spans h → a ≡ asked_of h) → IsRequestAt seen headers spans head → IfSome o (λ a. a ≡ asked_of head)
-asked_due None seen headers spans head f h = tt
-asked_due (Some a) seen headers spans head f h = f head h
+pub asked_due : (setup : Lists) (o : Option Asked) (seen : List ℕ) (headers : List HeaderSpan) (spans : RequestSpans) (head : RequestHead) → IfSome o (λ a. (h : RequestHead) → IsRequestAt seen headers spans h → a ≡ asked_of setup h) → IsRequestAt seen headers spans head → IfSome o (λ a. a ≡ asked_of setup head)
+asked_due setup None seen headers spans head f h = tt
+asked_due setup (Some a) seen headers spans head f h = f head h

@@ -1,12 +1,16 @@
 -- What one connection comes to: the reply as a function of the request, of the office's state and of the faults that were met.
-use Rattle.std.specs.Prelude.{◌≡◌, ⊤, ◌⊎◌, ◌≤◌, ◌<◌, ◌+◌, ℕ, Bool, true, false, List, [], ◌∷◌, ◌++◌, length, take, nat_le, if◌then◌else◌, Option, Some, None, Result, Ok, Err, is_ok}
+use Rattle.std.specs.Prelude.{◌≡◌, ⊤, ◌⊎◌, ◌≤◌, ◌<◌, ◌+◌, ℕ, Bool, true, false, List, [], ◌∷◌, ◌++◌, ◌==◌, length, map, take, nat_le, if◌then◌else◌, Option, Some, None, Result, Ok, Err, is_ok}
 use Rattle.std.specs.Option.{option_map}
+use Rattle.std.specs.FinMap.{get}
+use Rattle.std.specs.List.{range_with_len}
 use Rattle.std.specs.Io.KnownBytes.{Appends, Consumes, IsAtEnd}
 use Rattle.httparse.specs.Grammar.{RequestHead, HasNoRequest, NeverHasRequest}
 use Rattle.httparse.specs.Spans.{RequestExceeds, RequestOverflows}
 use Rattle.office_mail.specs.declared.message.MailFault.TheVariants as mail
 use Rattle.office_mail.specs.Kept.{Kept, kept_from}
-use Rattle.office_mail.specs.Runs.{IsReady, IsReadyCount}
+use Rattle.office_mail.specs.Lists.{Lists}
+use Rattle.office_mail.specs.Runs.{IsReady, IsReadyCount, greatest}
+use Rattle.office_keeper.specs.declared.values.Letter.{Letter as KeptLetter}
 use Rattle.office_replies.specs.declared.faults.DeliverFault.{DeliverFault}
 use Rattle.office_replies.specs.declared.faults.DeliverFault.TheVariants.{Mail, OtherText, Store}
 use Rattle.office_replies.specs.declared.faults.Held.{Held}
@@ -17,7 +21,7 @@ use Rattle.office_replies.specs.Waiting.{waiting_text}
 use Rattle.office_requests.specs.declared.reply.Refusal.{Refusal}
 use Rattle.office_requests.specs.declared.reply.Refusal.TheVariants as refusal
 use Rattle.office_requests.specs.declared.reply.Answer.{Answer}
-use Rattle.office_requests.specs.declared.reply.Answer.TheVariants.{Refused, Delivered, Status, Told}
+use Rattle.office_requests.specs.declared.reply.Answer.TheVariants.{Refused, Delivered, Status, Told, Letter}
 use Rattle.office_requests.specs.declared.request.Action.{Action}
 use Rattle.office_requests.specs.declared.request.Action.TheVariants.{Deliver, Settle}
 use Rattle.office_requests.specs.declared.request.Page.{Page}
@@ -28,6 +32,9 @@ use Rattle.office_http.specs.declared.serve.ServeFault.{ServeFault}
 use Rattle.office_http.specs.declared.serve.ServeFault.TheVariants.{Read, Write}
 use Rattle.office_requests.specs.Asked.{asked_of, body_size, is_head_method}
 use Rattle.office_runs.specs.Losses.{TextCounted}
+use Rattle.office_questions.specs.declared.mail.MailCount.{MailCount}
+use Rattle.office_questions.specs.Mail.{letters_of, mail_text}
+use Rattle.office_questions.specs.RunLines.{runs_text}
 use Rattle.office_runs.specs.Outcome.{testing_text, testing_after}
 use Rattle.office_requests.specs.Reply.{refused, reply_in, reply_bytes, continue_bytes}
 use Rattle.office_requests.specs.Request.{BeginsWith, body_room, field_room, head_room}
@@ -45,6 +52,11 @@ abbrev pub report_answer : Result (Option (List ℕ)) StoreFault → Answer
 report_answer (Ok (Some text)) = Told text
 report_answer (Ok None) = Refused refusal.NoRun
 report_answer (Err f) = Refused (refusal_for f)
+
+abbrev pub letter_answer : Result (Option (List ℕ)) StoreFault → Answer
+letter_answer (Ok (Some text)) = Letter text
+letter_answer (Ok None) = Refused refusal.NoMessage
+letter_answer (Err f) = Refused (refusal_for f)
 
 abbrev pub delivery_answer : Result Held DeliverFault → Answer
 delivery_answer (Ok held) = Delivered (Ok held)
@@ -67,6 +79,23 @@ abbrev pub by_fault : Option StoreFault → Answer → Answer
 by_fault None due = due
 by_fault (Some f) due = Refused (refusal_for f)
 
+-- up to which number letters go on from one without a gap
+abbrev pub unbroken_from : ℕ → List KeptLetter → ℕ
+unbroken_from last [] = last
+unbroken_from last (letter ∷ letters) = if letter.number == last + 1 then unbroken_from (last + 1) letters else last
+
+-- what is counted of a sender's kept mail, and of that of each sender, in the setup's order
+abbrev pub mail_count : Kept → ℕ → MailCount
+mail_count kept sender = record {
+  sender = sender;
+  count = length (letters_of kept sender);
+  unbroken = unbroken_from 0 (letters_of kept sender);
+  greatest = greatest (map (λ (letter : KeptLetter). letter.number) (letters_of kept sender));
+}
+
+abbrev pub mail_counts : Lists → Kept → List MailCount
+mail_counts setup kept = map (mail_count kept) (range_with_len 0 (length setup.senders))
+
 -- the text that a page tells, where this many runs are ready, and the next one waits for this
 abbrev pub page_answer : OfficeState → ℕ → Awaited → Page → Answer
 page_answer s ready awaited page.Status = Status (record { ready = ready; finished = s.finished })
@@ -74,6 +103,9 @@ page_answer s ready awaited page.Testing = Told (testing_text s.setup s.finished
 page_answer s ready awaited (page.Excuses run) = report_answer (Ok (option_map (λ reports. reports.excuses) (reports_at s run)))
 page_answer s ready awaited (page.Update run) = report_answer (Ok (option_map (λ reports. reports.updates) (reports_at s run)))
 page_answer s ready awaited page.Waiting = Told (waiting_text s.setup (record { progress = record { ready = ready; finished = s.finished }; awaited = awaited }))
+page_answer s ready awaited page.Runs = Told (runs_text s)
+page_answer s ready awaited page.Kept = Told (mail_text s.setup (mail_counts s.setup s.kept))
+page_answer s ready awaited (page.Letter sender number) = letter_answer (Ok (get s.kept (sender, number)))
 
 -- the answer to a POST with this body: what is due to the delivery, or the status after the settle
 abbrev pub action_answer : OfficeState → ℕ → Action → List ℕ → Answer
@@ -108,6 +140,9 @@ page_counts page.Testing = false
 page_counts (page.Excuses run) = false
 page_counts (page.Update run) = false
 page_counts page.Waiting = true
+page_counts page.Runs = false
+page_counts page.Kept = false
+page_counts (page.Letter sender number) = false
 
 abbrev pub action_counts : Action → Bool
 action_counts Settle = true
@@ -129,6 +164,9 @@ page_awaits page.Testing = false
 page_awaits (page.Excuses run) = false
 page_awaits (page.Update run) = false
 page_awaits page.Waiting = true
+page_awaits page.Runs = false
+page_awaits page.Kept = false
+page_awaits (page.Letter sender number) = false
 
 abbrev pub tells_awaited : Asked → Bool
 tells_awaited (asks.Refused r) = false
@@ -182,11 +220,11 @@ IsWhole (asks.Tell page) rest left = ⊤
 IsWhole (asks.Post p) rest left = (p.length ≤ length rest) ⊎ IsAtEnd left
 
 -- these bytes begin with a request whose client waits to be told to go on
-pub record IsAwaited (input : List ℕ) : Type 0 where
+pub record IsAwaited (setup : Lists) (input : List ℕ) : Type 0 where
   pub head : RequestHead
   pub rest : List ℕ
   pub begins : BeginsWith input head rest
-  pub waits : waits_of (asked_of head) ≡ true
+  pub waits : waits_of (asked_of setup head) ≡ true
 
 -- The request couldn't be read, or the client that waits not be told to go on: nothing was delivered or settled. So many
 -- bytes were read at most. Nothing was written but a front of 100 Continue, and that only where what was read says that the client waits.
@@ -203,21 +241,21 @@ pub record Exchange (before after : OfficeState) (left : Option (List ℕ)) (inp
   pub rest : List ℕ
   pub begins : BeginsWith input head rest
   -- no more was read than a head may have, or no more behind the head than its body
-  pub few : (length input ≤ head_room) ⊎ (length rest ≤ body_size (asked_of head))
+  pub few : (length input ≤ head_room) ⊎ (length rest ≤ body_size (asked_of before.setup head))
   -- what was met for want of memory or by the store
   pub fault : Option StoreFault
   pub by_store : TextCounted rose fault
   pub ready : ℕ
   pub awaited : Awaited
-  pub whole : fault ≡ None → IsWhole (asked_of head) rest left
-  pub counts : fault ≡ None → counts_ready (asked_of head) rest ≡ true → IsReadyCount before.setup before.kept ready
-  pub awaits : fault ≡ None → tells_awaited (asked_of head) ≡ true → Awaits before.setup before.kept (ready + 1) awaited
-  pub does : Does before after (posted_body (asked_of head) rest) fault ready rose
+  pub whole : fault ≡ None → IsWhole (asked_of before.setup head) rest left
+  pub counts : fault ≡ None → counts_ready (asked_of before.setup head) rest ≡ true → IsReadyCount before.setup before.kept ready
+  pub awaits : fault ≡ None → tells_awaited (asked_of before.setup head) ≡ true → Awaits before.setup before.kept (ready + 1) awaited
+  pub does : Does before after (posted_body (asked_of before.setup head) rest) fault ready rose
   pub goes_on : Bool
-  pub went : fault ≡ None → goes_on ≡ waits_of (asked_of head)
-  pub waited : goes_on ≡ true → waits_of (asked_of head) ≡ true
-  pub bytes_are : bytes ≡ continued goes_on ++ reply_bytes (reply_in before.setup (by_fault fault (answer_of before ready awaited (asked_of head) rest))) (is_head_method head)
-  pub code_is : code ≡ (reply_in before.setup (by_fault fault (answer_of before ready awaited (asked_of head) rest))).code
+  pub went : fault ≡ None → goes_on ≡ waits_of (asked_of before.setup head)
+  pub waited : goes_on ≡ true → waits_of (asked_of before.setup head) ≡ true
+  pub bytes_are : bytes ≡ continued goes_on ++ reply_bytes (reply_in before.setup (by_fault fault (answer_of before ready awaited (asked_of before.setup head) rest))) (is_head_method head)
+  pub code_is : code ≡ (reply_in before.setup (by_fault fault (answer_of before ready awaited (asked_of before.setup head) rest))).code
 
 -- Bytes that are no request within the limits, by the cause that they are refused for, or too much for the memory.
 abbrev pub IsUnread : Option (List ℕ) → List ℕ → Refusal → Type 0
@@ -226,6 +264,7 @@ IsUnread left input refusal.BadRequest = NeverHasRequest input ⊎ ((0 < length 
 IsUnread left input refusal.NoMemory = ⊤
 IsUnread left input refusal.NoRoute = ⊥
 IsUnread left input refusal.NoRun = ⊥
+IsUnread left input refusal.NoMessage = ⊥
 IsUnread left input refusal.OnlyGet = ⊥
 IsUnread left input refusal.OnlyPost = ⊥
 IsUnread left input refusal.LengthRequired = ⊥
@@ -275,5 +314,5 @@ Serves before after left left' written written' (Some code) rose = Replied befor
 -- What a fault leaves. Where the reader failed nothing was delivered or settled; where the writer failed, a front of
 -- the due bytes was written, and where that was before the answer nothing was delivered or settled.
 abbrev pub StopsServe : OfficeState → OfficeState → Option (List ℕ) → Option (List ℕ) → Option (List ℕ) → Option (List ℕ) → ServeFault → Type 0 → Type 0
-StopsServe before after left left' written written' Read rose = StopsBefore before after left left' written written' (head_room + body_room) IsAwaited
-StopsServe before after left left' written written' Write rose = StopsBefore before after left left' written written' (head_room + body_room) IsAwaited ⊎ RepliedFront before after left left' written written' rose
+StopsServe before after left left' written written' Read rose = StopsBefore before after left left' written written' (head_room + body_room) (IsAwaited before.setup)
+StopsServe before after left left' written written' Write rose = StopsBefore before after left left' written written' (head_room + body_room) (IsAwaited before.setup) ⊎ RepliedFront before after left left' written written' rose

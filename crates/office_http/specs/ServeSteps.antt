@@ -98,5 +98,5 @@ pub record ServesFront (before after : OfficeState) (left left' written written'
   pub wrote : AppendsFront written written' bytes
 
 abbrev pub StopsRequest : OfficeState → OfficeState → Option (List ℕ) → Option (List ℕ) → Option (List ℕ) → Option (List ℕ) → List ℕ → ServeFault → Type 0 → Type 0
-StopsRequest before after left left' written written' seen Read rose = StopsBefore before after left left' written written' body_room (λ more. IsAwaited (seen ++ more))
-StopsRequest before after left left' written written' seen Write rose = StopsBefore before after left left' written written' body_room (λ more. IsAwaited (seen ++ more)) ⊎ ServesFront before after left left' written written' seen rose
+StopsRequest before after left left' written written' seen Read rose = StopsBefore before after left left' written written' body_room (λ more. IsAwaited before.setup (seen ++ more))
+StopsRequest before after left left' written written' seen Write rose = StopsBefore before after left left' written written' body_room (λ more. IsAwaited before.setup (seen ++ more)) ⊎ ServesFront before after left left' written written' seen rose

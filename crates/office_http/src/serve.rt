@@ -6,12 +6,13 @@ ghost use Rattle.httparse.specs.Spans.{IsRequestAt};
 ghost use Rattle.httparse.specs.declared.spans.HeaderSpan.{HeaderSpan};
 ghost use Rattle.office_mail.specs.Counts.{HasRisen};
 ghost use Rattle.office_requests.specs.Asked.{asked_of, body_size};
+ghost use Rattle.office_questions.specs.Mail.{mail_text};
 ghost use Rattle.office_runs.specs.Preserves.{Asks, Preserves, Holds, StoreRefused};
 ghost use Rattle.office_runs.specs.Laws.{RunsStand};
 ghost use Rattle.office_requests.specs.Reply.{continue_bytes, refused, reply_bytes, HasPlace};
 ghost use Rattle.office_requests.specs.Request.{body_room, head_room};
 ghost use Rattle.office_requests.specs.RequestSteps.{IsHeadAt};
-ghost use Rattle.office_http.specs.Serve.{refusal_for, report_answer, delivery_answer, waits_of, Does, StopsBefore, Serves, StopsServe};
+ghost use Rattle.office_http.specs.Serve.{mail_counts, refusal_for, report_answer, letter_answer, delivery_answer, waits_of, Does, StopsBefore, Serves, StopsServe};
 ghost use Rattle.office_http.specs.ServeSteps.{status_answer, text_answer, Tells, TellsAwaited, Runs, Answers, StopsRequest, ServesHead};
 ghost use Rattle.office_runs.specs.State.{state_of};
 ghost use Rattle.office_replies.specs.Counted.{Counted};
@@ -19,8 +20,9 @@ ghost use Rattle.office_replies.specs.Written.{AppendsFront};
 
 use deb_control::Text;
 use httparse::spans::{EMPTY_HEADER_SPAN, HeaderSpan, RequestSpans};
-use office_keeper::Keeper;
+use office_keeper::{Keeper, MailText};
 use office_mail::{Feed, MailFault, ReadFailed, Setup, Sink};
+use office_questions::{MailCount, mail_counts, mail_text, runs_text};
 use office_replies::{DeliverFault, Held, Progress, StoreFault, WriteFault, waiting_text};
 use office_requests::routes::routes;
 use office_requests::{
@@ -106,6 +108,16 @@ fn report_answer(report: Result<Option<Text>, StoreFault>) -> Answer
     }
 }
 
+fn letter_answer(text: Result<Option<MailText>, StoreFault>) -> Answer
+    ensures { result ≡ letter_answer text }
+{
+    match text {
+        Ok(Some(text)) => Answer::Letter(text),
+        Ok(None) => Answer::Refused(Refusal::NoMessage),
+        Err(fault) => Answer::Refused(refusal_for(fault)),
+    }
+}
+
 fn delivery_answer(reply: Result<Held, DeliverFault>) -> Answer
     ensures { result ≡ delivery_answer reply }
 {
@@ -126,6 +138,25 @@ fn awaited_text<K: Keeper>(office: &mut Office<K>) -> Result<Text, StoreFault>
     Ok(waiting_text(office.alloc(), office.setup(), &waiting)?)
 }
 
+/// How much mail is kept of each sender.
+fn counted_mail<K: Keeper>(office: &mut Office<K>) -> Result<Vec<MailCount>, StoreFault>
+    ensures asks { Asks K.Keeper office.old office.new }
+    ensures counts { Holds K.Keeper office.old office.new → IfOk result (λ counts. counts.items ≡ mail_counts (K.setup office.old) (K.content office.old).kept) }
+    ensures counted { Counted (K.refusals office.old) (K.refusals office.new) result }
+{
+    mail_counts(office)
+}
+
+/// The text that tells how much mail is kept of each sender.
+fn counted_text<K: Keeper>(office: &mut Office<K>) -> Result<Text, StoreFault>
+    ensures asks { Asks K.Keeper office.old office.new }
+    ensures text { Holds K.Keeper office.old office.new → IfOk result (λ text. text ≡ mail_text (K.setup office.old) (mail_counts (K.setup office.old) (K.content office.old).kept)) }
+    ensures counted { Counted (K.refusals office.old) (K.refusals office.new) result }
+{
+    let counts = counted_mail(office)?;
+    Ok(mail_text(office.alloc(), office.setup(), &counts)?)
+}
+
 /// Tells a text of the office.
 fn tell<K: Keeper>(office: &mut Office<K>, page: Page) -> Answer
     ensures asks { Asks K.Keeper office.old office.new }
@@ -138,6 +169,9 @@ fn tell<K: Keeper>(office: &mut Office<K>, page: Page) -> Answer
         Page::Excuses(run) => report_answer(office.excuses_text(run)),
         Page::Update(run) => report_answer(office.update_text(run)),
         Page::Waiting => text_answer(awaited_text(office)),
+        Page::Runs => text_answer(runs_text(office)),
+        Page::Kept => text_answer(counted_text(office)),
+        Page::Letter { sender, number } => letter_answer(office.kept_text(sender, number)),
     }
 }
 
@@ -204,16 +238,17 @@ fn answer_post<K: Keeper, R: Feed, W: Sink>(
 /// What a request asks for, none for want of memory.
 fn asked_in(
     alloc: Global,
+    setup: &Setup,
     seen: &[u8],
     spans: RequestSpans,
     headers: &[HeaderSpan],
 ) -> Option<Asked>
     requires { IsHeadAt seen.now headers.now spans }
-    ensures asked { IfSome result (λ asked. (head : RequestHead) → IsRequestAt seen.now headers.now spans head → asked ≡ asked_of head) }
+    ensures asked { IfSome result (λ asked. (head : RequestHead) → IsRequestAt seen.now headers.now spans head → asked ≡ asked_of setup.now head) }
     ensures fits { IfSome result (λ asked. body_size asked ≤ body_room) }
 {
     match routes(alloc) {
-        Ok(router) => Some(asked_of(&router, seen, spans, headers)),
+        Ok(router) => Some(asked_of(&router, setup, seen, spans, headers)),
         Err(_) => None,
     }
 }
@@ -267,7 +302,13 @@ fn serve_request<K: Keeper, R: Feed, W: Sink>(
     ensures write_clean { OnOk result (W.failures writer.new ≡ W.failures writer.old) }
 {
     let is_head = is_head_method(seen.as_slice(), spans);
-    let asked = asked_in(office.alloc(), seen.as_slice(), spans, headers);
+    let asked = asked_in(
+        office.alloc(),
+        office.setup(),
+        seen.as_slice(),
+        spans,
+        headers,
+    );
     let answer = answer_request(office, asked, spans.len, seen, reader, writer)?;
     Ok(write_answer(office.setup(), &answer, is_head, writer)?)
 }

@@ -1,22 +1,25 @@
--- A part of mail that lies by place: the letters of a sender from one number to another.
-use Rattle.std.proofs.Common.{◌≡◌, ◌≤◌, ◌<◌, ◌+◌, ◌-◌, ℕ, zero, suc, Bool, true, false, not, ◌&&◌, Option, Some, None, List, [], ◌∷◌, ◌++◌, filter, filter_map, map, refl, sym, ap, subst, ◌∙◌, arith, append_assoc}
+-- A part of mail that lies by place: the letters of a sender from one number to another, and the first number from one on.
+use Rattle.std.proofs.Common.{◌≡◌, ◌≢◌, ◌≤◌, ◌<◌, ◌+◌, ◌-◌, ℕ, zero, suc, Bool, true, false, not, ◌&&◌, Option, Some, None, is_some, List, [], ◌∷◌, ◌++◌, filter, filter_map, map, slice_get, refl, sym, ap, subst, ◌∙◌, arith, append_assoc}
 use Rattle.std.proofs.lemmas.Bool.Decides.{nat_tests}
 use Rattle.std.proofs.lemmas.List.{append-nil}
 use Rattle.std.proofs.lemmas.Cmp.{nat_cmp_total, tied_itself}
 use Rattle.std.specs.declared.cmp.Ordering.{Ordering}
 use Rattle.std.specs.declared.cmp.Ordering.TheVariants.{Less, Equal, Greater}
-use Rattle.std.specs.declared.ops.Bound.TheVariants.{Included}
-use Rattle.std.specs.Ordering.{nat_cmp, is_le, is_lt, is_eq, ordering_then}
+use Rattle.std.specs.declared.ops.Bound.TheVariants.{Included, Unbounded}
+use Rattle.std.specs.Ordering.{nat_cmp, is_le, is_lt, is_gt, is_eq, ordering_then}
 use Rattle.std.specs.List.{AllByRecursion, range_with_len, cons_option}
 use Rattle.std.specs.List.Sorted.{IsStrictlySortedBy}
 use Rattle.std.specs.Option.{option_map}
-use Rattle.std.specs.FinMap.{find, get-from_entries}
-use Rattle.std.specs.BTreeMap.Range.{entries_between, range_contains}
+use Rattle.std.specs.FinMap.{find, get, get-from_entries}
+use Rattle.std.specs.BTreeMap.{BTreeMap}
+use Rattle.std.specs.BTreeMap.Range.{entries_between, range_contains, IsRangeOf, IsEntryInRange, IsLeBy}
+use Rattle.std.specs.Option.{IfSome}
 use Rattle.office_mail.specs.Kept.{Place, place_cmp}
 use Rattle.office_mail.proofs.KeptFacts.{places_total, exact_places}
 use Rattle.office_keeper.specs.declared.values.Letter.{Letter}
-use Rattle.office_keeper.specs.Content.{letter_at, letters_within}
+use Rattle.office_keeper.specs.Content.{letter_at, letters_within, IsNextNumber}
 use Rattle.office_keeper.specs.MemoryState.{kept_in, letter_of}
+use Rattle.office_keeper.proofs.MemoryFacts.{get-kept_in}
 
 abbrev Entry : Type 0
 Entry = Place × List ℕ
@@ -161,3 +164,55 @@ letter_comes letters more e text left rest same pushed steps = rw (pushed, same,
 -- no entry is left
 pub letters_are_all : (letters : List Letter) (left : List (Place × List ℕ)) → left ≡ [] → letters ≡ letters ++ map letter_of left
 letters_are_all letters left none = rw none (sym (append-nil letters))
+
+-- ---- the first number from one on
+
+-- a place that isn't above another: its sender isn't, nor is its number where the senders are one
+not_above_by : (o : Ordering) (a b c d : ℕ) → nat_cmp a c ≡ o → is_gt (ordering_then o (nat_cmp b d)) ≡ false → (a ≤ c) × (a ≡ c → b ≤ d)
+not_above_by Less a b c d e h = let below : is_lt (nat_cmp a c) ≡ true = ap is_lt e in (grind (arith, nat_tests), λ same. grind (arith, nat_tests))
+not_above_by Equal a b c d e h = let level : is_eq (nat_cmp a c) ≡ true = ap is_eq e in (grind (arith, nat_tests), λ same. grind (arith, nat_tests))
+not_above_by Greater a b c d e h = absurd (let e = h in cc)
+
+not_above : (p q : Place) → is_gt (place_cmp p q) ≡ false → (p.0 ≤ q.0) × (p.0 ≡ q.0 → p.1 ≤ q.1)
+not_above p q h = not_above_by (nat_cmp p.0 q.0) p.0 p.1 q.0 q.1 refl h
+
+-- a number of a sender from one on
+not_before : (from n : ℕ) → from ≤ n → is_gt (nat_cmp from n) ≡ false
+not_before from n low = grind (arith, nat_tests)
+
+on_from : (s from n : ℕ) → from ≤ n → is_gt (place_cmp (s, from) (s, n)) ≡ false
+on_from s from n low = rw (tied_itself nat_cmp_total s) (not_before from n low)
+
+none_unless : {A : Type 0} (o : Option A) → (is_some o ≡ true → ⊥) → o ≡ None
+none_unless None never = refl
+none_unless (Some x) never = absurd (never refl)
+
+module _ (s from : ℕ) (mail : BTreeMap Place (List ℕ)) (part : List Entry) (is : IsRangeOf place_cmp (Included (s, from)) Unbounded mail part) where
+  abbrev kept_here : ℕ → Option (List ℕ)
+  kept_here n = get (kept_in mail.entries) (s, n)
+
+  pub next_none : part ≡ [] → IsNextNumber (kept_in mail.entries) s from None
+  next_none none n low = get-kept_in mail.entries (s, n) ∙ is.5 none (s, n) (on_from s from n low, tt)
+
+  module _ (e : Entry) (rest : List Entry) (first : part ≡ e ∷ rest) where
+    -- the first entry lies there, and isn't above another
+    inside_first : (is_gt (place_cmp (s, from) e.0) ≡ false) × (get (kept_in mail.entries) e.0 ≡ Some e.1)
+    inside_first = let i = subst (λ (es : List Entry). IfSome (slice_get es 0) (IsEntryInRange place_cmp (Included (s, from)) Unbounded mail)) first is.1 in (i.0.0, get-kept_in mail.entries e.0 ∙ i.1)
+
+    is_least : (n : ℕ) → from ≤ n → is_some (kept_here n) ≡ true → is_gt (place_cmp e.0 (s, n)) ≡ false
+    is_least n low there =
+        subst (λ (es : List Entry). IfSome (slice_get es 0) (λ x. IsLeBy place_cmp x.0 (s, n))) first
+        (is.2 (s, n) (on_from s from n low, tt) (ap is_some (sym (get-kept_in mail.entries (s, n))) ∙ there))
+
+    pub next_other : e.0.0 ≢ s → IsNextNumber (kept_in mail.entries) s from None
+    next_other other n low = none_unless (kept_here n) (λ there.
+        let a : s ≤ e.0.0 = (not_above (s, from) e.0 inside_first.0).0 in
+        let b : e.0.0 ≤ s = (not_above e.0 (s, n) (is_least n low there)).0 in
+        other (omega (arith, a, b)))
+
+    pub next_here : e.0.0 ≡ s → IsNextNumber (kept_in mail.entries) s from (Some e.0.1)
+    next_here same = (
+      (not_above (s, from) e.0 inside_first.0).1 (sym same),
+      ap (λ (k : ℕ). is_some (get (kept_in mail.entries) (k, e.0.1))) (sym same) ∙ ap is_some inside_first.1,
+      λ m low high. none_unless (kept_here m) (λ there. let b : e.0.1 ≤ m = (not_above e.0 (s, m) (is_least m low there)).1 same in omega (arith, b, high)),
+    )

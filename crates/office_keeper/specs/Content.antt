@@ -1,5 +1,5 @@
 -- What a keeper holds, and what its calls make of it.
-use Rattle.std.specs.Prelude.{ℕ, zero, suc, ◌+◌, ◌-◌, List, [], ◌∷◌, ◌++◌, Option, None, slice_get, filter_map, option_map}
+use Rattle.std.specs.Prelude.{◌≡◌, ◌≤◌, ◌<◌, ℕ, zero, suc, ◌+◌, ◌-◌, List, [], ◌∷◌, ◌++◌, Option, Some, None, IsSome, slice_get, filter_map, option_map}
 use Rattle.std.specs.List.{range_with_len}
 use Rattle.std.specs.FinMap.{get, insert, empty}
 use Rattle.office_mail.specs.Kept.{Kept}
@@ -48,3 +48,8 @@ letter_at kept sender number = option_map (λ text. record { number = number; te
 -- the kept numbers of a sender from one number to another with their texts, by number; none where the first is above the second
 unfoldable pub letters_within : Kept → ℕ → ℕ → ℕ → List Letter
 letters_within kept sender from to = filter_map (letter_at kept sender) (range_with_len from (to + 1 - from))
+
+-- the least kept number of a sender from one number on; none where there is none
+abbrev pub IsNextNumber : Kept → ℕ → ℕ → Option ℕ → Type 0
+IsNextNumber kept sender from None = (n : ℕ) → from ≤ n → get kept (sender, n) ≡ None
+IsNextNumber kept sender from (Some n) = (from ≤ n) × IsSome (get kept (sender, n)) × ((m : ℕ) → from ≤ m → m < n → get kept (sender, m) ≡ None)

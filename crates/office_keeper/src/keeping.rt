@@ -3,7 +3,7 @@ ghost use Rattle.std.specs.Prelude.{◌≡◌, ◌≢◌, ◌≤◌, ◌+◌, �
 ghost use Rattle.std.specs.FinMap.{get, insert};
 ghost use Rattle.office_mail.specs.Counts.{HasRisen};
 ghost use Rattle.office_mail.specs.Lists.{Lists};
-ghost use Rattle.office_keeper.specs.Content.{Content, reports_in, with_text, with_run, item_from_one, letters_within};
+ghost use Rattle.office_keeper.specs.Content.{Content, reports_in, with_text, with_run, item_from_one, letters_within, IsNextNumber};
 ghost use Rattle.office_keeper.specs.FactSet.{AreHoldable, facts_after, rows_in};
 ghost use Rattle.office_keeper.specs.Provenance.{AreOwnTexts, IsGiven, KnowsArchs};
 ghost use Rattle.office_keeper.specs.Keeping.{Counted};
@@ -87,6 +87,20 @@ pub trait Keeper {
     /// The kept numbers of a sender from `from` to `to` with their texts, by number; none where `from` is above `to`.
     fn load(&mut self, sender: u32, from: u32, to: u32) -> Result<Vec<Letter>, KeepFault>
         ensures loaded { is_trusted self.new → IfOk result (λ letters. letters.items ≡ letters_within (content self.old).kept sender from to) }
+        ensures same { is_trusted self.new → content self.new ≡ content self.old }
+        ensures setup { setup self.new ≡ setup self.old }
+        ensures clean { is_clean self.new → is_clean self.old }
+        ensures faults { disk_faults self.old ≤ disk_faults self.new }
+        ensures before { is_trusted self.new → is_trusted self.old }
+        ensures open { is_clean self.new → is_trusted self.old → OnOk result (is_trusted self.new) }
+        ensures shut { is_clean self.new → is_trusted self.old → is_trusted self.new ⊎ HasRisen (disk_faults self.old) (disk_faults self.new) }
+        ensures legible { is_trusted self.new → is_legible self.old → is_legible self.new }
+        ensures bad { is_trusted self.new → is_legible self.old → AreOwnTexts (setup self.old) (content self.old).kept → result ≢ Err (KeepFault.Store Cause.BadRow) }
+        ensures counted { Counted (refusals self.old) (refusals self.new) result };
+
+    /// The least kept number of a sender from `from` on, or none.
+    fn next_number(&mut self, sender: u32, from: u32) -> Result<Option<u32>, KeepFault>
+        ensures next { is_trusted self.new → IfOk result (λ number. IsNextNumber (content self.old).kept sender from number) }
         ensures same { is_trusted self.new → content self.new ≡ content self.old }
         ensures setup { setup self.new ≡ setup self.old }
         ensures clean { is_clean self.new → is_clean self.old }

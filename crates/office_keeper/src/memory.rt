@@ -6,7 +6,7 @@ ghost use Rattle.std.specs.declared.ops.Bound.TheVariants.{Included};
 ghost use Rattle.office_mail.specs.Kept.{place_cmp};
 ghost use Rattle.std.specs.FinMap.{get};
 ghost use Rattle.std.specs.Option.{option_copied};
-ghost use Rattle.office_keeper.specs.Content.{letters_within, item_from_one};
+ghost use Rattle.office_keeper.specs.Content.{letters_within, item_from_one, IsNextNumber};
 ghost use Rattle.office_keeper.specs.MemoryState.{kept_in, letter_of, content_of};
 
 use crate::fact_rows::{rows_after, rows_in_order};
@@ -115,6 +115,22 @@ fn letters_of(
     letters_between(alloc, mail, sender, from, to)
 }
 
+/// The least kept number of a sender from one number on, or none.
+fn next_of(mail: &BTreeMap<(u32, u32), MailText>, sender: u32, from: u32) -> Option<u32>
+    ensures { IsNextNumber (kept_in mail.now.entries) sender from result }
+{
+    match mail.range((sender, from)..).next() {
+        None => None,
+        Some((place, _)) => {
+            if place.0 == sender {
+                Some(place.1)
+            } else {
+                None
+            }
+        }
+    }
+}
+
 /// The reports of a run counted from 1, or none.
 fn reports_of(runs: &[Reports], run: u32) -> Option<&Reports>
     ensures { option_copied result ≡ item_from_one run runs.now }
@@ -157,6 +173,10 @@ impl Keeper for Plain {
 
     fn load(&mut self, sender: u32, from: u32, to: u32) -> Result<Vec<Letter>, KeepFault> {
         letters_of(self.alloc, &self.mail, sender, from, to)
+    }
+
+    fn next_number(&mut self, sender: u32, from: u32) -> Result<Option<u32>, KeepFault> {
+        Ok(next_of(&self.mail, sender, from))
     }
 
     fn finish(&mut self, _run: u32, done: &Finished) -> Result<(), KeepFault> {

@@ -9,4 +9,4 @@ pub use faults::{DeliverFault, Held, Progress, StoreFault};
 pub use replies::{
     Delivery, Digits, Mark, WriteFault, fault_words, write_all, write_parts, write_reply,
 };
-pub use waiting::{Awaited, Lack, Waiting, waiting_text};
+pub use waiting::{Awaited, Lack, Waiting, name_at, waiting_text};

@@ -83,7 +83,7 @@ fn push_lack(text: &mut String, setup: &Setup, run: u64, lack: Lack) -> Result<(
 }
 
 /// The name of the sender at a place, empty where there is none.
-fn name_at(setup: &Setup, place: u32) -> &str
+pub fn name_at(setup: &Setup, place: u32) -> &str
     ensures { result.now ≡ name_at setup.now place }
 {
     match setup.senders().get(place as usize) {

@@ -1,5 +1,5 @@
--- A row of bytes alone, behind all others of a table, answers no path but its own.
-use Rattle.std.proofs.Common.{◌≡◌, ◌≢◌, ℕ, ◌-◌, Bool, true, false, cond, List, [], ◌∷◌, ◌++◌, map, codes, Option, option_map, refl, sym, ap, ◌∙◌, arith, append-nil, ◌==◌}
+-- A row of bytes alone answers no path but its own, and one that begins with bytes no path that doesn't begin with them.
+use Rattle.std.proofs.Common.{◌≡◌, ◌≢◌, ◌<◌, ℕ, ◌-◌, Bool, true, false, cond, List, [], ◌∷◌, ◌++◌, map, codes, Option, option_map, refl, sym, ap, ◌∙◌, arith, append-nil, ◌==◌}
 use Rattle.std.proofs.lemmas.Bool.Decides.{nat_tests}
 use Rattle.httparse.specs.Grammar.{RequestHead}
 use Rattle.httparse.specs.Spans.{name_and_value}
@@ -8,17 +8,18 @@ use Rattle.matchit.specs.Level.{IsText}
 use Rattle.matchit.specs.Rows.{RowsOf, param_token, catch_all_token}
 use Rattle.matchit.specs.Router.{RouteOf}
 use Rattle.matchit.specs.Seek.{own, step, or_else, param_step, seek}
+use Rattle.office_mail.specs.Lists.{Lists}
 use Rattle.office_requests.specs.Asked.{asked_at, asked_by, asked_by_table, asked_of, framing_of, path_of, tell_asked}
-use Rattle.office_requests.specs.Routes.{office_routes, six_routes, route_of, plain}
-use Rattle.office_requests.specs.declared.request.Page.TheVariants.{Waiting}
+use Rattle.office_requests.specs.Routes.{office_routes, six_routes, route_in, route_of, plain, with_letter, with_run}
+use Rattle.office_requests.specs.declared.request.Page.TheVariants.{Waiting, Runs, Kept}
 use Rattle.office_requests.specs.declared.routes.Route.{Route}
 use Rattle.office_requests.specs.declared.routes.Route.TheVariants as route
 
 module _ {K : Type 0} where
-  own_before : (rs : RowsOf K) (x : ℕ) (t : List ℕ) (key : K) → own (rs ++ (x ∷ t, key) ∷ []) ≡ own rs
-  own_before [] x t key = refl
-  own_before (([], k) ∷ rest) x t key = refl
-  own_before ((a ∷ s, k) ∷ rest) x t key = own_before rest x t key
+  own_before : (rs more : RowsOf K) (x : ℕ) (t : List ℕ) (key : K) → own (rs ++ (x ∷ t, key) ∷ more) ≡ own (rs ++ more)
+  own_before [] more x t key = refl
+  own_before (([], k) ∷ rest) more x t key = refl
+  own_before ((a ∷ s, k) ∷ rest) more x t key = own_before rest more x t key
 
   step_append : (b : ℕ) (rs more : RowsOf K) → step b (rs ++ more) ≡ step b rs ++ step b more
   step_append b [] more = refl
@@ -29,16 +30,19 @@ module _ {K : Type 0} where
         | false ↦ step_append b rest more
       ]
 
-  step_past_end : (b : ℕ) (rs : RowsOf K) (key : K) → step b (rs ++ ([], key) ∷ []) ≡ step b rs
-  step_past_end b rs key = step_append b rs (([], key) ∷ []) ∙ append-nil (step b rs)
+  step_past_end : (b : ℕ) (rs more : RowsOf K) (key : K) → step b (rs ++ ([], key) ∷ more) ≡ step b (rs ++ more)
+  step_past_end b rs more key = step_append b rs (([], key) ∷ more) ∙ sym (step_append b rs more)
 
-  step_by : (b x : ℕ) (t : List ℕ) (rs : RowsOf K) (key : K) (v : Bool) → (x == b) ≡ v → step b (rs ++ (x ∷ t, key) ∷ []) ≡ step b rs ++ cond v ((t, key) ∷ []) []
-  step_by b x t rs key v e = step_append b rs ((x ∷ t, key) ∷ []) ∙ ap (λ (c : Bool). step b rs ++ cond c ((t, key) ∷ []) []) e
+  step_by : (b x : ℕ) (t : List ℕ) (rs more : RowsOf K) (key : K) (v : Bool) → (x == b) ≡ v → step b (rs ++ (x ∷ t, key) ∷ more) ≡ step b rs ++ cond v ((t, key) ∷ step b more) (step b more)
+  step_by b x t rs more key v e = step_append b rs ((x ∷ t, key) ∷ more) ∙ ap (λ (c : Bool). step b rs ++ cond c ((t, key) ∷ step b more) (step b more)) e
 
-  step_miss : (b x : ℕ) (t : List ℕ) (rs : RowsOf K) (key : K) → x ≢ b → step b (rs ++ (x ∷ t, key) ∷ []) ≡ step b rs
-  step_miss b x t rs key n =
+  step_other : (b x : ℕ) (t : List ℕ) (rs more : RowsOf K) (key : K) → (x == b) ≡ false → step b (rs ++ (x ∷ t, key) ∷ more) ≡ step b (rs ++ more)
+  step_other b x t rs more key e = step_by b x t rs more key false e ∙ sym (step_append b rs more)
+
+  step_miss : (b x : ℕ) (t : List ℕ) (rs more : RowsOf K) (key : K) → x ≢ b → step b (rs ++ (x ∷ t, key) ∷ more) ≡ step b (rs ++ more)
+  step_miss b x t rs more key n =
       let e : (x == b) ≡ false = grind (arith, nat_tests) in
-      step_by b x t rs key false e ∙ append-nil (step b rs)
+      step_other b x t rs more key e
 
   -- what a walk does at a byte, by the rows behind it, behind a parameter and behind a catch-all
   turn : RowsOf K → RowsOf K → RowsOf K → ℕ → List ℕ → Option K
@@ -49,30 +53,92 @@ module _ {K : Type 0} where
   unfolding turn
   same_turn r s p q a c b path e f g = simp (e, f, g)
 
-  pub seek_others : (t path : List ℕ) (rs : RowsOf K) (key : K) → IsText t → path ≢ t → seek 0 (rs ++ (t, key) ∷ []) path ≡ seek 0 rs path
+  -- a row that goes on with a byte, where the walk stands at one: what is told of the rows behind that byte is told of these
+  by_byte : (b x : ℕ) (t path : List ℕ) (rs more : RowsOf K) (key : K) → x < 256 → (x ≡ b → seek 0 (step b rs ++ (t, key) ∷ step b more) path ≡ seek 0 (step b rs ++ step b more) path)
+      → seek 0 (rs ++ (x ∷ t, key) ∷ more) (b ∷ path) ≡ seek 0 (rs ++ more) (b ∷ path)
   unfolding seek turn
-  seek_others [] [] rs key h n = absurd (n refl)
-  seek_others (x ∷ t) [] rs key h n = own_before rs x t key
-  seek_others [] (b ∷ path) rs key h n =
-      same_turn _ _ _ _ _ _ b path (ap (λ (l : RowsOf K). seek 0 l path) (step_past_end b rs key)) (step_past_end param_token rs key) (step_past_end catch_all_token rs key)
-  seek_others (x ∷ t) (b ∷ path) rs key h n =
-      same_turn _ _ _ _ _ _ b path (by (x == b) refl (seek_others t path (step b rs) key h.1)) (step_miss param_token x t rs key (λ e. omega (arith, h.0, e))) (step_miss catch_all_token x t rs key (λ e. omega (arith, h.0, e)))
+  by_byte b x t path rs more key text behind =
+      same_turn _ _ _ _ _ _ b path (by (x == b) refl) (step_miss param_token x t rs more key (λ e. omega (arith, text, e))) (step_miss catch_all_token x t rs more key (λ e. omega (arith, text, e)))
     where
-      by : (v : Bool) → (x == b) ≡ v → (path ≢ t → seek 0 (step b rs ++ (t, key) ∷ []) path ≡ seek 0 (step b rs) path) → seek 0 (step b (rs ++ (x ∷ t, key) ∷ [])) path ≡ seek 0 (step b rs) path
-      by true e ih =
+      by : (v : Bool) → (x == b) ≡ v → seek 0 (step b (rs ++ (x ∷ t, key) ∷ more)) path ≡ seek 0 (step b (rs ++ more)) path
+      by true e =
           let same : x ≡ b = grind (arith, nat_tests) in
-          ap (λ (l : RowsOf K). seek 0 l path) (step_by b x t rs key true e)
-          ∙ ih (λ q. n (ap (λ (l : List ℕ). b ∷ l) q ∙ ap (λ (y : ℕ). y ∷ t) (sym same)))
-      by false e ih = ap (λ (l : RowsOf K). seek 0 l path) (step_by b x t rs key false e ∙ append-nil (step b rs))
+          ap (λ (l : RowsOf K). seek 0 l path) (step_by b x t rs more key true e) ∙ behind same ∙ ap (λ (l : RowsOf K). seek 0 l path) (sym (step_append b rs more))
+      by false e = ap (λ (l : RowsOf K). seek 0 l path) (step_other b x t rs more key e)
+
+  -- a row of bytes alone answers no path but its own
+  pub seek_others : (t path : List ℕ) (rs more : RowsOf K) (key : K) → IsText t → path ≢ t → seek 0 (rs ++ (t, key) ∷ more) path ≡ seek 0 (rs ++ more) path
+  unfolding seek turn
+  seek_others [] [] rs more key h n = absurd (n refl)
+  seek_others (x ∷ t) [] rs more key h n = own_before rs more x t key
+  seek_others [] (b ∷ path) rs more key h n =
+      same_turn _ _ _ _ _ _ b path (ap (λ (l : RowsOf K). seek 0 l path) (step_past_end b rs more key)) (step_past_end param_token rs more key) (step_past_end catch_all_token rs more key)
+  seek_others (x ∷ t) (b ∷ path) rs more key h n =
+      by_byte b x t path rs more key h.0 (λ same. seek_others t path (step b rs) (step b more) key h.1 (λ q. n (ap (λ (l : List ℕ). b ∷ l) q ∙ ap (λ (y : ℕ). y ∷ t) (sym same))))
+
+  -- a row that begins with bytes answers no path that doesn't begin with them
+  pub seek_beside : (front t path : List ℕ) (rs more : RowsOf K) (key : K) → IsText front → ((rest : List ℕ) → path ≢ front ++ rest) → seek 0 (rs ++ (front ++ t, key) ∷ more) path ≡ seek 0 (rs ++ more) path
+  unfolding seek
+  seek_beside [] t path rs more key h n = absurd (n path refl)
+  seek_beside (x ∷ front) t [] rs more key h n = own_before rs more x (front ++ t) key
+  seek_beside (x ∷ front) t (b ∷ path) rs more key h n =
+      by_byte b x (front ++ t) path rs more key h.0 (λ same. seek_beside front t path (step b rs) (step b more) key h.1 (λ rest q. n rest (ap (λ (l : List ℕ). b ∷ l) q ∙ ap (λ (y : ℕ). y ∷ front ++ rest) (sym same))))
+
+-- the table, row by row
+abbrev excuses_row : RowsOf (RouteOf Route)
+excuses_row = with_run (codes "/excuses/") (codes "/excuses/{run}") (10, 13) route.Excuses ∷ []
+
+abbrev letter : RouteOf Route
+letter = (with_letter (codes "/kept/") (codes "/kept/{sender}/{number}") ((7, 13) ∷ (16, 22) ∷ []) route.Letter).1
+
+abbrev mail_row : RowsOf (RouteOf Route)
+mail_row = plain (codes "/mail") route.Mail ∷ []
+
+abbrev last_rows : RowsOf (RouteOf Route)
+last_rows = plain (codes "/settle") route.Settle ∷ plain (codes "/status") route.Status ∷ plain (codes "/testing") route.Testing ∷ with_run (codes "/update/") (codes "/update/{run}") (9, 12) route.Update ∷ []
+
+abbrev waiting_row : RowsOf (RouteOf Route)
+waiting_row = plain (codes "/waiting") route.Waiting ∷ []
+
+abbrev runs_row : RowsOf (RouteOf Route)
+runs_row = plain (codes "/runs") route.Runs ∷ []
+
+abbrev kept_row : RowsOf (RouteOf Route)
+kept_row = plain (codes "/kept") route.Kept ∷ []
+
+six_answer : (path : List ℕ) → path ≢ codes "/waiting" → path ≢ codes "/runs" → path ≢ codes "/kept" → ((rest : List ℕ) → path ≢ codes "/kept/" ++ rest) → route_of path ≡ route_in six_routes path
+unfolding office_routes six_routes
+six_answer path waiting runs kept below =
+    let of_waiting : IsText (codes "/waiting") = (omega arith, (omega arith, (omega arith, (omega arith, (omega arith, (omega arith, (omega arith, (omega arith, tt)))))))) in
+    let of_runs : IsText (codes "/runs") = (omega arith, (omega arith, (omega arith, (omega arith, (omega arith, tt))))) in
+    let of_below : IsText (codes "/kept/") = (omega arith, (omega arith, (omega arith, (omega arith, (omega arith, (omega arith, tt)))))) in
+    let of_kept : IsText (codes "/kept") = (omega arith, (omega arith, (omega arith, (omega arith, (omega arith, tt))))) in
+    ap (λ (o : Option (RouteOf Route)). option_map (λ (r : RouteOf Route). r.value) o)
+    (seek_beside (codes "/kept/") (param_token ∷ 47 ∷ param_token ∷ []) path excuses_row (kept_row ++ (mail_row ++ (runs_row ++ (last_rows ++ waiting_row)))) letter of_below below
+    ∙ seek_others (codes "/kept") path excuses_row (mail_row ++ (runs_row ++ (last_rows ++ waiting_row))) (plain (codes "/kept") route.Kept).1 of_kept kept
+    ∙ seek_others (codes "/runs") path (excuses_row ++ mail_row) (last_rows ++ waiting_row) (plain (codes "/runs") route.Runs).1 of_runs runs
+    ∙ seek_others (codes "/waiting") path (excuses_row ++ (mail_row ++ last_rows)) [] (plain (codes "/waiting") route.Waiting).1 of_waiting waiting)
 
 -- the laws
-pub others_stay : (head : RequestHead) → path_of head.target ≢ codes "/waiting" → asked_of head ≡ asked_by_table six_routes head
-unfolding asked_of asked_by office_routes
-others_stay head n =
+pub others_stay : (setup : Lists) (head : RequestHead) → path_of head.target ≢ codes "/waiting" → path_of head.target ≢ codes "/runs" → path_of head.target ≢ codes "/kept" → ((rest : List ℕ) → path_of head.target ≢ codes "/kept/" ++ rest)
+    → asked_of setup head ≡ asked_by_table six_routes setup head
+unfolding asked_of asked_by
+others_stay setup head waiting runs kept below =
     let path = path_of head.target in
-    let bytes : IsText (codes "/waiting") = (omega arith, (omega arith, (omega arith, (omega arith, (omega arith, (omega arith, (omega arith, (omega arith, tt)))))))) in
-    ap (λ (o : Option (RouteOf Route)). asked_at (option_map (λ (r : RouteOf Route). r.value) o) head.method path head.minor (framing_of (map name_and_value head.fields))) (seek_others (codes "/waiting") path six_routes (plain (codes "/waiting") route.Waiting).1 bytes n)
+    ap (λ (o : Option Route). asked_at setup o head.method path head.minor (framing_of (map name_and_value head.fields))) (six_answer path waiting runs kept below)
 
-pub waiting_told : (head : RequestHead) → path_of head.target ≡ codes "/waiting" → asked_of head ≡ tell_asked Waiting head.method
-unfolding asked_of asked_by office_routes six_routes matchit_on_literals
-waiting_told head e = ap (λ (path : List ℕ). asked_at (route_of path) head.method path head.minor (framing_of (map name_and_value head.fields))) e
+told_at : (setup : Lists) (head : RequestHead) (path : List ℕ) → path_of head.target ≡ path → asked_of setup head ≡ asked_at setup (route_of path) head.method path head.minor (framing_of (map name_and_value head.fields))
+unfolding asked_of asked_by
+told_at setup head path e = ap (λ (path : List ℕ). asked_at setup (route_of path) head.method path head.minor (framing_of (map name_and_value head.fields))) e
+
+pub waiting_told : (setup : Lists) (head : RequestHead) → path_of head.target ≡ codes "/waiting" → asked_of setup head ≡ tell_asked Waiting head.method
+unfolding office_routes matchit_on_literals
+waiting_told setup head e = told_at setup head (codes "/waiting") e
+
+pub runs_told : (setup : Lists) (head : RequestHead) → path_of head.target ≡ codes "/runs" → asked_of setup head ≡ tell_asked Runs head.method
+unfolding office_routes matchit_on_literals
+runs_told setup head e = told_at setup head (codes "/runs") e
+
+pub kept_told : (setup : Lists) (head : RequestHead) → path_of head.target ≡ codes "/kept" → asked_of setup head ≡ tell_asked Kept head.method
+unfolding office_routes matchit_on_literals
+kept_told setup head e = told_at setup head (codes "/kept") e

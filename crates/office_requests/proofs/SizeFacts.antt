@@ -1,10 +1,11 @@
 -- How long a body may be.
-use Rattle.std.proofs.Common.{◌≡◌, ℕ, ◌≤◌, Bool, true, false, ◌&&◌, ◌==◌, nat_le, List, [], ◌∷◌, map, codes, Option, Some, None, refl, cond, arith}
+use Rattle.std.proofs.Common.{◌≡◌, ℕ, ◌≤◌, Bool, true, false, ◌&&◌, ◌==◌, ◌+◌, nat_le, List, [], ◌∷◌, take, drop, map, codes, Option, Some, None, refl, cond, arith}
 use Rattle.std.proofs.lemmas.Bool.Decides.{nat_tests}
 use Rattle.std.specs.Str.{bytes_eq}
 use Rattle.std.specs.Str.Parse.{digits_value}
 use Rattle.httparse.specs.Grammar.{RequestHead}
 use Rattle.httparse.specs.Spans.{name_and_value}
+use Rattle.office_mail.specs.Lists.{Lists}
 use Rattle.office_requests.specs.Routes.{route_of}
 use Rattle.office_requests.specs.declared.routes.Route.{Route}
 use Rattle.office_requests.specs.declared.routes.Route.TheVariants as route
@@ -16,10 +17,10 @@ use Rattle.office_requests.specs.declared.request.Framing.{Framing}
 use Rattle.office_requests.specs.declared.request.Action.{Action}
 use Rattle.office_requests.specs.declared.request.Action.TheVariants.{Deliver, Settle}
 use Rattle.office_requests.specs.declared.request.Page.{Page}
-use Rattle.office_requests.specs.declared.request.Page.TheVariants.{Status, Testing, Excuses, Update, Waiting}
+use Rattle.office_requests.specs.declared.request.Page.TheVariants.{Status, Testing, Excuses, Update, Waiting, Runs, Kept}
 use Rattle.office_requests.specs.declared.request.Asked.{Asked}
 use Rattle.office_requests.specs.declared.request.Asked.TheVariants.{Refused, Tell}
-use Rattle.office_requests.specs.Asked.{Line, are_digits, number_stated, stated, values_named, framing_of, posted_length, posted_by, post_asked, tell_asked, asked_at, asked_by, asked_of, path_of, body_size}
+use Rattle.office_requests.specs.Asked.{Line, are_digits, number_stated, stated, values_named, framing_of, posted_length, posted_by, post_asked, tell_asked, asked_at, asked_by, asked_of, letter_by, path_of, plain_number, sender_place, slash_at, body_size}
 use Rattle.office_requests.specs.Request.{body_room}
 
 abbrev stated_size : Stated → ℕ
@@ -68,17 +69,26 @@ post_fits action method minor framing h =
 tell_fits : (page : Page) (method : List ℕ) → body_size (tell_asked page method) ≤ body_room
 tell_fits page method = if_fits (bytes_eq method (codes "GET")) (Tell page) OnlyGet (omega arith)
 
-asked_fits : (o : Option Route) (method path : List ℕ) (minor : ℕ) (framing : Framing) → stated_size framing.length ≤ body_room → body_size (asked_at o method path minor framing) ≤ body_room
-asked_fits None method path minor framing h = omega arith
-asked_fits (Some route.Mail) method path minor framing h = post_fits Deliver method minor framing h
-asked_fits (Some route.Settle) method path minor framing h = post_fits Settle method minor framing h
-asked_fits (Some route.Status) method path minor framing h = tell_fits Status method
-asked_fits (Some route.Testing) method path minor framing h = tell_fits Testing method
-asked_fits (Some route.Excuses) method path minor framing h = tell_fits _ method
-asked_fits (Some route.Update) method path minor framing h = tell_fits _ method
-asked_fits (Some route.Waiting) method path minor framing h = tell_fits Waiting method
+letter_fits : (sender : Option ℕ) (number : ℕ) → body_size (letter_by sender number) ≤ body_room
+letter_fits None number = omega arith
+letter_fits (Some sender) number = omega arith
+
+asked_fits : (setup : Lists) (o : Option Route) (method path : List ℕ) (minor : ℕ) (framing : Framing) → stated_size framing.length ≤ body_room → body_size (asked_at setup o method path minor framing) ≤ body_room
+asked_fits setup None method path minor framing h = omega arith
+asked_fits setup (Some route.Mail) method path minor framing h = post_fits Deliver method minor framing h
+asked_fits setup (Some route.Settle) method path minor framing h = post_fits Settle method minor framing h
+asked_fits setup (Some route.Status) method path minor framing h = tell_fits Status method
+asked_fits setup (Some route.Testing) method path minor framing h = tell_fits Testing method
+asked_fits setup (Some route.Excuses) method path minor framing h = tell_fits _ method
+asked_fits setup (Some route.Update) method path minor framing h = tell_fits _ method
+asked_fits setup (Some route.Waiting) method path minor framing h = tell_fits Waiting method
+asked_fits setup (Some route.Runs) method path minor framing h = tell_fits Runs method
+asked_fits setup (Some route.Kept) method path minor framing h = tell_fits Kept method
+asked_fits setup (Some route.Letter) method path minor framing h =
+    let text = drop 6 path in
+    if_fits (bytes_eq method (codes "GET")) (letter_by (sender_place setup (take (slash_at text) text)) (plain_number (drop (slash_at text + 1) text))) OnlyGet (letter_fits (sender_place setup (take (slash_at text) text)) (plain_number (drop (slash_at text + 1) text)))
 
 -- no body that is read is longer than 65,536 bytes
-pub body_fits : (head : RequestHead) → body_size (asked_of head) ≤ body_room
+pub body_fits : (setup : Lists) (head : RequestHead) → body_size (asked_of setup head) ≤ body_room
 unfolding asked_of asked_by
-body_fits head = asked_fits (route_of (path_of head.target)) head.method (path_of head.target) head.minor (framing_of (map name_and_value head.fields)) (framing_fits (map name_and_value head.fields))
+body_fits setup head = asked_fits setup (route_of (path_of head.target)) head.method (path_of head.target) head.minor (framing_of (map name_and_value head.fields)) (framing_fits (map name_and_value head.fields))

@@ -1,6 +1,7 @@
 -- What a request asks for, by its head.
-use Rattle.std.specs.Prelude.{ℕ, ◌^◌, Bool, true, false, ◌&&◌, ◌==◌, nat_le, nat_lt, if◌then◌else◌, List, [], ◌∷◌, drop, map, codes, Option, Some, None, Result, Ok, Err, unwrap_or}
-use Rattle.std.specs.List.{list_all, list_any, before_first}
+use Rattle.std.specs.Prelude.{ℕ, ◌^◌, Bool, true, false, ◌&&◌, ◌==◌, nat_le, nat_lt, if◌then◌else◌, List, [], ◌∷◌, drop, take, length, ◌+◌, map, codes, Option, Some, None, Result, Ok, Err, unwrap_or}
+use Rattle.std.specs.List.{list_all, list_any, before_first, position}
+use Rattle.std.specs.Option.{option_map}
 use Rattle.std.specs.Char.{is_ascii_digit}
 use Rattle.std.specs.Str.{bytes_eq, str_eq_ignore_ascii_case}
 use Rattle.std.specs.Str.Parse.{digits_value}
@@ -8,11 +9,14 @@ use Rattle.httparse.specs.Grammar.{RequestHead}
 use Rattle.httparse.specs.Spans.{name_and_value}
 use Rattle.matchit.specs.Rows.{RowsOf}
 use Rattle.matchit.specs.Router.{RouteOf}
+use Rattle.office_mail.specs.Lists.{Lists}
+use Rattle.office_mail.specs.Read.{sender_named}
+use Rattle.office_mail.specs.declared.setup.Role.{Role}
 use Rattle.office_requests.specs.Routes.{route_in, route_of}
 use Rattle.office_requests.specs.declared.routes.Route.{Route}
 use Rattle.office_requests.specs.declared.routes.Route.TheVariants as route
 use Rattle.office_requests.specs.declared.reply.Refusal.{Refusal}
-use Rattle.office_requests.specs.declared.reply.Refusal.TheVariants.{BadRequest, NoRoute, OnlyGet, OnlyPost, LengthRequired}
+use Rattle.office_requests.specs.declared.reply.Refusal.TheVariants.{BadRequest, NoRoute, NoMessage, OnlyGet, OnlyPost, LengthRequired}
 use Rattle.office_requests.specs.declared.reply.Refusal.TheVariants as refusal
 use Rattle.office_requests.specs.declared.request.Stated.{Stated}
 use Rattle.office_requests.specs.declared.request.Stated.TheVariants.{Absent, Bad, TooLong, Exactly}
@@ -20,7 +24,7 @@ use Rattle.office_requests.specs.declared.request.Framing.{Framing}
 use Rattle.office_requests.specs.declared.request.Action.{Action}
 use Rattle.office_requests.specs.declared.request.Action.TheVariants.{Deliver, Settle}
 use Rattle.office_requests.specs.declared.request.Page.{Page}
-use Rattle.office_requests.specs.declared.request.Page.TheVariants.{Status, Testing, Excuses, Update, Waiting}
+use Rattle.office_requests.specs.declared.request.Page.TheVariants.{Status, Testing, Excuses, Update, Waiting, Runs, Kept, Letter}
 use Rattle.office_requests.specs.declared.request.Asked.{Asked}
 use Rattle.office_requests.specs.declared.request.Asked.TheVariants.{Refused, Tell, Post}
 
@@ -103,9 +107,9 @@ has_leading_zero (c ∷ cs) = c == 48
 abbrev pub number_or_zero : List ℕ → ℕ
 number_or_zero text = if are_digits text then unwrap_or (number_under text) 0 else 0
 
--- the run that digits without a leading zero name; 0, which is no run, for any other text
-unfoldable pub run_number : List ℕ → ℕ
-run_number text = if has_leading_zero text then 0 else number_or_zero text
+-- the number that digits without a leading zero spell; 0, which is no run's and no message's, for any other text
+unfoldable pub plain_number : List ℕ → ℕ
+plain_number text = if has_leading_zero text then 0 else number_or_zero text
 
 -- The length of the body: one that is stated as a number, and not beside a transfer coding. A settle may leave it out.
 abbrev pub absent_length : Action → Bool → Result ℕ Refusal
@@ -131,27 +135,52 @@ post_asked action method minor framing =
 abbrev pub tell_asked : Page → List ℕ → Asked
 tell_asked page method = if bytes_eq method (codes "GET") then Tell page else Refused OnlyGet
 
--- by the route of the path; a report names its run behind the second slash
-abbrev pub asked_at : Option Route → List ℕ → List ℕ → ℕ → Framing → Asked
-asked_at None method path minor framing = Refused NoRoute
-asked_at (Some route.Mail) method path minor framing = post_asked Deliver method minor framing
-asked_at (Some route.Settle) method path minor framing = post_asked Settle method minor framing
-asked_at (Some route.Status) method path minor framing = tell_asked Status method
-asked_at (Some route.Testing) method path minor framing = tell_asked Testing method
-asked_at (Some route.Excuses) method path minor framing = tell_asked (Excuses (run_number (drop 9 path))) method
-asked_at (Some route.Update) method path minor framing = tell_asked (Update (run_number (drop 8 path))) method
-asked_at (Some route.Waiting) method path minor framing = tell_asked Waiting method
+-- a text in two parts: up to its first slash, and behind it
+abbrev pub is_slash : ℕ → Bool
+is_slash c = c == 47
 
-unfoldable pub asked_by : List ℕ → List ℕ → ℕ → Framing → Asked
-asked_by method target minor framing = asked_at (route_of (path_of target)) method (path_of target) minor framing
+abbrev pub slash_at : List ℕ → ℕ
+slash_at text = unwrap_or (position is_slash text) (length text)
 
--- What a head asks for: its path is routed, then come its method and what its fields say of the body.
-unfoldable pub asked_of : RequestHead → Asked
-asked_of head = asked_by head.method head.target head.minor (framing_of (map name_and_value head.fields))
+-- the place of the sender of this name
+abbrev pub sender_place : Lists → List ℕ → Option ℕ
+sender_place setup name = option_map (λ (sender : ℕ × Role). sender.0) (sender_named setup name)
+
+-- the kept text of a sender's number; a name of no sender is refused
+abbrev pub letter_by : Option ℕ → ℕ → Asked
+letter_by None number = Refused NoMessage
+letter_by (Some sender) number = Tell (Letter sender number)
+
+-- what a GET asks for by a sender's name and a number, with a slash between them
+abbrev pub letter_asked : Lists → List ℕ → List ℕ → Asked
+letter_asked setup text method =
+    if bytes_eq method (codes "GET") then letter_by (sender_place setup (take (slash_at text) text)) (plain_number (drop (slash_at text + 1) text)) else Refused OnlyGet
+
+-- by the route of the path; a report names its run behind the second slash, a kept text its sender there, and then its number
+abbrev pub asked_at : Lists → Option Route → List ℕ → List ℕ → ℕ → Framing → Asked
+asked_at setup None method path minor framing = Refused NoRoute
+asked_at setup (Some route.Mail) method path minor framing = post_asked Deliver method minor framing
+asked_at setup (Some route.Settle) method path minor framing = post_asked Settle method minor framing
+asked_at setup (Some route.Status) method path minor framing = tell_asked Status method
+asked_at setup (Some route.Testing) method path minor framing = tell_asked Testing method
+asked_at setup (Some route.Excuses) method path minor framing = tell_asked (Excuses (plain_number (drop 9 path))) method
+asked_at setup (Some route.Update) method path minor framing = tell_asked (Update (plain_number (drop 8 path))) method
+asked_at setup (Some route.Waiting) method path minor framing = tell_asked Waiting method
+asked_at setup (Some route.Runs) method path minor framing = tell_asked Runs method
+asked_at setup (Some route.Kept) method path minor framing = tell_asked Kept method
+asked_at setup (Some route.Letter) method path minor framing = letter_asked setup (drop 6 path) method
+
+unfoldable pub asked_by : Lists → List ℕ → List ℕ → ℕ → Framing → Asked
+asked_by setup method target minor framing = asked_at setup (route_of (path_of target)) method (path_of target) minor framing
+
+-- What a head asks for of an office with this setup: its path is routed, then come its method and what its fields say of
+-- the body.
+unfoldable pub asked_of : Lists → RequestHead → Asked
+asked_of setup head = asked_by setup head.method head.target head.minor (framing_of (map name_and_value head.fields))
 
 -- the same by another table of routes
-abbrev pub asked_by_table : RowsOf (RouteOf Route) → RequestHead → Asked
-asked_by_table routes head = asked_at (route_in routes (path_of head.target)) head.method (path_of head.target) head.minor (framing_of (map name_and_value head.fields))
+abbrev pub asked_by_table : RowsOf (RouteOf Route) → Lists → RequestHead → Asked
+asked_by_table routes setup head = asked_at setup (route_in routes (path_of head.target)) head.method (path_of head.target) head.minor (framing_of (map name_and_value head.fields))
 
 -- whether the reply goes without its body
 abbrev pub is_head_method : RequestHead → Bool

@@ -10,7 +10,7 @@ use Rattle.office_replies.specs.declared.faults.Held.{Held}
 use Rattle.office_requests.specs.declared.reply.Refusal.{Refusal}
 use Rattle.office_requests.specs.declared.reply.Refusal.TheVariants as refusal
 use Rattle.office_requests.specs.declared.reply.Answer.{Answer}
-use Rattle.office_requests.specs.declared.reply.Answer.TheVariants.{Refused, Delivered, Status, Told}
+use Rattle.office_requests.specs.declared.reply.Answer.TheVariants.{Refused, Delivered, Status, Told, Letter}
 use Rattle.office_replies.specs.Replies.{status_line, reply_line}
 
 -- a status code, the field Allow or nothing, and a body
@@ -37,6 +37,7 @@ abbrev pub refusal_name : Refusal → List ℕ
 refusal_name refusal.BadRequest = codes "BadRequest"
 refusal_name refusal.NoRoute = codes "NoRoute"
 refusal_name refusal.NoRun = codes "NoRun"
+refusal_name refusal.NoMessage = codes "NoMessage"
 refusal_name refusal.OnlyGet = codes "MethodNotAllowed"
 refusal_name refusal.OnlyPost = codes "MethodNotAllowed"
 refusal_name refusal.LengthRequired = codes "LengthRequired"
@@ -49,6 +50,7 @@ abbrev pub refusal_code : Refusal → ℕ
 refusal_code refusal.BadRequest = 400
 refusal_code refusal.NoRoute = 404
 refusal_code refusal.NoRun = 404
+refusal_code refusal.NoMessage = 404
 refusal_code refusal.OnlyGet = 405
 refusal_code refusal.OnlyPost = 405
 refusal_code refusal.LengthRequired = 411
@@ -63,6 +65,7 @@ refusal_allow refusal.OnlyPost = codes "Allow: POST\r\n"
 refusal_allow refusal.BadRequest = []
 refusal_allow refusal.NoRoute = []
 refusal_allow refusal.NoRun = []
+refusal_allow refusal.NoMessage = []
 refusal_allow refusal.LengthRequired = []
 refusal_allow refusal.TooLong = []
 refusal_allow refusal.HeadTooLarge = []
@@ -106,6 +109,7 @@ reply_in setup (Refused refusal) = refused refusal
 reply_in setup (Delivered reply) = record { code = delivery_code reply; allow = []; body = reply_line setup reply }
 reply_in setup (Status progress) = accepted (status_line progress.ready progress.finished)
 reply_in setup (Told text) = accepted text
+reply_in setup (Letter text) = accepted text
 
 -- a text that is held has a sender of the setup
 abbrev pub HasPlaceOf : Lists → Result Held DeliverFault → Type 0
@@ -117,3 +121,4 @@ HasPlace setup (Delivered reply) = HasPlaceOf setup reply
 HasPlace setup (Refused refusal) = ⊤
 HasPlace setup (Status progress) = ⊤
 HasPlace setup (Told text) = ⊤
+HasPlace setup (Letter text) = ⊤

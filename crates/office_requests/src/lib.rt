@@ -3,6 +3,7 @@
 
 mod head;
 pub mod laws;
+mod letters;
 mod reply;
 mod request;
 pub mod routes;

@@ -9,6 +9,7 @@ ghost use Rattle.office_replies.specs.Written.{AppendsFront, joined};
 
 use deb_control::Text;
 use http::StatusCode;
+use office_keeper::MailText;
 use office_mail::{MailFault, Setup, Sink};
 use office_replies::{
     DeliverFault, Digits, Held, Progress, WriteFault, fault_words, write_all, write_parts,
@@ -20,6 +21,8 @@ pub enum Refusal {
     BadRequest,
     NoRoute,
     NoRun,
+    /// No text is kept under that sender's number, or there is no such sender.
+    NoMessage,
     /// The path takes GET alone.
     OnlyGet,
     /// The path takes POST alone.
@@ -41,6 +44,7 @@ impl Refusal {
             Refusal::BadRequest => "BadRequest",
             Refusal::NoRoute => "NoRoute",
             Refusal::NoRun => "NoRun",
+            Refusal::NoMessage => "NoMessage",
             Refusal::OnlyGet => "MethodNotAllowed",
             Refusal::OnlyPost => "MethodNotAllowed",
             Refusal::LengthRequired => "LengthRequired",
@@ -59,6 +63,7 @@ impl Refusal {
             Refusal::BadRequest => StatusCode::BAD_REQUEST,
             Refusal::NoRoute => StatusCode::NOT_FOUND,
             Refusal::NoRun => StatusCode::NOT_FOUND,
+            Refusal::NoMessage => StatusCode::NOT_FOUND,
             Refusal::OnlyGet => StatusCode::METHOD_NOT_ALLOWED,
             Refusal::OnlyPost => StatusCode::METHOD_NOT_ALLOWED,
             Refusal::LengthRequired => StatusCode::LENGTH_REQUIRED,
@@ -89,6 +94,8 @@ pub enum Answer {
     Delivered(Result<Held, DeliverFault>),
     Status(Progress),
     Told(Text),
+    /// A kept text, byte for byte.
+    Letter(MailText),
 }
 
 /// The status code for a delivery that is refused.
@@ -271,15 +278,14 @@ fn write_progress<W: Sink>(
     write_whole(StatusCode::OK, "", &body, size, is_head, writer)
 }
 
-fn write_told<W: Sink>(text: &Text, is_head: bool, writer: &mut W) -> Result<u16, WriteFault>
+fn write_text<W: Sink>(text: &[u8], is_head: bool, writer: &mut W) -> Result<u16, WriteFault>
     ensures ok { OnOk result (Appends (W.written writer.old) (W.written writer.new) (reply_bytes (accepted text.now) is_head)) }
     ensures code { IfOk result (λ code. code ≡ 200) }
     ensures err { OnErr result (AppendsFront (W.written writer.old) (W.written writer.new) (reply_bytes (accepted text.now) is_head)) }
     ensures cause { OnErr result (HasRisen (W.failures writer.old) (W.failures writer.new)) }
     ensures clean { OnOk result (W.failures writer.new ≡ W.failures writer.old) }
 {
-    let text = text.as_str();
-    let body = [text.as_bytes()];
+    let body = [text];
     write_whole(StatusCode::OK, "", &body, text.len(), is_head, writer)
 }
 
@@ -302,7 +308,8 @@ pub fn write_answer<W: Sink>(
         Answer::Delivered(Ok(held)) => write_held(setup, *held, is_head, writer),
         Answer::Delivered(Err(fault)) => write_fault(setup, *fault, is_head, writer),
         Answer::Status(progress) => write_progress(*progress, is_head, writer),
-        Answer::Told(text) => write_told(text, is_head, writer),
+        Answer::Told(text) => write_text(text.as_str().as_bytes(), is_head, writer),
+        Answer::Letter(text) => write_text(text.as_slice(), is_head, writer),
     }
 }
 

@@ -5,14 +5,16 @@ ghost use Rattle.std.specs.List.{list_all, position, before_first};
 ghost use Rattle.std.specs.Str.{str_eq_ignore_ascii_case, bytes_eq};
 ghost use Rattle.httparse.specs.Grammar.{RequestHead};
 ghost use Rattle.httparse.specs.Spans.{IsHeaderWithin, IsRequestWithin, IsRequestAt, header_bytes};
-ghost use Rattle.office_requests.specs.Asked.{are_digits, number_under, number_stated, with_value, length_with, waits_with, with_field, framing_of, is_query, path_of, has_leading_zero, number_or_zero, run_number, absent_length, posted_length, post_asked, tell_asked, asked_at, asked_by, asked_of, is_head_method};
+ghost use Rattle.office_requests.specs.Asked.{are_digits, number_under, number_stated, with_value, length_with, waits_with, with_field, framing_of, is_query, path_of, has_leading_zero, number_or_zero, plain_number, absent_length, posted_length, post_asked, tell_asked, asked_at, asked_by, asked_of, is_head_method};
 ghost use Rattle.office_requests.specs.Routes.{office_routes, route_of};
 ghost use Rattle.office_requests.specs.Request.{field_room};
 
+use crate::letters::letter_asked;
 use crate::reply::Refusal;
 use crate::routes::{Route, find_route};
 use httparse::spans::{HeaderSpan, RequestSpans};
 use matchit::Router;
+use office_mail::Setup;
 use std::cmp::min;
 
 /// The greatest length of a body.
@@ -62,6 +64,12 @@ pub enum Page {
     Update(u32),
     /// What the first run that isn't ready waits for.
     Waiting,
+    /// The finished runs.
+    Runs,
+    /// How many numbers of each sender are kept.
+    Kept,
+    /// The kept text of a number of a sender, who is told by its place in the setup.
+    Letter { sender: u32, number: u32 },
 }
 
 /// What a request asks for.
@@ -229,10 +237,10 @@ fn number_or_zero(text: &[u8]) -> u32
     }
 }
 
-/// The run that digits without a leading zero name, 0 for any other text.
-#[tactic(auto, unfolding(crate::specs::Asked::run_number))]
-fn run_number(text: &[u8]) -> u32
-    ensures { result ≡ run_number text.now }
+/// The number that digits without a leading zero spell, 0 for any other text.
+#[tactic(auto, unfolding(crate::specs::Asked::plain_number))]
+pub(crate) fn plain_number(text: &[u8]) -> u32
+    ensures { result ≡ plain_number text.now }
 {
     if has_leading_zero(text) {
         0
@@ -241,13 +249,20 @@ fn run_number(text: &[u8]) -> u32
     }
 }
 
-/// The run that a path names behind its first part.
-fn run_in(path: &str, front: usize) -> u32
-    ensures { result ≡ run_number (drop front path.now) }
+/// What stands behind the front of a path.
+fn behind(path: &str, front: usize) -> &[u8]
+    ensures { result.now ≡ drop front path.now }
 {
     let bytes = path.as_bytes();
-    let (_, run) = bytes.split_at(min(front, bytes.len()));
-    run_number(run)
+    let (_, rest) = bytes.split_at(min(front, bytes.len()));
+    rest
+}
+
+/// The run that a path names behind its first part.
+fn run_in(path: &str, front: usize) -> u32
+    ensures { result ≡ plain_number (drop front path.now) }
+{
+    plain_number(behind(path, front))
 }
 
 /// The length where none is stated: only a settle without a transfer coding may leave it out.
@@ -321,13 +336,14 @@ fn tell_asked(page: Page, method: &[u8]) -> Asked
 #[tactic(auto, unfolding(crate::specs::Asked::asked_by))]
 fn asked_by(
     router: &Router<Route>,
+    setup: &Setup,
     method: &[u8],
     target: &str,
     minor: u8,
     framing: Framing,
 ) -> Asked
     requires { router.now ≡ office_routes }
-    ensures { result ≡ asked_by method.now target.now minor framing }
+    ensures { result ≡ asked_by setup.now method.now target.now minor framing }
 {
     let path = path_of(target);
     match find_route(router, path) {
@@ -339,20 +355,24 @@ fn asked_by(
         Some(Route::Excuses) => tell_asked(Page::Excuses(run_in(path, 9)), method),
         Some(Route::Update) => tell_asked(Page::Update(run_in(path, 8)), method),
         Some(Route::Waiting) => tell_asked(Page::Waiting, method),
+        Some(Route::Runs) => tell_asked(Page::Runs, method),
+        Some(Route::Kept) => tell_asked(Page::Kept, method),
+        Some(Route::Letter) => letter_asked(setup, behind(path, 6), method),
     }
 }
 
-/// What the head of a request asks for.
+/// What the head of a request asks for of an office with this setup.
 #[tactic(auto, unfolding(crate::specs::Asked::asked_of))]
 pub fn asked_of(
     router: &Router<Route>,
+    setup: &Setup,
     seen: &[u8],
     spans: RequestSpans,
     headers: &[HeaderSpan],
 ) -> Asked
     requires table { router.now ≡ office_routes }
     requires within { IsRequestWithin seen.now headers.now spans }
-    ensures { (head : RequestHead) → IsRequestAt seen.now headers.now spans head → result ≡ asked_of head }
+    ensures { (head : RequestHead) → IsRequestAt seen.now headers.now spans head → result ≡ asked_of setup.now head }
 {
     let framing = framing_of(seen, &headers[..spans.headers]);
     let Ok(target) = str::from_utf8(spans.path.of(seen)) else {
@@ -360,6 +380,7 @@ pub fn asked_of(
     };
     asked_by(
         router,
+        setup,
         spans.method.of(seen),
         target,
         spans.version,

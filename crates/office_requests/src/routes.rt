@@ -15,6 +15,9 @@ pub enum Route {
     Excuses,
     Update,
     Waiting,
+    Runs,
+    Kept,
+    Letter,
 }
 
 /// The table of routes.
@@ -29,6 +32,9 @@ pub fn routes(alloc: Global) -> Result<Router<Route>, InsertError>
     router.insert("/excuses/{run}", Route::Excuses)?;
     router.insert("/update/{run}", Route::Update)?;
     router.insert("/waiting", Route::Waiting)?;
+    router.insert("/runs", Route::Runs)?;
+    router.insert("/kept", Route::Kept)?;
+    router.insert("/kept/{sender}/{number}", Route::Letter)?;
     Ok(router)
 }
 

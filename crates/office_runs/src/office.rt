@@ -2,10 +2,12 @@
 #![tactic(auto, using(crate::proofs::LastFacts::lasting))]
 
 ghost use Rattle.std.specs.Prelude.{is_ok, ◌≡◌, ℕ, ◌+◌, ◌≤◌, ◌<◌, ◌∷◌, [], IfOk, OnOk, OnErr, length};
+ghost use Rattle.std.specs.FinMap.{get};
 ghost use Rattle.std.specs.Option.{option_map};
 ghost use Rattle.testing_rules.specs.Watched.{AllWatchedWork};
 ghost use Rattle.office_mail.specs.Kept.{kept_from};
 ghost use Rattle.office_mail.specs.Runs.{IsReady, IsReadyCount};
+ghost use Rattle.office_keeper.specs.Content.{IsNextNumber};
 ghost use Rattle.office_keeper.specs.Provenance.{AreOwnTexts};
 ghost use Rattle.office_replies.specs.Counted.{Counted, CountedDelivery};
 ghost use Rattle.office_runs.specs.StaysTrusted.{StaysTrusted};
@@ -19,7 +21,7 @@ use crate::runs::{ready_count, settle};
 use crate::stored;
 use crate::waiting::waiting;
 use deb_control::{NoMemory, Text};
-use office_keeper::{Keeper, Reports};
+use office_keeper::{Keeper, MailText, Reports};
 use office_mail::{RunOrder, Setup};
 use office_replies::{DeliverFault, Held, Progress, StoreFault, Waiting};
 use std::alloc::Global;
@@ -252,6 +254,34 @@ impl<K: Keeper> Office<K> {
     {
         let reports = stored::reports(&mut self.keeper, run)?;
         Ok(update_in(reports))
+    }
+
+    /// The least kept number of a sender from `from` on, or none. The sender is told by its place in the setup. It fails
+    /// for want of memory or of the store alone.
+    pub fn next_number(&mut self, sender: u32, from: u32) -> Result<Option<u32>, StoreFault>
+        ensures next { K.is_trusted self.new → IfOk result (λ number. IsNextNumber (K.content self.old).kept sender from number) }
+        ensures same { K.is_trusted self.new → K.content self.new ≡ K.content self.old }
+        ensures setup { K.setup self.new ≡ K.setup self.old }
+        ensures sound { K.is_trusted self.new → IsSound K.Keeper self.old → IsSound K.Keeper self.new }
+        ensures before { K.is_trusted self.new → K.is_trusted self.old }
+        ensures lasts { StaysTrusted K.Keeper self.old self.new (is_ok result) }
+        ensures counted { Counted (K.refusals self.old) (K.refusals self.new) result }
+    {
+        stored::next_number(&mut self.keeper, sender, from)
+    }
+
+    /// The kept text of a sender's number, or none. The sender is told by its place in the setup. It fails for want of
+    /// memory or of the store alone.
+    pub fn kept_text(&mut self, sender: u32, number: u32) -> Result<Option<MailText>, StoreFault>
+        ensures text { K.is_trusted self.new → IfOk result (λ text. text ≡ get (K.content self.old).kept (sender, number)) }
+        ensures same { K.is_trusted self.new → K.content self.new ≡ K.content self.old }
+        ensures setup { K.setup self.new ≡ K.setup self.old }
+        ensures sound { K.is_trusted self.new → IsSound K.Keeper self.old → IsSound K.Keeper self.new }
+        ensures before { K.is_trusted self.new → K.is_trusted self.old }
+        ensures lasts { StaysTrusted K.Keeper self.old self.new (is_ok result) }
+        ensures counted { Counted (K.refusals self.old) (K.refusals self.new) result }
+    {
+        stored::find(&mut self.keeper, sender, number)
     }
 }
 

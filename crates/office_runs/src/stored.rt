@@ -3,7 +3,7 @@
 
 ghost use Rattle.std.specs.Prelude.{is_ok, ◌≡◌, ◌+◌, ◌<◌, ◌≤◌, ◌++◌, ◌∷◌, [], None, IfOk, OnOk, OnErr, length};
 ghost use Rattle.std.specs.FinMap.{get, insert};
-ghost use Rattle.office_keeper.specs.Content.{with_text, with_run, reports_in, item_from_one, letters_within};
+ghost use Rattle.office_keeper.specs.Content.{with_text, with_run, reports_in, item_from_one, letters_within, IsNextNumber};
 ghost use Rattle.office_keeper.specs.FactSet.{AreHoldable, facts_after, rows_in};
 ghost use Rattle.office_keeper.specs.Provenance.{IsGiven, KnowsArchs};
 ghost use Rattle.office_replies.specs.Counted.{Counted};
@@ -56,6 +56,18 @@ pub fn load<K: Keeper>(
     ensures looks { ReadsStore K.Keeper keeper.old keeper.new result }
 {
     Ok(keeper.load(sender, from, to)?)
+}
+
+/// The least kept number of a sender from one number on, or none.
+pub fn next_number<K: Keeper>(
+    keeper: &mut K,
+    sender: u32,
+    from: u32,
+) -> Result<Option<u32>, StoreFault>
+    ensures next { K.is_trusted keeper.new → IfOk result (λ number. IsNextNumber (K.content keeper.old).kept sender from number) }
+    ensures looks { ReadsStore K.Keeper keeper.old keeper.new result }
+{
+    Ok(keeper.next_number(sender, from)?)
 }
 
 /// Keeps a text under a free number.

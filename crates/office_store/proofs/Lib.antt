@@ -9,6 +9,7 @@ pub mod BlankFacts
 pub mod LegibleKeep
 pub mod LegibleFinish
 pub mod KeeperFacts
+pub mod NumberFacts
 pub mod RangeFacts
 pub mod MigrateLemmas
 pub mod MigratedContent

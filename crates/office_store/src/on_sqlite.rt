@@ -121,6 +121,13 @@ impl<S: Alter> Keeper for Tables<S> {
         )
     }
 
+    fn next_number(&mut self, sender: u32, from: u32) -> Result<Option<u32>, KeepFault> {
+        count(
+            &mut self.refusals,
+            mail::next_number(&mut self.conn, sender, from),
+        )
+    }
+
     fn finish(&mut self, run: u32, done: &Finished) -> Result<(), KeepFault> {
         count(
             &mut self.refusals,

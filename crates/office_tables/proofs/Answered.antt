@@ -16,7 +16,7 @@ passes terms params row = list_all (holds (params ∷ row ∷ [])) terms
 abbrev pub shown_of : List Term → Row → Row → Row
 shown_of project params row = eval_all project (params ∷ row ∷ [])
 
-picked : {X Y : Type 0} (p : X → Bool) (f : X → Y) (xs : List X) → flat_map (λ x. cond (p x) (f x ∷ []) []) xs ≡ map f (filter p xs)
+pub picked : {X Y : Type 0} (p : X → Bool) (f : X → Y) (xs : List X) → flat_map (λ x. cond (p x) (f x ∷ []) []) xs ≡ map f (filter p xs)
 picked p f [] = refl
 picked {X} {Y} p f (x ∷ xs) = go (p x) refl (picked p f xs)
   where
@@ -24,7 +24,7 @@ picked {X} {Y} p f (x ∷ xs) = go (p x) refl (picked p f xs)
     go true is e = ap (λ l. f x ∷ l) e
     go false is e = e
 
-fused : {A B C D : Type 0} (f : A → B) (g : B → C) (h : C → D) (xs : List A) → map h (map g (map f xs)) ≡ map (λ x. h (g (f x))) xs
+pub fused : {A B C D : Type 0} (f : A → B) (g : B → C) (h : C → D) (xs : List A) → map h (map g (map f xs)) ≡ map (λ x. h (g (f x))) xs
 fused f g h [] = refl
 fused f g h (x ∷ xs) = ap (λ l. h (g (f x)) ∷ l) (fused f g h xs)
 

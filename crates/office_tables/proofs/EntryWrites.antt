@@ -1,10 +1,10 @@
 -- What the statements on testing make of its tables.
-use Rattle.std.proofs.Common.{◌≡◌, ◌<◌, ℕ, ℤ, pos, List, [], ◌∷◌, filter_map, Some, None, Option, Ok, refl, ap, subst, ◌∙◌, cond, true, nat_lt, arith}
+use Rattle.std.proofs.Common.{◌≡◌, ◌<◌, ℕ, ℤ, pos, List, [], ◌∷◌, Some, None, Ok, refl, sym, ap, subst, ◌∙◌, cond, true, nat_lt, arith}
 use Rattle.std.proofs.lemmas.Bool.Decides.{nat_tests}
 use Rattle.sqlite.specs.declared.types.Value.{Value}
 use Rattle.sqlite.specs.declared.types.Value.TheVariants.{Null, Int, Real, Text, Blob}
 use Rattle.sqlite.specs.Order.{Row, column}
-use Rattle.sqlite.specs.Tree.{Trees, rowid}
+use Rattle.sqlite.specs.Tree.{Trees}
 use Rattle.sqlite.specs.Table.{Table}
 use Rattle.sqlite.specs.Term.{Term, lit, col}
 use Rattle.sqlite.specs.Cast.{cast_row}
@@ -18,20 +18,15 @@ use Rattle.sqlite.specs.Listing.{understood}
 use Rattle.sqlite.specs.State.{State, Executes, Writes, mode_of}
 use Rattle.sqlite.proofs.Callers.{IsPlain, command_of, runs_as, statement_of}
 use Rattle.sqlite_tied.specs.Compute.{everything}
-use Rattle.office_mail.specs.Kept.{Place}
 use Rattle.office_tables.specs.Layout.{office_schema, testing_source, testing_row}
-use Rattle.office_tables.specs.Texts.{clear_sources_text, add_source_text, clear_rows_text, add_row_text}
-use Rattle.office_tables.specs.Tables.{small_of, small_in, text_in}
+use Rattle.office_tables.specs.Texts.{take_source_text, add_source_text, take_row_text, add_row_text}
+use Rattle.office_tables.specs.Tables.{small_of}
 use Rattle.office_tables.specs.Entries.{integer_in, source_by, source_in, row_by, entry_in}
-use Rattle.office_tables.specs.EntrySteps.{ClearsSources, AddsSource, ClearsRows, AddsRow}
+use Rattle.office_tables.specs.EntrySteps.{TakesSource, AddsSource, TakesRow, AddsRow}
 use Rattle.office_tables.proofs.Compiled.{plain_query}
 use Rattle.office_tables.proofs.WriteLemmas.{Inserted, inserts_one, cast_null, cast_int}
-use Rattle.office_tables.proofs.DeleteLemmas.{Deleted, deletes_some, nothing_left}
+use Rattle.office_tables.proofs.TakeLemmas.{Taken, id_terms, takes_by_id}
 use Rattle.office_tables.proofs.KeepLemmas.{with_sources, with_rows}
-use Rattle.office_tables.proofs.RunWrites.{none_said}
-use Rattle.testing_model.proofs.Orders.{text_order}
-use Rattle.office_tables.proofs.SettingLemmas.{text_exact, row_order, row_exact}
-use Rattle.office_tables.proofs.Whole.{whole_reads}
 
 -- fewer than 2 ^ 32
 abbrev pub Fits32 : ℕ → Type 0
@@ -49,9 +44,9 @@ integer_is (Blob b) n h = absurd (let e = h in cc)
 
 -- ---- sources
 
-clear_sources_is : (command_of (understood office_schema clear_sources_text) ≡ Delete 3 (record { lets = []; body = plain_query 4 [] (col 1 0 ∷ []) })) × IsPlain (understood office_schema clear_sources_text)
+take_source_is : (command_of (understood office_schema take_source_text) ≡ Delete 3 (record { lets = []; body = plain_query 4 id_terms (col 1 0 ∷ []) })) × IsPlain (understood office_schema take_source_text)
 unfolding understood everything
-clear_sources_is = (refl, (refl, refl))
+take_source_is = (refl, (refl, refl))
 
 abbrev source_terms : List Term
 source_terms = lit Null ∷ col 0 0 ∷ col 0 1 ∷ col 0 2 ∷ []
@@ -64,32 +59,17 @@ add_source_is = (refl, (refl, refl))
 abbrev source_table : Table
 source_table = record testing_source { tree = 4 }
 
-source_id : (row : Row) (e : List ℕ × Place) → source_in row ≡ Some e → (id : ℤ) × (rowid row ≡ Int id)
-unfolding source_in
-source_id row e h = go (integer_in (column row 0)) refl h
+pub takes_source : (id : ℤ) (old new : State) (count : ℕ) → old.now.schema ≡ office_schema → Executes take_source_text (Int id ∷ []) old new (Ok count) → (new.now.schema ≡ office_schema) × TakesSource old.now.trees new.now.trees id count
+takes_source id old new count has h =
+    let command = Delete 3 (record { lets = []; body = plain_query 4 id_terms (col 1 0 ∷ []) }) in
+    let text = statement_of take_source_text (understood office_schema take_source_text) in
+    let went_on : Writes old new None command text (Int id ∷ []) count = runs_as take_source_text (Int id ∷ []) old new office_schema has command take_source_is.0 take_source_is.1 count h in
+    let done = subst (λ s. Does old.step_limit (mode_of old) (Int id ∷ []) (record old.now { schema = s }) text None command (Ok (went_on.tally, new.now))) has went_on.changed in
+    let made = takes_by_id office_schema 3 source_table old.step_limit (mode_of old) id text old.now.trees went_on.tally new.now refl refl refl (λ olds. refl) done in
+    (made.0, subst (TakesSource old.now.trees new.now.trees id) (sym went_on.counted) (taken old.now.trees new.now.trees _ made.1))
   where
-    go : (o : Option ℤ) → integer_in (column row 0) ≡ o → source_by o (text_in (column row 1)) (small_in (column row 2)) (small_in (column row 3)) ≡ Some e → (id : ℤ) × (rowid row ≡ Int id)
-    go None is h = absurd (let e = h in cc)
-    go (Some id) is h = (id, integer_is (column row 0) id is)
-
-pub clears_sources : (old new : State) (count : ℕ) → old.now.schema ≡ office_schema → Executes clear_sources_text [] old new (Ok count) → (new.now.schema ≡ office_schema) × ClearsSources old.now.trees new.now.trees
-clears_sources old new count has h =
-    let command = Delete 3 (record { lets = []; body = plain_query 4 [] (col 1 0 ∷ []) }) in
-    let text = statement_of clear_sources_text (understood office_schema clear_sources_text) in
-    let went_on : Writes old new None command text [] count = runs_as clear_sources_text [] old new office_schema has command clear_sources_is.0 clear_sources_is.1 count h in
-    let done = subst (λ s. Does old.step_limit (mode_of old) [] (record old.now { schema = s }) text None command (Ok (went_on.tally, new.now))) has went_on.changed in
-    let made = deletes_some office_schema 3 source_table old.step_limit (mode_of old) [] text old.now.trees [] went_on.tally new.now refl refl refl (λ olds. refl) done in
-    (made.0, cleared old.now.trees new.now.trees made.1)
-  where
-    gone : (db next : Trees) → Deleted office_schema source_table [] [] db next → filter_map source_in (next 4) ≡ []
-    gone db next it = none_said source_in (next 4) (λ row e there says. let id = source_id row e says in it.gone row id.0 (it.had row there) id.1 refl there)
-
-    cleared : (db next : Trees) → Deleted office_schema source_table [] [] db next → ClearsSources db next
-    cleared db next it = record {
-      none = gone db next it;
-      left = λ whole. nothing_left source_in (db 4) (next 4) it.had (whole_reads text_order text_exact source_in (db 4) whole) (gone db next it);
-      rest = with_sources db next _ it.others refl;
-    }
+    taken : (db next : Trees) (n : ℕ) → Taken office_schema source_table db next id n → TakesSource db next id n
+    taken db next n it = record { taken = it.taken; rest = with_sources db next _ it.others refl }
 
 abbrev source_values : List ℕ → ℕ → ℕ → Row
 source_values name sender number = Null ∷ Text name ∷ Int (pos sender) ∷ Int (pos number) ∷ []
@@ -125,9 +105,9 @@ adds_source name sender number s n old new count has h =
 
 -- ---- rows
 
-clear_rows_is : (command_of (understood office_schema clear_rows_text) ≡ Delete 4 (record { lets = []; body = plain_query 6 [] (col 1 0 ∷ []) })) × IsPlain (understood office_schema clear_rows_text)
+take_row_is : (command_of (understood office_schema take_row_text) ≡ Delete 4 (record { lets = []; body = plain_query 6 id_terms (col 1 0 ∷ []) })) × IsPlain (understood office_schema take_row_text)
 unfolding understood everything
-clear_rows_is = (refl, (refl, refl))
+take_row_is = (refl, (refl, refl))
 
 abbrev entry_terms : List Term
 entry_terms = lit Null ∷ col 0 0 ∷ col 0 1 ∷ col 0 2 ∷ col 0 3 ∷ col 0 4 ∷ []
@@ -140,32 +120,17 @@ add_row_is = (refl, (refl, refl))
 abbrev entry_table : Table
 entry_table = record testing_row { tree = 6 }
 
-entry_id : (row : Row) (e : (ℕ × List ℕ) × (Place × ℕ)) → entry_in row ≡ Some e → (id : ℤ) × (rowid row ≡ Int id)
-unfolding entry_in
-entry_id row e h = go (integer_in (column row 0)) refl h
+pub takes_row : (id : ℤ) (old new : State) (count : ℕ) → old.now.schema ≡ office_schema → Executes take_row_text (Int id ∷ []) old new (Ok count) → (new.now.schema ≡ office_schema) × TakesRow old.now.trees new.now.trees id count
+takes_row id old new count has h =
+    let command = Delete 4 (record { lets = []; body = plain_query 6 id_terms (col 1 0 ∷ []) }) in
+    let text = statement_of take_row_text (understood office_schema take_row_text) in
+    let went_on : Writes old new None command text (Int id ∷ []) count = runs_as take_row_text (Int id ∷ []) old new office_schema has command take_row_is.0 take_row_is.1 count h in
+    let done = subst (λ s. Does old.step_limit (mode_of old) (Int id ∷ []) (record old.now { schema = s }) text None command (Ok (went_on.tally, new.now))) has went_on.changed in
+    let made = takes_by_id office_schema 4 entry_table old.step_limit (mode_of old) id text old.now.trees went_on.tally new.now refl refl refl (λ olds. refl) done in
+    (made.0, subst (TakesRow old.now.trees new.now.trees id) (sym went_on.counted) (taken old.now.trees new.now.trees _ made.1))
   where
-    go : (o : Option ℤ) → integer_in (column row 0) ≡ o → row_by o (small_in (column row 1)) (text_in (column row 2)) (small_in (column row 3)) (small_in (column row 4)) (small_in (column row 5)) ≡ Some e → (id : ℤ) × (rowid row ≡ Int id)
-    go None is h = absurd (let e = h in cc)
-    go (Some id) is h = (id, integer_is (column row 0) id is)
-
-pub clears_rows : (old new : State) (count : ℕ) → old.now.schema ≡ office_schema → Executes clear_rows_text [] old new (Ok count) → (new.now.schema ≡ office_schema) × ClearsRows old.now.trees new.now.trees
-clears_rows old new count has h =
-    let command = Delete 4 (record { lets = []; body = plain_query 6 [] (col 1 0 ∷ []) }) in
-    let text = statement_of clear_rows_text (understood office_schema clear_rows_text) in
-    let went_on : Writes old new None command text [] count = runs_as clear_rows_text [] old new office_schema has command clear_rows_is.0 clear_rows_is.1 count h in
-    let done = subst (λ s. Does old.step_limit (mode_of old) [] (record old.now { schema = s }) text None command (Ok (went_on.tally, new.now))) has went_on.changed in
-    let made = deletes_some office_schema 4 entry_table old.step_limit (mode_of old) [] text old.now.trees [] went_on.tally new.now refl refl refl (λ olds. refl) done in
-    (made.0, cleared old.now.trees new.now.trees made.1)
-  where
-    gone : (db next : Trees) → Deleted office_schema entry_table [] [] db next → filter_map entry_in (next 6) ≡ []
-    gone db next it = none_said entry_in (next 6) (λ row e there says. let id = entry_id row e says in it.gone row id.0 (it.had row there) id.1 refl there)
-
-    cleared : (db next : Trees) → Deleted office_schema entry_table [] [] db next → ClearsRows db next
-    cleared db next it = record {
-      none = gone db next it;
-      left = λ whole. nothing_left entry_in (db 6) (next 6) it.had (whole_reads row_order row_exact entry_in (db 6) whole) (gone db next it);
-      rest = with_rows db next _ it.others refl;
-    }
+    taken : (db next : Trees) (n : ℕ) → Taken office_schema entry_table db next id n → TakesRow db next id n
+    taken db next n it = record { taken = it.taken; rest = with_rows db next _ it.others refl }
 
 abbrev entry_values : ℕ → List ℕ → ℕ → ℕ → ℕ → Row
 entry_values arch name sender number place = Null ∷ Int (pos arch) ∷ Text name ∷ Int (pos sender) ∷ Int (pos number) ∷ Int (pos place) ∷ []

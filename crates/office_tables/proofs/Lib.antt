@@ -26,6 +26,7 @@ pub mod ReportReads
 pub mod NamedReads
 pub mod LoadFacts
 pub mod LoadLemmas
+pub mod NextFacts
 pub mod NearFacts
 pub mod FactSets
 pub mod FactReads
@@ -34,3 +35,4 @@ pub mod TakeLemmas
 pub mod FactWrites
 pub mod InsideLemmas
 pub mod FactMoves
+pub mod DifferenceLemmas

@@ -120,7 +120,7 @@ all_read f (x ∷ xs) (y ∷ ys) h =
     let b : map f xs ≡ map Some ys = cc in
     ap (λ o. cons_option o (filter_map f xs)) a ∙ ap (λ l. y ∷ l) (all_read f xs ys b)
 
-int_from : (a b : ℕ) → is_ge (value_cmp (Int (pos a)) (Int (pos b))) ≡ nat_le b a
+pub int_from : (a b : ℕ) → is_ge (value_cmp (Int (pos a)) (Int (pos b))) ≡ nat_le b a
 int_from a b = ap is_ge (value_cmp-Int (pos a) (pos b)) ∙ grind (arith, nat_tests)
 
 int_to : (a b : ℕ) → is_le (value_cmp (Int (pos a)) (Int (pos b))) ≡ nat_le a b

@@ -31,7 +31,7 @@ use Rattle.office_tables.proofs.Compiled.{find_query, find_is, find_plain}
 use Rattle.office_tables.proofs.Answered.{passes, plain_answer}
 use Rattle.office_tables.proofs.LetterFacts.{kept_at, letter_found, letter_of_parts, letter_parts, at_place}
 
-truth_is : (b : Bool) → is_true (from_truth (Some b)) ≡ b
+pub truth_is : (b : Bool) → is_true (from_truth (Some b)) ≡ b
 truth_is true = refl
 truth_is false = refl
 

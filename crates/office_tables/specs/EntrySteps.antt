@@ -1,6 +1,6 @@
 -- Steps: no contract of a call that users make rests on this file.
 -- What the statements on the tables of testing show and make of them.
-use Rattle.std.specs.Prelude.{◌≡◌, ℕ, false, List, [], ◌∷◌, map, filter_map, Some}
+use Rattle.std.specs.Prelude.{◌≡◌, ℕ, ℤ, false, List, [], ◌∷◌, map, Some}
 use Rattle.std.specs.FinMap.{from_entries}
 use Rattle.sqlite_rules.specs.Edit.{is_taken}
 use Rattle.sqlite.specs.Order.{Row, column}
@@ -12,6 +12,7 @@ use Rattle.office_mail.specs.Kept.{Place}
 use Rattle.office_tables.specs.Tables.{IsWhole}
 use Rattle.office_tables.specs.TableSteps.{rows_in}
 use Rattle.office_tables.specs.Entries.{source_in, source_map, entry_in, entry_map}
+use Rattle.office_tables.specs.FactSteps.{TakesOut}
 
 -- ---- sources
 
@@ -23,10 +24,9 @@ source_columns row = column row 0 ∷ column row 1 ∷ column row 2 ∷ column r
 abbrev pub source_entry : SourceIn → List ℕ × Place
 source_entry s = (s.name, (s.sender, s.number))
 
--- the table has no source any more, nothing is left of a whole one, and the other tables stand
-pub record ClearsSources (db next : Trees) : Type 0 where
-  pub none : filter_map source_in (next 4) ≡ []
-  pub left : IsWhole (source_map (db 4)) (db 4) → next 4 ≡ []
+-- rows of sources were taken out by their rowid, and the other tables stand
+pub record TakesSource (db next : Trees) (id : ℤ) (count : ℕ) : Type 0 where
+  pub taken : TakesOut (db 4) (next 4) id count
   pub rest : rows_in next ≡ record (rows_in db) { sources = next 4 }
 
 -- one source's row was put in, with a rowid of its own, and the other tables stand
@@ -52,10 +52,9 @@ entry_columns row = column row 0 ∷ column row 1 ∷ column row 2 ∷ column ro
 abbrev pub row_entry : RowIn → (ℕ × List ℕ) × (Place × ℕ)
 row_entry r = (row_key r, ((r.sender, r.number), r.place))
 
--- the table has no row any more, nothing is left of a whole one, and the other tables stand
-pub record ClearsRows (db next : Trees) : Type 0 where
-  pub none : filter_map entry_in (next 6) ≡ []
-  pub left : IsWhole (entry_map (db 6)) (db 6) → next 6 ≡ []
+-- rows were taken out by their rowid, and the other tables stand
+pub record TakesRow (db next : Trees) (id : ℤ) (count : ℕ) : Type 0 where
+  pub taken : TakesOut (db 6) (next 6) id count
   pub rest : rows_in next ≡ record (rows_in db) { rows = next 6 }
 
 -- one row was put in, with a rowid of its own, and the other tables stand

@@ -10,3 +10,4 @@ pub mod Legible
 pub mod FactSteps
 pub mod Finishing
 pub mod Nearby
+pub mod Differences

@@ -1,7 +1,7 @@
 -- Steps: no contract of a call that users make rests on this file.
 -- What the statements on mail, on the office and on runs show of the tables and make of them.
-use Rattle.std.specs.Ordering.{is_eq, is_ge, is_le}
-use Rattle.std.specs.Prelude.{◌≡◌, ◌≤◌, ◌<◌, ◌+◌, ◌&&◌, Bool, Contains, length, filter, filter_map, ℕ, pos, List, [], ◌∷◌, Option, Some, None, IsTrue, IsSome, true, false, nat_le}
+use Rattle.std.specs.Ordering.{is_eq, is_ge, is_le, is_lt}
+use Rattle.std.specs.Prelude.{◌≡◌, ◌≤◌, ◌<◌, ◌+◌, ◌⊎◌, ◌&&◌, Bool, Contains, length, filter, filter_map, ℕ, pos, List, [], ◌∷◌, Option, Some, None, IsTrue, IsSome, true, false, nat_le}
 use Rattle.std.specs.FinMap.{get, insert}
 use Rattle.office_keeper.specs.declared.values.Letter.{Letter}
 use Rattle.office_keeper.specs.declared.values.Reports.{Reports}
@@ -12,7 +12,7 @@ use Rattle.sqlite.specs.Order.{Row, column, value_cmp}
 use Rattle.sqlite.specs.Tree.{Trees, put_row}
 use Rattle.sqlite.specs.State.{State}
 use Rattle.sqlite.specs.declared.types.Value.TheVariants.{Int, Text, Blob}
-use Rattle.office_mail.specs.Kept.{Place}
+use Rattle.office_mail.specs.Kept.{Kept, Place}
 use Rattle.office_tables.specs.Layout.{office_schema}
 use Rattle.office_tables.specs.Tables.{IsOurs, IsWhole, number_in, bytes_in, letter_by, letter_in, office_in, said_in, run_in, run_map}
 
@@ -81,6 +81,30 @@ abbrev pub IsOnly : ℕ → ℕ → Option (List ℕ) → List Row → Type 0
 IsOnly sender number None rows = rows ≡ []
 IsOnly sender number (Some text) rows =
     (row : Row) × (rows ≡ row ∷ []) × (column row 0 ≡ Int (pos sender)) × (column row 1 ≡ Int (pos number)) × (column row 2 ≡ Blob text)
+
+-- the row compares, as SQL does, as one with this place and a number from one on
+abbrev pub is_from : ℕ → ℕ → Row → Bool
+is_from sender from row = is_eq (value_cmp (column row 1) (Int (pos sender))) && is_ge (value_cmp (column row 2) (Int (pos from)))
+
+-- a row of the sender with a number from one on, and none of these has a number below its own
+pub record IsLeast (sender from : ℕ) (table : List Row) (row : Row) : Type 0 where
+  pub stands : Has table row
+  pub passes : is_from sender from row ≡ true
+  pub least : (other : Row) → Has table other → is_from sender from other ≡ true → is_lt (value_cmp (column other 2) (column row 2)) ≡ false
+
+-- what is shown where the least number from one on is asked for: nothing where there is none, and else its row alone
+abbrev pub ShowsLeast : ℕ → ℕ → List Row → List Row → Type 0
+ShowsLeast sender from table rows =
+    ((rows ≡ []) × ((row : Row) → Has table row → is_from sender from row ≡ false)) ⊎ ((row : Row) × IsLeast sender from table row × (rows ≡ letter_columns row ∷ []))
+
+-- what a look-up makes of the rows that it is shown: the number of the only one, or none
+abbrev pub IsOnlyNumber : ℕ → Option ℕ → List Row → Type 0
+IsOnlyNumber sender None rows = rows ≡ []
+IsOnlyNumber sender (Some number) rows = (text : List ℕ) × IsOnly sender number (Some text) rows
+
+-- each kept number has 32 bits
+abbrev pub AreSmall : Kept → Type 0
+AreSmall kept = (p : Place) → IsSome (get kept p) → p.1 < 4_294_967_296
 
 -- every row of mail has a sender's place, a number and a text
 abbrev pub AreLetters : List Row → Type 0

@@ -23,14 +23,14 @@ clear_office_text = codes "DELETE FROM office"
 abbrev pub add_office_text : List ℕ
 add_office_text = codes "INSERT INTO office (id, schema, setup, finished) VALUES (1, ?1, ?2, ?3)"
 
-abbrev pub clear_sources_text : List ℕ
-clear_sources_text = codes "DELETE FROM testing_source"
+abbrev pub take_source_text : List ℕ
+take_source_text = codes "DELETE FROM testing_source WHERE rowid = ?1"
 
 abbrev pub add_source_text : List ℕ
 add_source_text = codes "INSERT INTO testing_source (name, sender, number) VALUES (?1, ?2, ?3)"
 
-abbrev pub clear_rows_text : List ℕ
-clear_rows_text = codes "DELETE FROM testing_row"
+abbrev pub take_row_text : List ℕ
+take_row_text = codes "DELETE FROM testing_row WHERE rowid = ?1"
 
 abbrev pub add_row_text : List ℕ
 add_row_text = codes "INSERT INTO testing_row (arch, name, sender, number, place) VALUES (?1, ?2, ?3, ?4, ?5)"
@@ -67,6 +67,9 @@ add_delays_text = codes "INSERT INTO fact_delays (id, number) VALUES (1, ?1)"
 
 abbrev pub load_text : List ℕ
 load_text = codes "SELECT sender, number, body FROM mail WHERE sender = ?1 AND number >= ?2 AND number <= ?3"
+
+abbrev pub next_text : List ℕ
+next_text = codes "SELECT sender, number, body FROM mail WHERE sender = ?1 AND number >= ?2 ORDER BY number LIMIT 1"
 
 -- ---- the definitions of the tables
 

@@ -209,7 +209,7 @@ fn read_once<S: Alter>(
 }
 
 /// The characters in a column.
-fn name_in(row: &Row, at: usize) -> Result<&[u8], KeepFault>
+pub(crate) fn name_in(row: &Row, at: usize) -> Result<&[u8], KeepFault>
     ensures ok { IfOk result (λ name. column row.now at ≡ Words name.now) }
     ensures bad { result ≡ Err (KeepFault.Store Cause.BadRow) → at < length row.now → (name : List ℕ) → column row.now at ≢ Words name }
 {
@@ -236,7 +236,7 @@ pub(crate) fn number_in(row: &Row, at: usize) -> Result<u32, KeepFault>
 }
 
 /// The name in a shown row of testing's sources, and the place of its message.
-fn source_entry(row: &Row) -> Result<(&[u8], u32, u32), KeepFault>
+pub(crate) fn source_entry(row: &Row) -> Result<(&[u8], u32, u32), KeepFault>
     ensures ok { IfOk result (λ entry. source_in row.now ≡ Some (entry.0.now, (entry.1, entry.2))) }
     ensures bad { result ≡ Err (KeepFault.Store Cause.BadRow) → (id : ℤ) (name : List ℕ) (sender number : ℕ) → sender < 4_294_967_296 → number < 4_294_967_296 → row.now ≢ Int id ∷ Words name ∷ Int (pos sender) ∷ Int (pos number) ∷ [] }
 {
@@ -368,16 +368,16 @@ fn put_sources(testing: &mut Testing, sources: Vec<SourceIn>) -> Result<(), NoMe
 
 /// What a shown row of testing's rows says.
 #[derive(Clone, Copy)]
-struct RowEntry<'a> {
-    arch: u32,
-    name: &'a [u8],
-    sender: u32,
-    number: u32,
-    place: u32,
+pub(crate) struct RowEntry<'a> {
+    pub arch: u32,
+    pub name: &'a [u8],
+    pub sender: u32,
+    pub number: u32,
+    pub place: u32,
 }
 
 /// The architecture and name in a shown row of testing's rows, and the places of its message and binary.
-fn row_entry(row: &Row) -> Result<RowEntry<'_>, KeepFault>
+pub(crate) fn row_entry(row: &Row) -> Result<RowEntry<'_>, KeepFault>
     ensures ok { IfOk result (λ e. entry_in row.now ≡ Some ((e.arch, e.name.now), ((e.sender, e.number), e.place))) }
     ensures bad { result ≡ Err (KeepFault.Store Cause.BadRow) → (id : ℤ) (arch : ℕ) (name : List ℕ) (sender number place : ℕ) → arch < 4_294_967_296 → sender < 4_294_967_296 → number < 4_294_967_296 → place < 4_294_967_296 → row.now ≢ Int id ∷ Int (pos arch) ∷ Words name ∷ Int (pos sender) ∷ Int (pos number) ∷ Int (pos place) ∷ [] }
 {

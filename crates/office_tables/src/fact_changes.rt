@@ -1,16 +1,15 @@
 //! Changes of the tables of facts.
-ghost use Rattle.std.specs.Prelude.{◌≡◌, ◌≢◌, ◌∷◌, [], ℤ, Err, map, filter, IfOk, OnOk, OnErr};
+ghost use Rattle.std.specs.Prelude.{◌≡◌, ◌≢◌, Err, map, filter, IfOk, OnOk, OnErr};
 ghost use Rattle.std.specs.List.Sorted.{IsPermutation};
-ghost use Rattle.sqlite.specs.Order.{column};
-ghost use Rattle.sqlite.specs.declared.types.Value.TheVariants.{Int};
 ghost use Rattle.sqlite.specs.Held.{state};
 ghost use Rattle.sqlite.specs.State.{HasCleanDisk};
 ghost use Rattle.office_tables.specs.Tables.{IsTrusted, Lasts};
 ghost use Rattle.office_tables.specs.TableSteps.{IsInside, WentOn};
-ghost use Rattle.office_tables.specs.FactSteps.{is_fact, is_delays, id_columns, IsOnlyId, IsFound, TakesFact, TakesDelays, AddsFact, AddsDelays, DropsFact, DropsDelays, DropsOne, AddsOne, DropsEach, AddsEach, ChangesFacts};
+ghost use Rattle.office_tables.specs.FactSteps.{is_fact, is_delays, id_columns, IsFound, TakesFact, TakesDelays, AddsFact, AddsDelays, DropsFact, DropsDelays, DropsOne, AddsOne, DropsEach, AddsEach, ChangesFacts};
 
+use crate::rowids::{alone, only_id};
 use office_keeper::{Cause, KeepFault};
-use sqlite::{Alter, Constraint, Error, ErrorCode, Row, Transaction, params};
+use sqlite::{Alter, Error, Row, Transaction, params};
 use testing_model::{FactChanges, FactRow};
 
 /// The rowids of a fact, in any order.
@@ -121,45 +120,6 @@ pub fn add_delays<S: Alter>(tx: &mut Transaction<'_, S>, number: u32) -> Result<
         "INSERT INTO fact_delays (id, number) VALUES (1, ?1)",
         params![number],
     )
-}
-
-/// What a key that stands twice is told as. SQLite lets none stand twice.
-fn stands_twice(constraint: Constraint) -> KeepFault
-    ensures { result ≢ KeepFault.Store Cause.BadRow }
-{
-    KeepFault::from(Error::SqliteFailure(ErrorCode::ConstraintViolation(constraint)))
-}
-
-/// The rowid that is shown.
-fn id_in(row: &Row) -> Result<i64, KeepFault>
-    ensures ok { IfOk result (λ id. column row.now 0 ≡ Int id) }
-    ensures bad { result ≢ Err (KeepFault.Store Cause.BadRow) }
-{
-    Ok(row.get(0)?)
-}
-
-/// The only rowid, if there is one.
-fn only_id(rows: &[Row]) -> Result<Option<i64>, KeepFault>
-    ensures ok { IfOk result (λ id. IsOnlyId id rows.now) }
-    ensures bad { result ≢ Err (KeepFault.Store Cause.BadRow) }
-{
-    match rows {
-        [] => Ok(None),
-        [row] => Ok(Some(id_in(row)?)),
-        _ => Err(stands_twice(Constraint::Unique)),
-    }
-}
-
-/// A row was taken out alone.
-fn alone(count: usize) -> Result<(), KeepFault>
-    ensures ok { OnOk result (count ≡ 1) }
-    ensures bad { result ≢ Err (KeepFault.Store Cause.BadRow) }
-{
-    if count == 1 {
-        Ok(())
-    } else {
-        Err(stands_twice(Constraint::PrimaryKey))
-    }
 }
 
 /// The rowid of a fact, if it is there.

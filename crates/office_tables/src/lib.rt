@@ -8,6 +8,7 @@ mod faults;
 pub mod finishing;
 pub mod mail;
 mod nearby;
+mod rowids;
 pub mod runs;
 pub mod said;
 mod testing;

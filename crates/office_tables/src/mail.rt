@@ -1,14 +1,14 @@
 //! The table of mail.
 ghost use Rattle.std.specs.Prelude.{◌≡◌, ◌≢◌, ◌≤◌, ◌<◌, ◌∷◌, [], List, ℕ, true, Some, Err, pos, nat_eq, map, filter, length, IfOk, OnOk, OnErr};
 ghost use Rattle.std.specs.List.Sorted.{IsPermutation};
-ghost use Rattle.office_keeper.specs.Content.{letters_within};
+ghost use Rattle.office_keeper.specs.Content.{letters_within, IsNextNumber};
 ghost use Rattle.std.specs.FinMap.{get};
 ghost use Rattle.sqlite.specs.Order.{column};
 ghost use Rattle.sqlite.specs.declared.types.Value.TheVariants.{Int, Blob};
 ghost use Rattle.sqlite.specs.Held.{state};
 ghost use Rattle.sqlite.specs.State.{HasCleanDisk};
 ghost use Rattle.office_tables.specs.Tables.{IsTrusted, IsOurs, kept_rows, Lasts};
-ghost use Rattle.office_tables.specs.TableSteps.{IsInside, WentOn, Same, AddsLetter, IsCrowded, IsOnly, is_at, is_between, letter_columns, shown_letter, letter_entry, ShowsLetters, rises_from};
+ghost use Rattle.office_tables.specs.TableSteps.{IsInside, WentOn, Same, AddsLetter, AreSmall, IsCrowded, IsOnly, IsOnlyNumber, is_at, is_between, letter_columns, shown_letter, letter_entry, ShowsLeast, ShowsLetters, rises_from};
 
 use crate::faults::unread;
 use office_keeper::{Cause, KeepFault, Letter, MailText};
@@ -172,6 +172,55 @@ pub fn load<S: Alter>(
     let rows = letters_between(conn, sender, from, to)?;
     let letters = letters_in(alloc, rows.as_slice(), sender)?;
     by_number(letters)
+}
+
+/// The row of mail with this sender's place and the least number from one on, if there is one.
+fn least_from<S: Alter>(conn: &mut Connection<S>, sender: u32, from: u32) -> Result<Vec<Row>, Error>
+    requires ours { IsTrusted (state S.Store conn.old) → IsOurs (state S.Store conn.old) }
+    ensures before { IsTrusted (state S.Store conn.new) → IsTrusted (state S.Store conn.old) }
+    ensures lasts { Lasts (state S.Store conn.old) (state S.Store conn.new) }
+    ensures open { HasCleanDisk (state S.Store conn.new) → IsTrusted (state S.Store conn.old) → OnOk result (IsTrusted (state S.Store conn.new)) }
+    ensures same { IsTrusted (state S.Store conn.new) → Same (state S.Store conn.old) (state S.Store conn.new) }
+    ensures rows { IsTrusted (state S.Store conn.new) → IfOk result (λ rows. ShowsLeast sender from ((state S.Store conn.new).now.trees 1) rows.items) }
+{
+    conn.query_all(
+        "SELECT sender, number, body FROM mail WHERE sender = ?1 AND number >= ?2 ORDER BY number LIMIT 1",
+        params![sender, from],
+    )
+}
+
+/// The number of the only letter, if there is one.
+fn only_number(rows: &[Row], sender: u32) -> Result<Option<u32>, KeepFault>
+    ensures ok { IfOk result (λ number. IsOnlyNumber sender number rows.now) }
+    ensures none { result ≡ Err (KeepFault.Store Cause.BadRow) → rows.now ≢ [] }
+    ensures one { result ≡ Err (KeepFault.Store Cause.BadRow) → (number : ℕ) (text : List ℕ) → number < 4_294_967_296 → rows.now ≢ (Int (pos sender) ∷ Int (pos number) ∷ Blob text ∷ []) ∷ [] }
+{
+    match rows {
+        [] => Ok(None),
+        [row] => {
+            let letter = letter_in(row, sender)?;
+            Ok(Some(letter.number))
+        }
+        _ => Err(KeepFault::Store(Cause::BadRow)),
+    }
+}
+
+/// The least kept number of a sender from one number on, or none. Its row is read whole: one without a text is no letter.
+pub fn next_number<S: Alter>(
+    conn: &mut Connection<S>,
+    sender: u32,
+    from: u32,
+) -> Result<Option<u32>, KeepFault>
+    requires ours { IsTrusted (state S.Store conn.old) → IsOurs (state S.Store conn.old) }
+    ensures before { IsTrusted (state S.Store conn.new) → IsTrusted (state S.Store conn.old) }
+    ensures lasts { Lasts (state S.Store conn.old) (state S.Store conn.new) }
+    ensures open { HasCleanDisk (state S.Store conn.new) → IsTrusted (state S.Store conn.old) → OnOk result (IsTrusted (state S.Store conn.new)) }
+    ensures same { IsTrusted (state S.Store conn.new) → Same (state S.Store conn.old) (state S.Store conn.new) }
+    ensures next { IsTrusted (state S.Store conn.new) → IfOk result (λ number. IsNextNumber (kept_rows ((state S.Store conn.new).now.trees 1)) sender from number) }
+    ensures bad { IsTrusted (state S.Store conn.new) → result ≡ Err (KeepFault.Store Cause.BadRow) → AreSmall (kept_rows ((state S.Store conn.new).now.trees 1)) → IsCrowded ((state S.Store conn.new).now.trees 1) }
+{
+    let rows = least_from(conn, sender, from)?;
+    only_number(rows.as_slice(), sender)
 }
 
 /// Adds one text to the mail.

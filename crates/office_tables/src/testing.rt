@@ -1,27 +1,130 @@
-//! The tables of testing.
-ghost use Rattle.std.specs.Prelude.{◌≡◌, OnOk, OnErr};
+//! The tables of testing: of their rows a finished run writes those that changed.
+ghost use Rattle.std.specs.Prelude.{◌≡◌, ◌≢◌, ◌≤◌, ◌<◌, ◌⊎◌, IsTrue, Err, Some, map, length, IfOk, OnOk, OnErr};
+ghost use Rattle.std.specs.List.Sorted.{IsPermutation};
 ghost use Rattle.sqlite.specs.Held.{state};
+ghost use Rattle.sqlite.specs.Tree.{Trees};
 ghost use Rattle.sqlite.specs.State.{HasCleanDisk};
 ghost use Rattle.testing_model.specs.InOrder.{AreByName, AreByKey};
 ghost use Rattle.office_tables.specs.Tables.{IsTrusted, Lasts};
 ghost use Rattle.office_tables.specs.TableSteps.{IsInside, WentOn};
-ghost use Rattle.office_tables.specs.EntrySteps.{ClearsSources, AddsSource, SetsSources, ClearsRows, AddsRow, SetsRows};
+ghost use Rattle.office_tables.specs.Entries.{source_in, entry_in};
+ghost use Rattle.office_tables.specs.EntrySteps.{source_columns, source_entry as entry_of_source, entry_columns, row_entry as entry_of_row, TakesSource, AddsSource, SetsSources, TakesRow, AddsRow, SetsRows};
+ghost use Rattle.office_tables.specs.Differences.{Agrees, GoesOn, SourcesCompared, RowsCompared};
 
-use sqlite::{Alter, Error, Transaction, params};
+use crate::entries::{name_in, number_in, row_entry, source_entry};
+use crate::rowids::{alone, id_in};
+use office_keeper::{Cause, KeepFault};
+use sqlite::{Alter, Error, Row, Transaction, params};
 use testing_model::{RowIn, SourceIn};
 
-/// Takes all sources out.
-fn clear_sources<S: Alter>(tx: &mut Transaction<'_, S>) -> Result<usize, Error>
+/// How many shown rows of a table, and how many new entries, are compared so far.
+#[derive(Clone, Copy)]
+struct Compared {
+    shown: usize,
+    entries: usize,
+}
+
+/// What is next to be done with a table.
+#[derive(Clone, Copy)]
+enum Change {
+    /// The next row says the next entry.
+    Stays,
+    /// The next row, with this rowid, is gone.
+    Leaves(i64),
+    /// The next entry is new.
+    Comes,
+}
+
+/// The name in a column of a shown row, or none.
+fn name_or_none(row: &Row, at: usize) -> &[u8] {
+    match name_in(row, at) {
+        Ok(name) => name,
+        Err(_) => &[],
+    }
+}
+
+/// The number in a column of a shown row, or 0.
+fn number_or_none(row: &Row, at: usize) -> u32 {
+    number_in(row, at).unwrap_or(0)
+}
+
+/// The rows of testing's sources, in any order.
+fn listed_sources<S: Alter>(tx: &mut Transaction<'_, S>) -> Result<Vec<Row>, Error>
     requires inside { IsTrusted (state S.Store tx.old.conn.now) → IsInside (state S.Store tx.old.conn.now) }
     ensures same_reference { tx.new.conn.ghost_name ≡ tx.old.conn.ghost_name }
     ensures before { IsTrusted (state S.Store tx.new.conn.now) → IsTrusted (state S.Store tx.old.conn.now) }
     ensures lasts { Lasts (state S.Store tx.old.conn.now) (state S.Store tx.new.conn.now) }
     ensures open { HasCleanDisk (state S.Store tx.new.conn.now) → IsTrusted (state S.Store tx.old.conn.now) → OnOk result (IsTrusted (state S.Store tx.new.conn.now)) }
     ensures on { IsTrusted (state S.Store tx.new.conn.now) → OnOk result (WentOn (state S.Store tx.old.conn.now) (state S.Store tx.new.conn.now)) }
-    ensures cleared { IsTrusted (state S.Store tx.new.conn.now) → OnOk result (ClearsSources (state S.Store tx.old.conn.now).now.trees (state S.Store tx.new.conn.now).now.trees) }
+    ensures same { IsTrusted (state S.Store tx.new.conn.now) → OnOk result ((state S.Store tx.new.conn.now).now ≡ (state S.Store tx.old.conn.now).now) }
+    ensures rows { IsTrusted (state S.Store tx.new.conn.now) → IfOk result (λ rows. IsPermutation (map source_columns ((state S.Store tx.old.conn.now).now.trees 4)) rows.items) }
     ensures err { IsTrusted (state S.Store tx.new.conn.now) → OnErr result ((state S.Store tx.new.conn.now).committed ≡ (state S.Store tx.old.conn.now).committed) }
 {
-    tx.execute("DELETE FROM testing_source", &[])
+    tx.query_all(
+        "SELECT rowid, name, sender, number FROM testing_source",
+        &[],
+    )
+}
+
+/// These shown rows by name. Nothing rests on their order.
+fn sources_in_order(rows: Vec<Row>) -> Vec<Row>
+    ensures { IsPermutation rows.items result.items }
+{
+    let mut sorted = rows;
+    sorted.sort_unstable_by(|row, other| name_or_none(row, 1).cmp(name_or_none(other, 1)));
+    sorted
+}
+
+/// Whether a shown row says a source.
+fn says_source(shown: &Row, source: &SourceIn) -> bool
+    ensures { IsTrue result → source_in shown.now ≡ Some (entry_of_source source.now) }
+{
+    match source_entry(shown) {
+        Ok((name, sender, number)) => {
+            name == source.name.as_str().as_bytes()
+                && sender == source.sender
+                && number == source.number
+        }
+        Err(_) => false,
+    }
+}
+
+/// Whether the name in a shown row comes behind that of a source. Nothing rests on it.
+fn is_behind_source(shown: &Row, source: &SourceIn) -> bool {
+    name_or_none(shown, 1)
+        .cmp(source.name.as_str().as_bytes())
+        .is_gt()
+}
+
+/// Takes the sources with a rowid out, and counts them.
+fn take_source<S: Alter>(tx: &mut Transaction<'_, S>, id: i64) -> Result<usize, Error>
+    requires inside { IsTrusted (state S.Store tx.old.conn.now) → IsInside (state S.Store tx.old.conn.now) }
+    ensures same_reference { tx.new.conn.ghost_name ≡ tx.old.conn.ghost_name }
+    ensures before { IsTrusted (state S.Store tx.new.conn.now) → IsTrusted (state S.Store tx.old.conn.now) }
+    ensures lasts { Lasts (state S.Store tx.old.conn.now) (state S.Store tx.new.conn.now) }
+    ensures open { HasCleanDisk (state S.Store tx.new.conn.now) → IsTrusted (state S.Store tx.old.conn.now) → OnOk result (IsTrusted (state S.Store tx.new.conn.now)) }
+    ensures on { IsTrusted (state S.Store tx.new.conn.now) → OnOk result (WentOn (state S.Store tx.old.conn.now) (state S.Store tx.new.conn.now)) }
+    ensures taken { IsTrusted (state S.Store tx.new.conn.now) → IfOk result (λ count. TakesSource (state S.Store tx.old.conn.now).now.trees (state S.Store tx.new.conn.now).now.trees id count) }
+    ensures err { IsTrusted (state S.Store tx.new.conn.now) → OnErr result ((state S.Store tx.new.conn.now).committed ≡ (state S.Store tx.old.conn.now).committed) }
+{
+    tx.execute("DELETE FROM testing_source WHERE rowid = ?1", params![id])
+}
+
+/// Takes the one source with a rowid out.
+fn take_one_source<S: Alter>(tx: &mut Transaction<'_, S>, id: i64) -> Result<(), KeepFault>
+    requires inside { IsTrusted (state S.Store tx.old.conn.now) → IsInside (state S.Store tx.old.conn.now) }
+    ensures same_reference { tx.new.conn.ghost_name ≡ tx.old.conn.ghost_name }
+    ensures before { IsTrusted (state S.Store tx.new.conn.now) → IsTrusted (state S.Store tx.old.conn.now) }
+    ensures lasts { Lasts (state S.Store tx.old.conn.now) (state S.Store tx.new.conn.now) }
+    ensures open { HasCleanDisk (state S.Store tx.new.conn.now) → IsTrusted (state S.Store tx.old.conn.now) → OnOk result (IsTrusted (state S.Store tx.new.conn.now)) }
+    ensures on { IsTrusted (state S.Store tx.new.conn.now) → OnOk result (WentOn (state S.Store tx.old.conn.now) (state S.Store tx.new.conn.now)) }
+    ensures taken { IsTrusted (state S.Store tx.new.conn.now) → OnOk result (TakesSource (state S.Store tx.old.conn.now).now.trees (state S.Store tx.new.conn.now).now.trees id 1) }
+    ensures err { IsTrusted (state S.Store tx.new.conn.now) → OnErr result ((state S.Store tx.new.conn.now).committed ≡ (state S.Store tx.old.conn.now).committed) }
+    ensures bad { result ≢ Err (KeepFault.Store Cause.BadRow) }
+{
+    let count = take_source(tx, id)?;
+    alone(count)?;
+    Ok(())
 }
 
 /// Adds one source.
@@ -46,11 +149,109 @@ fn add_source<S: Alter>(
     )
 }
 
-/// Puts these sources in place of the old ones.
+/// What is next to be done with the table of sources. A row that is gone is taken out before another of its key is put
+/// in, since both lists are in order. Nothing else rests on their order.
+fn source_change(shown: &[Row], sources: &[SourceIn], at: Compared) -> Result<Change, KeepFault>
+    requires left { (at.shown < length shown.now) ⊎ (at.entries < length sources.now) }
+    ensures next { IfOk result (λ change. Agrees source_in entry_of_source shown.now sources.now at.shown at.entries change) }
+    ensures bad { result ≢ Err (KeepFault.Store Cause.BadRow) }
+{
+    if at.shown >= shown.len() {
+        return Ok(Change::Comes);
+    }
+    let next = &shown[at.shown];
+    if at.entries >= sources.len() {
+        let id = id_in(next)?;
+        return Ok(Change::Leaves(id));
+    }
+    let source = &sources[at.entries];
+    if says_source(next, source) {
+        return Ok(Change::Stays);
+    }
+    if is_behind_source(next, source) {
+        return Ok(Change::Comes);
+    }
+    let id = id_in(next)?;
+    Ok(Change::Leaves(id))
+}
+
+/// Does what is next to be done with the table of sources.
+fn change_source<S: Alter>(
+    tx: &mut Transaction<'_, S>,
+    shown: &[Row],
+    sources: &[SourceIn],
+    at: Compared,
+) -> Result<Compared, KeepFault>
+    requires inside { IsTrusted (state S.Store tx.old.conn.now) → IsInside (state S.Store tx.old.conn.now) }
+    requires within { (at.shown ≤ length shown.now) × (at.entries ≤ length sources.now) }
+    requires left { (at.shown < length shown.now) ⊎ (at.entries < length sources.now) }
+    ensures same_reference { tx.new.conn.ghost_name ≡ tx.old.conn.ghost_name }
+    ensures before { IsTrusted (state S.Store tx.new.conn.now) → IsTrusted (state S.Store tx.old.conn.now) }
+    ensures lasts { Lasts (state S.Store tx.old.conn.now) (state S.Store tx.new.conn.now) }
+    ensures open { HasCleanDisk (state S.Store tx.new.conn.now) → IsTrusted (state S.Store tx.old.conn.now) → OnOk result (IsTrusted (state S.Store tx.new.conn.now)) }
+    ensures on { IsTrusted (state S.Store tx.new.conn.now) → OnOk result (WentOn (state S.Store tx.old.conn.now) (state S.Store tx.new.conn.now)) }
+    ensures further { IfOk result (λ to. GoesOn (length shown.now) (length sources.now) at.shown at.entries to.shown to.entries) }
+    ensures compared { IsTrusted (state S.Store tx.new.conn.now) → IfOk result (λ to. (first : Trees) → SourcesCompared first (state S.Store tx.old.conn.now).now.trees shown.now sources.now at.shown at.entries → SourcesCompared first (state S.Store tx.new.conn.now).now.trees shown.now sources.now to.shown to.entries) }
+    ensures err { IsTrusted (state S.Store tx.new.conn.now) → OnErr result ((state S.Store tx.new.conn.now).committed ≡ (state S.Store tx.old.conn.now).committed) }
+    ensures bad { result ≢ Err (KeepFault.Store Cause.BadRow) }
+{
+    match source_change(shown, sources, at)? {
+        Change::Stays => Ok(Compared {
+            shown: at.shown + 1,
+            entries: at.entries + 1,
+        }),
+        Change::Leaves(id) => {
+            take_one_source(tx, id)?;
+            Ok(Compared {
+                shown: at.shown + 1,
+                entries: at.entries,
+            })
+        }
+        Change::Comes => {
+            let place = at.entries;
+            let source = &sources[place];
+            add_source(tx, source.name.as_str(), source.sender, source.number)?;
+            Ok(Compared {
+                shown: at.shown,
+                entries: at.entries + 1,
+            })
+        }
+    }
+}
+
+/// Changes the table of sources, of which all rows are shown, until it has these sources alone.
+fn change_sources<S: Alter>(
+    tx: &mut Transaction<'_, S>,
+    shown: &[Row],
+    sources: &[SourceIn],
+) -> Result<(), KeepFault>
+    requires inside { IsTrusted (state S.Store tx.old.conn.now) → IsInside (state S.Store tx.old.conn.now) }
+    requires shown { IsTrusted (state S.Store tx.old.conn.now) → IsPermutation (map source_columns ((state S.Store tx.old.conn.now).now.trees 4)) shown.now }
+    requires ordered { AreByName sources.now }
+    ensures same_reference { tx.new.conn.ghost_name ≡ tx.old.conn.ghost_name }
+    ensures before { IsTrusted (state S.Store tx.new.conn.now) → IsTrusted (state S.Store tx.old.conn.now) }
+    ensures lasts { Lasts (state S.Store tx.old.conn.now) (state S.Store tx.new.conn.now) }
+    ensures open { HasCleanDisk (state S.Store tx.new.conn.now) → IsTrusted (state S.Store tx.old.conn.now) → OnOk result (IsTrusted (state S.Store tx.new.conn.now)) }
+    ensures on { IsTrusted (state S.Store tx.new.conn.now) → OnOk result (WentOn (state S.Store tx.old.conn.now) (state S.Store tx.new.conn.now)) }
+    ensures set { IsTrusted (state S.Store tx.new.conn.now) → OnOk result (SetsSources (state S.Store tx.old.conn.now).now.trees (state S.Store tx.new.conn.now).now.trees sources.now) }
+    ensures err { IsTrusted (state S.Store tx.new.conn.now) → OnErr result ((state S.Store tx.new.conn.now).committed ≡ (state S.Store tx.old.conn.now).committed) }
+    ensures bad { result ≢ Err (KeepFault.Store Cause.BadRow) }
+{
+    let mut at = Compared {
+        shown: 0,
+        entries: 0,
+    };
+    'changes: while at.shown < shown.len() || at.entries < sources.len() {
+        at = change_source(tx, shown, sources, at)?;
+    }
+    Ok(())
+}
+
+/// Puts these sources in place of the old ones: what is gone is taken out, and what is new is put in.
 pub(crate) fn set_sources<S: Alter>(
     tx: &mut Transaction<'_, S>,
     sources: &[SourceIn],
-) -> Result<(), Error>
+) -> Result<(), KeepFault>
     requires inside { IsTrusted (state S.Store tx.old.conn.now) → IsInside (state S.Store tx.old.conn.now) }
     requires ordered { AreByName sources.now }
     ensures same_reference { tx.new.conn.ghost_name ≡ tx.old.conn.ghost_name }
@@ -60,26 +261,97 @@ pub(crate) fn set_sources<S: Alter>(
     ensures on { IsTrusted (state S.Store tx.new.conn.now) → OnOk result (WentOn (state S.Store tx.old.conn.now) (state S.Store tx.new.conn.now)) }
     ensures set { IsTrusted (state S.Store tx.new.conn.now) → OnOk result (SetsSources (state S.Store tx.old.conn.now).now.trees (state S.Store tx.new.conn.now).now.trees sources.now) }
     ensures err { IsTrusted (state S.Store tx.new.conn.now) → OnErr result ((state S.Store tx.new.conn.now).committed ≡ (state S.Store tx.old.conn.now).committed) }
+    ensures bad { result ≢ Err (KeepFault.Store Cause.BadRow) }
 {
-    clear_sources(tx)?;
-    'sources: for source in sources {
-        add_source(tx, source.name.as_str(), source.sender, source.number)?;
-    }
+    let listed = listed_sources(tx)?;
+    let shown = sources_in_order(listed);
+    change_sources(tx, shown.as_slice(), sources)?;
     Ok(())
 }
 
-/// Takes all rows out.
-fn clear_rows<S: Alter>(tx: &mut Transaction<'_, S>) -> Result<usize, Error>
+/// The rows of testing's rows, in any order.
+fn listed_rows<S: Alter>(tx: &mut Transaction<'_, S>) -> Result<Vec<Row>, Error>
     requires inside { IsTrusted (state S.Store tx.old.conn.now) → IsInside (state S.Store tx.old.conn.now) }
     ensures same_reference { tx.new.conn.ghost_name ≡ tx.old.conn.ghost_name }
     ensures before { IsTrusted (state S.Store tx.new.conn.now) → IsTrusted (state S.Store tx.old.conn.now) }
     ensures lasts { Lasts (state S.Store tx.old.conn.now) (state S.Store tx.new.conn.now) }
     ensures open { HasCleanDisk (state S.Store tx.new.conn.now) → IsTrusted (state S.Store tx.old.conn.now) → OnOk result (IsTrusted (state S.Store tx.new.conn.now)) }
     ensures on { IsTrusted (state S.Store tx.new.conn.now) → OnOk result (WentOn (state S.Store tx.old.conn.now) (state S.Store tx.new.conn.now)) }
-    ensures cleared { IsTrusted (state S.Store tx.new.conn.now) → OnOk result (ClearsRows (state S.Store tx.old.conn.now).now.trees (state S.Store tx.new.conn.now).now.trees) }
+    ensures same { IsTrusted (state S.Store tx.new.conn.now) → OnOk result ((state S.Store tx.new.conn.now).now ≡ (state S.Store tx.old.conn.now).now) }
+    ensures rows { IsTrusted (state S.Store tx.new.conn.now) → IfOk result (λ rows. IsPermutation (map entry_columns ((state S.Store tx.old.conn.now).now.trees 6)) rows.items) }
     ensures err { IsTrusted (state S.Store tx.new.conn.now) → OnErr result ((state S.Store tx.new.conn.now).committed ≡ (state S.Store tx.old.conn.now).committed) }
 {
-    tx.execute("DELETE FROM testing_row", &[])
+    tx.query_all(
+        "SELECT rowid, arch, name, sender, number, place FROM testing_row",
+        &[],
+    )
+}
+
+/// These shown rows by architecture and name. Nothing rests on their order.
+fn rows_in_order(rows: Vec<Row>) -> Vec<Row>
+    ensures { IsPermutation rows.items result.items }
+{
+    let mut sorted = rows;
+    sorted.sort_unstable_by(|row, other| {
+        let archs = number_or_none(row, 1).cmp(&number_or_none(other, 1));
+        archs.then(name_or_none(row, 2).cmp(name_or_none(other, 2)))
+    });
+    sorted
+}
+
+/// Whether a shown row says a row of testing.
+fn says_row(shown: &Row, row: &RowIn) -> bool
+    ensures { IsTrue result → entry_in shown.now ≡ Some (entry_of_row row.now) }
+{
+    let name = row.binary.name.as_str().as_bytes();
+    match row_entry(shown) {
+        Ok(entry) => {
+            entry.arch == row.arch
+                && entry.name == name
+                && entry.sender == row.sender
+                && entry.number == row.number
+                && entry.place == row.place
+        }
+        Err(_) => false,
+    }
+}
+
+/// Whether the architecture and name in a shown row come behind those of a row of testing. Nothing rests on it.
+fn is_behind_row(shown: &Row, row: &RowIn) -> bool {
+    let name = row.binary.name.as_str().as_bytes();
+    let names = name_or_none(shown, 2).cmp(name);
+    number_or_none(shown, 1).cmp(&row.arch).then(names).is_gt()
+}
+
+/// Takes the rows with a rowid out, and counts them.
+fn take_row<S: Alter>(tx: &mut Transaction<'_, S>, id: i64) -> Result<usize, Error>
+    requires inside { IsTrusted (state S.Store tx.old.conn.now) → IsInside (state S.Store tx.old.conn.now) }
+    ensures same_reference { tx.new.conn.ghost_name ≡ tx.old.conn.ghost_name }
+    ensures before { IsTrusted (state S.Store tx.new.conn.now) → IsTrusted (state S.Store tx.old.conn.now) }
+    ensures lasts { Lasts (state S.Store tx.old.conn.now) (state S.Store tx.new.conn.now) }
+    ensures open { HasCleanDisk (state S.Store tx.new.conn.now) → IsTrusted (state S.Store tx.old.conn.now) → OnOk result (IsTrusted (state S.Store tx.new.conn.now)) }
+    ensures on { IsTrusted (state S.Store tx.new.conn.now) → OnOk result (WentOn (state S.Store tx.old.conn.now) (state S.Store tx.new.conn.now)) }
+    ensures taken { IsTrusted (state S.Store tx.new.conn.now) → IfOk result (λ count. TakesRow (state S.Store tx.old.conn.now).now.trees (state S.Store tx.new.conn.now).now.trees id count) }
+    ensures err { IsTrusted (state S.Store tx.new.conn.now) → OnErr result ((state S.Store tx.new.conn.now).committed ≡ (state S.Store tx.old.conn.now).committed) }
+{
+    tx.execute("DELETE FROM testing_row WHERE rowid = ?1", params![id])
+}
+
+/// Takes the one row with a rowid out.
+fn take_one_row<S: Alter>(tx: &mut Transaction<'_, S>, id: i64) -> Result<(), KeepFault>
+    requires inside { IsTrusted (state S.Store tx.old.conn.now) → IsInside (state S.Store tx.old.conn.now) }
+    ensures same_reference { tx.new.conn.ghost_name ≡ tx.old.conn.ghost_name }
+    ensures before { IsTrusted (state S.Store tx.new.conn.now) → IsTrusted (state S.Store tx.old.conn.now) }
+    ensures lasts { Lasts (state S.Store tx.old.conn.now) (state S.Store tx.new.conn.now) }
+    ensures open { HasCleanDisk (state S.Store tx.new.conn.now) → IsTrusted (state S.Store tx.old.conn.now) → OnOk result (IsTrusted (state S.Store tx.new.conn.now)) }
+    ensures on { IsTrusted (state S.Store tx.new.conn.now) → OnOk result (WentOn (state S.Store tx.old.conn.now) (state S.Store tx.new.conn.now)) }
+    ensures taken { IsTrusted (state S.Store tx.new.conn.now) → OnOk result (TakesRow (state S.Store tx.old.conn.now).now.trees (state S.Store tx.new.conn.now).now.trees id 1) }
+    ensures err { IsTrusted (state S.Store tx.new.conn.now) → OnErr result ((state S.Store tx.new.conn.now).committed ≡ (state S.Store tx.old.conn.now).committed) }
+    ensures bad { result ≢ Err (KeepFault.Store Cause.BadRow) }
+{
+    let count = take_row(tx, id)?;
+    alone(count)?;
+    Ok(())
 }
 
 /// Adds one row.
@@ -106,8 +378,110 @@ fn add_row<S: Alter>(
     )
 }
 
-/// Puts these rows in place of the old ones.
-pub(crate) fn set_rows<S: Alter>(tx: &mut Transaction<'_, S>, rows: &[RowIn]) -> Result<(), Error>
+/// What is next to be done with the table of rows. A row that is gone is taken out before another of its key is put
+/// in, since both lists are in order. Nothing else rests on their order.
+fn row_change(shown: &[Row], rows: &[RowIn], at: Compared) -> Result<Change, KeepFault>
+    requires left { (at.shown < length shown.now) ⊎ (at.entries < length rows.now) }
+    ensures next { IfOk result (λ change. Agrees entry_in entry_of_row shown.now rows.now at.shown at.entries change) }
+    ensures bad { result ≢ Err (KeepFault.Store Cause.BadRow) }
+{
+    if at.shown >= shown.len() {
+        return Ok(Change::Comes);
+    }
+    let next = &shown[at.shown];
+    if at.entries >= rows.len() {
+        let id = id_in(next)?;
+        return Ok(Change::Leaves(id));
+    }
+    let row = &rows[at.entries];
+    if says_row(next, row) {
+        return Ok(Change::Stays);
+    }
+    if is_behind_row(next, row) {
+        return Ok(Change::Comes);
+    }
+    let id = id_in(next)?;
+    Ok(Change::Leaves(id))
+}
+
+/// Does what is next to be done with the table of rows.
+fn change_row<S: Alter>(
+    tx: &mut Transaction<'_, S>,
+    shown: &[Row],
+    rows: &[RowIn],
+    at: Compared,
+) -> Result<Compared, KeepFault>
+    requires inside { IsTrusted (state S.Store tx.old.conn.now) → IsInside (state S.Store tx.old.conn.now) }
+    requires within { (at.shown ≤ length shown.now) × (at.entries ≤ length rows.now) }
+    requires left { (at.shown < length shown.now) ⊎ (at.entries < length rows.now) }
+    ensures same_reference { tx.new.conn.ghost_name ≡ tx.old.conn.ghost_name }
+    ensures before { IsTrusted (state S.Store tx.new.conn.now) → IsTrusted (state S.Store tx.old.conn.now) }
+    ensures lasts { Lasts (state S.Store tx.old.conn.now) (state S.Store tx.new.conn.now) }
+    ensures open { HasCleanDisk (state S.Store tx.new.conn.now) → IsTrusted (state S.Store tx.old.conn.now) → OnOk result (IsTrusted (state S.Store tx.new.conn.now)) }
+    ensures on { IsTrusted (state S.Store tx.new.conn.now) → OnOk result (WentOn (state S.Store tx.old.conn.now) (state S.Store tx.new.conn.now)) }
+    ensures further { IfOk result (λ to. GoesOn (length shown.now) (length rows.now) at.shown at.entries to.shown to.entries) }
+    ensures compared { IsTrusted (state S.Store tx.new.conn.now) → IfOk result (λ to. (first : Trees) → RowsCompared first (state S.Store tx.old.conn.now).now.trees shown.now rows.now at.shown at.entries → RowsCompared first (state S.Store tx.new.conn.now).now.trees shown.now rows.now to.shown to.entries) }
+    ensures err { IsTrusted (state S.Store tx.new.conn.now) → OnErr result ((state S.Store tx.new.conn.now).committed ≡ (state S.Store tx.old.conn.now).committed) }
+    ensures bad { result ≢ Err (KeepFault.Store Cause.BadRow) }
+{
+    match row_change(shown, rows, at)? {
+        Change::Stays => Ok(Compared {
+            shown: at.shown + 1,
+            entries: at.entries + 1,
+        }),
+        Change::Leaves(id) => {
+            take_one_row(tx, id)?;
+            Ok(Compared {
+                shown: at.shown + 1,
+                entries: at.entries,
+            })
+        }
+        Change::Comes => {
+            let place = at.entries;
+            let row = &rows[place];
+            let name = row.binary.name.as_str();
+            add_row(tx, row.arch, name, row.sender, row.number, row.place)?;
+            Ok(Compared {
+                shown: at.shown,
+                entries: at.entries + 1,
+            })
+        }
+    }
+}
+
+/// Changes the table of rows, of which all rows are shown, until it has these rows alone.
+fn change_rows<S: Alter>(
+    tx: &mut Transaction<'_, S>,
+    shown: &[Row],
+    rows: &[RowIn],
+) -> Result<(), KeepFault>
+    requires inside { IsTrusted (state S.Store tx.old.conn.now) → IsInside (state S.Store tx.old.conn.now) }
+    requires shown { IsTrusted (state S.Store tx.old.conn.now) → IsPermutation (map entry_columns ((state S.Store tx.old.conn.now).now.trees 6)) shown.now }
+    requires ordered { AreByKey rows.now }
+    ensures same_reference { tx.new.conn.ghost_name ≡ tx.old.conn.ghost_name }
+    ensures before { IsTrusted (state S.Store tx.new.conn.now) → IsTrusted (state S.Store tx.old.conn.now) }
+    ensures lasts { Lasts (state S.Store tx.old.conn.now) (state S.Store tx.new.conn.now) }
+    ensures open { HasCleanDisk (state S.Store tx.new.conn.now) → IsTrusted (state S.Store tx.old.conn.now) → OnOk result (IsTrusted (state S.Store tx.new.conn.now)) }
+    ensures on { IsTrusted (state S.Store tx.new.conn.now) → OnOk result (WentOn (state S.Store tx.old.conn.now) (state S.Store tx.new.conn.now)) }
+    ensures set { IsTrusted (state S.Store tx.new.conn.now) → OnOk result (SetsRows (state S.Store tx.old.conn.now).now.trees (state S.Store tx.new.conn.now).now.trees rows.now) }
+    ensures err { IsTrusted (state S.Store tx.new.conn.now) → OnErr result ((state S.Store tx.new.conn.now).committed ≡ (state S.Store tx.old.conn.now).committed) }
+    ensures bad { result ≢ Err (KeepFault.Store Cause.BadRow) }
+{
+    let mut at = Compared {
+        shown: 0,
+        entries: 0,
+    };
+    'changes: while at.shown < shown.len() || at.entries < rows.len() {
+        at = change_row(tx, shown, rows, at)?;
+    }
+    Ok(())
+}
+
+/// Puts these rows in place of the old ones: what is gone is taken out, and what is new is put in.
+pub(crate) fn set_rows<S: Alter>(
+    tx: &mut Transaction<'_, S>,
+    rows: &[RowIn],
+) -> Result<(), KeepFault>
     requires inside { IsTrusted (state S.Store tx.old.conn.now) → IsInside (state S.Store tx.old.conn.now) }
     requires ordered { AreByKey rows.now }
     ensures same_reference { tx.new.conn.ghost_name ≡ tx.old.conn.ghost_name }
@@ -117,11 +491,10 @@ pub(crate) fn set_rows<S: Alter>(tx: &mut Transaction<'_, S>, rows: &[RowIn]) ->
     ensures on { IsTrusted (state S.Store tx.new.conn.now) → OnOk result (WentOn (state S.Store tx.old.conn.now) (state S.Store tx.new.conn.now)) }
     ensures set { IsTrusted (state S.Store tx.new.conn.now) → OnOk result (SetsRows (state S.Store tx.old.conn.now).now.trees (state S.Store tx.new.conn.now).now.trees rows.now) }
     ensures err { IsTrusted (state S.Store tx.new.conn.now) → OnErr result ((state S.Store tx.new.conn.now).committed ≡ (state S.Store tx.old.conn.now).committed) }
+    ensures bad { result ≢ Err (KeepFault.Store Cause.BadRow) }
 {
-    clear_rows(tx)?;
-    'rows: for row in rows {
-        let name = row.binary.name.as_str();
-        add_row(tx, row.arch, name, row.sender, row.number, row.place)?;
-    }
+    let listed = listed_rows(tx)?;
+    let shown = rows_in_order(listed);
+    change_rows(tx, shown.as_slice(), rows)?;
     Ok(())
 }

@@ -3,7 +3,7 @@ use Rattle.std.proofs.Common.{◌≡◌, Bool, true, false, cond, ◌||◌, code
 use Rattle.std.proofs.lemmas.List.{map-append}
 use Rattle.std.proofs.lemmas.List.Folds.{find-append}
 use Rattle.std.proofs.lemmas.Slice.Eq.{bytes_eq-Decides}
-use Rattle.std.specs.Prelude.{find, fold, is_some, option_and_then, option_map}
+use Rattle.std.specs.Prelude.{⊤, find, fold, is_some, option_and_then, option_map}
 use Rattle.std.specs.Option.{option_map_or, option_or}
 use Rattle.std.specs.Str.{bytes_eq}
 use Rattle.clap.proofs.OnLiterals.{clap_on_literals}
@@ -13,7 +13,7 @@ use Rattle.clap.specs.Kinds.{Kinds, or_else}
 use Rattle.clap.specs.Simple.{App, Shape, argument_words, built, built_leaf, entered, inherited, label_of, names_of, rows_at, subcommand_of}
 use Rattle.clap.specs.Walk.{Names, Row, Text, Waiting, Walk, after_step, answers_to, finished, idle, nothing_held, option, positional, settled, stop_after, subcommand_met, subcommand_or_other, value, walk, walk_from, walked, walked_from}
 use Rattle.office_words.specs.Program as program
-use Rattle.office_words.specs.Asked.{Asked, ToTellVersion, asked_by, command_in, command_words_in, compare_in, if_faultless, replay_in, report_in, serve_in, waiting_in, words_in}
+use Rattle.office_words.specs.Asked.{Asked, ToExport, ToTellRuns, ToTellVersion, asked_by, command_in, command_words_in, compare_in, if_faultless, mail_in, replay_in, report_in, serve_in, stored_in, waiting_in, words_in}
 use Rattle.office_words.specs.Laws.{OldWordsStay, old_words_in, one_of_three}
 use Rattle.office_words.proofs.Walks.{never_none, no_kinds}
 
@@ -129,11 +129,17 @@ module _ (a : App) (new : List Shape) where
 abbrev three : App
 three = built program.of_three
 
-abbrev new_shapes : List Shape
-new_shapes = built_leaf (inherited three.top program.waiting.top) ∷ built_leaf (inherited three.top program.report.top) ∷ []
+abbrev new_leaf : App → Shape
+new_leaf a = built_leaf (inherited three.top a.top)
 
-abbrev new_names : Names
-new_names = (codes "waiting", []) ∷ (codes "report", []) ∷ []
+abbrev new_shapes : List Shape
+new_shapes = new_leaf program.waiting ∷ new_leaf program.report ∷ new_leaf program.runs ∷ new_leaf program.mail ∷ new_leaf program.export ∷ []
+
+abbrev plain_name : Text → Text × List Text
+plain_name name = (name, [])
+
+abbrev new_names : List Text
+new_names = codes "waiting" ∷ codes "report" ∷ codes "runs" ∷ codes "mail" ∷ codes "export" ∷ []
 
 stray_waiting : IsStray three.top (codes "waiting")
 unfolding clap_on_literals program.of_three
@@ -143,14 +149,33 @@ stray_report : IsStray three.top (codes "report")
 unfolding clap_on_literals program.of_three
 stray_report w none = never_none kind.UnknownArgument (kind.InvalidSubcommand ∷ []) none
 
-new_strays : (word : Text) → is_some (find (answers_to word) new_names) ≡ true → IsStray three.top word
-new_strays word there = go (bytes_eq (codes "waiting") word) (bytes_eq (codes "report") word) refl refl there
+stray_runs : IsStray three.top (codes "runs")
+unfolding clap_on_literals program.of_three
+stray_runs w none = never_none kind.UnknownArgument (kind.InvalidSubcommand ∷ []) none
+
+stray_mail : IsStray three.top (codes "mail")
+unfolding clap_on_literals program.of_three
+stray_mail w none = never_none kind.UnknownArgument (kind.InvalidSubcommand ∷ []) none
+
+stray_export : IsStray three.top (codes "export")
+unfolding clap_on_literals program.of_three
+stray_export w none = never_none kind.UnknownArgument (kind.InvalidSubcommand ∷ []) none
+
+abbrev EachStray : List Text → Type 0
+EachStray [] = ⊤
+EachStray (name ∷ rest) = IsStray three.top name × EachStray rest
+
+strays_among : (names : List Text) → EachStray names → (word : Text) → is_some (find (answers_to word) (map plain_name names)) ≡ true → IsStray three.top word
+strays_among [] each word there = absurd (cc)
+strays_among (name ∷ rest) each word there = go (bytes_eq name word) refl (strays_among rest each.1 word) there
   where
-    go : (x y : Bool) → bytes_eq (codes "waiting") word ≡ x → bytes_eq (codes "report") word ≡ y
-        → is_some {T = Text × List Text} (cond (x || false) (Some (codes "waiting", [])) (cond (y || false) (Some (codes "report", [])) None)) ≡ true → IsStray three.top word
-    go true y one two found = subst (λ (text : Text). IsStray three.top text) ((bytes_eq-Decides (codes "waiting") word).0 one) stray_waiting
-    go false true one two found = subst (λ (text : Text). IsStray three.top text) ((bytes_eq-Decides (codes "report") word).0 two) stray_report
-    go false false one two found = absurd (cc)
+    go : (x : Bool) → bytes_eq name word ≡ x → (is_some (find (answers_to word) (map plain_name rest)) ≡ true → IsStray three.top word)
+        → is_some {T = Text × List Text} (cond (x || false) (Some (plain_name name)) (find (answers_to word) (map plain_name rest))) ≡ true → IsStray three.top word
+    go true same later found = subst (λ (text : Text). IsStray three.top text) ((bytes_eq-Decides name word).0 same) each.0
+    go false other later found = later found
+
+new_strays : (word : Text) → is_some (find (answers_to word) (map plain_name new_names)) ≡ true → IsStray three.top word
+new_strays = strays_among new_names (stray_waiting, (stray_report, (stray_runs, (stray_mail, (stray_export, tt)))))
 
 faultless_parts : (kinds : Kinds) (found : Option Asked) (ask : Asked) → if_faultless kinds found ≡ Some ask → (kinds ≡ []) × (found ≡ Some ask)
 faultless_parts [] found ask is = (refl, is)
@@ -161,9 +186,18 @@ found_parts : (o : Option (Text × List Row)) (ask : Asked) → option_and_then 
 found_parts None ask is = absurd (cc)
 found_parts (Some e) ask is = (e, refl, is)
 
+-- what a command asks for that is none of the three
+abbrev new_command : Text → List Row → Option Asked
+new_command name rows =
+    cond (bytes_eq name (codes "waiting")) (waiting_in rows)
+    (cond (bytes_eq name (codes "report")) (report_in rows)
+    (cond (bytes_eq name (codes "runs")) (stored_in ToTellRuns rows)
+    (cond (bytes_eq name (codes "mail")) (mail_in rows)
+    (cond (bytes_eq name (codes "export")) (stored_in ToExport rows) None))))
+
 command_same : (name : Text) (rows : List Row) (ask : Asked) → one_of_three name rows ≡ Some ask → command_in name rows ≡ Some ask
 command_same name rows ask is =
-    go (compare_in rows) (replay_in rows) (serve_in rows) (cond (bytes_eq name (codes "waiting")) (waiting_in rows) (cond (bytes_eq name (codes "report")) (report_in rows) None))
+    go (compare_in rows) (replay_in rows) (serve_in rows) (new_command name rows)
     (bytes_eq name (codes "compare")) (bytes_eq name (codes "replay")) (bytes_eq name (codes "serve")) is
   where
     go : (x y z rest : Option Asked) (a b c : Bool) → cond a x (cond b y (cond c z None)) ≡ Some ask → cond a x (cond b y (cond c z rest)) ≡ Some ask
@@ -173,7 +207,7 @@ command_same name rows ask is =
     go x y z rest false false false some = absurd (cc)
 
 command_stays : (words : List Text) (ask : Asked) → old_words_in words ≡ Some ask → command_words_in words ≡ Some ask
-unfolding program.of_three program.office command_words_in
+unfolding program.of_three program.of_five program.office command_words_in
 command_stays words ask is =
     let parts = faultless_parts (fault_of program.of_three words) (option_and_then (λ found. one_of_three found.0 found.1) (subcommand_of program.of_three words)) ask is in
     let found = found_parts (subcommand_of program.of_three words) ask parts.1 in

@@ -14,7 +14,7 @@ use Rattle.clap.specs.Takes.{is_given}
 use Rattle.clap.specs.Simple.{Shape}
 use Rattle.clap.specs.Walk.{Row, Rule, Text, action_of, at_row, default_rows, first_of, has_row, more_values, most_values, nothing_held, reading_by, rows_after, used_as, values_or_missing, walk, walk_from, with_default, with_values, without}
 use Rattle.clap.specs.declared.builder.action.ArgAction.{ArgAction}
-use Rattle.clap.specs.declared.builder.action.ArgAction.TheVariants.{Help, Set}
+use Rattle.clap.specs.declared.builder.action.ArgAction.TheVariants.{Help, Set, SetTrue}
 use Rattle.clap.specs.declared.builder.value_parser.ValueParser.TheVariants.{Unsigned}
 use Rattle.clap.specs.declared.builder.range.ValueRange.{ValueRange}
 use Rattle.clap.specs.declared.error.kind.ErrorKind.{ErrorKind}
@@ -123,6 +123,16 @@ keeps_value again a set missing one accepted (v ∷ vs) rows h none =
     let more = no_kinds _ _ uses in
     subst (λ (x : ArgAction). Good (used_as x a.id (reading_by a) (v ∷ vs) rows)) (sym set)
     (values_good a.id (reading_by a) CommandLine v vs (without a.id rows) (accepted (v ∷ vs) more.1) (none_good a.id rows h))
+
+-- a flag, whose use stands for a text
+pub keeps_flag : (again : Bool) (a : Rule) (v : Text) (vs : List Text) → action_of a ≡ SetTrue → a.missing ≡ v ∷ vs → ((values : List Text) → fits a.id values ≡ true) → Keeps Good again a
+keeps_flag again a v vs set missing fine values rows h none =
+    subst (λ (x : ArgAction). Good (used_as x a.id (reading_by a) (values_or_missing a values) rows)) (sym set) (go values)
+  where
+    go : (given : List Text) → Good (used_as SetTrue a.id (reading_by a) (values_or_missing a given) rows)
+    go [] = subst (λ (some : List Text). Good (used_as SetTrue a.id (reading_by a) some rows)) (sym missing)
+        (values_good a.id (reading_by a) CommandLine v vs (without a.id rows) (fine (v ∷ vs)) (none_good a.id rows h))
+    go (w ∷ ws) = values_good a.id (reading_by a) CommandLine w ws (without a.id rows) (fine (w ∷ ws)) (none_good a.id rows h)
 
 -- a call for help is a fault
 pub keeps_help : (again : Bool) (a : Rule) → action_of a ≡ Help → Keeps Good again a

@@ -1,6 +1,7 @@
 -- What the words of the command line ask for.
 use Rattle.std.specs.Prelude.{◌≡◌, ⊤, Result, Ok, Err, ℕ, Bool, false, ◌&&◌, ◌==◌, ◌^◌, codes, length, List, [], ◌∷◌, Option, Some, None, option_map, option_and_then, nat_lt, if◌then◌else◌}
 use Rattle.std.specs.List.{list_all}
+use Rattle.std.specs.Option.{option_map_or}
 use Rattle.std.specs.Str.{bytes_eq}
 use Rattle.std.specs.Str.Parse.{digits_value, without_leading_plus}
 use Rattle.std.specs.Char.{digit_value}
@@ -10,12 +11,13 @@ use Rattle.office_words.specs.Program.{office}
 use Rattle.office_words.specs.declared.Words.{Words}
 use Rattle.office_words.specs.declared.WordsFault.{WordsFault}
 use Rattle.office_words.specs.declared.WordsFault.TheVariants.{NoMemory, Usage}
-use Rattle.office_words.specs.declared.Words.TheVariants.{Compare, Replay, Serve, Waiting, Report, UnknownReport, Version}
+use Rattle.office_words.specs.declared.Words.TheVariants.{Compare, Replay, Serve, Waiting, Report, UnknownReport, Runs, Mail, Export, Version}
 use Rattle.office_words.specs.declared.reports.Report.{Report as ReportName}
 use Rattle.office_words.specs.declared.reports.Report.TheVariants.{Testing, Excuses, Update}
 
 -- what is asked: to compare two versions by an operator; to replay a bag for the setup in a file, over a store in a file or in memory;
--- to serve so many connections for it on a port; to tell what a run waits for; to tell a report, or one that isn't known; or the version
+-- to serve so many connections for it on a port; to tell what a run waits for; to tell a report, or one that isn't known; to tell the
+-- finished runs; to tell the kept mail, by counts or message by message; to export it; or the version
 pub data Asked : Type 0 where
   ToCompare : Text → Text → Text → Asked
   ToReplay : Text → Option Text → Asked
@@ -23,6 +25,9 @@ pub data Asked : Type 0 where
   ToTellWaiting : Text → Option Text → Asked
   ToReport : Text → Text → ReportName → Asked
   ToRefuseReport : Text → Option Text → Asked
+  ToTellRuns : Text → Text → Asked
+  ToTellMail : Bool → Text → Text → Asked
+  ToExport : Text → Text → Asked
   ToTellVersion : Asked
 
 abbrev pub asked : Words → Asked
@@ -32,6 +37,9 @@ asked (Serve conf port db connections) = ToServe conf.now port (option_map (λ t
 asked (Waiting conf db) = ToTellWaiting conf.now (option_map (λ text. text.now) db)
 asked (Report conf db report) = ToReport conf.now db.now report
 asked (UnknownReport run report) = ToRefuseReport run.now (option_map (λ text. text.now) report)
+asked (Runs conf db) = ToTellRuns conf.now db.now
+asked (Mail conf db list) = ToTellMail list conf.now db.now
+asked (Export conf db) = ToExport conf.now db.now
 asked Version = ToTellVersion
 
 -- decimal digits, of a number of 32 bits
@@ -94,6 +102,21 @@ report_from _ _ _ _ = None
 abbrev pub report_in : List Row → Option Asked
 report_in rows = report_from (first_of (codes "conf") rows) (first_of (codes "db") rows) (first_of (codes "RUN") rows) (first_of (codes "REPORT") rows)
 
+-- what is asked of the store in a file, for the setup in another
+abbrev pub of_store : (Text → Text → Asked) → Option Text → Option Text → Option Asked
+of_store ask (Some conf) (Some db) = Some (ask conf db)
+of_store ask _ _ = None
+
+abbrev pub stored_in : (Text → Text → Asked) → List Row → Option Asked
+stored_in ask rows = of_store ask (first_of (codes "conf") rows) (first_of (codes "db") rows)
+
+-- whether a flag is set
+abbrev pub is_set : Text → List Row → Bool
+is_set id rows = option_map_or (λ value. bytes_eq value (codes "true")) (first_of id rows) false
+
+abbrev pub mail_in : List Row → Option Asked
+mail_in rows = stored_in (ToTellMail (is_set (codes "list") rows)) rows
+
 abbrev pub command_in : Text → List Row → Option Asked
 command_in name rows =
     if bytes_eq name (codes "compare") then compare_in rows
@@ -101,6 +124,9 @@ command_in name rows =
     else if bytes_eq name (codes "serve") then serve_in rows
     else if bytes_eq name (codes "waiting") then waiting_in rows
     else if bytes_eq name (codes "report") then report_in rows
+    else if bytes_eq name (codes "runs") then stored_in ToTellRuns rows
+    else if bytes_eq name (codes "mail") then mail_in rows
+    else if bytes_eq name (codes "export") then stored_in ToExport rows
     else None
 
 -- by the command that the words name and what they give it

@@ -1,6 +1,7 @@
 -- The program's command line: a command of clap with a subcommand for each task.
 use Rattle.std.specs.Prelude.{codes, Some, true, [], ◌∷◌}
 use Rattle.clap.specs.Words.{App, Rule, Text, new_app, new_rule, with_rule, with_subcommand}
+use Rattle.clap.specs.declared.builder.action.ArgAction.TheVariants.{SetTrue}
 use Rattle.clap.specs.declared.builder.value_parser.ValueParser.TheVariants.{Unsigned}
 
 -- a value that has to be given, by its place
@@ -59,6 +60,24 @@ stored = needed (codes "db")
 abbrev pub report : App
 report = with_rule (with_rule (with_rule (with_rule (new_app (codes "report")) (place (codes "RUN"))) told) conf) stored
 
+-- `NAME --conf F --db F`: a command that looks at the store in a file
+abbrev pub looking : Text → App
+looking name = with_rule (with_rule (new_app name) conf) stored
+
+-- `runs` and `export`, which take no more
+abbrev pub runs : App
+runs = looking (codes "runs")
+
+abbrev pub export : App
+export = looking (codes "export")
+
+-- `mail --conf F --db F [--list]`
+abbrev pub listed : Rule
+listed = record (new_rule (codes "list")) { long = Some (codes "list"); action = Some SetTrue }
+
+abbrev pub mail : App
+mail = with_rule (looking (codes "mail")) listed
+
 -- `office COMMAND ..`: a command has to be named, and no words at all are a call for help
 abbrev pub bare : App
 bare = record (new_app (codes "office")) {
@@ -73,5 +92,10 @@ bare = record (new_app (codes "office")) {
 unfoldable pub of_three : App
 of_three = with_subcommand (with_subcommand (with_subcommand bare compare.top) replay.top) serve.top
 
+-- the command that tells, besides, what a run waits for and each report
+unfoldable pub of_five : App
+of_five = with_subcommand (with_subcommand of_three waiting.top) report.top
+
+-- the program's command, which also tells runs and mail, and exports mail
 unfoldable pub office : App
-office = with_subcommand (with_subcommand of_three waiting.top) report.top
+office = with_subcommand (with_subcommand (with_subcommand of_five runs.top) mail.top) export.top

@@ -5,14 +5,15 @@ ghost use Rattle.clap.specs.Words.{app_of, rule_of};
 ghost use Rattle.office_words.specs.Program as program;
 
 use clap::builder::ValueParser;
-use clap::{Arg, Command};
+use clap::{Arg, ArgAction, Command};
 use std::alloc::{AllocError, Global};
 
 const ABOUT: &str = "Decides which Debian source packages migrate from unstable to testing.";
 
 const AFTER: &str =
     "office --version tells the version. Each command has its own help: office compare --help, office replay --help,
-office serve --help, office waiting --help, office report --help.
+office serve --help, office waiting --help, office report --help, office runs --help, office mail --help,
+office export --help.
 
 Exit status: 0 done, or the comparison is true; 1 the comparison is false, an ordered run waits for mail, or the run
 of a report isn't finished; 2 usage, or help was asked for; 3 a version, the setup or the bag was refused; 4 memory, a
@@ -67,6 +68,31 @@ const RUN: &str = "The number of a finished run, from 1 on, or testing";
 
 const TOLD: &str = "excuses or update, behind the number of a run";
 
+const RUNS: &str = "Tells each finished run, from the store in a file";
+
+const AFTER_RUNS: &str = "Example: office runs --conf examples/setup.conf --db store.db
+
+A line for each run: run K DATE excuses E candidates C accept A easy G remove M wait W, which are counts of lines of
+its two reports.";
+
+const MAIL: &str = "Tells how much mail of each sender the store in a file keeps";
+
+const AFTER_MAIL: &str = "Examples: office mail --conf examples/setup.conf --db store.db
+          office mail --conf examples/setup.conf --db store.db --list
+
+A line for each sender: mail SENDER COUNT kept, 1 to U, greatest G, where U is the last number up to which nothing
+is missing, and G the greatest number.";
+
+const LIST: &str =
+    "Tells each message instead, by sender and number: its kind, and what it is about";
+
+const EXPORT: &str = "Writes the mail that the store in a file keeps as a bag";
+
+const AFTER_EXPORT: &str =
+    "Example: office export --conf examples/setup.conf --db store.db > store.bag
+
+The messages stand by sender and number. An office that replays the bag has the same runs.";
+
 const SETUP: &str =
     "The file of the setup: the architectures, and the senders of mail with their roles";
 
@@ -103,6 +129,17 @@ fn stored_option<'a>(alloc: Global) -> Arg<'a>
     ensures local { result.global ≡ false }
 {
     db_option(alloc, LOOKED_AT).required(true)
+}
+
+/// `--list`.
+fn list_option<'a>(alloc: Global) -> Arg<'a>
+    ensures rule { rule_of result ≡ program.listed }
+    ensures local { result.global ≡ false }
+{
+    Arg::new(alloc, "list")
+        .long("list")
+        .help(LIST)
+        .action(ArgAction::SetTrue)
 }
 
 /// `--port PORT`, from 1 to 65,535.
@@ -207,6 +244,29 @@ fn report_command<'a>(alloc: Global) -> Result<Command<'a>, AllocError>
         .arg(stored_option(alloc))
 }
 
+/// `NAME --conf SETUP --db FILE`.
+fn looking_command<'a>(
+    alloc: Global,
+    name: &'a str,
+    about: &'a str,
+    after: &'a str,
+) -> Result<Command<'a>, AllocError>
+    ensures { IfOk result (λ c. app_of c ≡ program.looking name.entry.now) }
+{
+    Command::new(alloc, name)
+        .about(about)
+        .after_help(after)
+        .arg(conf_option(alloc))?
+        .arg(stored_option(alloc))
+}
+
+/// `mail --conf SETUP --db FILE [--list]`.
+fn mail_command<'a>(alloc: Global) -> Result<Command<'a>, AllocError>
+    ensures { IfOk result (λ c. app_of c ≡ program.mail) }
+{
+    looking_command(alloc, "mail", MAIL, AFTER_MAIL)?.arg(list_option(alloc))
+}
+
 /// The command without its subcommands.
 fn bare_command<'a>(alloc: Global) -> Command<'a>
     ensures { app_of result ≡ program.bare }
@@ -230,12 +290,23 @@ fn command_of_three<'a>(alloc: Global) -> Result<Command<'a>, AllocError>
     Ok(whole)
 }
 
-/// The program's command.
-pub(crate) fn office_command<'a>(alloc: Global) -> Result<Command<'a>, AllocError>
-    ensures { IfOk result (λ c. app_of c ≡ program.office) }
+/// The command that tells, besides, what a run waits for and each report.
+fn command_of_five<'a>(alloc: Global) -> Result<Command<'a>, AllocError>
+    ensures { IfOk result (λ c. app_of c ≡ program.of_five) }
 {
     let whole = command_of_three(alloc)?
         .subcommand(waiting_command(alloc)?)?
         .subcommand(report_command(alloc)?)?;
+    Ok(whole)
+}
+
+/// The program's command.
+pub(crate) fn office_command<'a>(alloc: Global) -> Result<Command<'a>, AllocError>
+    ensures { IfOk result (λ c. app_of c ≡ program.office) }
+{
+    let whole = command_of_five(alloc)?
+        .subcommand(looking_command(alloc, "runs", RUNS, AFTER_RUNS)?)?
+        .subcommand(mail_command(alloc)?)?
+        .subcommand(looking_command(alloc, "export", EXPORT, AFTER_EXPORT)?)?;
     Ok(whole)
 }

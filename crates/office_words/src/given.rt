@@ -2,7 +2,7 @@
 
 ghost use Rattle.std.specs.Prelude.{◌≡◌, option_map};
 ghost use Rattle.clap.specs.Words.{first_of, found_of, rows_of, subcommand_rows_of};
-ghost use Rattle.office_words.specs.Asked.{asked, asked_by, command_in, compare_in, number_of, replay_in, report_in, report_of, serve_in, asked_report, waiting_in};
+ghost use Rattle.office_words.specs.Asked.{ToExport, ToTellRuns, asked, asked_by, command_in, compare_in, is_set, mail_in, number_of, replay_in, report_in, report_of, serve_in, asked_report, stored_in, waiting_in};
 
 use crate::Words;
 use crate::reports::{number_in, report_of};
@@ -22,6 +22,16 @@ fn number_of(given: &ArgMatches, name: &str) -> Option<u32>
     match text_of(given, name) {
         Some(text) => number_in(text),
         None => None,
+    }
+}
+
+/// Whether a flag is set, which clap tells as the text `true`.
+fn is_set(given: &ArgMatches, name: &str) -> bool
+    ensures { result ≡ is_set name.now (rows_of (found_of given.now)) }
+{
+    match text_of(given, name) {
+        Some(value) => value == "true",
+        None => false,
     }
 }
 
@@ -87,6 +97,34 @@ fn report_words<'a>(given: &ArgMatches<'a>) -> Option<Words<'a>>
     Some(asked_report(conf, db, run, text_of(given, "REPORT")))
 }
 
+fn runs_words<'a>(given: &ArgMatches<'a>) -> Option<Words<'a>>
+    ensures { option_map asked result ≡ stored_in ToTellRuns (rows_of (found_of given.now)) }
+{
+    let conf = text_of(given, "conf")?;
+    let db = text_of(given, "db")?;
+    Some(Words::Runs { conf, db })
+}
+
+fn mail_words<'a>(given: &ArgMatches<'a>) -> Option<Words<'a>>
+    ensures { option_map asked result ≡ mail_in (rows_of (found_of given.now)) }
+{
+    let conf = text_of(given, "conf")?;
+    let db = text_of(given, "db")?;
+    Some(Words::Mail {
+        conf,
+        db,
+        list: is_set(given, "list"),
+    })
+}
+
+fn export_words<'a>(given: &ArgMatches<'a>) -> Option<Words<'a>>
+    ensures { option_map asked result ≡ stored_in ToExport (rows_of (found_of given.now)) }
+{
+    let conf = text_of(given, "conf")?;
+    let db = text_of(given, "db")?;
+    Some(Words::Export { conf, db })
+}
+
 fn command_words<'a>(name: &str, given: &ArgMatches<'a>) -> Option<Words<'a>>
     ensures { option_map asked result ≡ command_in name.now (rows_of (found_of given.now)) }
 {
@@ -96,6 +134,9 @@ fn command_words<'a>(name: &str, given: &ArgMatches<'a>) -> Option<Words<'a>>
         "serve" => serve_words(given),
         "waiting" => waiting_words(given),
         "report" => report_words(given),
+        "runs" => runs_words(given),
+        "mail" => mail_words(given),
+        "export" => export_words(given),
         _ => None,
     }
 }

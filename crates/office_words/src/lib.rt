@@ -63,6 +63,22 @@ pub enum Words<'a> {
         run: &'a str,
         report: Option<&'a str>,
     },
+    /// Tell each finished run, for the setup in a file, from the store in a file.
+    Runs {
+        conf: &'a str,
+        db: &'a str,
+    },
+    /// Tell how much mail the store in a file keeps of each sender, or each message of it.
+    Mail {
+        conf: &'a str,
+        db: &'a str,
+        list: bool,
+    },
+    /// Write the mail that the store in a file keeps as a bag.
+    Export {
+        conf: &'a str,
+        db: &'a str,
+    },
     /// Tell the program's version.
     Version,
 }
@@ -121,8 +137,9 @@ fn read_command<'a>(alloc: Global, words: &'a [&'a str]) -> Result<Words<'a>, Wo
 
 /// What the words ask for, the program's name being the first. `--version` alone asks for the version. All other words
 /// are read as clap reads them in the command `office` with its subcommands `compare V1 OP V2`, `replay --conf F
-/// [--db F]`, `serve --conf F --port N [--db F] [--connections C]`, `waiting --conf F [--db F]` and `report RUN
-/// [REPORT] --conf F --db F`, where N is from 1 to 65,535 and C from 0 to 1,000,000, which it is where it isn't given.
+/// [--db F]`, `serve --conf F --port N [--db F] [--connections C]`, `waiting --conf F [--db F]`, `report RUN [REPORT]
+/// --conf F --db F`, `runs --conf F --db F`, `mail --conf F --db F [--list]` and `export --conf F --db F`, where N
+/// is from 1 to 65,535 and C from 0 to 1,000,000, which it is where it isn't given.
 ///
 /// Refused as `Usage` are words in which clap finds a fault, a request for help among them.
 pub fn read_words<'a>(alloc: Global, words: &'a [&'a str]) -> Result<Words<'a>, WordsFault>

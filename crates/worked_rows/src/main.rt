@@ -3,6 +3,7 @@
 //! where both must print the same.
 #![tactic(auto)]
 
+mod asking;
 mod bytes;
 mod chains;
 mod failing;

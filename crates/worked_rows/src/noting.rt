@@ -82,6 +82,11 @@ impl Keeper for Noting {
         self.plain.load(sender, from, to)
     }
 
+    fn next_number(&mut self, sender: u32, from: u32) -> Result<Option<u32>, KeepFault> {
+        note(&mut self.now.asked, sender, from);
+        self.plain.next_number(sender, from)
+    }
+
     fn finish(&mut self, run: u32, done: &Finished) -> Result<(), KeepFault> {
         self.before = self.now;
         self.now = NOTHING;

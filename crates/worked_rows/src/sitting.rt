@@ -1,5 +1,6 @@
 //! What an office does between two openings of its store.
 
+use crate::asking::{export_in, list_in};
 use crate::bytes::{bag_of, plain_bytes, request_of, text_of};
 use crate::chains::chain_of;
 use crate::replaying::{replay_broken, replay_halting, replay_in};
@@ -115,6 +116,22 @@ fn take_call<K: Keeper>(
         status_in(alloc, office, came)
     } else if what == "settle" {
         settle_in(alloc, office, came)
+    } else {
+        take_question(alloc, office, what, came)
+    }
+}
+
+/// Takes one step that asks an office for its mail.
+fn take_question<K: Keeper>(
+    alloc: Global,
+    office: &mut Office<K>,
+    what: &str,
+    came: &mut Vec<u8>,
+) -> Result<(), NoMemory> {
+    if what == "list" {
+        list_in(alloc, office, came)
+    } else if what == "export" {
+        export_in(alloc, office, came)
     } else {
         came.extend_from_slice(b"unknown step\n")?;
         Ok(())

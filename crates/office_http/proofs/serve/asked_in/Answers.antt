@@ -8,4 +8,4 @@ use Rattle.office_http.proofs.serve.asked_in.Goals as goal
 pub returns-in-Ok-clause-fits : goal.returns-in-Ok-clause-fits
 returns-in-Ok-clause-fits c =
     let h = c.requires in
-    subst (λ (a : Asked). body_size a ≤ body_room) (sym (c.asked_of.ensures h.head h.parts)) (body_fits h.head)
+    subst (λ (a : Asked). body_size a ≤ body_room) (sym (c.asked_of.ensures h.head h.parts)) (body_fits c.args.setup.now h.head)

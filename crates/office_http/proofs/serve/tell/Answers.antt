@@ -1,7 +1,7 @@
 use Rattle.office_runs.specs.Preserves.{StoreRefused}
 use Rattle.office_runs.specs.State.{state_of}
 use Rattle.office_runs.proofs.CarryFacts.{risen}
-use Rattle.office_http.proofs.ServeFacts.{told_status, told_testing, told_excuses, told_update, told_waiting, place_status, place_text, place_report}
+use Rattle.office_http.proofs.ServeFacts.{told_status, told_testing, told_excuses, told_update, told_waiting, told_runs, told_kept, told_letter, place_status, place_text, place_report, place_letter}
 use Rattle.office_http.proofs.serve.tell.Goals as goal
 
 pub returns-in-Status-clause-place : goal.returns-in-Status-clause-place
@@ -63,3 +63,39 @@ returns-in-Waiting-clause-tells g c =
     let r = c.awaited_text.result in
     let e = c.awaited_text.ensures in
     λ h. rw (c.in-Waiting.is, c.text_answer-in-Waiting.ensures) (told_waiting (StoreRefused keeper s0 s1) (state_of keeper s0) r (e.tells h) (risen (keeper.refusals s0) (keeper.refusals s1) r e.counted))
+
+pub returns-in-Runs-clause-place : goal.returns-in-Runs-clause-place
+returns-in-Runs-clause-place g c = rw c.text_answer-in-Runs.ensures (place_text (g.K.Keeper.setup c.args.office.now) c.runs_text.result)
+
+pub returns-in-Runs-clause-tells : goal.returns-in-Runs-clause-tells
+returns-in-Runs-clause-tells g c =
+    let keeper = g.K.Keeper in
+    let s0 = c.args.office.now in
+    let s1 = c.runs_text.new.office in
+    let r = c.runs_text.result in
+    let e = c.runs_text.ensures in
+    λ h. rw (c.in-Runs.is, c.text_answer-in-Runs.ensures) (told_runs (StoreRefused keeper s0 s1) (state_of keeper s0) r (e.text h) (risen (keeper.refusals s0) (keeper.refusals s1) r e.counted))
+
+pub returns-in-Kept-clause-place : goal.returns-in-Kept-clause-place
+returns-in-Kept-clause-place g c = rw c.text_answer-in-Kept.ensures (place_text (g.K.Keeper.setup c.args.office.now) c.counted_text.result)
+
+pub returns-in-Kept-clause-tells : goal.returns-in-Kept-clause-tells
+returns-in-Kept-clause-tells g c =
+    let keeper = g.K.Keeper in
+    let s0 = c.args.office.now in
+    let s1 = c.counted_text.new.office in
+    let r = c.counted_text.result in
+    let e = c.counted_text.ensures in
+    λ h. rw (c.in-Kept.is, c.text_answer-in-Kept.ensures) (told_kept (StoreRefused keeper s0 s1) (state_of keeper s0) r (e.text h) (risen (keeper.refusals s0) (keeper.refusals s1) r e.counted))
+
+pub returns-in-Letter-clause-place : goal.returns-in-Letter-clause-place
+returns-in-Letter-clause-place g c = rw c.letter_answer.ensures (place_letter (g.K.Keeper.setup c.args.office.now) c.kept_text.result)
+
+pub returns-in-Letter-clause-tells : goal.returns-in-Letter-clause-tells
+returns-in-Letter-clause-tells g c =
+    let keeper = g.K.Keeper in
+    let s0 = c.args.office.now in
+    let s1 = c.kept_text.new.self in
+    let r = c.kept_text.result in
+    let e = c.kept_text.ensures in
+    λ h. rw (c.in-Letter.is, c.letter_answer.ensures) (told_letter (StoreRefused keeper s0 s1) (state_of keeper s0) c.in-Letter.sender c.in-Letter.number r (e.text h.0) (risen (keeper.refusals s0) (keeper.refusals s1) r e.counted))

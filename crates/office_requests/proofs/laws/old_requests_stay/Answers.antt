@@ -1,4 +1,4 @@
-use Rattle.office_requests.proofs.RouteFacts.{others_stay, waiting_told}
+use Rattle.office_requests.proofs.RouteFacts.{others_stay, waiting_told, runs_told, kept_told}
 use Rattle.office_requests.proofs.laws.old_requests_stay.Goals as goal
 
 pub returns-clause-others : goal.returns-clause-others
@@ -6,3 +6,9 @@ returns-clause-others c = others_stay
 
 pub returns-clause-waiting : goal.returns-clause-waiting
 returns-clause-waiting c = waiting_told
+
+pub returns-clause-runs : goal.returns-clause-runs
+returns-clause-runs c = runs_told
+
+pub returns-clause-kept : goal.returns-clause-kept
+returns-clause-kept c = kept_told

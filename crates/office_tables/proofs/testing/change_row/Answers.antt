@@ -1,0 +1,39 @@
+use Rattle.std.proofs.Common.{◌<◌, length, refl, ap, subst, ◌∙◌, arith, SFits, w64, rules, to_z-of_z}
+use Rattle.std.proofs.lemmas.Option.{slice_get_read, slice_get_within}
+use Rattle.deb_control.specs.declared.binary.Binary.{Binary}
+use Rattle.sqlite.specs.Held.{state}
+use Rattle.office_tables.specs.Entries.{entry_in}
+use Rattle.office_tables.specs.EntrySteps.{row_entry}
+use Rattle.office_tables.specs.Differences.{Agrees}
+use Rattle.office_tables.proofs.DifferenceLemmas.{rows_stay, row_leaves, row_comes}
+use Rattle.office_tables.proofs.testing.change_row.Goals as goal
+
+pub returns-in-Stays-clause-compared : goal.returns-in-Stays-clause-compared
+returns-in-Stays-clause-compared g c trusted first was =
+    let a = subst (Agrees entry_in row_entry c.args.shown.now c.args.rows.now c.args.at.shown c.args.at.entries) c.in-Stays.is c.in_ok-row_change.ensures.next in
+    rows_stay c.args.shown.now c.args.rows.now first (state g.S.Store c.args.tx.now.conn.now).now.trees c.args.at.shown c.args.at.entries a.0 a.1 a.2 a.3 a.4 was
+
+pub returns-in_ok-take_one_row-in-Leaves-clause-further : goal.returns-in_ok-take_one_row-in-Leaves-clause-further
+returns-in_ok-take_one_row-in-Leaves-clause-further g c =
+    let a = subst (Agrees entry_in row_entry c.args.shown.now c.args.rows.now c.args.at.shown c.args.at.entries) c.in-Leaves.is c.in_ok-row_change.ensures.next in
+    let below : c.args.at.shown < length c.args.shown.now = slice_get_within c.args.shown.now c.args.at.shown a.0 a.1 in
+    record {
+      shown = omega arith;
+      new = omega arith;
+      either = omega arith;
+      within_shown = omega (arith, below);
+      within_new = c.requires.within.1;
+    }
+
+pub returns-in_ok-take_one_row-in-Leaves-clause-compared : goal.returns-in_ok-take_one_row-in-Leaves-clause-compared
+returns-in_ok-take_one_row-in-Leaves-clause-compared g c trusted first was =
+    let fits : SFits w64 c.in-Leaves.id = search rules in
+    let a = subst (Agrees entry_in row_entry c.args.shown.now c.args.rows.now c.args.at.shown c.args.at.entries) c.in-Leaves.is c.in_ok-row_change.ensures.next in
+    row_leaves c.args.shown.now c.args.rows.now first (state g.S.Store c.args.tx.now.conn.now).now.trees (state g.S.Store c.take_one_row.new.tx.conn.now).now.trees c.args.at.shown c.args.at.entries a.0 c.in-Leaves.id a.1 a.2
+    (rw (to_z-of_z fits) at (c.in_ok-take_one_row-in-Leaves.ensures.taken trusted)) was
+
+pub returns-in_ok-add_row-in-Comes-clause-compared : goal.returns-in_ok-add_row-in-Comes-clause-compared
+returns-in_ok-add_row-in-Comes-clause-compared g c trusted first was =
+    let below = subst (Agrees entry_in row_entry c.args.shown.now c.args.rows.now c.args.at.shown c.args.at.entries) c.in-Comes.is c.in_ok-row_change.ensures.next in
+    row_comes c.args.shown.now c.args.rows.now first (state g.S.Store c.args.tx.now.conn.now).now.trees (state g.S.Store c.add_row.new.tx.conn.now).now.trees c.args.at.shown c.args.at.entries c.index-rows-place.result c.as_str-name.result.now
+    (slice_get_read c.args.rows.now (length c.args.rows.now) c.args.at.entries c.index-rows-place.result refl below c.index-rows-place.is) (c.as_str-name.ensures ∙ ap (λ (q : Binary). q.name) c.deref.ensures) (c.in_ok-add_row-in-Comes.ensures.added trusted) was

@@ -1,0 +1,38 @@
+use Rattle.std.proofs.Common.{◌<◌, length, refl, subst, arith, SFits, w64, rules, to_z-of_z}
+use Rattle.std.proofs.lemmas.Option.{slice_get_read, slice_get_within}
+use Rattle.sqlite.specs.Held.{state}
+use Rattle.office_tables.specs.Entries.{source_in}
+use Rattle.office_tables.specs.EntrySteps.{source_entry}
+use Rattle.office_tables.specs.Differences.{Agrees}
+use Rattle.office_tables.proofs.DifferenceLemmas.{sources_stay, source_leaves, source_comes}
+use Rattle.office_tables.proofs.testing.change_source.Goals as goal
+
+pub returns-in-Stays-clause-compared : goal.returns-in-Stays-clause-compared
+returns-in-Stays-clause-compared g c trusted first was =
+    let a = subst (Agrees source_in source_entry c.args.shown.now c.args.sources.now c.args.at.shown c.args.at.entries) c.in-Stays.is c.in_ok-source_change.ensures.next in
+    sources_stay c.args.shown.now c.args.sources.now first (state g.S.Store c.args.tx.now.conn.now).now.trees c.args.at.shown c.args.at.entries a.0 a.1 a.2 a.3 a.4 was
+
+pub returns-in_ok-take_one_source-in-Leaves-clause-further : goal.returns-in_ok-take_one_source-in-Leaves-clause-further
+returns-in_ok-take_one_source-in-Leaves-clause-further g c =
+    let a = subst (Agrees source_in source_entry c.args.shown.now c.args.sources.now c.args.at.shown c.args.at.entries) c.in-Leaves.is c.in_ok-source_change.ensures.next in
+    let below : c.args.at.shown < length c.args.shown.now = slice_get_within c.args.shown.now c.args.at.shown a.0 a.1 in
+    record {
+      shown = omega arith;
+      new = omega arith;
+      either = omega arith;
+      within_shown = omega (arith, below);
+      within_new = c.requires.within.1;
+    }
+
+pub returns-in_ok-take_one_source-in-Leaves-clause-compared : goal.returns-in_ok-take_one_source-in-Leaves-clause-compared
+returns-in_ok-take_one_source-in-Leaves-clause-compared g c trusted first was =
+    let fits : SFits w64 c.in-Leaves.id = search rules in
+    let a = subst (Agrees source_in source_entry c.args.shown.now c.args.sources.now c.args.at.shown c.args.at.entries) c.in-Leaves.is c.in_ok-source_change.ensures.next in
+    source_leaves c.args.shown.now c.args.sources.now first (state g.S.Store c.args.tx.now.conn.now).now.trees (state g.S.Store c.take_one_source.new.tx.conn.now).now.trees c.args.at.shown c.args.at.entries a.0 c.in-Leaves.id a.1 a.2
+    (rw (to_z-of_z fits) at (c.in_ok-take_one_source-in-Leaves.ensures.taken trusted)) was
+
+pub returns-in_ok-add_source-in-Comes-clause-compared : goal.returns-in_ok-add_source-in-Comes-clause-compared
+returns-in_ok-add_source-in-Comes-clause-compared g c trusted first was =
+    let below = subst (Agrees source_in source_entry c.args.shown.now c.args.sources.now c.args.at.shown c.args.at.entries) c.in-Comes.is c.in_ok-source_change.ensures.next in
+    source_comes c.args.shown.now c.args.sources.now first (state g.S.Store c.args.tx.now.conn.now).now.trees (state g.S.Store c.add_source.new.tx.conn.now).now.trees c.args.at.shown c.args.at.entries c.index-sources-place.result c.as_str.result.now
+    (slice_get_read c.args.sources.now (length c.args.sources.now) c.args.at.entries c.index-sources-place.result refl below c.index-sources-place.is) c.as_str.ensures (c.in_ok-add_source-in-Comes.ensures.added trusted) was
