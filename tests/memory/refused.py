@@ -7,7 +7,8 @@ OFFICE is the built program, `crates/office/out/office`. It is run with `refuse.
 bags: over a store in memory, over a store in a file, and as a service. For each N from 1 on, by STEP (1), until a run
 meets no refusal: what is printed is what the rules give for the marks that its own lines show, and the exit status is 4
 where anything was lost, else 0. Then the same bag with ample memory, over the same store, leaves the row's testing and
-reports. A store of schema 1 is opened so too: it is then of schema 1 or 2, and goes on by the delays that were kept.
+reports. A check of the store finds it whole, or ends with status 4 and no line. A store of schema 1 is opened so too:
+it is then of schema 1 or 2, and goes on by the delays that were kept.
 
 PARTS is the built program that judges itself, `crates/fault_rows/out/fault_rows`: started with the word `memory`, it
 prints a line `PART: right` for each of its parts that may be refused memory. Each of its growths is refused in turn too,
@@ -108,15 +109,20 @@ def environment(at, to, count):
     return dict(os.environ, LD_PRELOAD=shim, REFUSE_AT=str(at), REFUSE_TO=str(to), REFUSE_COUNT=count)
 
 
-def replay(folder, db, texts, at=0, to=0):
-    """What a replay prints, its exit status, and how many growths it asked for."""
+def call(folder, command, db, given, at, to):
+    """What a command prints, its exit status, and how many growths it asked for."""
     global runs
     runs += 1
     count = os.path.join(folder, "count")
-    words = [program, "replay", "--conf", os.path.join(folder, "conf")] + (["--db", db] if db else [])
-    ran = subprocess.run(words, input=bag_of(texts), stdout=subprocess.PIPE, stderr=subprocess.PIPE, timeout=120, env=environment(at, to, count))
+    words = [program, command, "--conf", os.path.join(folder, "conf")] + (["--db", db] if db else [])
+    ran = subprocess.run(words, input=given, stdout=subprocess.PIPE, stderr=subprocess.PIPE, timeout=120, env=environment(at, to, count))
     with open(count) as f:
         return ran.stdout, ran.returncode, int(f.read())
+
+
+def replay(folder, db, texts, at=0, to=0):
+    """The same of a replay of these texts."""
+    return call(folder, "replay", db, bag_of(texts), at, to)
 
 
 def remove(db):
@@ -263,6 +269,27 @@ def try_old_store(folder):
     return refused
 
 
+def try_check(folder, name, texts):
+    """Each growth of a check of a store refused in turn, and then all from there on: it finds the store whole, or memory runs out."""
+    db = os.path.join(folder, "store")
+    remove(db)
+    replay(folder, db, texts)
+    due = b"whole %d runs\n" % len(reports_in(db)), 0
+    refused = 0
+    for lasting in (False, True):
+        at = 1
+        while True:
+            what = "%s, a check, %s %d" % (name, "from" if lasting else "growth", at)
+            output, status, grown = call(folder, "check", db, b"", at, 2 ** 62 if lasting else at)
+            if grown < at:
+                want(what + ", with none refused", due, (output, status))
+                break
+            refused += 1
+            want(what, True, (output, status) in (due, (b"", 4)))
+            at += step
+    return refused
+
+
 def all_of(connection):
     taken = b""
     while True:
@@ -405,6 +432,7 @@ with tempfile.TemporaryDirectory() as folder:
             counted(name, "in memory", try_replays(folder, name, texts, False))
         if "file" in only:
             counted(name, "in a file", try_replays(folder, name, texts, True))
+            counted(name, "checked", try_check(folder, name, texts))
         if "service" in only:
             counted(name, "as a service", try_service(folder, name, texts))
     if "file" in only and rows in "a store of schema 1":

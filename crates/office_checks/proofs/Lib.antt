@@ -1,0 +1,4 @@
+pub mod ComparedFacts
+pub mod FoundFacts
+pub mod FrontFacts
+pub mod TakingFacts

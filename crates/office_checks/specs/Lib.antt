@@ -1,0 +1,4 @@
+pub mod Reading
+pub mod Comparing
+pub mod Telling
+pub mod Whole

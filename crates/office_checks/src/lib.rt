@@ -1,0 +1,40 @@
+//! Whether a store holds what an office leaves: all its runs are made anew from the mail that it keeps, and what it holds of
+//! them is compared.
+#![tactic(auto)]
+
+mod bounded;
+mod checking;
+mod comparing;
+mod delivering;
+mod letters;
+mod same;
+mod telling;
+
+pub use checking::check;
+pub use telling::{check_status, checked_text};
+
+/// Where a store differs first from an office that took the same mail.
+#[derive(Clone, Copy, Debug, PartialEq, Eq)]
+pub enum Difference {
+    /// The text that is kept there isn't a message of that sender and number.
+    Mail { sender: u32, number: u32 },
+    /// The run is finished, but it isn't ready: mail that it covers isn't kept.
+    RunMail { run: u32 },
+    /// The excuses of the run are others.
+    Excuses { run: u32 },
+    /// The update of the run is another.
+    Update { run: u32 },
+    /// Testing is another.
+    Testing,
+    /// The rows of facts are others.
+    Facts,
+}
+
+/// What a check of a store found.
+#[derive(Clone, Copy, Debug, PartialEq, Eq)]
+pub enum Checked {
+    /// It holds what an office leaves, which finished so many runs.
+    Whole { runs: u32 },
+    /// It doesn't.
+    Differs(Difference),
+}
