@@ -1,6 +1,6 @@
 -- What a comparison of a store with an office made anew says of the store.
 use Rattle.std.proofs.Common.{◌≡◌, ◌≢◌, ⊎_elim, inl, inr, ℕ, ◌+◌, ◌<◌, ◌≤◌, Bool, true, false, cond, List, length, Option, Some, None, IsSome, sym, ap, subst, ◌∙◌, refl, arith}
-use Rattle.std.specs.Prelude.{option_map, is_some}
+use Rattle.std.specs.Prelude.{IfSome, option_map, is_some}
 use Rattle.std.specs.FinMap.{get}
 use Rattle.testing_model.specs.declared.fact_row.FactRow.{FactRow}
 use Rattle.testing_model.specs.FactRows.{rows_of, times}
@@ -17,7 +17,7 @@ use Rattle.office_keeper.specs.declared.values.Reports.{Reports}
 use Rattle.office_runs.specs.Outcome.{covered_items, reports_of, testing_after}
 use Rattle.office_runs.specs.State.{IsOffice, KeepsFacts}
 use Rattle.office_runs.proofs.FinishFacts.{IsReady-down, report_is}
-use Rattle.office_checks.specs.Comparing.{IsCompared, IsUnlike, IsUnmade, found_by}
+use Rattle.office_checks.specs.Comparing.{IsCompared, IsMade, IsShort, IsUnlike, IsUnmade, found_by}
 use Rattle.office_checks.specs.Reading.{IsFront}
 use Rattle.office_checks.specs.Whole.{AreOfSenders, IsDifference, IsFinished, IsFound, excuses_at, update_at}
 use Rattle.office_checks.specs.declared.Checked.{Checked}
@@ -92,6 +92,24 @@ compared_found setup c a runs None office one other front same are =
     let content : a ≡ c = same_content a c kept (sym reports) (sym same.1) (same_sets a.facts c.facts (sym same.2)) in
     (sym other, subst (IsOffice setup) content office)
 compared_found setup c a runs (Some d) office one other front unlike are = unlike_differs setup c a runs d office (front_all setup c.kept a.kept front are) one other unlike
+
+none_of : {A : Type 0} (o : Option A) → is_some o ≡ false → o ≡ None
+none_of None e = refl
+none_of (Some x) e = absurd (cc (e))
+
+-- that there is no difference
+pub is_none : {A : Type 0} (o : Option A) (b : Bool) → b ≡ is_some o → b ≡ false → o ≡ None
+is_none o b is e = none_of o (sym is ∙ e)
+
+-- an office made anew that took all mail, or that one of so many runs isn't ready
+pub made_by : (setup : Lists) (kept front : Kept) (runs : ℕ) (d : Option Difference) → IsFront kept (length setup.senders) 0 front → IfSome d (IsShort setup front runs) → IsMade setup kept runs front d
+made_by setup kept front runs None all short = all
+made_by setup kept front runs (Some (RunMail run)) all short = (short.0, short.1, (front, all, short.2))
+made_by setup kept front runs (Some (Mail sender number)) all short = absurd short
+made_by setup kept front runs (Some (Excuses run)) all short = absurd short
+made_by setup kept front runs (Some (Update run)) all short = absurd short
+made_by setup kept front runs (Some Testing) all short = absurd short
+made_by setup kept front runs (Some Facts) all short = absurd short
 
 -- what is found where there is no office made anew
 pub unmade_differs : (setup : Lists) (c : Content) (runs : ℕ) (d : Difference) → runs ≡ length c.reports → IsUnmade setup c.kept runs d → AreOfSenders setup c.kept → IsDifference setup c d

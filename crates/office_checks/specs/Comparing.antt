@@ -12,8 +12,6 @@ use Rattle.office_runs.specs.State.{IsOffice}
 use Rattle.office_checks.specs.Reading.{IsFront}
 use Rattle.office_checks.specs.Whole.{IsForeign, excuses_at, update_at}
 use Rattle.office_checks.specs.declared.bounded.Bounded.{Bounded}
-use Rattle.office_checks.specs.declared.delivering.Made.{Made}
-use Rattle.office_checks.specs.declared.delivering.Made.TheVariants.{Anew, Unmade}
 use Rattle.office_checks.specs.declared.Checked.{Checked}
 use Rattle.office_checks.specs.declared.Checked.TheVariants.{Whole, Differs}
 use Rattle.office_checks.specs.declared.Difference.{Difference}
@@ -44,10 +42,10 @@ abbrev pub IsShort : Lists → Kept → ℕ → Difference → Type 0
 IsShort setup kept runs (RunMail run) = (1 ≤ run) × (run ≤ runs) × (IsReady setup kept run → ⊥)
 IsShort setup kept runs _ = ⊥
 
--- an office made anew of a store's mail, or why there is none
-abbrev pub IsMade : Lists → Kept → ℕ → Made → Type 0
-IsMade setup kept runs (Anew store) = (store.plain.setup ≡ setup) × IsAnew store × IsFront kept (length setup.senders) 0 (content_of store.plain).kept
-IsMade setup kept runs (Unmade difference) = IsUnmade setup kept runs difference
+-- an office made anew took this front of a store's mail, which is all of the setup's senders; or why no office is made of that mail
+abbrev pub IsMade : Lists → Kept → ℕ → Kept → Option Difference → Type 0
+IsMade setup kept runs front None = IsFront kept (length setup.senders) 0 front
+IsMade setup kept runs front (Some difference) = IsUnmade setup kept runs difference
 
 -- how the reports of a run differ, if they do
 abbrev pub IsRunDifference : ℕ → Option Reports → Option Reports → Option Difference → Type 0

@@ -1,21 +1,25 @@
 //! Whether a store holds what an office leaves.
 #![tactic(auto, using(office_runs::proofs::LastFacts::lasting))]
 
-ghost use Rattle.std.specs.Prelude.{◌≡◌, IfOk, length};
+ghost use Rattle.std.specs.Prelude.{◌≡◌, None, IfOk, is_ok, length};
+ghost use Rattle.office_keeper.specs.MemoryState.{content_of};
+ghost use Rattle.office_replies.specs.Counted.{Counted};
 ghost use Rattle.office_runs.specs.ReadsStore.{ReadsStore};
+ghost use Rattle.office_runs.specs.StaysTrusted.{StaysTrusted};
 ghost use Rattle.office_runs.specs.State.{IsOffice};
-ghost use Rattle.office_checks.specs.Comparing.{IsMade, found_by};
+ghost use Rattle.office_checks.specs.Comparing.{IsAnew, IsMade, found_by};
+ghost use Rattle.office_checks.specs.Reading.{IsFront};
 ghost use Rattle.office_checks.specs.Whole.{AreOfSenders, IsFound};
 ghost use Rattle.office_checks.specs.declared.Checked.TheVariants.{Whole};
-ghost use Rattle.office_checks.specs.declared.delivering.Made.TheVariants.{Anew};
 
 use crate::bounded::Bounded;
 use crate::comparing::{compare, in_memory};
-use crate::delivering::{Made, make_anew};
+use crate::delivering::{make_anew, new_office};
 use crate::{Checked, Difference};
 use office_keeper::Keeper;
 use office_mail::Setup;
 use office_replies::StoreFault;
+use office_runs::Office;
 use std::alloc::Global;
 
 /// What is found of a store that holds so many runs, by the first difference, if there is one.
@@ -28,15 +32,15 @@ fn checked_by(runs: u32, difference: Option<Difference>) -> Checked
     }
 }
 
-/// What is found of a store that holds so many runs, beside an office made anew. It wants memory where that office finished
-/// fewer.
+/// What is found of a store that holds so many runs, beside an office made anew that took its mail. It wants memory where that
+/// office finished fewer.
 fn check_made<K: Keeper>(
     keeper: &mut K,
     made: &mut Bounded,
     runs: u32,
 ) -> Result<Checked, StoreFault>
-    ensures found { K.is_trusted keeper.new → IsMade (K.setup keeper.old) (K.content keeper.old).kept runs (Anew made.old) → runs ≡ length (K.content keeper.old).reports →
-        AreOfSenders (K.setup keeper.old) (K.content keeper.old).kept → IfOk result (IsFound (K.setup keeper.old) (K.content keeper.old)) }
+    ensures found { K.is_trusted keeper.new → IsAnew made.old → IsMade made.old.plain.setup (K.content keeper.old).kept runs (content_of made.old.plain).kept None → runs ≡ length (K.content keeper.old).reports →
+        AreOfSenders made.old.plain.setup (K.content keeper.old).kept → IfOk result (IsFound made.old.plain.setup (K.content keeper.old)) }
     ensures looks { ReadsStore K.Keeper keeper.old keeper.new result }
 {
     if in_memory(made.finished())? != runs {
@@ -44,6 +48,39 @@ fn check_made<K: Keeper>(
     }
     let difference = compare(keeper, made, runs)?;
     Ok(checked_by(runs, difference))
+}
+
+/// What is found of a store that holds so many runs, beside what was made anew of its mail, or by why nothing was.
+fn check_beside<K: Keeper>(
+    keeper: &mut K,
+    made: &mut Bounded,
+    unmade: Option<Difference>,
+    runs: u32,
+) -> Result<Checked, StoreFault>
+    ensures found { K.is_trusted keeper.new → IsAnew made.old → IsMade made.old.plain.setup (K.content keeper.old).kept runs (content_of made.old.plain).kept unmade → runs ≡ length (K.content keeper.old).reports →
+        AreOfSenders made.old.plain.setup (K.content keeper.old).kept → IfOk result (IsFound made.old.plain.setup (K.content keeper.old)) }
+    ensures looks { ReadsStore K.Keeper keeper.old keeper.new result }
+{
+    match unmade {
+        Some(difference) => Ok(Checked::Differs(difference)),
+        None => check_made(keeper, made, runs),
+    }
+}
+
+/// What is found of a store that holds so many runs, beside an office made anew of its mail.
+fn check_anew<K: Keeper>(
+    keeper: &mut K,
+    office: Office<Bounded>,
+    runs: u32,
+) -> Result<Checked, StoreFault>
+    ensures found { K.is_trusted keeper.new → IsAnew office → IsFront (K.content keeper.old).kept 0 0 (content_of office.plain).kept → runs ≡ length (K.content keeper.old).reports →
+        AreOfSenders office.plain.setup (K.content keeper.old).kept → IfOk result (IsFound office.plain.setup (K.content keeper.old)) }
+    ensures looks { ReadsStore K.Keeper keeper.old keeper.new result }
+{
+    let mut office = office;
+    let unmade = make_anew(keeper, &mut office, runs);
+    let mut made = office.into_keeper();
+    check_beside(keeper, &mut made, unmade?, runs)
 }
 
 /// Makes all finished runs of a store anew, in memory, from the mail that it keeps, and finds where it differs first from what
@@ -61,11 +98,14 @@ pub fn check<K: Keeper>(
     ensures whole { K.is_trusted keeper.new → IsOffice setup.now (K.content keeper.old) → IfOk result (λ checked. checked ≡ Whole (length (K.content keeper.old).reports)) }
     // Of a store whose mail is of senders of the setup what is found is so: whole is only what an office leaves.
     ensures found { K.is_trusted keeper.new → AreOfSenders setup.now (K.content keeper.old).kept → IfOk result (IsFound setup.now (K.content keeper.old)) }
-    ensures looks { ReadsStore K.Keeper keeper.old keeper.new result }
+    ensures same { K.is_trusted keeper.new → K.content keeper.new ≡ K.content keeper.old }
+    ensures setup { K.setup keeper.new ≡ K.setup keeper.old }
+    ensures before { K.is_trusted keeper.new → K.is_trusted keeper.old }
+    ensures legible { K.is_trusted keeper.new → K.is_legible keeper.old → K.is_legible keeper.new }
+    ensures lasts { StaysTrusted K.Keeper keeper.old keeper.new (is_ok result) }
+    ensures counted { Counted (K.refusals keeper.old) (K.refusals keeper.new) result }
 {
     let runs = keeper.finished()?;
-    match make_anew(alloc, setup, keeper, runs)? {
-        Made::Anew(mut made) => check_made(keeper, &mut made, runs),
-        Made::Unmade(difference) => Ok(Checked::Differs(difference)),
-    }
+    let office = new_office(alloc, setup, runs)?;
+    check_anew(keeper, office, runs)
 }

@@ -4,8 +4,9 @@
 ghost use Rattle.std.specs.Prelude.{◌≡◌, ◌≢◌, ◌≤◌, ℕ, IsTrue, false, Some, None, Ok, IfOk, IfErr, IfSome, OnOk};
 ghost use Rattle.std.specs.FinMap.{get, insert};
 ghost use Rattle.office_mail.specs.Kept.{placed};
+ghost use Rattle.office_keeper.specs.Content.{no_content};
 ghost use Rattle.office_keeper.specs.MemoryState.{content_of};
-ghost use Rattle.office_replies.specs.declared.faults.StoreFault.TheVariants.{NoMemory};
+ghost use Rattle.office_replies.specs.declared.faults.StoreFault.TheVariants as fault;
 ghost use Rattle.office_runs.specs.ReadsStore.{ReadsStore};
 ghost use Rattle.office_checks.specs.Comparing.{IsAnew, IsTaken, IsAllTaken, IsShort, IsMade};
 ghost use Rattle.office_checks.specs.Reading.{IsFront, IsOther};
@@ -13,6 +14,7 @@ ghost use Rattle.office_checks.specs.Reading.{IsFront, IsOther};
 use crate::Difference;
 use crate::bounded::Bounded;
 use crate::letters::letter_from;
+use deb_control::NoMemory;
 use office_keeper::{Keeper, Letter};
 use office_mail::{MailFault, Setup};
 use office_replies::{DeliverFault, Held, StoreFault};
@@ -21,15 +23,6 @@ use std::alloc::Global;
 
 /// The greatest number that a message may have.
 const LAST: u32 = 999_999_999;
-
-/// What comes of the mail of a store.
-#[derive(Drop)]
-pub(crate) enum Made {
-    /// The store in memory of an office that took it and finished its runs.
-    Anew(Bounded),
-    /// No office.
-    Unmade(Difference),
-}
 
 /// Whether an answer is that a message is held under this sender and number. Over a store in memory a fault is want of
 /// memory.
@@ -41,7 +34,7 @@ fn is_held(
     ensures own { IfOk result (λ own. IsTrue own → answer ≡ Ok (record { sender = sender; number = number })) }
     ensures few { IfOk result (λ own. IsTrue own → number ≤ 999_999_999) }
     ensures other { IfOk result (λ own. own ≡ false → IsOther sender number answer) }
-    ensures fault { IfErr result (λ fault. fault ≡ NoMemory) }
+    ensures fault { IfErr result (λ f. f ≡ fault.NoMemory) }
 {
     match answer {
         Ok(held) => Ok(held.sender == sender && held.number == number && number <= LAST),
@@ -65,7 +58,7 @@ fn take_letter(
         placed office.old.plain.setup letter.now.text ≢ Some ((sender, letter.now.number), letter.now.text)) }
     ensures anew { IsAnew office.old → IsAnew office.new }
     ensures setup { office.new.plain.setup ≡ office.old.plain.setup }
-    ensures fault { IfErr result (λ fault. fault ≡ NoMemory) }
+    ensures fault { IfErr result (λ f. f ≡ fault.NoMemory) }
 {
     let answer = office.deliver(letter.text.as_slice());
     is_held(answer, sender, letter.number)
@@ -132,23 +125,35 @@ fn settle_to(office: &mut Office<Bounded>, runs: u32) -> Option<Difference>
     }
 }
 
-/// An office made anew from the mail of a store, with its first runs, as many as these where memory lasts.
-pub(crate) fn make_anew<K: Keeper>(
+/// An office for this setup, over a store in memory that has room for so many runs.
+pub(crate) fn new_office(
     alloc: Global,
     setup: &Setup,
-    keeper: &mut K,
     runs: u32,
-) -> Result<Made, StoreFault>
-    ensures made { K.is_trusted keeper.new → IfOk result (IsMade setup.now (K.content keeper.old).kept runs) }
-    ensures looks { ReadsStore K.Keeper keeper.old keeper.new result }
+) -> Result<Office<Bounded>, NoMemory>
+    ensures setup { IfOk result (λ office. office.plain.setup ≡ setup.now) }
+    ensures content { IfOk result (λ office. content_of office.plain ≡ no_content) }
 {
     let store = Bounded::new(alloc, setup, runs)?;
-    let mut office = Office::new(alloc, setup.copy(alloc)?, store);
-    if let Some(difference) = take_mail(keeper, &mut office)? {
-        return Ok(Made::Unmade(difference));
+    Ok(Office::new(alloc, setup.copy(alloc)?, store))
+}
+
+/// Delivers the kept mail of a store to an office made anew, which finishes its first runs, as many as it has room for where
+/// memory lasts; and gives why no office takes this mail and finishes so many runs, if none does.
+pub(crate) fn make_anew<K: Keeper>(
+    keeper: &mut K,
+    office: &mut Office<Bounded>,
+    runs: u32,
+) -> Result<Option<Difference>, StoreFault>
+    ensures made { K.is_trusted keeper.new → IsAnew office.old → IsFront (K.content keeper.old).kept 0 0 (content_of office.old.plain).kept →
+        IfOk result (IsMade office.new.plain.setup (K.content keeper.old).kept runs (content_of office.new.plain).kept) }
+    ensures anew { IsAnew office.old → IsAnew office.new }
+    ensures setup { office.new.plain.setup ≡ office.old.plain.setup }
+    ensures looks { ReadsStore K.Keeper keeper.old keeper.new result }
+{
+    let difference = take_mail(keeper, office)?;
+    if difference.is_some() {
+        return Ok(difference);
     }
-    match settle_to(&mut office, runs) {
-        Some(difference) => Ok(Made::Unmade(difference)),
-        None => Ok(Made::Anew(office.into_keeper())),
-    }
+    Ok(settle_to(office, runs))
 }
