@@ -1,7 +1,6 @@
 -- What is the same where reports, testing and the rows of facts are, and that kept facts have one set of rows.
-use Rattle.std.proofs.Common.{◌≡◌, ⊎_elim, ◌⊎◌, inl, inr, ℕ, zero, suc, ◌+◌, ◌-◌, ◌<◌, ◌≤◌, Bool, true, false, cond, List, [], ◌∷◌, length, map, option_to_list, Option, Some, None, slice_get, sym, ap, subst, ◌∙◌, refl, arith}
+use Rattle.std.proofs.Common.{◌≡◌, inl, inr, ℕ, zero, suc, ◌+◌, ◌<◌, ◌≤◌, Bool, true, false, cond, List, [], ◌∷◌, length, map, option_to_list, Some, slice_get, sym, ap, subst, ◌∙◌, refl, arith}
 use Rattle.std.specs.Prelude.{Contains}
-use Rattle.std.proofs.lemmas.Bool.{cases_lt}
 use Rattle.std.proofs.lemmas.List.Sums.{sum_by-cons}
 use Rattle.testing_items.proofs.Members.{none_among, tail_of}
 use Rattle.testing_model.proofs.Sets.{first_or_rest, at_front}
@@ -14,8 +13,8 @@ use Rattle.testing_model.specs.KeptFacts.{KeptFacts}
 use Rattle.testing_model.specs.Suite.{Suite}
 use Rattle.testing_facts.proofs.Shifting.{parts}
 use Rattle.office_keeper.specs.Content.{item_from_one}
-use Rattle.office_keeper.specs.FactSet.{FactSet, count_in, rows_in, set_of_rows}
-use Rattle.office_keeper.proofs.FactSets.{same_counts, set_of_rows-rows_in}
+use Rattle.office_keeper.specs.FactSet.{FactSet, rows_in, set_of_rows}
+use Rattle.office_keeper.proofs.FactSets.{set_of_rows-rows_in}
 
 some_same : {A : Type 0} (x y : A) → Some x ≡ Some y → x ≡ y
 some_same x y e = cc (e)

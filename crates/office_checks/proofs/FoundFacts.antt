@@ -1,16 +1,15 @@
 -- What a comparison of a store with an office made anew says of the store.
-use Rattle.std.proofs.Common.{◌≡◌, ◌≢◌, ⊎_elim, inl, inr, ℕ, ◌+◌, ◌<◌, ◌≤◌, Bool, true, false, cond, List, length, Option, Some, None, IsSome, sym, ap, subst, ◌∙◌, refl, arith}
+use Rattle.std.proofs.Common.{◌≡◌, ℕ, ◌≤◌, Bool, true, false, cond, length, Option, Some, None, sym, ap, subst, ◌∙◌, refl, arith}
 use Rattle.std.specs.Prelude.{IfSome, option_map, is_some}
 use Rattle.std.specs.FinMap.{get}
 use Rattle.testing_model.specs.declared.fact_row.FactRow.{FactRow}
 use Rattle.testing_model.specs.FactRows.{rows_of, times}
 use Rattle.testing_model.specs.KeptFacts.{KeptFacts}
 use Rattle.testing_model.specs.Suite.{Suite}
-use Rattle.testing_model.specs.Covered.{Covered}
-use Rattle.office_mail.specs.Kept.{Kept, Place, IsPlace}
+use Rattle.office_mail.specs.Kept.{Kept}
 use Rattle.office_mail.specs.Lists.{Lists}
 use Rattle.office_mail.specs.Runs.{IsReady}
-use Rattle.office_keeper.specs.Content.{Content, item_from_one}
+use Rattle.office_keeper.specs.Content.{Content}
 use Rattle.office_keeper.specs.FactSet.{count_in, rows_in}
 use Rattle.office_keeper.proofs.FactSets.{same_counts}
 use Rattle.office_keeper.specs.declared.values.Reports.{Reports}
@@ -19,7 +18,7 @@ use Rattle.office_runs.specs.State.{IsOffice, KeepsFacts}
 use Rattle.office_runs.proofs.FinishFacts.{IsReady-down, report_is}
 use Rattle.office_checks.specs.Comparing.{IsCompared, IsMade, IsShort, IsUnlike, IsUnmade, found_by}
 use Rattle.office_checks.specs.Reading.{IsFront}
-use Rattle.office_checks.specs.Whole.{AreOfSenders, IsDifference, IsFinished, IsFound, excuses_at, update_at}
+use Rattle.office_checks.specs.Whole.{AreOfSenders, IsDifference, IsFound, excuses_at, update_at}
 use Rattle.office_checks.specs.declared.Checked.{Checked}
 use Rattle.office_checks.specs.declared.Checked.TheVariants.{Whole, Differs}
 use Rattle.office_checks.specs.declared.Difference.{Difference}

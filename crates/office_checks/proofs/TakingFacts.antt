@@ -1,17 +1,16 @@
 -- What the answer to a delivery says of a text that is kept at a place.
-use Rattle.std.proofs.Common.{◌≡◌, ◌≢◌, ⊎_elim, ◌⊎◌, inl, inr, ℕ, ◌<◌, ◌≤◌, Bool, true, false, cond, List, [], ◌∷◌, Option, Some, None, Result, Ok, Err, OnOk, IsSome, sym, ap, subst, ◌∙◌, refl, arith}
+use Rattle.std.proofs.Common.{◌≡◌, ◌≢◌, inl, inr, ℕ, ◌≤◌, Bool, true, false, cond, List, [], ◌∷◌, Option, Some, None, Result, Ok, Err, OnOk, IsSome, sym, ap, subst, ◌∙◌, refl, arith}
 use Rattle.std.specs.Str.{bytes_eq}
 use Rattle.std.specs.FinMap.{get, insert}
 use Rattle.std.proofs.lemmas.Result.{IfOk-at_ok}
 use Rattle.office_mail.specs.declared.message.Message.{Message}
 use Rattle.office_mail.specs.declared.message.MailFault.{MailFault}
-use Rattle.office_mail.specs.declared.message.MailFault.TheVariants.{NoMemory}
 use Rattle.office_mail.specs.Kept.{IsPlace, Kept, Place, kept_from, place_of, placed, placed_as}
 use Rattle.office_mail.specs.Lists.{Lists}
 use Rattle.office_mail.specs.Read.{read}
 use Rattle.office_mail.proofs.KeptFacts.{kept_from-free}
 use Rattle.office_replies.specs.declared.faults.DeliverFault.{DeliverFault}
-use Rattle.office_replies.specs.declared.faults.DeliverFault.TheVariants.{Mail, OtherText, Store}
+use Rattle.office_replies.specs.declared.faults.DeliverFault.TheVariants.{OtherText}
 use Rattle.office_replies.specs.declared.faults.Held.{Held}
 use Rattle.office_runs.specs.State.{AnswersDelivery, answer_at, answer_by, answer_to, held_at}
 use Rattle.office_checks.specs.Reading.{IsOther}

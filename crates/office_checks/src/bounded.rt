@@ -1,15 +1,15 @@
 //! A store in memory that has room for some runs.
 
+ghost use Rattle.std.specs.Prelude.{◌≡◌, [], IfOk, ⊤};
+ghost use Rattle.office_keeper.specs.Content.{no_content};
+ghost use Rattle.office_keeper.specs.MemoryState.{content_of};
+
 use deb_control::NoMemory;
 use office_keeper::{Finished, KeepFault, Keeper, Letter, MailText, Plain, Reports};
 use office_mail::Setup;
 use std::alloc::Global;
 use testing_model::FactRows;
 use testing_suites::Testing;
-
-ghost use Rattle.std.specs.Prelude.{◌≡◌, [], IfOk, ⊤};
-ghost use Rattle.office_keeper.specs.Content.{no_content};
-ghost use Rattle.office_keeper.specs.MemoryState.{content_of};
 
 /// A store in memory with room for so many finished runs: for one more it has no memory. It fails for want of memory alone.
 #[derive(Drop)]

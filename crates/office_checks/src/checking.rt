@@ -88,11 +88,7 @@ fn check_anew<K: Keeper>(
 /// reports of each run, testing, or the rows of facts. The store stays as it is.
 ///
 /// It fails for want of memory or of the store alone.
-pub fn check<K: Keeper>(
-    alloc: Global,
-    setup: &Setup,
-    keeper: &mut K,
-) -> Result<Checked, StoreFault>
+pub fn check<K: Keeper>(alloc: Global, setup: &Setup, keeper: &mut K) -> Result<Checked, StoreFault>
     requires lists { K.setup keeper.old ≡ setup.now }
     // What an office leaves is found whole.
     ensures whole { K.is_trusted keeper.new → IsOffice setup.now (K.content keeper.old) → IfOk result (λ checked. checked ≡ Whole (length (K.content keeper.old).reports)) }

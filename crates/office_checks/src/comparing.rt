@@ -42,11 +42,7 @@ fn reports_difference(run: u32, these: &Reports, those: &Reports) -> Option<Diff
 }
 
 /// How the reports of a run differ from others, if they do.
-fn run_difference(
-    run: u32,
-    these: &Option<Reports>,
-    those: &Option<Reports>,
-) -> Option<Difference>
+fn run_difference(run: u32, these: &Option<Reports>, those: &Option<Reports>) -> Option<Difference>
     ensures { IsRunDifference run these.now those.now result }
 {
     match (these, those) {

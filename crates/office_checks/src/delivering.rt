@@ -26,11 +26,7 @@ const LAST: u32 = 999_999_999;
 
 /// Whether an answer is that a message is held under this sender and number. Over a store in memory a fault is want of
 /// memory.
-fn is_held(
-    answer: Result<Held, DeliverFault>,
-    sender: u32,
-    number: u32,
-) -> Result<bool, StoreFault>
+fn is_held(answer: Result<Held, DeliverFault>, sender: u32, number: u32) -> Result<bool, StoreFault>
     ensures own { IfOk result (λ own. IsTrue own → answer ≡ Ok (record { sender = sender; number = number })) }
     ensures few { IfOk result (λ own. IsTrue own → number ≤ 999_999_999) }
     ensures other { IfOk result (λ own. own ≡ false → IsOther sender number answer) }

@@ -21,11 +21,7 @@ fn number_from(from: u32, number: Option<u32>) -> Option<u32>
 }
 
 /// The least kept number of a sender from one on, or none.
-fn next_number<K: Keeper>(
-    keeper: &mut K,
-    sender: u32,
-    from: u32,
-) -> Result<Option<u32>, StoreFault>
+fn next_number<K: Keeper>(keeper: &mut K, sender: u32, from: u32) -> Result<Option<u32>, StoreFault>
     ensures next { K.is_trusted keeper.new → IfOk result (λ number. IsNextNumber (K.content keeper.old).kept sender from number) }
     ensures from { IfOk result (IsFrom from) }
     ensures looks { ReadsStore K.Keeper keeper.old keeper.new result }

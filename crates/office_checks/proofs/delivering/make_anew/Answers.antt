@@ -1,4 +1,4 @@
-use Rattle.std.proofs.Common.{◌≡◌, None, length, sym, subst}
+use Rattle.std.proofs.Common.{None, length, sym, subst}
 use Rattle.office_mail.specs.Kept.{Kept}
 use Rattle.office_mail.specs.Lists.{Lists}
 use Rattle.office_keeper.specs.MemoryState.{content_of}

@@ -1,6 +1,6 @@
-use Rattle.std.proofs.Common.{◌≡◌, ◌≢◌, ◌≤◌, IsTrue, IfOk, List, ℕ, Some, [], ◌∷◌, ap, subst, ◌∙◌}
+use Rattle.std.proofs.Common.{◌≡◌, ◌≢◌, List, ℕ, Some, [], ◌∷◌, ap, subst, ◌∙◌}
 use Rattle.std.proofs.lemmas.Result.{IfOk-at_ok, IfOk-weaker}
-use Rattle.std.specs.FinMap.{get, insert}
+use Rattle.std.specs.FinMap.{insert}
 use Rattle.office_mail.specs.Kept.{IsPlace, Kept, kept_from, placed}
 use Rattle.office_keeper.specs.MemoryState.{content_of}
 use Rattle.office_checks.proofs.TakingFacts.{other_placed, own_few, own_put}

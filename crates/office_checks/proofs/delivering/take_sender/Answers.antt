@@ -1,12 +1,10 @@
-use Rattle.std.proofs.Common.{rules, ◌≡◌, ◌+◌, None, Some, ℕ, false, sym, subst, ◌∙◌, arith}
-use Rattle.std.specs.FinMap.{insert}
-use Rattle.office_mail.specs.Kept.{Kept}
+use Rattle.std.proofs.Common.{rules, ◌+◌, Some, sym, subst, ◌∙◌, arith}
 use Rattle.office_keeper.specs.Content.{Content}
 use Rattle.office_keeper.specs.MemoryState.{content_of}
 use Rattle.office_keeper.specs.declared.values.Letter.{Letter}
 use Rattle.office_runs.proofs.LookFacts.{looked_then}
 use Rattle.office_checks.specs.Reading.{IsFront, IsNextLetter}
-use Rattle.office_checks.proofs.FrontFacts.{front_more, front_next}
+use Rattle.office_checks.proofs.FrontFacts.{front_more}
 use Rattle.office_checks.proofs.delivering.take_sender.Goals as goal
 
 pub loop-letter-preserved : goal.loop-letter-preserved
