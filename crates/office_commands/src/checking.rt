@@ -10,7 +10,7 @@ use office_store::Keeper;
 
 /// Prints what a check of a store finds, and gives the exit status.
 pub fn tell_check<K: Keeper>(rt: &HostRuntime, setup: &Setup, keeper: &mut K) -> u8
-    requires { K.setup keeper ≡ setup.now }
+    requires { K.setup keeper.old ≡ setup.now }
 {
     match check(rt.alloc(), setup, keeper) {
         Ok(checked) => print_checked(rt, setup, checked),

@@ -15,7 +15,7 @@ pub fn check_in<K: Keeper>(
     keeper: &mut K,
     came: &mut Vec<u8>,
 ) -> Result<(), NoMemory>
-    requires { K.setup keeper ≡ setup.now }
+    requires { K.setup keeper.old ≡ setup.now }
 {
     match check(alloc, setup, keeper) {
         Ok(checked) => put_checked(alloc, setup, checked, came),

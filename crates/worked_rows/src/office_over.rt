@@ -128,7 +128,7 @@ fn told_in<K: Keeper>(
     steps: &str,
     came: &mut Vec<u8>,
 ) -> Result<(), NoMemory>
-    requires { K.setup keeper ≡ setup.now }
+    requires { K.setup keeper.old ≡ setup.now }
 {
     if tells_check(steps) {
         check_in(alloc, setup, keeper, came)
