@@ -96,8 +96,7 @@ The messages stand by sender and number. An office that replays the bag has the 
 const CHECK: &str =
     "Makes each run anew from the mail that the store in a file keeps, and tells whether the store is the same";
 
-const AFTER_CHECK: &str =
-    "Example: office check --conf examples/setup.conf --db store.db
+const AFTER_CHECK: &str = "Example: office check --conf examples/setup.conf --db store.db
 
 Prints one line: whole F runs, or the first difference: mail SENDER NUMBER, a kept text that is no message of that
 sender and number; run K mail, where not all that the run covers is kept; run K excuses or run K update, a report
