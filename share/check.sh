@@ -236,7 +236,7 @@ package_is_clean() {
 }
 
 options_are_told() {
-    for command in compare replay serve waiting report runs mail export; do
+    for command in compare replay serve waiting report runs mail export check; do
         "$program" "$command" --help | sed -n 's/^  *\(-h, \)\{0,1\}--\([a-z]*\).*/\2/p' > "$work/options"
         grep -qx help "$work/options" || { echo "$command --help tells no option" && return 1; }
         while read -r option; do
@@ -272,8 +272,16 @@ store_is_exported() {
     sed -n '/^ready /,$p' "$work/again" | cmp - "$work/due"
 }
 
+store_is_whole() {
+    "$program" check --conf ../examples/setup.conf --db "$work/store" > "$work/checked" || return 1
+    [ "$(cat "$work/checked")" = 'whole 2 runs' ] || { cat "$work/checked" && return 1; }
+    ./office-check-store ../examples/setup.conf "$work/store"
+}
+
 store_differs() {
     sqlite3 "$work/store" "UPDATE run SET updates = updates || 'accept more 1' || char(10) WHERE number = 1" || return 1
+    ends 1 "$program" check --conf ../examples/setup.conf --db "$work/store" > "$work/checked" || return 1
+    [ "$(cat "$work/checked")" = 'run 1 update' ] || { cat "$work/checked" && return 1; }
     ends 1 ./office-check-store ../examples/setup.conf "$work/store"
 }
 
@@ -316,9 +324,8 @@ if [ -n "$program" ]; then
     try "the program's version, and that of CHANGELOG.md" version_is_told
     try "manual page: the replay of its example" example_is_true
     try_by sqlite3 "office-export: a store's mail as a bag" store_is_exported
-    try_by sqlite3 "office-check-store: a store as it was left" \
-        ./office-check-store ../examples/setup.conf "$work/store"
-    try_by sqlite3 "office-check-store: a report that was edited" store_differs
+    try_by sqlite3 "office check, office-check-store: a store as it was left" store_is_whole
+    try_by sqlite3 "office check, office-check-store: a report that was edited" store_differs
 else
     echo "skipped: what needs the built program: none is named"
 fi

@@ -27,6 +27,7 @@ ASKED = {
     "mail": (["mail"], 0),
     "mail --list": (["mail", "--list"], 0),
     "export": (["export"], 0),
+    "check": (["check"], 0),
 }
 
 

@@ -41,7 +41,7 @@ _office() {
         --port | --connections) return ;;
     esac
     if ((COMP_CWORD == 1)); then
-        _office_words 'compare replay serve waiting report runs mail export --help --version' "$current"
+        _office_words 'compare replay serve waiting report runs mail export check --help --version' "$current"
         return
     fi
     case $command in
@@ -59,7 +59,7 @@ _office() {
             esac
             _office_words "$(_office_options --conf --db)" "$current"
             ;;
-        runs | export) _office_words "$(_office_options --conf --db)" "$current" ;;
+        runs | export | check) _office_words "$(_office_options --conf --db)" "$current" ;;
         mail) _office_words "$(_office_options --conf --db --list)" "$current" ;;
         serve) _office_words "$(_office_options --conf --port --db --connections)" "$current" ;;
     esac

@@ -189,8 +189,8 @@ def row_of(seed):
     archive, runs, steps = Archive(draw), draw.randint(3, 5), []
     for run in range(1, runs + 1):
         steps.append("> bag\n" + "\n--\n".join(archive.mail_of_a_run(run, runs)))
-    told = "\n> facts" if draw.random() < .6 else ""
-    return "=== opened again behind every run, random %d\n%s%s\n" % (seed, "\n> reopen\n".join(steps), told)
+    told = "facts" if draw.random() < .6 else "check"
+    return "=== opened again behind every run, random %d\n%s\n> %s\n" % (seed, "\n> reopen\n".join(steps), told)
 
 
 if __name__ == "__main__":

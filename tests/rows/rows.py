@@ -96,8 +96,12 @@ def judged(lines, statement):
         if not parts or parts[-1][-1:] and parts[-1][-1].startswith("status "):
             parts.append([])
         parts[-1].append(line)
-    for what, text in steps_of(lines):
-        if what == "reopen" or what.startswith("sql "):
+    steps = steps_of(lines)
+    for place, (what, text) in enumerate(steps, 1):
+        if what == "reopen" or what.startswith("sql ") or what == "check" and place < len(steps):
+            continue
+        if what == "check":
+            out += "whole %d runs\nstatus 0\n" % office.finished
             continue
         if what == "asked":
             out += "".join(line + "\n" for line in statement.split("\n") if re.match("counted |asked ", line))

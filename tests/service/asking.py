@@ -6,11 +6,14 @@
 PROGRAM is the built program, `crates/office/out/office`. For each seed from FIRST to LAST (1-40) some of the mail of
 tests/rows/reopened_rows.py is left out. Then `office waiting` has to tell what the model misses, over the bag and over
 a store, `office report` the texts of each finished run, `office runs` and `office mail` what they count, `office
-export` the kept mail, and the service the same on its pages. The bytes of the store's file have to be the same before
-and after. A replay has to tell refused messages on standard error. Exit status 0 where all was as it is due.
+export` the kept mail, `office check` that all is whole, and the service the same on its pages. The bytes of the store's
+file have to be the same before and after. A copy of a store in which Python's sqlite3 changes a text or a row has to be
+told by `office check`. A replay has to tell refused messages on standard error. Exit status 0 where all was as it is due.
 """
 import os
 import random
+import shutil
+import sqlite3
 import subprocess
 import sys
 import tempfile
@@ -22,7 +25,8 @@ from model import Office, SENDERS, paragraphs
 from reopened_rows import row_of
 from rows import mail, rows_of, steps_of
 
-CONF = os.path.join(TESTS, "..", "examples", "setup.conf")
+EXAMPLES = os.path.join(TESTS, "..", "examples")
+CONF = os.path.join(EXAMPLES, "setup.conf")
 CLOCK = SENDERS.index("clock")
 program = os.path.abspath(sys.argv[1])
 seeds = sys.argv[2] if len(sys.argv) > 2 else "1-40"
@@ -149,6 +153,7 @@ def over_a_store(seed, office, store):
     want("%d: mail" % seed, (mail_lines(office), 0), call("mail", *stored))
     want("%d: mail --list" % seed, (list_lines(office), 0), call("mail", *stored, "--list"))
     want("%d: export" % seed, (kept_bag(office), 0), call("export", *stored))
+    want("%d: check" % seed, ("whole %d runs\n" % office.finished, 0), call("check", *stored))
     want("%d: the store's bytes" % seed, True, before == bytes_of(store))
     if seed % 5 == 0:
         by_service(seed, office, store, due[0])
@@ -183,12 +188,63 @@ def words(folder):
     rows = [(["report", "0", "excuses"], 2), (["report", "1"], 2), (["report", "x", "update"], 2),
             (["report", "testing", "update"], 2), (["report", "1", "testing"], 2), (["report", "1", "excuses"], 4),
             (["report", "testing"], 4), (["waiting"], 4), (["runs"], 4), (["mail"], 4), (["mail", "--list"], 4),
-            (["export"], 4), (["runs", "--list"], 2)]
+            (["export"], 4), (["check"], 4), (["runs", "--list"], 2), (["check", "--list"], 2)]
     for row, status in rows:
         want("words %s" % row, ("", status), call(*row, *stored))
         want("words %s, the file" % row, False, os.path.exists(none))
     want("version", ("office ", 0), (call("--version")[0][:7], call("--version")[1]))
     want("version with more words", 2, call("--version", "replay")[1])
+
+
+def changed_text(sender, number, old, new):
+    """What changes the bytes of a kept message."""
+    def change(store):
+        where = "WHERE sender = ? AND number = ?"
+        (body,), = store.execute("SELECT body FROM mail " + where, (sender, number))
+        assert body.count(old) == 1, body
+        store.execute("UPDATE mail SET body = ? " + where, (body.replace(old, new), sender, number))
+    return change
+
+
+def changed_rows(words):
+    """What changes rows, by a statement of SQL."""
+    def change(store):
+        assert store.execute(words).rowcount > 0, words
+    return change
+
+
+# What is changed of the store of examples/archive.bag, which has two runs, and what a check tells of it then.
+CHANGES = [
+    (changed_text(1, 2, b"From", b"Fr\0m"), "mail bd 2"),
+    (changed_text(4, 2, b"Number: 2", b"Number: 3"), "mail clock 2"),
+    (changed_text(0, 1, b"Day: 2025-03-01", b"Day: 2025-02-01"), "run 1 excuses"),
+    (changed_rows("DELETE FROM mail WHERE sender = 2"), "run 1 mail"),
+    (changed_rows("UPDATE run SET excuses = excuses || 'more' WHERE number = 1"), "run 1 excuses"),
+    (changed_rows("UPDATE run SET excuses = '' WHERE number = 2"), "run 2 excuses"),
+    (changed_rows("UPDATE run SET updates = 'U' || substr(updates, 2) WHERE number = 1"), "run 1 update"),
+    (changed_rows("DELETE FROM testing_row WHERE arch = 0 AND name = 'greeter'"), "testing"),
+    (changed_rows("DELETE FROM testing_source WHERE name = 'greeter'"), "testing"),
+    (changed_rows("DELETE FROM fact WHERE rowid = (SELECT min(rowid) FROM fact)"), "facts"),
+    (changed_rows("INSERT OR REPLACE INTO fact_delays VALUES (1, 1)"), "facts"),
+]
+
+
+def differences(folder):
+    """A store that was changed is told by its first difference, and stays as it is. So is one that wasn't."""
+    made = os.path.join(folder, "made.store")
+    with open(os.path.join(EXAMPLES, "archive.bag"), encoding="utf-8") as bag:
+        want("the archive", 0, call("replay", "--conf", CONF, "--db", made, bag=bag.read())[1])
+    rows = [(changed_rows("UPDATE office SET schema = schema"), ("whole 2 runs\n", 0))]
+    rows += [(change, (told + "\n", 1)) for change, told in CHANGES]
+    for place, (change, due) in enumerate(rows):
+        copy = os.path.join(folder, "changed-%d.store" % place)
+        shutil.copyfile(made, copy)
+        with sqlite3.connect(copy) as store:
+            change(store)
+        store.close()
+        before = bytes_of(copy)
+        want("change %d" % place, due, call("check", "--conf", CONF, "--db", copy))
+        want("change %d, the store's bytes" % place, True, before == bytes_of(copy))
 
 
 def refusals():
@@ -206,6 +262,7 @@ def main():
     first, _, last = seeds.partition("-")
     with tempfile.TemporaryDirectory() as folder:
         words(folder)
+        differences(folder)
         refusals()
         for seed in range(int(first), int(last or first) + 1):
             one(seed, folder)

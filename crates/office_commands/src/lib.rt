@@ -1,10 +1,11 @@
 //! What the office's program does with an office: it replays bags of mail from standard input, serves mail and reports
-//! over HTTP on loopback, tells earlier reports and what a run waits for, over a store in memory or in a file, and answers
-//! questions about the runs and the mail of a store in a file.
+//! over HTTP on loopback, tells earlier reports and what a run waits for, over a store in memory or in a file, answers
+//! questions about the runs and the mail of a store in a file, and checks such a store.
 #![tactic(auto)]
 
 mod asking;
 mod batched;
+mod checking;
 mod noted;
 mod service;
 mod tasks;

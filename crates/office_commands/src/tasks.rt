@@ -1,11 +1,14 @@
 //! What the program's words ask for: a comparison, the version, or a task over a store.
 
 use crate::asking::{Question, tell_answer};
+use crate::checking::tell_check;
 use crate::noted::Noted;
 use crate::service::{serve, service_status};
 use crate::telling::{tell_report, tell_version, tell_waiting};
 use crate::watched::Watched;
-use office_files::{StoreFault, close_store, conf_status, open_store, read_setup, store_status};
+use office_files::{
+    ConfFault, StoreFault, close_store, conf_status, open_store, read_setup, store_status,
+};
 use office_http::{Office, Replayed, WriteFault, replay, replay_status};
 use office_mail::{Bag, BagFault, FromRead, Setup, ToWrite};
 use office_store::{Keeper, Plain, Tables};
@@ -52,6 +55,7 @@ pub fn run_command(rt: &HostRuntime, words: Words) -> u8 {
         Words::Runs { conf, db } => answer_for(rt, conf, db, Question::Runs),
         Words::Mail { conf, db, list } => answer_for(rt, conf, db, mail_question(list)),
         Words::Export { conf, db } => answer_for(rt, conf, db, Question::Export),
+        Words::Check { conf, db } => check_for(rt, conf, db),
         Words::Version => tell_version(rt),
     }
 }
@@ -78,32 +82,68 @@ fn run_for(rt: &HostRuntime, conf: &str, db: Option<&str>, task: Task) -> u8 {
             Some(path) => run_stored(rt, path, setup, task),
             None => run_in_memory(rt, setup, task),
         },
-        Err(fault) => {
-            let _ = eprintln!(rt; "office: {conf}: {fault}");
-            conf_status(&fault)
-        }
+        Err(fault) => tell_setup(rt, conf, &fault),
     }
+}
+
+/// Checks the store in a file for the setup in another.
+fn check_for(rt: &HostRuntime, conf: &str, db: &str) -> u8 {
+    match read_setup(rt, conf) {
+        Ok(setup) => check_stored(rt, db, &setup),
+        Err(fault) => tell_setup(rt, conf, &fault),
+    }
+}
+
+/// Says on standard error why the setup in a file is refused, and gives the exit status.
+fn tell_setup(rt: &HostRuntime, conf: &str, fault: &ConfFault) -> u8 {
+    let _ = eprintln!(rt; "office: {conf}: {fault}");
+    conf_status(fault)
+}
+
+/// Looks whether a file is there.
+fn find_file(rt: &HostRuntime, path: &str) -> io::Result<()> {
+    fs::open(rt, path).map(drop)
 }
 
 /// Looks whether the file is there that a task tells of. Only a replay and a service make one.
 fn look_at(rt: &HostRuntime, path: &str, task: Task) -> io::Result<()> {
     match task {
-        Task::Waiting | Task::Report(_) | Task::Answer(_) => fs::open(rt, path).map(drop),
+        Task::Waiting | Task::Report(_) | Task::Answer(_) => find_file(rt, path),
         Task::Replay | Task::Serve { .. } | Task::BagWaiting => Ok(()),
     }
+}
+
+/// Says on standard error why a store's file can't be read, and gives the exit status.
+fn tell_unfound(rt: &HostRuntime, path: &str, fault: io::Error) -> u8 {
+    let _ = eprintln!(rt; "office: {path}: the file can't be read: {fault}");
+    FAILED
 }
 
 /// Does a task in an office whose store is in a file.
 fn run_stored(rt: &HostRuntime, path: &str, setup: Setup, task: Task) -> u8 {
     if let Err(fault) = look_at(rt, path, task) {
-        let _ = eprintln!(rt; "office: {path}: the file can't be read: {fault}");
-        return FAILED;
+        return tell_unfound(rt, path, fault);
     }
     match open_store(rt, path, Unknown, &setup) {
         Ok(tables) => {
             let mut office = Office::new(rt.alloc(), setup, tables);
             let status = run_over(rt, &mut office, task);
             end_store(rt, path, office.into_keeper(), status)
+        }
+        Err(fault) => tell_store(rt, path, &fault),
+    }
+}
+
+/// Checks the store in a file.
+fn check_stored(rt: &HostRuntime, path: &str, setup: &Setup) -> u8 {
+    if let Err(fault) = find_file(rt, path) {
+        return tell_unfound(rt, path, fault);
+    }
+    match open_store(rt, path, Unknown, setup) {
+        Ok(tables) => {
+            let mut tables = tables;
+            let status = tell_check(rt, setup, &mut tables);
+            end_store(rt, path, tables, status)
         }
         Err(fault) => tell_store(rt, path, &fault),
     }

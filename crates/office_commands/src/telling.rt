@@ -13,8 +13,8 @@ use office_words::Report;
 /// The exit status where memory, the store or standard output failed.
 const FAILED: u8 = 4;
 
-/// The exit status where a run isn't finished, or waits for mail, and where a store isn't whole.
-pub(crate) const MISSING: u8 = 1;
+/// The exit status where a run isn't finished, or waits for mail.
+const MISSING: u8 = 1;
 
 /// The program's version.
 const VERSION: &str = "0.10.0";

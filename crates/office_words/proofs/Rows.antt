@@ -2,7 +2,7 @@
 use Rattle.std.proofs.Common.{◌≡◌, true, false, refl, codes, [], ◌∷◌, Some, None}
 use Rattle.clap.proofs.OnLiterals.{clap_on_literals}
 use Rattle.office_words.specs.Program.{of_five, of_three, office}
-use Rattle.office_words.specs.Asked.{ToCompare, ToExport, ToRefuseReport, ToReplay, ToReport, ToServe, ToTellMail, ToTellRuns, ToTellVersion, ToTellWaiting, command_words_in, words_in}
+use Rattle.office_words.specs.Asked.{ToCheck, ToCompare, ToExport, ToRefuseReport, ToReplay, ToReport, ToServe, ToTellMail, ToTellRuns, ToTellVersion, ToTellWaiting, command_words_in, words_in}
 use Rattle.office_words.specs.declared.reports.Report.TheVariants.{Excuses, Testing, Update}
 
 -- a service with its defaults
@@ -121,6 +121,14 @@ export_of_a_file = refl
 no_export_without_a_setup : words_in (codes "office" ∷ codes "export" ∷ codes "--db" ∷ codes "g" ∷ []) ≡ None
 unfolding clap_on_literals of_three of_five office command_words_in words_in
 no_export_without_a_setup = refl
+
+check_of_a_file : words_in (codes "office" ∷ codes "check" ∷ codes "--conf" ∷ codes "f" ∷ codes "--db=g" ∷ []) ≡ Some (ToCheck (codes "f") (codes "g"))
+unfolding clap_on_literals of_three of_five office command_words_in words_in
+check_of_a_file = refl
+
+no_check_in_memory : words_in (codes "office" ∷ codes "check" ∷ codes "--conf" ∷ codes "f" ∷ []) ≡ None
+unfolding clap_on_literals of_three of_five office command_words_in words_in
+no_check_in_memory = refl
 
 -- mail by counts, or message by message; a flag has no value, and stands once
 mail_by_counts : words_in (codes "office" ∷ codes "mail" ∷ codes "--conf" ∷ codes "f" ∷ codes "--db" ∷ codes "g" ∷ []) ≡ Some (ToTellMail false (codes "f") (codes "g"))

@@ -11,7 +11,7 @@ use Rattle.clap.specs.Kinds.{check_kinds, or_else}
 use Rattle.clap.specs.Simple.{App, Shape, argument_words, built, built_leaf, entered, filled, help_rule, inherited, label_of, names_of, rows_at, subcommand_of, with_index}
 use Rattle.clap.specs.Walk.{Row, Rule, Text, answers_to, finished, first_of, has_row, nothing_held, rows_after, settled, stop_after, walk, walk_from, with_default}
 use Rattle.office_words.specs.Program as program
-use Rattle.office_words.specs.Asked.{Asked, ToExport, ToReplay, ToTellMail, ToTellRuns, ToTellWaiting, asked_by, command_in, compare_of, is_set, number_in, of_store, report_from, serve_of, stored_in}
+use Rattle.office_words.specs.Asked.{Asked, ToCheck, ToExport, ToReplay, ToTellMail, ToTellRuns, ToTellWaiting, asked_by, command_in, compare_of, is_set, number_in, of_store, report_from, serve_of, stored_in}
 use Rattle.office_words.proofs.Walks.{EachKeeps, never_none, no_kinds}
 use Rattle.office_words.proofs.Values.{Good, HasFirst, fits, default_there, given_first, keeps_flag, keeps_help, keeps_value, level_leaves, no_default, numbers_accepted, row_first}
 
@@ -143,6 +143,10 @@ export_reads : Reads (leaf program.export)
 unfolding program.of_three program.of_five program.office
 export_reads words none = looking_reads (codes "export") ToExport words none
 
+check_reads : Reads (leaf program.check)
+unfolding program.of_three program.of_five program.office
+check_reads words none = looking_reads (codes "check") ToCheck words none
+
 mail_reads : Reads (leaf program.mail)
 unfolding program.of_three program.of_five program.office
 mail_reads words none =
@@ -266,4 +270,4 @@ command_reads a words required each none =
 pub taken_words_ask : (words : List Text) → fault_of program.office words ≡ [] → is_some (asked_by (subcommand_of program.office words)) ≡ true
 unfolding program.of_three program.of_five program.office
 taken_words_ask words none =
-    command_reads (built program.office) (argument_words program.office words) refl (compare_reads, (replay_reads, (serve_reads, (waiting_reads, (report_reads, (runs_reads, (mail_reads, (export_reads, tt)))))))) none
+    command_reads (built program.office) (argument_words program.office words) refl (compare_reads, (replay_reads, (serve_reads, (waiting_reads, (report_reads, (runs_reads, (mail_reads, (export_reads, (check_reads, tt))))))))) none

@@ -11,13 +11,13 @@ use Rattle.office_words.specs.Program.{office}
 use Rattle.office_words.specs.declared.Words.{Words}
 use Rattle.office_words.specs.declared.WordsFault.{WordsFault}
 use Rattle.office_words.specs.declared.WordsFault.TheVariants.{NoMemory, Usage}
-use Rattle.office_words.specs.declared.Words.TheVariants.{Compare, Replay, Serve, Waiting, Report, UnknownReport, Runs, Mail, Export, Version}
+use Rattle.office_words.specs.declared.Words.TheVariants.{Compare, Replay, Serve, Waiting, Report, UnknownReport, Runs, Mail, Export, Check, Version}
 use Rattle.office_words.specs.declared.reports.Report.{Report as ReportName}
 use Rattle.office_words.specs.declared.reports.Report.TheVariants.{Testing, Excuses, Update}
 
 -- what is asked: to compare two versions by an operator; to replay a bag for the setup in a file, over a store in a file or in memory;
 -- to serve so many connections for it on a port; to tell what a run waits for; to tell a report, or one that isn't known; to tell the
--- finished runs; to tell the kept mail, by counts or message by message; to export it; or the version
+-- finished runs; to tell the kept mail, by counts or message by message; to export it; to check the store; or the version
 pub data Asked : Type 0 where
   ToCompare : Text → Text → Text → Asked
   ToReplay : Text → Option Text → Asked
@@ -28,6 +28,7 @@ pub data Asked : Type 0 where
   ToTellRuns : Text → Text → Asked
   ToTellMail : Bool → Text → Text → Asked
   ToExport : Text → Text → Asked
+  ToCheck : Text → Text → Asked
   ToTellVersion : Asked
 
 abbrev pub asked : Words → Asked
@@ -40,6 +41,7 @@ asked (UnknownReport run report) = ToRefuseReport run.now (option_map (λ text. 
 asked (Runs conf db) = ToTellRuns conf.now db.now
 asked (Mail conf db list) = ToTellMail list conf.now db.now
 asked (Export conf db) = ToExport conf.now db.now
+asked (Check conf db) = ToCheck conf.now db.now
 asked Version = ToTellVersion
 
 -- decimal digits, of a number of 32 bits
@@ -127,6 +129,7 @@ command_in name rows =
     else if bytes_eq name (codes "runs") then stored_in ToTellRuns rows
     else if bytes_eq name (codes "mail") then mail_in rows
     else if bytes_eq name (codes "export") then stored_in ToExport rows
+    else if bytes_eq name (codes "check") then stored_in ToCheck rows
     else None
 
 -- by the command that the words name and what they give it

@@ -64,12 +64,15 @@ report = with_rule (with_rule (with_rule (with_rule (new_app (codes "report")) (
 abbrev pub looking : Text → App
 looking name = with_rule (with_rule (new_app name) conf) stored
 
--- `runs` and `export`, which take no more
+-- `runs`, `export` and `check`, which take no more
 abbrev pub runs : App
 runs = looking (codes "runs")
 
 abbrev pub export : App
 export = looking (codes "export")
+
+abbrev pub check : App
+check = looking (codes "check")
 
 -- `mail --conf F --db F [--list]`
 abbrev pub listed : Rule
@@ -96,6 +99,6 @@ of_three = with_subcommand (with_subcommand (with_subcommand bare compare.top) r
 unfoldable pub of_five : App
 of_five = with_subcommand (with_subcommand of_three waiting.top) report.top
 
--- the program's command, which also tells runs and mail, and exports mail
+-- the program's command, which also tells runs and mail, exports mail, and checks a store
 unfoldable pub office : App
-office = with_subcommand (with_subcommand (with_subcommand of_five runs.top) mail.top) export.top
+office = with_subcommand (with_subcommand (with_subcommand (with_subcommand of_five runs.top) mail.top) export.top) check.top

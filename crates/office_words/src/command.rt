@@ -13,11 +13,11 @@ const ABOUT: &str = "Decides which Debian source packages migrate from unstable 
 const AFTER: &str =
     "office --version tells the version. Each command has its own help: office compare --help, office replay --help,
 office serve --help, office waiting --help, office report --help, office runs --help, office mail --help,
-office export --help.
+office export --help, office check --help.
 
-Exit status: 0 done, or the comparison is true; 1 the comparison is false, an ordered run waits for mail, or the run
-of a report isn't finished; 2 usage, or help was asked for; 3 a version, the setup or the bag was refused; 4 memory, a
-file, the store, the socket or the output failed.";
+Exit status: 0 done, or the comparison is true; 1 the comparison is false, an ordered run waits for mail, the run of a
+report isn't finished, or the store isn't what its mail gives; 2 usage, or help was asked for; 3 a version, the setup
+or the bag was refused; 4 memory, a file, the store, the socket or the output failed.";
 
 const COMPARE: &str =
     "Compares two versions as Debian Policy 5.6.12 orders them: status 0 true, 1 false";
@@ -92,6 +92,15 @@ const AFTER_EXPORT: &str =
     "Example: office export --conf examples/setup.conf --db store.db > store.bag
 
 The messages stand by sender and number. An office that replays the bag has the same runs.";
+
+const CHECK: &str =
+    "Makes each run anew from the mail that the store in a file keeps, and tells whether the store is the same";
+
+const AFTER_CHECK: &str = "Example: office check --conf examples/setup.conf --db store.db
+
+Prints one line: whole F runs, or the first difference: mail SENDER NUMBER, a kept text that is no message of that
+sender and number; run K mail, where not all that the run covers is kept; run K excuses or run K update, a report
+that differs; testing; facts. Nothing is changed. Status 1: a difference.";
 
 const SETUP: &str =
     "The file of the setup: the architectures, and the senders of mail with their roles";
@@ -307,6 +316,7 @@ pub(crate) fn office_command<'a>(alloc: Global) -> Result<Command<'a>, AllocErro
     let whole = command_of_five(alloc)?
         .subcommand(looking_command(alloc, "runs", RUNS, AFTER_RUNS)?)?
         .subcommand(mail_command(alloc)?)?
-        .subcommand(looking_command(alloc, "export", EXPORT, AFTER_EXPORT)?)?;
+        .subcommand(looking_command(alloc, "export", EXPORT, AFTER_EXPORT)?)?
+        .subcommand(looking_command(alloc, "check", CHECK, AFTER_CHECK)?)?;
     Ok(whole)
 }

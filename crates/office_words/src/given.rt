@@ -2,7 +2,7 @@
 
 ghost use Rattle.std.specs.Prelude.{◌≡◌, option_map};
 ghost use Rattle.clap.specs.Words.{first_of, found_of, rows_of, subcommand_rows_of};
-ghost use Rattle.office_words.specs.Asked.{ToExport, ToTellRuns, asked, asked_by, command_in, compare_in, is_set, mail_in, number_of, replay_in, report_in, report_of, serve_in, asked_report, stored_in, waiting_in};
+ghost use Rattle.office_words.specs.Asked.{ToCheck, ToExport, ToTellRuns, asked, asked_by, command_in, compare_in, is_set, mail_in, number_of, replay_in, report_in, report_of, serve_in, asked_report, stored_in, waiting_in};
 
 use crate::Words;
 use crate::reports::{number_in, report_of};
@@ -125,6 +125,14 @@ fn export_words<'a>(given: &ArgMatches<'a>) -> Option<Words<'a>>
     Some(Words::Export { conf, db })
 }
 
+fn check_words<'a>(given: &ArgMatches<'a>) -> Option<Words<'a>>
+    ensures { option_map asked result ≡ stored_in ToCheck (rows_of (found_of given.now)) }
+{
+    let conf = text_of(given, "conf")?;
+    let db = text_of(given, "db")?;
+    Some(Words::Check { conf, db })
+}
+
 fn command_words<'a>(name: &str, given: &ArgMatches<'a>) -> Option<Words<'a>>
     ensures { option_map asked result ≡ command_in name.now (rows_of (found_of given.now)) }
 {
@@ -137,6 +145,7 @@ fn command_words<'a>(name: &str, given: &ArgMatches<'a>) -> Option<Words<'a>>
         "runs" => runs_words(given),
         "mail" => mail_words(given),
         "export" => export_words(given),
+        "check" => check_words(given),
         _ => None,
     }
 }

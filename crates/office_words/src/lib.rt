@@ -79,6 +79,11 @@ pub enum Words<'a> {
         conf: &'a str,
         db: &'a str,
     },
+    /// Tell whether the store in a file is what its mail gives.
+    Check {
+        conf: &'a str,
+        db: &'a str,
+    },
     /// Tell the program's version.
     Version,
 }
@@ -138,8 +143,8 @@ fn read_command<'a>(alloc: Global, words: &'a [&'a str]) -> Result<Words<'a>, Wo
 /// What the words ask for, the program's name being the first. `--version` alone asks for the version. All other words
 /// are read as clap reads them in the command `office` with its subcommands `compare V1 OP V2`, `replay --conf F
 /// [--db F]`, `serve --conf F --port N [--db F] [--connections C]`, `waiting --conf F [--db F]`, `report RUN [REPORT]
-/// --conf F --db F`, `runs --conf F --db F`, `mail --conf F --db F [--list]` and `export --conf F --db F`, where N
-/// is from 1 to 65,535 and C from 0 to 1,000,000, which it is where it isn't given.
+/// --conf F --db F`, `runs --conf F --db F`, `mail --conf F --db F [--list]`, `export --conf F --db F` and `check
+/// --conf F --db F`, where N is from 1 to 65,535 and C from 0 to 1,000,000, which it is where it isn't given.
 ///
 /// Refused as `Usage` are words in which clap finds a fault, a request for help among them.
 pub fn read_words<'a>(alloc: Global, words: &'a [&'a str]) -> Result<Words<'a>, WordsFault>

@@ -6,6 +6,7 @@
 mod asking;
 mod bytes;
 mod chains;
+mod checking;
 mod failing;
 mod noting;
 mod office_over;

@@ -1,6 +1,8 @@
 //! Offices for rows, over each store.
+ghost use Rattle.std.specs.Prelude.{◌≡◌};
 
-use crate::sitting::{setup_in, sit, tells_facts};
+use crate::checking::check_in;
+use crate::sitting::{setup_in, sit, tells_check, tells_facts};
 use crate::steps::facts_in;
 use deb_version::NoMemory;
 use office_http::Office;
@@ -31,7 +33,8 @@ pub fn in_memory(alloc: Global, row: &str) -> Result<Vec<u8>, NoMemory> {
     for sitting in row.split(REOPEN) {
         sit(alloc, &mut office, sitting, &mut came)?;
     }
-    told_in(alloc, &mut office.into_keeper(), row, &mut came)?;
+    let (_plain, told) = told_over(alloc, office, row, &mut came);
+    told?;
     Ok(came)
 }
 
@@ -87,8 +90,7 @@ fn sit_over<S: Alter + Drop>(
         Ok(tables) => {
             let mut office = Office::new(alloc, setup, tables);
             let sat = sit(alloc, &mut office, sitting, came);
-            let mut tables = office.into_keeper();
-            let told = told_in(alloc, &mut tables, sitting, came);
+            let (tables, told) = told_over(alloc, office, sitting, came);
             let conn = tables.into_connection();
             sat?;
             told?;
@@ -102,17 +104,39 @@ fn sit_over<S: Alter + Drop>(
     }
 }
 
-/// Adds the facts that a store keeps, where they are told behind these steps.
+/// The store of an office, once what is told behind its steps is added.
+fn told_over<K: Keeper>(
+    alloc: Global,
+    office: Office<K>,
+    steps: &str,
+    came: &mut Vec<u8>,
+) -> (K, Result<(), NoMemory>) {
+    let copied = office.setup().copy(alloc);
+    let mut keeper = office.into_keeper();
+    let told = match copied {
+        Ok(setup) => told_in(alloc, &setup, &mut keeper, steps, came),
+        Err(fault) => Err(fault),
+    };
+    (keeper, told)
+}
+
+/// Adds what is told behind these steps: what a check of the store finds, or the facts that it keeps.
 fn told_in<K: Keeper>(
     alloc: Global,
+    setup: &Setup,
     keeper: &mut K,
     steps: &str,
     came: &mut Vec<u8>,
-) -> Result<(), NoMemory> {
-    if tells_facts(steps) {
-        facts_in(alloc, keeper, came)?;
+) -> Result<(), NoMemory>
+    requires { K.setup keeper.old ≡ setup.now }
+{
+    if tells_check(steps) {
+        check_in(alloc, setup, keeper, came)
+    } else if tells_facts(steps) {
+        facts_in(alloc, keeper, came)
+    } else {
+        Ok(())
     }
-    Ok(())
 }
 
 /// Adds why a setup is refused.

@@ -81,12 +81,21 @@ fn take<K: Keeper>(
 
 /// Whether a step is a setup or a statement, which come before an opening, or what is told behind the last step.
 fn is_told(what: &str) -> bool {
-    what == "setup" || what == "facts" || what == "asked" || what.starts_with("sql ")
+    what == "setup"
+        || what == "facts"
+        || what == "check"
+        || what == "asked"
+        || what.starts_with("sql ")
 }
 
 /// Whether the facts that are kept are told behind these steps.
 pub fn tells_facts(steps: &str) -> bool {
     steps.lines().last() == Some("> facts")
+}
+
+/// Whether the store is checked behind these steps.
+pub fn tells_check(steps: &str) -> bool {
+    steps.lines().last() == Some("> check")
 }
 
 /// Whether it is told which mail these steps ask a store for.
