@@ -21,7 +21,8 @@ from collections import defaultdict
 from pathlib import Path
 
 USERS = ['deb_version', 'deb_control', 'testing_install', 'testing_rules', 'office_mail', 'office_store',
-         'office_questions', 'office_http', 'office_words', 'office_files', 'office_commands', 'office']
+         'office_questions', 'office_checks', 'office_http', 'office_words', 'office_files', 'office_commands',
+         'office']
 STEPS = '-- Steps: no contract of a call that users make rests on this file.'
 CLAUSE = re.compile(r'\b(requires|ensures|before)\b\s*[\w-]*\s*$')
 ITEM = re.compile(r'(?P<pub>pub(?:\([a-z]+\))?\s+)?(?P<ghost>ghost\s+)?(?:unsafe\s+)?(?:const\s+(?=fn\b))?(?:(?P<kind>'
