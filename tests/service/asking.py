@@ -8,7 +8,8 @@ tests/rows/reopened_rows.py is left out. Then `office waiting` has to tell what 
 a store, `office report` the texts of each finished run, `office runs` and `office mail` what they count, `office
 export` the kept mail, `office check` that all is whole, and the service the same on its pages. The bytes of the store's
 file have to be the same before and after. A copy of a store in which Python's sqlite3 changes a text or a row has to be
-told by `office check`. A replay has to tell refused messages on standard error. Exit status 0 where all was as it is due.
+told by `office check`. A replay has to tell refused messages on standard error. Exit status 0 where all was as it is
+due.
 """
 import os
 import random
