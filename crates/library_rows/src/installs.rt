@@ -1,0 +1,91 @@
+//! Installable rows, from packages that are told in short.
+
+use deb_control::{Binary, NoMemory, Paragraphs};
+use std::alloc::{AllocError, Global};
+use testing_install::{Row, installable, installable_counted};
+
+/// The control data of a package `NAME VERSION; DEPENDS; PROVIDES`, as `aa 1; bb | cc (>= 2); virt (= 1)`.
+fn control_of(alloc: Global, text: &str) -> Result<String, AllocError> {
+    let (head, rest) = text.split_once(';').unwrap_or((text, ""));
+    let (depends, provides) = rest.split_once(';').unwrap_or((rest, ""));
+    let (name, version) = head.split_once(' ').unwrap_or((head, "1"));
+    format!(in alloc;
+        "Package: {name}\nVersion: {version}\nArchitecture: amd64\nDepends: {depends}\nProvides: {provides}\n"
+    )
+}
+
+/// The package of control data.
+fn read_binary(alloc: Global, control: &str) -> Option<Binary> {
+    let mut reader = Paragraphs::new(alloc, control.as_bytes());
+    match reader.next() {
+        Ok(Some(paragraph)) => Binary::parse(alloc, &paragraph).ok(),
+        _ => None,
+    }
+}
+
+/// The package that a line tells in short.
+pub fn told_binary(alloc: Global, line: &str) -> Result<Option<Binary>, NoMemory> {
+    let control = control_of(alloc, line)?;
+    Ok(read_binary(alloc, control.as_str()))
+}
+
+/// The packages that lines tell in short.
+fn told_binaries(alloc: Global, text: &str) -> Result<Vec<Binary>, NoMemory> {
+    let mut binaries = Vec::new(alloc);
+    for line in text.lines() {
+        if let Some(binary) = told_binary(alloc, line)? {
+            binaries.push(binary)?;
+        }
+    }
+    Ok(binaries)
+}
+
+/// A row for each package.
+fn rows_of<'a>(alloc: Global, binaries: &'a [Binary]) -> Result<Vec<Row<'a>>, NoMemory> {
+    let mut rows = Vec::new(alloc);
+    for binary in binaries {
+        rows.push(Row { binary })?;
+    }
+    Ok(rows)
+}
+
+/// Adds a sign for each answer: `+` for an installable row, `-` for another one.
+fn put_answers(answers: &[bool], came: &mut String) -> Result<(), AllocError> {
+    came.push_str("[")?;
+    for answer in answers {
+        came.push_str(if *answer { "+" } else { "-" })?;
+    }
+    came.push_str("]")
+}
+
+/// Adds which of the packages are installable.
+pub fn put_installable(alloc: Global, text: &str, came: &mut String) -> Result<(), NoMemory> {
+    let binaries = told_binaries(alloc, text)?;
+    let rows = rows_of(alloc, &binaries)?;
+    let answers = installable(alloc, &rows)?;
+    put_answers(&answers, came)?;
+    Ok(came.push_str("\n")?)
+}
+
+/// Adds which of the packages are installable, in how many turns, and whether there were at most so many looks.
+pub fn put_counted(
+    alloc: Global,
+    most: u32,
+    text: &str,
+    came: &mut String,
+) -> Result<(), NoMemory> {
+    let binaries = told_binaries(alloc, text)?;
+    let rows = rows_of(alloc, &binaries)?;
+    let counted = installable_counted(alloc, &rows)?;
+    put_answers(&counted.answers, came)?;
+    let is_within = if counted.looks <= most as u64 {
+        "within"
+    } else {
+        "past"
+    };
+    Ok(write!(
+        came,
+        " in {} turns, {is_within} {most} looks\n",
+        counted.turns
+    )?)
+}

@@ -1,0 +1,60 @@
+//! Steps whose lines are answered one by one.
+
+use crate::plain::plain_bytes;
+use crate::relations::{put_clauses_of, put_holds, put_provisions_of};
+use crate::setups::put_archs;
+use crate::versions::{put_order, put_status, put_told, put_version};
+use crate::words::{put_args_fault, put_words};
+use deb_version::NoMemory;
+use std::str;
+
+/// Takes a step whose lines are answered one by one.
+pub fn take_lines(
+    rt: &HostRuntime,
+    what: &str,
+    text: &str,
+    came: &mut String,
+) -> Result<(), NoMemory> {
+    for line in text.split('\n') {
+        take_line(rt, what, line, came)?;
+    }
+    Ok(())
+}
+
+/// Adds a line as it is written, and the answer to what it stands for.
+fn take_line(rt: &HostRuntime, what: &str, line: &str, came: &mut String) -> Result<(), NoMemory> {
+    write!(came, "{line}: ")?;
+    let bytes = plain_bytes(rt.alloc(), line)?;
+    let text = str::from_utf8(&bytes).unwrap_or("");
+    answer(rt, what, text, came)?;
+    Ok(came.push_str("\n")?)
+}
+
+/// Adds the answer to a text about versions, or to another one.
+fn answer(rt: &HostRuntime, what: &str, text: &str, came: &mut String) -> Result<(), NoMemory> {
+    match what {
+        "version" => put_version(rt.alloc(), text, came),
+        "order" => put_order(text, came),
+        "compare" => put_status(text, came),
+        "tell" => put_told(rt, text, came),
+        _ => other_answer(rt, what, text, came),
+    }
+}
+
+/// Adds the answer to a text about relations, architectures or words.
+fn other_answer(
+    rt: &HostRuntime,
+    what: &str,
+    text: &str,
+    came: &mut String,
+) -> Result<(), NoMemory> {
+    match what {
+        "relations" => put_clauses_of(rt.alloc(), text, came),
+        "provisions" => put_provisions_of(rt.alloc(), text, came),
+        "holds" => put_holds(rt.alloc(), text, came),
+        "archs" => put_archs(rt.alloc(), text, came),
+        "words" => put_words(rt.alloc(), text, came),
+        "arguments" => put_args_fault(text, came),
+        _ => Ok(came.push_str("no such step")?),
+    }
+}

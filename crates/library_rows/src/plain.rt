@@ -1,0 +1,60 @@
+//! Bytes from texts in which a backslash begins what can't be written.
+
+use deb_version::NoMemory;
+use std::alloc::Global;
+
+/// The bytes that a step's text stands for. They end with a line end, but where the text ends with a backslash.
+pub fn bytes_of(alloc: Global, text: &str) -> Result<Vec<u8>, NoMemory> {
+    let mut bytes = plain_bytes(alloc, text)?;
+    if !text.ends_with('\\') {
+        bytes.push(b'\n')?;
+    }
+    Ok(bytes)
+}
+
+/// The bytes that a text stands for.
+pub fn plain_bytes(alloc: Global, text: &str) -> Result<Vec<u8>, NoMemory> {
+    let mut bytes = Vec::new(alloc);
+    let (front, rest) = text.split_once('\\').unwrap_or((text, ""));
+    bytes.extend_from_slice(front.as_bytes())?;
+    for part in rest.split('\\') {
+        put_part(&mut bytes, part)?;
+    }
+    Ok(bytes)
+}
+
+/// Adds what stands behind a backslash, up to the next one.
+fn put_part(bytes: &mut Vec<u8>, part: &str) -> Result<(), NoMemory> {
+    if let Some(repeated) = part.strip_prefix('(') {
+        return put_repeated(bytes, repeated);
+    }
+    if let [letter, rest @ ..] = part.as_bytes() {
+        if let Some(byte) = byte_of(*letter) {
+            bytes.push(byte)?;
+        }
+        bytes.extend_from_slice(rest)?;
+    }
+    Ok(())
+}
+
+/// The byte that a letter behind a backslash stands for. Any other letter, as a line end, stands for none.
+fn byte_of(letter: u8) -> Option<u8> {
+    match letter {
+        b'n' => Some(b'\n'),
+        b'r' => Some(b'\r'),
+        b't' => Some(b'\t'),
+        b's' => Some(b' '),
+        b'f' => Some(255),
+        _ => None,
+    }
+}
+
+/// Adds a text as often as the number before its first colon says.
+fn put_repeated(bytes: &mut Vec<u8>, repeated: &str) -> Result<(), NoMemory> {
+    let (count, text) = repeated.split_once(':').unwrap_or(("0", ""));
+    let count: u32 = count.parse().unwrap_or(0);
+    for _ in 0..count {
+        bytes.extend_from_slice(text.as_bytes())?;
+    }
+    Ok(())
+}

@@ -1,0 +1,48 @@
+//! Setups, and the architectures of names.
+
+use crate::words::words_of;
+use deb_control::NoMemory;
+use office_mail::{Sender, Setup};
+use std::alloc::{AllocError, Global};
+use testing_items::{ALL, Archs};
+
+/// Adds how many architectures the words of a text give, or why they give none.
+pub fn put_archs(alloc: Global, text: &str, came: &mut String) -> Result<(), NoMemory> {
+    let names = words_of(alloc, text)?;
+    match Archs::parse(alloc, &names) {
+        Ok(archs) => Ok(write!(came, "{}", archs.as_slice().len())?),
+        Err(fault) => Ok(write!(came, "refused, {fault}")?),
+    }
+}
+
+/// Adds the name of each architecture, and the one that stands for all.
+fn put_names(archs: &Archs, came: &mut String) -> Result<(), AllocError> {
+    for place in 0..archs.len() {
+        write!(came, "architecture {}\n", archs.name(place))?;
+    }
+    write!(came, "or {}\n", archs.name(ALL))
+}
+
+/// Adds the name of each sender, and its role.
+fn put_senders(senders: &[Sender], came: &mut String) -> Result<(), AllocError> {
+    for sender in senders {
+        write!(came, "sender {} {:?}\n", sender.name.as_str(), sender.role)?;
+    }
+    Ok(())
+}
+
+/// Adds the copy of a setup.
+fn put_copy(alloc: Global, setup: &Setup, came: &mut String) -> Result<(), NoMemory> {
+    let copy = setup.copy(alloc)?;
+    put_names(copy.archs(), came)?;
+    put_senders(copy.senders(), came)?;
+    Ok(write!(came, "runs by {}\n", copy.runs())?)
+}
+
+/// Adds the setup that a text is, or why it is none.
+pub fn put_setup(alloc: Global, bytes: &[u8], came: &mut String) -> Result<(), NoMemory> {
+    match Setup::parse(alloc, bytes) {
+        Ok(setup) => put_copy(alloc, &setup, came),
+        Err(fault) => Ok(write!(came, "refused, {fault}\n")?),
+    }
+}

@@ -1,0 +1,104 @@
+//! Trials and changes of a suite.
+
+use crate::installs::told_binary;
+use deb_control::{Binary, NoMemory};
+use std::alloc::{AllocError, Global};
+use std::mem;
+use std::rc::Rc;
+use testing_install::Suite;
+
+/// The packages that lines tell in short, to be shared.
+fn shared_binaries(alloc: Global, text: &str) -> Result<Vec<Rc<Binary>>, NoMemory> {
+    let mut binaries = Vec::new(alloc);
+    for line in text.lines() {
+        if let Some(binary) = told_binary(alloc, line)? {
+            binaries.push(Rc::new(alloc, binary)?)?;
+        }
+    }
+    Ok(binaries)
+}
+
+/// Puts packages behind the rows of a suite, none of which is there yet.
+pub fn add_rows(alloc: Global, suite: &mut Suite, text: &str) -> Result<(), NoMemory> {
+    let rows = shared_binaries(alloc, text)?;
+    let old = mem::replace(suite, Suite::new(alloc));
+    *suite = old.with_rows(alloc, rows)?;
+    Ok(())
+}
+
+/// The sign of a row: `+` for one that is there and installable, `-` for another one that is there, `.` for one that
+/// isn't there.
+fn sign_at(suite: &Suite, place: usize) -> &'static str {
+    if suite.is_installable(place) {
+        "+"
+    } else if suite.is_there(place) {
+        "-"
+    } else {
+        "."
+    }
+}
+
+/// Adds the sign of each row.
+fn put_signs(suite: &Suite, came: &mut String) -> Result<(), AllocError> {
+    for place in 0..suite.len() {
+        came.push_str(sign_at(suite, place))?;
+    }
+    Ok(())
+}
+
+/// Adds places, in order.
+fn put_places(places: &[usize], came: &mut String) -> Result<(), AllocError> {
+    for place in places {
+        write!(came, " {place}")?;
+    }
+    Ok(())
+}
+
+/// A row's place, from a word.
+fn place_in(word: Option<&str>) -> usize {
+    match word {
+        Some(word) => word.parse().unwrap_or(0),
+        None => 0,
+    }
+}
+
+/// Tries and makes the change in which one row leaves and then two come, and adds the rows that the trial loses, and
+/// the signs behind the trial and behind the change.
+fn put_change(
+    alloc: Global,
+    suite: &mut Suite,
+    line: &str,
+    came: &mut String,
+) -> Result<(), NoMemory> {
+    let count = suite.len();
+    if count == 0 {
+        return Ok(());
+    }
+    let mut words = line.split(' ');
+    let leaving = [place_in(words.next()) % count];
+    let coming = [
+        place_in(words.next()) % count,
+        place_in(words.next()) % count,
+    ];
+    let mut lost = suite.trial(alloc, &leaving, &coming)?;
+    lost.sort()?;
+    put_signs(suite, came)?;
+    put_places(&lost, came)?;
+    suite.change(alloc, &leaving, &coming)?;
+    came.push_str(" ")?;
+    put_signs(suite, came)?;
+    Ok(came.push_str("\n")?)
+}
+
+/// Adds what comes of changes, one after the other.
+pub fn put_changes(
+    alloc: Global,
+    suite: &mut Suite,
+    text: &str,
+    came: &mut String,
+) -> Result<(), NoMemory> {
+    for line in text.lines() {
+        put_change(alloc, suite, line, came)?;
+    }
+    Ok(())
+}

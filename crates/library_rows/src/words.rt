@@ -1,0 +1,32 @@
+//! The words of the program's command line, and faults of its arguments.
+
+use deb_version::NoMemory;
+use office_words::{ArgsFault, args_status, read_words, words_status};
+use std::alloc::Global;
+
+/// The words of a text.
+pub fn words_of<'a>(alloc: Global, text: &'a str) -> Result<Vec<&'a str>, NoMemory> {
+    let mut words = Vec::new(alloc);
+    for word in text.split_whitespace() {
+        words.push(word)?;
+    }
+    Ok(words)
+}
+
+/// Adds what words ask for, or the status for words that ask for nothing.
+pub fn put_words(alloc: Global, text: &str, came: &mut String) -> Result<(), NoMemory> {
+    let words = words_of(alloc, text)?;
+    match read_words(alloc, &words) {
+        Ok(asked) => Ok(write!(came, "{asked:?}")?),
+        Err(fault) => Ok(write!(came, "refused, status {}", words_status(&fault))?),
+    }
+}
+
+/// Adds the sentence of a fault of arguments, and its status.
+pub fn put_args_fault(name: &str, came: &mut String) -> Result<(), NoMemory> {
+    let fault = match name {
+        "NoMemory" => ArgsFault::NoMemory,
+        _ => ArgsFault::NotUtf8,
+    };
+    Ok(write!(came, "{fault}, status {}", args_status(&fault))?)
+}
