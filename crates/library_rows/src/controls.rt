@@ -38,7 +38,7 @@ pub fn put_binary(binary: &Binary, came: &mut String) -> Result<(), AllocError> 
     let source_version = binary.source_version.text();
     write!(
         came,
-        "{name} {version} {architecture} {source} {source_version} "
+        "{name} {version} {architecture} {source} {source_version}"
     )?;
     put_clauses(&binary.clauses, came)?;
     put_provisions(&binary.provides, came)?;

@@ -67,7 +67,7 @@ pub fn put_installable(alloc: Global, text: &str, came: &mut String) -> Result<(
     Ok(came.push_str("\n")?)
 }
 
-/// Adds which of the packages are installable, in how many turns, and whether there were at most so many looks.
+/// Adds which of the packages are installable, in how many turns, and how many looks.
 pub fn put_counted(
     alloc: Global,
     most: u32,
@@ -78,14 +78,17 @@ pub fn put_counted(
     let rows = rows_of(alloc, &binaries)?;
     let counted = installable_counted(alloc, &rows)?;
     put_answers(&counted.answers, came)?;
-    let is_within = if counted.looks <= most as u64 {
-        "within"
+    write!(came, " in {} turns, ", counted.turns)?;
+    Ok(put_looks(counted.looks, most, came)?)
+}
+
+/// Adds whether there were at most so many looks, or how many there were where no number is given.
+fn put_looks(looks: u64, most: u32, came: &mut String) -> Result<(), AllocError> {
+    if most == 0 {
+        write!(came, "{looks} looks\n")
+    } else if looks <= most as u64 {
+        write!(came, "within {most} looks\n")
     } else {
-        "past"
-    };
-    Ok(write!(
-        came,
-        " in {} turns, {is_within} {most} looks\n",
-        counted.turns
-    )?)
+        write!(came, "past {most} looks\n")
+    }
 }

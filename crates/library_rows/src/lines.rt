@@ -21,9 +21,9 @@ pub fn take_lines(
     Ok(())
 }
 
-/// Adds a line as it is written, and the answer to what it stands for.
+/// Adds a line as it is written, and the answer to what it stands for, which begins with a space.
 fn take_line(rt: &HostRuntime, what: &str, line: &str, came: &mut String) -> Result<(), NoMemory> {
-    write!(came, "{line}: ")?;
+    write!(came, "{line}:")?;
     let bytes = plain_bytes(rt.alloc(), line)?;
     let text = str::from_utf8(&bytes).unwrap_or("");
     answer(rt, what, text, came)?;
@@ -55,6 +55,6 @@ fn other_answer(
         "archs" => put_archs(rt.alloc(), text, came),
         "words" => put_words(rt.alloc(), text, came),
         "arguments" => put_args_fault(text, came),
-        _ => Ok(came.push_str("no such step")?),
+        _ => Ok(came.push_str(" no such step")?),
     }
 }

@@ -142,8 +142,8 @@ fn put_hint(hint: &Hint, came: &mut String) -> Result<(), AllocError> {
         Hint::Unblock(items) => put_items("unblock", items.as_slice(), came),
         Hint::Easy(items) => put_items("easy", items.as_slice(), came),
         Hint::AgeDays(days, items) => {
-            write!(came, "{days} days ")?;
-            put_items("age-days", items.as_slice(), came)
+            write!(came, "age-days {days}")?;
+            put_items("", items.as_slice(), came)
         }
         Hint::Remove(items) => put_items("remove", items.as_slice(), came),
         Hint::BlockAll => came.push_str("block-all\n"),

@@ -13,7 +13,7 @@ pub fn put_clauses(clauses: &Clauses, came: &mut String) -> Result<(), AllocErro
 }
 
 fn put_clause(clause: &Clause, came: &mut String) -> Result<(), AllocError> {
-    came.push_str("{")?;
+    came.push_str(" {")?;
     for alternative in clause.as_slice() {
         put_alternative(alternative, came)?;
     }
@@ -53,7 +53,7 @@ fn put_provision(provision: &Provision, came: &mut String) -> Result<(), AllocEr
 
 /// Adds why a text is refused.
 fn put_refused(fault: RelationFault, came: &mut String) -> Result<(), AllocError> {
-    write!(came, "refused, {fault}")
+    write!(came, " refused, {fault}")
 }
 
 /// Adds the clauses that a text is read as.
@@ -76,10 +76,10 @@ pub fn put_provisions_of(alloc: Global, text: &str, came: &mut String) -> Result
 pub fn put_holds(alloc: Global, text: &str, came: &mut String) -> Result<(), NoMemory> {
     let (version, clause) = text.split_once(' ').unwrap_or((text, ""));
     let Ok(version) = Version::parse(alloc, version) else {
-        return Ok(came.push_str("no version")?);
+        return Ok(came.push_str(" no version")?);
     };
     match Clauses::parse(alloc, clause) {
-        Ok(clauses) => Ok(write!(came, "{}", is_met(&clauses, &version))?),
+        Ok(clauses) => Ok(write!(came, " {}", is_met(&clauses, &version))?),
         Err(fault) => Ok(put_refused(fault, came)?),
     }
 }

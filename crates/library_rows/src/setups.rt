@@ -10,8 +10,8 @@ use testing_items::{ALL, Archs};
 pub fn put_archs(alloc: Global, text: &str, came: &mut String) -> Result<(), NoMemory> {
     let names = words_of(alloc, text)?;
     match Archs::parse(alloc, &names) {
-        Ok(archs) => Ok(write!(came, "{}", archs.as_slice().len())?),
-        Err(fault) => Ok(write!(came, "refused, {fault}")?),
+        Ok(archs) => Ok(write!(came, " {}", archs.as_slice().len())?),
+        Err(fault) => Ok(write!(came, " refused, {fault}")?),
     }
 }
 

@@ -38,20 +38,22 @@ fn sign_at(suite: &Suite, place: usize) -> &'static str {
     }
 }
 
-/// Adds the sign of each row.
+/// Adds the sign of each row, in brackets.
 fn put_signs(suite: &Suite, came: &mut String) -> Result<(), AllocError> {
+    came.push_str("[")?;
     for place in 0..suite.len() {
         came.push_str(sign_at(suite, place))?;
     }
-    Ok(())
+    came.push_str("]")
 }
 
-/// Adds places, in order.
-fn put_places(places: &[usize], came: &mut String) -> Result<(), AllocError> {
+/// Adds the rows that are lost, by their places.
+fn put_lost(places: &[usize], came: &mut String) -> Result<(), AllocError> {
+    came.push_str(" lost")?;
     for place in places {
         write!(came, " {place}")?;
     }
-    Ok(())
+    came.push_str(" ")
 }
 
 /// A row's place, from a word.
@@ -62,8 +64,8 @@ fn place_in(word: Option<&str>) -> usize {
     }
 }
 
-/// Tries and makes the change in which one row leaves and then two come, and adds the rows that the trial loses, and
-/// the signs behind the trial and behind the change.
+/// Tries and makes the change in which one row leaves and then two come. Adds the signs behind the trial, the rows that
+/// it loses, and the signs behind the change.
 fn put_change(
     alloc: Global,
     suite: &mut Suite,
@@ -83,9 +85,8 @@ fn put_change(
     let mut lost = suite.trial(alloc, &leaving, &coming)?;
     lost.sort()?;
     put_signs(suite, came)?;
-    put_places(&lost, came)?;
+    put_lost(&lost, came)?;
     suite.change(alloc, &leaving, &coming)?;
-    came.push_str(" ")?;
     put_signs(suite, came)?;
     Ok(came.push_str("\n")?)
 }

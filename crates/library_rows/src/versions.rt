@@ -8,22 +8,22 @@ use std::alloc::Global;
 pub fn put_version(alloc: Global, text: &str, came: &mut String) -> Result<(), NoMemory> {
     match Version::parse(alloc, text) {
         Ok(version) => put_copy(alloc, &version, came),
-        Err(fault) => Ok(write!(came, "refused, {fault}")?),
+        Err(fault) => Ok(write!(came, " refused, {fault}")?),
     }
 }
 
 /// Adds the copy of a version, and how it compares with the version.
 fn put_copy(alloc: Global, version: &Version, came: &mut String) -> Result<(), NoMemory> {
     let copy = version.copy(alloc)?;
-    Ok(write!(came, "copy {}, {:?}", copy.text(), copy.order(version))?)
+    Ok(write!(came, " copy {}, {:?}", copy.text(), copy.order(version))?)
 }
 
 /// Adds the order of two versions, or why one is refused.
 pub fn put_order(text: &str, came: &mut String) -> Result<(), NoMemory> {
     let (first, second) = text.split_once(' ').unwrap_or((text, ""));
     match compare_texts(first, second) {
-        Ok(order) => Ok(write!(came, "{order:?}")?),
-        Err(fault) => Ok(write!(came, "refused, {fault}")?),
+        Ok(order) => Ok(write!(came, " {order:?}")?),
+        Err(fault) => Ok(write!(came, " refused, {fault}")?),
     }
 }
 
@@ -37,11 +37,11 @@ fn parts_of(text: &str) -> (&str, &str, &str) {
 /// Adds the status of a comparison.
 pub fn put_status(text: &str, came: &mut String) -> Result<(), NoMemory> {
     let (first, by, second) = parts_of(text);
-    Ok(write!(came, "{}", compare_status(first, by, second))?)
+    Ok(write!(came, " {}", compare_status(first, by, second))?)
 }
 
 /// Adds the status of a comparison of which standard error tells why it is refused.
 pub fn put_told(rt: &HostRuntime, text: &str, came: &mut String) -> Result<(), NoMemory> {
     let (first, by, second) = parts_of(text);
-    Ok(write!(came, "{}", compare(rt, first, by, second))?)
+    Ok(write!(came, " {}", compare(rt, first, by, second))?)
 }

@@ -17,8 +17,8 @@ pub fn words_of<'a>(alloc: Global, text: &'a str) -> Result<Vec<&'a str>, NoMemo
 pub fn put_words(alloc: Global, text: &str, came: &mut String) -> Result<(), NoMemory> {
     let words = words_of(alloc, text)?;
     match read_words(alloc, &words) {
-        Ok(asked) => Ok(write!(came, "{asked:?}")?),
-        Err(fault) => Ok(write!(came, "refused, status {}", words_status(&fault))?),
+        Ok(asked) => Ok(write!(came, " {asked:?}")?),
+        Err(fault) => Ok(write!(came, " refused, status {}", words_status(&fault))?),
     }
 }
 
@@ -28,5 +28,5 @@ pub fn put_args_fault(name: &str, came: &mut String) -> Result<(), NoMemory> {
         "NoMemory" => ArgsFault::NoMemory,
         _ => ArgsFault::NotUtf8,
     };
-    Ok(write!(came, "{fault}, status {}", args_status(&fault))?)
+    Ok(write!(came, " {fault}, status {}", args_status(&fault))?)
 }
