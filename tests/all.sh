@@ -44,6 +44,7 @@ try trust python3 "$here/trust.py"
 try docs sh "$here/docs.sh" "$office"
 try rows python3 "$here/rows/check.py"
 try counts python3 "$here/rows/counts.py"
+try drawn python3 "$here/rows/drawn_rows.py" --check
 try again python3 "$here/rows/opened_again.py" "$office" 1001-1200
 try stopped timeout 3600 python3 "$here/stops/stopped.py" "$office" "$step"
 try surroundings timeout 3600 python3 "$here/surroundings/hostile.py" "$office" "$step"
