@@ -93,7 +93,7 @@ def turns(rows, there, bits):
         now = installable(rows, there)
         lost = [k for k in range(len(rows)) if (was[k] or not before[k]) and there[k] and not now[k]]
         drawn += "%d %d %d\n" % (leaves, comes, too)
-        due += "%s lost%s %s\n" % (sign(before, was), "".join(" %d" % k for k in lost), sign(there, now))
+        due += "lost%s %s %s\n" % ("".join(" %d" % k for k in lost), sign(before, was), sign(there, now))
     return drawn, due
 
 
@@ -117,11 +117,11 @@ def suites():
 def chains():
     """Two chains of a thousand packages, each of which needs the next one. Each clause of the first is looked at at most
     once, and once more if the package that it rests on is taken out; each of the second once."""
-    for last, most, signed, came in ("nowhere", " 1999", "-", "in 1000 turns, within 1999 looks"), \
-            ("p0", "", "+", "in 0 turns, 1000 looks"):
+    for last, most, signed, came in ("nowhere", " 1999", "-", "1000 turns, within 1999 looks"), \
+            ("p0", "", "+", "0 turns, 1000 looks"):
         about = "=== a chain whose last package needs %s\n" % last
         yield about + "> counted%s\n" % most + "".join(row + "\n" for row in chain(last)), \
-            about + "%s %s\n" % (signs(signed * 1000), came)
+            about + "%s: %s\n" % (came, signs(signed * 1000))
 
 
 def main():

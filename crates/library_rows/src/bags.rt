@@ -1,7 +1,6 @@
 //! Bags over a reader that gives a few bytes a call, and may fail at one of the calls.
 
 use crate::halting::Halting;
-use deb_control::NoMemory;
 use office_mail::{Bag, Feed, FromRead, Sink, ToWrite};
 use std::alloc::{AllocError, Global};
 use std::str;
@@ -33,10 +32,15 @@ fn put_message(message: &[u8], came: &mut String) -> Result<(), AllocError> {
     write!(came, "message of {} bytes: {text:?}\n", message.len())
 }
 
+/// Adds what a bag gives over a reader.
+fn put_given(alloc: Global, reader: &mut Halting<'_>, came: &mut String) -> Result<(), AllocError> {
+    let mut bag = Bag::new(alloc, FromRead::new(reader));
+    put_five(&mut bag, came)
+}
+
 /// Adds what a bag gives over a reader of four bytes a call.
-pub fn put_bag(alloc: Global, bytes: &[u8], came: &mut String) -> Result<(), NoMemory> {
-    let mut bag = Bag::new(alloc, FromRead::new(Halting::new(bytes, 4, 0)));
-    Ok(put_five(&mut bag, came)?)
+pub fn put_bag(alloc: Global, bytes: &[u8], came: &mut String) -> Result<(), AllocError> {
+    put_given(alloc, &mut Halting::new(bytes, 4, 0), came)
 }
 
 /// Adds what a bag gives over a reader of one byte a call that may fail at one of them, and how often that was called.
@@ -45,22 +49,17 @@ pub fn put_reads(
     fails_at: u32,
     bytes: &[u8],
     came: &mut String,
-) -> Result<(), NoMemory> {
+) -> Result<(), AllocError> {
     let mut reader = Halting::new(bytes, 1, fails_at);
-    let mut bag = Bag::new(alloc, FromRead::new(&mut reader));
-    let put = put_five(&mut bag, came);
-    drop(bag);
-    put?;
-    Ok(write!(came, "{} reads\n", reader.calls)?)
+    put_given(alloc, &mut reader, came)?;
+    write!(came, "{} reads\n", reader.calls)
 }
 
 /// Adds what two reads of up to two bytes give over such a reader.
-pub fn put_feed(fails_at: u32, bytes: &[u8], came: &mut String) -> Result<(), NoMemory> {
+pub fn put_feed(fails_at: u32, bytes: &[u8], came: &mut String) -> Result<(), AllocError> {
     let mut feed = FromRead::new(Halting::new(bytes, 1, fails_at));
-    for _ in 0..2 {
-        put_read(&mut feed, came)?;
-    }
-    Ok(())
+    put_read(&mut feed, came)?;
+    put_read(&mut feed, came)
 }
 
 /// Adds what one read of up to two bytes gives.
@@ -72,16 +71,18 @@ fn put_read<R: Feed>(feed: &mut R, came: &mut String) -> Result<(), AllocError> 
     }
 }
 
+/// Adds what two writes give.
+fn put_writes(writer: &mut Halting<'_>, bytes: &[u8], came: &mut String) -> Result<(), AllocError> {
+    let mut sink = ToWrite::new(writer);
+    put_write(&mut sink, bytes, came)?;
+    put_write(&mut sink, bytes, came)
+}
+
 /// Adds what two writes to a writer that takes no byte give, one of which may fail, and how often that was called.
-pub fn put_sink(fails_at: u32, bytes: &[u8], came: &mut String) -> Result<(), NoMemory> {
+pub fn put_sink(fails_at: u32, bytes: &[u8], came: &mut String) -> Result<(), AllocError> {
     let mut writer = Halting::new(b"", 0, fails_at);
-    let mut sink = ToWrite::new(&mut writer);
-    let first = put_write(&mut sink, bytes, came);
-    let second = put_write(&mut sink, bytes, came);
-    drop(sink);
-    first?;
-    second?;
-    Ok(write!(came, "{} writes\n", writer.calls)?)
+    put_writes(&mut writer, bytes, came)?;
+    write!(came, "{} writes\n", writer.calls)
 }
 
 /// Adds what one write gives.

@@ -1,11 +1,11 @@
 //! Paragraphs of control data, and the binary packages that they describe.
 
 use crate::relations::{put_clauses, put_provisions};
-use deb_control::{Binary, NoMemory, Paragraph, Paragraphs};
+use deb_control::{Binary, Paragraph, Paragraphs};
 use std::alloc::{AllocError, Global};
 
 /// Adds what four calls of `next` answer for a text.
-pub fn put_paragraphs(alloc: Global, bytes: &[u8], came: &mut String) -> Result<(), NoMemory> {
+pub fn put_paragraphs(alloc: Global, bytes: &[u8], came: &mut String) -> Result<(), AllocError> {
     let mut reader = Paragraphs::new(alloc, bytes);
     for _ in 0..4 {
         put_next(&mut reader, came)?;
@@ -46,24 +46,26 @@ pub fn put_binary(binary: &Binary, came: &mut String) -> Result<(), AllocError> 
 }
 
 /// Adds the copy of a binary.
-fn put_copy(alloc: Global, binary: &Binary, came: &mut String) -> Result<(), NoMemory> {
-    let copy = binary.copy(alloc)?;
-    Ok(put_binary(&copy, came)?)
+fn put_copy(alloc: Global, binary: &Binary, came: &mut String) -> Result<(), AllocError> {
+    match binary.copy(alloc) {
+        Ok(copy) => put_binary(&copy, came),
+        Err(_) => Err(AllocError),
+    }
 }
 
 /// Adds what a paragraph is read as, by a copy of its binary.
-fn put_read(alloc: Global, paragraph: &Paragraph<'_>, came: &mut String) -> Result<(), NoMemory> {
+fn put_read(alloc: Global, paragraph: &Paragraph<'_>, came: &mut String) -> Result<(), AllocError> {
     match Binary::parse(alloc, paragraph) {
         Ok(binary) => put_copy(alloc, &binary, came),
-        Err(fault) => Ok(write!(came, "refused, {fault}\n")?),
+        Err(fault) => write!(came, "refused, {fault}\n"),
     }
 }
 
 /// Adds what the first paragraph of a text is read as.
-pub fn put_first_binary(alloc: Global, bytes: &[u8], came: &mut String) -> Result<(), NoMemory> {
+pub fn put_first_binary(alloc: Global, bytes: &[u8], came: &mut String) -> Result<(), AllocError> {
     let mut reader = Paragraphs::new(alloc, bytes);
     match reader.next() {
         Ok(Some(paragraph)) => put_read(alloc, &paragraph, came),
-        _ => Ok(came.push_str("no paragraph\n")?),
+        _ => came.push_str("no paragraph\n"),
     }
 }

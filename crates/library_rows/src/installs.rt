@@ -1,6 +1,6 @@
 //! Installable rows, from packages that are told in short.
 
-use deb_control::{Binary, NoMemory, Paragraphs};
+use deb_control::{Binary, Paragraphs};
 use std::alloc::{AllocError, Global};
 use testing_install::{Row, installable, installable_counted};
 
@@ -24,13 +24,13 @@ fn read_binary(alloc: Global, control: &str) -> Option<Binary> {
 }
 
 /// The package that a line tells in short.
-pub fn told_binary(alloc: Global, line: &str) -> Result<Option<Binary>, NoMemory> {
+pub fn told_binary(alloc: Global, line: &str) -> Result<Option<Binary>, AllocError> {
     let control = control_of(alloc, line)?;
     Ok(read_binary(alloc, control.as_str()))
 }
 
 /// The packages that lines tell in short.
-fn told_binaries(alloc: Global, text: &str) -> Result<Vec<Binary>, NoMemory> {
+fn told_binaries(alloc: Global, text: &str) -> Result<Vec<Binary>, AllocError> {
     let mut binaries = Vec::new(alloc);
     for line in text.lines() {
         if let Some(binary) = told_binary(alloc, line)? {
@@ -41,7 +41,7 @@ fn told_binaries(alloc: Global, text: &str) -> Result<Vec<Binary>, NoMemory> {
 }
 
 /// A row for each package.
-fn rows_of<'a>(alloc: Global, binaries: &'a [Binary]) -> Result<Vec<Row<'a>>, NoMemory> {
+fn rows_of<'a>(alloc: Global, binaries: &'a [Binary]) -> Result<Vec<Row<'a>>, AllocError> {
     let mut rows = Vec::new(alloc);
     for binary in binaries {
         rows.push(Row { binary })?;
@@ -55,40 +55,64 @@ fn put_answers(answers: &[bool], came: &mut String) -> Result<(), AllocError> {
     for answer in answers {
         came.push_str(if *answer { "+" } else { "-" })?;
     }
-    came.push_str("]")
+    came.push_str("]\n")
 }
 
-/// Adds which of the packages are installable.
-pub fn put_installable(alloc: Global, text: &str, came: &mut String) -> Result<(), NoMemory> {
-    let binaries = told_binaries(alloc, text)?;
-    let rows = rows_of(alloc, &binaries)?;
-    let answers = installable(alloc, &rows)?;
-    put_answers(&answers, came)?;
-    Ok(came.push_str("\n")?)
+/// Adds which rows are installable.
+fn put_installable(alloc: Global, rows: &[Row<'_>], came: &mut String) -> Result<(), AllocError> {
+    match installable(alloc, rows) {
+        Ok(answers) => put_answers(&answers, came),
+        Err(_) => Err(AllocError),
+    }
 }
 
-/// Adds which of the packages are installable, in how many turns, and how many looks.
-pub fn put_counted(
+/// Adds which rows are installable, in how many turns, and how many looks.
+fn put_counted(
     alloc: Global,
+    rows: &[Row<'_>],
     most: u32,
-    text: &str,
     came: &mut String,
-) -> Result<(), NoMemory> {
-    let binaries = told_binaries(alloc, text)?;
-    let rows = rows_of(alloc, &binaries)?;
-    let counted = installable_counted(alloc, &rows)?;
-    put_answers(&counted.answers, came)?;
-    write!(came, " in {} turns, ", counted.turns)?;
-    Ok(put_looks(counted.looks, most, came)?)
+) -> Result<(), AllocError> {
+    let Ok(counted) = installable_counted(alloc, rows) else {
+        return Err(AllocError);
+    };
+    write!(came, "{} turns, ", counted.turns)?;
+    put_looks(counted.looks, most, came)?;
+    put_answers(&counted.answers, came)
 }
 
 /// Adds whether there were at most so many looks, or how many there were where no number is given.
 fn put_looks(looks: u64, most: u32, came: &mut String) -> Result<(), AllocError> {
     if most == 0 {
-        write!(came, "{looks} looks\n")
+        write!(came, "{looks} looks: ")
     } else if looks <= most as u64 {
-        write!(came, "within {most} looks\n")
+        write!(came, "within {most} looks: ")
     } else {
-        write!(came, "past {most} looks\n")
+        write!(came, "past {most} looks: ")
     }
+}
+
+/// Adds which of the packages are installable.
+fn put_judged(
+    alloc: Global,
+    most: Option<u32>,
+    binaries: &[Binary],
+    came: &mut String,
+) -> Result<(), AllocError> {
+    let rows = rows_of(alloc, binaries)?;
+    match most {
+        Some(most) => put_counted(alloc, &rows, most, came),
+        None => put_installable(alloc, &rows, came),
+    }
+}
+
+/// Adds which of the packages that lines tell in short are installable; with a number, the steps too.
+pub fn put_told(
+    alloc: Global,
+    most: Option<u32>,
+    text: &str,
+    came: &mut String,
+) -> Result<(), AllocError> {
+    let binaries = told_binaries(alloc, text)?;
+    put_judged(alloc, most, &binaries, came)
 }

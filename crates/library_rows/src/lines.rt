@@ -5,7 +5,7 @@ use crate::relations::{put_clauses_of, put_holds, put_provisions_of};
 use crate::setups::put_archs;
 use crate::versions::{put_order, put_status, put_told, put_version};
 use crate::words::{put_args_fault, put_words};
-use deb_version::NoMemory;
+use std::alloc::AllocError;
 use std::str;
 
 /// Takes a step whose lines are answered one by one.
@@ -14,24 +14,28 @@ pub fn take_lines(
     what: &str,
     text: &str,
     came: &mut String,
-) -> Result<(), NoMemory> {
+) -> Result<(), AllocError> {
     for line in text.split('\n') {
         take_line(rt, what, line, came)?;
+        came.push_str("\n")?;
     }
     Ok(())
 }
 
-/// Adds a line as it is written, and the answer to what it stands for, which begins with a space.
-fn take_line(rt: &HostRuntime, what: &str, line: &str, came: &mut String) -> Result<(), NoMemory> {
+/// Adds a line as it is written, and the answer to what it stands for.
+fn take_line(
+    rt: &HostRuntime,
+    what: &str,
+    line: &str,
+    came: &mut String,
+) -> Result<(), AllocError> {
     write!(came, "{line}:")?;
     let bytes = plain_bytes(rt.alloc(), line)?;
-    let text = str::from_utf8(&bytes).unwrap_or("");
-    answer(rt, what, text, came)?;
-    Ok(came.push_str("\n")?)
+    answer(rt, what, str::from_utf8(&bytes).unwrap_or(""), came)
 }
 
-/// Adds the answer to a text about versions, or to another one.
-fn answer(rt: &HostRuntime, what: &str, text: &str, came: &mut String) -> Result<(), NoMemory> {
+/// Adds the answer to a text about versions, or to another one. It begins with a space.
+fn answer(rt: &HostRuntime, what: &str, text: &str, came: &mut String) -> Result<(), AllocError> {
     match what {
         "version" => put_version(rt.alloc(), text, came),
         "order" => put_order(text, came),
@@ -47,7 +51,7 @@ fn other_answer(
     what: &str,
     text: &str,
     came: &mut String,
-) -> Result<(), NoMemory> {
+) -> Result<(), AllocError> {
     match what {
         "relations" => put_clauses_of(rt.alloc(), text, came),
         "provisions" => put_provisions_of(rt.alloc(), text, came),
@@ -55,6 +59,6 @@ fn other_answer(
         "archs" => put_archs(rt.alloc(), text, came),
         "words" => put_words(rt.alloc(), text, came),
         "arguments" => put_args_fault(text, came),
-        _ => Ok(came.push_str(" no such step")?),
+        _ => came.push_str(" no such step"),
     }
 }

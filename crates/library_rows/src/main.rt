@@ -17,7 +17,7 @@ mod suites;
 mod versions;
 mod words;
 
-use deb_version::NoMemory;
+use std::alloc::AllocError;
 use std::{fs, io};
 use steps::take;
 use testing_install::Suite;
@@ -25,25 +25,35 @@ use testing_install::Suite;
 /// The file of the drawn rows.
 const DRAWN_ROWS: &str = "drawn_rows";
 
-/// What the steps of a row print. The text before the first step is none.
-fn shown(rt: &HostRuntime, row: &str) -> Result<String, NoMemory> {
-    let mut came = String::new(rt.alloc());
-    let mut suite = Suite::new(rt.alloc());
+/// Takes the steps of a row, and adds what comes of them. The text before the first step is none.
+fn take_all(
+    rt: &HostRuntime,
+    suite: &mut Suite,
+    row: &str,
+    came: &mut String,
+) -> Result<(), AllocError> {
     let mut steps = row.split("\n> ");
     let _about = steps.next();
     for step in steps {
-        take(rt, &mut suite, step, &mut came)?;
+        take(rt, suite, step, came)?;
     }
-    Ok(came)
+    Ok(())
+}
+
+/// Takes the steps of a row, over a suite of its own.
+fn take_row(rt: &HostRuntime, row: &str, came: &mut String) -> Result<(), AllocError> {
+    let mut suite = Suite::new(rt.alloc());
+    take_all(rt, &mut suite, row, came)
 }
 
 /// Takes the steps of a row, whose first line says what it is about, and prints what came of them.
 fn show(rt: &HostRuntime, row: &str) -> io::Result<()> {
     let about = row.lines().next().unwrap_or("");
-    let Ok(shown) = shown(rt, row) else {
-        return Err(io::ErrorKind::OutOfMemory.into());
-    };
-    print!(rt; "=== {about}\n{shown}")
+    let mut came = String::new(rt.alloc());
+    match take_row(rt, row, &mut came) {
+        Ok(()) => print!(rt; "=== {about}\n{came}"),
+        Err(_) => Err(io::ErrorKind::OutOfMemory.into()),
+    }
 }
 
 /// Shows each row of a text. What stands before the first row is none.

@@ -1,9 +1,9 @@
 //! Messages to an office with the worked setup.
 
 use crate::controls::put_binary;
-use deb_control::{Binary, NoMemory, Text};
+use deb_control::{Binary, Text};
 use deb_version::Version;
-use office_mail::{Body, RunOrder, Setup, read_message};
+use office_mail::{Body, Message, RunOrder, Setup, read_message};
 use std::alloc::{AllocError, Global};
 use testing_items::{Hint, HintItem, Item};
 
@@ -27,14 +27,14 @@ Role: runs
 ";
 
 /// Adds what a text says, or why it says nothing.
-pub fn put_message(alloc: Global, bytes: &[u8], came: &mut String) -> Result<(), NoMemory> {
+pub fn put_message(alloc: Global, bytes: &[u8], came: &mut String) -> Result<(), AllocError> {
     match Setup::parse(alloc, SETUP.as_bytes()) {
-        Ok(setup) => Ok(put_read(alloc, &setup, bytes, came)?),
-        Err(fault) => Ok(write!(came, "setup refused, {fault}\n")?),
+        Ok(setup) => put_read(alloc, &setup, bytes, came),
+        Err(fault) => write!(came, "setup refused, {fault}\n"),
     }
 }
 
-/// Adds the place of a message's sender, its number and what it says, or why it says nothing.
+/// Adds what a text says to an office with this setup, or why it says nothing.
 fn put_read(
     alloc: Global,
     setup: &Setup,
@@ -42,12 +42,15 @@ fn put_read(
     came: &mut String,
 ) -> Result<(), AllocError> {
     match read_message(alloc, setup, bytes) {
-        Ok(message) => {
-            write!(came, "{} {}: ", message.sender, message.number)?;
-            put_body(&message.body, came)
-        }
+        Ok(message) => put_said(&message, came),
         Err(fault) => write!(came, "refused, {fault}\n"),
     }
+}
+
+/// Adds the place of a message's sender, its number and what it says.
+fn put_said(message: &Message, came: &mut String) -> Result<(), AllocError> {
+    write!(came, "{} {}: ", message.sender, message.number)?;
+    put_body(&message.body, came)
 }
 
 /// Adds what a message says.

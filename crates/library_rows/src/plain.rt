@@ -1,10 +1,9 @@
 //! Bytes from texts in which a backslash begins what can't be written.
 
-use deb_version::NoMemory;
-use std::alloc::Global;
+use std::alloc::{AllocError, Global};
 
 /// The bytes that a step's text stands for. They end with a line end, but where the text ends with a backslash.
-pub fn bytes_of(alloc: Global, text: &str) -> Result<Vec<u8>, NoMemory> {
+pub fn bytes_of(alloc: Global, text: &str) -> Result<Vec<u8>, AllocError> {
     let mut bytes = plain_bytes(alloc, text)?;
     if !text.ends_with('\\') {
         bytes.push(b'\n')?;
@@ -13,7 +12,7 @@ pub fn bytes_of(alloc: Global, text: &str) -> Result<Vec<u8>, NoMemory> {
 }
 
 /// The bytes that a text stands for.
-pub fn plain_bytes(alloc: Global, text: &str) -> Result<Vec<u8>, NoMemory> {
+pub fn plain_bytes(alloc: Global, text: &str) -> Result<Vec<u8>, AllocError> {
     let mut bytes = Vec::new(alloc);
     let (front, rest) = text.split_once('\\').unwrap_or((text, ""));
     bytes.extend_from_slice(front.as_bytes())?;
@@ -24,7 +23,7 @@ pub fn plain_bytes(alloc: Global, text: &str) -> Result<Vec<u8>, NoMemory> {
 }
 
 /// Adds what stands behind a backslash, up to the next one.
-fn put_part(bytes: &mut Vec<u8>, part: &str) -> Result<(), NoMemory> {
+fn put_part(bytes: &mut Vec<u8>, part: &str) -> Result<(), AllocError> {
     if let Some(repeated) = part.strip_prefix('(') {
         return put_repeated(bytes, repeated);
     }
@@ -50,7 +49,7 @@ fn byte_of(letter: u8) -> Option<u8> {
 }
 
 /// Adds a text as often as the number before its first colon says.
-fn put_repeated(bytes: &mut Vec<u8>, repeated: &str) -> Result<(), NoMemory> {
+fn put_repeated(bytes: &mut Vec<u8>, repeated: &str) -> Result<(), AllocError> {
     let (count, text) = repeated.split_once(':').unwrap_or(("0", ""));
     let count: u32 = count.parse().unwrap_or(0);
     for _ in 0..count {

@@ -1,6 +1,6 @@
 //! Relations between packages.
 
-use deb_control::{Alternative, Clause, Clauses, NoMemory, Provision, Provisions, RelationFault};
+use deb_control::{Alternative, Clause, Clauses, Provision, Provisions, RelationFault};
 use deb_version::Version;
 use std::alloc::{AllocError, Global};
 
@@ -57,30 +57,40 @@ fn put_refused(fault: RelationFault, came: &mut String) -> Result<(), AllocError
 }
 
 /// Adds the clauses that a text is read as.
-pub fn put_clauses_of(alloc: Global, text: &str, came: &mut String) -> Result<(), NoMemory> {
+pub fn put_clauses_of(alloc: Global, text: &str, came: &mut String) -> Result<(), AllocError> {
     match Clauses::parse(alloc, text) {
-        Ok(clauses) => Ok(put_clauses(&clauses, came)?),
-        Err(fault) => Ok(put_refused(fault, came)?),
+        Ok(clauses) => put_clauses(&clauses, came),
+        Err(fault) => put_refused(fault, came),
     }
 }
 
 /// Adds the provisions that a text is read as.
-pub fn put_provisions_of(alloc: Global, text: &str, came: &mut String) -> Result<(), NoMemory> {
+pub fn put_provisions_of(alloc: Global, text: &str, came: &mut String) -> Result<(), AllocError> {
     match Provisions::parse(alloc, text) {
-        Ok(provisions) => Ok(put_provisions(&provisions, came)?),
-        Err(fault) => Ok(put_refused(fault, came)?),
+        Ok(provisions) => put_provisions(&provisions, came),
+        Err(fault) => put_refused(fault, came),
     }
 }
 
 /// Adds whether the version that stands first in a text is in the relation of the clause behind it.
-pub fn put_holds(alloc: Global, text: &str, came: &mut String) -> Result<(), NoMemory> {
+pub fn put_holds(alloc: Global, text: &str, came: &mut String) -> Result<(), AllocError> {
     let (version, clause) = text.split_once(' ').unwrap_or((text, ""));
-    let Ok(version) = Version::parse(alloc, version) else {
-        return Ok(came.push_str(" no version")?);
-    };
     match Clauses::parse(alloc, clause) {
-        Ok(clauses) => Ok(write!(came, " {}", is_met(&clauses, &version))?),
-        Err(fault) => Ok(put_refused(fault, came)?),
+        Ok(clauses) => put_met(alloc, &clauses, version, came),
+        Err(fault) => put_refused(fault, came),
+    }
+}
+
+/// Adds whether a version is in the relation of a clause.
+fn put_met(
+    alloc: Global,
+    clauses: &Clauses,
+    text: &str,
+    came: &mut String,
+) -> Result<(), AllocError> {
+    match Version::parse(alloc, text) {
+        Ok(version) => write!(came, " {}", is_met(clauses, &version)),
+        Err(fault) => write!(came, " refused, {fault}"),
     }
 }
 

@@ -1,17 +1,21 @@
 //! Setups, and the architectures of names.
 
 use crate::words::words_of;
-use deb_control::NoMemory;
 use office_mail::{Sender, Setup};
 use std::alloc::{AllocError, Global};
 use testing_items::{ALL, Archs};
 
 /// Adds how many architectures the words of a text give, or why they give none.
-pub fn put_archs(alloc: Global, text: &str, came: &mut String) -> Result<(), NoMemory> {
+pub fn put_archs(alloc: Global, text: &str, came: &mut String) -> Result<(), AllocError> {
     let names = words_of(alloc, text)?;
-    match Archs::parse(alloc, &names) {
-        Ok(archs) => Ok(write!(came, " {}", archs.as_slice().len())?),
-        Err(fault) => Ok(write!(came, " refused, {fault}")?),
+    put_named(alloc, &names, came)
+}
+
+/// Adds how many architectures names give, or why they give none.
+fn put_named(alloc: Global, names: &[&str], came: &mut String) -> Result<(), AllocError> {
+    match Archs::parse(alloc, names) {
+        Ok(archs) => write!(came, " {}", archs.as_slice().len()),
+        Err(fault) => write!(came, " refused, {fault}"),
     }
 }
 
@@ -31,18 +35,25 @@ fn put_senders(senders: &[Sender], came: &mut String) -> Result<(), AllocError> 
     Ok(())
 }
 
+/// Adds a setup: its architectures, its senders and the place of the sender of runs.
+fn put_whole(setup: &Setup, came: &mut String) -> Result<(), AllocError> {
+    put_names(setup.archs(), came)?;
+    put_senders(setup.senders(), came)?;
+    write!(came, "runs by {}\n", setup.runs())
+}
+
 /// Adds the copy of a setup.
-fn put_copy(alloc: Global, setup: &Setup, came: &mut String) -> Result<(), NoMemory> {
-    let copy = setup.copy(alloc)?;
-    put_names(copy.archs(), came)?;
-    put_senders(copy.senders(), came)?;
-    Ok(write!(came, "runs by {}\n", copy.runs())?)
+fn put_copy(alloc: Global, setup: &Setup, came: &mut String) -> Result<(), AllocError> {
+    match setup.copy(alloc) {
+        Ok(copy) => put_whole(&copy, came),
+        Err(_) => Err(AllocError),
+    }
 }
 
 /// Adds the setup that a text is, or why it is none.
-pub fn put_setup(alloc: Global, bytes: &[u8], came: &mut String) -> Result<(), NoMemory> {
+pub fn put_setup(alloc: Global, bytes: &[u8], came: &mut String) -> Result<(), AllocError> {
     match Setup::parse(alloc, bytes) {
         Ok(setup) => put_copy(alloc, &setup, came),
-        Err(fault) => Ok(write!(came, "refused, {fault}\n")?),
+        Err(fault) => write!(came, "refused, {fault}\n"),
     }
 }

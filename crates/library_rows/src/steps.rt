@@ -2,14 +2,13 @@
 
 use crate::bags::{put_bag, put_feed, put_reads, put_sink};
 use crate::controls::{put_first_binary, put_paragraphs};
-use crate::installs::{put_counted, put_installable};
+use crate::installs::put_told;
 use crate::lines::take_lines;
 use crate::messages::put_message;
 use crate::plain::bytes_of;
 use crate::setups::put_setup;
 use crate::suites::{add_rows, put_changes};
-use deb_version::NoMemory;
-use std::alloc::Global;
+use std::alloc::{AllocError, Global};
 use testing_install::Suite;
 
 /// Takes a step, and adds what comes of it. Its first line says what is done with the text below, and may give a number.
@@ -18,15 +17,15 @@ pub fn take(
     suite: &mut Suite,
     step: &str,
     came: &mut String,
-) -> Result<(), NoMemory> {
+) -> Result<(), AllocError> {
     let (what, text) = step.split_once('\n').unwrap_or((step, ""));
     let (what, number) = what.split_once(' ').unwrap_or((what, ""));
     let number: u32 = number.parse().unwrap_or(0);
     match what {
         "rows" => add_rows(rt.alloc(), suite, text),
         "changes" => put_changes(rt.alloc(), suite, text, came),
-        "install" => put_installable(rt.alloc(), text, came),
-        "counted" => put_counted(rt.alloc(), number, text, came),
+        "install" => put_told(rt.alloc(), None, text, came),
+        "counted" => put_told(rt.alloc(), Some(number), text, came),
         "control" | "binary" | "setup" | "message" => take_text(rt.alloc(), what, text, came),
         "bag" | "reads" | "feed" | "sink" => take_bytes(rt.alloc(), what, number, text, came),
         _ => take_lines(rt, what, text, came),
@@ -34,7 +33,7 @@ pub fn take(
 }
 
 /// Takes a step whose text is read as a whole.
-fn take_text(alloc: Global, what: &str, text: &str, came: &mut String) -> Result<(), NoMemory> {
+fn take_text(alloc: Global, what: &str, text: &str, came: &mut String) -> Result<(), AllocError> {
     let bytes = bytes_of(alloc, text)?;
     match what {
         "control" => put_paragraphs(alloc, &bytes, came),
@@ -51,7 +50,7 @@ fn take_bytes(
     number: u32,
     text: &str,
     came: &mut String,
-) -> Result<(), NoMemory> {
+) -> Result<(), AllocError> {
     let bytes = bytes_of(alloc, text)?;
     match what {
         "bag" => put_bag(alloc, &bytes, came),

@@ -1,14 +1,14 @@
 //! Trials and changes of a suite.
 
 use crate::installs::told_binary;
-use deb_control::{Binary, NoMemory};
+use deb_control::Binary;
 use std::alloc::{AllocError, Global};
 use std::mem;
 use std::rc::Rc;
 use testing_install::Suite;
 
 /// The packages that lines tell in short, to be shared.
-fn shared_binaries(alloc: Global, text: &str) -> Result<Vec<Rc<Binary>>, NoMemory> {
+fn shared_binaries(alloc: Global, text: &str) -> Result<Vec<Rc<Binary>>, AllocError> {
     let mut binaries = Vec::new(alloc);
     for line in text.lines() {
         if let Some(binary) = told_binary(alloc, line)? {
@@ -19,11 +19,15 @@ fn shared_binaries(alloc: Global, text: &str) -> Result<Vec<Rc<Binary>>, NoMemor
 }
 
 /// Puts packages behind the rows of a suite, none of which is there yet.
-pub fn add_rows(alloc: Global, suite: &mut Suite, text: &str) -> Result<(), NoMemory> {
+pub fn add_rows(alloc: Global, suite: &mut Suite, text: &str) -> Result<(), AllocError> {
     let rows = shared_binaries(alloc, text)?;
-    let old = mem::replace(suite, Suite::new(alloc));
-    *suite = old.with_rows(alloc, rows)?;
-    Ok(())
+    match mem::replace(suite, Suite::new(alloc)).with_rows(alloc, rows) {
+        Ok(longer) => {
+            *suite = longer;
+            Ok(())
+        }
+        Err(_) => Err(AllocError),
+    }
 }
 
 /// The sign of a row: `+` for one that is there and installable, `-` for another one that is there, `.` for one that
@@ -40,7 +44,7 @@ fn sign_at(suite: &Suite, place: usize) -> &'static str {
 
 /// Adds the sign of each row, in brackets.
 fn put_signs(suite: &Suite, came: &mut String) -> Result<(), AllocError> {
-    came.push_str("[")?;
+    came.push_str(" [")?;
     for place in 0..suite.len() {
         came.push_str(sign_at(suite, place))?;
     }
@@ -49,11 +53,11 @@ fn put_signs(suite: &Suite, came: &mut String) -> Result<(), AllocError> {
 
 /// Adds the rows that are lost, by their places.
 fn put_lost(places: &[usize], came: &mut String) -> Result<(), AllocError> {
-    came.push_str(" lost")?;
+    came.push_str("lost")?;
     for place in places {
         write!(came, " {place}")?;
     }
-    came.push_str(" ")
+    Ok(())
 }
 
 /// A row's place, from a word.
@@ -64,14 +68,21 @@ fn place_in(word: Option<&str>) -> usize {
     }
 }
 
-/// Tries and makes the change in which one row leaves and then two come. Adds the signs behind the trial, the rows that
-/// it loses, and the signs behind the change.
+/// Adds the rows that a trial loses, in order.
+fn put_sorted(lost: Vec<usize>, came: &mut String) -> Result<(), AllocError> {
+    let mut lost = lost;
+    lost.sort()?;
+    put_lost(&lost, came)
+}
+
+/// Tries and makes the change in which one row leaves and then two come. Adds the rows that the trial loses, the signs
+/// behind it, and the signs behind the change.
 fn put_change(
     alloc: Global,
     suite: &mut Suite,
     line: &str,
     came: &mut String,
-) -> Result<(), NoMemory> {
+) -> Result<(), AllocError> {
     let count = suite.len();
     if count == 0 {
         return Ok(());
@@ -82,13 +93,15 @@ fn put_change(
         place_in(words.next()) % count,
         place_in(words.next()) % count,
     ];
-    let mut lost = suite.trial(alloc, &leaving, &coming)?;
-    lost.sort()?;
+    match suite.trial(alloc, &leaving, &coming) {
+        Ok(lost) => put_sorted(lost, came)?,
+        Err(_) => return Err(AllocError),
+    }
     put_signs(suite, came)?;
-    put_lost(&lost, came)?;
-    suite.change(alloc, &leaving, &coming)?;
-    put_signs(suite, came)?;
-    Ok(came.push_str("\n")?)
+    match suite.change(alloc, &leaving, &coming) {
+        Ok(()) => put_signs(suite, came),
+        Err(_) => Err(AllocError),
+    }
 }
 
 /// Adds what comes of changes, one after the other.
@@ -97,9 +110,10 @@ pub fn put_changes(
     suite: &mut Suite,
     text: &str,
     came: &mut String,
-) -> Result<(), NoMemory> {
+) -> Result<(), AllocError> {
     for line in text.lines() {
         put_change(alloc, suite, line, came)?;
+        came.push_str("\n")?;
     }
     Ok(())
 }
