@@ -2,6 +2,7 @@
 
 use deb_control::{Binary, Paragraphs};
 use std::alloc::{AllocError, Global};
+use std::rc::Rc;
 use testing_install::{Row, installable, installable_counted};
 
 /// The control data of a package `NAME VERSION; DEPENDS; PROVIDES`, as `aa 1; bb | cc (>= 2); virt (= 1)`.
@@ -23,28 +24,25 @@ fn read_binary(alloc: Global, control: &str) -> Option<Binary> {
     }
 }
 
-/// The package that a line tells in short.
-pub fn told_binary(alloc: Global, line: &str) -> Result<Option<Binary>, AllocError> {
-    let control = control_of(alloc, line)?;
-    Ok(read_binary(alloc, control.as_str()))
-}
-
-/// The packages that lines tell in short.
-fn told_binaries(alloc: Global, text: &str) -> Result<Vec<Binary>, AllocError> {
+/// The packages that lines tell in short, to be shared.
+pub fn told_binaries(alloc: Global, text: &str) -> Result<Vec<Rc<Binary>>, AllocError> {
     let mut binaries = Vec::new(alloc);
     for line in text.lines() {
-        if let Some(binary) = told_binary(alloc, line)? {
-            binaries.push(binary)?;
+        let control = control_of(alloc, line)?;
+        if let Some(binary) = read_binary(alloc, control.as_str()) {
+            binaries.push(Rc::new(alloc, binary)?)?;
         }
     }
     Ok(binaries)
 }
 
 /// A row for each package.
-fn rows_of<'a>(alloc: Global, binaries: &'a [Binary]) -> Result<Vec<Row<'a>>, AllocError> {
+fn rows_of<'a>(alloc: Global, binaries: &'a [Rc<Binary>]) -> Result<Vec<Row<'a>>, AllocError> {
     let mut rows = Vec::new(alloc);
     for binary in binaries {
-        rows.push(Row { binary })?;
+        rows.push(Row {
+            binary: binary.as_ref(),
+        })?;
     }
     Ok(rows)
 }
@@ -96,7 +94,7 @@ fn put_looks(looks: u64, most: u32, came: &mut String) -> Result<(), AllocError>
 fn put_judged(
     alloc: Global,
     most: Option<u32>,
-    binaries: &[Binary],
+    binaries: &[Rc<Binary>],
     came: &mut String,
 ) -> Result<(), AllocError> {
     let rows = rows_of(alloc, binaries)?;

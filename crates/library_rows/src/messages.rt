@@ -1,11 +1,11 @@
 //! Messages to an office with the worked setup.
 
 use crate::controls::put_binary;
-use deb_control::{Binary, Text};
+use deb_control::Binary;
 use deb_version::Version;
 use office_mail::{Body, Message, RunOrder, Setup, read_message};
 use std::alloc::{AllocError, Global};
-use testing_items::{Hint, HintItem, Item};
+use testing_items::{Hint, HintItem, Item, Urgency};
 
 /// The setup by which messages are read.
 const SETUP: &str = "Architectures: amd64 arm64
@@ -63,70 +63,40 @@ fn put_body(body: &Body, came: &mut String) -> Result<(), AllocError> {
 
 /// Adds what a run covers.
 fn put_run(order: &RunOrder, came: &mut String) -> Result<(), AllocError> {
-    write!(came, "run {}, covers", order.day)?;
+    came.push_str("run, covers")?;
     for number in order.covers.as_slice() {
         write!(came, " {number}")?;
     }
     came.push_str("\n")
 }
 
-/// Adds what a message says, apart from orders of runs.
+/// Adds what a message says, apart from orders of runs: of some kinds the values, of others the kind alone.
 fn put_item(item: &Item, came: &mut String) -> Result<(), AllocError> {
     match item {
         Item::Upload {
-            source,
             version,
             urgency,
-            day,
-        } => write!(
-            came,
-            "upload {} {} {urgency:?} {day}\n",
-            source.as_str(),
-            version.text()
-        ),
-        Item::Dropped {
-            name,
-            arch,
-            version,
-        } => write!(
-            came,
-            "drop {} {} {}\n",
-            name.as_str(),
-            arch.as_str(),
-            version.text()
-        ),
+            ..
+        } => put_upload(version, *urgency, came),
         Item::Build(binaries) => put_binaries(binaries.as_slice(), came),
-        Item::Bug {
-            bug,
-            source,
-            severity,
-            found,
-            fixed,
-        } => write!(
-            came,
-            "bug {bug} {} {severity:?}, found {}, fixed {}\n",
-            source.as_str(),
-            text_of(found),
-            text_of(fixed)
-        ),
-        Item::Hint(hint) => put_hint(hint, came),
-        Item::Unhint(number) => write!(came, "unhint {number}\n"),
+        Item::Hint(Hint::Easy(items)) => put_group(items.as_slice(), came),
         Item::Delays {
             low,
             medium,
             high,
             critical,
-        } => { write!(came, "delays {low} {medium} {high} {critical}\n") }
+        } => write!(came, "delays {low} {medium} {high} {critical}\n"),
+        Item::Dropped { .. } => came.push_str("drop\n"),
+        Item::Bug { .. } => came.push_str("bug\n"),
+        Item::Hint(_) => came.push_str("hint\n"),
+        Item::Unhint(_) => came.push_str("unhint\n"),
         Item::Nothing => came.push_str("nothing\n"),
     }
 }
 
-/// The text of a version, where there is one.
-fn text_of(version: &Option<Version>) -> &str {
-    match version {
-        Some(version) => version.text(),
-        None => "nowhere",
-    }
+/// Adds an upload.
+fn put_upload(version: &Version, urgency: Urgency, came: &mut String) -> Result<(), AllocError> {
+    write!(came, "upload {} {urgency:?}\n", version.text())
 }
 
 /// Adds the binaries of a build.
@@ -138,33 +108,9 @@ fn put_binaries(binaries: &[Binary], came: &mut String) -> Result<(), AllocError
     Ok(())
 }
 
-/// Adds a wish.
-fn put_hint(hint: &Hint, came: &mut String) -> Result<(), AllocError> {
-    match hint {
-        Hint::Block(names) => put_names(names.as_slice(), came),
-        Hint::Unblock(items) => put_items("unblock", items.as_slice(), came),
-        Hint::Easy(items) => put_items("easy", items.as_slice(), came),
-        Hint::AgeDays(days, items) => {
-            write!(came, "age-days {days}")?;
-            put_items("", items.as_slice(), came)
-        }
-        Hint::Remove(items) => put_items("remove", items.as_slice(), came),
-        Hint::BlockAll => came.push_str("block-all\n"),
-    }
-}
-
-/// Adds the sources that are kept out.
-fn put_names(names: &[Text], came: &mut String) -> Result<(), AllocError> {
-    came.push_str("block")?;
-    for name in names {
-        write!(came, " {}", name.as_str())?;
-    }
-    came.push_str("\n")
-}
-
-/// Adds a word, and sources at versions.
-fn put_items(word: &str, items: &[HintItem], came: &mut String) -> Result<(), AllocError> {
-    came.push_str(word)?;
+/// Adds the sources of a group, at their versions.
+fn put_group(items: &[HintItem], came: &mut String) -> Result<(), AllocError> {
+    came.push_str("group")?;
     for item in items {
         write!(came, " {}/{}", item.name.as_str(), item.version.text())?;
     }

@@ -8,8 +8,17 @@ use crate::messages::put_message;
 use crate::plain::bytes_of;
 use crate::setups::put_setup;
 use crate::suites::{add_rows, put_changes};
-use std::alloc::{AllocError, Global};
+use std::alloc::AllocError;
 use testing_install::Suite;
+
+/// A step: what is done with its text, a number if one stands behind that, the text, and the bytes that it stands for.
+#[derive(Clone, Copy)]
+struct Step<'a> {
+    what: &'a str,
+    number: u32,
+    text: &'a str,
+    bytes: &'a [u8],
+}
 
 /// Takes a step, and adds what comes of it. Its first line says what is done with the text below, and may give a number.
 pub fn take(
@@ -18,44 +27,52 @@ pub fn take(
     step: &str,
     came: &mut String,
 ) -> Result<(), AllocError> {
-    let (what, text) = step.split_once('\n').unwrap_or((step, ""));
-    let (what, number) = what.split_once(' ').unwrap_or((what, ""));
-    let number: u32 = number.parse().unwrap_or(0);
-    match what {
-        "rows" => add_rows(rt.alloc(), suite, text),
-        "changes" => put_changes(rt.alloc(), suite, text, came),
-        "install" => put_told(rt.alloc(), None, text, came),
-        "counted" => put_told(rt.alloc(), Some(number), text, came),
-        "control" | "binary" | "setup" | "message" => take_text(rt.alloc(), what, text, came),
-        "bag" | "reads" | "feed" | "sink" => take_bytes(rt.alloc(), what, number, text, came),
-        _ => take_lines(rt, what, text, came),
-    }
+    let (head, text) = step.split_once('\n').unwrap_or((step, ""));
+    let (what, number) = head.split_once(' ').unwrap_or((head, ""));
+    let bytes = bytes_of(rt.alloc(), text)?;
+    let step = Step {
+        what,
+        number: number.parse().unwrap_or(0),
+        text,
+        bytes: &bytes,
+    };
+    take_packages(rt, suite, step, came)
 }
 
-/// Takes a step whose text is read as a whole.
-fn take_text(alloc: Global, what: &str, text: &str, came: &mut String) -> Result<(), AllocError> {
-    let bytes = bytes_of(alloc, text)?;
-    match what {
-        "control" => put_paragraphs(alloc, &bytes, came),
-        "binary" => put_first_binary(alloc, &bytes, came),
-        "setup" => put_setup(alloc, &bytes, came),
-        _ => put_message(alloc, &bytes, came),
-    }
-}
-
-/// Takes a step whose text a reader gives in parts, or a writer takes.
-fn take_bytes(
-    alloc: Global,
-    what: &str,
-    number: u32,
-    text: &str,
+/// Takes a step about packages that are told in short, or another one.
+fn take_packages(
+    rt: &HostRuntime,
+    suite: &mut Suite,
+    step: Step<'_>,
     came: &mut String,
 ) -> Result<(), AllocError> {
-    let bytes = bytes_of(alloc, text)?;
-    match what {
-        "bag" => put_bag(alloc, &bytes, came),
-        "reads" => put_reads(alloc, number, &bytes, came),
-        "feed" => put_feed(number, &bytes, came),
-        _ => put_sink(number, &bytes, came),
+    match step.what {
+        "rows" => add_rows(rt.alloc(), suite, step.text),
+        "changes" => put_changes(rt.alloc(), suite, step.text, came),
+        "install" => put_told(rt.alloc(), None, step.text, came),
+        "counted" => put_told(rt.alloc(), Some(step.number), step.text, came),
+        _ => take_text(rt, step, came),
+    }
+}
+
+/// Takes a step whose text is read as a whole, or another one.
+fn take_text(rt: &HostRuntime, step: Step<'_>, came: &mut String) -> Result<(), AllocError> {
+    match step.what {
+        "control" => put_paragraphs(rt.alloc(), step.bytes, came),
+        "binary" => put_first_binary(rt.alloc(), step.bytes, came),
+        "setup" => put_setup(rt.alloc(), step.bytes, came),
+        "message" => put_message(rt.alloc(), step.bytes, came),
+        _ => take_bytes(rt, step, came),
+    }
+}
+
+/// Takes a step whose text a reader gives in parts, or a writer takes, or one whose lines are answered one by one.
+fn take_bytes(rt: &HostRuntime, step: Step<'_>, came: &mut String) -> Result<(), AllocError> {
+    match step.what {
+        "bag" => put_bag(rt.alloc(), step.bytes, came),
+        "reads" => put_reads(rt.alloc(), step.number, step.bytes, came),
+        "feed" => put_feed(step.number, step.bytes, came),
+        "sink" => put_sink(step.number, step.bytes, came),
+        _ => take_lines(rt, step.what, step.text, came),
     }
 }

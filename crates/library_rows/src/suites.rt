@@ -1,26 +1,13 @@
 //! Trials and changes of a suite.
 
-use crate::installs::told_binary;
-use deb_control::Binary;
+use crate::installs::told_binaries;
 use std::alloc::{AllocError, Global};
 use std::mem;
-use std::rc::Rc;
 use testing_install::Suite;
-
-/// The packages that lines tell in short, to be shared.
-fn shared_binaries(alloc: Global, text: &str) -> Result<Vec<Rc<Binary>>, AllocError> {
-    let mut binaries = Vec::new(alloc);
-    for line in text.lines() {
-        if let Some(binary) = told_binary(alloc, line)? {
-            binaries.push(Rc::new(alloc, binary)?)?;
-        }
-    }
-    Ok(binaries)
-}
 
 /// Puts packages behind the rows of a suite, none of which is there yet.
 pub fn add_rows(alloc: Global, suite: &mut Suite, text: &str) -> Result<(), AllocError> {
-    let rows = shared_binaries(alloc, text)?;
+    let rows = told_binaries(alloc, text)?;
     match mem::replace(suite, Suite::new(alloc)).with_rows(alloc, rows) {
         Ok(longer) => {
             *suite = longer;
