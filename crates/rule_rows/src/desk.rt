@@ -4,11 +4,13 @@ use crate::fault::Fault;
 use crate::given::put_given;
 use crate::kept::keep;
 use crate::mail::{read_mail, take_back, take_on};
+use deb_version::NoMemory;
 use jiff::civil::Date;
 use office_mail::{Message, Setup};
 use std::alloc::Global;
 use testing_rules::{
-    Archs, FactRow, Facts, Testing, excuses, excuses_text, migrate, testing_text, update_text,
+    Archs, Excuses, FactRow, Facts, Testing, excuses, excuses_text, migrate, testing_text,
+    update_text,
 };
 
 /// What the steps of a row go on from: the mail so far and its facts, testing, how many runs are finished, and what they
@@ -40,13 +42,19 @@ impl Desk {
 /// What the steps of a row say, over facts that go on or over facts that are made anew.
 pub fn told(alloc: Global, setup: &Setup, row: &str, is_anew: bool) -> Result<String, Fault> {
     let mut desk = Desk::new(alloc, is_anew);
+    take_steps(alloc, setup, &mut desk, row)?;
+    Ok(desk.said)
+}
+
+/// Takes the steps of a row. The text before the first one is none.
+fn take_steps(alloc: Global, setup: &Setup, desk: &mut Desk, row: &str) -> Result<(), Fault> {
     let mut steps = row.split("\n> ");
     let _about = steps.next();
     for step in steps {
         let (what, text) = step.split_once('\n').unwrap_or((step, ""));
-        take_step(alloc, setup, &mut desk, what, text)?;
+        take_step(alloc, setup, desk, what, text)?;
     }
-    Ok(desk.said)
+    Ok(())
 }
 
 /// Takes one step.
@@ -70,19 +78,23 @@ fn take_step(
     }
 }
 
-/// Mail comes. Facts that go on take it in order, and then all mail so far again, the last one first. Facts that are made
-/// anew take the new mail alone, the last one first.
+/// Mail comes, and the facts take it.
 fn take_mail(alloc: Global, setup: &Setup, desk: &mut Desk, text: &str) -> Result<(), Fault> {
     let known = desk.mail.len();
     read_mail(alloc, setup, &mut desk.mail, text)?;
+    take_news(desk, known)?;
+    Ok(())
+}
+
+/// The facts take the mail from a place on. Facts that go on take it in order, and then all mail so far again, the last
+/// one first. Facts that are made anew take the new mail alone, the last one first.
+fn take_news(desk: &mut Desk, known: usize) -> Result<(), NoMemory> {
     let news = desk.mail.get(known..).unwrap_or(&[]);
     if desk.rows.is_some() {
-        take_back(&mut desk.facts, news)?;
-    } else {
-        take_on(&mut desk.facts, news)?;
-        take_back(&mut desk.facts, &desk.mail)?;
+        return take_back(&mut desk.facts, news);
     }
-    Ok(())
+    take_on(&mut desk.facts, news)?;
+    take_back(&mut desk.facts, &desk.mail)
 }
 
 /// Testing is put together from rows. Facts that are made anew go on beside its copy.
@@ -91,8 +103,7 @@ fn give(alloc: Global, setup: &Setup, desk: &mut Desk, text: &str) -> Result<(),
     if desk.rows.is_some() {
         desk.testing = desk.testing.copy()?;
     }
-    let testing = testing_text(alloc, setup.archs(), desk.runs, &desk.testing)?;
-    desk.said.push_str(testing.as_str())?;
+    say_testing(alloc, setup.archs(), desk)?;
     Ok(())
 }
 
@@ -102,29 +113,72 @@ fn run(alloc: Global, archs: &Archs, desk: &mut Desk, day: &str) -> Result<(), F
         return Err(Fault::Wrong("no such day"));
     };
     if desk.rows.is_none() {
-        return decide(alloc, archs, desk, date);
+        decide(alloc, archs, desk, date)?;
+        return Ok(());
     }
     let before = desk.testing.copy()?;
-    decide(alloc, archs, desk, date)?;
-    make_anew(alloc, desk, &before)
+    run_anew(alloc, archs, desk, date, &before)
 }
 
-/// The facts are kept beside the testing of a run, and made anew from their rows.
-fn make_anew(alloc: Global, desk: &mut Desk, before: &Testing) -> Result<(), Fault> {
+/// A run, behind which the facts are kept beside its testing, and made anew from their rows.
+fn run_anew(
+    alloc: Global,
+    archs: &Archs,
+    desk: &mut Desk,
+    date: Date,
+    before: &Testing,
+) -> Result<(), Fault> {
+    decide(alloc, archs, desk, date)?;
     match &mut desk.rows {
-        Some(rows) => keep(alloc, &desk.mail, &mut desk.facts, rows, before, &desk.testing),
+        Some(rows) => keep(
+            alloc,
+            &desk.mail,
+            &mut desk.facts,
+            rows,
+            before,
+            &desk.testing,
+        ),
         None => Ok(()),
     }
 }
 
 /// A run's excuses and its moves, and what it says.
-fn decide(alloc: Global, archs: &Archs, desk: &mut Desk, date: Date) -> Result<(), Fault> {
+fn decide(alloc: Global, archs: &Archs, desk: &mut Desk, date: Date) -> Result<(), NoMemory> {
     let run = desk.runs;
     let excuses = excuses(alloc, archs, &desk.facts, &desk.testing, date)?;
-    let update = migrate(alloc, archs, &desk.facts, &excuses, &mut desk.testing)?;
-    let said = &mut desk.said;
-    said.push_str(excuses_text(alloc, archs, run, date, &excuses)?.as_str())?;
-    said.push_str(update_text(alloc, archs, run, date, &update)?.as_str())?;
-    said.push_str(testing_text(alloc, archs, run, &desk.testing)?.as_str())?;
+    say(
+        &mut desk.said,
+        excuses_text(alloc, archs, run, date, &excuses)?,
+    )?;
+    move_by(alloc, archs, desk, date, &excuses)?;
+    say_testing(alloc, archs, desk)
+}
+
+/// A run's moves, and what they say.
+fn move_by(
+    alloc: Global,
+    archs: &Archs,
+    desk: &mut Desk,
+    date: Date,
+    excuses: &Excuses,
+) -> Result<(), NoMemory> {
+    let update = migrate(alloc, archs, &desk.facts, excuses, &mut desk.testing)?;
+    say(
+        &mut desk.said,
+        update_text(alloc, archs, desk.runs, date, &update)?,
+    )
+}
+
+/// What testing has.
+fn say_testing(alloc: Global, archs: &Archs, desk: &mut Desk) -> Result<(), NoMemory> {
+    say(
+        &mut desk.said,
+        testing_text(alloc, archs, desk.runs, &desk.testing)?,
+    )
+}
+
+/// A text comes behind what was said.
+fn say(said: &mut String, text: String) -> Result<(), NoMemory> {
+    said.push_str(text.as_str())?;
     Ok(())
 }

@@ -36,6 +36,18 @@ fn retake(facts: &mut Facts, mail: &[Message], names: &[Text]) -> Result<(), NoM
     Ok(())
 }
 
+/// The facts take all uploads of the sources again that testing lost, or holds in a lower version now.
+fn retake_fallen(
+    alloc: Global,
+    mail: &[Message],
+    facts: &mut Facts,
+    before: &Testing,
+    after: &Testing,
+) -> Result<(), NoMemory> {
+    let names = fallen(alloc, before, after)?;
+    retake(facts, mail, &names)
+}
+
 /// Whether a row is among these.
 fn has_row(rows: &[FactRow], row: FactRow) -> bool {
     for other in rows {
@@ -92,7 +104,13 @@ fn restored(alloc: Global, mail: &[Message], rows: &[FactRow]) -> Result<Facts, 
     Ok(facts)
 }
 
-/// The rows change as the facts did, beside a run's testing, and the facts are made anew from them.
+/// The rows change as the facts did.
+fn change_by(facts: &Facts, rows: &mut Vec<FactRow>) -> Result<(), Fault> {
+    let changes = facts.changes()?;
+    change(rows, &changes)
+}
+
+/// The rows change as the facts did beside a run's testing, and the facts are made anew from them.
 pub fn keep(
     alloc: Global,
     mail: &[Message],
@@ -101,10 +119,9 @@ pub fn keep(
     before: &Testing,
     after: &Testing,
 ) -> Result<(), Fault> {
-    let names = fallen(alloc, before, after)?;
-    retake(facts, mail, &names)?;
+    retake_fallen(alloc, mail, facts, before, after)?;
     facts.trim(after);
-    change(rows, &facts.changes()?)?;
+    change_by(facts, rows)?;
     *facts = restored(alloc, mail, rows)?;
     Ok(())
 }
