@@ -1,6 +1,6 @@
 #!/usr/bin/env python3
-"""Writes crates/rule_rows/data/random_suites, and crates/rule_rows/stdout: what is due for the rows of its stdin and for
-these suites."""
+"""Writes crates/rule_rows/data/random_suites, and crates/rule_rows/stdout: what is due for the rows of its stdin, and
+for these suites."""
 import sys
 sys.dont_write_bytecode = True
 from rows import DUE, ROWS, SUITES, due_rows, printed, read

@@ -1,8 +1,8 @@
-"""Random suites: mail of three runs, drawn by a generator of its own, so that they are the same wherever they are made."""
+"""Random suites of three runs. Their generator is their own, so that they are the same wherever they are made."""
 from judge import Unstable
 from mail import ARCHS, Mail
 
-# What is drawn: of the names the last is never a source or a package.
+# What is drawn: sources and packages have one of the first four names, and each next two versions are the same.
 NAMES = ["aa", "bb", "cc", "dd", "vv"]
 VERSIONS = ["1", "1-0", "1+b1", "1+b1-0", "2", "2-0", "3~", "3~-0", "3", "3-0"]
 OPS = ["<<", "<=", "=", ">=", ">=", ">>"]
@@ -31,7 +31,7 @@ class Draws:
         return items[place] if items else None
 
 
-class Suite:
+class RandomSuite:
     """A random suite of messages that are mostly about reasons, or mostly about moves."""
 
     def __init__(self, is_moves, seed):
@@ -149,15 +149,10 @@ class Suite:
 
     def wish(self):
         """The words of a hint before its items."""
-        choice = 12
-        if not self.is_moves:
-            choice = self.draws.below(12)
-        elif self.run > 1:
-            choice = self.draws.below(8) + 10
-        if 6 <= choice <= 8:
-            return "age-days %d" % self.draws.below(9)
-        return (["block"] * 3 + ["unblock"] * 6 + ["block-all source", "remove", "remove"])[choice] \
-            if choice < 12 else "easy"
+        if self.is_moves:
+            return self.draws.one_of(["remove"] * 2 + ["easy"] * 6) if self.run > 1 else "easy"
+        word = self.draws.one_of(["block"] * 3 + ["unblock"] * 3 + ["age-days"] * 3 + ["block-all source"] + ["remove"] * 2)
+        return "age-days %d" % self.draws.below(9) if word == "age-days" else word
 
     def item(self):
         """A name and a version: mostly those of an upload that came before, and of these mostly unstable's."""
@@ -185,11 +180,10 @@ class Suite:
     # Whole suites.
 
     def letter(self):
-        choice = self.draws.below(16) + 8 * self.is_moves
-        kinds = {0: self.drop, 1: self.drop, 2: self.bug, 3: self.bug, 4: self.delays, 5: self.unhint, 6: self.hint,
-                 7: self.hint, 8: self.some_build, 9: self.some_build, 10: self.some_build, 16: self.unhint,
-                 17: self.hint, 18: self.some_build, 19: self.some_build, 20: self.drop}
-        kinds.get(choice, self.source)()
+        """One more message, or two. Suites about moves have no bugs and no delays."""
+        kinds = [self.drop] * 2 + [self.bug] * 2 + [self.delays, self.unhint] + [self.hint] * 2 + [self.some_build] * 3 \
+            + [self.source] * 5 + [self.unhint, self.hint] + [self.some_build] * 2 + [self.drop] + [self.source] * 3
+        kinds[self.draws.below(16) + 8 * self.is_moves]()
 
     def given(self):
         """About half of unstable's rows, each by its sender, number and place, or none at all."""
@@ -218,7 +212,7 @@ class Suite:
 
 def suite_of(is_moves, seed):
     """The row of a suite."""
-    suite = Suite(is_moves, seed)
+    suite = RandomSuite(is_moves, seed)
     text = "=== %s, %d\n" % ("moves" if is_moves else "reasons", seed)
     for day in DAYS:
         mail, given = suite.mail_of_run()
