@@ -151,7 +151,8 @@ class RandomSuite:
         """The words of a hint before its items."""
         if self.is_moves:
             return self.draws.one_of(["remove"] * 2 + ["easy"] * 6) if self.run > 1 else "easy"
-        word = self.draws.one_of(["block"] * 3 + ["unblock"] * 3 + ["age-days"] * 3 + ["block-all source"] + ["remove"] * 2)
+        words = ["block"] * 3 + ["unblock"] * 3 + ["age-days"] * 3 + ["block-all source"] + ["remove"] * 2
+        word = self.draws.one_of(words)
         return "age-days %d" % self.draws.below(9) if word == "age-days" else word
 
     def item(self):

@@ -55,13 +55,18 @@ fn place_of(setup: &Setup, name: &str) -> Option<u32> {
     None
 }
 
+/// The binaries of an item: none where it is no build.
+fn binaries_in(item: &Item) -> &[Binary] {
+    match item {
+        Item::Build(binaries) => binaries.as_slice(),
+        _ => &[],
+    }
+}
+
 /// The binary that is named.
 fn binary_of(mail: &[Message], named: Named) -> Option<&Binary> {
-    let place = (named.place as usize).checked_sub(1)?;
-    match item_of(mail, named.sender, named.number)? {
-        Item::Build(binaries) => binaries.as_slice().get(place),
-        _ => None,
-    }
+    let item = item_of(mail, named.sender, named.number)?;
+    binaries_in(item).get((named.place as usize).wrapping_sub(1))
 }
 
 /// The place of an architecture.
@@ -74,7 +79,29 @@ fn arch_of(archs: &Archs, name: &str) -> u32 {
     ALL
 }
 
-/// Puts a row into testing, and its source at the version that it was built from.
+/// The row of a binary.
+fn row_of(alloc: Global, archs: &Archs, named: Named, binary: &Binary) -> Result<RowIn, NoMemory> {
+    Ok(RowIn {
+        arch: arch_of(archs, binary.architecture.as_str()),
+        binary: SharedBinary::copy_of(alloc, binary)?,
+        sender: named.sender,
+        number: named.number,
+        place: named.place,
+    })
+}
+
+/// The source of a binary, at the version that it was built from.
+fn source_of(alloc: Global, named: Named, binary: &Binary) -> Result<SourceIn, NoMemory> {
+    let version = binary.source_version.copy(alloc)?;
+    Ok(SourceIn {
+        name: binary.source.copy(alloc)?,
+        version,
+        sender: named.sender,
+        number: named.number,
+    })
+}
+
+/// Puts a row into testing, and its source.
 fn put(
     alloc: Global,
     archs: &Archs,
@@ -82,17 +109,6 @@ fn put(
     named: Named,
     binary: &Binary,
 ) -> Result<(), NoMemory> {
-    testing.set_row(RowIn {
-        arch: arch_of(archs, binary.architecture.as_str()),
-        binary: SharedBinary::copy_of(alloc, binary)?,
-        sender: named.sender,
-        number: named.number,
-        place: named.place,
-    })?;
-    testing.set_source(SourceIn {
-        name: binary.source.copy(alloc)?,
-        version: binary.source_version.copy(alloc)?,
-        sender: named.sender,
-        number: named.number,
-    })
+    testing.set_row(row_of(alloc, archs, named, binary)?)?;
+    testing.set_source(source_of(alloc, named, binary)?)
 }
