@@ -182,8 +182,10 @@ class RandomSuite:
 
     def letter(self):
         """One more message, or two. Suites about moves have no bugs and no delays."""
-        kinds = [self.drop] * 2 + [self.bug] * 2 + [self.delays, self.unhint] + [self.hint] * 2 + [self.some_build] * 3 \
-            + [self.source] * 5 + [self.unhint, self.hint] + [self.some_build] * 2 + [self.drop] + [self.source] * 3
+        reasons = [self.drop] * 2 + [self.bug] * 2 + [self.delays, self.unhint] + [self.hint] * 2
+        both = [self.some_build] * 3 + [self.source] * 5
+        moves = [self.unhint, self.hint] + [self.some_build] * 2 + [self.drop] + [self.source] * 3
+        kinds = reasons + both + moves
         kinds[self.draws.below(16) + 8 * self.is_moves]()
 
     def given(self):
