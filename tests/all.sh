@@ -43,6 +43,7 @@ try peers sh "$here/peers/store.sh" --by "$office"
 try trust python3 "$here/trust.py"
 try docs sh "$here/docs.sh" "$office"
 try rows python3 "$here/rows/check.py"
+try judges python3 "$here/judges/check.py"
 try counts python3 "$here/rows/counts.py"
 try drawn python3 "$here/rows/drawn_rows.py" --check
 try again python3 "$here/rows/opened_again.py" "$office" 1001-1200
