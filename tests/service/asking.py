@@ -251,13 +251,21 @@ def differences(folder):
 
 
 def refusals():
-    """A replay tells each refused message on standard error, with its place in the bag."""
+    """A replay tells each refused message on standard error, with its place in the bag, and what names it."""
     none = "From: ftp\nNumber: 1\nKind: none\n"
     texts = [none, "hello", "From: ftp\nNumber: 2\nKind: upload\n", none, none + "Note: other\n"]
-    due = [(2, "BadParagraph"), (3, "MissingField Source"), (5, "OtherText")]
+    strange = "From: \x1b[2J\nNumber: 3\nKind: none\n"
+    texts += ["Kind: none\n\nFrom: ftp\nNumber: 4\n", strange]
+    due = [
+        ("2", "BadParagraph"),
+        ("3, ftp 2", "MissingField Source"),
+        ("5, ftp 1", "OtherText"),
+        ("6", "MissingField From"),
+        ("7", "UnknownSender"),
+    ]
     words = [program, "replay", "--conf", CONF]
     ran = subprocess.run(words, input=mail(texts).encode(), capture_output=True, timeout=60)
-    told = "".join("office: standard input: message %d: refused %s\n" % refusal for refusal in due)
+    told = "".join("office: standard input: message %s: refused %s\n" % refusal for refusal in due)
     want("refusals of a replay", (told, 0), (ran.stderr.decode(), ran.returncode))
 
 

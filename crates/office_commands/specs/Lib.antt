@@ -1,3 +1,2 @@
 pub mod Service
 pub mod Told
-pub mod Watched

@@ -5,11 +5,11 @@ use crate::checking::tell_check;
 use crate::noted::Noted;
 use crate::service::{serve, service_status};
 use crate::telling::{tell_report, tell_version, tell_waiting};
-use crate::watched::Watched;
+use crate::watched::Teller;
 use office_files::{
     ConfFault, StoreFault, close_store, conf_status, open_store, read_setup, store_status,
 };
-use office_http::{Office, Replayed, WriteFault, replay, replay_status};
+use office_http::{Office, Replayed, WriteFault, replay_status, replay_watched};
 use office_mail::{Bag, BagFault, FromRead, Setup, ToWrite};
 use office_store::{Keeper, Plain, Tables};
 use office_words::{Report, Words, compare, refuse_report};
@@ -202,10 +202,10 @@ fn deliver_and_tell<K: Keeper>(rt: &HostRuntime, office: &mut Office<K>) -> u8 {
 
 /// Replays the bag on standard input in an office, and gives the exit status.
 fn replay_to<K: Keeper, W: Write>(rt: &HostRuntime, office: &mut Office<K>, output: &mut W) -> u8 {
-    let mut writer = ToWrite::new(Watched::new(rt, &mut *output));
+    let mut writer = ToWrite::new(&mut *output);
     let mut input = Noted::new(rt.stdin());
     let mut bag = Bag::new(rt.alloc(), FromRead::new(&mut input));
-    let mut replayed = replay(office, &mut bag, &mut writer);
+    let mut replayed = replay_watched(office, &mut bag, &mut writer, &mut Teller::new(rt));
     drop(bag);
     if output.flush().is_err() {
         replayed = Err(WriteFault);

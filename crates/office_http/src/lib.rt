@@ -8,5 +8,7 @@ pub use office_replies::{
     Awaited, DeliverFault, Delivery, Held, Lack, Mark, Progress, StoreFault, Waiting, WriteFault,
     waiting_text,
 };
-pub use office_runs::{Office, Replayed, laws, replay, replay_status};
+pub use office_runs::{
+    Office, Replayed, Unwatched, Watcher, laws, replay, replay_status, replay_watched,
+};
 pub use serve::{ServeFault, Served, serve_one};

@@ -15,6 +15,8 @@ mod rules;
 mod runs;
 mod stored;
 mod waiting;
+mod watching;
 
 pub use office::Office;
-pub use replays::{Replayed, replay, replay_status, settle_behind};
+pub use replays::{Replayed, replay, replay_status, replay_watched, settle_behind};
+pub use watching::{Unwatched, Watcher};

@@ -14,6 +14,7 @@ ghost use Rattle.office_replies.specs.Replies.{mark_of};
 
 use crate::ending::{either, write_bag, write_end, write_refusal};
 use crate::office::Office;
+use crate::watching::{Unwatched, Watcher};
 use office_keeper::Keeper;
 use office_mail::{Bag, BagFault, Feed, MailFault, Sink};
 use office_replies::{DeliverFault, Held, Mark, WriteFault, write_reply};
@@ -34,16 +35,30 @@ pub fn settle_behind<K: Keeper>(office: &mut Office<K>, reply: &Result<Held, Del
     ensures carries { Preserves K.Keeper office.old office.new }
     ensures settles { Holds K.Keeper office.old office.new → Settles (state_of K.Keeper office.old) (state_of K.Keeper office.new) (is_ok reply.now) (StoreRefused K.Keeper office.old office.new) }
 {
+    settle_watched(office, reply, &mut Unwatched);
+}
+
+/// The same, of which a watcher is told.
+fn settle_watched<K: Keeper, V: Watcher>(
+    office: &mut Office<K>,
+    reply: &Result<Held, DeliverFault>,
+    watcher: &mut V,
+)
+    ensures carries { Preserves K.Keeper office.old office.new }
+    ensures settles { Holds K.Keeper office.old office.new → Settles (state_of K.Keeper office.old) (state_of K.Keeper office.new) (is_ok reply.now) (StoreRefused K.Keeper office.old office.new) }
+{
     if reply.is_ok() {
-        let _ = office.settle();
+        let settled = office.settle();
+        watcher.settled(&settled);
     }
 }
 
 /// Delivers a text, writes the line that answers it, and settles where it is held.
-pub(crate) fn deliver_one<K: Keeper, W: Sink>(
+pub(crate) fn deliver_one<K: Keeper, W: Sink, V: Watcher>(
     office: &mut Office<K>,
     text: &[u8],
     writer: &mut W,
+    watcher: &mut V,
 ) -> Result<Mark, WriteFault>
     ensures carries { Preserves K.Keeper office.old office.new }
     ensures ok { Holds K.Keeper office.old office.new → IfOk result (λ mark. DeliversOne (state_of K.Keeper office.old) (state_of K.Keeper office.new) text.now mark (W.written writer.old) (W.written writer.new) (StoreRefused K.Keeper office.old office.new)) }
@@ -53,8 +68,9 @@ pub(crate) fn deliver_one<K: Keeper, W: Sink>(
     ensures clean { OnOk result (W.failures writer.new ≡ W.failures writer.old) }
 {
     let reply = office.deliver(text);
+    watcher.delivered(text, &reply);
     write_reply(office.setup(), &reply, writer)?;
-    settle_behind(office, &reply);
+    settle_watched(office, &reply, watcher);
     Ok(mark_of(&reply))
 }
 
@@ -66,10 +82,11 @@ pub(crate) struct Delivered {
 }
 
 /// Delivers the messages of a bag in turn, up to its end.
-pub(crate) fn deliver_all<K: Keeper, R: Feed, W: Sink>(
+pub(crate) fn deliver_all<K: Keeper, R: Feed, W: Sink, V: Watcher>(
     office: &mut Office<K>,
     bag: &mut Bag<R>,
     writer: &mut W,
+    watcher: &mut V,
 ) -> Result<Delivered, WriteFault>
     requires { bag.old.ended ≡ false }
     ensures carries { Preserves K.Keeper office.old office.new }
@@ -90,7 +107,7 @@ pub(crate) fn deliver_all<K: Keeper, R: Feed, W: Sink>(
     loop {
         match bag.next() {
             Ok(Some(text)) => {
-                let mark = deliver_one(office, &text, writer)?;
+                let mark = deliver_one(office, &text, writer, watcher)?;
                 lost = lost || mark.is_lost();
             }
             Ok(None) => return Ok(Delivered { end: None, lost }),
@@ -141,14 +158,38 @@ pub fn replay<K: Keeper, R: Feed, W: Sink>(
     ensures cause { OnErr result (HasRisen (W.failures writer.old) (W.failures writer.new)) }
     ensures clean { OnOk result (W.failures writer.new ≡ W.failures writer.old) }
 {
-    replay_bag(office, bag, writer)
+    replay_watched(office, bag, writer, &mut Unwatched)
 }
 
-/// Delivers the messages of a bag, if the count of finished runs is to be had.
-fn replay_bag<K: Keeper, R: Feed, W: Sink>(
+/// The same, where a watcher is told each delivery.
+pub fn replay_watched<K: Keeper, R: Feed, W: Sink, V: Watcher>(
     office: &mut Office<K>,
     bag: &mut Bag<R>,
     writer: &mut W,
+    watcher: &mut V,
+) -> Result<Replayed, WriteFault>
+    requires { bag.old.ended ≡ false }
+    ensures carries { Preserves K.Keeper office.old office.new }
+    ensures ok { Holds K.Keeper office.old office.new → IfOk result (λ replayed. Replays (state_of K.Keeper office.old) (state_of K.Keeper office.new) bag.old bag.new (W.written writer.old) (W.written writer.new) replayed (StoreRefused K.Keeper office.old office.new)) }
+    ensures err { Holds K.Keeper office.old office.new → OnErr result (StopsReplay (state_of K.Keeper office.old) (state_of K.Keeper office.new) bag.old bag.new (W.written writer.old) (W.written writer.new) (StoreRefused K.Keeper office.old office.new)) }
+    ensures runs { Holds K.Keeper office.old office.new → RunsStand (K.content office.old) (K.content office.new) }
+    ensures read_cause { IfOk result (λ replayed. replayed.bag ≡ Some BagFault.ReadFault → ReadFails bag.old bag.new) }
+    ensures read_clean { IfOk result (λ replayed. (replayed.bag ≡ Some BagFault.ReadFault) ⊎ (bag.new.failures ≡ bag.old.failures)) }
+    ensures reads { bag.old.reads ≤ 1_000_000 → bag.new.reads ≤ 1_000_000 }
+    ensures calls { bag.new.calls + bag.old.reads ≤ bag.old.calls + bag.new.reads }
+    ensures counts { CountsEach bag.old bag.new }
+    ensures cause { OnErr result (HasRisen (W.failures writer.old) (W.failures writer.new)) }
+    ensures clean { OnOk result (W.failures writer.new ≡ W.failures writer.old) }
+{
+    replay_bag(office, bag, writer, watcher)
+}
+
+/// Delivers the messages of a bag, if the count of finished runs is to be had.
+fn replay_bag<K: Keeper, R: Feed, W: Sink, V: Watcher>(
+    office: &mut Office<K>,
+    bag: &mut Bag<R>,
+    writer: &mut W,
+    watcher: &mut V,
 ) -> Result<Replayed, WriteFault>
     requires { bag.old.ended ≡ false }
     ensures carries { Preserves K.Keeper office.old office.new }
@@ -163,7 +204,7 @@ fn replay_bag<K: Keeper, R: Feed, W: Sink>(
     ensures clean { OnOk result (W.failures writer.new ≡ W.failures writer.old) }
 {
     match office.finished() {
-        Ok(before) => replay_from(office, before, bag, writer),
+        Ok(before) => replay_from(office, before, bag, writer, watcher),
         Err(fault) => {
             write_refusal(fault, writer)?;
             Ok(Replayed {
@@ -175,11 +216,12 @@ fn replay_bag<K: Keeper, R: Feed, W: Sink>(
 }
 
 /// The same, where this count of runs is finished.
-fn replay_from<K: Keeper, R: Feed, W: Sink>(
+fn replay_from<K: Keeper, R: Feed, W: Sink, V: Watcher>(
     office: &mut Office<K>,
     before: u32,
     bag: &mut Bag<R>,
     writer: &mut W,
+    watcher: &mut V,
 ) -> Result<Replayed, WriteFault>
     requires { bag.old.ended ≡ false }
     ensures carries { Preserves K.Keeper office.old office.new }
@@ -194,7 +236,7 @@ fn replay_from<K: Keeper, R: Feed, W: Sink>(
     ensures cause { OnErr result (HasRisen (W.failures writer.old) (W.failures writer.new)) }
     ensures clean { OnOk result (W.failures writer.new ≡ W.failures writer.old) }
 {
-    let delivered = deliver_all(office, bag, writer)?;
+    let delivered = deliver_all(office, bag, writer, watcher)?;
     let settled = office.settle().is_ok();
     write_bag(delivered.end, writer)?;
     let missing = write_end(office, before, writer)?;

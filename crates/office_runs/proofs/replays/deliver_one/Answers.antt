@@ -31,19 +31,19 @@ returns-clause-ok g c =
     let keeper = g.K.Keeper in
     let s0 = c.args.office.now in
     let s1 = c.deliver-reply.new.self in
-    let s2 = c.settle_behind.new.office in
+    let s2 = c.settle_watched.new.office in
     let text = c.args.text.now in
     let r = c.deliver-reply.result in
     let e = c.deliver-reply.ensures in
     let w0 = g.W.Sink.written c.args.writer.now in
     let w1 = g.W.Sink.written c.write_reply.new.writer in
     let one = carries_delivery keeper s0 s1 r e.before e.sound e.setup e.counted e.lasts in
-    let two = c.settle_behind.ensures.carries in
+    let two = c.settle_watched.ensures.carries in
     λ h.
     let h1 = holds_first keeper s0 s1 s2 two h in
     let h2 = holds_next keeper s0 s1 s2 one two h in
     subst (λ (m : Mark). DeliversOne (state_of keeper s0) (state_of keeper s2) text m w0 w1 (StoreRefused keeper s0 s2)) (sym c.mark_of.ensures)
     (delivers_one (StoreRefused keeper s0 s1) (StoreRefused keeper s1 s2) (StoreRefused keeper s0 s2) (state_of keeper s0) (state_of keeper s1) (state_of keeper s2) text r w0 w1
     (leaves_call keeper s0 s1 text r (e.answer h1.0 h1.1) (e.kept h1.0 h1.1) (e.finished h1.0 h1.1) (e.err h1.0 h1.1) e.setup e.counted) (refused_first keeper s0 s1 s2 two)
-    (c.settle_behind.ensures.settles h2) (refused_next keeper s0 s1 s2 one)
+    (c.settle_watched.ensures.settles h2) (refused_next keeper s0 s1 s2 one)
     (subst (λ (l : Lists). Appends w0 w1 (reply_line l r)) c.setup.ensures.setup c.in_ok-write_reply.ensures.ok))

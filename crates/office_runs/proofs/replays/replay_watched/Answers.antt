@@ -1,7 +1,7 @@
 use Rattle.office_runs.specs.Preserves.{StoreRefused}
 use Rattle.office_runs.specs.State.{state_of}
 use Rattle.office_runs.proofs.StandFacts.{grows_replay, stand_after}
-use Rattle.office_runs.proofs.replays.replay.Goals as goal
+use Rattle.office_runs.proofs.replays.replay_watched.Goals as goal
 
 pub returns-clause-runs : goal.returns-clause-runs
 returns-clause-runs g c =
