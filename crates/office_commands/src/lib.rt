@@ -9,9 +9,9 @@ mod checking;
 mod noted;
 mod service;
 mod tasks;
+mod teller;
 mod telling;
 mod timed;
-mod watched;
 
 pub use office_files::{
     ConfFault, StoreFault, close_store, conf_status, open_store, open_tables, read_setup,

@@ -4,8 +4,8 @@ use crate::asking::{Question, tell_answer};
 use crate::checking::tell_check;
 use crate::noted::Noted;
 use crate::service::{serve, service_status};
+use crate::teller::Teller;
 use crate::telling::{tell_report, tell_version, tell_waiting};
-use crate::watched::Teller;
 use office_files::{
     ConfFault, StoreFault, close_store, conf_status, open_store, read_setup, store_status,
 };

@@ -65,8 +65,7 @@ impl<'a> Teller<'a> {
         if now.duration_since(told) >= Duration::from_millis(PACE) {
             let _ = eprintln!(self.rt;
                 "office: standard input: {} messages so far, {} runs finished",
-                self.messages,
-                self.finished
+                self.messages, self.finished
             );
             self.told = Some(now);
         }
@@ -93,7 +92,10 @@ impl Watcher for Teller<'_> {
 
 /// Whether a message was lost, of which the end of the replay tells.
 fn is_loss(fault: DeliverFault) -> bool {
-    matches!(fault, DeliverFault::Store | DeliverFault::Mail(MailFault::NoMemory))
+    matches!(
+        fault,
+        DeliverFault::Store | DeliverFault::Mail(MailFault::NoMemory)
+    )
 }
 
 /// The sender and the number of a message, where its first paragraph has both in plain letters.
