@@ -114,8 +114,8 @@ impl<'u, 'a> LiveTesting<'u, 'a> {
     pub fn move_group(&mut self, alloc: Global, group: &[Text]) -> Result<(), NoMemory>
         ensures { OnOk result (self.new ≡ after_move group.now self.old) }
     {
-        let rows = mem::replace(&mut self.rows, LiveRows::Listed(Vec::new(alloc)));
         move_sources(alloc, &mut self.sources, self.unstable.sources, group)?;
+        let rows = mem::replace(&mut self.rows, LiveRows::Listed(Vec::new(alloc)));
         self.rows = rows.moved(alloc, self.unstable, group)?;
         Ok(())
     }

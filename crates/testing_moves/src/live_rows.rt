@@ -52,70 +52,23 @@ fn moved_suites(
     suites.after(alloc, &change)
 }
 
-/// Equal rows after the move of a group.
-fn copies_moved<'a>(
+/// A list of the rows after the move of a group, in place of them.
+fn listed_moved<'a>(
     alloc: Global,
-    rows: &[LentRow<'a>],
+    rows: &'a LiveRows,
     unstable: Unstable<'_, 'a>,
-    group: &[Text],
-) -> Result<Vec<RowIn>, NoMemory>
-    requires sources { AreBySource (unboxed unstable.sources.now) }
-    requires order { AreByKey (lent rows.now) }
-    ensures rows { IfOk result (λ new. new.items ≡ moved_rows (unboxed unstable.entry.sources.now) (lent unstable.entry.rows.now) group.now (lent rows.now)) }
-    ensures ordered { IfOk result (λ new. AreByKey new.items) }
-{
-    let moved = moved_rows(alloc, rows, unstable, group)?;
-    let copies = copy_lent(alloc, &moved)?;
-    Ok(copies)
-}
-
-/// A list of rows after the move of a group.
-fn list_moved<'a>(
-    alloc: Global,
-    rows: &'a [RowIn],
-    unstable: Unstable<'_, 'a>,
-    group: &[Text],
-) -> Result<Vec<RowIn>, NoMemory>
-    requires sources { AreBySource (unboxed unstable.sources.now) }
-    requires order { AreByKey rows.now }
-    ensures rows { IfOk result (λ new. new.items ≡ moved_rows (unboxed unstable.entry.sources.now) (lent unstable.entry.rows.now) group.now rows.now) }
-    ensures ordered { IfOk result (λ new. AreByKey new.items) }
-{
-    let rows = lend_rows(alloc, rows)?;
-    let moved = copies_moved(alloc, &rows, unstable, group)?;
-    Ok(moved)
-}
-
-/// The rows of a pool that stand, as a list after the move of a group.
-fn standing_moved<'a>(
-    alloc: Global,
-    suites: &'a PoolSuites,
-    unstable: Unstable<'_, 'a>,
-    group: &[Text],
-) -> Result<Vec<RowIn>, NoMemory>
-    requires { AreBySource (unboxed unstable.sources.now) }
-    ensures rows { IfOk result (λ new. new.items ≡ moved_rows (unboxed unstable.entry.sources.now) (lent unstable.entry.rows.now) group.now (present_rows suites.now)) }
-    ensures ordered { IfOk result (λ new. AreByKey new.items) }
-{
-    let rows = suites.rows(alloc)?;
-    let moved = copies_moved(alloc, &rows, unstable, group)?;
-    Ok(moved)
-}
-
-/// A list of the rows of a pool after the move of a group, in place of the pool.
-fn listed_moved(
-    alloc: Global,
-    suites: PoolSuites,
-    unstable: Unstable<'_, '_>,
     group: &[Text],
 ) -> Result<LiveRows, NoMemory>
-    requires { AreBySource (unboxed unstable.sources.now) }
-    ensures rows { IfOk result (λ new. held new ≡ moved_rows (unboxed unstable.entry.sources.now) (lent unstable.entry.rows.now) group.now (present_rows suites)) }
+    requires sources { AreBySource (unboxed unstable.sources.now) }
+    requires by_key { AreByKey (held rows.now) }
+    ensures rows { IfOk result (λ new. held new ≡ moved_rows (unboxed unstable.entry.sources.now) (lent unstable.entry.rows.now) group.now (held rows.now)) }
     ensures live { IfOk result (λ new. (archs : List Word) → AreLive new archs (lent unstable.entry.rows.now)) }
     ensures by_key { IfOk result (λ new. AreByKey (held new)) }
 {
-    let moved = standing_moved(alloc, &suites, unstable, group)?;
-    Ok(LiveRows::Listed(moved))
+    let rows = rows.list(alloc)?;
+    let moved = moved_rows(alloc, &rows, unstable, group)?;
+    let copies = copy_lent(alloc, &moved)?;
+    Ok(LiveRows::Listed(copies))
 }
 
 /// The rows of a pool after the move of a group. They are a list from then on where the suites leave out rows of one of
@@ -137,7 +90,8 @@ fn moved_from_pool(
         let suites = moved_suites(alloc, suites, unstable, group)?;
         Ok(LiveRows::Pooled(suites))
     } else {
-        listed_moved(alloc, suites, unstable, group)
+        let rows = LiveRows::Pooled(suites);
+        listed_moved(alloc, &rows, unstable, group)
     }
 }
 
@@ -234,8 +188,8 @@ impl LiveRows {
         match self {
             LiveRows::Pooled(suites) => moved_from_pool(alloc, suites, unstable, group),
             LiveRows::Listed(rows) => {
-                let moved = list_moved(alloc, &rows, unstable, group)?;
-                Ok(LiveRows::Listed(moved))
+                let rows = LiveRows::Listed(rows);
+                listed_moved(alloc, &rows, unstable, group)
             }
         }
     }
