@@ -96,18 +96,18 @@ fn moved_from_pool(
 }
 
 /// The suites once a source is removed.
-fn suites_without(alloc: Global, suites: PoolSuites, name: &str) -> Result<PoolSuites, NoMemory>
+fn suites_without(alloc: Global, suites: PoolSuites, name: &Text) -> Result<PoolSuites, NoMemory>
     ensures rows { IfOk result (λ new. (archs : List Word) (unstable : List ARow) → IsLive suites archs unstable (present_rows suites)
         → present_rows new ≡ rows_without name.now (present_rows suites)) }
     ensures live { IfOk result (λ new. (archs : List Word) (unstable : List ARow) → IsLive suites archs unstable (present_rows suites)
         → IsLive new archs unstable (present_rows new)) }
 {
-    let change = suites.change_by_removal(alloc, name)?;
+    let change = suites.change_by_removal(alloc, name.as_str())?;
     suites.after(alloc, &change)
 }
 
 /// A list of the rows of other sources.
-fn list_without(alloc: Global, rows: &[RowIn], name: &str) -> Result<Vec<RowIn>, NoMemory>
+fn list_without(alloc: Global, rows: &[RowIn], name: &Text) -> Result<Vec<RowIn>, NoMemory>
     ensures { IfOk result (λ left. left.items ≡ rows_without name.now rows.now) }
 {
     let rows = lend_rows(alloc, rows)?;
@@ -195,7 +195,7 @@ impl LiveRows {
     }
 
     /// The rows after the removal of a source.
-    pub fn without(self, alloc: Global, name: &str) -> Result<LiveRows, NoMemory>
+    pub fn without(self, alloc: Global, name: &Text) -> Result<LiveRows, NoMemory>
         requires { AreByKey (held self) }
         ensures rows { IfOk result (λ new. (archs : List Word) (unstable : List ARow) → AreLive self archs unstable
             → held new ≡ rows_without name.now (held self)) }

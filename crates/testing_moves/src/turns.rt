@@ -105,7 +105,7 @@ impl<'u, 'a> Turns<'u, 'a> {
         ensures { OnOk result (self.new ≡ go_on self.old (λ _ t. decide decision (remove_source name.now t))) }
     {
         self.decisions.push(decision)?;
-        self.testing.remove(alloc, name.as_str())?;
+        self.testing.remove(alloc, name)?;
         Ok(())
     }
 
@@ -120,7 +120,7 @@ impl<'u, 'a> Turns<'u, 'a> {
         ensures { OnOk result (self.new ≡ go_on self.old (λ b. rules.remove_version b.archs hint name.now version)) }
     {
         let copy = name.copy(alloc)?;
-        match self.testing.broken_by_removal(alloc, name.as_str())? {
+        match self.testing.broken_by_removal(alloc, name)? {
             None => {
                 let decision = Decision::RemoveDone {
                     hint,
