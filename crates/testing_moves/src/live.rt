@@ -152,7 +152,7 @@ impl<'u, 'a> LiveTesting<'u, 'a> {
             sources,
             rows,
         } = self;
-        let sources = own_sources(alloc, sources)?;
+        let sources = own_sources(alloc, &sources)?;
         let (rows, kept) = rows.into_parts(alloc)?;
         Testing::of(alloc, sources, rows, kept)
     }
