@@ -112,8 +112,7 @@ fn list_without(alloc: Global, rows: &[RowIn], name: &Text) -> Result<Vec<RowIn>
 {
     let rows = lend_rows(alloc, rows)?;
     let left = rows_without(alloc, &rows, name)?;
-    let copies = copy_lent(alloc, &left)?;
-    Ok(copies)
+    copy_lent(alloc, &left)
 }
 
 /// The suites that are kept of the rows, or new ones: where there are none, where they are of another number of
@@ -146,8 +145,7 @@ fn standing_rows(alloc: Global, suites: &PoolSuites) -> Result<Vec<RowIn>, NoMem
     ensures { IfOk result (λ rows. rows.items ≡ present_rows suites.now) }
 {
     let rows = suites.rows(alloc)?;
-    let copies = copy_lent(alloc, &rows)?;
-    Ok(copies)
+    copy_lent(alloc, &rows)
 }
 
 impl LiveRows {
