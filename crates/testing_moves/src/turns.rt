@@ -99,8 +99,8 @@ impl<'u, 'a> Turns<'u, 'a> {
     fn accept_removal(
         &mut self,
         alloc: Global,
-        decision: Decision,
         name: &Text,
+        decision: Decision,
     ) -> Result<(), NoMemory>
         ensures { OnOk result (self.new ≡ go_on self.old (λ _ t. decide decision (remove_source name.now t))) }
     {
@@ -127,7 +127,7 @@ impl<'u, 'a> Turns<'u, 'a> {
                     name: copy,
                     version,
                 };
-                self.accept_removal(alloc, decision, name)
+                self.accept_removal(alloc, name, decision)
             }
             Some(offender) => self.refuse(Decision::RemoveRefused {
                 hint,
