@@ -1,6 +1,10 @@
 -- Steps: no contract of a call that users make rests on this file.
 -- What a run goes by, and how far it has come.
-use Rattle.std.specs.Prelude.{List, [], Option}
+use Rattle.std.specs.Prelude.{List, [], Option, filter}
+use Rattle.std.specs.List.{flat_map}
+use Rattle.testing_model.specs.declared.excuse.Excuse.{Excuse}
+use Rattle.testing_model.specs.declared.facts.HintIn.{HintIn}
+use Rattle.testing_model.specs.declared.facts.UnhintIn.{UnhintIn}
 use Rattle.testing_model.specs.declared.facts.UploadIn.{UploadIn}
 use Rattle.testing_model.specs.declared.suite.RowIn.{RowIn}
 use Rattle.testing_model.specs.declared.update.Decision.{Decision}
@@ -8,7 +12,8 @@ use Rattle.testing_model.specs.declared.update.Offender.{Offender}
 use Rattle.testing_model.specs.Suite.{Suite}
 use Rattle.testing_items.specs.Words.{Text}
 use Rattle.testing_model.specs.Moves.{move_group, remove_source, offender_of}
-use Rattle.testing_model.specs.Updates.{Outcome, then_do, decide}
+use Rattle.testing_model.specs.Unstable.{is_in_force}
+use Rattle.testing_model.specs.Updates.{Outcome, then_do, decide, in_turn, remove_item, removals_of, move_easy, move_singles, wait_all}
 
 -- what stays during a run: the architectures, and unstable's sources and rows
 pub record Basis : Type 0 where
@@ -53,3 +58,12 @@ go_on r step = record { basis = r.basis; outcome = then_do r.outcome (step r.bas
 -- a decision by which a group moves
 abbrev pub decide_move : Decision → List Text → Basis → Suite → Outcome
 decide_move d group b t = decide d (move_group b.sources b.rows group t)
+
+-- a run after all its turns
+abbrev pub after_turns : List Excuse → List HintIn → List UnhintIn → Run → Run
+after_turns excuses hints unhints r =
+    let hints_in_force = filter (is_in_force unhints) hints in
+    let removed = go_on r (λ b. in_turn (remove_item b.archs) (flat_map removals_of hints_in_force)) in
+    let grouped = go_on removed (λ b. in_turn (move_easy b.archs b.sources b.rows excuses) hints_in_force) in
+    let single = go_on grouped (λ b. move_singles b.archs b.sources b.rows excuses) in
+    go_on single (λ b. wait_all b.archs b.sources b.rows excuses)

@@ -44,7 +44,7 @@ fn broken_by_move_anew<'a>(
 fn broken_by_removal_anew(
     alloc: Global,
     archs: &Archs,
-    name: &str,
+    name: &Text,
     rows: &[LentRow],
 ) -> Result<Option<Offender>, NoMemory>
     ensures { IfOk result (λ o. o ≡ rules.offender_of archs.now (lent rows.now) (rows_without name.now (lent rows.now)) []) }
@@ -99,14 +99,14 @@ fn told_by_removal(
     alloc: Global,
     suites: &mut PoolSuites,
     archs: &Archs,
-    name: &str,
+    name: &Text,
 ) -> Result<Option<Offender>, NoMemory>
     requires count { suites.old.archs ≡ length archs.now }
     requires shown { IsShown suites.old.rows (marked suites.old.stands) (present_rows suites.old) }
     ensures same { suites.new ≡ suites.old }
     ensures offender { IfOk result (λ o. o ≡ rules.offender_of archs.now (present_rows suites.old) (rows_without name.now (present_rows suites.old)) []) }
 {
-    let change = suites.change_by_removal(alloc, name)?;
+    let change = suites.change_by_removal(alloc, name.as_str())?;
     suites.first_lost(alloc, &change)
 }
 
@@ -154,7 +154,7 @@ pub fn broken_by_removal(
     rows: &mut LiveRows,
     archs: &Archs,
     unstable: Unstable<'_, '_>,
-    name: &str,
+    name: &Text,
 ) -> Result<Option<Offender>, NoMemory>
     requires { AreLive rows.old archs.now (lent unstable.rows.now) }
     ensures same { rows.new ≡ rows.old }

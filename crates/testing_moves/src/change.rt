@@ -9,7 +9,7 @@ ghost use Rattle.testing_model.specs.JudgedRows.{row_of};
 ghost use Rattle.testing_model.specs.Moves.{group_sources};
 ghost use Rattle.testing_suites.specs.Tried.{IsWithin, IsRemovalOf};
 
-use crate::offender::is_same_key;
+use crate::offender::{is_of, is_same_key};
 use deb_control::Text;
 use deb_version::NoMemory;
 use std::alloc::Global;
@@ -31,7 +31,7 @@ fn stands_of(pool: &Pool, stands: &[bool], name: &str, place: usize) -> bool
     requires flags { length stands.now ≡ length pool.now }
     ensures { result ≡ stands_of pool.now stands.now name.now place }
 {
-    stands[place] && pool.row(place).binary.source.as_str() == name
+    stands[place] && is_of(&pool.row(place), name)
 }
 
 /// The row at the place stands and has the key of the other.

@@ -66,7 +66,12 @@ fn is_found(excuses: &[Excuse], name: &str, version: &Version) -> bool
 fn is_among(excuses: &[Excuse], name: &str, version: &Version) -> bool
     ensures { result ≡ rules.is_candidate excuses.now name.now version.now }
 {
-    excuses.iter().any(|excuse| allows(excuse, name, version))
+    for excuse in excuses {
+        if allows(excuse, name, version) {
+            return true;
+        }
+    }
+    false
 }
 
 /// The source is a candidate at the version. Only where a search by halves doesn't find that, all excuses are looked

@@ -13,6 +13,7 @@ use crate::offender::is_row_of;
 use deb_control::Text;
 use deb_version::NoMemory;
 use std::alloc::Global;
+use std::slice;
 use testing_facts::{Unstable, is_current, source_in};
 use testing_model::{LentRow, RowIn, UploadIn};
 use testing_suites::put_row;
@@ -77,17 +78,11 @@ pub fn moved_rows<'a>(
 pub fn rows_without<'a>(
     alloc: Global,
     rows: &[LentRow<'a>],
-    name: &str,
+    name: &Text,
 ) -> Result<Vec<LentRow<'a>>, NoMemory>
     ensures { IfOk result (λ kept. lent kept.items ≡ rows_without name.now (lent rows.now)) }
 {
-    let mut kept = Vec::new(alloc);
-    for row in rows {
-        if row.binary.source.as_str() != name {
-            kept.push(*row)?;
-        }
-    }
-    Ok(kept)
+    other_rows(alloc, rows, slice::from_ref(name))
 }
 
 /// Equal rows.

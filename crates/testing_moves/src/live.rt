@@ -114,8 +114,8 @@ impl<'u, 'a> LiveTesting<'u, 'a> {
     pub fn move_group(&mut self, alloc: Global, group: &[Text]) -> Result<(), NoMemory>
         ensures { OnOk result (self.new ≡ after_move group.now self.old) }
     {
-        let rows = mem::replace(&mut self.rows, LiveRows::Listed(Vec::new(alloc)));
         move_sources(alloc, &mut self.sources, self.unstable.sources, group)?;
+        let rows = mem::replace(&mut self.rows, LiveRows::Listed(Vec::new(alloc)));
         self.rows = rows.moved(alloc, self.unstable, group)?;
         Ok(())
     }
@@ -124,7 +124,7 @@ impl<'u, 'a> LiveTesting<'u, 'a> {
     pub fn broken_by_removal(
         &mut self,
         alloc: Global,
-        name: &str,
+        name: &Text,
     ) -> Result<Option<Offender>, NoMemory>
         ensures same { self.new ≡ self.old }
         ensures offender { IfOk result (λ o. o ≡ broken_by_removal name.now self.old) }
@@ -133,11 +133,11 @@ impl<'u, 'a> LiveTesting<'u, 'a> {
     }
 
     /// Removes a source.
-    pub fn remove(&mut self, alloc: Global, name: &str) -> Result<(), NoMemory>
+    pub fn remove(&mut self, alloc: Global, name: &Text) -> Result<(), NoMemory>
         ensures { OnOk result (self.new ≡ after_removal name.now self.old) }
     {
         let rows = mem::replace(&mut self.rows, LiveRows::Listed(Vec::new(alloc)));
-        take_source(&mut self.sources, name);
+        take_source(&mut self.sources, name.as_str());
         self.rows = rows.without(alloc, name)?;
         Ok(())
     }
@@ -152,7 +152,7 @@ impl<'u, 'a> LiveTesting<'u, 'a> {
             sources,
             rows,
         } = self;
-        let sources = own_sources(alloc, sources)?;
+        let sources = own_sources(alloc, &sources)?;
         let (rows, kept) = rows.into_parts(alloc)?;
         Testing::of(alloc, sources, rows, kept)
     }

@@ -52,70 +52,23 @@ fn moved_suites(
     suites.after(alloc, &change)
 }
 
-/// Equal rows after the move of a group.
-fn copies_moved<'a>(
+/// A list of the rows after the move of a group, in place of them.
+fn listed_moved<'a>(
     alloc: Global,
-    rows: &[LentRow<'a>],
+    rows: &'a LiveRows,
     unstable: Unstable<'_, 'a>,
-    group: &[Text],
-) -> Result<Vec<RowIn>, NoMemory>
-    requires sources { AreBySource (unboxed unstable.sources.now) }
-    requires order { AreByKey (lent rows.now) }
-    ensures rows { IfOk result (λ new. new.items ≡ moved_rows (unboxed unstable.entry.sources.now) (lent unstable.entry.rows.now) group.now (lent rows.now)) }
-    ensures ordered { IfOk result (λ new. AreByKey new.items) }
-{
-    let moved = moved_rows(alloc, rows, unstable, group)?;
-    let copies = copy_lent(alloc, &moved)?;
-    Ok(copies)
-}
-
-/// A list of rows after the move of a group.
-fn list_moved<'a>(
-    alloc: Global,
-    rows: &'a [RowIn],
-    unstable: Unstable<'_, 'a>,
-    group: &[Text],
-) -> Result<Vec<RowIn>, NoMemory>
-    requires sources { AreBySource (unboxed unstable.sources.now) }
-    requires order { AreByKey rows.now }
-    ensures rows { IfOk result (λ new. new.items ≡ moved_rows (unboxed unstable.entry.sources.now) (lent unstable.entry.rows.now) group.now rows.now) }
-    ensures ordered { IfOk result (λ new. AreByKey new.items) }
-{
-    let rows = lend_rows(alloc, rows)?;
-    let moved = copies_moved(alloc, &rows, unstable, group)?;
-    Ok(moved)
-}
-
-/// The rows of a pool that stand, as a list after the move of a group.
-fn standing_moved<'a>(
-    alloc: Global,
-    suites: &'a PoolSuites,
-    unstable: Unstable<'_, 'a>,
-    group: &[Text],
-) -> Result<Vec<RowIn>, NoMemory>
-    requires { AreBySource (unboxed unstable.sources.now) }
-    ensures rows { IfOk result (λ new. new.items ≡ moved_rows (unboxed unstable.entry.sources.now) (lent unstable.entry.rows.now) group.now (present_rows suites.now)) }
-    ensures ordered { IfOk result (λ new. AreByKey new.items) }
-{
-    let rows = suites.rows(alloc)?;
-    let moved = copies_moved(alloc, &rows, unstable, group)?;
-    Ok(moved)
-}
-
-/// A list of the rows of a pool after the move of a group, in place of the pool.
-fn listed_moved(
-    alloc: Global,
-    suites: PoolSuites,
-    unstable: Unstable<'_, '_>,
     group: &[Text],
 ) -> Result<LiveRows, NoMemory>
-    requires { AreBySource (unboxed unstable.sources.now) }
-    ensures rows { IfOk result (λ new. held new ≡ moved_rows (unboxed unstable.entry.sources.now) (lent unstable.entry.rows.now) group.now (present_rows suites)) }
+    requires sources { AreBySource (unboxed unstable.sources.now) }
+    requires by_key { AreByKey (held rows.now) }
+    ensures rows { IfOk result (λ new. held new ≡ moved_rows (unboxed unstable.entry.sources.now) (lent unstable.entry.rows.now) group.now (held rows.now)) }
     ensures live { IfOk result (λ new. (archs : List Word) → AreLive new archs (lent unstable.entry.rows.now)) }
     ensures by_key { IfOk result (λ new. AreByKey (held new)) }
 {
-    let moved = standing_moved(alloc, &suites, unstable, group)?;
-    Ok(LiveRows::Listed(moved))
+    let rows = rows.list(alloc)?;
+    let moved = moved_rows(alloc, &rows, unstable, group)?;
+    let copies = copy_lent(alloc, &moved)?;
+    Ok(LiveRows::Listed(copies))
 }
 
 /// The rows of a pool after the move of a group. They are a list from then on where the suites leave out rows of one of
@@ -137,29 +90,29 @@ fn moved_from_pool(
         let suites = moved_suites(alloc, suites, unstable, group)?;
         Ok(LiveRows::Pooled(suites))
     } else {
-        listed_moved(alloc, suites, unstable, group)
+        let rows = LiveRows::Pooled(suites);
+        listed_moved(alloc, &rows, unstable, group)
     }
 }
 
 /// The suites once a source is removed.
-fn suites_without(alloc: Global, suites: PoolSuites, name: &str) -> Result<PoolSuites, NoMemory>
+fn suites_without(alloc: Global, suites: PoolSuites, name: &Text) -> Result<PoolSuites, NoMemory>
     ensures rows { IfOk result (λ new. (archs : List Word) (unstable : List ARow) → IsLive suites archs unstable (present_rows suites)
         → present_rows new ≡ rows_without name.now (present_rows suites)) }
     ensures live { IfOk result (λ new. (archs : List Word) (unstable : List ARow) → IsLive suites archs unstable (present_rows suites)
         → IsLive new archs unstable (present_rows new)) }
 {
-    let change = suites.change_by_removal(alloc, name)?;
+    let change = suites.change_by_removal(alloc, name.as_str())?;
     suites.after(alloc, &change)
 }
 
 /// A list of the rows of other sources.
-fn list_without(alloc: Global, rows: &[RowIn], name: &str) -> Result<Vec<RowIn>, NoMemory>
+fn list_without(alloc: Global, rows: &[RowIn], name: &Text) -> Result<Vec<RowIn>, NoMemory>
     ensures { IfOk result (λ left. left.items ≡ rows_without name.now rows.now) }
 {
     let rows = lend_rows(alloc, rows)?;
     let left = rows_without(alloc, &rows, name)?;
-    let copies = copy_lent(alloc, &left)?;
-    Ok(copies)
+    copy_lent(alloc, &left)
 }
 
 /// The suites that are kept of the rows, or new ones: where there are none, where they are of another number of
@@ -192,8 +145,7 @@ fn standing_rows(alloc: Global, suites: &PoolSuites) -> Result<Vec<RowIn>, NoMem
     ensures { IfOk result (λ rows. rows.items ≡ present_rows suites.now) }
 {
     let rows = suites.rows(alloc)?;
-    let copies = copy_lent(alloc, &rows)?;
-    Ok(copies)
+    copy_lent(alloc, &rows)
 }
 
 impl LiveRows {
@@ -234,14 +186,14 @@ impl LiveRows {
         match self {
             LiveRows::Pooled(suites) => moved_from_pool(alloc, suites, unstable, group),
             LiveRows::Listed(rows) => {
-                let moved = list_moved(alloc, &rows, unstable, group)?;
-                Ok(LiveRows::Listed(moved))
+                let rows = LiveRows::Listed(rows);
+                listed_moved(alloc, &rows, unstable, group)
             }
         }
     }
 
     /// The rows after the removal of a source.
-    pub fn without(self, alloc: Global, name: &str) -> Result<LiveRows, NoMemory>
+    pub fn without(self, alloc: Global, name: &Text) -> Result<LiveRows, NoMemory>
         requires { AreByKey (held self) }
         ensures rows { IfOk result (λ new. (archs : List Word) (unstable : List ARow) → AreLive self archs unstable
             → held new ≡ rows_without name.now (held self)) }

@@ -110,23 +110,13 @@ pub fn lend_sources<'a>(
     Ok(live)
 }
 
-/// A source of one's own.
-fn own_source(alloc: Global, source: LiveSource) -> Result<SourceIn, NoMemory>
-    ensures { IfOk result (λ own. own ≡ source_of source.entry) }
-{
-    match source {
-        LiveSource::Stays(source) => source.copy(alloc),
-        LiveSource::Moved(source) => Ok(Box::into_inner(source)),
-    }
-}
-
-/// Sources of one's own: those that stay are copied.
-pub fn own_sources(alloc: Global, live: Vec<LiveSource>) -> Result<Vec<SourceIn>, NoMemory>
-    ensures { IfOk result (λ sources. sources.items ≡ sources_of live.entry.items) }
+/// Sources of one's own.
+pub fn own_sources(alloc: Global, live: &[LiveSource]) -> Result<Vec<SourceIn>, NoMemory>
+    ensures { IfOk result (λ sources. sources.items ≡ sources_of live.now) }
 {
     let mut sources = Vec::with_capacity(alloc, live.len())?;
     for source in live {
-        sources.push(own_source(alloc, source)?)?;
+        sources.push(source.source().copy(alloc)?)?;
     }
     Ok(sources)
 }

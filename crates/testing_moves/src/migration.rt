@@ -1,13 +1,16 @@
 //! A run's moves: removals, groups, single moves, and the candidates that wait.
 
-ghost use Rattle.std.specs.Prelude.{◌≡◌, IfOk, OnErr};
+ghost use Rattle.std.specs.Prelude.{◌≡◌, IfOk, OnErr, OnOk};
 ghost use Rattle.testing_model.specs.Covered.{Covered};
 ghost use Rattle.testing_model.specs.Excuses.{excuses_of};
+ghost use Rattle.testing_model.specs.InOrder.{AreByKey};
+ghost use Rattle.testing_model.specs.JudgedRows.{lent};
 ghost use Rattle.testing_suites.specs.CarriedOver.{AreCarriedOver};
 ghost use Rattle.testing_model.specs.StandsFor.{StandsFor};
 ghost use Rattle.testing_model.specs.Unstable as unstable_words;
 ghost use Rattle.testing_model.specs.Updates.{IsUpdate, update_by};
 ghost use Rattle.testing_model.specs.Watched.{AllWatchedWork};
+ghost use Rattle.testing_moves.specs.Runs.{after_turns};
 
 use crate::live::LiveTesting;
 use crate::turns::Turns;
@@ -16,8 +19,51 @@ use jiff::civil::Date;
 use std::alloc::Global;
 use testing_facts::{Facts, Unstable, built_rows, candidates};
 use testing_items::Archs;
-use testing_model::{Decision, Excuse, Excuses, Update};
+use testing_model::{Decision, Excuse, Excuses, HintIn, LentRow, UnhintIn, Update};
 use testing_suites::{CarriedSuites, Testing};
+
+/// The turns of a run, each kind behind the one before.
+fn take_turns(
+    alloc: Global,
+    turns: &mut Turns<'_, '_>,
+    excuses: &[Excuse],
+    hints: &[HintIn],
+    unhints: &[UnhintIn],
+) -> Result<(), NoMemory>
+    ensures { OnOk result (turns.new ≡ after_turns excuses.now hints.now unhints.now turns.old) }
+{
+    turns.removals(alloc, hints, unhints)?;
+    turns.groups(alloc, excuses, hints, unhints)?;
+    turns.move_singles(alloc, excuses)?;
+    turns.waits(alloc, excuses)?;
+    Ok(())
+}
+
+/// The decisions of a run over these rows of unstable, and the testing that they leave.
+fn turns_over<'a>(
+    alloc: Global,
+    archs: &Archs,
+    facts: &'a Facts,
+    rows: &[LentRow<'a>],
+    excuses: &[Excuse],
+    testing: &'a Testing,
+    kept: Option<CarriedSuites>,
+) -> Result<(Vec<Decision>, Testing), NoMemory>
+    requires kept { AreCarriedOver kept testing.now.rows }
+    requires rows { AreByKey (lent rows.now) }
+    ensures { IfOk result (λ o. record { decisions = o.0.items; suite = o.1 } ≡ update_by archs.now facts.now.sources (lent rows.now) facts.now.hints facts.now.unhints excuses.now testing.now) }
+{
+    let candidates = candidates(alloc, excuses)?;
+    let unstable = Unstable {
+        sources: facts.sources(),
+        rows,
+    };
+    let live = LiveTesting::new(alloc, archs, unstable, testing, candidates, kept)?;
+    let mut turns = Turns::new(alloc, live);
+    take_turns(alloc, &mut turns, excuses, facts.hints(), facts.unhints())?;
+    let parts = turns.into_parts(alloc)?;
+    Ok(parts)
+}
 
 /// The decisions of a run over unstable, and the testing that they leave.
 fn all_turns<'a>(
@@ -32,19 +78,7 @@ fn all_turns<'a>(
     ensures { IfOk result (λ o. record { decisions = o.0.items; suite = o.1 } ≡ update_by archs.now facts.now.sources (unstable_words.built_rows archs.now facts.now.rows) facts.now.hints facts.now.unhints excuses.now testing.now) }
 {
     let rows = built_rows(alloc, archs, facts.rows())?;
-    let unstable = Unstable {
-        sources: facts.sources(),
-        rows: &rows,
-    };
-    let candidates = candidates(alloc, excuses)?;
-    let live = LiveTesting::new(alloc, archs, unstable, testing, candidates, kept)?;
-    let mut turns = Turns::new(alloc, live);
-    turns.removals(alloc, facts.hints(), facts.unhints())?;
-    turns.groups(alloc, excuses, facts.hints(), facts.unhints())?;
-    turns.move_singles(alloc, excuses)?;
-    turns.waits(alloc, excuses)?;
-    let parts = turns.into_parts(alloc)?;
-    Ok(parts)
+    turns_over(alloc, archs, facts, &rows, excuses, testing, kept)
 }
 
 /// What a run decides by these excuses: removals, groups, single moves, and the candidates that

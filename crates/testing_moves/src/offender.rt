@@ -8,6 +8,7 @@ ghost use Rattle.testing_model.specs.JudgedRows.{lent, row_of};
 ghost use Rattle.testing_items.specs.Words.{first_of_two};
 ghost use Rattle.testing_install.specs.Rows.{binaries};
 ghost use Rattle.std.specs.Option.{option_copied};
+ghost use Rattle.std.specs.Str.{bytes_eq};
 
 use deb_control::Text;
 use deb_version::NoMemory;
@@ -17,13 +18,23 @@ use testing_items::Archs;
 use testing_model::{LentRow, Offender};
 use testing_suites::{RowAnswer, first_of_two, is_row_on, is_watched_on};
 
+/// The row names the source.
+pub fn is_of(row: &LentRow, name: &str) -> bool
+    ensures { result ≡ bytes_eq (row_of row.now).binary.source name.now }
+{
+    row.binary.source.as_str() == name
+}
+
 /// The row names a source of the group.
 pub fn is_row_of(group: &[Text], row: &LentRow) -> bool
     ensures { result ≡ moves.is_row_of group.now (row_of row.now) }
 {
-    group
-        .iter()
-        .any(|name| row.binary.source.as_str() == name.as_str())
+    for name in group {
+        if is_of(row, name.as_str()) {
+            return true;
+        }
+    }
+    false
 }
 
 pub fn is_same_key(row: &LentRow, other: &LentRow) -> bool

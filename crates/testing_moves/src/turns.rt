@@ -3,6 +3,7 @@
 ghost use Rattle.std.specs.Prelude.{◌≡◌, [], OnOk, IfOk, map, filter};
 ghost use Rattle.std.specs.List.{flat_map};
 ghost use Rattle.testing_moves.specs.Runs.{go_on, moment_of, decide_move, broken_by_move};
+ghost use Rattle.testing_model.specs.Moves.{remove_source};
 ghost use Rattle.testing_model.specs.Unstable as unstable;
 ghost use Rattle.testing_model.specs.Updates as rules;
 ghost use Rattle.testing_model.specs.Updates.{decide, in_turn};
@@ -89,8 +90,23 @@ impl<'u, 'a> Turns<'u, 'a> {
     ) -> Result<(), NoMemory>
         ensures { OnOk result (self.new ≡ go_on self.old (decide_move decision group.now)) }
     {
+        self.decisions.push(decision)?;
         self.testing.move_group(alloc, group)?;
-        Ok(self.decisions.push(decision)?)
+        Ok(())
+    }
+
+    /// One decision by which a source leaves.
+    fn accept_removal(
+        &mut self,
+        alloc: Global,
+        name: &Text,
+        decision: Decision,
+    ) -> Result<(), NoMemory>
+        ensures { OnOk result (self.new ≡ go_on self.old (λ _ t. decide decision (remove_source name.now t))) }
+    {
+        self.decisions.push(decision)?;
+        self.testing.remove(alloc, name)?;
+        Ok(())
     }
 
     /// A version of a source leaves, where nothing breaks.
@@ -103,17 +119,15 @@ impl<'u, 'a> Turns<'u, 'a> {
     ) -> Result<(), NoMemory>
         ensures { OnOk result (self.new ≡ go_on self.old (λ b. rules.remove_version b.archs hint name.now version)) }
     {
-        let offender = self.testing.broken_by_removal(alloc, name.as_str())?;
         let copy = name.copy(alloc)?;
-        match offender {
+        match self.testing.broken_by_removal(alloc, name)? {
             None => {
-                self.testing.remove(alloc, name.as_str())?;
                 let decision = Decision::RemoveDone {
                     hint,
                     name: copy,
                     version,
                 };
-                Ok(self.decisions.push(decision)?)
+                self.accept_removal(alloc, name, decision)
             }
             Some(offender) => self.refuse(Decision::RemoveRefused {
                 hint,

@@ -18,7 +18,8 @@ returns-clause-offender c =
     let none = c.in_ok-change.ensures.none in
     let new = remove_source name t in
     let tells = failing [] t.rows new.rows in
+    let removal = rw c.as_str.ensures at c.in_ok-change.ensures.removal in
     let within = subst (λ ks. IsWithin s.rows leaving ks) none c.in_ok-change.ensures.within in
-    let told = subst (λ ks. Tells s.rows s.stands leaving ks tells) (sym none) (removal_told s name leaving t c.requires.shown c.in_ok-change.ensures.removal within) in
+    let told = subst (λ ks. Tells s.rows s.stands leaving ks tells) (sym none) (removal_told s name leaving t c.requires.shown removal within) in
     if_ok_weaker _ (λ (o : Option Offender). o ≡ offender_of archs t.rows new.rows []) c.first_lost.result
     (λ o first. first tells told ∙ ap (λ n. first_told n tells) c.requires.count) c.first_lost.ensures.first

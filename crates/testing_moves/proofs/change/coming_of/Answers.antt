@@ -1,4 +1,4 @@
-use Rattle.std.proofs.Common.{arith, ◌∙◌, sym, ap, subst, ℕ, ◌+◌, ◌<◌, Bool, ◌++◌, length, take, filter}
+use Rattle.std.proofs.Common.{arith, ◌∙◌, sym, ap, subst, ℕ, ◌+◌, ◌<◌, Bool, ◌++◌, length, take, filter, ◌≤◌}
 use Rattle.std.specs.Option.{option_copied}
 use Rattle.testing_model.specs.Boxed.{unboxed}
 use Rattle.testing_model.specs.declared.facts.UploadIn.{UploadIn}
@@ -6,6 +6,7 @@ use Rattle.testing_suites.specs.Changes.{comes_at, AreThose}
 use Rattle.testing_model.specs.Moves.{source_in, group_sources}
 use Rattle.testing_suites.proofs.Changing.{those_more, coming_among}
 use Rattle.testing_items.proofs.Grouping.{group-none, group-some}
+use Rattle.std.proofs.lemmas.List.{take_all}
 use Rattle.testing_moves.proofs.change.coming_of.Goals as goal
 use Rattle.testing_moves.proofs.change.coming_of.Goals.{in-Some+in_ok-push_coming, in_default}
 
@@ -36,3 +37,8 @@ loop-name-preserved c =
           subst (λ ks. AreThose test (group_sources us (take (i + 1) group)) ks) (sym (ap (λ v. v.items) w.coming-is))
           (subst (λ xs. AreThose test xs before) (sym none) c.loop-name.invariant)
     ]
+
+pub returns : goal.returns
+returns c =
+    let over : length c.args.group.now ≤ c.loop-name.name-index = omega arith in
+    rw (take_all c.loop-name.name-index c.args.group.now over) at c.loop-name.invariant

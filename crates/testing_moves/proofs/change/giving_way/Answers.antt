@@ -1,7 +1,7 @@
-use Rattle.std.proofs.Common.{arith, ◌≡◌, ◌∙◌, sym, ap, subst, ℕ, ◌+◌, ◌<◌, Bool, true, false, [], ◌∷◌, ◌++◌, length, take, filter, get_or, Contains, Option, Some}
+use Rattle.std.proofs.Common.{arith, ◌≡◌, ◌∙◌, sym, ap, subst, ℕ, ◌+◌, ◌<◌, Bool, true, false, [], ◌∷◌, ◌++◌, length, take, filter, get_or, Contains, Option, Some, ◌≤◌}
 use Rattle.std.specs.List.{slice_get}
 use Rattle.std.specs.Option.{option_map_or}
-use Rattle.std.proofs.lemmas.List.{take_more}
+use Rattle.std.proofs.lemmas.List.{take_more, take_all}
 use Rattle.deb_control.specs.declared.binary.Binary.{Binary}
 use Rattle.testing_model.specs.declared.suite.RowIn.{RowIn}
 use Rattle.testing_suites.specs.Changes.{gives_way_to, stands_for, AreThose}
@@ -32,3 +32,8 @@ loop-place-preserved c =
     let more : take (i + 1) coming ≡ take i coming ++ j ∷ [] = take_more coming i 0 below in
     subst (λ ks. AreThose test (take (i + 1) coming) ks) (sym items)
     (subst (λ xs. AreThose test xs (before ++ filter (test j) places)) (sym more) those)
+
+pub returns : goal.returns
+returns c =
+    let over : length c.args.coming.now ≤ c.loop-place.place-index = omega arith in
+    rw (take_all c.loop-place.place-index c.args.coming.now over) at c.loop-place.invariant

@@ -1,5 +1,5 @@
-use Rattle.std.proofs.Common.{arith, ◌≡◌, ◌∙◌, sym, ap, subst, ℕ, ◌+◌, ◌<◌, true, Bool, [], ◌∷◌, ◌++◌, length, take, filter, Contains}
-use Rattle.std.proofs.lemmas.List.{take_more}
+use Rattle.std.proofs.Common.{arith, ◌≡◌, ◌∙◌, sym, ap, subst, ℕ, ◌+◌, ◌<◌, true, Bool, [], ◌∷◌, ◌++◌, length, take, filter, Contains, ◌≤◌}
+use Rattle.std.proofs.lemmas.List.{take_more, take_all}
 use Rattle.testing_suites.specs.Changes.{stands_of, AreThose}
 use Rattle.testing_items.specs.Words.{Text}
 use Rattle.testing_suites.proofs.Changing.{those_more, standing_among}
@@ -23,3 +23,8 @@ loop-name-preserved c =
     let more : take (i + 1) group ≡ take i group ++ d ∷ [] = take_more group i d below ∙ ap (λ n. take i group ++ n ∷ []) (sym c.name-item.is) in
     subst (λ ks. AreThose test (take (i + 1) group) ks) (sym items)
     (subst (λ xs. AreThose test xs (before ++ filter (test d) places)) (sym more) those)
+
+pub returns : goal.returns
+returns c =
+    let over : length c.args.group.now ≤ c.loop-name.name-index = omega arith in
+    rw (take_all c.loop-name.name-index c.args.group.now over) at c.loop-name.invariant

@@ -1,9 +1,10 @@
-use Rattle.std.proofs.Common.{arith, ◌∙◌, sym, ap, ◌<◌, length, [], ◌∷◌, ◌++◌, map}
+use Rattle.std.proofs.Common.{arith, ◌∙◌, sym, ap, ◌<◌, length, [], ◌∷◌, ◌++◌, map, ◌≤◌}
 use Rattle.std.specs.Option.{option_copied}
 use Rattle.testing_model.specs.Boxed.{unboxed}
 use Rattle.testing_model.specs.Moves.{source_in}
 use Rattle.testing_model.specs.LentItems.{as_moved}
 use Rattle.testing_items.proofs.Grouping.{group-none, map-more}
+use Rattle.std.proofs.lemmas.List.{take_all}
 use Rattle.testing_moves.proofs.groups.moved_items.Goals as goal
 use Rattle.testing_moves.proofs.groups.moved_items.Goals.{in-Some+in_ok-push_moved, in_default}
 
@@ -24,3 +25,8 @@ loop-name-preserved c =
           let none = sym (group-none (source_in us) group i d below (found ∙ ap option_copied w.in_default.is)) in
           ap (λ v. v.items) w.items-is ∙ c.loop-name.invariant ∙ ap (map as_moved) none
     ]
+
+pub returns : goal.returns
+returns c =
+    let over : length c.args.group.now ≤ c.loop-name.name-index = omega arith in
+    rw (take_all c.loop-name.name-index c.args.group.now over) at c.loop-name.invariant

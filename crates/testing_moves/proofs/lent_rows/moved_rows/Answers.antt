@@ -1,4 +1,4 @@
-use Rattle.std.proofs.Common.{arith, ◌∙◌, sym, ap, subst, ◌<◌, length, List, Bool, fold, filter, not}
+use Rattle.std.proofs.Common.{arith, ◌∙◌, sym, ap, subst, ◌<◌, length, List, Bool, fold, filter, not, ◌≤◌}
 use Rattle.std.specs.List.{flat_map}
 use Rattle.std.specs.Option.{option_copied}
 use Rattle.testing_model.specs.Boxed.{unboxed}
@@ -10,6 +10,7 @@ use Rattle.testing_model.specs.declared.facts.UploadIn.{UploadIn}
 use Rattle.testing_model.specs.declared.suite.RowIn.{RowIn}
 use Rattle.testing_items.proofs.Grouping.{group-none, put_all-more}
 use Rattle.testing_model.proofs.Ordered.{by_key-kept}
+use Rattle.std.proofs.lemmas.List.{take_all}
 use Rattle.testing_moves.proofs.lent_rows.moved_rows.Goals as goal
 use Rattle.testing_moves.proofs.lent_rows.moved_rows.Goals.{in-Some+in_ok-put_current, in_default}
 
@@ -51,3 +52,8 @@ loop-name-preserved c =
             ordered = subst AreByKey (sym now) c.loop-name.invariant.ordered;
           }
     ]
+
+pub returns-clause-rows : goal.returns-clause-rows
+returns-clause-rows c =
+    let over : length c.args.group.now ≤ c.loop-name.name-index = omega arith in
+    rw (take_all c.loop-name.name-index c.args.group.now over) at c.loop-name.invariant.so_far

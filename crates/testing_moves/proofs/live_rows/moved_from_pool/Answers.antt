@@ -13,3 +13,6 @@ returns-in_err-suites c =
     let r = c.from_residual.result in
     let none = c.from_residual.ensures.0 in
     record { rows = IfOk-from_err r _ none; live = IfOk-from_err r _ none; by_key = IfOk-from_err r _ none }
+
+pub listed_moved-requires-clause-by_key : goal.listed_moved-requires-clause-by_key
+listed_moved-requires-clause-by_key c = present_rows-by_key c.args.suites

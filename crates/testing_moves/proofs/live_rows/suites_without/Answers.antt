@@ -16,12 +16,13 @@ returns-clause-rows c =
     let t : Suite = record { sources = []; rows = present_rows s } in
     let leaving = c.in_ok-change.change.leaving.items in
     let coming = c.in_ok-change.change.coming.items in
+    let removal = rw c.as_str.ensures at c.in_ok-change.ensures.removal in
     let made : PoolState = record { rows = s.rows; candidates = s.candidates; first = s.first; stands = after_change leaving coming s.stands; archs = s.archs } in
     if_ok_weaker (λ (new : PoolState). new ≡ made)
     (λ (new : PoolState). (archs : List Text) (unstable : List RowIn) → IsLive s archs unstable (present_rows s) → present_rows new ≡ rows_without name (present_rows s)) c.after.result
     (λ new e archs unstable live.
     let none = ap (λ ks. record { rows = s.rows; candidates = s.candidates; first = s.first; stands = after_change leaving ks s.stands; archs = s.archs }) c.in_ok-change.ensures.none in
-    sym (removal_stands s name leaving t live.shown c.in_ok-change.ensures.removal archs unstable new live c.after.ensures.long (e ∙ none)))
+    sym (removal_stands s name leaving t live.shown removal archs unstable new live c.after.ensures.long (e ∙ none)))
     c.after.ensures.state
 
 pub returns-clause-live : goal.returns-clause-live
@@ -31,12 +32,13 @@ returns-clause-live c =
     let t : Suite = record { sources = []; rows = present_rows s } in
     let leaving = c.in_ok-change.change.leaving.items in
     let coming = c.in_ok-change.change.coming.items in
+    let removal = rw c.as_str.ensures at c.in_ok-change.ensures.removal in
     let made : PoolState = record { rows = s.rows; candidates = s.candidates; first = s.first; stands = after_change leaving coming s.stands; archs = s.archs } in
     if_ok_weaker (λ (new : PoolState). new ≡ made)
     (λ (new : PoolState). (archs : List Text) (unstable : List RowIn) → IsLive s archs unstable (present_rows s) → IsLive new archs unstable (present_rows new)) c.after.result
     (λ new e archs unstable live.
     let none = ap (λ ks. record { rows = s.rows; candidates = s.candidates; first = s.first; stands = after_change leaving ks s.stands; archs = s.archs }) c.in_ok-change.ensures.none in
-    let stands = removal_stands s name leaving t live.shown c.in_ok-change.ensures.removal archs unstable new live c.after.ensures.long (e ∙ none) in
+    let stands = removal_stands s name leaving t live.shown removal archs unstable new live c.after.ensures.long (e ∙ none) in
     subst (λ rows. IsLive new archs unstable rows) stands
-    (removal_live s name leaving t live.shown c.in_ok-change.ensures.removal archs unstable new live c.after.ensures.long (e ∙ none)))
+    (removal_live s name leaving t live.shown removal archs unstable new live c.after.ensures.long (e ∙ none)))
     c.after.ensures.state

@@ -1,4 +1,4 @@
-use Rattle.std.proofs.Common.{arith, ◌∙◌, sym, ap, subst, ◌<◌, length, List, fold}
+use Rattle.std.proofs.Common.{arith, ◌∙◌, sym, ap, subst, ◌<◌, length, List, fold, ◌≤◌}
 use Rattle.std.specs.Option.{option_copied}
 use Rattle.testing_model.specs.Boxed.{unboxed}
 use Rattle.testing_model.specs.InOrder.{AreByName}
@@ -7,6 +7,7 @@ use Rattle.testing_model.specs.Moves.{source_in, put_source, as_source}
 use Rattle.testing_model.specs.declared.facts.UploadIn.{UploadIn}
 use Rattle.testing_model.specs.declared.suite.SourceIn.{SourceIn}
 use Rattle.testing_items.proofs.Grouping.{group-none, put-more}
+use Rattle.std.proofs.lemmas.List.{take_all}
 use Rattle.testing_moves.proofs.live_sources.move_sources.Goals as goal
 use Rattle.testing_moves.proofs.live_sources.move_sources.Goals.{in-Some+in_ok-as_source+in_ok-source+in_ok-put_source, in_default}
 
@@ -38,3 +39,8 @@ loop-name-preserved c =
             ordered = subst AreByName (sym now) c.loop-name.invariant.ordered;
           }
     ]
+
+pub returns-clause-ok : goal.returns-clause-ok
+returns-clause-ok c =
+    let over : length c.args.group.now ≤ c.loop-name.name-index = omega arith in
+    rw (take_all c.loop-name.name-index c.args.group.now over) at c.loop-name.invariant.so_far

@@ -1,4 +1,5 @@
 use Rattle.std.proofs.Common.{arith, ◌∙◌, ap, ◌<◌, length, drop}
+use Rattle.std.proofs.lemmas.Grind.{common_steps}
 use Rattle.testing_moves.specs.LentItems.{lent_excuses}
 use Rattle.testing_moves.proofs.Circle.{turned, lent-behind}
 use Rattle.testing_moves.proofs.singles.go_on_behind.Goals as goal
@@ -11,3 +12,6 @@ returns-clause-behind c =
     ap lent_excuses
     (c.pop_front.ensures.rest ∙ ap (drop 1) c.rotate_left.ensures.items ∙ turned items i below)
     ∙ lent-behind items i
+
+pub returns-clause-fewer : goal.returns-clause-fewer
+returns-clause-fewer c = grind (arith, common_steps)

@@ -1,7 +1,0 @@
-use Rattle.std.proofs.Common.{sym, ap, subst, ◌∙◌}
-use Rattle.testing_model.specs.InOrder.{AreByKey}
-use Rattle.testing_model.specs.JudgedRows.{lent}
-use Rattle.testing_moves.proofs.live_rows.list_moved.Goals as goal
-
-pub copies_moved-requires-clause-order : goal.copies_moved-requires-clause-order
-copies_moved-requires-clause-order c = subst AreByKey (sym (ap lent c.deref.ensures.value ∙ c.in_ok-rows.ensures)) c.requires.order
