@@ -312,7 +312,11 @@ pub fn take_text(
     ensures no_store { IfErr result (λ fault. fault ≡ StoreFault.NoMemory) }
 {
     match read_message(alloc, setup, text) {
-        Ok(message) => Ok(take_body(facts, sender, number, &message.body)?),
+        Ok(message) => {
+            let taken = take_body(facts, sender, number, &message.body);
+            drop(message);
+            taken
+        }
         Err(fault) => no_message(fault),
     }
 }

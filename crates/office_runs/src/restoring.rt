@@ -221,7 +221,9 @@ fn put_item(
         → ((k : ℕ) (d : ARow) → start ≤ k → k < end → IsItemAt s (slice_index_or rows.now k d).sender (slice_index_or rows.now k d).number item)
         → HavePutBack s (take start rows.now) first facts.old → HavePutBack s (take end rows.now) first facts.new) }
 {
-    put_facts(facts, &item, rows, start, end)
+    let done = put_facts(facts, &item, rows, start, end);
+    drop(item);
+    done
 }
 
 /// The same of an item that is lent.

@@ -17,6 +17,7 @@ use crate::orders::stated_for;
 use deb_control::{NoMemory, Text};
 use jiff::civil::Date;
 use office_mail::{Body, RunOrder, Setup};
+use office_replies::StoreFault;
 use std::alloc::Global;
 use testing_rules::{Facts, Item, Testing, excuses, excuses_text, migrate, update_text};
 
@@ -56,14 +57,20 @@ pub fn run_rules(
     })
 }
 
-/// The facts take what a message says to the rules.
-pub fn take_body(facts: &mut Facts, sender: u32, number: u32, body: &Body) -> Result<(), NoMemory>
+/// The facts take what a message says to the rules. It fails for want of memory alone.
+pub fn take_body(
+    facts: &mut Facts,
+    sender: u32,
+    number: u32,
+    body: &Body,
+) -> Result<(), StoreFault>
     ensures stand { OnOk result ((s : Covered) (t : Suite) → StandsFor facts.old s t → StandsFor facts.new (option_to_list (item_in_body (sender, number) body.now) ++ s) t) }
     ensures tells { OnOk result ((s : Covered) → Tells facts.old s → Tells facts.new (option_to_list (item_in_body (sender, number) body.now) ++ s)) }
     ensures moved { OnOk result ((count : FactRow → ℕ) → IsChangedFrom count facts.old → IsChangedFrom count facts.new) }
     ensures by_message { OnOk result (AreByMessage facts.old.uploads → AreByMessage facts.new.uploads) }
     ensures kept { OnOk result ((u : UploadIn) → Contains facts.old.uploads u → Contains facts.new.uploads u) }
     ensures there { OnOk result ((m : CoveredItem) (u : UploadIn) → item_in_body (sender, number) body.now ≡ Some m → upload_of m ≡ Some u → Contains facts.new.uploads u) }
+    ensures no_store { IfErr result (λ fault. fault ≡ StoreFault.NoMemory) }
 {
     match body {
         Body::Item(item) => take_item(facts, sender, number, item),
@@ -71,14 +78,20 @@ pub fn take_body(facts: &mut Facts, sender: u32, number: u32, body: &Body) -> Re
     }
 }
 
-/// The facts take an item that a message says.
-fn take_item(facts: &mut Facts, sender: u32, number: u32, item: &Item) -> Result<(), NoMemory>
+/// The facts take an item that a message says. It fails for want of memory alone.
+fn take_item(
+    facts: &mut Facts,
+    sender: u32,
+    number: u32,
+    item: &Item,
+) -> Result<(), StoreFault>
     ensures stand { OnOk result ((s : Covered) (t : Suite) → let m : CoveredItem = record { sender = sender; number = number; item = item.now } in StandsFor facts.old s t → StandsFor facts.new (m ∷ s) t) }
     ensures tells { OnOk result ((s : Covered) → let m : CoveredItem = record { sender = sender; number = number; item = item.now } in Tells facts.old s → Tells facts.new (m ∷ s)) }
     ensures moved { OnOk result ((count : FactRow → ℕ) → IsChangedFrom count facts.old → IsChangedFrom count facts.new) }
     ensures by_message { OnOk result (AreByMessage facts.new.uploads) }
     ensures kept { OnOk result ((u : UploadIn) → Contains facts.old.uploads u → Contains facts.new.uploads u) }
     ensures there { OnOk result ((u : UploadIn) → let m : CoveredItem = record { sender = sender; number = number; item = item.now } in upload_of m ≡ Some u → Contains facts.new.uploads u) }
+    ensures no_store { IfErr result (λ fault. fault ≡ StoreFault.NoMemory) }
 {
     facts.take(sender, number, item)?;
     let _ = facts.uploads();
