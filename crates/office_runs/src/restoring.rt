@@ -33,8 +33,13 @@ pub fn put_back<K: Keeper>(
     ensures looks { ReadsStore K.Keeper keeper.old keeper.new result }
 {
     let mut facts = Facts::new(alloc);
-    put_rows(alloc, setup, keeper, &mut facts, rows)?;
-    Ok(facts)
+    match put_rows(alloc, setup, keeper, &mut facts, rows) {
+        Ok(()) => Ok(facts),
+        Err(fault) => {
+            drop(facts);
+            Err(fault)
+        }
+    }
 }
 
 /// Puts rows back, block by block.

@@ -1,11 +1,12 @@
 //! What a run writes and leaves.
 ghost use Rattle.std.specs.Prelude.{◌≡◌, ◌≤◌, ℕ, List, ◌∷◌, ◌++◌, Some, Contains, IfOk, IfErr, OnOk, length, max, option_to_list};
-ghost use Rattle.office_runs.specs.Outcome.{item_in_body, outcome, outcome_left};
+ghost use Rattle.office_runs.specs.Outcome.{Outcome, item_in_body, outcome, outcome_left};
 ghost use Rattle.testing_rules.specs.Covered.{Covered, CoveredItem, upload_of};
 ghost use Rattle.testing_rules.specs.FactDifference.{IsChangedFrom};
 ghost use Rattle.testing_model.specs.declared.fact_row.FactRow.{FactRow};
 ghost use Rattle.testing_model.specs.declared.facts.UploadIn.{UploadIn};
 ghost use Rattle.testing_rules.specs.Uploads.{AreByMessage};
+ghost use Rattle.testing_rules.specs.Reports.{excuses_text, update_text};
 ghost use Rattle.testing_rules.specs.StandsFor.{StandsFor};
 ghost use Rattle.testing_rules.specs.Suite.{Suite};
 ghost use Rattle.testing_model.specs.Tells.{AreSaidBy, Tells};
@@ -16,10 +17,13 @@ ghost use Rattle.testing_rules.specs.Provenance.{IsGivenBy};
 use crate::orders::stated_for;
 use deb_control::{NoMemory, Text};
 use jiff::civil::Date;
+use office_keeper::Reports;
 use office_mail::{Body, RunOrder, Setup};
 use office_replies::StoreFault;
 use std::alloc::Global;
-use testing_rules::{Facts, Item, Testing, excuses, excuses_text, migrate, update_text};
+use testing_rules::{
+    Archs, Excuses, Facts, Item, Testing, Update, excuses, excuses_text, migrate, update_text,
+};
 
 /// What a run decides: testing as it leaves it, and the two reports.
 #[derive(Drop)]
@@ -31,7 +35,6 @@ pub struct RunOutcome {
 
 /// A run by the rules from this testing, over the messages that the facts stand for. What it brings into testing is given by
 /// any messages that say the facts.
-#[tactic(auto, unfolding(crate::specs::Outcome::outcome))]
 pub fn run_rules(
     alloc: Global,
     setup: &Setup,
@@ -44,14 +47,58 @@ pub fn run_rules(
     ensures given { IfOk result (λ o. (s : Covered) → AreSaidBy facts.now s → IsGivenBy setup.now.archs s testing o.testing) }
     ensures watched { IfOk result (λ o. AllWatchedWork setup.now.archs testing.rows → AllWatchedWork setup.now.archs o.testing.rows) }
 {
-    let archs = setup.archs();
-    let excuses = excuses(alloc, archs, facts, &testing, date)?;
     let mut after = testing;
-    let update = migrate(alloc, archs, facts, &excuses, &mut after)?;
-    let excuses = excuses_text(alloc, archs, run, date, &excuses)?;
-    let updates = update_text(alloc, archs, run, date, &update)?;
-    Ok(RunOutcome {
-        testing: after,
+    match run_over(alloc, setup, run, date, facts, &mut after) {
+        Ok(reports) => Ok(RunOutcome {
+            testing: after,
+            excuses: reports.excuses,
+            updates: reports.updates,
+        }),
+        Err(fault) => {
+            drop(after);
+            Err(fault)
+        }
+    }
+}
+
+/// The same of a testing that is lent: the two reports.
+fn run_over(
+    alloc: Global,
+    setup: &Setup,
+    run: u32,
+    date: Date,
+    facts: &Facts,
+    testing: &mut Testing,
+) -> Result<Reports, NoMemory>
+    ensures ok { IfOk result (λ r. (s : Covered) → StandsFor facts.now s testing.old → let o : Outcome = record { testing = testing.new; excuses = r.excuses; updates = r.updates } in
+        o ≡ outcome setup.now run date s testing.old) }
+    ensures given { IfOk result (λ r. (s : Covered) → AreSaidBy facts.now s → IsGivenBy setup.now.archs s testing.old testing.new) }
+    ensures watched { IfOk result (λ r. AllWatchedWork setup.now.archs testing.old.rows → AllWatchedWork setup.now.archs testing.new.rows) }
+{
+    let archs = setup.archs();
+    let excuses = excuses(alloc, archs, facts, testing, date)?;
+    let update = migrate(alloc, archs, facts, &excuses, testing)?;
+    let reports = reports(alloc, archs, run, date, &excuses, &update);
+    drop(update);
+    drop(excuses);
+    reports
+}
+
+/// The two reports of a run.
+fn reports(
+    alloc: Global,
+    archs: &Archs,
+    run: u32,
+    date: Date,
+    excuses: &Excuses,
+    update: &Update,
+) -> Result<Reports, NoMemory>
+    ensures excuses { IfOk result (λ r. r.excuses ≡ excuses_text archs.now run date excuses.now) }
+    ensures updates { IfOk result (λ r. r.updates ≡ update_text archs.now run date update.now) }
+{
+    let excuses = excuses_text(alloc, archs, run, date, excuses)?;
+    let updates = update_text(alloc, archs, run, date, update)?;
+    Ok(Reports {
         excuses: Text::from_string(excuses),
         updates: Text::from_string(updates),
     })

@@ -27,8 +27,8 @@ use Rattle.office_runs.proofs.runs.finish_next.Goals as goal
 given_by_same : (lists setup : Lists) (late mid : Content) (testing : Suite) → lists ≡ setup → late ≡ mid → IsGiven setup mid testing → IsGiven lists late testing
 given_by_same lists setup late mid testing e f given = subst (λ (u : Lists). IsGiven u late testing) (sym e) (subst (λ (m : Content). IsGiven setup m testing) (sym f) given)
 
-pub returns-clause-office : goal.returns-clause-office
-returns-clause-office g c = λ trusted legible office.
+pub returns-in-Ok-clause-office : goal.returns-in-Ok-clause-office
+returns-in-Ok-clause-office g c = λ trusted legible office.
     let setup = c.args.setup.now in
     let trust = g.K.Keeper.is_trusted in
     let content = g.K.Keeper.content in
@@ -36,7 +36,7 @@ returns-clause-office g c = λ trusted legible office.
     let mid : Content = content c.next_is_ready.new.keeper in
     let late : Content = content c.next_outcome.new.keeper in
     let new : Content = content c.finish.new.keeper in
-    let at3 = c.in_ok-finish.ensures in
+    let at3 = c.in-Ok.ensures in
     let t2 = at3.before trusted in
     let at2 = c.in_ok-done.ensures in
     let t1 = at2.looks.before t2 in
@@ -77,14 +77,14 @@ returns-clause-office g c = λ trusted legible office.
     let keeps : KeepsFacts setup new = keeps_facts setup old new given f changes leaves office.places (ap (λ (m : Content). m.facts) next) stand in
     IsOffice-finished setup old new c.in_ok-done.done office ready next is works keeps
 
-pub returns-clause-legible : goal.returns-clause-legible
-returns-clause-legible g c = λ trusted legible office.
+pub returns-in-Ok-clause-legible : goal.returns-in-Ok-clause-legible
+returns-in-Ok-clause-legible g c = λ trusted legible office.
     let setup = c.args.setup.now in
     let content = g.K.Keeper.content in
     let old : Content = content c.args.keeper.now in
     let mid : Content = content c.next_is_ready.new.keeper in
     let late : Content = content c.next_outcome.new.keeper in
-    let at3 = c.in_ok-finish.ensures in
+    let at3 = c.in-Ok.ensures in
     let t2 = at3.before trusted in
     let at2 = c.in_ok-done.ensures in
     let t1 = at2.looks.before t2 in
@@ -104,13 +104,13 @@ next_outcome-requires-clause-known g c = λ trusted.
     subst (λ (o : Option KnownFacts). IfSome o (λ known. AreKnown setup (content c.next_is_ready.new.keeper) known)) (sym c.take.ensures.value)
     (subst (λ (m : Content). IfSome before (λ known. AreKnown setup m known)) (sym (at1.looks.same trusted)) (c.requires.facts (at1.looks.before trusted)))
 
-pub returns-clause-known : goal.returns-clause-known
-returns-clause-known g c = λ trusted.
+pub returns-in-Ok-clause-known : goal.returns-in-Ok-clause-known
+returns-in-Ok-clause-known g c = λ trusted.
     let content = g.K.Keeper.content in
     let old : Content = content c.args.keeper.now in
     let late : Content = content c.next_outcome.new.keeper in
     let new : Content = content c.finish.new.keeper in
-    let at3 = c.in_ok-finish.ensures in
+    let at3 = c.in-Ok.ensures in
     let t2 = at3.before trusted in
     let at2 = c.in_ok-done.ensures in
     let t1 = at2.looks.before t2 in
@@ -121,15 +121,15 @@ returns-clause-known g c = λ trusted.
     IsCounted-later c.args.setup.now old new c.next_is_ready.new.counts.items c.next_is_ready.new.orders.items (λ p some. ap (λ (k : Kept). get k p) kept)
     (omega (arith, more, ap (λ (m : Content). length m.reports) same)) (at1.known t1)
 
-pub returns-clause-facts : goal.returns-clause-facts
-returns-clause-facts g c = λ trusted.
+pub returns-in-Ok-clause-facts : goal.returns-in-Ok-clause-facts
+returns-in-Ok-clause-facts g c = λ trusted.
     let setup = c.args.setup.now in
     let content = g.K.Keeper.content in
     let old : Content = content c.args.keeper.now in
     let mid : Content = content c.next_is_ready.new.keeper in
     let late : Content = content c.next_outcome.new.keeper in
     let new : Content = content c.finish.new.keeper in
-    let at3 = c.in_ok-finish.ensures in
+    let at3 = c.in-Ok.ensures in
     let t2 = at3.before trusted in
     let at2 = c.in_ok-done.ensures in
     let t1 = at2.looks.before t2 in
@@ -150,11 +150,11 @@ returns-clause-facts g c = λ trusted.
     let numbers : HasEach new.kept counts = subst (HasEach new.kept) (sym c.deref-2.ensures.value) (subst (λ (k : Kept). HasEach k c.next_is_ready.new.counts.items) (sym leaves.mail) known.numbers) in
     if_known-then setup old new given f changes leaves counts _ c.counted.result c.keep.ensures numbers at2.taken c.counted.ensures.same c.counted.ensures.within c.counted.ensures.release
 
-pub returns-clause-reports : goal.returns-clause-reports
-returns-clause-reports g c = λ trusted.
+pub returns-in-Ok-clause-reports : goal.returns-in-Ok-clause-reports
+returns-in-Ok-clause-reports g c = λ trusted.
     let content = g.K.Keeper.content in
     let late : Content = content c.next_outcome.new.keeper in
-    let at3 = c.in_ok-finish.ensures in
+    let at3 = c.in-Ok.ensures in
     let t2 = at3.before trusted in
     let at2 = c.in_ok-done.ensures in
     let t1 = at2.looks.before t2 in
