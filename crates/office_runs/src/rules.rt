@@ -35,7 +35,7 @@ pub struct RunOutcome {
 
 /// A run by the rules from this testing, over the messages that the facts stand for. What it brings into testing is given by
 /// any messages that say the facts.
-pub fn run_rules(
+fn run_rules(
     alloc: Global,
     setup: &Setup,
     run: u32,
@@ -61,7 +61,31 @@ pub fn run_rules(
     }
 }
 
-/// The same of a testing that is lent: the two reports.
+/// The same, and with it a copy of the testing before.
+pub fn run_beside(
+    alloc: Global,
+    setup: &Setup,
+    run: u32,
+    date: Date,
+    facts: &Facts,
+    testing: Testing,
+) -> Result<(Testing, RunOutcome), NoMemory>
+    ensures before { IfOk result (λ o. o.0 ≡ testing) }
+    ensures ok { IfOk result (λ o. (s : Covered) → StandsFor facts.now s testing → outcome_left o.1 ≡ outcome setup.now run date s testing) }
+    ensures given { IfOk result (λ o. (s : Covered) → AreSaidBy facts.now s → IsGivenBy setup.now.archs s testing o.1.testing) }
+    ensures watched { IfOk result (λ o. AllWatchedWork setup.now.archs testing.rows → AllWatchedWork setup.now.archs o.1.testing.rows) }
+{
+    let before = testing.copy()?;
+    match run_rules(alloc, setup, run, date, facts, testing) {
+        Ok(left) => Ok((before, left)),
+        Err(fault) => {
+            drop(before);
+            Err(fault)
+        }
+    }
+}
+
+/// A run over a testing that is lent: its two reports.
 fn run_over(
     alloc: Global,
     setup: &Setup,

@@ -25,7 +25,7 @@ ghost use Rattle.office_runs.specs.Walk.{said_within};
 use crate::covered::{KnownFacts, facts};
 use crate::orders::{is_there, order, read_orders};
 use crate::retaking::retake;
-use crate::rules::run_rules;
+use crate::rules::run_beside;
 use crate::stored;
 use jiff::civil::Date;
 use office_keeper::{Finished, Keeper};
@@ -196,9 +196,8 @@ fn leave<K: Keeper>(
     ensures looks { ReadsStore K.Keeper keeper.old keeper.new result }
 {
     let testing = stored::next_testing(keeper)?;
-    let earlier = testing.copy()?;
-    let left = run_rules(alloc, setup, run, date, &known.facts, testing)?;
-    let changes = go_with(
+    let (earlier, left) = run_beside(alloc, setup, run, date, &known.facts, testing)?;
+    match go_with(
         alloc,
         setup,
         keeper,
@@ -206,13 +205,22 @@ fn leave<K: Keeper>(
         &known.taken,
         &earlier,
         &left.testing,
-    )?;
-    Ok(Finished {
-        testing: left.testing,
-        excuses: left.excuses,
-        updates: left.updates,
-        facts: changes,
-    })
+    ) {
+        Ok(changes) => {
+            drop(earlier);
+            Ok(Finished {
+                testing: left.testing,
+                excuses: left.excuses,
+                updates: left.updates,
+                facts: changes,
+            })
+        }
+        Err(fault) => {
+            drop(earlier);
+            drop(left);
+            Err(fault)
+        }
+    }
 }
 
 /// The release team has one sender.

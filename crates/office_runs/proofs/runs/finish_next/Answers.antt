@@ -146,8 +146,8 @@ returns-in-Ok-clause-facts g c = λ trusted.
     let leaves : Leaves setup old new given f changes =
     leaves_over setup (g.K.Keeper.setup c.next_outcome.new.keeper) old mid late new orders given f changes same1 (at2.looks.same t2) lists c.deref.ensures.value known.first size (at2.way t2) at2.difference
     (at3.mail trusted) (ap length (at3.reports trusted) ∙ length_push late.reports _) (at3.facts trusted) in
-    let counts : List ℕ = c.deref-2.result.now in
-    let numbers : HasEach new.kept counts = subst (HasEach new.kept) (sym c.deref-2.ensures.value) (subst (λ (k : Kept). HasEach k c.next_is_ready.new.counts.items) (sym leaves.mail) known.numbers) in
+    let counts : List ℕ = c.deref-in-Ok.result.now in
+    let numbers : HasEach new.kept counts = subst (HasEach new.kept) (sym c.deref-in-Ok.ensures.value) (subst (λ (k : Kept). HasEach k c.next_is_ready.new.counts.items) (sym leaves.mail) known.numbers) in
     if_known-then setup old new given f changes leaves counts _ c.counted.result c.keep.ensures numbers at2.taken c.counted.ensures.same c.counted.ensures.within c.counted.ensures.release
 
 pub returns-in-Ok-clause-reports : goal.returns-in-Ok-clause-reports
