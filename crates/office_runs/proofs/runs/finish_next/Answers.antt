@@ -1,4 +1,4 @@
-use Rattle.std.proofs.Common.{◌≡◌, ◌+◌, ◌<◌, ℕ, List, Option, IfSome, length, slice_index, sym, ap, subst, ◌∙◌, arith}
+use Rattle.std.proofs.Common.{◌≡◌, ◌+◌, ◌<◌, ℕ, List, Option, IfSome, length, slice_index, true, sym, ap, subst, ◌∙◌, refl, arith}
 use Rattle.std.specs.FinMap.{get}
 use Rattle.std.proofs.lemmas.List.{length_push}
 use Rattle.testing_rules.specs.FactLists.{FactLists}
@@ -20,6 +20,7 @@ use Rattle.office_runs.specs.State.{IsOffice, KeepsFacts}
 use Rattle.office_runs.specs.Walk.{said_within}
 use Rattle.office_runs.proofs.CountFacts.{IsCounted-later}
 use Rattle.office_runs.proofs.FinishFacts.{IsOffice-finished}
+use Rattle.office_runs.proofs.LastFacts.{lasts_then}
 use Rattle.office_runs.proofs.KeepingFacts.{Leaves, held_by_same, if_known-then, keeps_facts, leaves_over}
 use Rattle.office_runs.proofs.runs.finish_next.Goals as goal
 
@@ -161,3 +162,31 @@ returns-in-Ok-clause-reports g c = λ trusted.
     let at1 = c.in_ok-next_is_ready.ensures in
     let same = ap (λ (m : Content). length m.reports) (at2.looks.same t2 ∙ at1.looks.same t1) in
     omega (arith, ap length (at3.reports trusted) ∙ length_push late.reports _, same, c.requires.finished (at1.looks.before t1))
+
+pub returns-in-Ok-clause-kept : goal.returns-in-Ok-clause-kept
+returns-in-Ok-clause-kept g c = λ trusted.
+    let t2 = c.in-Ok.ensures.before trusted in
+    let t1 = c.in_ok-done.ensures.looks.before t2 in
+    c.in-Ok.ensures.mail trusted ∙ ap (λ (m : Content). m.kept) (c.in_ok-done.ensures.looks.same t2 ∙ c.in_ok-next_is_ready.ensures.looks.same t1)
+
+pub returns-in-Ok-clause-ready : goal.returns-in-Ok-clause-ready
+returns-in-Ok-clause-ready g c = λ trusted office.
+    let t1 = c.in_ok-done.ensures.looks.before (c.in-Ok.ensures.before trusted) in
+    (λ yes. (c.in_ok-next_is_ready.ensures.ready t1 office).0 c.if-not-branch.false, λ ready. refl)
+
+pub returns-in-Ok-clause-setup : goal.returns-in-Ok-clause-setup
+returns-in-Ok-clause-setup g c = c.in-Ok.ensures.setup ∙ c.in_ok-done.ensures.looks.setup ∙ c.in_ok-next_is_ready.ensures.looks.setup
+
+pub returns-in-Ok-clause-before : goal.returns-in-Ok-clause-before
+returns-in-Ok-clause-before g c = λ trusted. c.in_ok-next_is_ready.ensures.looks.before (c.in_ok-done.ensures.looks.before (c.in-Ok.ensures.before trusted))
+
+pub returns-in-Ok-clause-lasts : goal.returns-in-Ok-clause-lasts
+returns-in-Ok-clause-lasts g c =
+    let keeper = g.K.Keeper in
+    let s0 = c.args.keeper.now in
+    let s1 = c.next_is_ready.new.keeper in
+    let s2 = c.next_outcome.new.keeper in
+    lasts_then keeper s0 s2 c.finish.new.keeper true (lasts_then keeper s0 s1 s2 true c.in_ok-next_is_ready.ensures.looks.lasts c.in_ok-done.ensures.looks.lasts) c.in-Ok.ensures.lasts
+
+pub returns-in-Ok-clause-counted : goal.returns-in-Ok-clause-counted
+returns-in-Ok-clause-counted g c = c.in-Ok.ensures.counted ∙ c.in_ok-done.ensures.looks.counted ∙ c.in_ok-next_is_ready.ensures.looks.counted
