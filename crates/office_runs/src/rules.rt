@@ -129,12 +129,7 @@ fn reports(
 }
 
 /// The facts take what a message says to the rules. It fails for want of memory alone.
-pub fn take_body(
-    facts: &mut Facts,
-    sender: u32,
-    number: u32,
-    body: &Body,
-) -> Result<(), StoreFault>
+pub fn take_body(facts: &mut Facts, sender: u32, number: u32, body: &Body) -> Result<(), StoreFault>
     ensures stand { OnOk result ((s : Covered) (t : Suite) → StandsFor facts.old s t → StandsFor facts.new (option_to_list (item_in_body (sender, number) body.now) ++ s) t) }
     ensures tells { OnOk result ((s : Covered) → Tells facts.old s → Tells facts.new (option_to_list (item_in_body (sender, number) body.now) ++ s)) }
     ensures moved { OnOk result ((count : FactRow → ℕ) → IsChangedFrom count facts.old → IsChangedFrom count facts.new) }
@@ -150,12 +145,7 @@ pub fn take_body(
 }
 
 /// The facts take an item that a message says. It fails for want of memory alone.
-fn take_item(
-    facts: &mut Facts,
-    sender: u32,
-    number: u32,
-    item: &Item,
-) -> Result<(), StoreFault>
+fn take_item(facts: &mut Facts, sender: u32, number: u32, item: &Item) -> Result<(), StoreFault>
     ensures stand { OnOk result ((s : Covered) (t : Suite) → let m : CoveredItem = record { sender = sender; number = number; item = item.now } in StandsFor facts.old s t → StandsFor facts.new (m ∷ s) t) }
     ensures tells { OnOk result ((s : Covered) → let m : CoveredItem = record { sender = sender; number = number; item = item.now } in Tells facts.old s → Tells facts.new (m ∷ s)) }
     ensures moved { OnOk result ((count : FactRow → ℕ) → IsChangedFrom count facts.old → IsChangedFrom count facts.new) }
