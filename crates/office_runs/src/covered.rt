@@ -95,6 +95,7 @@ fn known_within(before: Option<KnownFacts>, orders: &[RunOrder]) -> Option<Known
     if is_covered(&known.taken, orders) {
         Some(known)
     } else {
+        drop(known);
         None
     }
 }
@@ -138,6 +139,7 @@ fn known_by(
     if has_all(&facts, rows) {
         Ok(known_at(alloc, setup, orders, facts)?)
     } else {
+        drop(facts);
         Ok(known_without(alloc, rows)?)
     }
 }
@@ -162,9 +164,14 @@ fn known_at(
     ensures within { IfOk result (λ known. (s : ℕ) → slice_index known.taken.items s ≤ cover_of orders.now s) }
     ensures no_store { IfErr result (λ fault. fault ≡ StoreFault.NoMemory) }
 {
-    let taken = covers(alloc, setup, &orders[..orders.len().saturating_sub(1)])?;
     let _ = facts.uploads();
-    Ok(KnownFacts { facts, taken })
+    match covers(alloc, setup, &orders[..orders.len().saturating_sub(1)]) {
+        Ok(taken) => Ok(KnownFacts { facts, taken }),
+        Err(fault) => {
+            drop(facts);
+            Err(fault)
+        }
+    }
 }
 
 /// The covers of these orders, sender by sender. It fails for want of memory alone.
@@ -312,7 +319,11 @@ pub fn take_text(
     ensures no_store { IfErr result (λ fault. fault ≡ StoreFault.NoMemory) }
 {
     match read_message(alloc, setup, text) {
-        Ok(message) => Ok(take_body(facts, sender, number, &message.body)?),
+        Ok(message) => {
+            let taken = take_body(facts, sender, number, &message.body);
+            drop(message);
+            taken
+        }
         Err(fault) => no_message(fault),
     }
 }

@@ -133,9 +133,27 @@ fn write_run<K: Keeper, W: Sink>(
 {
     let excuses = office.excuses_text(run);
     let updates = office.update_text(run);
-    write_report(&excuses, writer)?;
-    write_report(&updates, writer)?;
-    Ok(is_one_missing(&excuses, &updates))
+    let lost = write_both(&excuses, &updates, writer);
+    drop(updates);
+    drop(excuses);
+    lost
+}
+
+/// Writes two reports. True where one is missing.
+fn write_both<W: Sink>(
+    excuses: &Result<Option<Text>, StoreFault>,
+    updates: &Result<Option<Text>, StoreFault>,
+    writer: &mut W,
+) -> Result<bool, WriteFault>
+    ensures ok { OnOk result (Appends (W.written writer.old) (W.written writer.new) (report_shown excuses.now ++ report_shown updates.now)) }
+    ensures err { OnErr result (AppendsFront (W.written writer.old) (W.written writer.new) (report_shown excuses.now ++ report_shown updates.now)) }
+    ensures lost { IfOk result (λ lost. lost ≡ (is_err excuses.now || is_err updates.now)) }
+    ensures cause { OnErr result (HasRisen (W.failures writer.old) (W.failures writer.new)) }
+    ensures clean { OnOk result (W.failures writer.new ≡ W.failures writer.old) }
+{
+    write_report(excuses, writer)?;
+    write_report(updates, writer)?;
+    Ok(is_one_missing(excuses, updates))
 }
 
 fn is_one_missing(

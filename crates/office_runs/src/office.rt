@@ -80,8 +80,9 @@ impl<K: Keeper> Office<K> {
             keeper,
             counts: _,
             orders: _,
-            known: _,
+            known,
         } = self;
+        drop(known);
         keeper
     }
 
@@ -224,8 +225,9 @@ impl<K: Keeper> Office<K> {
     {
         let finished = stored::finished(&mut self.keeper)?;
         let testing = stored::testing(&mut self.keeper)?;
-        let text = testing_text(self.alloc, &self.setup, finished, &testing)?;
-        Ok(text)
+        let text = testing_text(self.alloc, &self.setup, finished, &testing);
+        drop(testing);
+        Ok(text?)
     }
 
     /// The excuses of a run, none of a run that isn't finished. It fails for want of memory or of the store alone.

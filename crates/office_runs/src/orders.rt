@@ -44,7 +44,10 @@ fn order_in(message: Message) -> Option<RunOrder>
 {
     match message.body {
         Body::Run(order) => Some(order),
-        Body::Item(_) => None,
+        Body::Item(item) => {
+            drop(item);
+            None
+        }
     }
 }
 

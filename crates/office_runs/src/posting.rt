@@ -86,7 +86,11 @@ pub fn deliver<K: Keeper>(
     ensures counted { CountedDelivery (K.refusals keeper.old) (K.refusals keeper.new) result }
 {
     match read_message(alloc, setup, text) {
-        Ok(message) => post(setup, keeper, &message, text),
+        Ok(message) => {
+            let answer = post(setup, keeper, &message, text);
+            drop(message);
+            answer
+        }
         Err(fault) => Err(DeliverFault::Mail(fault)),
     }
 }

@@ -75,7 +75,7 @@ pub(crate) fn deliver_one<K: Keeper, W: Sink, V: Watcher>(
 }
 
 /// How a bag ended, and whether a delivery was lost.
-#[derive(Clone, Copy, Debug, PartialEq, Eq)]
+#[derive(Clone, Copy)]
 pub(crate) struct Delivered {
     pub(crate) end: Option<BagFault>,
     pub(crate) lost: bool,

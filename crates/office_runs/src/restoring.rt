@@ -33,8 +33,13 @@ pub fn put_back<K: Keeper>(
     ensures looks { ReadsStore K.Keeper keeper.old keeper.new result }
 {
     let mut facts = Facts::new(alloc);
-    put_rows(alloc, setup, keeper, &mut facts, rows)?;
-    Ok(facts)
+    match put_rows(alloc, setup, keeper, &mut facts, rows) {
+        Ok(()) => Ok(facts),
+        Err(fault) => {
+            drop(facts);
+            Err(fault)
+        }
+    }
 }
 
 /// Puts rows back, block by block.
@@ -221,7 +226,9 @@ fn put_item(
         → ((k : ℕ) (d : ARow) → start ≤ k → k < end → IsItemAt s (slice_index_or rows.now k d).sender (slice_index_or rows.now k d).number item)
         → HavePutBack s (take start rows.now) first facts.old → HavePutBack s (take end rows.now) first facts.new) }
 {
-    put_facts(facts, &item, rows, start, end)
+    let done = put_facts(facts, &item, rows, start, end);
+    drop(item);
+    done
 }
 
 /// The same of an item that is lent.

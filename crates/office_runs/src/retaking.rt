@@ -170,7 +170,9 @@ fn is_named(alloc: Global, setup: &Setup, text: &[u8], names: &[Text]) -> Result
     ensures no_store { IfErr result (λ fault. fault ≡ StoreFault.NoMemory) }
 {
     let item = item_in(alloc, setup, text)?;
-    Ok(is_upload_of(&item, names))
+    let named = is_upload_of(&item, names);
+    drop(item);
+    Ok(named)
 }
 
 /// Whether an item is an upload of one of these names.

@@ -3,6 +3,7 @@
 
 ghost use Rattle.std.specs.Prelude.{is_ok, ◌≡◌, ℕ, ◌+◌, ◌<◌, ◌≤◌, ◌↔◌, Some, IsTrue, IfOk, IfSome, OnOk, OnErr, length, slice_index, if◌then◌else◌};
 ghost use Rattle.testing_model.specs.declared.facts.DelaysIn.{DelaysIn as SomeDelays};
+ghost use Rattle.testing_rules.specs.Covered.{Covered};
 ghost use Rattle.testing_rules.specs.FactDifference.{IsDifference};
 ghost use Rattle.testing_rules.specs.KeptFacts.{KeptFacts};
 ghost use Rattle.testing_rules.specs.StandsFor.{StandsFor};
@@ -16,7 +17,7 @@ ghost use Rattle.office_replies.specs.Counted.{Counted};
 ghost use Rattle.office_runs.specs.Known.{AreKnown, AreUnderWay};
 ghost use Rattle.office_runs.specs.StaysTrusted.{StaysTrusted};
 ghost use Rattle.office_runs.specs.ReadsStore.{ReadsStore};
-ghost use Rattle.office_runs.specs.Outcome.{outcome_in, outcome_of};
+ghost use Rattle.office_runs.specs.Outcome.{outcome, outcome_in, outcome_of};
 ghost use Rattle.office_runs.specs.Ready.{FirstOrders, HasEach, HasPlaces, IsCounted};
 ghost use Rattle.office_runs.specs.State.{IsOffice};
 ghost use Rattle.office_runs.specs.Walk.{said_within};
@@ -24,8 +25,9 @@ ghost use Rattle.office_runs.specs.Walk.{said_within};
 use crate::covered::{KnownFacts, facts};
 use crate::orders::{is_there, order, read_orders};
 use crate::retaking::retake;
-use crate::rules::run_rules;
+use crate::rules::run_beside;
 use crate::stored;
+use jiff::civil::Date;
 use office_keeper::{Finished, Keeper};
 use office_mail::{Role, RunOrder, Setup, latest_day};
 use office_replies::StoreFault;
@@ -162,10 +164,40 @@ fn next_outcome<K: Keeper>(
         unreachable!()
     };
     let mut known = facts(alloc, setup, keeper, before, orders)?;
+    match leave(alloc, setup, keeper, &mut known, run, date) {
+        Ok(done) => Ok((done, known)),
+        Err(fault) => {
+            drop(known);
+            Err(fault)
+        }
+    }
+}
+
+/// What a run of a date leaves by what is known, whose facts go with the testing that it leaves.
+fn leave<K: Keeper>(
+    alloc: Global,
+    setup: &Setup,
+    keeper: &mut K,
+    known: &mut KnownFacts,
+    run: u32,
+    date: Date,
+) -> Result<Finished, StoreFault>
+    requires lists { K.setup keeper.old ≡ setup.now }
+    ensures outcome { K.is_trusted keeper.new → IfOk result (λ done. (s : Covered) → StandsFor known.old.facts s (K.content keeper.old).testing → outcome_in done ≡ outcome setup.now run date s (K.content keeper.old).testing) }
+    ensures watched { K.is_trusted keeper.new → AllWatchedWork setup.now.archs (K.content keeper.old).testing.rows → IfOk result (λ done. AllWatchedWork setup.now.archs done.testing.rows) }
+    ensures known { K.is_trusted keeper.new → AreUnderWay setup.now (K.content keeper.old) known.old.facts → IfOk result (λ done. KnowsArchs setup.now.archs done.testing.rows) }
+    ensures given { K.is_trusted keeper.new → AreUnderWay setup.now (K.content keeper.old) known.old.facts → AreOwnTexts setup.now (K.content keeper.old).kept → IfOk result (λ done. IsGiven setup.now (K.content keeper.old) done.testing) }
+    ensures kept { K.is_trusted keeper.new → StandsFor known.old.facts (said_within setup.now (K.content keeper.old).kept (slice_index known.old.taken.items) (length setup.now.senders)) (K.content keeper.old).testing
+        → IfOk result (λ done. KeptFacts known.new.facts (said_within setup.now (K.content keeper.old).kept (slice_index known.old.taken.items) (length setup.now.senders)) done.testing) }
+    ensures way { K.is_trusted keeper.new → AreUnderWay setup.now (K.content keeper.old) known.old.facts → OnOk result (AreUnderWay setup.now (K.content keeper.old) known.new.facts) }
+    ensures held { K.is_trusted keeper.new → AreUnderWay setup.now (K.content keeper.old) known.old.facts → AreOwnTexts setup.now (K.content keeper.old).kept → IfOk result (λ done. AreHoldable setup.now (facts_after done.facts (K.content keeper.old).facts)) }
+    ensures difference { IfOk result (λ done. IsDifference known.new.facts.came known.new.facts.left done.facts.put done.facts.gone) }
+    ensures taken { known.new.taken.items ≡ known.old.taken.items }
+    ensures looks { ReadsStore K.Keeper keeper.old keeper.new result }
+{
     let testing = stored::next_testing(keeper)?;
-    let earlier = testing.copy()?;
-    let left = run_rules(alloc, setup, run, date, &known.facts, testing)?;
-    let changes = go_with(
+    let (earlier, left) = run_beside(alloc, setup, run, date, &known.facts, testing)?;
+    match go_with(
         alloc,
         setup,
         keeper,
@@ -173,14 +205,22 @@ fn next_outcome<K: Keeper>(
         &known.taken,
         &earlier,
         &left.testing,
-    )?;
-    let done = Finished {
-        testing: left.testing,
-        excuses: left.excuses,
-        updates: left.updates,
-        facts: changes,
-    };
-    Ok((done, known))
+    ) {
+        Ok(changes) => {
+            drop(earlier);
+            Ok(Finished {
+                testing: left.testing,
+                excuses: left.excuses,
+                updates: left.updates,
+                facts: changes,
+            })
+        }
+        Err(fault) => {
+            drop(earlier);
+            drop(left);
+            Err(fault)
+        }
+    }
 }
 
 /// The release team has one sender.
@@ -232,6 +272,7 @@ fn counted(setup: &Setup, known: KnownFacts, counts: &[u32]) -> Option<KnownFact
     if are_counted(&known.taken, counts) && are_of_release(setup, known.facts.delays()) {
         Some(known)
     } else {
+        drop(known);
         None
     }
 }
@@ -280,10 +321,17 @@ fn finish_next<K: Keeper>(
         return Ok(false);
     }
     let (done, mut left) = next_outcome(alloc, setup, keeper, known.take(), orders, finished + 1)?;
-    stored::finish(keeper, finished + 1, done)?;
-    left.facts.keep();
-    *known = counted(setup, left, counts);
-    Ok(true)
+    match stored::finish(keeper, finished + 1, done) {
+        Ok(()) => {
+            left.facts.keep();
+            *known = counted(setup, left, counts);
+            Ok(true)
+        }
+        Err(fault) => {
+            drop(left);
+            Err(fault)
+        }
+    }
 }
 
 /// Finishes the runs that are ready, in order, and says how many runs are finished then.

@@ -1,12 +1,13 @@
 use Rattle.std.proofs.Common.{⊎_elim, ◌≡◌, ◌<◌, ◌≤◌, ℕ, length, slice_index, sym, ap, subst, ◌∙◌, arith}
 use Rattle.std.proofs.lemmas.Bool.{cases_eq}
+use Rattle.std.proofs.lemmas.Result.{err_from_is_err_and}
 use Rattle.testing_rules.specs.Covered.{Covered}
 use Rattle.testing_rules.specs.StandsFor.{StandsFor}
 use Rattle.office_mail.specs.Runs.{cover_of}
 use Rattle.office_keeper.specs.Content.{Content}
 use Rattle.office_runs.specs.Known.{AreUnderWay}
 use Rattle.office_runs.specs.Walk.{said_within}
-use Rattle.office_runs.proofs.LookFacts.{looked_none, looked_then}
+use Rattle.office_runs.proofs.LookFacts.{looked_fails, looked_none, looked_then}
 use Rattle.office_runs.proofs.TakenFacts.{said_within-same}
 use Rattle.office_runs.proofs.covered.facts.Goals as goal
 
@@ -70,3 +71,9 @@ returns-clause-stand g c = λ trusted office first size.
     subst (λ (l : Covered). StandsFor c.senders.known.facts l content.testing)
     (said_within-same setup content.kept (slice_index c.senders.known.taken.items) (cover_of c.args.orders.now) (length setup.senders) (λ s low. so.done s (omega (arith, low, all))))
     (so.stand trusted office first size)
+
+pub returns-in_err-take_on-clause-looks : goal.returns-in_err-take_on-clause-looks
+returns-in_err-take_on-clause-looks g c =
+    let keeper = g.K.Keeper in
+    let p = err_from_is_err_and c.from_residual-in_err-take_on.result c.from_residual-in_err-take_on.ensures.1 in
+    looked_fails keeper c.args.keeper.now c.senders.keeper c.take_on.new.keeper c.in_err-take_on.field-0.0 p.0 c.from_residual-in_err-take_on.result p.1 (cc (p.2)) c.senders.invariant.looks c.in_err-take_on.ensures.looks

@@ -1,13 +1,13 @@
 use Rattle.office_runs.proofs.OfficeFacts.{ok_read, answer_fault, answer_read}
 use Rattle.office_runs.proofs.posting.deliver.Goals as goal
 
-pub post-requires-clause-read : goal.post-requires-clause-read
-post-requires-clause-read g c = ok_read c.args.setup.now c.args.text.now c.in-Ok.message c.in-Ok.ensures.exact
+pub post-answer-requires-clause-read : goal.post-answer-requires-clause-read
+post-answer-requires-clause-read g c = ok_read c.args.setup.now c.args.text.now c.in-Ok.message c.in-Ok.ensures.exact
 
 pub returns-in-Ok-clause-answer : goal.returns-in-Ok-clause-answer
 returns-in-Ok-clause-answer g c = λ trusted.
     let kept = (g.K.Keeper.content c.args.keeper.now).kept in
-    answer_read c.args.setup.now kept c.args.text.now c.in-Ok.message c.post.result (ok_read c.args.setup.now c.args.text.now c.in-Ok.message c.in-Ok.ensures.exact) (c.post.ensures.answer trusted)
+    answer_read c.args.setup.now kept c.args.text.now c.in-Ok.message c.post-answer.result (ok_read c.args.setup.now c.args.text.now c.in-Ok.message c.in-Ok.ensures.exact) (c.post-answer.ensures.answer trusted)
 
 pub returns-in-Err-clause-answer : goal.returns-in-Err-clause-answer
 returns-in-Err-clause-answer g c = λ trusted.

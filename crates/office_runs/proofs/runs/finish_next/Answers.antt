@@ -1,4 +1,4 @@
-use Rattle.std.proofs.Common.{◌≡◌, ◌+◌, ◌<◌, ℕ, List, Option, IfSome, length, slice_index, sym, ap, subst, ◌∙◌, arith}
+use Rattle.std.proofs.Common.{◌≡◌, ◌+◌, ◌<◌, ℕ, List, Option, IfSome, length, slice_index, true, sym, ap, subst, ◌∙◌, refl, arith}
 use Rattle.std.specs.FinMap.{get}
 use Rattle.std.proofs.lemmas.List.{length_push}
 use Rattle.testing_rules.specs.FactLists.{FactLists}
@@ -20,6 +20,7 @@ use Rattle.office_runs.specs.State.{IsOffice, KeepsFacts}
 use Rattle.office_runs.specs.Walk.{said_within}
 use Rattle.office_runs.proofs.CountFacts.{IsCounted-later}
 use Rattle.office_runs.proofs.FinishFacts.{IsOffice-finished}
+use Rattle.office_runs.proofs.LastFacts.{lasts_then}
 use Rattle.office_runs.proofs.KeepingFacts.{Leaves, held_by_same, if_known-then, keeps_facts, leaves_over}
 use Rattle.office_runs.proofs.runs.finish_next.Goals as goal
 
@@ -27,8 +28,8 @@ use Rattle.office_runs.proofs.runs.finish_next.Goals as goal
 given_by_same : (lists setup : Lists) (late mid : Content) (testing : Suite) → lists ≡ setup → late ≡ mid → IsGiven setup mid testing → IsGiven lists late testing
 given_by_same lists setup late mid testing e f given = subst (λ (u : Lists). IsGiven u late testing) (sym e) (subst (λ (m : Content). IsGiven setup m testing) (sym f) given)
 
-pub returns-clause-office : goal.returns-clause-office
-returns-clause-office g c = λ trusted legible office.
+pub returns-in-Ok-clause-office : goal.returns-in-Ok-clause-office
+returns-in-Ok-clause-office g c = λ trusted legible office.
     let setup = c.args.setup.now in
     let trust = g.K.Keeper.is_trusted in
     let content = g.K.Keeper.content in
@@ -36,7 +37,7 @@ returns-clause-office g c = λ trusted legible office.
     let mid : Content = content c.next_is_ready.new.keeper in
     let late : Content = content c.next_outcome.new.keeper in
     let new : Content = content c.finish.new.keeper in
-    let at3 = c.in_ok-finish.ensures in
+    let at3 = c.in-Ok.ensures in
     let t2 = at3.before trusted in
     let at2 = c.in_ok-done.ensures in
     let t1 = at2.looks.before t2 in
@@ -77,14 +78,14 @@ returns-clause-office g c = λ trusted legible office.
     let keeps : KeepsFacts setup new = keeps_facts setup old new given f changes leaves office.places (ap (λ (m : Content). m.facts) next) stand in
     IsOffice-finished setup old new c.in_ok-done.done office ready next is works keeps
 
-pub returns-clause-legible : goal.returns-clause-legible
-returns-clause-legible g c = λ trusted legible office.
+pub returns-in-Ok-clause-legible : goal.returns-in-Ok-clause-legible
+returns-in-Ok-clause-legible g c = λ trusted legible office.
     let setup = c.args.setup.now in
     let content = g.K.Keeper.content in
     let old : Content = content c.args.keeper.now in
     let mid : Content = content c.next_is_ready.new.keeper in
     let late : Content = content c.next_outcome.new.keeper in
-    let at3 = c.in_ok-finish.ensures in
+    let at3 = c.in-Ok.ensures in
     let t2 = at3.before trusted in
     let at2 = c.in_ok-done.ensures in
     let t1 = at2.looks.before t2 in
@@ -104,13 +105,13 @@ next_outcome-requires-clause-known g c = λ trusted.
     subst (λ (o : Option KnownFacts). IfSome o (λ known. AreKnown setup (content c.next_is_ready.new.keeper) known)) (sym c.take.ensures.value)
     (subst (λ (m : Content). IfSome before (λ known. AreKnown setup m known)) (sym (at1.looks.same trusted)) (c.requires.facts (at1.looks.before trusted)))
 
-pub returns-clause-known : goal.returns-clause-known
-returns-clause-known g c = λ trusted.
+pub returns-in-Ok-clause-known : goal.returns-in-Ok-clause-known
+returns-in-Ok-clause-known g c = λ trusted.
     let content = g.K.Keeper.content in
     let old : Content = content c.args.keeper.now in
     let late : Content = content c.next_outcome.new.keeper in
     let new : Content = content c.finish.new.keeper in
-    let at3 = c.in_ok-finish.ensures in
+    let at3 = c.in-Ok.ensures in
     let t2 = at3.before trusted in
     let at2 = c.in_ok-done.ensures in
     let t1 = at2.looks.before t2 in
@@ -121,15 +122,15 @@ returns-clause-known g c = λ trusted.
     IsCounted-later c.args.setup.now old new c.next_is_ready.new.counts.items c.next_is_ready.new.orders.items (λ p some. ap (λ (k : Kept). get k p) kept)
     (omega (arith, more, ap (λ (m : Content). length m.reports) same)) (at1.known t1)
 
-pub returns-clause-facts : goal.returns-clause-facts
-returns-clause-facts g c = λ trusted.
+pub returns-in-Ok-clause-facts : goal.returns-in-Ok-clause-facts
+returns-in-Ok-clause-facts g c = λ trusted.
     let setup = c.args.setup.now in
     let content = g.K.Keeper.content in
     let old : Content = content c.args.keeper.now in
     let mid : Content = content c.next_is_ready.new.keeper in
     let late : Content = content c.next_outcome.new.keeper in
     let new : Content = content c.finish.new.keeper in
-    let at3 = c.in_ok-finish.ensures in
+    let at3 = c.in-Ok.ensures in
     let t2 = at3.before trusted in
     let at2 = c.in_ok-done.ensures in
     let t1 = at2.looks.before t2 in
@@ -146,18 +147,46 @@ returns-clause-facts g c = λ trusted.
     let leaves : Leaves setup old new given f changes =
     leaves_over setup (g.K.Keeper.setup c.next_outcome.new.keeper) old mid late new orders given f changes same1 (at2.looks.same t2) lists c.deref.ensures.value known.first size (at2.way t2) at2.difference
     (at3.mail trusted) (ap length (at3.reports trusted) ∙ length_push late.reports _) (at3.facts trusted) in
-    let counts : List ℕ = c.deref-2.result.now in
-    let numbers : HasEach new.kept counts = subst (HasEach new.kept) (sym c.deref-2.ensures.value) (subst (λ (k : Kept). HasEach k c.next_is_ready.new.counts.items) (sym leaves.mail) known.numbers) in
+    let counts : List ℕ = c.deref-in-Ok.result.now in
+    let numbers : HasEach new.kept counts = subst (HasEach new.kept) (sym c.deref-in-Ok.ensures.value) (subst (λ (k : Kept). HasEach k c.next_is_ready.new.counts.items) (sym leaves.mail) known.numbers) in
     if_known-then setup old new given f changes leaves counts _ c.counted.result c.keep.ensures numbers at2.taken c.counted.ensures.same c.counted.ensures.within c.counted.ensures.release
 
-pub returns-clause-reports : goal.returns-clause-reports
-returns-clause-reports g c = λ trusted.
+pub returns-in-Ok-clause-reports : goal.returns-in-Ok-clause-reports
+returns-in-Ok-clause-reports g c = λ trusted.
     let content = g.K.Keeper.content in
     let late : Content = content c.next_outcome.new.keeper in
-    let at3 = c.in_ok-finish.ensures in
+    let at3 = c.in-Ok.ensures in
     let t2 = at3.before trusted in
     let at2 = c.in_ok-done.ensures in
     let t1 = at2.looks.before t2 in
     let at1 = c.in_ok-next_is_ready.ensures in
     let same = ap (λ (m : Content). length m.reports) (at2.looks.same t2 ∙ at1.looks.same t1) in
     omega (arith, ap length (at3.reports trusted) ∙ length_push late.reports _, same, c.requires.finished (at1.looks.before t1))
+
+pub returns-in-Ok-clause-kept : goal.returns-in-Ok-clause-kept
+returns-in-Ok-clause-kept g c = λ trusted.
+    let t2 = c.in-Ok.ensures.before trusted in
+    let t1 = c.in_ok-done.ensures.looks.before t2 in
+    c.in-Ok.ensures.mail trusted ∙ ap (λ (m : Content). m.kept) (c.in_ok-done.ensures.looks.same t2 ∙ c.in_ok-next_is_ready.ensures.looks.same t1)
+
+pub returns-in-Ok-clause-ready : goal.returns-in-Ok-clause-ready
+returns-in-Ok-clause-ready g c = λ trusted office.
+    let t1 = c.in_ok-done.ensures.looks.before (c.in-Ok.ensures.before trusted) in
+    (λ yes. (c.in_ok-next_is_ready.ensures.ready t1 office).0 c.if-not-branch.false, λ ready. refl)
+
+pub returns-in-Ok-clause-setup : goal.returns-in-Ok-clause-setup
+returns-in-Ok-clause-setup g c = c.in-Ok.ensures.setup ∙ c.in_ok-done.ensures.looks.setup ∙ c.in_ok-next_is_ready.ensures.looks.setup
+
+pub returns-in-Ok-clause-before : goal.returns-in-Ok-clause-before
+returns-in-Ok-clause-before g c = λ trusted. c.in_ok-next_is_ready.ensures.looks.before (c.in_ok-done.ensures.looks.before (c.in-Ok.ensures.before trusted))
+
+pub returns-in-Ok-clause-lasts : goal.returns-in-Ok-clause-lasts
+returns-in-Ok-clause-lasts g c =
+    let keeper = g.K.Keeper in
+    let s0 = c.args.keeper.now in
+    let s1 = c.next_is_ready.new.keeper in
+    let s2 = c.next_outcome.new.keeper in
+    lasts_then keeper s0 s2 c.finish.new.keeper true (lasts_then keeper s0 s1 s2 true c.in_ok-next_is_ready.ensures.looks.lasts c.in_ok-done.ensures.looks.lasts) c.in-Ok.ensures.lasts
+
+pub returns-in-Ok-clause-counted : goal.returns-in-Ok-clause-counted
+returns-in-Ok-clause-counted g c = c.in-Ok.ensures.counted ∙ c.in_ok-done.ensures.looks.counted ∙ c.in_ok-next_is_ready.ensures.looks.counted

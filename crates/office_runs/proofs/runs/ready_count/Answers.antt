@@ -1,9 +1,31 @@
 use Rattle.std.proofs.Common.{◌+◌, ◌↔◌, IsTrue, subst}
 use Rattle.office_mail.specs.Runs.{IsReady}
 use Rattle.office_keeper.specs.Content.{Content}
-use Rattle.office_runs.specs.Ready.{HasPlaces}
+use Rattle.office_runs.specs.Ready.{HasEach, HasPlaces}
 use Rattle.office_runs.proofs.FinishFacts.{ready_count}
+use Rattle.office_runs.proofs.LookFacts.{looked_none, looked_then}
 use Rattle.office_runs.proofs.runs.ready_count.Goals as goal
+
+pub runs-init : goal.runs-init
+runs-init g c = record {
+  each = c.requires.each;
+  ready = λ trusted places ready. ready;
+  looks = looked_none g.K.Keeper c.args.keeper.now;
+}
+
+pub runs-preserved : goal.runs-preserved
+runs-preserved g c =
+    let setup = c.args.setup.now in
+    let so = c.runs.invariant in
+    let next = c.in_ok-follows.ensures in
+    let n = c.runs.count in
+    record {
+      each = λ trusted. subst (λ (m : Content). HasEach m.kept c.follows.new.counts.items) (so.looks.same (next.looks.before trusted)) (next.each trusted);
+      ready = λ trusted places ready.
+          let earlier = next.looks.before trusted in
+          (subst (λ (m : Content). HasPlaces setup m.kept → IsReady setup m.kept n → (IsTrue c.in_ok-follows.field-0 ↔ IsReady setup m.kept (n + 1))) (so.looks.same earlier) (next.ready trusted) places (so.ready earlier places ready)).0 c.if-branch.true;
+      looks = looked_then g.K.Keeper c.args.keeper.now c.runs.keeper c.follows.new.keeper so.looks next.looks;
+    }
 
 pub returns-clause-ready : goal.returns-clause-ready
 returns-clause-ready g c = λ trusted places ready.

@@ -6,6 +6,43 @@ use Rattle.office_runs.specs.Waiting.{Awaits}
 use Rattle.office_runs.proofs.WaitingFacts.{awaited_some}
 use Rattle.office_runs.proofs.waiting.waiting.Goals as goal
 
+pub returns-clause-finished : goal.returns-clause-finished
+returns-clause-finished g c = λ trusted. c.in_ok-finished.ensures.value (c.in_ok-ready.ensures.looks.before (c.in_ok-awaited.ensures.looks.before trusted))
+
+pub returns-clause-ready : goal.returns-clause-ready
+returns-clause-ready g c = λ trusted office.
+    let setup = c.args.setup.now in
+    let content = g.K.Keeper.content in
+    let old : Content = content c.args.keeper.now in
+    let second = c.in_ok-ready.ensures in
+    let first = c.in_ok-finished.ensures in
+    let later = c.in_ok-awaited.ensures.looks.before trusted in
+    let earlier = second.looks.before later in
+    let same : content c.finished.new.keeper ≡ old = first.looks.same earlier in
+    let n = c.in_ok-ready.ready in
+    let k = c.in_ok-finished.finished in
+    let ready : IsReady setup old.kept k = subst (IsReady setup old.kept) (sym (first.value earlier)) office.ready in
+    subst (λ (m : Content). HasPlaces setup m.kept → IsReady setup m.kept k → IsReadyCount setup m.kept n) same (second.ready later) office.places ready
+
+pub returns-clause-awaited : goal.returns-clause-awaited
+returns-clause-awaited g c = λ trusted office.
+    let setup = c.args.setup.now in
+    let content = g.K.Keeper.content in
+    let old : Content = content c.args.keeper.now in
+    let third = c.in_ok-awaited.ensures in
+    let second = c.in_ok-ready.ensures in
+    let first = c.in_ok-finished.ensures in
+    let later = third.looks.before trusted in
+    let earlier = second.looks.before later in
+    let same : content c.finished.new.keeper ≡ old = first.looks.same earlier in
+    let same2 : content c.ready_count.new.keeper ≡ old = second.looks.same later ∙ same in
+    let n = c.in_ok-ready.ready in
+    let k = c.in_ok-finished.finished in
+    let ready : IsReady setup old.kept k = subst (IsReady setup old.kept) (sym (first.value earlier)) office.ready in
+    let count : IsReadyCount setup old.kept n =
+    subst (λ (m : Content). HasPlaces setup m.kept → IsReady setup m.kept k → IsReadyCount setup m.kept n) same (second.ready later) office.places ready in
+    subst (λ (m : Content). HasPlaces setup m.kept → IsReady setup m.kept n → Awaits setup m.kept (n + 1) c.in_ok-awaited.awaited) same2 (third.awaited trusted) office.places count.holds
+
 pub returns-clause-some : goal.returns-clause-some
 returns-clause-some g c = λ trusted office.
     let setup = c.args.setup.now in
