@@ -2,9 +2,8 @@
 use Rattle.std.proofs.Common.{◌≡◌, ℕ, suc, ◌+◌, ◌<◌, ◌≤◌, Bool, true, false, cond, if◌then◌else◌, Option, Some, None, Result, Ok, Err, List, [], ◌∷◌, map, length, drop, get_or, refl, sym, ap, subst, ◌∙◌, arith}
 use Rattle.std.specs.Cmp.{first_so, second_so}
 use Rattle.std.proofs.lemmas.Bool.{leb-true, eqb-true}
-use Rattle.std.proofs.lemmas.List.{length-map, drop_more}
+use Rattle.std.proofs.lemmas.List.{drop_more}
 use Rattle.std.proofs.lemmas.List.Sums.{sum_by-cons}
-use Rattle.std.specs.Borrow.{Bor}
 use Rattle.deb_control.specs.Relations.{◌>>=◌}
 use Rattle.office_mail.specs.declared.setup.Sender.{Sender}
 use Rattle.office_mail.specs.declared.setup.Role.{Role}

@@ -44,3 +44,6 @@ loop-i-preserved g c = record {
   clean = search rules;
   goes_on = goes_on_twice c.args.self.now c.loop-i.self c.next_byte.new.self c.loop-i.invariant.goes_on c.next_byte.ensures.goes_on;
 }
+
+pub returns-clause-whole : goal.returns-clause-whole
+returns-clause-whole g c = search rules

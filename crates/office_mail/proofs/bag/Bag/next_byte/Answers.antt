@@ -1,4 +1,4 @@
-use Rattle.std.proofs.Common.{◌+◌, drop, refl, arith}
+use Rattle.std.proofs.Common.{◌+◌, drop, refl}
 use Rattle.office_mail.proofs.BagFacts.{waits_before, goes_on_same, goes_on_read, goes_on_byte, room_read, room_byte}
 use Rattle.office_mail.proofs.bag.Bag.next_byte.Goals as goal
 use Rattle.office_mail.proofs.bag.Bag.next_byte.Goals.{then-self-len+else-self+else-self-eq-READS+in_ok-refill+else-not-branch, else-self-len}
@@ -25,3 +25,6 @@ returns-clause-goes_on g c =
       | then-self-len+else-self+else-self-eq-READS+in_ok-refill+else-not-branch w ↦ rw (w.self-inside-is, ← c.self.view_is) (goes_on_read _ _ refl w.refill.ensures.failures w.refill.ensures.calls w.refill.ensures.counts (room_read c.self.inside.reads _ _ _ c.self.invariant.1 w.if-self-eq-READS.false w.refill.ensures.few) refl)
       | else-self-len w ↦ rw (w.self-inside-is, ← c.self.view_is) (goes_on_byte _ _ refl refl refl (room_byte _ _ _) refl)
     ]
+
+pub returns-then-self-eq-READS-clause-goes_on : goal.returns-then-self-eq-READS-clause-goes_on
+returns-then-self-eq-READS-clause-goes_on g c = goes_on_same c.args.self.now
