@@ -52,6 +52,13 @@ goes_on_byte a b reads failures calls room ended = record {
   ended = ended;
 }
 
+-- with a byte of it taken, fewer can still come
+pub room_less : (reads len taken waiting : ℕ) → reads ≤ 1_000_000 → (reads ≡ 1_000_000 → ⊥) → len ≤ 8192 → 0 < taken → (1_000_000 - (reads + 1)) * 8192 + (len - taken) < (1_000_000 - reads) * 8192 + waiting
+room_less reads len taken waiting most unmet few some = omega (arith, unmet)
+
+pub room_byte_less : (room len at : ℕ) → at < len → room + (len - (at + 1)) < room + (len - at)
+room_byte_less room len at h = omega arith
+
 pub room_byte : (room len at : ℕ) → room + (len - (at + 1)) ≤ room + (len - at)
 room_byte room len at = omega arith
 

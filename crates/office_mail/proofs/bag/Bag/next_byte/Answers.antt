@@ -1,5 +1,5 @@
-use Rattle.std.proofs.Common.{◌+◌, drop, refl}
-use Rattle.office_mail.proofs.BagFacts.{waits_before, goes_on_same, goes_on_read, goes_on_byte, room_read, room_byte}
+use Rattle.std.proofs.Common.{◌+◌, ◌<◌, drop, refl, vec_len, arith}
+use Rattle.office_mail.proofs.BagFacts.{waits_before, goes_on_same, goes_on_read, goes_on_byte, room_read, room_less, room_byte, room_byte_less}
 use Rattle.office_mail.proofs.bag.Bag.next_byte.Goals as goal
 use Rattle.office_mail.proofs.bag.Bag.next_byte.Goals.{then-self-len+else-self+else-self-eq-READS+in_ok-refill+else-not-branch, else-self-len}
 
@@ -28,3 +28,12 @@ returns-clause-goes_on g c =
 
 pub returns-then-self-eq-READS-clause-goes_on : goal.returns-then-self-eq-READS-clause-goes_on
 returns-then-self-eq-READS-clause-goes_on g c = goes_on_same c.args.self.now
+
+pub returns-clause-room : goal.returns-clause-room
+returns-clause-room g c = λ some.
+    elim c.if-self-len.branch [
+      | then-self-len+else-self+else-self-eq-READS+in_ok-refill+else-not-branch w ↦ rw (w.self-inside-is, ← c.self.view_is) (room_less c.self.inside.reads _ _ _ c.self.invariant.1 w.if-self-eq-READS.false w.refill.ensures.few (omega arith))
+      | else-self-len w ↦
+        let below : c.self.inside.at < vec_len c.self.inside.pending = omega (arith, c.len.ensures, c.self.invariant.0, w.if-self-len.false) in
+        rw (w.self-inside-is, ← c.self.view_is) (room_byte_less _ _ _ below)
+    ]
