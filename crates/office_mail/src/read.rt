@@ -4,7 +4,6 @@ ghost use Rattle.std.specs.List.{list_all, list_any};
 ghost use Rattle.std.specs.Str.{bytes_eq};
 ghost use Rattle.std.specs.Option.{option_map};
 ghost use Rattle.deb_control.specs.Paragraphs.{reading};
-ghost use Rattle.deb_control.specs.Relations.{◌>>=◌ as bind};
 ghost use Rattle.deb_control.specs.declared.fault.ParagraphFault.TheVariants as paragraph_fault;
 ghost use Rattle.office_mail.specs.declared.message.MailFault.TheVariants as fault;
 ghost use Rattle.office_mail.specs.Answers.{Gives, GivesBy};
@@ -87,22 +86,7 @@ fn paragraphs_say(
 {
     let from = required(first, Field::From)?;
     let number = required(first, Field::Number)?;
-    let kind = required(first, Field::Kind)?;
-    kind_says(alloc, setup, from, number, Kind::named(kind), first, rest)
-}
-
-fn kind_says(
-    alloc: Global,
-    setup: &Setup,
-    from: &str,
-    number: &str,
-    kind: Option<Kind>,
-    first: &Paragraph<'_>,
-    rest: &[Paragraph<'_>],
-) -> Result<Message, MailFault>
-    ensures exact { Gives result (bind (has_fields_of kind first.now rest.now) (λ each. message_of setup.now from.now number.now kind first.now rest.now)) }
-    ensures place { IfOk result (λ message. IsPlace setup.now (place_of message)) }
-{
+    let kind = Kind::named(required(first, Field::Kind)?);
     has_fields_of(kind, first, rest)?;
     message_of(alloc, setup, from, number, kind, first, rest)
 }

@@ -103,8 +103,8 @@ fn setup_by(
     if !are_archs(archs) {
         return Err(SetupFault::BadArchitecture);
     }
-    let named = are_named(alloc, senders)?;
-    if !named {
+    let names = names_of(alloc, senders)?;
+    if !are_senders(&names) {
         return Err(SetupFault::BadSender);
     }
     let senders = each_sender_in(alloc, senders)?;
@@ -122,14 +122,6 @@ fn are_name_chars(chars: &[u8]) -> bool
     ensures { result ≡ list_all is_qualifier_char chars.now }
 {
     chars.iter().all(|c| is_qualifier_char(*c))
-}
-
-/// Whether the names are those of senders.
-fn are_named(alloc: Global, senders: &[SenderLine<'_>]) -> Result<bool, AllocError>
-    ensures { IfOk result (λ named. named ≡ are_senders (map (λ (s : List ℕ × List ℕ). s.0) (map (λ s. (s.name.now, s.role.now)) senders.now))) }
-{
-    let names = names_of(alloc, senders)?;
-    Ok(are_senders(&names))
 }
 
 #[tactic(auto, unfolding(crate::specs::Setup::are_senders))]

@@ -34,6 +34,6 @@ returns-clause-room g c = λ some.
     elim c.if-self-len.branch [
       | then-self-len+else-self+else-self-eq-READS+in_ok-refill+else-not-branch w ↦ rw (w.self-inside-is, ← c.self.view_is) (room_less c.self.inside.reads _ _ _ c.self.invariant.1 w.if-self-eq-READS.false w.refill.ensures.few (omega arith))
       | else-self-len w ↦
-        let below : c.self.inside.at < vec_len c.self.inside.pending = omega (arith, c.len.ensures, c.self.invariant.0, w.if-self-len.false) in
-        rw (w.self-inside-is, ← c.self.view_is) (room_byte_less _ _ _ below)
+          let below : c.self.inside.at < vec_len c.self.inside.pending = omega (arith, c.len.ensures, c.self.invariant.0, w.if-self-len.false) in
+          rw (w.self-inside-is, ← c.self.view_is) (room_byte_less _ _ _ below)
     ]
