@@ -1,5 +1,5 @@
 -- What the bytes that were taken make of a bag.
-use Rattle.std.proofs.Common.{◌≡◌, ℕ, ◌+◌, ◌-◌, ◌<◌, ◌≤◌, ◌⊎◌, Option, Some, None, List, [], ◌∷◌, ◌++◌, length, take, drop, replicate, sym, ap, subst, ◌∙◌, refl, arith, codes, decimal, inl, inr, ⊎_elim}
+use Rattle.std.proofs.Common.{◌≡◌, ℕ, ◌+◌, ◌-◌, ◌*◌, ◌<◌, ◌≤◌, ◌⊎◌, min, Option, Some, None, List, [], ◌∷◌, ◌++◌, length, take, drop, replicate, sym, ap, subst, ◌∙◌, refl, arith, codes, decimal, inl, inr, ⊎_elim}
 use Rattle.std.specs.Io.KnownBytes.{Consumes, prepend_known}
 use Rattle.std.proofs.KnownBytes.{Consumes-nil, Consumes-trans}
 use Rattle.std.proofs.lemmas.List.{append_assoc, append-nil, length-append, take-append-le, length-take, take-append-drop, take_all, length-replicate, length-take-le}
@@ -8,8 +8,9 @@ use Rattle.std.proofs.Math.Seq.{take-nil}
 use Rattle.office_mail.specs.Bag.{header, handed, BeginsHeader, IsCutHeader, IsTruncated, EndsSo}
 use Rattle.office_mail.specs.Line.{spelled, IsLine}
 use Rattle.office_mail.specs.Reading.{Reading}
-use Rattle.office_mail.specs.BagSteps.{TakesMessage, Stops}
-use Rattle.office_mail.specs.BagReads.{TakesBody, Waits, BreaksOff, IsShort}
+use Rattle.office_mail.specs.Counts.{most, HasRisen}
+use Rattle.office_mail.specs.BagSteps.{TakesMessage, Stops, ReadFails}
+use Rattle.office_mail.specs.BagReads.{GoesOn, TakesBody, Waits, BreaksOff, IsShort}
 use Rattle.office_mail.specs.declared.bag.BagFault.{BagFault}
 use Rattle.office_mail.specs.declared.bag.BagFault.TheVariants.{BadHeader, Truncated, ReadFault, NoMemory}
 use Rattle.office_mail.proofs.HeaderFacts.{spelled_digits, length-header}
@@ -18,6 +19,62 @@ use Rattle.office_mail.proofs.HeaderFacts.{spelled_digits, length-header}
 pub waits_before : (bs : List ℕ) (unread : Option (List ℕ)) → Consumes (prepend_known bs unread) unread bs
 waits_before bs None = tt
 waits_before bs (Some xs) = refl
+
+-- ---- what is counted
+
+counts_on : (a b c calls between after : ℕ) → a ≤ b → b ≤ c → min (calls + (b - a)) most ≤ between → min (between + (c - b)) most ≤ after → min (calls + (c - a)) most ≤ after
+counts_on a b c calls between after h k first second = omega arith
+
+pub goes_on_same : (a : Reading) → GoesOn a a
+goes_on_same a = record { failures = omega arith; counts = (omega arith, omega arith); calls = omega arith; room = omega arith; ended = refl }
+
+-- one read more
+pub goes_on_read : (a b : Reading) → b.reads ≡ a.reads + 1 → a.failures ≤ b.failures → b.calls ≤ a.calls + 1 → HasRisen a.calls b.calls → b.room ≤ a.room → b.ended ≡ a.ended → GoesOn a b
+goes_on_read a b one failures calls counts room ended = record {
+  failures = failures;
+  counts = (omega arith, omega (arith, counts, one));
+  calls = omega arith;
+  room = room;
+  ended = ended;
+}
+
+-- a read brings 8192 bytes at most, which are taken off what can still come
+pub room_read : (reads len taken waiting : ℕ) → reads ≤ 1_000_000 → (reads ≡ 1_000_000 → ⊥) → len ≤ 8192 → (1_000_000 - (reads + 1)) * 8192 + (len - taken) ≤ (1_000_000 - reads) * 8192 + waiting
+room_read reads len taken waiting most unmet few = omega (arith, unmet)
+
+-- a byte is handed out
+pub goes_on_byte : (a b : Reading) → b.reads ≡ a.reads → b.failures ≡ a.failures → b.calls ≡ a.calls → b.room ≤ a.room → b.ended ≡ a.ended → GoesOn a b
+goes_on_byte a b reads failures calls room ended = record {
+  failures = omega (arith, failures);
+  counts = (omega (arith, reads), omega (arith, reads, calls));
+  calls = omega (arith, reads, calls);
+  room = room;
+  ended = ended;
+}
+
+-- with a byte of it taken, fewer can still come
+pub room_less : (reads len taken waiting : ℕ) → reads ≤ 1_000_000 → (reads ≡ 1_000_000 → ⊥) → len ≤ 8192 → 0 < taken → (1_000_000 - (reads + 1)) * 8192 + (len - taken) < (1_000_000 - reads) * 8192 + waiting
+room_less reads len taken waiting most unmet few some = omega (arith, unmet)
+
+pub room_byte_less : (room len at : ℕ) → at < len → room + (len - (at + 1)) < room + (len - at)
+room_byte_less room len at h = omega arith
+
+pub room_byte : (room len at : ℕ) → room + (len - (at + 1)) ≤ room + (len - at)
+room_byte room len at = omega arith
+
+-- what goes on, and goes on again
+pub goes_on_twice : (a b c : Reading) → GoesOn a b → GoesOn b c → GoesOn a c
+goes_on_twice a b c h k = record {
+  failures = omega arith;
+  counts = (omega arith, counts_on a.reads b.reads c.reads a.calls b.calls c.calls h.counts.0 k.counts.0 h.counts.1 k.counts.1);
+  calls = omega arith;
+  room = omega arith;
+  ended = k.ended ∙ h.ended;
+}
+
+-- a read fails after others that didn't
+pub fails_later : (a b c : Reading) → b.failures ≡ a.failures → ReadFails b c → ReadFails a c
+fails_later a b c clean fails = rw clean at fails
 
 -- ---- a header line
 
@@ -93,6 +150,10 @@ none_of (x ∷ xs) h = absurd (omega arith)
 
 only : (begun rest : List ℕ) → length rest < 1 → begun ++ rest ≡ begun
 only begun rest short = ap (λ (l : List ℕ). begun ++ l) (none_of rest short) ∙ append-nil begun
+
+-- one more byte of a line
+pub line_more : (a b c : Reading) (begun longer : List ℕ) (byte : ℕ) → Consumes a.left b.left begun → Consumes b.left c.left (byte ∷ []) → longer ≡ begun ++ byte ∷ [] → Consumes a.left c.left longer
+line_more a b c begun longer byte h k e = rw e (Consumes-trans a.left b.left c.left begun (byte ∷ []) h k)
 
 -- the input ends where a line could begin
 pub plain_end : (a b c : Reading) → Consumes a.left b.left [] → BreaksOff b c 1 Truncated → Stops a c None

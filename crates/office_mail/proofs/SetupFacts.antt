@@ -1,10 +1,9 @@
 -- What every setup keeps, from the tests of its text.
-use Rattle.std.proofs.Common.{◌≡◌, ℕ, suc, ◌+◌, ◌<◌, ◌≤◌, Bool, true, false, cond, Option, Some, None, Result, Ok, Err, List, [], ◌∷◌, map, length, refl, ap, subst, ◌∙◌, arith}
+use Rattle.std.proofs.Common.{◌≡◌, ℕ, suc, ◌+◌, ◌<◌, ◌≤◌, Bool, true, false, cond, if◌then◌else◌, Option, Some, None, Result, Ok, Err, List, [], ◌∷◌, map, length, drop, get_or, refl, sym, ap, subst, ◌∙◌, arith}
 use Rattle.std.specs.Cmp.{first_so, second_so}
 use Rattle.std.proofs.lemmas.Bool.{leb-true, eqb-true}
-use Rattle.std.proofs.lemmas.List.{length-map}
+use Rattle.std.proofs.lemmas.List.{drop_more}
 use Rattle.std.proofs.lemmas.List.Sums.{sum_by-cons}
-use Rattle.std.specs.Borrow.{Bor}
 use Rattle.deb_control.specs.Relations.{◌>>=◌}
 use Rattle.office_mail.specs.declared.setup.Sender.{Sender}
 use Rattle.office_mail.specs.declared.setup.Role.{Role}
@@ -55,3 +54,19 @@ below_more false count place size h k = omega (arith, h (omega (arith, k)))
 pub place_below : (role : Role) (senders : List Sender) → 1 ≤ count_of role senders → place_of_role role senders < length senders
 place_below role [] h = absurd (omega (arith, h))
 place_below role (s ∷ ss) h = below_more (same_role role s.role) (count_of role ss) (place_of_role role ss) (length ss) (place_below role ss) (subst (λ n. 1 ≤ n) (sum_by-cons (λ (x : Sender). cond (same_role role x.role) 1 0) s ss) h)
+
+left_more : (xs : List Sender) (i : ℕ) (s : Sender) → i < length xs → s ≡ get_or xs i s → drop i xs ≡ s ∷ drop (i + 1) xs
+left_more xs i s h is = drop_more xs i s h ∙ ap (λ x. x ∷ drop (i + 1) xs) (sym is)
+
+-- one more sender is counted, if it has the role
+pub counted_more : (role : Role) (xs : List Sender) (i : ℕ) (s : Sender) (has : Bool) → i < length xs → s ≡ get_or xs i s → same_role role s.role ≡ has → count_of role (drop i xs) ≡ cond has 1 0 + count_of role (drop (i + 1) xs)
+counted_more role xs i s has h is same =
+    ap (count_of role) (left_more xs i s h is) ∙ sum_by-cons (λ (s : Sender). cond (same_role role s.role) 1 0) s (drop (i + 1) xs)
+    ∙ ap (λ b. cond b 1 0 + count_of role (drop (i + 1) xs)) same
+
+-- a sender of another role is passed by
+pub passed_by : (role : Role) (xs : List Sender) (i place : ℕ) (s : Sender) → i < length xs → place ≡ i → s ≡ get_or xs i s → same_role role s.role ≡ false → place + place_of_role role (drop place xs) ≡ place_of_role role xs → (place + 1) + place_of_role role (drop (place + 1) xs) ≡ place_of_role role xs
+passed_by role xs i place s h at is other so =
+    let step : place_of_role role (drop place xs) ≡ place_of_role role (drop (place + 1) xs) + 1 =
+    rw at (ap (place_of_role role) (left_more xs i s h is) ∙ ap (λ b. if b then 0 else place_of_role role (drop (i + 1) xs) + 1) other) in
+    omega (arith, step, so)

@@ -1,7 +1,7 @@
-use Rattle.std.proofs.Common.{refl, arith}
+use Rattle.std.proofs.Common.{refl, arith, rules}
 use Rattle.std.proofs.lemmas.Result.{err_from_is_err_and}
 use Rattle.office_mail.specs.Line.{spelled}
-use Rattle.office_mail.proofs.BagFacts.{bad_line, line_ends, line_fails, line_missing, length-spelled}
+use Rattle.office_mail.proofs.BagFacts.{goes_on_twice, line_more, bad_line, line_ends, line_fails, line_missing, length-spelled}
 use Rattle.office_mail.proofs.bag.Bag.header.Goals as goal
 
 pub returns-in_err-byte-clause-fault : goal.returns-in_err-byte-clause-fault
@@ -22,3 +22,26 @@ returns-in-None-2-clause-fault g c =
     let line = c.loop-byte.line in
     line_ends c.args.self.now c.loop-byte.self c.next_byte.new.self (spelled line.place line.value)
     c.loop-byte.invariant.line (omega (arith, length-spelled line.place line.value line.line)) (line_missing line.place line.value line.line) (c.in_ok-byte.ensures.end (rw c.in-None.is refl))
+
+pub returns-in_err-byte-clause-goes_on : goal.returns-in_err-byte-clause-goes_on
+returns-in_err-byte-clause-goes_on g c = goes_on_twice c.args.self.now c.loop-byte.self c.next_byte.new.self c.loop-byte.invariant.goes_on c.next_byte.ensures.goes_on
+
+pub returns-in-Bad-clause-goes_on : goal.returns-in-Bad-clause-goes_on
+returns-in-Bad-clause-goes_on g c = goes_on_twice c.args.self.now c.loop-byte.self c.next_byte.new.self c.loop-byte.invariant.goes_on c.next_byte.ensures.goes_on
+
+pub returns-in-None-clause-goes_on : goal.returns-in-None-clause-goes_on
+returns-in-None-clause-goes_on g c = goes_on_twice c.args.self.now c.loop-byte.self c.next_byte.new.self c.loop-byte.invariant.goes_on c.next_byte.ensures.goes_on
+
+pub returns-in-None-2-clause-goes_on : goal.returns-in-None-2-clause-goes_on
+returns-in-None-2-clause-goes_on g c = goes_on_twice c.args.self.now c.loop-byte.self c.next_byte.new.self c.loop-byte.invariant.goes_on c.next_byte.ensures.goes_on
+
+pub returns-in-Whole-clause-goes_on : goal.returns-in-Whole-clause-goes_on
+returns-in-Whole-clause-goes_on g c = goes_on_twice c.args.self.now c.loop-byte.self c.next_byte.new.self c.loop-byte.invariant.goes_on c.next_byte.ensures.goes_on
+
+pub loop-byte-preserved : goal.loop-byte-preserved
+loop-byte-preserved g c =
+    let line = c.loop-byte.line in record {
+      line = line_more c.args.self.now c.loop-byte.self c.next_byte.new.self (spelled line.place line.value) _ c.in-Some.byte c.loop-byte.invariant.line (rw c.in-Some.is at c.in_ok-byte.ensures.byte) (rw c.in-More.is at c.with.ensures).0;
+      clean = search rules;
+      goes_on = goes_on_twice c.args.self.now c.loop-byte.self c.next_byte.new.self c.loop-byte.invariant.goes_on c.next_byte.ensures.goes_on;
+    }

@@ -1,5 +1,5 @@
 use Rattle.std.proofs.lemmas.Result.{err_from_is_err_and}
-use Rattle.office_mail.proofs.BagFacts.{message_stops, whole_message}
+use Rattle.office_mail.proofs.BagFacts.{goes_on_twice, message_stops, whole_message}
 use Rattle.office_mail.proofs.bag.Bag.message.Goals as goal
 
 pub returns-in_err-body-clause-fault : goal.returns-in_err-body-clause-fault
@@ -12,3 +12,9 @@ pub returns-clause-message : goal.returns-clause-message
 returns-clause-message g c =
     let line = rw c.in-Some.is at c.in_ok-length.ensures.line in
     whole_message c.args.self.now c.header.new.self c.body.new.self c.in-Some.length c.in_ok-body.field-0.items line.0 line.1 c.in_ok-body.ensures.whole
+
+pub returns-in_err-body-clause-goes_on : goal.returns-in_err-body-clause-goes_on
+returns-in_err-body-clause-goes_on g c = goes_on_twice c.args.self.now c.header.new.self c.body.new.self c.header.ensures.goes_on c.body.ensures.goes_on
+
+pub returns-clause-goes_on : goal.returns-clause-goes_on
+returns-clause-goes_on g c = goes_on_twice c.args.self.now c.header.new.self c.body.new.self c.header.ensures.goes_on c.body.ensures.goes_on
