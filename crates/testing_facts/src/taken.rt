@@ -19,12 +19,11 @@ use crate::select::{
     unhint_order, upload_order,
 };
 use deb_control::Binary;
-use deb_version::NoMemory;
 use std::cmp::Ordering;
 use testing_model::{BugIn, BuildIn, DelaysIn, DropIn, FactRow, HintIn, UnhintIn, UploadIn};
 
 /// Where a list takes an element: over the one at a place, before it, or nowhere.
-#[derive(Clone, Copy, Debug, PartialEq, Eq)]
+#[derive(Clone, Copy)]
 pub enum Slot {
     Over(usize),
     Before(usize),
@@ -60,18 +59,19 @@ fn slot_of_upload(sources: &[Box<UploadIn>], upload: &UploadIn) -> Slot
     }
 }
 
-/// An upload joins unstable's sources, where its own has none before it.
-pub fn put_upload(sources: &mut Vec<Box<UploadIn>>, upload: Box<UploadIn>) -> Result<(), NoMemory>
-    requires { AreBySource (unboxed sources.old.items) }
-    ensures ok { OnOk result (unboxed sources.new.items ≡ taken.with_upload upload.value (unboxed sources.old.items)) }
-    ensures err { OnErr result (sources.new.items ≡ sources.old.items) }
+/// An upload joins unstable's sources, where its own has none before it. There is room for it.
+pub fn put_upload(sources: &mut Vec<Box<UploadIn>>, upload: Box<UploadIn>)
+    requires order { AreBySource (unboxed sources.old.items) }
+    requires room { vec_len sources.old < vec_capacity sources.old }
+    ensures { unboxed sources.new.items ≡ taken.with_upload upload.value (unboxed sources.old.items) }
 {
     match slot_of_upload(sources, &upload) {
         Slot::Over(i) => sources[i] = upload,
-        Slot::Before(i) => sources.insert(i, upload)?,
+        Slot::Before(i) => {
+            let _ = sources.insert(i, upload);
+        }
         Slot::Nowhere => {}
     }
-    Ok(())
 }
 
 /// Where the uploads have this one, or else where it belongs.
@@ -141,18 +141,19 @@ fn slot_of_drop(drops: &[DropIn], drop: &DropIn) -> Slot
     }
 }
 
-/// A drop joins the greatest ones, where its architecture and name have none before it.
-pub fn put_drop(drops: &mut Vec<DropIn>, drop: DropIn) -> Result<(), NoMemory>
-    requires { AreDropsByPair drops.old.items }
-    ensures ok { OnOk result (drops.new.items ≡ taken.with_greatest drop drops.old.items) }
-    ensures err { OnErr result (drops.new.items ≡ drops.old.items) }
+/// A drop joins the greatest ones, where its architecture and name have none before it. There is room for it.
+pub fn put_drop(drops: &mut Vec<DropIn>, drop: DropIn)
+    requires order { AreDropsByPair drops.old.items }
+    requires room { vec_len drops.old < vec_capacity drops.old }
+    ensures { drops.new.items ≡ taken.with_greatest drop drops.old.items }
 {
     match slot_of_drop(drops, &drop) {
         Slot::Over(i) => drops[i] = drop,
-        Slot::Before(i) => drops.insert(i, drop)?,
+        Slot::Before(i) => {
+            let _ = drops.insert(i, drop);
+        }
         Slot::Nowhere => {}
     }
-    Ok(())
 }
 
 /// Where the bugs have the number, or else where it belongs.
@@ -184,18 +185,19 @@ fn slot_of_bug(bugs: &[BugIn], bug: &BugIn) -> Slot
     }
 }
 
-/// A message on a bug joins the states, where the bug has none after it.
-pub fn put_bug(bugs: &mut Vec<BugIn>, bug: BugIn) -> Result<(), NoMemory>
-    requires { AreByNumber bugs.old.items }
-    ensures ok { OnOk result (bugs.new.items ≡ taken.with_bug bug bugs.old.items) }
-    ensures err { OnErr result (bugs.new.items ≡ bugs.old.items) }
+/// A message on a bug joins the states, where the bug has none after it. There is room for it.
+pub fn put_bug(bugs: &mut Vec<BugIn>, bug: BugIn)
+    requires order { AreByNumber bugs.old.items }
+    requires room { vec_len bugs.old < vec_capacity bugs.old }
+    ensures { bugs.new.items ≡ taken.with_bug bug bugs.old.items }
 {
     match slot_of_bug(bugs, &bug) {
         Slot::Over(i) => bugs[i] = bug,
-        Slot::Before(i) => bugs.insert(i, bug)?,
+        Slot::Before(i) => {
+            let _ = bugs.insert(i, bug);
+        }
         Slot::Nowhere => {}
     }
-    Ok(())
 }
 
 /// The order of a build's architecture and name beside these.
@@ -302,17 +304,18 @@ fn slot_of_hint(hints: &[HintIn], hint: &HintIn) -> Slot
     Slot::Before(hints.len())
 }
 
-/// A hint joins the hints.
-pub fn put_hint(hints: &mut Vec<HintIn>, hint: HintIn) -> Result<(), NoMemory>
-    ensures ok { OnOk result (hints.new.items ≡ taken.with_hint hint hints.old.items) }
-    ensures err { OnErr result (hints.new.items ≡ hints.old.items) }
+/// A hint joins the hints. There is room for it.
+pub fn put_hint(hints: &mut Vec<HintIn>, hint: HintIn)
+    requires room { vec_len hints.old < vec_capacity hints.old }
+    ensures { hints.new.items ≡ taken.with_hint hint hints.old.items }
 {
     match slot_of_hint(hints, &hint) {
         Slot::Over(i) => hints[i] = hint,
-        Slot::Before(i) => hints.insert(i, hint)?,
+        Slot::Before(i) => {
+            let _ = hints.insert(i, hint);
+        }
         Slot::Nowhere => {}
     }
-    Ok(())
 }
 
 /// Where the list takes the unhint.
@@ -329,17 +332,18 @@ fn slot_of_unhint(unhints: &[UnhintIn], unhint: &UnhintIn) -> Slot
     Slot::Before(unhints.len())
 }
 
-/// An unhint joins the unhints.
-pub fn put_unhint(unhints: &mut Vec<UnhintIn>, unhint: UnhintIn) -> Result<(), NoMemory>
-    ensures ok { OnOk result (unhints.new.items ≡ taken.with_unhint unhint unhints.old.items) }
-    ensures err { OnErr result (unhints.new.items ≡ unhints.old.items) }
+/// An unhint joins the unhints. There is room for it.
+pub fn put_unhint(unhints: &mut Vec<UnhintIn>, unhint: UnhintIn)
+    requires room { vec_len unhints.old < vec_capacity unhints.old }
+    ensures { unhints.new.items ≡ taken.with_unhint unhint unhints.old.items }
 {
     match slot_of_unhint(unhints, &unhint) {
         Slot::Over(i) => unhints[i] = unhint,
-        Slot::Before(i) => unhints.insert(i, unhint)?,
+        Slot::Before(i) => {
+            let _ = unhints.insert(i, unhint);
+        }
         Slot::Nowhere => {}
     }
-    Ok(())
 }
 
 /// The last of the messages on delays, one more among them.
