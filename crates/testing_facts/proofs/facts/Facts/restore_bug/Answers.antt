@@ -4,8 +4,8 @@ use Rattle.testing_model.specs.FactOrder.{AreByNumber}
 use Rattle.testing_facts.proofs.KeySlots.{by_number-bug}
 use Rattle.testing_facts.proofs.facts.Facts.restore_bug.Goals as goal
 
-pub invariant_of-self : goal.invariant_of-self
-invariant_of-self c = (
+pub invariant_of-self-in-Some : goal.invariant_of-self-in-Some
+invariant_of-self-in-Some c = (
   record {
     by_source = c.self.invariant.0.by_source;
     by_pair = c.self.invariant.0.by_pair;

@@ -5,8 +5,8 @@ use Rattle.testing_model.specs.FactOrder.{AreBySource}
 use Rattle.testing_facts.proofs.KeySlots.{by_source-upload}
 use Rattle.testing_facts.proofs.facts.Facts.restore_source.Goals as goal
 
-pub invariant_of-self : goal.invariant_of-self
-invariant_of-self c = (
+pub invariant_of-self-in-Some : goal.invariant_of-self-in-Some
+invariant_of-self-in-Some c = (
   record {
     by_source = subst AreBySource (sym (c.put_upload.ensures ∙ ap (λ us. with_upload c.in_ok-boxed.boxed.value (unboxed us)) c.in_ok-reserve.ensures.items)) (by_source-upload c.in_ok-boxed.boxed.value (unboxed c.self.inside.sources.items) c.self.invariant.0.by_source);
     by_pair = c.self.invariant.0.by_pair;
