@@ -7,7 +7,7 @@ ghost use Rattle.testing_model.specs.Boxed.{unboxed};
 ghost use Rattle.testing_model.specs.FactOrder.{AreBySource, AreByPair, AreDropsByPair, AreByNumber};
 ghost use Rattle.testing_model.specs.Unstable.{pair_order, pair_of, drop_pair};
 ghost use Rattle.testing_facts.specs.Shifts.{come_in};
-ghost use Rattle.testing_facts.specs.Slots.{IsSlotFor};
+ghost use Rattle.testing_facts.specs.Slots.{IsSlotFor, IsSlotIn, slotted};
 ghost use Rattle.testing_facts.specs.Uploads.{message_order, AreByMessage, first_stays, with_kept};
 ghost use Rattle.testing_model.specs.FactRows as rows;
 ghost use Rattle.testing_model.specs.WithMessage as taken;
@@ -28,6 +28,23 @@ pub enum Slot {
     Over(usize),
     Before(usize),
     Nowhere,
+}
+
+/// An element joins a list at its slot. There is room for it.
+fn put_at<T: Drop>(list: &mut Vec<T>, slot: Slot, element: T)
+    requires slot { IsSlotIn list.old.items slot }
+    requires room { vec_len list.old < vec_capacity list.old }
+    ensures items { list.new.items ≡ slotted list.old.items element slot }
+    ensures len { vec_len list.new ≤ vec_len list.old + 1 }
+    ensures capacity { vec_capacity list.old ≤ vec_capacity list.new }
+{
+    match slot {
+        Slot::Over(i) => list[i] = element,
+        Slot::Before(i) => {
+            let _ = list.insert(i, element);
+        }
+        Slot::Nowhere => {}
+    }
 }
 
 /// Where the sources have the name, or else where it belongs.
@@ -65,13 +82,8 @@ pub fn put_upload(sources: &mut Vec<Box<UploadIn>>, upload: Box<UploadIn>)
     requires room { vec_len sources.old < vec_capacity sources.old }
     ensures { unboxed sources.new.items ≡ taken.with_upload upload.value (unboxed sources.old.items) }
 {
-    match slot_of_upload(sources, &upload) {
-        Slot::Over(i) => sources[i] = upload,
-        Slot::Before(i) => {
-            let _ = sources.insert(i, upload);
-        }
-        Slot::Nowhere => {}
-    }
+    let slot = slot_of_upload(sources, &upload);
+    put_at(sources, slot, upload);
 }
 
 /// Where the uploads have this one, or else where it belongs.
@@ -147,13 +159,8 @@ pub fn put_drop(drops: &mut Vec<DropIn>, drop: DropIn)
     requires room { vec_len drops.old < vec_capacity drops.old }
     ensures { drops.new.items ≡ taken.with_greatest drop drops.old.items }
 {
-    match slot_of_drop(drops, &drop) {
-        Slot::Over(i) => drops[i] = drop,
-        Slot::Before(i) => {
-            let _ = drops.insert(i, drop);
-        }
-        Slot::Nowhere => {}
-    }
+    let slot = slot_of_drop(drops, &drop);
+    put_at(drops, slot, drop);
 }
 
 /// Where the bugs have the number, or else where it belongs.
@@ -191,13 +198,8 @@ pub fn put_bug(bugs: &mut Vec<BugIn>, bug: BugIn)
     requires room { vec_len bugs.old < vec_capacity bugs.old }
     ensures { bugs.new.items ≡ taken.with_bug bug bugs.old.items }
 {
-    match slot_of_bug(bugs, &bug) {
-        Slot::Over(i) => bugs[i] = bug,
-        Slot::Before(i) => {
-            let _ = bugs.insert(i, bug);
-        }
-        Slot::Nowhere => {}
-    }
+    let slot = slot_of_bug(bugs, &bug);
+    put_at(bugs, slot, bug);
 }
 
 /// The order of a build's architecture and name beside these.
@@ -246,13 +248,8 @@ pub fn put_build(rows: &mut Vec<Box<BuildIn>>, build: Box<BuildIn>)
     ensures len { vec_len rows.new ≤ vec_len rows.old + 1 }
     ensures capacity { vec_capacity rows.old ≤ vec_capacity rows.new }
 {
-    match slot_of_build(rows, &build) {
-        Slot::Over(i) => rows[i] = build,
-        Slot::Before(i) => {
-            let _ = rows.insert(i, build);
-        }
-        Slot::Nowhere => {}
-    }
+    let slot = slot_of_build(rows, &build);
+    put_at(rows, slot, build);
 }
 
 /// The build is of another architecture or name than the drop, or of a version above it.
@@ -309,13 +306,8 @@ pub fn put_hint(hints: &mut Vec<HintIn>, hint: HintIn)
     requires room { vec_len hints.old < vec_capacity hints.old }
     ensures { hints.new.items ≡ taken.with_hint hint hints.old.items }
 {
-    match slot_of_hint(hints, &hint) {
-        Slot::Over(i) => hints[i] = hint,
-        Slot::Before(i) => {
-            let _ = hints.insert(i, hint);
-        }
-        Slot::Nowhere => {}
-    }
+    let slot = slot_of_hint(hints, &hint);
+    put_at(hints, slot, hint);
 }
 
 /// Where the list takes the unhint.
@@ -337,13 +329,8 @@ pub fn put_unhint(unhints: &mut Vec<UnhintIn>, unhint: UnhintIn)
     requires room { vec_len unhints.old < vec_capacity unhints.old }
     ensures { unhints.new.items ≡ taken.with_unhint unhint unhints.old.items }
 {
-    match slot_of_unhint(unhints, &unhint) {
-        Slot::Over(i) => unhints[i] = unhint,
-        Slot::Before(i) => {
-            let _ = unhints.insert(i, unhint);
-        }
-        Slot::Nowhere => {}
-    }
+    let slot = slot_of_unhint(unhints, &unhint);
+    put_at(unhints, slot, unhint);
 }
 
 /// The last of the messages on delays, one more among them.
