@@ -1,6 +1,6 @@
 use Rattle.std.proofs.Common.{ap}
 use Rattle.std.proofs.lemmas.Result.{IfOk-from_err}
-use Rattle.testing_facts.specs.declared.entry.Entry.TheVariants.{Upload, Dropped, Bug, Hint, Unhint, Delays}
+use Rattle.testing_facts.specs.declared.entry.Entry.TheVariants.{Upload, Dropped, Hint, Unhint, Delays}
 use Rattle.testing_facts.proofs.entry.entry_of.Goals as goal
 
 pub returns-in_err-upload-in-Upload : goal.returns-in_err-upload-in-Upload
@@ -23,9 +23,6 @@ returns-in_ok-upload-in-Upload c = rw c.in-Upload.is (ap Upload c.in_ok-upload-i
 
 pub returns-in_ok-dropped-in-Dropped : goal.returns-in_ok-dropped-in-Dropped
 returns-in_ok-dropped-in-Dropped c = rw c.in-Dropped.is (ap Dropped c.in_ok-dropped-in-Dropped.ensures)
-
-pub returns-in_ok-bug-in-Bug : goal.returns-in_ok-bug-in-Bug
-returns-in_ok-bug-in-Bug c = rw c.in-Bug.is (ap Bug c.in_ok-bug-in-Bug.ensures)
 
 pub returns-in_ok-hint-in-Hint : goal.returns-in_ok-hint-in-Hint
 returns-in_ok-hint-in-Hint c = rw c.in-Hint.is (ap Hint c.in_ok-hint-in-Hint.ensures)

@@ -1,5 +1,5 @@
 use Rattle.std.proofs.Common.{rules}
 use Rattle.testing_facts.proofs.taken.outlives.Goals as goal
 
-pub returns : goal.returns
-returns c = search rules
+pub returns-else-not-eq : goal.returns-else-not-eq
+returns-else-not-eq c = search rules
