@@ -414,8 +414,8 @@ impl Facts {
         ensures ok { OnOk result (let m = said sent.sender sent.number item.now in self.new ≡ record self.old { uploads = put_given with_kept (upload_of m) self.old.uploads }) }
         ensures err { OnErr result (self.new ≡ self.old) }
     {
-        self.log.reserve(self.uploads.len(), 1)?;
-        self.uploads.reserve(1)?;
+        let count = self.uploads.len();
+        self.log.reserve_with(&mut self.uploads, count, 1)?;
         if let Some(upload) = said_upload(sent, item)? {
             let _ = put_kept(&mut self.uploads, upload);
         }
