@@ -1,6 +1,6 @@
 -- A slot for an element, and the list with the element at it.
-use Rattle.std.specs.Prelude.{List, length}
-use Rattle.std.proofs.Common.{◌≡◌, sym, refl, ◌∙◌, arith, Box, Global}
+use Rattle.std.specs.Prelude.{List}
+use Rattle.std.proofs.Common.{◌≡◌, ◌∙◌, sym, arith, Box, Global}
 use Rattle.testing_facts.specs.declared.taken.Slot.{Slot}
 use Rattle.testing_facts.specs.declared.taken.Slot.TheVariants.{Over, Before, Nowhere}
 use Rattle.testing_facts.specs.Slots.{IsSlotFor, IsSlotIn, slotted}
