@@ -11,3 +11,4 @@ pub mod KeyShifts
 pub mod ShiftLists
 pub mod PlacedAt
 pub mod Saying
+pub mod Slotting

@@ -173,6 +173,16 @@ struct Coming {
     spare: Block,
 }
 
+/// A build, with a block to spare.
+fn coming_build(alloc: Global, build: BuildIn) -> Result<Coming, NoMemory>
+    ensures build { IfOk result (λ c. c.build.value ≡ build) }
+    ensures spare { IfOk result (λ c. c.spare ≡ []) }
+{
+    let build = Box::new(alloc, build)?;
+    let spare = Block::new(alloc)?;
+    Ok(Coming { build, spare })
+}
+
 /// The builds, each with a block to spare.
 fn coming_builds(alloc: Global, builds: Vec<BuildIn>) -> Result<Vec<Coming>, NoMemory>
     ensures builds { IfOk result (λ cs. map (λ c. c.build.value) cs.items ≡ builds.items) }
@@ -180,9 +190,7 @@ fn coming_builds(alloc: Global, builds: Vec<BuildIn>) -> Result<Vec<Coming>, NoM
 {
     let mut coming = Vec::new(alloc);
     for build in builds {
-        let build = Box::new(alloc, build)?;
-        let spare = Block::new(alloc)?;
-        coming.push(Coming { build, spare })?;
+        coming.push(coming_build(alloc, build)?)?;
     }
     Ok(coming)
 }
@@ -374,10 +382,9 @@ impl BuildBlocks {
         ensures ok { OnOk result (self.new ≡ taken.with_build build self.old) }
         ensures err { OnErr result (self.new ≡ self.old) }
     {
-        let build = Box::new(alloc, build)?;
-        let spare = Block::new(alloc)?;
+        let coming = coming_build(alloc, build)?;
         make_room(alloc, &mut self.blocks, 1)?;
-        put_coming(&mut self.blocks, Coming { build, spare });
+        put_coming(&mut self.blocks, coming);
         Ok(())
     }
 

@@ -13,7 +13,7 @@ use std::cmp::Ordering;
 use testing_model::{FactChanges, FactRow, FactRows};
 
 /// Which of two lists has the next row, or both.
-#[derive(Clone, Copy, Debug, PartialEq, Eq)]
+#[derive(Clone, Copy)]
 pub enum Side {
     Came,
     Left,

@@ -81,6 +81,23 @@ impl Model for Facts {
         × AreByMessage a.uploads.items };
 }
 
+/// An upload for the sources, and the same for the uploads.
+#[derive(Drop)]
+struct Twice {
+    source: Box<UploadIn>,
+    kept: UploadIn,
+}
+
+/// The upload, and a copy of it.
+fn two_of(alloc: Global, upload: UploadIn) -> Result<Twice, NoMemory>
+    ensures source { IfOk result (λ two. two.source.value ≡ upload) }
+    ensures kept { IfOk result (λ two. two.kept ≡ upload) }
+{
+    let kept = upload.copy(alloc)?;
+    let source = Box::new(alloc, upload)?;
+    Ok(Twice { source, kept })
+}
+
 impl Facts {
     ghost use Rattle.testing_model.specs.StandsFor.{StandsForNone};
 
@@ -245,12 +262,12 @@ impl Facts {
         ensures ok { OnOk result (self.new ≡ with_entry (Upload upload) self.old) }
         ensures err { OnErr result (self.new ≡ self.old) }
     {
-        let kept = upload.copy(self.alloc)?;
-        let boxed = Box::new(self.alloc, upload)?;
-        let shifted = source_shift(&self.sources, &kept);
-        self.log.reserve(self.uploads.len(), 3)?;
+        let shifted = source_shift(&self.sources, &upload);
         self.uploads.reserve(1)?;
-        put_upload(&mut self.sources, boxed)?;
+        self.log
+            .reserve_with(&mut self.sources, self.uploads.len(), 3)?;
+        let Twice { source, kept } = two_of(self.alloc, upload)?;
+        put_upload(&mut self.sources, source);
         let came = put_kept(&mut self.uploads, kept);
         self.log.note(shifted);
         self.log.note(Shifted { left: None, came });
@@ -262,15 +279,15 @@ impl Facts {
         ensures ok { OnOk result (self.new ≡ with_entry (Dropped drop) self.old) }
         ensures err { OnErr result (self.new ≡ self.old) }
     {
-        let kept = drop.copy(self.alloc)?;
         let shifted = drop_shift(&self.drops, &drop);
         let taken = Shifted {
             left: self.rows.taken(&drop),
             came: None,
         };
-        self.log.reserve(self.uploads.len(), 2)?;
-        put_drop(&mut self.drops, kept)?;
+        self.log
+            .reserve_with(&mut self.drops, self.uploads.len(), 2)?;
         self.rows.take(&drop);
+        put_drop(&mut self.drops, drop);
         self.log.note(taken);
         self.log.note(shifted);
         Ok(())
@@ -282,8 +299,9 @@ impl Facts {
         ensures err { OnErr result (self.new ≡ self.old) }
     {
         let shifted = bug_shift(&self.bugs, &bug);
-        self.log.reserve(self.uploads.len(), 1)?;
-        put_bug(&mut self.bugs, bug)?;
+        self.log
+            .reserve_with(&mut self.bugs, self.uploads.len(), 1)?;
+        put_bug(&mut self.bugs, bug);
         self.log.note(shifted);
         Ok(())
     }
@@ -309,8 +327,9 @@ impl Facts {
             left: hint_left(&self.hints, &hint),
             came: Some(hint_row(&hint)),
         };
-        self.log.reserve(self.uploads.len(), 1)?;
-        put_hint(&mut self.hints, hint)?;
+        self.log
+            .reserve_with(&mut self.hints, self.uploads.len(), 1)?;
+        put_hint(&mut self.hints, hint);
         self.log.note(shifted);
         Ok(())
     }
@@ -324,8 +343,9 @@ impl Facts {
             left: unhint_left(&self.unhints, &unhint),
             came: Some(unhint_row(&unhint)),
         };
-        self.log.reserve(self.uploads.len(), 1)?;
-        put_unhint(&mut self.unhints, unhint)?;
+        self.log
+            .reserve_with(&mut self.unhints, self.uploads.len(), 1)?;
+        put_unhint(&mut self.unhints, unhint);
         self.log.note(shifted);
         Ok(())
     }
@@ -381,9 +401,10 @@ impl Facts {
         ensures ok { OnOk result (let m = said sent.sender sent.number item.now in self.new ≡ record self.old { sources = put_given with_upload (upload_of m) self.old.sources }) }
         ensures err { OnErr result (self.new ≡ self.old) }
     {
+        self.sources.reserve(1)?;
         if let Some(upload) = said_upload(sent, item)? {
             let boxed = Box::new(self.alloc, upload)?;
-            put_upload(&mut self.sources, boxed)?;
+            put_upload(&mut self.sources, boxed);
         }
         Ok(())
     }
@@ -393,9 +414,9 @@ impl Facts {
         ensures ok { OnOk result (let m = said sent.sender sent.number item.now in self.new ≡ record self.old { uploads = put_given with_kept (upload_of m) self.old.uploads }) }
         ensures err { OnErr result (self.new ≡ self.old) }
     {
+        let count = self.uploads.len();
+        self.log.reserve_with(&mut self.uploads, count, 1)?;
         if let Some(upload) = said_upload(sent, item)? {
-            self.log.reserve(self.uploads.len(), 1)?;
-            self.uploads.reserve(1)?;
             let _ = put_kept(&mut self.uploads, upload);
         }
         Ok(())
@@ -417,8 +438,9 @@ impl Facts {
         ensures ok { OnOk result (let m = said sent.sender sent.number item.now in self.new ≡ record self.old { drops = put_given with_greatest (drop_of m) self.old.drops }) }
         ensures err { OnErr result (self.new ≡ self.old) }
     {
+        self.drops.reserve(1)?;
         if let Some(drop) = said_drop(sent, item)? {
-            put_drop(&mut self.drops, drop)?;
+            put_drop(&mut self.drops, drop);
         }
         Ok(())
     }
@@ -428,8 +450,9 @@ impl Facts {
         ensures ok { OnOk result (let m = said sent.sender sent.number item.now in self.new ≡ record self.old { bugs = put_given with_bug (bug_of m) self.old.bugs }) }
         ensures err { OnErr result (self.new ≡ self.old) }
     {
+        self.bugs.reserve(1)?;
         if let Some(bug) = said_bug(sent, item)? {
-            put_bug(&mut self.bugs, bug)?;
+            put_bug(&mut self.bugs, bug);
         }
         Ok(())
     }
@@ -439,8 +462,9 @@ impl Facts {
         ensures ok { OnOk result (let m = said sent.sender sent.number item.now in self.new ≡ record self.old { hints = put_given with_hint (hint_of m) self.old.hints }) }
         ensures err { OnErr result (self.new ≡ self.old) }
     {
+        self.hints.reserve(1)?;
         if let Some(hint) = said_hint(sent, item)? {
-            put_hint(&mut self.hints, hint)?;
+            put_hint(&mut self.hints, hint);
         }
         Ok(())
     }
@@ -450,8 +474,9 @@ impl Facts {
         ensures ok { OnOk result (let m = said sent.sender sent.number item.now in self.new ≡ record self.old { unhints = put_given with_unhint (unhint_of m) self.old.unhints }) }
         ensures err { OnErr result (self.new ≡ self.old) }
     {
+        self.unhints.reserve(1)?;
         if let Some(unhint) = said_unhint(sent, item) {
-            put_unhint(&mut self.unhints, unhint)?;
+            put_unhint(&mut self.unhints, unhint);
         }
         Ok(())
     }

@@ -14,7 +14,7 @@ pub struct Log {
 }
 
 /// What one more element does to the rows: the one that gives way to it leaves, and its own comes where it comes in.
-#[derive(Clone, Copy, Debug, PartialEq, Eq)]
+#[derive(Clone, Copy)]
 pub struct Shifted {
     pub left: Option<FactRow>,
     pub came: Option<FactRow>,
@@ -78,6 +78,25 @@ impl Log {
         self.came.reserve(more)?;
         self.left.reserve(count)?;
         Ok(())
+    }
+
+    /// The same, with room for one element more in a list.
+    pub fn reserve_with<T>(
+        &mut self,
+        list: &mut Vec<T>,
+        uploads: usize,
+        more: usize,
+    ) -> Result<(), NoMemory>
+        ensures items { list.new.items ≡ list.old.items }
+        ensures room { OnOk result (vec_len list.new < vec_capacity list.new) }
+        ensures came { self.new.came.items ≡ self.old.came.items }
+        ensures left { self.new.left.items ≡ self.old.left.items }
+        ensures capacity { vec_capacity self.old.left ≤ vec_capacity self.new.left }
+        ensures room_came { OnOk result (vec_len self.new.came + more ≤ vec_capacity self.new.came) }
+        ensures room_left { OnOk result (vec_len self.new.left + (uploads + more) ≤ vec_capacity self.new.left) }
+    {
+        list.reserve(1)?;
+        self.reserve(uploads, more)
     }
 
     /// Notes what one element does to the rows. There is room for it.

@@ -1,13 +1,13 @@
 //! One more message, in the lists of facts.
 
-ghost use Rattle.std.specs.Prelude.{◌≡◌, ◌<◌, ◌≤◌, ◌+◌, OnOk, OnErr, length, map, option_to_list, vec_len, vec_capacity};
+ghost use Rattle.std.specs.Prelude.{◌≡◌, ◌<◌, ◌≤◌, ◌+◌, length, map, option_to_list, vec_len, vec_capacity};
 ghost use Rattle.std.specs.Ordering.{nat_cmp};
 ghost use Rattle.std.specs.List.Sorted.{IsBinarySearchResult, IsSearchInRange};
 ghost use Rattle.testing_model.specs.Boxed.{unboxed};
 ghost use Rattle.testing_model.specs.FactOrder.{AreBySource, AreByPair, AreDropsByPair, AreByNumber};
 ghost use Rattle.testing_model.specs.Unstable.{pair_order, pair_of, drop_pair};
 ghost use Rattle.testing_facts.specs.Shifts.{come_in};
-ghost use Rattle.testing_facts.specs.Slots.{IsSlotFor};
+ghost use Rattle.testing_facts.specs.Slots.{IsSlotFor, IsSlotIn, slotted};
 ghost use Rattle.testing_facts.specs.Uploads.{message_order, AreByMessage, first_stays, with_kept};
 ghost use Rattle.testing_model.specs.FactRows as rows;
 ghost use Rattle.testing_model.specs.WithMessage as taken;
@@ -19,16 +19,32 @@ use crate::select::{
     unhint_order, upload_order,
 };
 use deb_control::Binary;
-use deb_version::NoMemory;
 use std::cmp::Ordering;
 use testing_model::{BugIn, BuildIn, DelaysIn, DropIn, FactRow, HintIn, UnhintIn, UploadIn};
 
 /// Where a list takes an element: over the one at a place, before it, or nowhere.
-#[derive(Clone, Copy, Debug, PartialEq, Eq)]
+#[derive(Clone, Copy)]
 pub enum Slot {
     Over(usize),
     Before(usize),
     Nowhere,
+}
+
+/// An element joins a list at its slot. There is room for it.
+fn put_at<T: Drop>(list: &mut Vec<T>, slot: Slot, element: T)
+    requires slot { IsSlotIn list.old.items slot }
+    requires room { vec_len list.old < vec_capacity list.old }
+    ensures items { list.new.items ≡ slotted list.old.items element slot }
+    ensures len { vec_len list.new ≤ vec_len list.old + 1 }
+    ensures capacity { vec_capacity list.old ≤ vec_capacity list.new }
+{
+    match slot {
+        Slot::Over(i) => list[i] = element,
+        Slot::Before(i) => {
+            let _ = list.insert(i, element);
+        }
+        Slot::Nowhere => {}
+    }
 }
 
 /// Where the sources have the name, or else where it belongs.
@@ -60,18 +76,14 @@ fn slot_of_upload(sources: &[Box<UploadIn>], upload: &UploadIn) -> Slot
     }
 }
 
-/// An upload joins unstable's sources, where its own has none before it.
-pub fn put_upload(sources: &mut Vec<Box<UploadIn>>, upload: Box<UploadIn>) -> Result<(), NoMemory>
-    requires { AreBySource (unboxed sources.old.items) }
-    ensures ok { OnOk result (unboxed sources.new.items ≡ taken.with_upload upload.value (unboxed sources.old.items)) }
-    ensures err { OnErr result (sources.new.items ≡ sources.old.items) }
+/// An upload joins unstable's sources, where its own has none before it. There is room for it.
+pub fn put_upload(sources: &mut Vec<Box<UploadIn>>, upload: Box<UploadIn>)
+    requires order { AreBySource (unboxed sources.old.items) }
+    requires room { vec_len sources.old < vec_capacity sources.old }
+    ensures { unboxed sources.new.items ≡ taken.with_upload upload.value (unboxed sources.old.items) }
 {
-    match slot_of_upload(sources, &upload) {
-        Slot::Over(i) => sources[i] = upload,
-        Slot::Before(i) => sources.insert(i, upload)?,
-        Slot::Nowhere => {}
-    }
-    Ok(())
+    let slot = slot_of_upload(sources, &upload);
+    put_at(sources, slot, upload);
 }
 
 /// Where the uploads have this one, or else where it belongs.
@@ -141,18 +153,14 @@ fn slot_of_drop(drops: &[DropIn], drop: &DropIn) -> Slot
     }
 }
 
-/// A drop joins the greatest ones, where its architecture and name have none before it.
-pub fn put_drop(drops: &mut Vec<DropIn>, drop: DropIn) -> Result<(), NoMemory>
-    requires { AreDropsByPair drops.old.items }
-    ensures ok { OnOk result (drops.new.items ≡ taken.with_greatest drop drops.old.items) }
-    ensures err { OnErr result (drops.new.items ≡ drops.old.items) }
+/// A drop joins the greatest ones, where its architecture and name have none before it. There is room for it.
+pub fn put_drop(drops: &mut Vec<DropIn>, drop: DropIn)
+    requires order { AreDropsByPair drops.old.items }
+    requires room { vec_len drops.old < vec_capacity drops.old }
+    ensures { drops.new.items ≡ taken.with_greatest drop drops.old.items }
 {
-    match slot_of_drop(drops, &drop) {
-        Slot::Over(i) => drops[i] = drop,
-        Slot::Before(i) => drops.insert(i, drop)?,
-        Slot::Nowhere => {}
-    }
-    Ok(())
+    let slot = slot_of_drop(drops, &drop);
+    put_at(drops, slot, drop);
 }
 
 /// Where the bugs have the number, or else where it belongs.
@@ -184,18 +192,14 @@ fn slot_of_bug(bugs: &[BugIn], bug: &BugIn) -> Slot
     }
 }
 
-/// A message on a bug joins the states, where the bug has none after it.
-pub fn put_bug(bugs: &mut Vec<BugIn>, bug: BugIn) -> Result<(), NoMemory>
-    requires { AreByNumber bugs.old.items }
-    ensures ok { OnOk result (bugs.new.items ≡ taken.with_bug bug bugs.old.items) }
-    ensures err { OnErr result (bugs.new.items ≡ bugs.old.items) }
+/// A message on a bug joins the states, where the bug has none after it. There is room for it.
+pub fn put_bug(bugs: &mut Vec<BugIn>, bug: BugIn)
+    requires order { AreByNumber bugs.old.items }
+    requires room { vec_len bugs.old < vec_capacity bugs.old }
+    ensures { bugs.new.items ≡ taken.with_bug bug bugs.old.items }
 {
-    match slot_of_bug(bugs, &bug) {
-        Slot::Over(i) => bugs[i] = bug,
-        Slot::Before(i) => bugs.insert(i, bug)?,
-        Slot::Nowhere => {}
-    }
-    Ok(())
+    let slot = slot_of_bug(bugs, &bug);
+    put_at(bugs, slot, bug);
 }
 
 /// The order of a build's architecture and name beside these.
@@ -244,13 +248,8 @@ pub fn put_build(rows: &mut Vec<Box<BuildIn>>, build: Box<BuildIn>)
     ensures len { vec_len rows.new ≤ vec_len rows.old + 1 }
     ensures capacity { vec_capacity rows.old ≤ vec_capacity rows.new }
 {
-    match slot_of_build(rows, &build) {
-        Slot::Over(i) => rows[i] = build,
-        Slot::Before(i) => {
-            let _ = rows.insert(i, build);
-        }
-        Slot::Nowhere => {}
-    }
+    let slot = slot_of_build(rows, &build);
+    put_at(rows, slot, build);
 }
 
 /// The build is of another architecture or name than the drop, or of a version above it.
@@ -302,17 +301,13 @@ fn slot_of_hint(hints: &[HintIn], hint: &HintIn) -> Slot
     Slot::Before(hints.len())
 }
 
-/// A hint joins the hints.
-pub fn put_hint(hints: &mut Vec<HintIn>, hint: HintIn) -> Result<(), NoMemory>
-    ensures ok { OnOk result (hints.new.items ≡ taken.with_hint hint hints.old.items) }
-    ensures err { OnErr result (hints.new.items ≡ hints.old.items) }
+/// A hint joins the hints. There is room for it.
+pub fn put_hint(hints: &mut Vec<HintIn>, hint: HintIn)
+    requires room { vec_len hints.old < vec_capacity hints.old }
+    ensures { hints.new.items ≡ taken.with_hint hint hints.old.items }
 {
-    match slot_of_hint(hints, &hint) {
-        Slot::Over(i) => hints[i] = hint,
-        Slot::Before(i) => hints.insert(i, hint)?,
-        Slot::Nowhere => {}
-    }
-    Ok(())
+    let slot = slot_of_hint(hints, &hint);
+    put_at(hints, slot, hint);
 }
 
 /// Where the list takes the unhint.
@@ -329,17 +324,13 @@ fn slot_of_unhint(unhints: &[UnhintIn], unhint: &UnhintIn) -> Slot
     Slot::Before(unhints.len())
 }
 
-/// An unhint joins the unhints.
-pub fn put_unhint(unhints: &mut Vec<UnhintIn>, unhint: UnhintIn) -> Result<(), NoMemory>
-    ensures ok { OnOk result (unhints.new.items ≡ taken.with_unhint unhint unhints.old.items) }
-    ensures err { OnErr result (unhints.new.items ≡ unhints.old.items) }
+/// An unhint joins the unhints. There is room for it.
+pub fn put_unhint(unhints: &mut Vec<UnhintIn>, unhint: UnhintIn)
+    requires room { vec_len unhints.old < vec_capacity unhints.old }
+    ensures { unhints.new.items ≡ taken.with_unhint unhint unhints.old.items }
 {
-    match slot_of_unhint(unhints, &unhint) {
-        Slot::Over(i) => unhints[i] = unhint,
-        Slot::Before(i) => unhints.insert(i, unhint)?,
-        Slot::Nowhere => {}
-    }
-    Ok(())
+    let slot = slot_of_unhint(unhints, &unhint);
+    put_at(unhints, slot, unhint);
 }
 
 /// The last of the messages on delays, one more among them.

@@ -9,5 +9,5 @@ pub loop-build-preserved : goal.loop-build-preserved
 loop-build-preserved c =
     record {
       builds = grind (arith, common_steps);
-      spares = subst (λ (cs : List Coming). All (λ (n : Coming). n.spare ≡ []) cs) (sym c.in_ok-push.ensures.items) (All-push (λ (n : Coming). n.spare ≡ []) c.loop-build.coming.items _ c.loop-build.invariant.spares c.in_ok-spare.ensures);
+      spares = subst (λ (cs : List Coming). All (λ (n : Coming). n.spare ≡ []) cs) (sym c.in_ok-push.ensures.items) (All-push (λ (n : Coming). n.spare ≡ []) c.loop-build.coming.items _ c.loop-build.invariant.spares c.in_ok-coming_build.ensures.spare);
     }

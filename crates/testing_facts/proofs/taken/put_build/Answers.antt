@@ -1,17 +1,15 @@
-use Rattle.std.proofs.Common.{◌≡◌, ◌∙◌, sym, ap}
-use Rattle.std.specs.List.{insert}
+use Rattle.std.proofs.Common.{◌∙◌, ap}
+use Rattle.testing_model.specs.WithMessage.{with_build}
 use Rattle.testing_model.specs.Boxed.{unboxed}
-use Rattle.testing_model.proofs.Unboxed.{unboxed-set, unboxed-insert}
+use Rattle.testing_facts.proofs.Slotting.{box_slot_in, box_slotted_is}
 use Rattle.testing_facts.proofs.taken.put_build.Goals as goal
 
-pub returns-in-Over-clause-items : goal.returns-in-Over-clause-items
-returns-in-Over-clause-items c =
-    let bs = c.args.rows.now.items in
-    unboxed-set bs c.in-Over.i c.args.build ∙ sym (rw (c.deref.ensures.value, c.deref-2.ensures) at c.in-Over.ensures.1)
+pub put_at-requires-clause-slot : goal.put_at-requires-clause-slot
+put_at-requires-clause-slot c =
+    let xs = c.args.rows.now.items in
+    box_slot_in xs c.args.build.value (with_build c.args.build.value (unboxed xs)) c.slot_of_build-slot.result (rw (c.deref.ensures.value, c.deref-2.ensures) at c.slot_of_build-slot.ensures)
 
-pub returns-in-Before-clause-items : goal.returns-in-Before-clause-items
-returns-in-Before-clause-items c =
-    let bs = c.args.rows.now.items in
-    let i = c.in-Before.i in
-    let done : c.insert.new.self.items ≡ insert bs i c.args.build = rw (c.insert.ensures.succeeds c.requires.room) at c.insert.ensures.items in
-    ap unboxed done ∙ unboxed-insert bs i c.args.build ∙ sym (rw (c.deref.ensures.value, c.deref-2.ensures) at c.in-Before.ensures.1)
+pub returns-clause-items : goal.returns-clause-items
+returns-clause-items c =
+    let xs = c.args.rows.now.items in
+    ap unboxed c.put_at.ensures.items ∙ box_slotted_is xs c.args.build (with_build c.args.build.value (unboxed xs)) c.slot_of_build-slot.result (rw (c.deref.ensures.value, c.deref-2.ensures) at c.slot_of_build-slot.ensures)

@@ -1,15 +1,15 @@
-use Rattle.std.proofs.Common.{◌∙◌, sym, ap}
+use Rattle.std.proofs.Common.{◌∙◌, ap}
+use Rattle.testing_model.specs.WithMessage.{with_upload}
 use Rattle.testing_model.specs.Boxed.{unboxed}
-use Rattle.testing_model.proofs.Unboxed.{unboxed-set, unboxed-insert}
+use Rattle.testing_facts.proofs.Slotting.{box_slot_in, box_slotted_is}
 use Rattle.testing_facts.proofs.taken.put_upload.Goals as goal
 
-pub returns-in-Over-clause-ok : goal.returns-in-Over-clause-ok
-returns-in-Over-clause-ok c =
-    let bs = c.args.sources.now.items in
-    unboxed-set bs c.in-Over.i c.args.upload ∙ sym (rw (c.deref.ensures.value, c.deref-2.ensures) at c.in-Over.ensures.1)
+pub put_at-requires-clause-slot : goal.put_at-requires-clause-slot
+put_at-requires-clause-slot c =
+    let xs = c.args.sources.now.items in
+    box_slot_in xs c.args.upload.value (with_upload c.args.upload.value (unboxed xs)) c.slot_of_upload-slot.result (rw (c.deref.ensures.value, c.deref-2.ensures) at c.slot_of_upload-slot.ensures)
 
-pub returns-in_ok-insert-in-Before-clause-ok : goal.returns-in_ok-insert-in-Before-clause-ok
-returns-in_ok-insert-in-Before-clause-ok c =
-    let bs = c.args.sources.now.items in
-    let i = c.in-Before.i in
-    ap unboxed c.in_ok-insert-in-Before.ensures.items ∙ unboxed-insert bs i c.args.upload ∙ sym (rw (c.deref.ensures.value, c.deref-2.ensures) at c.in-Before.ensures.1)
+pub returns : goal.returns
+returns c =
+    let xs = c.args.sources.now.items in
+    ap unboxed c.put_at.ensures.items ∙ box_slotted_is xs c.args.upload (with_upload c.args.upload.value (unboxed xs)) c.slot_of_upload-slot.result (rw (c.deref.ensures.value, c.deref-2.ensures) at c.slot_of_upload-slot.ensures)

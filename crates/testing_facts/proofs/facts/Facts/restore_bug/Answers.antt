@@ -1,15 +1,16 @@
-use Rattle.std.proofs.Common.{sym, subst}
+use Rattle.std.proofs.Common.{◌∙◌, ap, sym, subst}
+use Rattle.testing_model.specs.WithMessage.{with_bug}
 use Rattle.testing_model.specs.FactOrder.{AreByNumber}
 use Rattle.testing_facts.proofs.KeySlots.{by_number-bug}
 use Rattle.testing_facts.proofs.facts.Facts.restore_bug.Goals as goal
 
-pub invariant_of-self : goal.invariant_of-self
-invariant_of-self c = (
+pub invariant_of-self-in-Some : goal.invariant_of-self-in-Some
+invariant_of-self-in-Some c = (
   record {
     by_source = c.self.invariant.0.by_source;
     by_pair = c.self.invariant.0.by_pair;
     drops_by_pair = c.self.invariant.0.drops_by_pair;
-    by_number = subst AreByNumber (sym c.in_ok-put_bug.ensures.ok) (by_number-bug c.in-Some.bug c.self.inside.bugs.items c.self.invariant.0.by_number);
+    by_number = subst AreByNumber (sym (c.put_bug.ensures ∙ ap (with_bug c.in-Some.bug) c.in_ok-reserve.ensures.items)) (by_number-bug c.in-Some.bug c.self.inside.bugs.items c.self.invariant.0.by_number);
   },
   c.self.invariant.1,
   c.self.invariant.2,

@@ -1,14 +1,15 @@
-use Rattle.std.proofs.Common.{sym, subst}
+use Rattle.std.proofs.Common.{◌∙◌, ap, sym, subst}
+use Rattle.testing_model.specs.WithMessage.{with_greatest}
 use Rattle.testing_model.specs.FactOrder.{AreDropsByPair}
 use Rattle.testing_facts.proofs.KeySlots.{drops_by_pair-drop}
 use Rattle.testing_facts.proofs.facts.Facts.restore_drop.Goals as goal
 
-pub invariant_of-self : goal.invariant_of-self
-invariant_of-self c = (
+pub invariant_of-self-in-Some : goal.invariant_of-self-in-Some
+invariant_of-self-in-Some c = (
   record {
     by_source = c.self.invariant.0.by_source;
     by_pair = c.self.invariant.0.by_pair;
-    drops_by_pair = subst AreDropsByPair (sym c.in_ok-put_drop.ensures.ok) (drops_by_pair-drop c.in-Some.drop c.self.inside.drops.items c.self.invariant.0.drops_by_pair);
+    drops_by_pair = subst AreDropsByPair (sym (c.put_drop.ensures ∙ ap (with_greatest c.in-Some.drop) c.in_ok-reserve.ensures.items)) (drops_by_pair-drop c.in-Some.drop c.self.inside.drops.items c.self.invariant.0.drops_by_pair);
     by_number = c.self.invariant.0.by_number;
   },
   c.self.invariant.1,

@@ -1,13 +1,14 @@
-use Rattle.std.proofs.Common.{sym, subst}
+use Rattle.std.proofs.Common.{◌∙◌, ap, sym, subst}
+use Rattle.testing_model.specs.WithMessage.{with_upload}
 use Rattle.testing_model.specs.Boxed.{unboxed}
 use Rattle.testing_model.specs.FactOrder.{AreBySource}
 use Rattle.testing_facts.proofs.KeySlots.{by_source-upload}
 use Rattle.testing_facts.proofs.facts.Facts.restore_source.Goals as goal
 
-pub invariant_of-self : goal.invariant_of-self
-invariant_of-self c = (
+pub invariant_of-self-in-Some : goal.invariant_of-self-in-Some
+invariant_of-self-in-Some c = (
   record {
-    by_source = subst AreBySource (sym c.in_ok-put_upload.ensures.ok) (by_source-upload c.in_ok-boxed.boxed.value (unboxed c.self.inside.sources.items) c.self.invariant.0.by_source);
+    by_source = subst AreBySource (sym (c.put_upload.ensures ∙ ap (λ us. with_upload c.in_ok-boxed.boxed.value (unboxed us)) c.in_ok-reserve.ensures.items)) (by_source-upload c.in_ok-boxed.boxed.value (unboxed c.self.inside.sources.items) c.self.invariant.0.by_source);
     by_pair = c.self.invariant.0.by_pair;
     drops_by_pair = c.self.invariant.0.drops_by_pair;
     by_number = c.self.invariant.0.by_number;

@@ -1,4 +1,5 @@
-use Rattle.std.proofs.Common.{arith, sym, subst}
+use Rattle.std.proofs.Common.{◌∙◌, ap, arith, sym, subst}
+use Rattle.testing_model.specs.WithMessage.{with_bug}
 use Rattle.testing_model.specs.FactOrder.{AreByNumber}
 use Rattle.testing_facts.proofs.KeySlots.{by_number-bug}
 use Rattle.testing_facts.proofs.facts.Facts.take_bug.Goals as goal
@@ -9,8 +10,8 @@ invariant_of-self-2 c = (
     by_source = c.self.invariant.0.by_source;
     by_pair = c.self.invariant.0.by_pair;
     drops_by_pair = c.self.invariant.0.drops_by_pair;
-    by_number = subst AreByNumber (sym c.in_ok-put_bug.ensures.ok) (by_number-bug c.args.bug c.self.inside.bugs.items c.self.invariant.0.by_number);
+    by_number = subst AreByNumber (sym (c.put_bug.ensures ∙ ap (with_bug c.args.bug) c.in_ok-reserve_with.ensures.items)) (by_number-bug c.args.bug c.self.inside.bugs.items c.self.invariant.0.by_number);
   },
-  omega (arith, c.note.ensures.len_left, c.note.ensures.capacity_left, c.in_ok-reserve.ensures.room_left, c.len.ensures),
+  omega (arith, c.note.ensures.len_left, c.note.ensures.capacity_left, c.in_ok-reserve_with.ensures.room_left, c.len.ensures),
   c.self.invariant.2,
 )
