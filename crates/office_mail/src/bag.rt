@@ -9,9 +9,8 @@ ghost use Rattle.office_mail.specs.BagReads.{TakesBody, GoesOn, Waits, BreaksOff
 
 use crate::feed::Feed;
 use std::alloc::{AllocFailed, Global};
-use std::error::Error;
-use std::fmt;
 use std::marker::Model;
+use thiserror::Error;
 
 /// The greatest number of reads for one bag.
 pub const READS: u32 = 1_000_000;
@@ -20,27 +19,17 @@ pub const READS: u32 = 1_000_000;
 pub const LONGEST: usize = 65_536;
 
 /// Why a bag ended before its end.
-#[derive(Clone, Copy, Debug, PartialEq, Eq)]
+#[derive(Clone, Copy, Debug, PartialEq, Eq, Error)]
 pub enum BagFault {
+    #[error("a byte that no header line has there")]
     BadHeader,
+    #[error("the input ends within a header line or a message")]
     Truncated,
+    #[error("a read failed, or 1,000,000 reads didn't reach the end")]
     ReadFault,
+    #[error("out of memory")]
     NoMemory,
 }
-
-impl fmt::Display for BagFault {
-    fn fmt<W: fmt::Write>(&self, f: &mut fmt::Formatter<W>) -> fmt::Result {
-        let text = match self {
-            BagFault::BadHeader => "a byte that no header line has there",
-            BagFault::Truncated => "the input ends within a header line or a message",
-            BagFault::ReadFault => "a read failed, or 1,000,000 reads didn't reach the end",
-            BagFault::NoMemory => "out of memory",
-        };
-        f.write_str(text)
-    }
-}
-
-impl Error for BagFault {}
 
 impl<T: Drop> From<AllocFailed<T>> for BagFault {
     ghost use Rattle.office_mail.specs.declared.bag.BagFault.TheVariants.{NoMemory};

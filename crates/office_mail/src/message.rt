@@ -6,46 +6,35 @@ use crate::field::Field;
 use crate::texts::Numbers;
 use jiff::civil::Date;
 use std::alloc::{AllocError, AllocFailed};
-use std::error::Error;
-use std::fmt;
 use testing_items::Item;
+use thiserror::Error;
 
 /// Why a text is no message. The first that applies is given.
-#[derive(Clone, Copy, Debug, PartialEq, Eq)]
+#[derive(Clone, Copy, Debug, PartialEq, Eq, Error)]
 pub enum MailFault {
+    #[error("the text is too long")]
     TooLong,
+    #[error("a paragraph can't be read")]
     BadParagraph,
+    #[error("the field {0:?} is missing")]
     MissingField(Field),
+    #[error("no such sender")]
     UnknownSender,
+    #[error("a bad number")]
     BadNumber,
+    #[error("no such kind of message")]
     UnknownKind,
+    #[error("the sender has another role")]
     WrongRole,
+    #[error("too many paragraphs")]
     TooManyParagraphs,
+    #[error("no such architecture")]
     UnknownArchitecture,
+    #[error("a bad value of {0:?}")]
     BadValue(Field),
+    #[error("out of memory")]
     NoMemory,
 }
-
-impl fmt::Display for MailFault {
-    fn fmt<W: fmt::Write>(&self, f: &mut fmt::Formatter<W>) -> fmt::Result {
-        let text = match self {
-            MailFault::TooLong => "the text is too long",
-            MailFault::BadParagraph => "a paragraph can't be read",
-            MailFault::MissingField(field) => return write!(f, "the field {field:?} is missing"),
-            MailFault::UnknownSender => "no such sender",
-            MailFault::BadNumber => "a bad number",
-            MailFault::UnknownKind => "no such kind of message",
-            MailFault::WrongRole => "the sender has another role",
-            MailFault::TooManyParagraphs => "too many paragraphs",
-            MailFault::UnknownArchitecture => "no such architecture",
-            MailFault::BadValue(field) => return write!(f, "a bad value of {field:?}"),
-            MailFault::NoMemory => "out of memory",
-        };
-        f.write_str(text)
-    }
-}
-
-impl Error for MailFault {}
 
 impl From<AllocError> for MailFault {
     ghost from_gives = { λ _ e. e ≡ fault.NoMemory };

@@ -7,10 +7,9 @@ ghost use Rattle.office_mail.specs.Setup.{setup_in as setup_said, setup_field_na
 use crate::setup_read::setup_in;
 use deb_control::{NoMemory, Text};
 use std::alloc::{AllocError, AllocFailed, Global};
-use std::error::Error;
-use std::fmt;
 use std::marker::Model;
 use testing_items::Archs;
+use thiserror::Error;
 
 /// What a sender may send.
 #[derive(Clone, Copy, Debug, PartialEq, Eq)]
@@ -89,33 +88,23 @@ impl SetupField {
 }
 
 /// Why a text is no setup. The first that applies is given.
-#[derive(Clone, Copy, Debug, PartialEq, Eq)]
+#[derive(Clone, Copy, Debug, PartialEq, Eq, Error)]
 pub enum SetupFault {
+    #[error("a paragraph can't be read")]
     BadParagraph,
+    #[error("the field {0:?} is missing")]
     MissingField(SetupField),
+    #[error("a bad architecture")]
     BadArchitecture,
+    #[error("a bad sender")]
     BadSender,
+    #[error("an unknown role, or too few or too many senders of a role")]
     BadRoles,
+    #[error("too many architectures or senders, or too long a text")]
     TooMany,
+    #[error("out of memory")]
     NoMemory,
 }
-
-impl fmt::Display for SetupFault {
-    fn fmt<W: fmt::Write>(&self, f: &mut fmt::Formatter<W>) -> fmt::Result {
-        let text = match self {
-            SetupFault::BadParagraph => "a paragraph can't be read",
-            SetupFault::MissingField(field) => return write!(f, "the field {field:?} is missing"),
-            SetupFault::BadArchitecture => "a bad architecture",
-            SetupFault::BadSender => "a bad sender",
-            SetupFault::BadRoles => "an unknown role, or too few or too many senders of a role",
-            SetupFault::TooMany => "too many architectures or senders, or too long a text",
-            SetupFault::NoMemory => "out of memory",
-        };
-        f.write_str(text)
-    }
-}
-
-impl Error for SetupFault {}
 
 impl From<AllocError> for SetupFault {
     ghost from_gives = { λ _ e. e ≡ fault.NoMemory };
