@@ -1,4 +1,5 @@
 use Rattle.std.proofs.Common.{◌≡◌, List, map, sym, ap, subst, ◌∙◌}
+use Rattle.std.proofs.lemmas.Result.{IfOk-from_err}
 use Rattle.std.specs.List.Sorted.{IsPermutation}
 use Rattle.sqlite.specs.Order.{Row}
 use Rattle.sqlite.specs.Effect.{Database}
@@ -33,3 +34,33 @@ returns-in_err-delays-clause-bad g c trusted read bad =
     let two = state g.S.Store c.delays_rows.new.conn in
     let fault = passed c.from_residual-in_err-delays.result c.in_err-delays.field-0.0 _ bad c.from_residual-in_err-delays.ensures.1 in
     delays_shown_one (release_place c.args.setup.now) (two.now.trees 8) (two.now.trees 10) c.in_ok-last.last.items (c.in_ok-last.ensures.rows trusted) read (rw c.as_slice-2.ensures.value at (c.in_err-delays.ensures.none fault)) (rw c.as_slice-2.ensures.value at (c.in_err-delays.ensures.one fault))
+
+pub returns-in_err-shown-clause-open : goal.returns-in_err-shown-clause-open
+returns-in_err-shown-clause-open g c clean trusted = IfOk-from_err c.from_residual.result _ c.from_residual.ensures.0
+
+pub returns-in_err-shown-clause-value : goal.returns-in_err-shown-clause-value
+returns-in_err-shown-clause-value g c trusted = IfOk-from_err c.from_residual.result _ c.from_residual.ensures.0
+
+pub returns-in_err-facts-clause-open : goal.returns-in_err-facts-clause-open
+returns-in_err-facts-clause-open g c clean trusted = IfOk-from_err c.from_residual-in_err-facts.result _ c.from_residual-in_err-facts.ensures.0
+
+pub returns-in_err-facts-clause-value : goal.returns-in_err-facts-clause-value
+returns-in_err-facts-clause-value g c trusted = IfOk-from_err c.from_residual-in_err-facts.result _ c.from_residual-in_err-facts.ensures.0
+
+pub returns-in_err-last-clause-open : goal.returns-in_err-last-clause-open
+returns-in_err-last-clause-open g c clean trusted = IfOk-from_err c.from_residual-in_err-last.result _ c.from_residual-in_err-last.ensures.0
+
+pub returns-in_err-last-clause-value : goal.returns-in_err-last-clause-value
+returns-in_err-last-clause-value g c trusted = IfOk-from_err c.from_residual-in_err-last.result _ c.from_residual-in_err-last.ensures.0
+
+pub returns-in_err-delays-clause-open : goal.returns-in_err-delays-clause-open
+returns-in_err-delays-clause-open g c clean trusted = IfOk-from_err c.from_residual-in_err-delays.result _ c.from_residual-in_err-delays.ensures.0
+
+pub returns-in_err-delays-clause-value : goal.returns-in_err-delays-clause-value
+returns-in_err-delays-clause-value g c trusted = IfOk-from_err c.from_residual-in_err-delays.result _ c.from_residual-in_err-delays.ensures.0
+
+pub returns-in_err-rows-clause-open : goal.returns-in_err-rows-clause-open
+returns-in_err-rows-clause-open g c clean trusted = IfOk-from_err c.from_residual-in_err-rows.result _ c.from_residual-in_err-rows.ensures.0
+
+pub returns-in_err-rows-clause-value : goal.returns-in_err-rows-clause-value
+returns-in_err-rows-clause-value g c trusted = IfOk-from_err c.from_residual-in_err-rows.result _ c.from_residual-in_err-rows.ensures.0

@@ -1,3 +1,4 @@
+use Rattle.std.proofs.lemmas.Result.{IfOk-from_err}
 use Rattle.sqlite.specs.Held.{state}
 use Rattle.office_tables.proofs.FinishLemmas.{writes}
 use Rattle.office_tables.proofs.finishing.write_run.Goals as goal
@@ -14,3 +15,63 @@ returns-clause-done g c trusted =
 
 pub returns-clause-ordered : goal.returns-clause-ordered
 returns-clause-ordered g c = record { by_name = rw c.sources.ensures.entries at c.sources.ensures.ordered; by_key = rw c.rows.ensures.entries at c.rows.ensures.ordered }
+
+pub returns-in_err-set_sources-clause-open : goal.returns-in_err-set_sources-clause-open
+returns-in_err-set_sources-clause-open g c clean trusted = IfOk-from_err c.from_residual.result _ c.from_residual.ensures.0
+
+pub returns-in_err-set_sources-clause-on : goal.returns-in_err-set_sources-clause-on
+returns-in_err-set_sources-clause-on g c trusted = IfOk-from_err c.from_residual.result _ c.from_residual.ensures.0
+
+pub returns-in_err-set_sources-clause-ordered : goal.returns-in_err-set_sources-clause-ordered
+returns-in_err-set_sources-clause-ordered g c = IfOk-from_err c.from_residual.result _ c.from_residual.ensures.0
+
+pub returns-in_err-set_sources-clause-texts : goal.returns-in_err-set_sources-clause-texts
+returns-in_err-set_sources-clause-texts g c = IfOk-from_err c.from_residual.result _ c.from_residual.ensures.0
+
+pub returns-in_err-set_sources-clause-done : goal.returns-in_err-set_sources-clause-done
+returns-in_err-set_sources-clause-done g c trusted = IfOk-from_err c.from_residual.result _ c.from_residual.ensures.0
+
+pub returns-in_err-set_rows-clause-open : goal.returns-in_err-set_rows-clause-open
+returns-in_err-set_rows-clause-open g c clean trusted = IfOk-from_err c.from_residual-in_err-set_rows.result _ c.from_residual-in_err-set_rows.ensures.0
+
+pub returns-in_err-set_rows-clause-on : goal.returns-in_err-set_rows-clause-on
+returns-in_err-set_rows-clause-on g c trusted = IfOk-from_err c.from_residual-in_err-set_rows.result _ c.from_residual-in_err-set_rows.ensures.0
+
+pub returns-in_err-set_rows-clause-ordered : goal.returns-in_err-set_rows-clause-ordered
+returns-in_err-set_rows-clause-ordered g c = IfOk-from_err c.from_residual-in_err-set_rows.result _ c.from_residual-in_err-set_rows.ensures.0
+
+pub returns-in_err-set_rows-clause-texts : goal.returns-in_err-set_rows-clause-texts
+returns-in_err-set_rows-clause-texts g c = IfOk-from_err c.from_residual-in_err-set_rows.result _ c.from_residual-in_err-set_rows.ensures.0
+
+pub returns-in_err-set_rows-clause-done : goal.returns-in_err-set_rows-clause-done
+returns-in_err-set_rows-clause-done g c trusted = IfOk-from_err c.from_residual-in_err-set_rows.result _ c.from_residual-in_err-set_rows.ensures.0
+
+pub returns-in_err-change_facts-clause-open : goal.returns-in_err-change_facts-clause-open
+returns-in_err-change_facts-clause-open g c clean trusted = IfOk-from_err c.from_residual-in_err-change_facts.result _ c.from_residual-in_err-change_facts.ensures.0
+
+pub returns-in_err-change_facts-clause-on : goal.returns-in_err-change_facts-clause-on
+returns-in_err-change_facts-clause-on g c trusted = IfOk-from_err c.from_residual-in_err-change_facts.result _ c.from_residual-in_err-change_facts.ensures.0
+
+pub returns-in_err-change_facts-clause-ordered : goal.returns-in_err-change_facts-clause-ordered
+returns-in_err-change_facts-clause-ordered g c = IfOk-from_err c.from_residual-in_err-change_facts.result _ c.from_residual-in_err-change_facts.ensures.0
+
+pub returns-in_err-change_facts-clause-texts : goal.returns-in_err-change_facts-clause-texts
+returns-in_err-change_facts-clause-texts g c = IfOk-from_err c.from_residual-in_err-change_facts.result _ c.from_residual-in_err-change_facts.ensures.0
+
+pub returns-in_err-change_facts-clause-done : goal.returns-in_err-change_facts-clause-done
+returns-in_err-change_facts-clause-done g c trusted = IfOk-from_err c.from_residual-in_err-change_facts.result _ c.from_residual-in_err-change_facts.ensures.0
+
+pub returns-in_err-added-clause-open : goal.returns-in_err-added-clause-open
+returns-in_err-added-clause-open g c clean trusted = IfOk-from_err c.from_residual-in_err-added.result _ c.from_residual-in_err-added.ensures.0
+
+pub returns-in_err-added-clause-on : goal.returns-in_err-added-clause-on
+returns-in_err-added-clause-on g c trusted = IfOk-from_err c.from_residual-in_err-added.result _ c.from_residual-in_err-added.ensures.0
+
+pub returns-in_err-added-clause-ordered : goal.returns-in_err-added-clause-ordered
+returns-in_err-added-clause-ordered g c = IfOk-from_err c.from_residual-in_err-added.result _ c.from_residual-in_err-added.ensures.0
+
+pub returns-in_err-added-clause-texts : goal.returns-in_err-added-clause-texts
+returns-in_err-added-clause-texts g c = IfOk-from_err c.from_residual-in_err-added.result _ c.from_residual-in_err-added.ensures.0
+
+pub returns-in_err-added-clause-done : goal.returns-in_err-added-clause-done
+returns-in_err-added-clause-done g c trusted = IfOk-from_err c.from_residual-in_err-added.result _ c.from_residual-in_err-added.ensures.0

@@ -1,4 +1,5 @@
 use Rattle.std.proofs.Common.{◌<◌, length, refl, subst, arith, SFits, w64, rules, to_z-of_z}
+use Rattle.std.proofs.lemmas.Result.{IfOk-from_err}
 use Rattle.std.proofs.lemmas.Option.{slice_get_read, slice_get_within}
 use Rattle.sqlite.specs.Held.{state}
 use Rattle.office_tables.specs.Entries.{source_in}
@@ -36,3 +37,39 @@ returns-in_ok-add_source-in-Comes-clause-compared g c trusted first was =
     let below = subst (Agrees source_in source_entry c.args.shown.now c.args.sources.now c.args.at.shown c.args.at.entries) c.in-Comes.is c.in_ok-source_change.ensures.next in
     source_comes c.args.shown.now c.args.sources.now first (state g.S.Store c.args.tx.now.conn.now).now.trees (state g.S.Store c.add_source.new.tx.conn.now).now.trees c.args.at.shown c.args.at.entries c.index-sources-place.result c.as_str.result.now
     (slice_get_read c.args.sources.now (length c.args.sources.now) c.args.at.entries c.index-sources-place.result refl below c.index-sources-place.is) c.as_str.ensures (c.in_ok-add_source-in-Comes.ensures.added trusted) was
+
+pub returns-in_err-source_change-clause-open : goal.returns-in_err-source_change-clause-open
+returns-in_err-source_change-clause-open g c clean trusted = IfOk-from_err c.from_residual.result _ c.from_residual.ensures.0
+
+pub returns-in_err-source_change-clause-on : goal.returns-in_err-source_change-clause-on
+returns-in_err-source_change-clause-on g c trusted = IfOk-from_err c.from_residual.result _ c.from_residual.ensures.0
+
+pub returns-in_err-source_change-clause-further : goal.returns-in_err-source_change-clause-further
+returns-in_err-source_change-clause-further g c = IfOk-from_err c.from_residual.result _ c.from_residual.ensures.0
+
+pub returns-in_err-source_change-clause-compared : goal.returns-in_err-source_change-clause-compared
+returns-in_err-source_change-clause-compared g c trusted = IfOk-from_err c.from_residual.result _ c.from_residual.ensures.0
+
+pub returns-in_err-take_one_source-in-Leaves-clause-open : goal.returns-in_err-take_one_source-in-Leaves-clause-open
+returns-in_err-take_one_source-in-Leaves-clause-open g c clean trusted = IfOk-from_err c.from_residual-in_err-take_one_source-in-Leaves.result _ c.from_residual-in_err-take_one_source-in-Leaves.ensures.0
+
+pub returns-in_err-take_one_source-in-Leaves-clause-on : goal.returns-in_err-take_one_source-in-Leaves-clause-on
+returns-in_err-take_one_source-in-Leaves-clause-on g c trusted = IfOk-from_err c.from_residual-in_err-take_one_source-in-Leaves.result _ c.from_residual-in_err-take_one_source-in-Leaves.ensures.0
+
+pub returns-in_err-take_one_source-in-Leaves-clause-further : goal.returns-in_err-take_one_source-in-Leaves-clause-further
+returns-in_err-take_one_source-in-Leaves-clause-further g c = IfOk-from_err c.from_residual-in_err-take_one_source-in-Leaves.result _ c.from_residual-in_err-take_one_source-in-Leaves.ensures.0
+
+pub returns-in_err-take_one_source-in-Leaves-clause-compared : goal.returns-in_err-take_one_source-in-Leaves-clause-compared
+returns-in_err-take_one_source-in-Leaves-clause-compared g c trusted = IfOk-from_err c.from_residual-in_err-take_one_source-in-Leaves.result _ c.from_residual-in_err-take_one_source-in-Leaves.ensures.0
+
+pub returns-in_err-add_source-in-Comes-clause-open : goal.returns-in_err-add_source-in-Comes-clause-open
+returns-in_err-add_source-in-Comes-clause-open g c clean trusted = IfOk-from_err c.from_residual-in_err-add_source-in-Comes.result _ c.from_residual-in_err-add_source-in-Comes.ensures.0
+
+pub returns-in_err-add_source-in-Comes-clause-on : goal.returns-in_err-add_source-in-Comes-clause-on
+returns-in_err-add_source-in-Comes-clause-on g c trusted = IfOk-from_err c.from_residual-in_err-add_source-in-Comes.result _ c.from_residual-in_err-add_source-in-Comes.ensures.0
+
+pub returns-in_err-add_source-in-Comes-clause-further : goal.returns-in_err-add_source-in-Comes-clause-further
+returns-in_err-add_source-in-Comes-clause-further g c = IfOk-from_err c.from_residual-in_err-add_source-in-Comes.result _ c.from_residual-in_err-add_source-in-Comes.ensures.0
+
+pub returns-in_err-add_source-in-Comes-clause-compared : goal.returns-in_err-add_source-in-Comes-clause-compared
+returns-in_err-add_source-in-Comes-clause-compared g c trusted = IfOk-from_err c.from_residual-in_err-add_source-in-Comes.result _ c.from_residual-in_err-add_source-in-Comes.ensures.0

@@ -1,4 +1,5 @@
 use Rattle.std.proofs.Common.{◌≡◌, map, sym, ap, subst}
+use Rattle.std.proofs.lemmas.Result.{IfOk-from_err}
 use Rattle.std.specs.List.Sorted.{IsPermutation}
 use Rattle.std.proofs.lemmas.List.Sorted.{IsPermutation-trans}
 use Rattle.sqlite.specs.Effect.{Database}
@@ -15,3 +16,21 @@ change_sources-requires-clause-shown g c trusted =
     let there = IsPermutation-trans _ _ _ (c.in_ok-listed.ensures.rows trusted) c.sources_in_order-shown.ensures in
     subst (λ (t : Trees). IsPermutation (map source_columns (t 4)) c.as_slice.result.now) (sym same)
     (subst (IsPermutation (map source_columns (old.now.trees 4))) (sym c.as_slice.ensures.value) there)
+
+pub returns-in_err-listed-clause-open : goal.returns-in_err-listed-clause-open
+returns-in_err-listed-clause-open g c clean trusted = IfOk-from_err c.from_residual.result _ c.from_residual.ensures.0
+
+pub returns-in_err-listed-clause-on : goal.returns-in_err-listed-clause-on
+returns-in_err-listed-clause-on g c trusted = IfOk-from_err c.from_residual.result _ c.from_residual.ensures.0
+
+pub returns-in_err-listed-clause-set : goal.returns-in_err-listed-clause-set
+returns-in_err-listed-clause-set g c trusted = IfOk-from_err c.from_residual.result _ c.from_residual.ensures.0
+
+pub returns-in_err-change_sources-clause-open : goal.returns-in_err-change_sources-clause-open
+returns-in_err-change_sources-clause-open g c clean trusted = IfOk-from_err c.from_residual-in_err-change_sources.result _ c.from_residual-in_err-change_sources.ensures.0
+
+pub returns-in_err-change_sources-clause-on : goal.returns-in_err-change_sources-clause-on
+returns-in_err-change_sources-clause-on g c trusted = IfOk-from_err c.from_residual-in_err-change_sources.result _ c.from_residual-in_err-change_sources.ensures.0
+
+pub returns-in_err-change_sources-clause-set : goal.returns-in_err-change_sources-clause-set
+returns-in_err-change_sources-clause-set g c trusted = IfOk-from_err c.from_residual-in_err-change_sources.result _ c.from_residual-in_err-change_sources.ensures.0
