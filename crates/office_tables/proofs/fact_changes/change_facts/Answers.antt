@@ -1,5 +1,7 @@
+use Rattle.std.proofs.Common.{◌∙◌}
 use Rattle.std.proofs.lemmas.Result.{IfOk-from_err}
 use Rattle.sqlite.specs.Held.{state}
+use Rattle.office_tables.proofs.StateLemmas.{lasts_then, clean_before}
 use Rattle.office_tables.proofs.FactMoves.{changes}
 use Rattle.office_tables.proofs.fact_changes.change_facts.Goals as goal
 
@@ -25,3 +27,15 @@ returns-in_err-add_each-clause-on g c trusted = IfOk-from_err c.from_residual-in
 
 pub returns-in_err-add_each-clause-changed : goal.returns-in_err-add_each-clause-changed
 returns-in_err-add_each-clause-changed g c trusted = IfOk-from_err c.from_residual-in_err-add_each.result _ c.from_residual-in_err-add_each.ensures.0
+
+pub returns-in_err-add_each-clause-lasts : goal.returns-in_err-add_each-clause-lasts
+returns-in_err-add_each-clause-lasts g c = lasts_then _ _ _ c.in_ok-drop_each.ensures.lasts c.in_err-add_each.ensures.lasts
+
+pub returns-clause-lasts : goal.returns-clause-lasts
+returns-clause-lasts g c = lasts_then _ _ _ c.in_ok-drop_each.ensures.lasts c.in_ok-add_each.ensures.lasts
+
+pub returns-clause-open : goal.returns-clause-open
+returns-clause-open g c clean trusted = c.in_ok-add_each.ensures.open clean (c.in_ok-drop_each.ensures.open (clean_before _ _ c.in_ok-add_each.ensures.lasts clean) trusted)
+
+pub returns-clause-on : goal.returns-clause-on
+returns-clause-on g c trusted = record { inside = (c.in_ok-add_each.ensures.on trusted).inside; committed = (c.in_ok-add_each.ensures.on trusted).committed ∙ (c.in_ok-drop_each.ensures.on (c.in_ok-add_each.ensures.before trusted)).committed }

@@ -4,6 +4,7 @@ use Rattle.std.specs.List.Sorted.{IsPermutation}
 use Rattle.sqlite.specs.Order.{Row}
 use Rattle.sqlite.specs.Effect.{Database}
 use Rattle.sqlite.specs.Held.{state}
+use Rattle.office_tables.proofs.StateLemmas.{lasts_then, clean_before}
 use Rattle.office_keeper.specs.FactSet.{rows_in}
 use Rattle.office_tables.specs.TableContent.{ReadsEach, release_place}
 use Rattle.office_tables.specs.FactTables.{fact_in}
@@ -64,3 +65,30 @@ returns-in_err-rows-clause-open g c clean trusted = IfOk-from_err c.from_residua
 
 pub returns-in_err-rows-clause-value : goal.returns-in_err-rows-clause-value
 returns-in_err-rows-clause-value g c trusted = IfOk-from_err c.from_residual-in_err-rows.result _ c.from_residual-in_err-rows.ensures.0
+
+pub returns-in_err-last-clause-lasts : goal.returns-in_err-last-clause-lasts
+returns-in_err-last-clause-lasts g c = lasts_then _ _ _ c.in_ok-shown.ensures.lasts c.in_err-last.ensures.lasts
+
+pub returns-in_err-last-clause-same : goal.returns-in_err-last-clause-same
+returns-in_err-last-clause-same g c trusted = record { ours = (c.in_err-last.ensures.same trusted).ours; now = (c.in_err-last.ensures.same trusted).now ∙ (c.in_ok-shown.ensures.same (c.in_err-last.ensures.before trusted)).now }
+
+pub returns-in_err-delays-clause-lasts : goal.returns-in_err-delays-clause-lasts
+returns-in_err-delays-clause-lasts g c = lasts_then _ _ _ c.in_ok-shown.ensures.lasts c.in_ok-last.ensures.lasts
+
+pub returns-in_err-delays-clause-same : goal.returns-in_err-delays-clause-same
+returns-in_err-delays-clause-same g c trusted = record { ours = (c.in_ok-last.ensures.same trusted).ours; now = (c.in_ok-last.ensures.same trusted).now ∙ (c.in_ok-shown.ensures.same (c.in_ok-last.ensures.before trusted)).now }
+
+pub returns-in_err-rows-clause-lasts : goal.returns-in_err-rows-clause-lasts
+returns-in_err-rows-clause-lasts g c = lasts_then _ _ _ c.in_ok-shown.ensures.lasts c.in_ok-last.ensures.lasts
+
+pub returns-in_err-rows-clause-same : goal.returns-in_err-rows-clause-same
+returns-in_err-rows-clause-same g c trusted = record { ours = (c.in_ok-last.ensures.same trusted).ours; now = (c.in_ok-last.ensures.same trusted).now ∙ (c.in_ok-shown.ensures.same (c.in_ok-last.ensures.before trusted)).now }
+
+pub returns-clause-lasts : goal.returns-clause-lasts
+returns-clause-lasts g c = lasts_then _ _ _ c.in_ok-shown.ensures.lasts c.in_ok-last.ensures.lasts
+
+pub returns-clause-same : goal.returns-clause-same
+returns-clause-same g c trusted = record { ours = (c.in_ok-last.ensures.same trusted).ours; now = (c.in_ok-last.ensures.same trusted).now ∙ (c.in_ok-shown.ensures.same (c.in_ok-last.ensures.before trusted)).now }
+
+pub returns-clause-open : goal.returns-clause-open
+returns-clause-open g c clean trusted = c.in_ok-last.ensures.open clean (c.in_ok-shown.ensures.open (clean_before _ _ c.in_ok-last.ensures.lasts clean) trusted)

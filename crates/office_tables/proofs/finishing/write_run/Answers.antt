@@ -1,5 +1,7 @@
+use Rattle.std.proofs.Common.{◌∙◌}
 use Rattle.std.proofs.lemmas.Result.{IfOk-from_err}
 use Rattle.sqlite.specs.Held.{state}
+use Rattle.office_tables.proofs.StateLemmas.{lasts_then, clean_before}
 use Rattle.office_tables.proofs.FinishLemmas.{writes}
 use Rattle.office_tables.proofs.finishing.write_run.Goals as goal
 
@@ -75,3 +77,21 @@ returns-in_err-added-clause-texts g c = IfOk-from_err c.from_residual-in_err-add
 
 pub returns-in_err-added-clause-done : goal.returns-in_err-added-clause-done
 returns-in_err-added-clause-done g c trusted = IfOk-from_err c.from_residual-in_err-added.result _ c.from_residual-in_err-added.ensures.0
+
+pub returns-in_err-set_rows-clause-lasts : goal.returns-in_err-set_rows-clause-lasts
+returns-in_err-set_rows-clause-lasts g c = lasts_then _ _ _ c.in_ok-set_sources.ensures.lasts c.in_err-set_rows.ensures.lasts
+
+pub returns-in_err-change_facts-clause-lasts : goal.returns-in_err-change_facts-clause-lasts
+returns-in_err-change_facts-clause-lasts g c = lasts_then _ _ _ (lasts_then _ _ _ c.in_ok-set_sources.ensures.lasts c.in_ok-set_rows.ensures.lasts) c.in_err-change_facts.ensures.lasts
+
+pub returns-in_err-added-clause-lasts : goal.returns-in_err-added-clause-lasts
+returns-in_err-added-clause-lasts g c = lasts_then _ _ _ (lasts_then _ _ _ (lasts_then _ _ _ c.in_ok-set_sources.ensures.lasts c.in_ok-set_rows.ensures.lasts) c.in_ok-change_facts.ensures.lasts) c.in_err-added.ensures.lasts
+
+pub returns-clause-lasts : goal.returns-clause-lasts
+returns-clause-lasts g c = lasts_then _ _ _ (lasts_then _ _ _ (lasts_then _ _ _ c.in_ok-set_sources.ensures.lasts c.in_ok-set_rows.ensures.lasts) c.in_ok-change_facts.ensures.lasts) c.in_ok-added.ensures.lasts
+
+pub returns-clause-open : goal.returns-clause-open
+returns-clause-open g c clean trusted = c.in_ok-added.ensures.open clean (c.in_ok-change_facts.ensures.open (clean_before _ _ c.in_ok-added.ensures.lasts clean) (c.in_ok-set_rows.ensures.open (clean_before _ _ c.in_ok-change_facts.ensures.lasts (clean_before _ _ c.in_ok-added.ensures.lasts clean)) (c.in_ok-set_sources.ensures.open (clean_before _ _ c.in_ok-set_rows.ensures.lasts (clean_before _ _ c.in_ok-change_facts.ensures.lasts (clean_before _ _ c.in_ok-added.ensures.lasts clean))) trusted)))
+
+pub returns-clause-on : goal.returns-clause-on
+returns-clause-on g c trusted = record { inside = (c.in_ok-added.ensures.on trusted).inside; committed = (c.in_ok-added.ensures.on trusted).committed ∙ (c.in_ok-change_facts.ensures.on (c.in_ok-added.ensures.before trusted)).committed ∙ (c.in_ok-set_rows.ensures.on (c.in_ok-change_facts.ensures.before (c.in_ok-added.ensures.before trusted))).committed ∙ (c.in_ok-set_sources.ensures.on (c.in_ok-set_rows.ensures.before (c.in_ok-change_facts.ensures.before (c.in_ok-added.ensures.before trusted)))).committed }

@@ -5,6 +5,7 @@ use Rattle.sqlite.specs.Held.{state}
 use Rattle.office_tables.specs.Entries.{source_in}
 use Rattle.office_tables.specs.EntrySteps.{source_entry}
 use Rattle.office_tables.specs.Differences.{Agrees}
+use Rattle.office_tables.proofs.StateLemmas.{lasts_same}
 use Rattle.office_tables.proofs.DifferenceLemmas.{sources_stay, source_leaves, source_comes}
 use Rattle.office_tables.proofs.testing.change_source.Goals as goal
 
@@ -73,3 +74,36 @@ returns-in_err-add_source-in-Comes-clause-further g c = IfOk-from_err c.from_res
 
 pub returns-in_err-add_source-in-Comes-clause-compared : goal.returns-in_err-add_source-in-Comes-clause-compared
 returns-in_err-add_source-in-Comes-clause-compared g c trusted = IfOk-from_err c.from_residual-in_err-add_source-in-Comes.result _ c.from_residual-in_err-add_source-in-Comes.ensures.0
+
+pub returns-in-Stays-clause-lasts : goal.returns-in-Stays-clause-lasts
+returns-in-Stays-clause-lasts g c = lasts_same _
+
+pub returns-in-Stays-clause-open : goal.returns-in-Stays-clause-open
+returns-in-Stays-clause-open g c clean trusted = trusted
+
+pub returns-in-Stays-clause-on : goal.returns-in-Stays-clause-on
+returns-in-Stays-clause-on g c trusted = record { inside = c.requires.inside trusted; committed = refl }
+
+pub returns-in-Stays-clause-further : goal.returns-in-Stays-clause-further
+returns-in-Stays-clause-further g c =
+    let a = subst (Agrees source_in source_entry c.args.shown.now c.args.sources.now c.args.at.shown c.args.at.entries) c.in-Stays.is c.in_ok-source_change.ensures.next in
+    let below : c.args.at.shown < length c.args.shown.now = slice_get_within c.args.shown.now c.args.at.shown a.0 a.2 in
+    let under : c.args.at.entries < length c.args.sources.now = slice_get_within c.args.sources.now c.args.at.entries a.1 a.3 in
+    record {
+      shown = omega arith;
+      new = omega arith;
+      either = omega arith;
+      within_shown = omega (arith, below);
+      within_new = omega (arith, under);
+    }
+
+pub returns-in_ok-add_source-in-Comes-clause-further : goal.returns-in_ok-add_source-in-Comes-clause-further
+returns-in_ok-add_source-in-Comes-clause-further g c =
+    let below : c.args.at.entries < length c.args.sources.now = subst (Agrees source_in source_entry c.args.shown.now c.args.sources.now c.args.at.shown c.args.at.entries) c.in-Comes.is c.in_ok-source_change.ensures.next in
+    record {
+      shown = omega arith;
+      new = omega arith;
+      either = omega arith;
+      within_shown = c.requires.within.0;
+      within_new = omega (arith, below);
+    }
