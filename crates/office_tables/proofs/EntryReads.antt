@@ -1,5 +1,5 @@
 -- What is read in the tables of testing.
-use Rattle.std.proofs.Common.{◌≡◌, ◌≢◌, ◌⊎◌, inl, inr, ℕ, ℤ, pos, List, [], ◌∷◌, length, ◌&&◌, ◌||◌, ◌==◌, cond, true, false, Bool, nat_lt, Some, None, Option, refl, sym, ap, subst, ◌∙◌, arith}
+use Rattle.std.proofs.Common.{◌≡◌, ◌≢◌, ◌⊎◌, inl, inr, ℕ, ℤ, pos, List, [], ◌∷◌, length, ◌&&◌, ◌||◌, ◌==◌, cond, true, false, Bool, nat_lt, Some, None, Option, IfSome, refl, sym, ap, subst, ◌∙◌, arith}
 use Rattle.std.proofs.lemmas.Bool.Decides.{nat_tests}
 use Rattle.sqlite.specs.declared.types.Value.{Value}
 use Rattle.sqlite.specs.declared.types.Value.TheVariants.{Null, Int, Real, Text, Blob}
@@ -13,6 +13,8 @@ use Rattle.deb_control.specs.declared.binary.Binary.{Binary}
 use Rattle.office_tables.specs.Tables.{number_in, small_of, small_in, text_in}
 use Rattle.office_tables.specs.Entries.{integer_in, source_by, source_in, row_by, entry_in}
 use Rattle.office_tables.specs.EntrySteps.{source_columns, entry_columns}
+use Rattle.office_tables.specs.declared.entries.KeptAt.{KeptAt}
+use Rattle.office_tables.specs.Nearby.{IsKeptAt, read_binary}
 use Rattle.office_tables.specs.TableContent.{message_at, source_by_message, source_at, source_by_entry, source_of, row_as, row_by_message, row_at, row_by_entry, row_of}
 use Rattle.office_tables.proofs.LetterFacts.{number_is}
 use Rattle.office_tables.proofs.EntryWrites.{Fits32, integer_is}
@@ -158,6 +160,13 @@ module _ (setup : Lists) (kept : Kept) (row : Row) where
 -- what is kept at a place, at the place that was asked for
 pub there : (setup : Lists) (kept : Kept) (sender number from at : ℕ) (o : Option Message) → from ≡ sender → at ≡ number → message_at setup kept from at ≡ o → message_at setup kept sender number ≡ o
 there setup kept sender number from at o e f h = ap (λ (n : ℕ). message_at setup kept n number) (sym e) ∙ ap (message_at setup kept from) (sym f) ∙ h
+
+-- the row that the message read last gives for an entry which names its place
+pub row_by_last : (setup : Lists) (kept : Kept) (row : Row) (arch : ℕ) (name : List ℕ) (sender number place : ℕ) (last : Option KeptAt) → entry_in row ≡ Some ((arch, name), ((sender, number), place)) → IsKeptAt sender number last
+    → IfSome last (λ (m : KeptAt). message_at setup kept m.sender m.number ≡ Some m.message) → row_of setup kept row ≡ row_as setup.archs arch name sender number place (read_binary place last)
+row_by_last setup kept row arch name sender number place None is at said = absurd at
+row_by_last setup kept row arch name sender number place (Some m) is at said =
+    row_by_parts setup kept row arch name sender number place (Some m.message) is (there setup kept sender number m.sender m.number (Some m.message) at.0 at.1 said)
 
 -- a row that an entry names is of a listed architecture, or of `all`
 pub row_known : (archs : List (List ℕ)) (arch : ℕ) (name : List ℕ) (sender number place : ℕ) (o : Option Binary) (r : RowIn) → row_as archs arch name sender number place o ≡ Some r → IsArchPlace archs r.arch

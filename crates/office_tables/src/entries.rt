@@ -1,5 +1,5 @@
 //! Testing, read back: each entry of its tables by the kept message that gave it.
-ghost use Rattle.std.specs.Prelude.{◌≡◌, ◌≢◌, ◌<◌, ◌∷◌, ◌⊎◌, [], List, ℕ, ℤ, Err, Some, None, pos, map, length, IfOk, IfSome, OnOk, ◌&&◌};
+ghost use Rattle.std.specs.Prelude.{◌≡◌, ◌≢◌, ◌<◌, ◌∷◌, ◌⊎◌, [], List, ℕ, ℤ, IsTrue, Ok, Err, Some, None, pos, map, length, IfOk, IfSome, OnOk, ◌&&◌};
 ghost use Rattle.std.specs.Option.{option_copied};
 ghost use Rattle.std.specs.Str.{bytes_eq};
 ghost use Rattle.testing_items.specs.Words.{arch_name};
@@ -18,7 +18,7 @@ ghost use Rattle.office_tables.specs.TableSteps.{IsCrowded, Same};
 ghost use Rattle.office_tables.specs.Legible.{IsWhole, AreNamed};
 ghost use Rattle.office_tables.specs.Entries.{source_in, source_map, entry_in, entry_map};
 ghost use Rattle.office_tables.specs.EntrySteps.{source_columns, entry_columns};
-ghost use Rattle.office_tables.specs.Nearby.{AreLettersOf};
+ghost use Rattle.office_tables.specs.Nearby.{AreLettersOf, IsKeptAt, read_binary, brought};
 ghost use Rattle.office_tables.specs.TableContent.{own_by, message_at as kept_message, source_as, source_of, row_as, row_of, is_arch_place, ReadsEach, put_all_sources, put_all_rows, IsGathered, suite_in};
 
 use crate::faults::unread;
@@ -47,6 +47,27 @@ const BUILD: Columns = Columns {
     number: 4,
 };
 
+/// A message, where it is of this sender and number.
+fn own(message: Message, sender: u32, number: u32) -> Result<Message, KeepFault>
+    ensures ok { IfOk result (λ own. own_by sender number (Ok message) ≡ Some own) }
+    ensures bad { result ≡ Err (KeepFault.Store Cause.BadRow) → own_by sender number (Ok message) ≡ None }
+{
+    if message.sender != sender || message.number != number {
+        return Err(KeepFault::Store(Cause::BadRow));
+    }
+    Ok(message)
+}
+
+/// What a text that is no message is told as.
+fn unlike(fault: MailFault) -> KeepFault
+    ensures { result ≡ KeepFault.Store Cause.BadRow → fault ≢ MailFault.NoMemory }
+{
+    match fault {
+        MailFault::NoMemory => KeepFault::NoMemory,
+        _ => KeepFault::Store(Cause::BadRow),
+    }
+}
+
 /// The message that a text is, where it is of this sender and number.
 pub fn own_message(
     alloc: Global,
@@ -59,15 +80,8 @@ pub fn own_message(
     ensures bad { result ≡ Err (KeepFault.Store Cause.BadRow) → own_by sender number (read setup.now text.now) ≡ None }
 {
     match read_message(alloc, setup, text) {
-        Ok(message) => {
-            if message.sender == sender && message.number == number {
-                Ok(message)
-            } else {
-                Err(KeepFault::Store(Cause::BadRow))
-            }
-        }
-        Err(MailFault::NoMemory) => Err(KeepFault::NoMemory),
-        Err(_) => Err(KeepFault::Store(Cause::BadRow)),
+        Ok(message) => own(message, sender, number),
+        Err(fault) => Err(unlike(fault)),
     }
 }
 
@@ -144,68 +158,56 @@ struct KeptAt {
     message: Message,
 }
 
-/// The message that is kept at a place, read.
-fn read_at<S: Alter>(
-    alloc: Global,
-    conn: &mut Connection<S>,
-    setup: &Setup,
-    block: &mut Block,
-    listed: Listed<'_>,
-    sender: u32,
-    number: u32,
-) -> Result<KeptAt, KeepFault>
-    requires ours { IsTrusted (state S.Store conn.old) → IsOurs (state S.Store conn.old) }
-    requires block { IsTrusted (state S.Store conn.old) → AreLettersOf (kept_rows ((state S.Store conn.old).now.trees 1)) block.old.sender block.old.letters.items }
-    ensures before { IsTrusted (state S.Store conn.new) → IsTrusted (state S.Store conn.old) }
-    ensures lasts { Lasts (state S.Store conn.old) (state S.Store conn.new) }
-    ensures open { HasCleanDisk (state S.Store conn.new) → IsTrusted (state S.Store conn.old) → OnOk result (IsTrusted (state S.Store conn.new)) }
-    ensures same { IsTrusted (state S.Store conn.new) → Same (state S.Store conn.old) (state S.Store conn.new) }
-    ensures block { IsTrusted (state S.Store conn.new) → OnOk result (AreLettersOf (kept_rows ((state S.Store conn.new).now.trees 1)) block.new.sender block.new.letters.items) }
-    ensures place { IfOk result (λ kept. (kept.sender ≡ sender) × (kept.number ≡ number)) }
-    ensures ok { IsTrusted (state S.Store conn.new) → IfOk result (λ kept. kept_message setup.now (kept_rows ((state S.Store conn.new).now.trees 1)) kept.sender kept.number ≡ Some kept.message) }
-    ensures bad { IsTrusted (state S.Store conn.new) → result ≡ Err (KeepFault.Store Cause.BadRow) → IsCrowded ((state S.Store conn.new).now.trees 1) ⊎ (kept_message setup.now (kept_rows ((state S.Store conn.new).now.trees 1)) sender number ≡ None) }
+/// Whether the message read last is kept at this place.
+fn is_last(last: &Option<KeptAt>, sender: u32, number: u32) -> bool
+    ensures { IsTrue result → IsKeptAt sender number last.now }
 {
-    let message = message_near(alloc, conn, setup, block, listed, sender, number)?;
-    Ok(KeptAt {
+    match last {
+        Some(kept) => kept.sender == sender && kept.number == number,
+        None => false,
+    }
+}
+
+/// Keeps a message that was read at a place in place of the one before.
+fn keep_last(last: &mut Option<KeptAt>, sender: u32, number: u32, message: Message)
+    ensures { last.new ≡ Some (record { sender = sender; number = number; message = message }) }
+{
+    *last = Some(KeptAt {
         sender,
         number,
         message,
-    })
+    });
 }
 
-/// The message that is kept at a place: the one read last, where it is of that place.
+/// Reads the message that is kept at a place, unless it is the one read last.
 fn read_once<S: Alter>(
     alloc: Global,
     conn: &mut Connection<S>,
     setup: &Setup,
     block: &mut Block,
     listed: Listed<'_>,
-    last: Option<KeptAt>,
+    last: &mut Option<KeptAt>,
     sender: u32,
     number: u32,
-) -> Result<KeptAt, KeepFault>
+) -> Result<(), KeepFault>
     requires ours { IsTrusted (state S.Store conn.old) → IsOurs (state S.Store conn.old) }
     requires block { IsTrusted (state S.Store conn.old) → AreLettersOf (kept_rows ((state S.Store conn.old).now.trees 1)) block.old.sender block.old.letters.items }
-    requires last { IsTrusted (state S.Store conn.old) → IfSome last (λ kept. kept_message setup.now (kept_rows ((state S.Store conn.old).now.trees 1)) kept.sender kept.number ≡ Some kept.message) }
+    requires last { IsTrusted (state S.Store conn.old) → IfSome last.old (λ kept. kept_message setup.now (kept_rows ((state S.Store conn.old).now.trees 1)) kept.sender kept.number ≡ Some kept.message) }
     ensures before { IsTrusted (state S.Store conn.new) → IsTrusted (state S.Store conn.old) }
     ensures lasts { Lasts (state S.Store conn.old) (state S.Store conn.new) }
     ensures open { HasCleanDisk (state S.Store conn.new) → IsTrusted (state S.Store conn.old) → OnOk result (IsTrusted (state S.Store conn.new)) }
     ensures same { IsTrusted (state S.Store conn.new) → Same (state S.Store conn.old) (state S.Store conn.new) }
     ensures block { IsTrusted (state S.Store conn.new) → OnOk result (AreLettersOf (kept_rows ((state S.Store conn.new).now.trees 1)) block.new.sender block.new.letters.items) }
-    ensures place { IfOk result (λ kept. (kept.sender ≡ sender) × (kept.number ≡ number)) }
-    ensures ok { IsTrusted (state S.Store conn.new) → IfOk result (λ kept. kept_message setup.now (kept_rows ((state S.Store conn.new).now.trees 1)) kept.sender kept.number ≡ Some kept.message) }
+    ensures place { OnOk result (IsKeptAt sender number last.new) }
+    ensures held { IsTrusted (state S.Store conn.new) → OnOk result (IfSome last.new (λ kept. kept_message setup.now (kept_rows ((state S.Store conn.new).now.trees 1)) kept.sender kept.number ≡ Some kept.message)) }
     ensures bad { IsTrusted (state S.Store conn.new) → result ≡ Err (KeepFault.Store Cause.BadRow) → IsCrowded ((state S.Store conn.new).now.trees 1) ⊎ (kept_message setup.now (kept_rows ((state S.Store conn.new).now.trees 1)) sender number ≡ None) }
 {
-    match last {
-        Some(kept) => {
-            if kept.sender == sender && kept.number == number {
-                Ok(kept)
-            } else {
-                read_at(alloc, conn, setup, block, listed, sender, number)
-            }
-        }
-        None => read_at(alloc, conn, setup, block, listed, sender, number),
+    if is_last(last, sender, number) {
+        return Ok(());
     }
+    let message = message_near(alloc, conn, setup, block, listed, sender, number)?;
+    keep_last(last, sender, number, message);
+    Ok(())
 }
 
 /// The characters in a column.
@@ -247,9 +249,9 @@ pub(crate) fn source_entry(row: &Row) -> Result<(&[u8], u32, u32), KeepFault>
     Ok((name, sender, number))
 }
 
-/// The source that an upload names, where it is of this name.
-fn source_named(message: Message, name: &[u8], sender: u32, number: u32) -> Option<SourceIn>
-    ensures { result ≡ source_as name.now sender number (upload_in message.body) }
+/// The source that an upload brings.
+fn source_brought(message: Message, sender: u32, number: u32) -> Option<SourceIn>
+    ensures { result ≡ brought sender number (upload_in message.body) }
 {
     match message.body {
         Body::Item(
@@ -258,19 +260,25 @@ fn source_named(message: Message, name: &[u8], sender: u32, number: u32) -> Opti
                 version,
                 ..
             },
-        ) => {
-            if source.as_str().as_bytes() == name {
-                Some(SourceIn {
-                    name: source,
-                    version,
-                    sender,
-                    number,
-                })
-            } else {
-                None
-            }
-        }
+        ) => Some(SourceIn {
+            name: source,
+            version,
+            sender,
+            number,
+        }),
         _ => None,
+    }
+}
+
+/// The source that an upload names, where it is of this name.
+fn source_named(message: Message, name: &[u8], sender: u32, number: u32) -> Option<SourceIn>
+    ensures { result ≡ source_as name.now sender number (upload_in message.body) }
+{
+    let source = source_brought(message, sender, number)?;
+    if source.name.as_str().as_bytes() == name {
+        Some(source)
+    } else {
+        None
     }
 }
 
@@ -446,19 +454,30 @@ fn row_in(
     }))
 }
 
-/// The row that a build gives for an entry, where it has a binary of that name and architecture at its place.
+/// The binary at a place of the message read last, where that is a build.
+fn binary_read(last: &Option<KeptAt>, place: u32) -> Option<&Binary>
+    ensures { option_copied result ≡ read_binary place last.now }
+{
+    match last {
+        Some(kept) => binary_at(&kept.message, place),
+        None => None,
+    }
+}
+
+/// The row that the message read last gives for an entry, where it has a binary of that name and architecture at its
+/// place.
 fn row_named(
     alloc: Global,
     archs: &Archs,
-    message: &Message,
+    last: &Option<KeptAt>,
     entry: &RowEntry<'_>,
 ) -> Result<Option<RowIn>, NoMemory>
-    ensures named { IfOk result (λ row. row ≡ row_as archs.now entry.now.arch entry.now.name.now entry.now.sender entry.now.number entry.now.place (binary_in entry.now.place message.now.body)) }
+    ensures named { IfOk result (λ row. row ≡ row_as archs.now entry.now.arch entry.now.name.now entry.now.sender entry.now.number entry.now.place (read_binary entry.now.place last.now)) }
 {
-    row_in(alloc, archs, binary_at(message, entry.place), entry)
+    row_in(alloc, archs, binary_read(last, entry.place), entry)
 }
 
-/// The row of testing that a shown row names, and the message that gave it. The message read last is read no more.
+/// The row of testing that a shown row names. The message read last is read no more.
 fn row_at<S: Alter>(
     alloc: Global,
     conn: &mut Connection<S>,
@@ -466,34 +485,26 @@ fn row_at<S: Alter>(
     block: &mut Block,
     listed: Listed<'_>,
     row: &Row,
-    last: Option<KeptAt>,
-) -> Result<(RowIn, KeptAt), KeepFault>
+    last: &mut Option<KeptAt>,
+) -> Result<RowIn, KeepFault>
     requires ours { IsTrusted (state S.Store conn.old) → IsOurs (state S.Store conn.old) }
     requires block { IsTrusted (state S.Store conn.old) → AreLettersOf (kept_rows ((state S.Store conn.old).now.trees 1)) block.old.sender block.old.letters.items }
-    requires last { IsTrusted (state S.Store conn.old) → IfSome last (λ kept. kept_message setup.now (kept_rows ((state S.Store conn.old).now.trees 1)) kept.sender kept.number ≡ Some kept.message) }
+    requires last { IsTrusted (state S.Store conn.old) → IfSome last.old (λ kept. kept_message setup.now (kept_rows ((state S.Store conn.old).now.trees 1)) kept.sender kept.number ≡ Some kept.message) }
     ensures before { IsTrusted (state S.Store conn.new) → IsTrusted (state S.Store conn.old) }
     ensures lasts { Lasts (state S.Store conn.old) (state S.Store conn.new) }
     ensures open { HasCleanDisk (state S.Store conn.new) → IsTrusted (state S.Store conn.old) → OnOk result (IsTrusted (state S.Store conn.new)) }
     ensures same { IsTrusted (state S.Store conn.new) → Same (state S.Store conn.old) (state S.Store conn.new) }
     ensures block { IsTrusted (state S.Store conn.new) → OnOk result (AreLettersOf (kept_rows ((state S.Store conn.new).now.trees 1)) block.new.sender block.new.letters.items) }
-    ensures known { IfOk result (λ given. IsArchPlace setup.now.archs given.0.arch) }
-    ensures ok { IsTrusted (state S.Store conn.new) → IfOk result (λ given. row_of setup.now (kept_rows ((state S.Store conn.new).now.trees 1)) row.now ≡ Some given.0) }
-    ensures held { IsTrusted (state S.Store conn.new) → IfOk result (λ given. kept_message setup.now (kept_rows ((state S.Store conn.new).now.trees 1)) given.1.sender given.1.number ≡ Some given.1.message) }
+    ensures known { IfOk result (λ given. IsArchPlace setup.now.archs given.arch) }
+    ensures ok { IsTrusted (state S.Store conn.new) → IfOk result (λ given. row_of setup.now (kept_rows ((state S.Store conn.new).now.trees 1)) row.now ≡ Some given) }
+    ensures held { IsTrusted (state S.Store conn.new) → OnOk result (IfSome last.new (λ kept. kept_message setup.now (kept_rows ((state S.Store conn.new).now.trees 1)) kept.sender kept.number ≡ Some kept.message)) }
     ensures bad { IsTrusted (state S.Store conn.new) → result ≡ Err (KeepFault.Store Cause.BadRow) → row.now ≡ entry_columns row.now → IsCrowded ((state S.Store conn.new).now.trees 1) ⊎ (row_of setup.now (kept_rows ((state S.Store conn.new).now.trees 1)) row.now ≡ None) }
 {
     let entry = row_entry(row)?;
-    let kept = read_once(
-        alloc,
-        conn,
-        setup,
-        block,
-        listed,
-        last,
-        entry.sender,
-        entry.number,
-    )?;
-    match row_named(alloc, setup.archs(), &kept.message, &entry)? {
-        Some(given) => Ok((given, kept)),
+    let (sender, number) = (entry.sender, entry.number);
+    read_once(alloc, conn, setup, block, listed, last, sender, number)?;
+    match row_named(alloc, setup.archs(), last, &entry)? {
+        Some(given) => Ok(given),
         None => Err(KeepFault::Store(Cause::BadRow)),
     }
 }
@@ -522,6 +533,36 @@ fn by_message(rows: Vec<Row>, columns: Columns) -> Vec<Row>
     sorted
 }
 
+/// The rows of testing that these rows of the table name, with what was loaded and read before.
+fn read_rows<S: Alter>(
+    alloc: Global,
+    conn: &mut Connection<S>,
+    setup: &Setup,
+    rows: &[Row],
+    block: &mut Block,
+    last: &mut Option<KeptAt>,
+) -> Result<Vec<RowIn>, KeepFault>
+    requires ours { IsTrusted (state S.Store conn.old) → IsOurs (state S.Store conn.old) }
+    requires block { IsTrusted (state S.Store conn.old) → AreLettersOf (kept_rows ((state S.Store conn.old).now.trees 1)) block.old.sender block.old.letters.items }
+    requires last { IsTrusted (state S.Store conn.old) → IfSome last.old (λ kept. kept_message setup.now (kept_rows ((state S.Store conn.old).now.trees 1)) kept.sender kept.number ≡ Some kept.message) }
+    ensures before { IsTrusted (state S.Store conn.new) → IsTrusted (state S.Store conn.old) }
+    ensures lasts { Lasts (state S.Store conn.old) (state S.Store conn.new) }
+    ensures open { HasCleanDisk (state S.Store conn.new) → IsTrusted (state S.Store conn.old) → OnOk result (IsTrusted (state S.Store conn.new)) }
+    ensures same { IsTrusted (state S.Store conn.new) → Same (state S.Store conn.old) (state S.Store conn.new) }
+    ensures known { IfOk result (λ given. AllByRecursion (λ r. IsArchPlace setup.now.archs r.arch) given.items) }
+    ensures ok { IsTrusted (state S.Store conn.new) → IfOk result (λ given. map (row_of setup.now (kept_rows ((state S.Store conn.new).now.trees 1))) rows.now ≡ map Some given.items) }
+    ensures bad { IsTrusted (state S.Store conn.new) → result ≡ Err (KeepFault.Store Cause.BadRow) → ReadsEach entry_columns (row_of setup.now (kept_rows ((state S.Store conn.new).now.trees 1))) rows.now → IsCrowded ((state S.Store conn.new).now.trees 1) }
+{
+    let mut given = Vec::new(alloc);
+    let columns = BUILD;
+    let listed = Listed { rows, columns };
+    'rows: for row in rows {
+        let one = row_at(alloc, conn, setup, block, listed, row, last)?;
+        given.push(one)?;
+    }
+    Ok(given)
+}
+
 /// The rows of testing that these rows of the table name.
 fn rows_at<S: Alter>(
     alloc: Global,
@@ -538,17 +579,9 @@ fn rows_at<S: Alter>(
     ensures ok { IsTrusted (state S.Store conn.new) → IfOk result (λ given. map (row_of setup.now (kept_rows ((state S.Store conn.new).now.trees 1))) rows.now ≡ map Some given.items) }
     ensures bad { IsTrusted (state S.Store conn.new) → result ≡ Err (KeepFault.Store Cause.BadRow) → ReadsEach entry_columns (row_of setup.now (kept_rows ((state S.Store conn.new).now.trees 1))) rows.now → IsCrowded ((state S.Store conn.new).now.trees 1) }
 {
-    let mut given = Vec::new(alloc);
-    let mut last = None;
     let mut block = no_block(alloc);
-    let columns = BUILD;
-    let listed = Listed { rows, columns };
-    'rows: for row in rows {
-        let (one, kept) = row_at(alloc, conn, setup, &mut block, listed, row, last)?;
-        last = Some(kept);
-        given.push(one)?;
-    }
-    Ok(given)
+    let mut last = None;
+    read_rows(alloc, conn, setup, rows, &mut block, &mut last)
 }
 
 /// These rows by architecture and name, so that each goes into a suite behind those before it. Nothing rests on their
@@ -577,19 +610,29 @@ fn put_rows(testing: &mut Testing, rows: Vec<RowIn>) -> Result<(), NoMemory>
     Ok(())
 }
 
-/// The suite of these sources and rows. Where two of them have one key, the tables are no office's.
-fn gathered(alloc: Global, sources: Vec<SourceIn>, rows: Vec<RowIn>) -> Result<Testing, KeepFault>
-    ensures ok { IfOk result (λ testing. IsGathered sources.items rows.items testing) }
+/// Puts these sources and rows into a suite. Where two of them have one key, the tables are no office's.
+fn gather(testing: &mut Testing, sources: Vec<SourceIn>, rows: Vec<RowIn>) -> Result<(), KeepFault>
+    requires empty { (testing.old.sources ≡ []) × (testing.old.rows ≡ []) }
+    ensures ok { OnOk result (IsGathered sources.items rows.items testing.new) }
     ensures bad { result ≡ Err (KeepFault.Store Cause.BadRow) → length (put_all_sources sources.items []) ≡ length sources.items → length (put_all_rows rows.items []) ≢ length rows.items }
 {
     let count = sources.len();
     let more = rows.len();
-    let mut testing = Testing::new(alloc);
-    put_sources(&mut testing, sources)?;
-    put_rows(&mut testing, rows)?;
+    put_sources(testing, sources)?;
+    put_rows(testing, rows)?;
     if testing.sources().len() != count || testing.rows().len() != more {
         return Err(KeepFault::Store(Cause::BadRow));
     }
+    Ok(())
+}
+
+/// The suite of these sources and rows.
+fn gathered(alloc: Global, sources: Vec<SourceIn>, rows: Vec<RowIn>) -> Result<Testing, KeepFault>
+    ensures ok { IfOk result (λ testing. IsGathered sources.items rows.items testing) }
+    ensures bad { result ≡ Err (KeepFault.Store Cause.BadRow) → length (put_all_sources sources.items []) ≡ length sources.items → length (put_all_rows rows.items []) ≢ length rows.items }
+{
+    let mut testing = Testing::new(alloc);
+    gather(&mut testing, sources, rows)?;
     Ok(testing)
 }
 

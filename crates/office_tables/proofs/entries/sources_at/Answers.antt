@@ -1,4 +1,5 @@
 use Rattle.std.proofs.Common.{◌≡◌, map, take, Some, sym, subst, ◌∙◌}
+use Rattle.std.proofs.lemmas.Result.{IfOk-from_err}
 use Rattle.sqlite.specs.Effect.{Database}
 use Rattle.sqlite.specs.Held.{state}
 use Rattle.office_tables.specs.Tables.{kept_rows}
@@ -31,3 +32,36 @@ returns-in_err-source-clause-bad g c trusted bad reads =
     let each = reads c.row-item.result (c.rows.row-index, c.rows-test.true, sym c.row-item.is) in
     let fault = passed c.from_residual.result c.in_err-source.field-0.0 _ bad c.from_residual.ensures.1 in
     no_none (c.in_err-source.ensures.bad trusted fault each.0) each.1
+
+pub returns-in_err-source-clause-lasts : goal.returns-in_err-source-clause-lasts
+returns-in_err-source-clause-lasts g c = lasts_then _ _ _ c.rows.invariant.lasts c.in_err-source.ensures.lasts
+
+pub returns-in_err-source-clause-open : goal.returns-in_err-source-clause-open
+returns-in_err-source-clause-open g c clean trusted = IfOk-from_err c.from_residual.result _ c.from_residual.ensures.0
+
+pub returns-in_err-source-clause-same : goal.returns-in_err-source-clause-same
+returns-in_err-source-clause-same g c trusted = record { ours = (c.in_err-source.ensures.same trusted).ours; now = (c.in_err-source.ensures.same trusted).now ∙ (c.rows.invariant.same (c.in_err-source.ensures.before trusted)).now }
+
+pub returns-in_err-source-clause-ok : goal.returns-in_err-source-clause-ok
+returns-in_err-source-clause-ok g c trusted = IfOk-from_err c.from_residual.result _ c.from_residual.ensures.0
+
+pub returns-in_err-push-clause-lasts : goal.returns-in_err-push-clause-lasts
+returns-in_err-push-clause-lasts g c = lasts_then _ _ _ c.rows.invariant.lasts c.in_ok-source.ensures.lasts
+
+pub returns-in_err-push-clause-open : goal.returns-in_err-push-clause-open
+returns-in_err-push-clause-open g c clean trusted = IfOk-from_err c.from_residual-in_err-push.result _ c.from_residual-in_err-push.ensures.0
+
+pub returns-in_err-push-clause-same : goal.returns-in_err-push-clause-same
+returns-in_err-push-clause-same g c trusted = record { ours = (c.in_ok-source.ensures.same trusted).ours; now = (c.in_ok-source.ensures.same trusted).now ∙ (c.rows.invariant.same (c.in_ok-source.ensures.before trusted)).now }
+
+pub returns-in_err-push-clause-ok : goal.returns-in_err-push-clause-ok
+returns-in_err-push-clause-ok g c trusted = IfOk-from_err c.from_residual-in_err-push.result _ c.from_residual-in_err-push.ensures.0
+
+pub returns-clause-lasts : goal.returns-clause-lasts
+returns-clause-lasts g c = c.rows.invariant.lasts
+
+pub returns-clause-open : goal.returns-clause-open
+returns-clause-open g c clean trusted = c.rows.invariant.still clean trusted
+
+pub returns-clause-same : goal.returns-clause-same
+returns-clause-same g c trusted = c.rows.invariant.same trusted

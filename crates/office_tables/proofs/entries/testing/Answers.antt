@@ -2,6 +2,7 @@ use Rattle.std.proofs.Common.{◌≡◌, List, Some, map, sym, subst, ◌∙◌}
 use Rattle.std.specs.List.Sorted.{IsPermutation}
 use Rattle.std.proofs.lemmas.List.Sorted.{IsPermutation-trans, All-permutation}
 use Rattle.std.proofs.lemmas.List.Elements.{All-from_recursion, recursion_from_All}
+use Rattle.std.proofs.lemmas.Result.{IfOk-from_err}
 use Rattle.sqlite.specs.Order.{Row}
 use Rattle.sqlite.specs.Effect.{Database}
 use Rattle.sqlite.specs.Held.{state}
@@ -10,6 +11,7 @@ use Rattle.office_tables.specs.EntrySteps.{source_columns, entry_columns}
 use Rattle.office_tables.specs.TableContent.{source_of, row_of, ReadsEach}
 use Rattle.testing_model.specs.declared.suite.RowIn.{RowIn}
 use Rattle.office_keeper.specs.Provenance.{IsArchPlace}
+use Rattle.office_tables.proofs.StateLemmas.{lasts_then}
 use Rattle.office_tables.proofs.EntryLists.{reordered}
 use Rattle.office_tables.proofs.EntryValues.{gathered_on, known_on}
 use Rattle.office_tables.proofs.NamedReads.{sources_read, sources_put, rows_read, rows_put}
@@ -92,3 +94,63 @@ returns-clause-bad g c fourth whole named bad =
     let rows = subst (λ (x : Database). IsPermutation (map entry_columns (x.trees 6)) put.rows) (sym e) (IsPermutation-trans (map entry_columns (three.now.trees 6)) c.by_message-listed.result.items put.rows (IsPermutation-trans (map entry_columns (three.now.trees 6)) c.in_ok-found.found.items c.by_message-listed.result.items (c.in_ok-found.ensures.rows third) c.by_message-listed.ensures) put.same) in
     c.gathered.ensures.bad bad (sources_put setup (kept_rows (four.now.trees 1)) (four.now.trees 4) sources.rows (IsPermutation-trans (map source_columns (four.now.trees 4)) uploads sources.rows shown sources.same) named.sources c.by_name-sources.result.items sources.reads)
     (rows_put setup (kept_rows (four.now.trees 1)) (four.now.trees 6) put.rows rows named.rows c.by_key-rows.result.items put.reads)
+
+pub returns-in_err-named-clause-open : goal.returns-in_err-named-clause-open
+returns-in_err-named-clause-open g c clean trusted = IfOk-from_err c.from_residual.result _ c.from_residual.ensures.0
+
+pub returns-in_err-named-clause-known : goal.returns-in_err-named-clause-known
+returns-in_err-named-clause-known g c = IfOk-from_err c.from_residual.result _ c.from_residual.ensures.0
+
+pub returns-in_err-named-clause-value : goal.returns-in_err-named-clause-value
+returns-in_err-named-clause-value g c trusted = IfOk-from_err c.from_residual.result _ c.from_residual.ensures.0
+
+pub returns-in_err-read-clause-lasts : goal.returns-in_err-read-clause-lasts
+returns-in_err-read-clause-lasts g c = lasts_then _ _ _ c.in_ok-named.ensures.lasts c.in_err-read.ensures.lasts
+
+pub returns-in_err-read-clause-same : goal.returns-in_err-read-clause-same
+returns-in_err-read-clause-same g c trusted = record { ours = (c.in_err-read.ensures.same trusted).ours; now = (c.in_err-read.ensures.same trusted).now ∙ (c.in_ok-named.ensures.same (c.in_err-read.ensures.before trusted)).now }
+
+pub returns-in_err-read-clause-open : goal.returns-in_err-read-clause-open
+returns-in_err-read-clause-open g c clean trusted = IfOk-from_err c.from_residual-in_err-read.result _ c.from_residual-in_err-read.ensures.0
+
+pub returns-in_err-read-clause-known : goal.returns-in_err-read-clause-known
+returns-in_err-read-clause-known g c = IfOk-from_err c.from_residual-in_err-read.result _ c.from_residual-in_err-read.ensures.0
+
+pub returns-in_err-read-clause-value : goal.returns-in_err-read-clause-value
+returns-in_err-read-clause-value g c trusted = IfOk-from_err c.from_residual-in_err-read.result _ c.from_residual-in_err-read.ensures.0
+
+pub returns-in_err-found-clause-lasts : goal.returns-in_err-found-clause-lasts
+returns-in_err-found-clause-lasts g c = lasts_then _ _ _ (lasts_then _ _ _ c.in_ok-named.ensures.lasts c.in_ok-read.ensures.lasts) c.in_err-found.ensures.lasts
+
+pub returns-in_err-found-clause-same : goal.returns-in_err-found-clause-same
+returns-in_err-found-clause-same g c trusted = record { ours = (c.in_err-found.ensures.same trusted).ours; now = (c.in_err-found.ensures.same trusted).now ∙ (c.in_ok-read.ensures.same (c.in_err-found.ensures.before trusted)).now ∙ (c.in_ok-named.ensures.same (c.in_ok-read.ensures.before (c.in_err-found.ensures.before trusted))).now }
+
+pub returns-in_err-found-clause-open : goal.returns-in_err-found-clause-open
+returns-in_err-found-clause-open g c clean trusted = IfOk-from_err c.from_residual-in_err-found.result _ c.from_residual-in_err-found.ensures.0
+
+pub returns-in_err-found-clause-known : goal.returns-in_err-found-clause-known
+returns-in_err-found-clause-known g c = IfOk-from_err c.from_residual-in_err-found.result _ c.from_residual-in_err-found.ensures.0
+
+pub returns-in_err-found-clause-value : goal.returns-in_err-found-clause-value
+returns-in_err-found-clause-value g c trusted = IfOk-from_err c.from_residual-in_err-found.result _ c.from_residual-in_err-found.ensures.0
+
+pub returns-in_err-given-clause-lasts : goal.returns-in_err-given-clause-lasts
+returns-in_err-given-clause-lasts g c = lasts_then _ _ _ (lasts_then _ _ _ (lasts_then _ _ _ c.in_ok-named.ensures.lasts c.in_ok-read.ensures.lasts) c.in_ok-found.ensures.lasts) c.in_err-given.ensures.lasts
+
+pub returns-in_err-given-clause-same : goal.returns-in_err-given-clause-same
+returns-in_err-given-clause-same g c trusted = record { ours = (c.in_err-given.ensures.same trusted).ours; now = (c.in_err-given.ensures.same trusted).now ∙ (c.in_ok-found.ensures.same (c.in_err-given.ensures.before trusted)).now ∙ (c.in_ok-read.ensures.same (c.in_ok-found.ensures.before (c.in_err-given.ensures.before trusted))).now ∙ (c.in_ok-named.ensures.same (c.in_ok-read.ensures.before (c.in_ok-found.ensures.before (c.in_err-given.ensures.before trusted)))).now }
+
+pub returns-in_err-given-clause-open : goal.returns-in_err-given-clause-open
+returns-in_err-given-clause-open g c clean trusted = IfOk-from_err c.from_residual-in_err-given.result _ c.from_residual-in_err-given.ensures.0
+
+pub returns-in_err-given-clause-known : goal.returns-in_err-given-clause-known
+returns-in_err-given-clause-known g c = IfOk-from_err c.from_residual-in_err-given.result _ c.from_residual-in_err-given.ensures.0
+
+pub returns-in_err-given-clause-value : goal.returns-in_err-given-clause-value
+returns-in_err-given-clause-value g c trusted = IfOk-from_err c.from_residual-in_err-given.result _ c.from_residual-in_err-given.ensures.0
+
+pub returns-clause-lasts : goal.returns-clause-lasts
+returns-clause-lasts g c = lasts_then _ _ _ (lasts_then _ _ _ (lasts_then _ _ _ c.in_ok-named.ensures.lasts c.in_ok-read.ensures.lasts) c.in_ok-found.ensures.lasts) c.in_ok-given.ensures.lasts
+
+pub returns-clause-same : goal.returns-clause-same
+returns-clause-same g c trusted = record { ours = (c.in_ok-given.ensures.same trusted).ours; now = (c.in_ok-given.ensures.same trusted).now ∙ (c.in_ok-found.ensures.same (c.in_ok-given.ensures.before trusted)).now ∙ (c.in_ok-read.ensures.same (c.in_ok-found.ensures.before (c.in_ok-given.ensures.before trusted))).now ∙ (c.in_ok-named.ensures.same (c.in_ok-read.ensures.before (c.in_ok-found.ensures.before (c.in_ok-given.ensures.before trusted)))).now }

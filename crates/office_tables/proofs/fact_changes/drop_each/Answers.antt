@@ -1,4 +1,5 @@
 use Rattle.std.proofs.Common.{refl, ◌∙◌}
+use Rattle.std.proofs.lemmas.Result.{IfOk-from_err}
 use Rattle.sqlite.specs.Held.{state}
 use Rattle.office_tables.proofs.StateLemmas.{lasts_same, lasts_then, clean_before}
 use Rattle.office_tables.proofs.FactMoves.{drops_start, drops_at}
@@ -40,3 +41,12 @@ facts-init g c = record {
     changed = drops_start c.args.release (state g.S.Store c.args.tx.now.conn.now).now.trees (state g.S.Store c.args.tx.now.conn.now).now.trees refl;
   };
 }
+
+pub returns-in_err-drop_one-clause-open : goal.returns-in_err-drop_one-clause-open
+returns-in_err-drop_one-clause-open g c clean trusted = IfOk-from_err c.from_residual.result _ c.from_residual.ensures.0
+
+pub returns-in_err-drop_one-clause-on : goal.returns-in_err-drop_one-clause-on
+returns-in_err-drop_one-clause-on g c trusted = IfOk-from_err c.from_residual.result _ c.from_residual.ensures.0
+
+pub returns-in_err-drop_one-clause-dropped : goal.returns-in_err-drop_one-clause-dropped
+returns-in_err-drop_one-clause-dropped g c trusted = IfOk-from_err c.from_residual.result _ c.from_residual.ensures.0

@@ -1,4 +1,5 @@
 use Rattle.std.proofs.Common.{◌≡◌, inr, Some, sym, ap, unwrap_or, ◌∙◌, arith}
+use Rattle.std.proofs.lemmas.Result.{IfOk-from_err}
 use Rattle.std.specs.FinMap.{get}
 use Rattle.sqlite.specs.Effect.{Database}
 use Rattle.sqlite.specs.Held.{state}
@@ -40,3 +41,15 @@ returns-clause-bad g c trusted once reported bad =
     let count : once.said.finished ≡ c.in_ok-said.said.finished =
     ap count_said (sym once.is ∙ ap (λ (d : Database). said_in (d.trees 0)) (ensures.same trusted).now ∙ c.in_ok-said.ensures.value (ensures.before trusted)) in
     no_none (inr (sym (ensures.value trusted) ∙ c.in-None.is)) (reported.each c.args.run (omega (arith, c.if-run-eq0.false)) (omega (arith, c.if-said-run.false, count)))
+
+pub returns-in_err-said-clause-open : goal.returns-in_err-said-clause-open
+returns-in_err-said-clause-open g c clean trusted = IfOk-from_err c.from_residual.result _ c.from_residual.ensures.0
+
+pub returns-in_err-said-clause-value : goal.returns-in_err-said-clause-value
+returns-in_err-said-clause-value g c trusted = IfOk-from_err c.from_residual.result _ c.from_residual.ensures.0
+
+pub returns-in_err-reports-clause-open : goal.returns-in_err-reports-clause-open
+returns-in_err-reports-clause-open g c clean trusted = IfOk-from_err c.from_residual-in_err-reports.result _ c.from_residual-in_err-reports.ensures.0
+
+pub returns-in_err-reports-clause-value : goal.returns-in_err-reports-clause-value
+returns-in_err-reports-clause-value g c trusted = IfOk-from_err c.from_residual-in_err-reports.result _ c.from_residual-in_err-reports.ensures.0

@@ -1,4 +1,5 @@
 use Rattle.std.proofs.Common.{refl, ◌∙◌, arith}
+use Rattle.std.proofs.lemmas.Result.{IfOk-from_err}
 use Rattle.sqlite.specs.Held.{state}
 use Rattle.office_tables.proofs.StateLemmas.{lasts_same, lasts_then, clean_before}
 use Rattle.office_tables.proofs.DifferenceLemmas.{rows_start, rows_end}
@@ -50,3 +51,12 @@ changes-init g c = record {
     changed = rows_start c.args.shown.now c.args.rows.now (state g.S.Store c.args.tx.now.conn.now).now.trees (c.requires.shown trusted);
   };
 }
+
+pub returns-in_err-at-clause-open : goal.returns-in_err-at-clause-open
+returns-in_err-at-clause-open g c clean trusted = IfOk-from_err c.from_residual.result _ c.from_residual.ensures.0
+
+pub returns-in_err-at-clause-on : goal.returns-in_err-at-clause-on
+returns-in_err-at-clause-on g c trusted = IfOk-from_err c.from_residual.result _ c.from_residual.ensures.0
+
+pub returns-in_err-at-clause-set : goal.returns-in_err-at-clause-set
+returns-in_err-at-clause-set g c trusted = IfOk-from_err c.from_residual.result _ c.from_residual.ensures.0

@@ -7,7 +7,7 @@ use Rattle.std.specs.List.{AllByRecursion}
 use Rattle.office_keeper.specs.Provenance.{IsArchPlace}
 use Rattle.office_tables.specs.Nearby.{AreLettersOf}
 use Rattle.office_tables.specs.TableContent.{row_of, message_at}
-use Rattle.office_tables.proofs.entries.rows_at.Given as goal
+use Rattle.office_tables.proofs.entries.read_rows.Given as goal
 
 -- nothing changed, and the rows so far name the rows of testing so far
 abbrev pub invariant-rows : goal.invariant-rows
