@@ -3,9 +3,10 @@
 
   edits.py CRATE [EDIT..]
 
-It runs at the top of a checkout, over a copy of what `rt check` kept of the crate CRATE, so a try takes seconds. Without
-names all edits of the crate are tried. For each there are its processor seconds, the prover's first complaint, and the
-stages of its check. The exit status is 1 if an edit isn't refused. It needs the kit of `rt`, whose functions it calls.
+It runs at the top of a checkout, over a copy of what `rt check` kept of the crate CRATE, so a try takes seconds. If no
+edit is named, all edits of the crate are tried. For each there are its processor seconds, the prover's first complaint,
+and the stages of its check. The exit status is 1 if an edit isn't refused. It needs the kit of `rt`, whose functions it
+calls.
 
 Of the stages, front-end and making grow with the crate. Session is the proof of what changed, and of what the edit
 before had changed. Offers comes only if the goal that the edit breaks has no answer in proofs/.
