@@ -1,7 +1,7 @@
-use Rattle.std.proofs.Common.{◌≡◌, ◌∙◌, sym, ap, subst, ℕ, ◌+◌, ◌++◌, ◌∷◌, [], take, get_or}
+use Rattle.std.proofs.Common.{◌≡◌, ◌∙◌, sym, ap, subst, ℕ, ◌+◌, ◌++◌, ◌∷◌, [], take, get_or, arith, ◌≤◌, length}
 use Rattle.std.proofs.lemmas.Result.{IfOk-from_err}
 use Rattle.std.specs.Prelude.{Option}
-use Rattle.std.proofs.lemmas.List.{take_more}
+use Rattle.std.proofs.lemmas.List.{take_more, take_all}
 use Rattle.testing_suites.specs.ArchRows.{AreNumbers, IsNumberOf}
 use Rattle.testing_suites.proofs.Numbers.{numbers_none, numbers_more, numbers_same}
 use Rattle.testing_suites.proofs.arch_suite.numbers_of.Goals as goal
@@ -33,3 +33,8 @@ loop-place-preserved c =
 
 pub returns-in_err-push : goal.returns-in_err-push
 returns-in_err-push c = IfOk-from_err c.from_residual.result _ c.from_residual.ensures.0
+
+pub returns : goal.returns
+returns c =
+    let over : length c.args.places.now ≤ c.loop-place.place-index = omega arith in
+    rw (take_all c.loop-place.place-index c.args.places.now over) at c.loop-place.invariant

@@ -1,8 +1,8 @@
-use Rattle.std.proofs.Common.{◌≡◌, ◌∙◌, sym, ap, ◌<◌, ◌++◌, ◌∷◌, [], length, map, take, get_or, Some, Option}
+use Rattle.std.proofs.Common.{◌≡◌, ◌∙◌, sym, ap, ◌<◌, ◌++◌, ◌∷◌, [], length, map, take, get_or, Some, Option, arith, ◌≤◌}
 use Rattle.std.specs.Prelude.{option_map}
 use Rattle.std.specs.declared.alloc.Global.{Global}
 use Rattle.std.specs.declared.rc.Rc.{Rc}
-use Rattle.std.proofs.lemmas.List.{map-append, take_more}
+use Rattle.std.proofs.lemmas.List.{map-append, take_more, take_all}
 use Rattle.deb_control.specs.declared.binary.Binary.{Binary}
 use Rattle.testing_install.specs.Rows.{shared}
 use Rattle.testing_install.proofs.Counting.{slice_get_some}
@@ -26,3 +26,8 @@ loop-place-preserved c =
     ap (λ ps. map some (shared ps)) c.in_ok-push.ensures.items ∙ ap (map some) (map-append value before (new ∷ [])) ∙ map-append some (shared before) (new.value ∷ [])
     ∙ ap (λ bs. bs ++ Some new.value ∷ []) c.loop-place.invariant ∙ ap (λ o. map (package_at pool) (take i places) ++ o ∷ []) (sym read)
     ∙ sym (ap (map (package_at pool)) (take_more places i 0 below) ∙ map-append (package_at pool) (take i places) (place ∷ []))
+
+pub returns : goal.returns
+returns c =
+    let over : length c.args.places.now ≤ c.loop-place.place-index = omega arith in
+    rw (take_all c.loop-place.place-index c.args.places.now over) at c.loop-place.invariant

@@ -1,6 +1,6 @@
-use Rattle.std.proofs.Common.{arith, ◌∙◌, sym, ap, ◌<◌, ◌++◌, ◌∷◌, [], length}
+use Rattle.std.proofs.Common.{arith, ◌∙◌, sym, ap, ◌<◌, ◌++◌, ◌∷◌, [], length, ◌≤◌}
 use Rattle.std.specs.List.{slice_get}
-use Rattle.std.proofs.lemmas.List.{map-append}
+use Rattle.std.proofs.lemmas.List.{map-append, take_all}
 use Rattle.testing_model.specs.JudgedRows.{lent, row_of}
 use Rattle.testing_items.proofs.Grouping.{group-some}
 use Rattle.testing_suites.proofs.lent_rows.rows_at.Goals as goal
@@ -15,3 +15,8 @@ loop-place-preserved c =
     let row = row_of new in
     ap lent c.in_ok-push.ensures.items ∙ map-append row_of c.loop-place.rows.items (new ∷ []) ∙ ap (λ rs. rs ++ row ∷ []) c.loop-place.invariant
     ∙ sym (group-some (slice_get pool) places i 0 below row c.row-row.ensures)
+
+pub returns : goal.returns
+returns c =
+    let over : length c.args.places.now ≤ c.loop-place.place-index = omega arith in
+    rw (take_all c.loop-place.place-index c.args.places.now over) at c.loop-place.invariant

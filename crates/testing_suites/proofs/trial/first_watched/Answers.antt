@@ -1,4 +1,5 @@
-use Rattle.std.proofs.Common.{arith, ◌≡◌, ◌∙◌, sym, ap, ◌+◌, ◌<◌, Bool, true, false, cond, length, take, filter, map, Some}
+use Rattle.std.proofs.Common.{arith, ◌≡◌, ◌∙◌, sym, ap, ◌+◌, ◌<◌, Bool, true, false, cond, length, take, filter, map, Some, ◌≤◌}
+use Rattle.std.proofs.lemmas.List.{take_all}
 use Rattle.std.specs.List.{slice_get, filter_map}
 use Rattle.std.specs.Option.{option_copied}
 use Rattle.deb_control.specs.declared.binary.Binary.{Binary}
@@ -36,3 +37,8 @@ loop-place-preserved c =
           ∙ sym (step true (sym c.is_watched_on.ensures ∙ w.if-is_watched_on.true))
       | else-is_watched_on w ↦ ap option_copied w.first-is ∙ c.loop-place.invariant ∙ sym (step false (sym c.is_watched_on.ensures ∙ w.if-is_watched_on.false))
     ]
+
+pub returns : goal.returns
+returns c =
+    let over : length c.args.places.now ≤ c.loop-place.place-index = omega arith in
+    rw (take_all c.loop-place.place-index c.args.places.now over) at c.loop-place.invariant
