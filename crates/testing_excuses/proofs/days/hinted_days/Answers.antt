@@ -1,7 +1,8 @@
-use Rattle.std.proofs.Common.{arith, ◌∙◌, sym, ap, ◌<◌, length, Option, ℕ}
+use Rattle.std.proofs.Common.{arith, ◌∙◌, sym, ap, ◌<◌, length, Option, ℕ, ◌≤◌}
 use Rattle.testing_model.specs.Excuses.{asked_days}
 use Rattle.testing_model.specs.declared.facts.HintIn.{HintIn}
 use Rattle.testing_items.proofs.Last.{last-some, last-none}
+use Rattle.std.proofs.lemmas.List.{take_all}
 use Rattle.testing_excuses.proofs.days.hinted_days.Goals as goal
 use Rattle.testing_excuses.proofs.days.hinted_days.Goals.{in-Some, in_default}
 
@@ -18,3 +19,8 @@ loop-hint-preserved c =
       | in-Some w ↦ w.days-is ∙ sym (last-some f hs i d below w.in-Some.asked (asked ∙ w.in-Some.is))
       | in_default w ↦ w.days-is ∙ c.loop-hint.invariant ∙ sym (last-none f hs i d below (asked ∙ w.in_default.is))
     ]
+
+pub returns : goal.returns
+returns c =
+    let over : length c.args.hints.now ≤ c.loop-hint.hint-index = omega arith in
+    rw (take_all c.loop-hint.hint-index c.args.hints.now over) at c.loop-hint.invariant
