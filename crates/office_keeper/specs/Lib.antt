@@ -4,3 +4,4 @@ pub mod Keeping
 pub mod Provenance
 pub mod MemoryState
 pub mod LastDelays
+pub mod NewMail

@@ -7,9 +7,10 @@ ghost use Rattle.office_keeper.specs.Content.{Content, reports_in, with_text, wi
 ghost use Rattle.office_keeper.specs.FactSet.{AreHoldable, facts_after, rows_in};
 ghost use Rattle.office_keeper.specs.Provenance.{AreOwnTexts, IsGiven, KnowsArchs};
 ghost use Rattle.office_keeper.specs.Keeping.{Counted};
+ghost use Rattle.office_keeper.specs.NewMail.{AreFree, with_letters, with_mail};
 
 use crate::faults::{Cause, KeepFault};
-use crate::values::{Finished, Letter, MailText, Reports};
+use crate::values::{Finished, Letter, MailText, NewLetter, Reports};
 use testing_model::FactRows;
 use testing_suites::Testing;
 
@@ -69,6 +70,33 @@ pub trait Keeper {
         ensures legible { is_trusted self.new → is_legible self.old → is_legible self.new }
         ensures bad { is_trusted self.new → is_legible self.old → AreOwnTexts (setup self.old) (content self.old).kept → result ≢ Err (KeepFault.Store Cause.BadRow) }
         ensures counted { Counted (refusals self.old) (refusals self.new) result };
+
+    /// How many texts this store keeps best together.
+    fn keeps_together(&self) -> usize {
+        1
+    }
+
+    /// Keeps these texts under free numbers, all or none of them, and answers whether it did. A store that keeps texts
+    /// best one by one keeps none.
+    fn keep_all(&mut self, letters: &[NewLetter]) -> Result<bool, KeepFault>
+        requires free { is_trusted self.old → AreFree (content self.old).kept letters.now }
+        ensures kept { is_trusted self.new → is_legible self.old → IfOk result (λ all. content self.new ≡ (if all then with_mail (content self.old) letters.now else content self.old)) }
+        ensures mail { is_trusted self.new → IfOk result (λ all. (content self.new).kept ≡ (if all then with_letters (content self.old).kept letters.now else (content self.old).kept)) }
+        ensures reports { is_trusted self.new → (content self.new).reports ≡ (content self.old).reports }
+        ensures facts { is_trusted self.new → (content self.new).facts ≡ (content self.old).facts }
+        ensures err { is_trusted self.new → OnErr result (content self.new ≡ content self.old) }
+        ensures setup { setup self.new ≡ setup self.old }
+        ensures clean { is_clean self.new → is_clean self.old }
+        ensures faults { disk_faults self.old ≤ disk_faults self.new }
+        ensures before { is_trusted self.new → is_trusted self.old }
+        ensures open { is_clean self.new → is_trusted self.old → OnOk result (is_trusted self.new) }
+        ensures shut { is_clean self.new → is_trusted self.old → is_trusted self.new ⊎ HasRisen (disk_faults self.old) (disk_faults self.new) }
+        ensures legible { is_trusted self.new → is_legible self.old → is_legible self.new }
+        ensures bad { is_trusted self.new → is_legible self.old → AreOwnTexts (setup self.old) (content self.old).kept → result ≢ Err (KeepFault.Store Cause.BadRow) }
+        ensures counted { Counted (refusals self.old) (refusals self.new) result }
+    {
+        Ok(false)
+    }
 
     /// How many runs are finished.
     fn finished(&mut self) -> Result<u32, KeepFault>

@@ -11,4 +11,4 @@ pub use fact_rows::rows_in_order;
 pub use faults::{Cause, KeepFault};
 pub use keeping::Keeper;
 pub use memory::Plain;
-pub use values::{Finished, Letter, MailText, Reports};
+pub use values::{Finished, Letter, MailText, NewLetter, Reports};

@@ -54,6 +54,14 @@ pub struct Letter {
     pub text: MailText,
 }
 
+/// A text that is to be kept, with its sender's place and its number.
+#[derive(Drop)]
+pub struct NewLetter {
+    pub sender: u32,
+    pub number: u32,
+    pub text: MailText,
+}
+
 /// The two reports of a finished run.
 #[derive(Drop)]
 pub struct Reports {
