@@ -36,3 +36,4 @@ pub mod FactWrites
 pub mod InsideLemmas
 pub mod FactMoves
 pub mod DifferenceLemmas
+pub mod KeepAllLemmas

@@ -4,6 +4,7 @@ use Rattle.std.specs.Ordering.{is_eq, is_ge, is_le, is_lt}
 use Rattle.std.specs.Prelude.{◌≡◌, ◌≤◌, ◌<◌, ◌+◌, ◌⊎◌, ◌&&◌, Bool, Contains, length, filter, filter_map, ℕ, pos, List, [], ◌∷◌, Option, Some, None, IsTrue, IsSome, true, false, nat_le}
 use Rattle.std.specs.FinMap.{get, insert}
 use Rattle.office_keeper.specs.declared.values.Letter.{Letter}
+use Rattle.office_keeper.specs.declared.values.NewLetter.{NewLetter}
 use Rattle.office_keeper.specs.declared.values.Reports.{Reports}
 use Rattle.office_tables.specs.declared.said.Said.{Said}
 use Rattle.sqlite_rules.specs.Lists.{Has}
@@ -124,6 +125,11 @@ pub record AddsLetter (db next : Trees) (sender number : ℕ) (text : List ℕ) 
   pub says : letter_in row ≡ Some ((sender, number), text)
   pub free : is_taken (db 1) row ≡ false
   pub put : rows_in next ≡ record (rows_in db) { mail = put_row row (db 1) }
+
+-- rows of these letters were put into the mail one by one, and the other tables stand
+abbrev pub AddsLetters : Trees → Trees → List NewLetter → Type 0
+AddsLetters db next [] = next ≡ db
+AddsLetters db next (l ∷ ls) = (mid : Trees) × AddsLetter db mid l.sender l.number l.text × AddsLetters mid next ls
 
 -- ---- what the office says of itself
 

@@ -8,10 +8,10 @@ ghost use Rattle.sqlite.specs.declared.types.Value.TheVariants.{Int, Blob};
 ghost use Rattle.sqlite.specs.Held.{state};
 ghost use Rattle.sqlite.specs.State.{HasCleanDisk};
 ghost use Rattle.office_tables.specs.Tables.{IsTrusted, IsOurs, kept_rows, Lasts};
-ghost use Rattle.office_tables.specs.TableSteps.{IsInside, WentOn, Same, AddsLetter, AreSmall, IsCrowded, IsOnly, IsOnlyNumber, is_at, is_between, letter_columns, shown_letter, letter_entry, ShowsLeast, ShowsLetters, rises_from};
+ghost use Rattle.office_tables.specs.TableSteps.{IsInside, WentOn, Same, AddsLetter, AddsLetters, AreSmall, IsCrowded, IsOnly, IsOnlyNumber, is_at, is_between, letter_columns, shown_letter, letter_entry, ShowsLeast, ShowsLetters, rises_from};
 
 use crate::faults::unread;
-use office_keeper::{Cause, KeepFault, Letter, MailText};
+use office_keeper::{Cause, KeepFault, Letter, MailText, NewLetter};
 use sqlite::{Alter, Connection, Error, Row, Transaction, params};
 use std::alloc::Global;
 
@@ -266,6 +266,43 @@ pub fn keep<S: Alter>(
     }
     let mut tx = conn.transaction();
     let _added = add_letter(&mut tx, sender, number, text)?;
+    tx.commit()?;
+    Ok(())
+}
+
+/// Adds these texts to the mail.
+fn add_letters<S: Alter>(tx: &mut Transaction<'_, S>, letters: &[NewLetter]) -> Result<(), Error>
+    requires inside { IsTrusted (state S.Store tx.old.conn.now) → IsInside (state S.Store tx.old.conn.now) }
+    ensures same_reference { tx.new.conn.ghost_name ≡ tx.old.conn.ghost_name }
+    ensures before { IsTrusted (state S.Store tx.new.conn.now) → IsTrusted (state S.Store tx.old.conn.now) }
+    ensures lasts { Lasts (state S.Store tx.old.conn.now) (state S.Store tx.new.conn.now) }
+    ensures open { HasCleanDisk (state S.Store tx.new.conn.now) → IsTrusted (state S.Store tx.old.conn.now) → OnOk result (IsTrusted (state S.Store tx.new.conn.now)) }
+    ensures on { IsTrusted (state S.Store tx.new.conn.now) → OnOk result (WentOn (state S.Store tx.old.conn.now) (state S.Store tx.new.conn.now)) }
+    ensures added { IsTrusted (state S.Store tx.new.conn.now) → OnOk result (AddsLetters (state S.Store tx.old.conn.now).now.trees (state S.Store tx.new.conn.now).now.trees letters.now) }
+    ensures err { IsTrusted (state S.Store tx.new.conn.now) → OnErr result ((state S.Store tx.new.conn.now).committed ≡ (state S.Store tx.old.conn.now).committed) }
+{
+    'letters: for letter in letters {
+        add_letter(tx, letter.sender, letter.number, letter.text.as_slice())?;
+    }
+    Ok(())
+}
+
+/// Keeps these texts under free numbers, in one transaction: all of them, or none.
+pub fn keep_all<S: Alter>(conn: &mut Connection<S>, letters: &[NewLetter]) -> Result<(), KeepFault>
+    requires ours { IsTrusted (state S.Store conn.old) → IsOurs (state S.Store conn.old) }
+    ensures before { IsTrusted (state S.Store conn.new) → IsTrusted (state S.Store conn.old) }
+    ensures lasts { Lasts (state S.Store conn.old) (state S.Store conn.new) }
+    ensures open { HasCleanDisk (state S.Store conn.new) → IsTrusted (state S.Store conn.old) → OnOk result (IsTrusted (state S.Store conn.new)) }
+    ensures ours { IsTrusted (state S.Store conn.new) → IsOurs (state S.Store conn.new) }
+    ensures kept { IsTrusted (state S.Store conn.new) → OnOk result (AddsLetters (state S.Store conn.old).now.trees (state S.Store conn.new).now.trees letters.now) }
+    ensures err { IsTrusted (state S.Store conn.new) → OnErr result ((state S.Store conn.new).now ≡ (state S.Store conn.old).now) }
+    ensures bad { result ≢ Err (KeepFault.Store Cause.BadRow) }
+{
+    if !conn.is_autocommit() {
+        return Err(KeepFault::Store(Cause::Sqlite(Error::InvalidQuery)));
+    }
+    let mut tx = conn.transaction();
+    add_letters(&mut tx, letters)?;
     tx.commit()?;
     Ok(())
 }

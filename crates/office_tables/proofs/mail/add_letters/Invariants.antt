@@ -1,0 +1,15 @@
+use Rattle.std.proofs.Common.{◌≡◌, take}
+use Rattle.sqlite.specs.Held.{state}
+use Rattle.office_tables.specs.Tables.{IsTrusted, Lasts}
+use Rattle.sqlite.specs.State.{HasCleanDisk}
+use Rattle.office_tables.specs.TableSteps.{AddsLetters}
+use Rattle.office_tables.proofs.StepLemmas.{IsUnderWay}
+use Rattle.office_tables.proofs.mail.add_letters.Given as goal
+
+abbrev pub invariant-letters : goal.invariant-letters
+invariant-letters g l = record {
+  same : l.tx.conn.ghost_name ≡ l.fn.tx.conn.ghost_name;
+  lasts : Lasts (state g.S.Store l.fn.tx.conn.now) (state g.S.Store l.tx.conn.now);
+  still : HasCleanDisk (state g.S.Store l.tx.conn.now) → IsTrusted (state g.S.Store l.fn.tx.conn.now) → IsTrusted (state g.S.Store l.tx.conn.now);
+  so_far : IsTrusted (state g.S.Store l.tx.conn.now) → IsUnderWay (λ a b. AddsLetters a b (take l.letter-index l.letters)) (state g.S.Store l.fn.tx.conn.now) (state g.S.Store l.tx.conn.now);
+}
