@@ -7,6 +7,7 @@ pub mod OpenLemmas
 pub mod ContentFacts
 pub mod BlankFacts
 pub mod LegibleKeep
+pub mod LegibleKeepAll
 pub mod LegibleFinish
 pub mod KeeperFacts
 pub mod NumberFacts

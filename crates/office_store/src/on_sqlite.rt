@@ -7,7 +7,7 @@ ghost use Rattle.office_tables.specs.Legible.{IsLegible};
 ghost use Rattle.office_tables.specs.Tables.{IsTrusted, IsOurs};
 ghost use Rattle.office_keeper.specs.Keeping.{Counted};
 
-use office_keeper::{Finished, KeepFault, Keeper, Letter, MailText, Reports};
+use office_keeper::{Finished, KeepFault, Keeper, Letter, MailText, NewLetter, Reports};
 use office_mail::Setup;
 use office_tables::{entries, fact_rows, finishing, mail, runs};
 use sqlite::{Alter, Connection};
@@ -108,6 +108,15 @@ impl<S: Alter> Keeper for Tables<S> {
             &mut self.refusals,
             mail::keep(&mut self.conn, sender, number, text),
         )
+    }
+
+    fn keeps_together(&self) -> usize {
+        64
+    }
+
+    fn keep_all(&mut self, letters: &[NewLetter]) -> Result<bool, KeepFault> {
+        count(&mut self.refusals, mail::keep_all(&mut self.conn, letters))?;
+        Ok(true)
     }
 
     fn finished(&mut self) -> Result<u32, KeepFault> {
