@@ -110,6 +110,7 @@ impl<S: Alter> Keeper for Tables<S> {
         )
     }
 
+    // One commit keeps them all, and waits for the disk once. More texts than these would save little.
     fn keeps_together(&self) -> usize {
         64
     }
