@@ -4,6 +4,7 @@
 
 mod covered;
 mod ending;
+mod gathering;
 pub mod laws;
 mod office;
 mod orders;
