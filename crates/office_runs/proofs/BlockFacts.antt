@@ -1,9 +1,9 @@
 -- Deliveries a block at a time, and one by one. P, Q and R say that the store refused: in a first part, in what follows, and in both.
-use Rattle.std.proofs.Common.{◌≡◌, ℕ, ◌≤◌, Bool, true, false, ◌||◌, List, [], ◌∷◌, ◌++◌, map, flat_map, Option, Result, sym, ap, subst, ◌∙◌, refl, arith}
+use Rattle.std.proofs.Common.{◌≡◌, ℕ, ◌<◌, ◌+◌, length, take, drop, get_or, Bool, true, false, ◌||◌, List, [], ◌∷◌, ◌++◌, map, flat_map, ◌⊎◌, inl, inr, Option, Result, Ok, Err, OnOk, OnErr, IfOk, IfErr, sym, ap, subst, ◌∙◌, refl, arith}
 use Rattle.std.specs.List.{AllByRecursion}
 use Rattle.std.specs.Io.KnownBytes.{Appends, Consumes}
 use Rattle.std.proofs.KnownBytes.{Appends-nil, Appends-trans, Consumes-nil, Consumes-trans}
-use Rattle.std.proofs.lemmas.List.{append_assoc, append-nil, map-append}
+use Rattle.std.proofs.lemmas.List.{append_assoc, append-nil, map-append, take_more, take-append-drop}
 use Rattle.std.proofs.lemmas.List.Concat.{flat_map-append}
 use Rattle.office_mail.specs.declared.bag.BagFault.{BagFault}
 use Rattle.office_mail.specs.Bag.{framed, handed, HasHeader}
@@ -18,19 +18,19 @@ use Rattle.office_replies.specs.declared.faults.Held.{Held}
 use Rattle.office_replies.specs.declared.replies.Delivery.{Delivery}
 use Rattle.office_replies.specs.declared.replies.Mark.{Mark}
 use Rattle.office_replies.specs.declared.replies.Mark.TheVariants.{Taken, LostForMemory, LostForStore}
-use Rattle.office_replies.specs.Replies.{reply_line, reply_by, if_taken, not_lost, is_lost, any_lost}
+use Rattle.office_replies.specs.Replies.{reply_line, if_taken, not_lost, is_lost, any_lost}
 use Rattle.office_replies.specs.Written.{AppendsFront}
 use Rattle.office_replies.proofs.WrittenFacts.{front_after, front_before}
 use Rattle.office_runs.specs.OfficeState.{OfficeState}
 use Rattle.office_runs.specs.State.{answer_to}
 use Rattle.office_runs.specs.Output.{reply_to, reply_lines}
 use Rattle.office_runs.specs.Losses.{DeliveryCounted, DeliveriesCounted}
-use Rattle.office_runs.specs.Delivered.{CameFirst, CameFrom, KeepsMail, DeliversFront}
-use Rattle.office_runs.specs.DeliverySteps.{Delivers, DeliversOne, DeliversOneFront}
+use Rattle.office_runs.specs.Delivered.{CameFirst, KeepsMail, DeliversFront}
+use Rattle.office_runs.specs.DeliverySteps.{Delivers, DeliversAll, DeliversOne, DeliversOneFront}
 use Rattle.office_runs.specs.Blocks.{DeliversTexts}
 use Rattle.office_runs.specs.BlockSteps.{answers_to, DeliversTextsFront, TakesTexts, TakesLast, DeliversLastFront}
 use Rattle.office_runs.proofs.RiseFacts.{delivery_weaker, deliveries_weaker}
-use Rattle.office_runs.proofs.DeliverFacts.{each_push, keeps_none, keeps_more, came_from, not_lost-push, reply_lines-push, any_lost-push, line_after, if_taken-append, one_lost, or_assoc}
+use Rattle.office_runs.proofs.DeliverFacts.{each_push, keeps_none, keeps_more, came_from, delivers_all, reply_lines-push, any_lost-push, line_after, if_taken-append, one_lost, or_assoc}
 
 -- ---- lists of deliveries, joined
 
@@ -185,6 +185,35 @@ texts_front P Q R lost s0 s1 s2 texts rest text w0 w1 w2 so rises one one_rises 
           (each_push (λ (x : Delivery). DeliveryCounted R x.mark) so.deliveries d (deliveries_weaker P R so.deliveries rises so.by_store) (delivery_weaker Q R one.mark one_rises one.by_store)) (lost_counted R rest);
     }
 
+-- texts behind a call that left the state
+pub texts_from : {E : Type 0} (P R : Type 0) (s0 s1 s2 : OfficeState) (texts : List (List ℕ)) (w0 w1 : Option (List ℕ)) (r : Result Bool E) → s1 ≡ s0 → (P → R) → IfOk r (λ lost. DeliversTexts s1 s2 texts w0 w1 lost P)
+    → IfOk r (λ lost. DeliversTexts s0 s2 texts w0 w1 lost R)
+texts_from P R s0 s1 s2 texts w0 w1 (Ok lost) same rises so =
+    subst (λ (s : OfficeState). DeliversTexts s s2 texts w0 w1 lost R) same
+    (record { deliveries = so.deliveries; same = so.same; keeps = so.keeps; written = so.written; losses = so.losses; by_store = deliveries_weaker P R so.deliveries rises so.by_store })
+texts_from P R s0 s1 s2 texts w0 w1 (Err fault) same rises so = tt
+
+pub front_from : {T E : Type 0} (P R : Type 0) (s0 s1 s2 : OfficeState) (texts : List (List ℕ)) (w0 w1 : Option (List ℕ)) (r : Result T E) → s1 ≡ s0 → (P → R) → OnErr r (DeliversTextsFront s1 s2 texts w0 w1 P) → OnErr r (DeliversTextsFront s0 s2 texts w0 w1 R)
+front_from P R s0 s1 s2 texts w0 w1 (Ok x) same rises so = tt
+front_from P R s0 s1 s2 texts w0 w1 (Err fault) same rises so =
+    subst (λ (s : OfficeState). DeliversTextsFront s s2 texts w0 w1 R) same
+    (record { deliveries = so.deliveries; same = so.same; keeps = so.keeps; written = so.written; by_store = deliveries_weaker P R so.deliveries rises so.by_store })
+
+-- ---- lines, one after another
+
+lines_split : {A : Type 0} (f : A → List ℕ) (xs : List A) (i : ℕ) (d : A) → i < length xs → flat_map f xs ≡ (flat_map f (take i xs) ++ f (get_or xs i d)) ++ flat_map f (drop (i + 1) xs)
+lines_split {A} f xs i d h =
+    ap (flat_map f) (sym (take-append-drop (i + 1) xs))
+    ∙ flat_map-append f (take (i + 1) xs) (drop (i + 1) xs)
+    ∙ ap (λ (l : List A). flat_map f l ++ flat_map f (drop (i + 1) xs)) (take_more xs i d h)
+    ∙ ap (λ (l : List ℕ). l ++ flat_map f (drop (i + 1) xs)) (flat_map-append f (take i xs) (get_or xs i d ∷ []) ∙ ap (λ (l : List ℕ). flat_map f (take i xs) ++ l) (append-nil (f (get_or xs i d))))
+
+-- a front of one line, behind those before it
+pub lines_at : {A : Type 0} (f : A → List ℕ) (a b c : Option (List ℕ)) (xs : List A) (i : ℕ) (d : A) → Appends a b (flat_map f (take i xs)) → AppendsFront b c (f (get_or xs i d)) → i < length xs → AppendsFront a c (flat_map f xs)
+lines_at f a b c xs i d took front h =
+    subst (AppendsFront a c) (sym (lines_split f xs i d h))
+    (front_before a c (flat_map f (take i xs) ++ f (get_or xs i d)) (flat_map f (drop (i + 1) xs)) (front_after a b c (flat_map f (take i xs)) (f (get_or xs i d)) took front))
+
 -- ---- the next texts of a bag
 
 pub takes_none : (b : Reading) → TakesTexts b b []
@@ -247,6 +276,19 @@ last_stop rose s0 s1 start b now w0 w1 end so stops = record {
   written = so.written;
   by_store = so.by_store;
 }
+
+-- where the writer fails in the lines of a block, behind which the bag may have stopped
+pub block_stop : {T : Type 0} (P Q R : Type 0) (lost : Bool) (s0 s1 s2 : OfficeState) (start b1 b2 : Reading) (texts : List (List ℕ)) (w0 w1 w2 : Option (List ℕ)) (taken : Result T (Option BagFault)) → OnOk taken (TakesTexts b1 b2 texts) → IfErr taken (λ end. TakesLast b1 b2 texts end)
+    → Delivers s0 s1 start b1 w0 w1 lost P → (P → R) → DeliversTextsFront s1 s2 texts w1 w2 Q → (Q → R) → DeliversFront s0 s2 start b2 w0 w2 R ⊎ DeliversLastFront s0 s2 start b2 w0 w2 R
+block_stop P Q R lost s0 s1 s2 start b1 b2 texts w0 w1 w2 (Ok x) took last so rises next next_rises = inl (texts_stop P Q R lost s0 s1 s2 start b1 b2 texts w0 w1 w2 so rises took next next_rises)
+block_stop P Q R lost s0 s1 s2 start b1 b2 texts w0 w1 w2 (Err end) took last so rises next next_rises =
+    inr (last_stop R s0 s2 start last.behind b2 w0 w2 end (texts_stop P Q R lost s0 s1 s2 start b1 last.behind texts w0 w1 w2 so rises last.took next next_rises) last.stops)
+
+-- the bag stops behind a block that is delivered
+pub delivers_last : (P Q R : Type 0) (lost more now : Bool) (s0 s1 s2 : OfficeState) (start b1 b2 : Reading) (texts : List (List ℕ)) (w0 w1 w2 : Option (List ℕ)) (end : Option BagFault) → Delivers s0 s1 start b1 w0 w1 lost P → (P → R)
+    → TakesLast b1 b2 texts end → DeliversTexts s1 s2 texts w1 w2 more Q → (Q → R) → now ≡ (lost || more) → DeliversAll s0 s2 start b2 w0 w2 end now R
+delivers_last P Q R lost more now s0 s1 s2 start b1 b2 texts w0 w1 w2 end so rises last next next_rises e =
+    delivers_all R s0 s2 start last.behind b2 w0 w2 end now (delivers_texts P Q R lost more now s0 s1 s2 start b1 last.behind texts w0 w1 w2 so rises last.took next next_rises e) last.stops
 
 -- ---- where nothing is lost, nothing tells the two ways apart
 

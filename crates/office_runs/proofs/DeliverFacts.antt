@@ -1,11 +1,12 @@
 -- One delivery more. P, Q and R say that the store refused: in a first part, in what follows, and in both.
-use Rattle.std.proofs.Common.{◌≡◌, ℕ, ◌≤◌, Bool, true, false, ◌||◌, List, [], ◌∷◌, ◌++◌, map, flat_map, Option, sym, ap, subst, ◌∙◌, refl, arith}
+use Rattle.std.proofs.Common.{◌≡◌, ℕ, ◌≤◌, Bool, true, false, ◌||◌, List, [], ◌∷◌, ◌++◌, map, flat_map, ◌⊎◌, ⊎_elim, Option, Result, Ok, Err, IsTrue, sym, ap, subst, ◌∙◌, refl, arith}
 use Rattle.std.specs.List.{AllByRecursion}
 use Rattle.std.specs.Io.KnownBytes.{Appends, Consumes}
 use Rattle.std.proofs.KnownBytes.{Appends-nil, Appends-trans, Consumes-nil, Consumes-trans}
 use Rattle.std.proofs.lemmas.List.{append_assoc, append-nil, map-append}
 use Rattle.std.proofs.lemmas.List.Concat.{flat_map-append}
 use Rattle.office_mail.specs.declared.bag.BagFault.{BagFault}
+use Rattle.office_mail.specs.declared.bag.BagFault.TheVariants.{ReadFault}
 use Rattle.office_mail.specs.Bag.{framed, handed, HasHeader}
 use Rattle.office_mail.specs.Lists.{Lists}
 use Rattle.office_mail.specs.Reading.{Reading}
@@ -26,6 +27,15 @@ use Rattle.office_runs.specs.Delivered.{CameFrom, CameFirst, KeepsMail, Delivers
 use Rattle.office_runs.specs.DeliverySteps.{Delivers, DeliversAll, DeliversOne, DeliversOneFront}
 use Rattle.office_runs.proofs.RiseFacts.{delivery_weaker, deliveries_weaker}
 use Rattle.office_replies.proofs.WrittenFacts.{front_after}
+
+-- a flag that isn't set
+pub not_true : (b : Bool) → (IsTrue b → ⊥) → b ≡ false
+not_true true h = absurd (h refl)
+not_true false h = refl
+
+-- a message came, so no read failed
+pub unfailed : {A : Type 0} (x : A) (old new : ℕ) → (◌≡◌ {A = Result A BagFault} (Ok x) (Err ReadFault)) ⊎ (new ≡ old) → new ≡ old
+unfailed x old new h = ⊎_elim (λ e. absurd (cc (e))) (λ e. e) h
 
 pub if_taken-append : (mark : Mark) (text : List ℕ) (xs ys : List (List ℕ)) → if_taken mark text (xs ++ ys) ≡ if_taken mark text xs ++ ys
 if_taken-append Taken text xs ys = refl

@@ -1,6 +1,6 @@
 -- Steps: no contract of a call that users make rests on this file.
 -- A block of deliveries: its texts are taken from a bag, answered and kept together, and their lines are written.
-use Rattle.std.specs.Prelude.{◌≡◌, ℕ, List, [], ◌∷◌, map, flat_map, Option, Some, None, Result, nat_eq, ◌&&◌, if◌then◌else◌}
+use Rattle.std.specs.Prelude.{◌≡◌, ℕ, ◌<◌, length, IfOk, List, [], ◌∷◌, map, flat_map, Option, Some, None, Result, nat_eq, ◌&&◌, if◌then◌else◌}
 use Rattle.std.specs.List.{AllByRecursion}
 use Rattle.std.specs.Io.KnownBytes.{Consumes}
 use Rattle.office_mail.specs.declared.bag.BagFault.{BagFault}
@@ -34,6 +34,10 @@ own_text (l ∷ ls) sender number = if nat_eq l.sender sender && nat_eq l.number
 -- the letter of a text that is held
 abbrev pub letter_of : Held → List ℕ → NewLetter
 letter_of held text = record { sender = held.sender; number = held.number; text = text }
+
+-- what is held has a sender of the setup
+abbrev pub AreHeldHere : Lists → List (Result Held DeliverFault) → Type 0
+AreHeldHere setup replies = AllByRecursion (λ reply. IfOk reply (λ held. held.sender < length setup.senders)) replies
 
 -- each letter is at a place that a message may have
 abbrev pub ArePlaced : Lists → List NewLetter → Type 0

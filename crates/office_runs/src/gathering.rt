@@ -2,13 +2,12 @@
 #![tactic(auto, using(crate::proofs::LastFacts::lasting))]
 
 ghost use Rattle.std.specs.Prelude.{is_ok, ◌≡◌, ◌≢◌, ◌<◌, ◌++◌, ◌∷◌, [], false, Ok, Err, None, Some, IfOk, OnOk, OnErr, IfSome, bytes_eq, length, if◌then◌else◌};
-ghost use Rattle.std.specs.List.{AllByRecursion};
 ghost use Rattle.std.specs.Option.{option_map};
 ghost use Rattle.office_keeper.specs.NewMail.{AreFree, with_letters, with_mail};
 ghost use Rattle.office_mail.specs.Kept.{kept_from, place_of, IsPlace, Within};
 ghost use Rattle.office_mail.specs.Read.{read};
 ghost use Rattle.office_replies.specs.Counted.{Counted};
-ghost use Rattle.office_runs.specs.BlockSteps.{ArePlaced, Gathers, TakesText, answers_to, letter_of, own_text};
+ghost use Rattle.office_runs.specs.BlockSteps.{AreHeldHere, ArePlaced, Gathers, TakesText, answers_to, letter_of, own_text};
 ghost use Rattle.office_runs.specs.ReadsStore.{ReadsStore};
 ghost use Rattle.office_runs.specs.StaysTrusted.{StaysTrusted};
 ghost use Rattle.office_runs.specs.State.{IsOffice};
@@ -140,7 +139,8 @@ fn gather_all<K: Keeper>(
     requires replies { block.old.replies.items ≡ [] }
     ensures gathers { K.is_trusted keeper.new → OnOk result (Gathers setup.now (K.content keeper.old).kept block.new.letters.items block.new.replies.items texts.now) }
     ensures placed { ArePlaced setup.now block.new.letters.items }
-    ensures places { AllByRecursion (λ reply. IfOk reply (λ held. held.sender < length setup.now.senders)) block.new.replies.items }
+    ensures each { OnOk result (length block.new.replies.items ≡ length texts.now) }
+    ensures places { AreHeldHere setup.now block.new.replies.items }
     ensures looks { ReadsStore K.Keeper keeper.old keeper.new result }
 {
     'texts: for text in texts {
@@ -186,7 +186,8 @@ pub fn keep_texts<K: Keeper>(
     ensures office { K.is_trusted keeper.new → K.is_legible keeper.old → IsOffice setup.now (K.content keeper.old) → IsOffice setup.now (K.content keeper.new) }
     ensures none { K.is_trusted keeper.new → K.is_legible keeper.old → IfOk result (λ replies. replies ≡ None → K.content keeper.new ≡ K.content keeper.old) }
     ensures err { K.is_trusted keeper.new → OnErr result (K.content keeper.new ≡ K.content keeper.old) }
-    ensures places { IfOk result (λ replies. IfSome replies (λ rs. AllByRecursion (λ reply. IfOk reply (λ held. held.sender < length setup.now.senders)) rs.items)) }
+    ensures each { IfOk result (λ replies. IfSome replies (λ rs. length rs.items ≡ length texts.now)) }
+    ensures places { IfOk result (λ replies. IfSome replies (λ rs. AreHeldHere setup.now rs.items)) }
     ensures setup { K.setup keeper.new ≡ K.setup keeper.old }
     ensures before { K.is_trusted keeper.new → K.is_trusted keeper.old }
     ensures legible { K.is_trusted keeper.new → K.is_legible keeper.old → K.is_legible keeper.new }

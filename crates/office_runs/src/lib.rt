@@ -2,6 +2,7 @@
 //! (Debian Developer's Reference 5.13) as their mail is there, and replays bags of mail.
 #![tactic(auto)]
 
+mod blocks;
 mod covered;
 mod ending;
 mod gathering;

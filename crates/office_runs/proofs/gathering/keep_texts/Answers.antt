@@ -1,5 +1,4 @@
-use Rattle.std.proofs.Common.{◌≡◌, List, Result, sym, ap, subst, ◌∙◌}
-use Rattle.std.specs.Prelude.{if◌then◌else◌}
+use Rattle.std.proofs.Common.{◌≡◌, ap, ◌∙◌}
 use Rattle.office_keeper.specs.Content.{Content}
 use Rattle.office_keeper.specs.NewMail.{with_letters, with_mail}
 use Rattle.office_runs.proofs.GatherFacts.{Within-mail, IsOffice-mail}
