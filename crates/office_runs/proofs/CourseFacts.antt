@@ -1,5 +1,5 @@
 -- What a replay comes to behind its last delivery. P, Q and R say that the store refused: in a first part, in what follows, and in both.
-use Rattle.std.proofs.Common.{◌≡◌, ℕ, ◌≤◌, Bool, not, ◌||◌, is_ok, IsTrue, List, Option, Result, IfOk, sym, ap, subst, ◌∙◌, refl, arith}
+use Rattle.std.proofs.Common.{◌≡◌, ℕ, ◌≤◌, ◌-◌, Bool, false, not, ◌||◌, is_ok, IsTrue, List, Option, Some, None, Result, IfOk, sym, ap, subst, ◌∙◌, refl, arith}
 use Rattle.std.specs.Io.KnownBytes.{Appends}
 use Rattle.office_mail.specs.declared.bag.BagFault.{BagFault}
 use Rattle.office_mail.specs.Kept.{Kept}
@@ -8,7 +8,10 @@ use Rattle.office_mail.specs.Reading.{Reading}
 use Rattle.office_mail.specs.Runs.{IsReady, IsReadyCount}
 use Rattle.office_replies.specs.declared.faults.Progress.{Progress}
 use Rattle.office_replies.specs.declared.faults.StoreFault.{StoreFault}
+use Rattle.office_replies.specs.declared.faults.StoreFault.TheVariants.{NoMemory}
 use Rattle.office_replies.specs.declared.replies.Delivery.{Delivery}
+use Rattle.office_replies.specs.Replies.{any_lost}
+use Rattle.office_replies.proofs.WrittenFacts.{front_before}
 use Rattle.office_runs.specs.OfficeState.{OfficeState}
 use Rattle.office_runs.specs.State.{state_of}
 use Rattle.office_keeper.specs.declared.keeping.Keeper.{Ghosts}
@@ -16,10 +19,11 @@ use Rattle.office_runs.specs.declared.replays.Replayed.{Replayed}
 use Rattle.office_replies.specs.Written.{AppendsFront}
 use Rattle.office_runs.specs.Output.{Marks, output}
 use Rattle.office_runs.specs.Losses.{MarksEnd, MarksCounted, is_short, has_refusal}
+use Rattle.office_runs.specs.BlockSteps.{DeliversLastFront}
 use Rattle.office_runs.specs.Delivered.{KeepsMail}
 use Rattle.office_runs.specs.DeliverySteps.{DeliversAll}
 use Rattle.office_runs.specs.Replay.{Course, ReplaysAll, ReplaysFront}
-use Rattle.office_runs.proofs.EndFacts.{settled_ready}
+use Rattle.office_runs.proofs.EndFacts.{settled_ready, fill, fill_all, counted-fill}
 use Rattle.office_runs.proofs.RiseFacts.{deliveries_weaker, marks_weaker}
 
 -- a settle keeps what the deliveries kept
@@ -87,3 +91,27 @@ replays_front P Q R s0 s1 s2 start now w0 w1 w3 end lost settled r count marks d
   course = settled_course P Q R s0 s1 s2 start now w0 w1 end lost (((lost || is_short end) || not settled) || has_refusal marks) settled r count marks d rises h is each by_store marks_rise refl;
   written = written;
 }
+
+-- where the writer fails in the lines of the last block, and no settle was made behind it
+pub replays_last : (rose : Type 0) (s0 s1 : OfficeState) (start now : Reading) (w0 w1 : Option (List ℕ)) → IsReady s0.setup s0.kept s0.finished → DeliversLastFront s0 s1 start now w0 w1 rose → ReplaysFront s0 s1 start now w0 w1 rose
+replays_last rose s0 s1 start now w0 w1 was d =
+    let more : ℕ = s1.finished - s0.finished in
+    let marks : Marks = record { status = Some NoMemory; count = None; reports = fill more; testing = None } in
+    record {
+      end = d.end;
+      lost = ((any_lost d.deliveries || is_short d.end) || not false) || has_refusal marks;
+      course = record {
+        deliveries = d.deliveries;
+        came = d.came;
+        keeps = d.keeps;
+        ready = d.keeps.ready was;
+        settled = false;
+        settles = λ t. absurd (cc (t));
+        count = 0;
+        marks = marks;
+        each = record { ready_is = λ e. absurd (cc (e)); runs = λ e. fill_all s0.finished s1.finished d.keeps.grows };
+        losses = refl;
+        by_store = (d.by_store, record { status = tt; count = tt; reports = counted-fill rose more; testing = tt });
+      };
+      written = front_before w0 w1 _ _ (front_before w0 w1 _ _ d.written);
+    }

@@ -1,11 +1,12 @@
 -- One delivery more. P, Q and R say that the store refused: in a first part, in what follows, and in both.
-use Rattle.std.proofs.Common.{◌≡◌, ℕ, ◌≤◌, Bool, true, false, ◌||◌, List, [], ◌∷◌, ◌++◌, map, flat_map, Option, sym, ap, subst, ◌∙◌, refl, arith}
+use Rattle.std.proofs.Common.{◌≡◌, ℕ, ◌≤◌, Bool, true, false, ◌||◌, List, [], ◌∷◌, ◌++◌, map, flat_map, ◌⊎◌, ⊎_elim, Option, Result, Ok, Err, IsTrue, sym, ap, subst, ◌∙◌, refl, arith}
 use Rattle.std.specs.List.{AllByRecursion}
 use Rattle.std.specs.Io.KnownBytes.{Appends, Consumes}
 use Rattle.std.proofs.KnownBytes.{Appends-nil, Appends-trans, Consumes-nil, Consumes-trans}
 use Rattle.std.proofs.lemmas.List.{append_assoc, append-nil, map-append}
 use Rattle.std.proofs.lemmas.List.Concat.{flat_map-append}
 use Rattle.office_mail.specs.declared.bag.BagFault.{BagFault}
+use Rattle.office_mail.specs.declared.bag.BagFault.TheVariants.{ReadFault}
 use Rattle.office_mail.specs.Bag.{framed, handed, HasHeader}
 use Rattle.office_mail.specs.Lists.{Lists}
 use Rattle.office_mail.specs.Reading.{Reading}
@@ -27,19 +28,28 @@ use Rattle.office_runs.specs.DeliverySteps.{Delivers, DeliversAll, DeliversOne, 
 use Rattle.office_runs.proofs.RiseFacts.{delivery_weaker, deliveries_weaker}
 use Rattle.office_replies.proofs.WrittenFacts.{front_after}
 
-if_taken-append : (mark : Mark) (text : List ℕ) (xs ys : List (List ℕ)) → if_taken mark text (xs ++ ys) ≡ if_taken mark text xs ++ ys
+-- a flag that isn't set
+pub not_true : (b : Bool) → (IsTrue b → ⊥) → b ≡ false
+not_true true h = absurd (h refl)
+not_true false h = refl
+
+-- a message came, so no read failed
+pub unfailed : {A : Type 0} (x : A) (old new : ℕ) → (◌≡◌ {A = Result A BagFault} (Ok x) (Err ReadFault)) ⊎ (new ≡ old) → new ≡ old
+unfailed x old new h = ⊎_elim (λ e. absurd (cc (e))) (λ e. e) h
+
+pub if_taken-append : (mark : Mark) (text : List ℕ) (xs ys : List (List ℕ)) → if_taken mark text (xs ++ ys) ≡ if_taken mark text xs ++ ys
 if_taken-append Taken text xs ys = refl
 if_taken-append LostForMemory text xs ys = refl
 if_taken-append LostForStore text xs ys = refl
 
-not_lost-push : (ds : List Delivery) (d : Delivery) → not_lost (ds ++ d ∷ []) ≡ not_lost ds ++ if_taken d.mark d.text []
+pub not_lost-push : (ds : List Delivery) (d : Delivery) → not_lost (ds ++ d ∷ []) ≡ not_lost ds ++ if_taken d.mark d.text []
 not_lost-push [] d = refl
 not_lost-push (e ∷ ds) d = ap (if_taken e.mark e.text) (not_lost-push ds d) ∙ if_taken-append e.mark e.text (not_lost ds) (if_taken d.mark d.text [])
 
-one_lost : (e : Delivery) (ds : List Delivery) → not_lost (e ∷ []) ++ not_lost ds ≡ not_lost (e ∷ ds)
+pub one_lost : (e : Delivery) (ds : List Delivery) → not_lost (e ∷ []) ++ not_lost ds ≡ not_lost (e ∷ ds)
 one_lost e ds = sym (if_taken-append e.mark e.text [] (not_lost ds))
 
-reply_lines-push : (setup : Lists) (kept : Kept) (ds : List Delivery) (d : Delivery) → reply_lines setup kept (ds ++ d ∷ []) ≡ reply_lines setup kept ds ++ reply_line setup (reply_to setup (kept_from setup kept (not_lost ds)) d)
+pub reply_lines-push : (setup : Lists) (kept : Kept) (ds : List Delivery) (d : Delivery) → reply_lines setup kept (ds ++ d ∷ []) ≡ reply_lines setup kept ds ++ reply_line setup (reply_to setup (kept_from setup kept (not_lost ds)) d)
 reply_lines-push setup kept [] d = append-nil _ ∙ ap (λ (k : Kept). reply_line setup (reply_to setup k d)) (sym (kept_from-nil setup kept))
 reply_lines-push setup kept (e ∷ ds) d =
     ap (λ (l : List ℕ). reply_line setup (reply_to setup kept e) ++ l) (reply_lines-push setup (kept_from setup kept (not_lost (e ∷ []))) ds d
@@ -55,11 +65,11 @@ or_false : (b : Bool) → (b || false) ≡ (false || b)
 or_false true = refl
 or_false false = refl
 
-or_assoc : (a b c : Bool) → (a || (b || c)) ≡ ((a || b) || c)
+pub or_assoc : (a b c : Bool) → (a || (b || c)) ≡ ((a || b) || c)
 or_assoc true b c = refl
 or_assoc false b c = refl
 
-any_lost-push : (ds : List Delivery) (d : Delivery) → any_lost (ds ++ d ∷ []) ≡ (any_lost ds || is_lost d.mark)
+pub any_lost-push : (ds : List Delivery) (d : Delivery) → any_lost (ds ++ d ∷ []) ≡ (any_lost ds || is_lost d.mark)
 any_lost-push [] d = or_false (is_lost d.mark)
 any_lost-push (e ∷ ds) d = ap (λ (b : Bool). is_lost e.mark || b) (any_lost-push ds d) ∙ or_assoc (is_lost e.mark) (any_lost ds) (is_lost d.mark)
 
@@ -110,7 +120,7 @@ pub delivers_none : (s : OfficeState) (b : Reading) (w : Option (List ℕ)) (ros
 delivers_none s b w rose = record { deliveries = []; came = came_none b; keeps = keeps_none s; written = Appends-nil w; losses = refl; by_store = tt }
 
 -- the line that answers the next delivery, seen from the start
-line_after : (s0 s1 : OfficeState) (ds : List Delivery) (text : List ℕ) (mark : Mark) → KeepsMail s0 s1 ds
+pub line_after : (s0 s1 : OfficeState) (ds : List Delivery) (text : List ℕ) (mark : Mark) → KeepsMail s0 s1 ds
     → reply_line s1.setup (reply_by mark (answer_to s1.setup s1.kept text)) ≡ reply_line s0.setup (reply_to s0.setup (kept_from s0.setup s0.kept (not_lost ds)) (record { text = text; mark = mark }))
 line_after s0 s1 ds text mark so =
     ap (λ (st : Lists). reply_line st (reply_by mark (answer_to st s1.kept text))) so.setup ∙ ap (λ (k : Kept). reply_line s0.setup (reply_by mark (answer_to s0.setup k text))) so.kept

@@ -27,3 +27,5 @@ pub mod WalkFacts
 pub mod MigratedFacts
 pub mod OrderFacts
 pub mod WaitingFacts
+pub mod BlockFacts
+pub mod GatherFacts

@@ -67,7 +67,7 @@ answer_fault setup kept text fault h = ⊎_elim
     (λ e. answer_due (Err (Mail fault)) (answer_to setup kept text) (ap (answer_by kept text) e))
     (λ e. let same : fault ≡ NoMemory = cc in rw same (answer_no_memory (answer_to setup kept text))) h
 
-some_of : {A : Type 0} (o : Option A) (x : A) → o ≡ Some x → IsSome o
+pub some_of : {A : Type 0} (o : Option A) (x : A) → o ≡ Some x → IsSome o
 some_of o x e = rw e refl
 
 pub kept_from-stored : (setup : Lists) (kept : Kept) (text stored : List ℕ) (message : Message) → read setup text ≡ Ok message → get kept (place_of message) ≡ Some stored → kept ≡ kept_from setup kept (text ∷ [])
@@ -114,28 +114,35 @@ KeepsFacts-later setup old new keeps size testing facts same = record {
   rows = λ r. keeps.rows r ∙ ap (λ (s : FactSet). count_in s r) (sym facts);
 }
 
--- an office with one text more
-pub IsOffice-kept : (setup : Lists) (old new : Content) (text : List ℕ) (message : Message) → IsOffice setup old → read setup text ≡ Ok message → get old.kept (place_of message) ≡ None → IsPlace setup (place_of message) → new ≡ with_text old message.sender message.number text → IsOffice setup new
-IsOffice-kept setup old new text message office e free place put =
-    let kept : new.kept ≡ insert old.kept (place_of message) text = ap (λ (c : Content). c.kept) put in
-    let reports : new.reports ≡ old.reports = ap (λ (c : Content). c.reports) put in
-    let testing : new.testing ≡ old.testing = ap (λ (c : Content). c.testing) put in
-    let is : new.kept ≡ kept_from setup old.kept (text ∷ []) = kept ∙ sym (kept_from-free setup old.kept text message e free) in
-    let within : Within old.kept new.kept = subst (Within old.kept) (sym is) (kept_from-Within setup old.kept (text ∷ [])) in
+-- an office with more mail
+pub IsOffice-later : (setup : Lists) (old new : Content) (texts : List (List ℕ)) → IsOffice setup old → new.kept ≡ kept_from setup old.kept texts → ((p : Place) → IsSome (get new.kept p) → IsPlace setup p)
+    → new.reports ≡ old.reports → new.testing ≡ old.testing → new.facts ≡ old.facts → IsOffice setup new
+IsOffice-later setup old new texts office is places reports testing facts =
+    let within : Within old.kept new.kept = subst (Within old.kept) (sym is) (kept_from-Within setup old.kept texts) in
     let size : length new.reports ≡ length old.reports = ap length reports in
     record {
-      places = λ p h.
-          let some : IsSome (cond (eq_by_cmp place_cmp p (place_of message)) (Some text) (get old.kept p)) =
-          subst IsSome (ap (λ k. get k p) kept ∙ get-insert places_total old.kept (place_of message) text p) h in
-          ⊎_elim (λ t. subst (IsPlace setup) (sym (tied (place_of message) p t)) place) (λ o. office.places p o) (place_after _ text (get old.kept p) some);
-      texts = subst (AreOwnTexts setup) (sym is) (own_texts-kept_from setup old.kept (text ∷ []) office.texts);
+      places = places;
+      texts = subst (AreOwnTexts setup) (sym is) (own_texts-kept_from setup old.kept texts office.texts);
       ready = rw size (IsReady-later setup old.kept new.kept (length old.reports) within office.ready);
       reports = reports ∙ office.reports ∙ sym (reports_to-later setup old.kept new.kept (length old.reports) within office.ready) ∙ ap (reports_to setup new.kept) (sym size);
       testing_is = testing ∙ office.testing_is ∙ sym (ap (λ (o : Outcome). o.testing) (outcome_of-later setup old.kept new.kept (length old.reports) within office.ready)) ∙ ap (testing_after setup new.kept) (sym size);
       watched = subst (λ (t : Testing). AllWatchedWork setup.archs t.rows) (sym testing) office.watched;
-      facts = KeepsFacts-later setup old new office.facts size testing (ap (λ (c : Content). c.facts) put)
-          (covered_items-later setup old.kept new.kept (length old.reports) within office.ready);
+      facts = KeepsFacts-later setup old new office.facts size testing facts (covered_items-later setup old.kept new.kept (length old.reports) within office.ready);
     }
+
+-- with one text put at a place, each place is one that a message may have
+pub places-put : (setup : Lists) (kept : Kept) (p : Place) (text : List ℕ) → ((q : Place) → IsSome (get kept q) → IsPlace setup q) → IsPlace setup p → (q : Place) → IsSome (get (insert kept p text) q) → IsPlace setup q
+places-put setup kept p text places place = λ q h.
+    let some : IsSome (cond (eq_by_cmp place_cmp q p) (Some text) (get kept q)) = subst IsSome (get-insert places_total kept p text q) h in
+    ⊎_elim (λ t. subst (IsPlace setup) (sym (tied p q t)) place) (λ o. places q o) (place_after _ text (get kept q) some)
+
+-- an office with one text more
+pub IsOffice-kept : (setup : Lists) (old new : Content) (text : List ℕ) (message : Message) → IsOffice setup old → read setup text ≡ Ok message → get old.kept (place_of message) ≡ None → IsPlace setup (place_of message) → new ≡ with_text old message.sender message.number text → IsOffice setup new
+IsOffice-kept setup old new text message office e free place put =
+    let kept : new.kept ≡ insert old.kept (place_of message) text = ap (λ (c : Content). c.kept) put in
+    IsOffice-later setup old new (text ∷ []) office (kept ∙ sym (kept_from-free setup old.kept text message e free))
+    (λ p h. places-put setup old.kept (place_of message) text office.places place p (subst IsSome (ap (λ k. get k p) kept) h))
+    (ap (λ (c : Content). c.reports) put) (ap (λ (c : Content). c.testing) put) (ap (λ (c : Content). c.facts) put)
 
 none_watched : (archs : List (List ℕ)) → AllWatchedWork archs []
 none_watched archs = λ arch h. tt

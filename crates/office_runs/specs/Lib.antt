@@ -17,3 +17,5 @@ pub mod Taking
 pub mod Walk
 pub mod Migrated
 pub mod Waiting
+pub mod Blocks
+pub mod BlockSteps

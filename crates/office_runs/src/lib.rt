@@ -2,8 +2,10 @@
 //! (Debian Developer's Reference 5.13) as their mail is there, and replays bags of mail.
 #![tactic(auto)]
 
+mod blocks;
 mod covered;
 mod ending;
+mod gathering;
 pub mod laws;
 mod office;
 mod orders;

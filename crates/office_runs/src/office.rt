@@ -1,7 +1,7 @@
 //! The office: what it takes, finishes and reports.
 #![tactic(auto, using(crate::proofs::LastFacts::lasting))]
 
-ghost use Rattle.std.specs.Prelude.{is_ok, ◌≡◌, ℕ, ◌+◌, ◌≤◌, ◌<◌, ◌∷◌, [], IfOk, OnOk, OnErr, length};
+ghost use Rattle.std.specs.Prelude.{is_ok, ◌≡◌, ℕ, ◌+◌, ◌≤◌, ◌<◌, ◌∷◌, [], None, IfOk, IfSome, OnOk, OnErr, length};
 ghost use Rattle.std.specs.FinMap.{get};
 ghost use Rattle.std.specs.Option.{option_map};
 ghost use Rattle.testing_rules.specs.Watched.{AllWatchedWork};
@@ -10,12 +10,14 @@ ghost use Rattle.office_mail.specs.Runs.{IsReady, IsReadyCount};
 ghost use Rattle.office_keeper.specs.Content.{IsNextNumber};
 ghost use Rattle.office_keeper.specs.Provenance.{AreOwnTexts};
 ghost use Rattle.office_replies.specs.Counted.{Counted, CountedDelivery};
+ghost use Rattle.office_runs.specs.BlockSteps.{AreHeldHere, answers_to};
 ghost use Rattle.office_runs.specs.StaysTrusted.{StaysTrusted};
 ghost use Rattle.office_runs.specs.Outcome.{testing_after, testing_text};
 ghost use Rattle.office_runs.specs.State.{IsSound, KeepsFacts, state_of, answer_to, AnswersDelivery, reports_at};
 ghost use Rattle.office_runs.specs.Waiting.{Awaits, AwaitsSome};
 
 use crate::covered::KnownFacts;
+use crate::gathering::{Reply, keep_texts};
 use crate::posting::deliver;
 use crate::runs::{ready_count, settle};
 use crate::stored;
@@ -136,6 +138,36 @@ impl<K: Keeper> Office<K> {
         ensures counted { CountedDelivery (K.refusals self.old) (K.refusals self.new) result }
     {
         deliver(self.alloc, &self.setup, &mut self.keeper, text)
+    }
+
+    /// How many texts the store keeps best together.
+    pub(crate) fn keeps_together(&self) -> usize {
+        self.keeper.keeps_together()
+    }
+
+    /// Takes texts in order, as `deliver` takes each, and keeps them together: the answer to each text. There is none where
+    /// the store keeps them best one by one. Then nothing changes, and neither does it where memory runs out or the store
+    /// fails.
+    pub(crate) fn deliver_together(
+        &mut self,
+        texts: &[MailText],
+    ) -> Result<Option<Vec<Reply>>, StoreFault>
+        ensures answers { K.is_trusted self.new → IsSound K.Keeper self.old → IfOk result (λ replies. IfSome replies (λ rs. rs.items ≡ answers_to (K.setup self.old) (K.content self.old).kept texts.now)) }
+        ensures kept { K.is_trusted self.new → IsSound K.Keeper self.old → IfOk result (λ replies. IfSome replies (λ rs. (K.content self.new).kept ≡ kept_from (K.setup self.old) (K.content self.old).kept texts.now)) }
+        ensures none { K.is_trusted self.new → IsSound K.Keeper self.old → IfOk result (λ replies. replies ≡ None → K.content self.new ≡ K.content self.old) }
+        ensures err { K.is_trusted self.new → IsSound K.Keeper self.old → OnErr result (K.content self.new ≡ K.content self.old) }
+        ensures finished { K.is_trusted self.new → IsSound K.Keeper self.old → (state_of K.Keeper self.new).finished ≡ (state_of K.Keeper self.old).finished }
+        ensures testing { K.is_trusted self.new → IsSound K.Keeper self.old → (K.content self.new).testing ≡ (K.content self.old).testing }
+        ensures reports { K.is_trusted self.new → IsSound K.Keeper self.old → (K.content self.new).reports ≡ (K.content self.old).reports }
+        ensures each { IfOk result (λ replies. IfSome replies (λ rs. length rs.items ≡ length texts.now)) }
+        ensures places { IfOk result (λ replies. IfSome replies (λ rs. AreHeldHere (K.setup self.old) rs.items)) }
+        ensures setup { K.setup self.new ≡ K.setup self.old }
+        ensures sound { K.is_trusted self.new → IsSound K.Keeper self.old → IsSound K.Keeper self.new }
+        ensures before { K.is_trusted self.new → K.is_trusted self.old }
+        ensures lasts { StaysTrusted K.Keeper self.old self.new (is_ok result) }
+        ensures counted { Counted (K.refusals self.old) (K.refusals self.new) result }
+    {
+        keep_texts(self.alloc, &self.setup, &mut self.keeper, texts)
     }
 
     /// Finishes the runs that are ready, in order. `Ok` means that none is left. It fails for want of

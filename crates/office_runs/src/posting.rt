@@ -16,7 +16,7 @@ use office_replies::{DeliverFault, Held};
 use std::alloc::Global;
 
 /// What is answered where a text is kept already.
-fn compare(held: Held, kept: &MailText, text: &[u8]) -> Result<Held, DeliverFault>
+pub fn compare(held: Held, kept: &MailText, text: &[u8]) -> Result<Held, DeliverFault>
     ensures { result ≡ (if bytes_eq kept.now text.now then Ok held else Err DeliverFault.OtherText) }
 {
     if kept.as_slice() == text {

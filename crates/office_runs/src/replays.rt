@@ -12,6 +12,7 @@ ghost use Rattle.office_runs.specs.Replay.{Replays, ReplaysAll, ReplaysFront, St
 ghost use Rattle.office_runs.specs.State.{state_of};
 ghost use Rattle.office_replies.specs.Replies.{mark_of};
 
+use crate::blocks::deliver_all;
 use crate::ending::{either, write_bag, write_end, write_refusal};
 use crate::office::Office;
 use crate::watching::{Unwatched, Watcher};
@@ -81,8 +82,8 @@ pub(crate) struct Delivered {
     pub(crate) lost: bool,
 }
 
-/// Delivers the messages of a bag in turn, up to its end.
-pub(crate) fn deliver_all<K: Keeper, R: Feed, W: Sink, V: Watcher>(
+/// Delivers the messages of a bag one by one, up to its end.
+pub(crate) fn deliver_each<K: Keeper, R: Feed, W: Sink, V: Watcher>(
     office: &mut Office<K>,
     bag: &mut Bag<R>,
     writer: &mut W,

@@ -12,15 +12,21 @@ use Rattle.office_runs.specs.State.{state_of}
 use Rattle.office_replies.proofs.WrittenFacts.{front_after, front_before}
 use Rattle.office_runs.proofs.CarryFacts.{carries_call, carries_twice, holds_first, holds_next, refused_first, refused_next, state_asked}
 use Rattle.office_runs.proofs.EndFacts.{fill, fill_all, counted-fill}
-use Rattle.office_runs.proofs.CourseFacts.{settled_call, replays_all, replays_front}
+use Rattle.office_runs.proofs.CourseFacts.{settled_call, replays_all, replays_front, replays_last}
 use Rattle.office_runs.proofs.replays.replay_from.Goals as goal
 
 pub returns-in_err-delivered-clause-err : goal.returns-in_err-delivered-clause-err
 returns-in_err-delivered-clause-err g c =
     let p = err_from_is_err_and c.from_residual.result c.from_residual.ensures.1 in
+    let keeper = g.K.Keeper in
+    let s0 = c.args.office.now in
+    let s1 = c.deliver_all.new.office in
+    let written = g.W.Sink.written in
     λ h b.
-    let f = c.in_err-delivered.ensures.front h in
-    rw p.1 (inl (record { delivers = f; ready = f.keeps.ready h.1.1.ready }))
+    rw p.1 (elim (c.in_err-delivered.ensures.front h) [
+      | inl f ↦ inl (record { delivers = f; ready = f.keeps.ready h.1.1.ready })
+      | inr f ↦ inr (replays_last (StoreRefused keeper s0 s1) (state_of keeper s0) (state_of keeper s1) c.args.bag.now c.deliver_all.new.bag (written c.args.writer.now) (written c.deliver_all.new.writer) h.1.1.ready f)
+    ])
 
 pub returns-in_err-write_bag-clause-err : goal.returns-in_err-write_bag-clause-err
 returns-in_err-write_bag-clause-err g c =

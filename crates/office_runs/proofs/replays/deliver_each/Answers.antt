@@ -1,14 +1,12 @@
-use Rattle.std.proofs.Common.{◌≡◌, ℕ, Bool, true, false, ◌||◌, ◌⊎◌, ⊎_elim, Some, None, Result, Ok, Err, IsTrue, sym, ap, subst, ◌∙◌, refl, arith}
+use Rattle.std.proofs.Common.{◌≡◌, Bool, true, false, ◌||◌, Some, None, Ok, sym, ap, subst, ◌∙◌, refl, arith}
 use Rattle.std.proofs.lemmas.Result.{err_from_is_err_and}
-use Rattle.office_mail.specs.declared.bag.BagFault.{BagFault}
-use Rattle.office_mail.specs.declared.bag.BagFault.TheVariants.{ReadFault}
 use Rattle.office_mail.specs.BagSteps.{TakesMessage}
 use Rattle.office_runs.specs.Preserves.{StoreRefused}
 use Rattle.office_runs.specs.State.{state_of}
 use Rattle.office_runs.proofs.CarryFacts.{carries_none, carries_twice, holds_first, holds_next, refused_first, refused_next}
-use Rattle.office_runs.proofs.DeliverFacts.{delivers_none, delivers_more, delivers_front, delivers_all}
-use Rattle.office_runs.proofs.replays.deliver_all.Goals as goal
-use Rattle.office_runs.proofs.replays.deliver_all.Goals.{then-lost, else-lost}
+use Rattle.office_runs.proofs.DeliverFacts.{not_true, unfailed, delivers_none, delivers_more, delivers_front, delivers_all}
+use Rattle.office_runs.proofs.replays.deliver_each.Goals as goal
+use Rattle.office_runs.proofs.replays.deliver_each.Goals.{then-lost, else-lost}
 use Rattle.office_replies.specs.Replies.{is_lost}
 
 lost_before : (a b : Bool) → a ≡ true → a ≡ (a || b)
@@ -18,14 +16,6 @@ lost_before false b e = absurd (cc (e))
 lost_now : (a b : Bool) → a ≡ false → b ≡ (a || b)
 lost_now true b e = absurd (cc (e))
 lost_now false b e = refl
-
-not_true : (b : Bool) → (IsTrue b → ⊥) → b ≡ false
-not_true true h = absurd (h refl)
-not_true false h = refl
-
--- a message came, so no read failed
-unfailed : {A : Type 0} (x : A) (old new : ℕ) → (◌≡◌ {A = Result A BagFault} (Ok x) (Err ReadFault)) ⊎ (new ≡ old) → new ≡ old
-unfailed x old new h = ⊎_elim (λ e. absurd (cc (e))) (λ e. e) h
 
 pub loop-text-init : goal.loop-text-init
 loop-text-init g c =

@@ -1,0 +1,13 @@
+use Rattle.std.proofs.Common.{◌≡◌, length, take}
+use Rattle.office_runs.specs.BlockSteps.{AreHeldHere, ArePlaced, Gathers}
+use Rattle.office_runs.proofs.LookFacts.{Looked}
+use Rattle.office_runs.proofs.gathering.gather_all.Given as goal
+
+abbrev pub invariant-texts : goal.invariant-texts
+invariant-texts g l = record {
+  gathers : g.K.Keeper.is_trusted l.keeper → Gathers l.setup (g.K.Keeper.content l.fn.keeper).kept l.block.letters.items l.block.replies.items (take l.text-index l.texts);
+  each : length l.block.replies.items ≡ l.text-index;
+  placed : ArePlaced l.setup l.block.letters.items;
+  places : AreHeldHere l.setup l.block.replies.items;
+  looks : Looked g.K.Keeper l.fn.keeper l.keeper;
+}
