@@ -45,9 +45,9 @@ def stages_in(file):
 def try_edit(crate, edit, kept, stages):
     """Tries one edit, and returns whether it is refused."""
     before = processor_seconds()
-    refused, said = rt.must_fail(crate, edit, ["--jobs", "1", "--stage-times", stages], kept)
+    verdict, said = rt.must_fail(crate, edit, ["--jobs", "1", "--stage-times", stages], kept)
     print("%6.1f s  %s\n          %s" % (processor_seconds() - before, said, stages_in(stages)), flush=True)
-    return refused
+    return verdict in (rt.REFUSED, rt.AT_LIMIT)
 
 
 def main():
