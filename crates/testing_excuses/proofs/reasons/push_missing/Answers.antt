@@ -1,4 +1,5 @@
 use Rattle.std.proofs.Common.{◌∙◌, sym, ap, ◌++◌, append_assoc, map, filter}
+use Rattle.std.proofs.lemmas.Result.{IfOk-from_err}
 use Rattle.std.specs.List.{range_with_len}
 use Rattle.testing_model.specs.JudgedRows.{lent}
 use Rattle.testing_items.specs.Words.{only_if}
@@ -17,3 +18,6 @@ loop-arch-preserved c =
     ∙ append_assoc old (map (λ k. MissingOn k) (filter p (range_with_len 0 a))) (only_if c.is_missing_on.result (MissingOn a))
     ∙ ap (λ b. old ++ (map (λ k. MissingOn k) (filter p (range_with_len 0 a)) ++ only_if b (MissingOn a))) c.is_missing_on.ensures
     ∙ ap (λ t. old ++ t) (sym (passing-more p (λ k. MissingOn k) a))
+
+pub returns-in_err-push_if : goal.returns-in_err-push_if
+returns-in_err-push_if c = IfOk-from_err c.from_residual.result _ c.from_residual.ensures.0

@@ -1,4 +1,5 @@
 use Rattle.std.proofs.Common.{arith, ◌∙◌, ap, true, false, ◌≡◌, length}
+use Rattle.std.proofs.lemmas.Result.{IfOk-from_err}
 use Rattle.testing_install.proofs.Marking.{length-with_all}
 use Rattle.testing_install.proofs.Sharing.{length-shared}
 use Rattle.testing_install.proofs.Reviving.{reviving_begun, changed, places_in, bounded_by}
@@ -33,3 +34,57 @@ returns-clause-changed c =
     c.look_at.new.marks.current c.look_at.new.falls.waiting.items c.look_at.new.falls.fallen.items c.in_ok-look_at.ensures.step
     c.take_turns.new.marks.current c.take_turns.new.falls.waiting.items c.take_turns.new.falls.fallen.items c.in_ok-take_turns.ensures.step
     c.in_ok-take_turns.ensures.sized c.in_ok-take_turns.ensures.empty
+
+pub returns-in_err-set_all-clause-there : goal.returns-in_err-set_all-clause-there
+returns-in_err-set_all-clause-there c = IfOk-from_err c.from_residual.result _ c.from_residual.ensures.0
+
+pub returns-in_err-set_all-clause-changed : goal.returns-in_err-set_all-clause-changed
+returns-in_err-set_all-clause-changed c = IfOk-from_err c.from_residual.result _ c.from_residual.ensures.0
+
+pub returns-in_err-set_all-2-clause-there : goal.returns-in_err-set_all-2-clause-there
+returns-in_err-set_all-2-clause-there c = IfOk-from_err c.from_residual-in_err-set_all-2.result _ c.from_residual-in_err-set_all-2.ensures.0
+
+pub returns-in_err-set_all-2-clause-changed : goal.returns-in_err-set_all-2-clause-changed
+returns-in_err-set_all-2-clause-changed c = IfOk-from_err c.from_residual-in_err-set_all-2.result _ c.from_residual-in_err-set_all-2.ensures.0
+
+pub returns-in_err-set_all-3-clause-there : goal.returns-in_err-set_all-3-clause-there
+returns-in_err-set_all-3-clause-there c = IfOk-from_err c.from_residual-in_err-set_all-3.result _ c.from_residual-in_err-set_all-3.ensures.0
+
+pub returns-in_err-set_all-3-clause-changed : goal.returns-in_err-set_all-3-clause-changed
+returns-in_err-set_all-3-clause-changed c = IfOk-from_err c.from_residual-in_err-set_all-3.result _ c.from_residual-in_err-set_all-3.ensures.0
+
+pub returns-in_err-set_all-4-clause-there : goal.returns-in_err-set_all-4-clause-there
+returns-in_err-set_all-4-clause-there c = IfOk-from_err c.from_residual-in_err-set_all-4.result _ c.from_residual-in_err-set_all-4.ensures.0
+
+pub returns-in_err-set_all-4-clause-changed : goal.returns-in_err-set_all-4-clause-changed
+returns-in_err-set_all-4-clause-changed c = IfOk-from_err c.from_residual-in_err-set_all-4.result _ c.from_residual-in_err-set_all-4.ensures.0
+
+pub returns-in_err-fresh-clause-there : goal.returns-in_err-fresh-clause-there
+returns-in_err-fresh-clause-there c = IfOk-from_err c.from_residual-in_err-fresh.result _ c.from_residual-in_err-fresh.ensures.0
+
+pub returns-in_err-fresh-clause-changed : goal.returns-in_err-fresh-clause-changed
+returns-in_err-fresh-clause-changed c = IfOk-from_err c.from_residual-in_err-fresh.result _ c.from_residual-in_err-fresh.ensures.0
+
+pub returns-in_err-revive-clause-there : goal.returns-in_err-revive-clause-there
+returns-in_err-revive-clause-there c = IfOk-from_err c.from_residual-in_err-revive.result _ c.from_residual-in_err-revive.ensures.0
+
+pub returns-in_err-revive-clause-changed : goal.returns-in_err-revive-clause-changed
+returns-in_err-revive-clause-changed c = IfOk-from_err c.from_residual-in_err-revive.result _ c.from_residual-in_err-revive.ensures.0
+
+pub returns-in_err-to_vec-clause-there : goal.returns-in_err-to_vec-clause-there
+returns-in_err-to_vec-clause-there c = IfOk-from_err c.from_residual-in_err-to_vec.result _ c.from_residual-in_err-to_vec.ensures.0
+
+pub returns-in_err-to_vec-clause-changed : goal.returns-in_err-to_vec-clause-changed
+returns-in_err-to_vec-clause-changed c = IfOk-from_err c.from_residual-in_err-to_vec.result _ c.from_residual-in_err-to_vec.ensures.0
+
+pub returns-in_err-look_at-clause-there : goal.returns-in_err-look_at-clause-there
+returns-in_err-look_at-clause-there c = IfOk-from_err c.from_residual-in_err-look_at.result _ c.from_residual-in_err-look_at.ensures.0
+
+pub returns-in_err-look_at-clause-changed : goal.returns-in_err-look_at-clause-changed
+returns-in_err-look_at-clause-changed c = IfOk-from_err c.from_residual-in_err-look_at.result _ c.from_residual-in_err-look_at.ensures.0
+
+pub returns-in_err-take_turns-clause-there : goal.returns-in_err-take_turns-clause-there
+returns-in_err-take_turns-clause-there c = IfOk-from_err c.from_residual-in_err-take_turns.result _ c.from_residual-in_err-take_turns.ensures.0
+
+pub returns-in_err-take_turns-clause-changed : goal.returns-in_err-take_turns-clause-changed
+returns-in_err-take_turns-clause-changed c = IfOk-from_err c.from_residual-in_err-take_turns.result _ c.from_residual-in_err-take_turns.ensures.0

@@ -1,5 +1,5 @@
 use Rattle.std.proofs.Common.{refl, arith, rules}
-use Rattle.std.proofs.lemmas.Result.{err_from_is_err_and}
+use Rattle.std.proofs.lemmas.Result.{IfOk-from_err, err_from_is_err_and}
 use Rattle.office_mail.proofs.BagFacts.{body_none, body_more, body_stops, body_without_memory, goes_on_twice, fails_later}
 use Rattle.office_mail.proofs.bag.Bag.body.Goals as goal
 
@@ -47,3 +47,9 @@ loop-i-preserved g c = record {
 
 pub returns-clause-whole : goal.returns-clause-whole
 returns-clause-whole g c = search rules
+
+pub returns-in_err-byte-clause-whole : goal.returns-in_err-byte-clause-whole
+returns-in_err-byte-clause-whole g c = IfOk-from_err c.from_residual.result _ c.from_residual.ensures.0
+
+pub returns-in_err-hand_out-clause-whole : goal.returns-in_err-hand_out-clause-whole
+returns-in_err-hand_out-clause-whole g c = IfOk-from_err c.from_residual-in_err-hand_out.result _ c.from_residual-in_err-hand_out.ensures.0

@@ -1,5 +1,5 @@
 use Rattle.std.proofs.Common.{refl, arith, rules}
-use Rattle.std.proofs.lemmas.Result.{err_from_is_err_and}
+use Rattle.std.proofs.lemmas.Result.{IfOk-from_err, err_from_is_err_and}
 use Rattle.office_mail.specs.Line.{spelled}
 use Rattle.office_mail.proofs.BagFacts.{goes_on_twice, line_more, bad_line, line_ends, line_fails, line_missing, length-spelled}
 use Rattle.office_mail.proofs.bag.Bag.header.Goals as goal
@@ -45,3 +45,9 @@ loop-byte-preserved g c =
       clean = search rules;
       goes_on = goes_on_twice c.args.self.now c.loop-byte.self c.next_byte.new.self c.loop-byte.invariant.goes_on c.next_byte.ensures.goes_on;
     }
+
+pub returns-in_err-byte-clause-line : goal.returns-in_err-byte-clause-line
+returns-in_err-byte-clause-line g c = IfOk-from_err c.from_residual.result _ c.from_residual.ensures.0
+
+pub returns-in_err-byte-clause-room : goal.returns-in_err-byte-clause-room
+returns-in_err-byte-clause-room g c = IfOk-from_err c.from_residual.result _ c.from_residual.ensures.0

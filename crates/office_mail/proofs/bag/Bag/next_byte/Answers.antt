@@ -1,4 +1,5 @@
 use Rattle.std.proofs.Common.{◌+◌, ◌<◌, drop, refl, vec_len, arith}
+use Rattle.std.proofs.lemmas.Result.{IfOk-from_err}
 use Rattle.office_mail.proofs.BagFacts.{waits_before, goes_on_same, goes_on_read, goes_on_byte, room_read, room_less, room_byte, room_byte_less}
 use Rattle.office_mail.proofs.bag.Bag.next_byte.Goals as goal
 use Rattle.office_mail.proofs.bag.Bag.next_byte.Goals.{then-self-len+else-self+else-self-eq-READS+in_ok-refill+else-not-branch, else-self-len}
@@ -37,3 +38,12 @@ returns-clause-room g c = λ some.
           let below : c.self.inside.at < vec_len c.self.inside.pending = omega (arith, c.len.ensures, c.self.invariant.0, w.if-self-len.false) in
           rw (w.self-inside-is, ← c.self.view_is) (room_byte_less _ _ _ below)
     ]
+
+pub returns-in_err-refill-clause-byte : goal.returns-in_err-refill-clause-byte
+returns-in_err-refill-clause-byte g c = IfOk-from_err c.from_residual.result _ c.from_residual.ensures.0
+
+pub returns-in_err-refill-clause-waits : goal.returns-in_err-refill-clause-waits
+returns-in_err-refill-clause-waits g c = IfOk-from_err c.from_residual.result _ c.from_residual.ensures.0
+
+pub returns-in_err-refill-clause-room : goal.returns-in_err-refill-clause-room
+returns-in_err-refill-clause-room g c = IfOk-from_err c.from_residual.result _ c.from_residual.ensures.0
