@@ -1,5 +1,5 @@
 -- The places of the rows that bear a name of a clause.
-use Rattle.std.proofs.Common.{◌≡◌, ℕ, ◌+◌, ◌<◌, ◌≤◌, Bool, true, false, List, [], ◌∷◌, ◌++◌, length, get_or, Some, None, sym, refl, ap, ◌∙◌, subst, inl, inr, arith}
+use Rattle.std.proofs.Common.{◌≡◌, ℕ, ◌+◌, ◌<◌, ◌≤◌, Bool, true, false, List, [], ◌++◌, length, get_or, Some, None, sym, ap, ◌∙◌, subst, arith}
 use Rattle.std.specs.List.{slice_get, All, AllWithin, Contains}
 use Rattle.std.proofs.lemmas.Bool.{false≢true}
 use Rattle.std.proofs.lemmas.Option.{same_Some}
@@ -7,7 +7,7 @@ use Rattle.std.proofs.lemmas.List.Elements.{All-append, Contains-append_left, Co
 use Rattle.deb_control.specs.declared.binary.Binary.{Binary}
 use Rattle.deb_control.specs.declared.relation.Alternative.{Alternative}
 use Rattle.deb_control.specs.declared.relation.Clause.{Clause}
-use Rattle.testing_install.specs.Closed.{IsMet, marked}
+use Rattle.testing_install.specs.Closed.{marked}
 use Rattle.testing_install.specs.Index.{bears}
 use Rattle.testing_install.specs.Satisfies.{satisfies, meets}
 use Rattle.testing_install.proofs.Finding.{any_at, satisfies_bears}

@@ -1,5 +1,5 @@
 -- Steps: no contract of a call that users make rests on this file.
--- How far the search for the rows that bear on one row has come: a row is open as long as it may still be reached.
+-- How far the search for the rows that bear on one row has come. A mark says that a row may still be reached.
 use Rattle.std.specs.Prelude.{◌≡◌, ℕ, ◌+◌, ◌<◌, Bool, true, false, ◌⊎◌, List, length, Some, Contains}
 use Rattle.std.specs.List.{slice_get, All, count_by}
 use Rattle.deb_control.specs.declared.binary.Binary.{Binary}
@@ -13,7 +13,7 @@ pub record IsUnreached (rows : List Binary) (there : ℕ → Bool) (unreached : 
   pub long : length unreached ≡ n
   pub rest : (k : ℕ) → k < n → there k ≡ true → (marked unreached k ≡ true) ⊎ IsInstallableAmong rows there k
 
--- rows that were open are reached instead, and nothing else changes
+-- rows lose their marks and are reached, and no other mark changes
 pub record IsGrown (old new : List Bool) (before after : List ℕ) : Type 0 where
   pub long : length new ≡ length old
   pub shut : (k : ℕ) → marked old k ≡ false → marked new k ≡ false
@@ -22,10 +22,10 @@ pub record IsGrown (old new : List Bool) (before after : List ℕ) : Type 0 wher
   pub within : All (λ k. k < length old) before → All (λ k. k < length old) after
   pub count : length after + count_by (λ b. b) new ≡ length before + count_by (λ b. b) old
 
--- the row at the place isn't open, or doesn't meet the clause
+-- the row at the place has no mark, or doesn't meet the clause
 pub record IsShutAt (rows : List Binary) (clause : Clause) (unreached : List Bool) (place : ℕ) : Type 0 where
   pub each : (row : Binary) → slice_get rows place ≡ Some row → meets row clause ≡ true → marked unreached place ≡ false
 
--- no open row meets the clause
+-- no marked row meets the clause
 pub record IsShutFor (rows : List Binary) (unreached : List Bool) (clause : Clause) : Type 0 where
   pub each : (k : ℕ) (row : Binary) → slice_get rows k ≡ Some row → meets row clause ≡ true → marked unreached k ≡ false

@@ -45,12 +45,7 @@ fn is_met_at(suite: &Suite, left: &[bool], places: &[usize], clause: &Clause) ->
 }
 
 // Some row that is left meets the clause.
-fn is_met(
-    alloc: Global,
-    suite: &Suite,
-    left: &[bool],
-    clause: &Clause,
-) -> Result<bool, NoMemory>
+fn is_met(alloc: Global, suite: &Suite, left: &[bool], clause: &Clause) -> Result<bool, NoMemory>
     requires { length left.now ≡ length suite.now.rows }
     ensures yes { IfOk result (λ met. met ≡ true → IsMet suite.now.rows (marked left.now) clause.now) }
     ensures no { IfOk result (λ met. met ≡ false → IsMet suite.now.rows (marked left.now) clause.now → ⊥) }
@@ -98,7 +93,10 @@ fn sweep(
     for place in places {
         if left[*place] {
             if let Some(need) = unmet(alloc, suite, left, suite.binary(*place))? {
-                steps.push(Step { place: *place, need })?;
+                steps.push(Step {
+                    place: *place,
+                    need,
+                })?;
                 left[*place] = false;
                 took = true;
             }
@@ -128,11 +126,7 @@ fn take_out(
 /// The rows at the places that are refuted by clauses that only rows at these places could meet, in the order in which
 /// they are: where the places reach all that bears on them, each row at them that is there and isn't installable. The one
 /// error is want of memory.
-pub fn order_over(
-    alloc: Global,
-    suite: &Suite,
-    places: &[usize],
-) -> Result<Vec<Step>, NoMemory>
+pub fn order_over(alloc: Global, suite: &Suite, places: &[usize]) -> Result<Vec<Step>, NoMemory>
     requires { All (λ k. k < length suite.now.rows) places.now }
     ensures groundless { IfOk result (λ steps. IsGroundless suite.now.rows (marked suite.now.there) steps.items) }
     ensures complete { IfOk result (λ steps. IsReaching suite.now.rows (marked suite.now.there) places.now

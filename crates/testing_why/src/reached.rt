@@ -13,7 +13,7 @@ use deb_version::NoMemory;
 use std::alloc::Global;
 use testing_install::{Suite, meets};
 
-// For each row, whether it is there and isn't installable.
+// For each row, whether it may be reached: it is there and isn't installable.
 fn unreached_rows(alloc: Global, suite: &Suite) -> Result<Vec<bool>, NoMemory>
     ensures { IfOk result (λ unreached. IsUnreached suite.now.rows (marked suite.now.there) unreached.items (length suite.now.rows)) }
 {
@@ -24,7 +24,7 @@ fn unreached_rows(alloc: Global, suite: &Suite) -> Result<Vec<bool>, NoMemory>
     Ok(unreached)
 }
 
-// Reaches those of the rows at the places that are open and meet the clause. They aren't open any more.
+// Reaches those of the rows at the places that meet the clause and may still be reached.
 fn reach_among(
     suite: &Suite,
     clause: &Clause,
@@ -46,7 +46,7 @@ fn reach_among(
     Ok(())
 }
 
-// Reaches the open rows that meet the clause.
+// Reaches the rows that meet the clause and may still be reached.
 fn reach_by(
     alloc: Global,
     suite: &Suite,
@@ -63,7 +63,7 @@ fn reach_by(
     Ok(())
 }
 
-// Reaches the open rows that meet a clause of the package.
+// Reaches the rows that meet a clause of the package and may still be reached.
 fn reach_from(
     alloc: Global,
     suite: &Suite,
@@ -95,7 +95,13 @@ pub fn reached_from(alloc: Global, suite: &Suite, place: usize) -> Result<Vec<us
     unreached[place] = false;
     let mut next = 0;
     'turns: while next < reached.len() {
-        reach_from(alloc, suite, suite.binary(reached[next]), &mut unreached, &mut reached)?;
+        reach_from(
+            alloc,
+            suite,
+            suite.binary(reached[next]),
+            &mut unreached,
+            &mut reached,
+        )?;
         next += 1;
     }
     Ok(reached)

@@ -1,7 +1,5 @@
-use Rattle.std.proofs.Common.{refl, sym, ◌∙◌, arith}
-use Rattle.std.proofs.lemmas.List.{get_or_default}
-use Rattle.testing_install.proofs.Places.{read_more}
-use Rattle.testing_why.proofs.Naming.{IsNoBearer, no_bearer, no_bearer_out, no_bearers}
+use Rattle.std.proofs.Common.{arith}
+use Rattle.testing_why.proofs.Naming.{no_bearers}
 use Rattle.testing_why.proofs.order.is_met_at.Goals as goal
 
 pub returns-clause-no : goal.returns-clause-no

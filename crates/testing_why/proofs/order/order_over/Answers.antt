@@ -1,4 +1,4 @@
-use Rattle.std.proofs.Common.{◌≡◌, sym, ◌∙◌, ap, length}
+use Rattle.std.proofs.Common.{sym, ◌∙◌, ap, length}
 use Rattle.testing_install.specs.Closed.{marked}
 use Rattle.testing_why.proofs.Finding.{all_refuted}
 use Rattle.testing_why.proofs.Reading.{are_steps}
