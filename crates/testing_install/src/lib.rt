@@ -25,6 +25,7 @@ mod work;
 pub use counted::{Counted, installable, installable_counted};
 use deb_control::Binary;
 pub use index::{NameIndex, hash_of};
+pub use satisfies::meets;
 pub use suite::Suite;
 
 /// A row of testing: a binary package on an architecture.

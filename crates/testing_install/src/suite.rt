@@ -1,7 +1,9 @@
-ghost use Rattle.std.specs.Prelude.{◌≡◌, ℕ, ◌<◌, ◌↔◌, Bool, true, false, List, [], ◌++◌, length, replicate, IfOk, OnOk, OnErr, Contains};
-ghost use Rattle.std.specs.List.{All};
+ghost use Rattle.std.specs.Prelude.{◌≡◌, ℕ, ◌<◌, ◌↔◌, Bool, true, false, List, [], ◌++◌, length, replicate, Some, IfOk, OnOk, OnErr, Contains};
+ghost use Rattle.std.specs.List.{All, slice_get};
+ghost use Rattle.deb_control.specs.declared.binary.Binary.{Binary as TheBinary};
 ghost use Rattle.testing_install.specs.Among.{IsInstallableAmong, IsLost, after_change};
 ghost use Rattle.testing_install.specs.Closed.{marked};
+ghost use Rattle.testing_install.specs.Index.{bears};
 ghost use Rattle.testing_install.specs.Rows.{shared};
 
 use crate::change::{change, lost_by};
@@ -75,6 +77,31 @@ impl Suite {
         ensures { result ≡ length self.now.rows }
     {
         self.graph.rows.len()
+    }
+
+    /// The package of the row at the place.
+    pub fn binary(&self, place: usize) -> &Binary
+        requires { place < length self.now.rows }
+        ensures { slice_get self.now.rows place ≡ Some result.now }
+    {
+        self.graph.rows[place].as_ref()
+    }
+
+    /// The places of the rows that bear the name, whether they are there or not. Places of other rows may stand among
+    /// them.
+    pub fn bearers(&self, name: &str) -> &[usize]
+        ensures within { All (λ k. k < length self.now.rows) result.now }
+        ensures complete { (k : ℕ) (row : TheBinary) → slice_get self.now.rows k ≡ Some row → bears row name.now ≡ true → Contains result.now k }
+    {
+        self.graph.bearers.places(name)
+    }
+
+    /// Which rows are there, by their places.
+    pub fn there(&self) -> &[bool]
+        ensures is { result.now ≡ self.now.there }
+        ensures long { length result.now ≡ length self.now.rows }
+    {
+        self.there.current()
     }
 
     /// Whether the row at the place is there.

@@ -1,0 +1,9 @@
+pub mod Taking
+pub mod Finding
+pub mod Following
+pub mod Rounds
+pub mod Reading
+pub mod Picking
+pub mod Naming
+pub mod Reaching
+pub mod Showing

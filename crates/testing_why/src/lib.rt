@@ -1,0 +1,25 @@
+//! Why a row of a suite isn't installable.
+//!
+//! A groundless list names rows that are there, each beside one of its clauses, and every row that is there and meets
+//! the clause stands earlier in the list. So no row of it is installable: nothing meets the first clause, and only rows
+//! that are refuted already meet a later one. One checks it line by line, and needs to know nothing else.
+#![tactic(auto)]
+
+mod chain;
+pub mod laws;
+mod needed;
+mod order;
+mod reached;
+mod shown;
+
+pub use chain::{chain_from, clause_of, row_of};
+pub use needed::certificate_of;
+pub use order::order_over;
+pub use shown::certificate;
+
+/// A row, by its place, and one of its clauses, by its number.
+#[derive(Clone, Copy, Debug, PartialEq, Eq)]
+pub struct Step {
+    pub place: usize,
+    pub need: usize,
+}
