@@ -28,7 +28,7 @@ pub record Falls (rows : List Binary) (there : ℕ → Bool) (steps : List Step)
   pub here : there step.place ≡ true
   pub unmet : (k : ℕ) (other : Binary) → slice_get rows k ≡ Some other → there k ≡ true → meets other is.clause ≡ true → IsNamed steps n k
 
--- each row of the list is there, and has a clause such that each row that is there and meets it stands earlier in the list
+-- each row of the list is there, and has a clause such that each row that is there and meets it stands earlier in it
 pub record IsGroundless (rows : List Binary) (there : ℕ → Bool) (steps : List Step) : Type 0 where
   pub each : (n : ℕ) (step : Step) → slice_get steps n ≡ Some step → Falls rows there steps n step
 

@@ -56,8 +56,8 @@ fn next_of(suite: &Suite, order: &[Step], last: usize) -> Option<usize>
 }
 
 /// The rest of the chain that begins at a step of an order: each next row is there and meets the clause before it, and
-/// nothing that is there meets the last clause. Each is the first such row, so the chain is short. The one error is want of
-/// memory.
+/// nothing that is there meets the last clause. Each is the first such row, so the chain is short. The one error is want
+/// of memory.
 pub fn chain_from(
     alloc: Global,
     suite: &Suite,

@@ -123,9 +123,9 @@ fn take_out(
     Ok(())
 }
 
-/// The rows at the places that are refuted by clauses that only rows at these places could meet, in the order in which
-/// they are: where the places reach all that bears on them, each row at them that is there and isn't installable. The one
-/// error is want of memory.
+/// A groundless list of rows at the places. A row is taken out, one after the other, if it has a clause that no row meets
+/// which is left. If each row that bears on them stands at one of the places or is installable, the list has each row at
+/// them that is there and isn't installable. The one error is want of memory.
 pub fn order_over(alloc: Global, suite: &Suite, places: &[usize]) -> Result<Vec<Step>, NoMemory>
     requires { All (λ k. k < length suite.now.rows) places.now }
     ensures groundless { IfOk result (λ steps. IsGroundless suite.now.rows (marked suite.now.there) steps.items) }

@@ -81,7 +81,7 @@ fn reach_from(
     Ok(())
 }
 
-/// The place, and those of all rows that clauses reach from its row: rows that are there, aren't installable, and meet a
+/// The place, and those of all rows that clauses reach from its row. These are there, aren't installable, and meet a
 /// clause of a row that was reached. The one error is want of memory.
 pub fn reached_from(alloc: Global, suite: &Suite, place: usize) -> Result<Vec<usize>, NoMemory>
     requires { place < length suite.now.rows }
