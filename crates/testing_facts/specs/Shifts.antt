@@ -1,5 +1,5 @@
 -- Which rows leave the facts, and which come, with one more message. That facts are kept as rows is this office's own.
-use Rattle.std.specs.Prelude.{◌≡◌, ◌+◌, not, List, ◌∷◌, ◌++◌, map, filter, option_to_list}
+use Rattle.std.specs.Prelude.{◌≡◌, ◌+◌, not, List, [], ◌∷◌, ◌++◌, map, filter, option_to_list}
 use Rattle.std.specs.Ordering.{nat_cmp}
 use Rattle.testing_entries.specs.declared.entry.Entry.{Entry}
 use Rattle.testing_entries.specs.declared.entry.Entry.TheVariants.{Upload, Dropped, Build, Bug, Hint, Unhint, Delays, Nothing}
