@@ -14,7 +14,7 @@ use Rattle.std.proofs.lemmas.List.Sorted.{sorted_far, ranks_by}
 use Rattle.std.proofs.lemmas.List.Sums.{sum_by_push, sum_by_more}
 use Rattle.testing_model.specs.declared.fact_row.FactRow.{FactRow}
 use Rattle.testing_model.specs.FactRows.{is_row, times, row_order}
-use Rattle.testing_entries.specs.declared.changes.Side.TheVariants.{Came, Left}
+use Rattle.testing_entries.specs.declared.row_changes.Side.TheVariants.{Came, Left}
 use Rattle.testing_entries.specs.Net.{IsBelowFrom, IsNet, IsTurn}
 use Rattle.testing_model.specs.FactDifference.{IsDifference}
 

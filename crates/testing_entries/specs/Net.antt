@@ -3,8 +3,8 @@
 use Rattle.std.specs.Prelude.{◌≡◌, ℕ, ◌+◌, ◌<◌, ◌≤◌, ◌⊎◌, true, List, length, take, slice_index_or}
 use Rattle.std.specs.Ordering.{is_lt}
 use Rattle.testing_model.specs.declared.fact_row.FactRow.{FactRow}
-use Rattle.testing_entries.specs.declared.changes.Side.{Side}
-use Rattle.testing_entries.specs.declared.changes.Side.TheVariants.{Came, Left, Both}
+use Rattle.testing_entries.specs.declared.row_changes.Side.{Side}
+use Rattle.testing_entries.specs.declared.row_changes.Side.TheVariants.{Came, Left, Both}
 use Rattle.testing_model.specs.FactRows.{times, row_order}
 
 -- the rows from a place on are above this one

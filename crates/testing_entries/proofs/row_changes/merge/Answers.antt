@@ -1,6 +1,6 @@
 use Rattle.std.proofs.Common.{arith}
 use Rattle.testing_entries.proofs.Netting.{no_net, came_turn, left_turn, both_net, net_done}
-use Rattle.testing_entries.proofs.changes.merge.Goals as goal
+use Rattle.testing_entries.proofs.row_changes.merge.Goals as goal
 
 pub turns-init : goal.turns-init
 turns-init c = rw (c.requires.put, c.requires.gone) (no_net c.args.came.now c.args.left.now)

@@ -1,7 +1,7 @@
 use Rattle.std.proofs.Common.{◌∙◌, ap}
 use Rattle.testing_entries.proofs.Netting.{net_between}
 use Rattle.testing_model.specs.FactRows.{times}
-use Rattle.testing_entries.proofs.changes.net.Goals as goal
+use Rattle.testing_entries.proofs.row_changes.net.Goals as goal
 
 pub returns : goal.returns
 returns c =

@@ -1,6 +1,6 @@
 use Rattle.std.proofs.Common.{length, ◌-◌, ◌+◌}
 use Rattle.testing_entries.specs.Net.{IsNet}
-use Rattle.testing_entries.proofs.changes.merge.Given as goal
+use Rattle.testing_entries.proofs.row_changes.merge.Given as goal
 
 abbrev pub invariant-turns : goal.invariant-turns
 invariant-turns l = IsNet l.came l.left l.put.items l.gone.items l.i l.j
