@@ -8,8 +8,8 @@ use Rattle.testing_model.specs.Covered.{Covered, uploads_in, builds_in, drops_in
 use Rattle.testing_model.specs.Unstable.{is_above_drops}
 use Rattle.testing_items.specs.declared.item.Item.{Item}
 use Rattle.testing_items.specs.declared.item.Item.TheVariants as item
-use Rattle.testing_facts.specs.declared.entry.Entry.{Entry}
-use Rattle.testing_facts.specs.declared.entry.Entry.TheVariants as entry
+use Rattle.testing_entries.specs.declared.entry.Entry.{Entry}
+use Rattle.testing_entries.specs.declared.entry.Entry.TheVariants as entry
 use Rattle.testing_model.specs.declared.facts.UploadIn.{UploadIn}
 use Rattle.testing_model.specs.declared.facts.BuildIn.{BuildIn}
 use Rattle.testing_model.specs.declared.facts.DropIn.{DropIn}
@@ -23,8 +23,8 @@ use Rattle.testing_model.proofs.MoreMail.{sources-more, drops-more, bugs-more, r
 use Rattle.testing_model.proofs.GreatestDrops.{greatest-decide}
 use Rattle.testing_model.proofs.Sets.{first_or_rest, at_front}
 use Rattle.testing_items.proofs.Members.{tail_of}
-use Rattle.testing_facts.specs.Uploads.{with_kept}
-use Rattle.testing_facts.proofs.KeptUploads.{kept_from, kept_own, kept_others}
+use Rattle.testing_order.specs.Uploads.{with_kept}
+use Rattle.testing_lists.proofs.KeptUploads.{kept_from, kept_own, kept_others}
 
 -- builds that stand by two tests alike
 builds-same : (p q : BuildIn → Bool) → ((b : BuildIn) → p b ≡ q b) → (bs rows : List BuildIn) → with_builds p bs rows ≡ with_builds q bs rows

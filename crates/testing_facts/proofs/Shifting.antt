@@ -7,8 +7,8 @@ use Rattle.std.specs.declared.cmp.Ordering.TheVariants.{Less, Equal, Greater}
 use Rattle.std.specs.Ordering.{nat_cmp, is_lt}
 use Rattle.std.proofs.lemmas.List.{append_assoc, append-nil}
 use Rattle.std.proofs.lemmas.List.Sums.{sum_by-cons, sum_by-append}
-use Rattle.testing_facts.specs.declared.entry.Entry.{Entry}
-use Rattle.testing_facts.specs.declared.entry.Entry.TheVariants as entry
+use Rattle.testing_entries.specs.declared.entry.Entry.{Entry}
+use Rattle.testing_entries.specs.declared.entry.Entry.TheVariants as entry
 use Rattle.testing_model.specs.declared.facts.BuildIn.{BuildIn}
 use Rattle.testing_model.specs.declared.facts.DropIn.{DropIn}
 use Rattle.testing_model.specs.FactLists.{FactLists}
@@ -20,8 +20,8 @@ use Rattle.testing_model.specs.FactDifference.{IsChangedFrom}
 use Rattle.testing_model.specs.declared.fact_row.FactRow.{FactRow}
 use Rattle.testing_model.specs.FactRows.{source_row, upload_row, build_row, drop_row, bug_row, hint_row, unhint_row, delays_row, rows_of, is_row, times}
 use Rattle.testing_facts.specs.Shifts.{way_given, come_in, put_over, Shift, shift_build, shift_builds, shift_of, Shifts}
-use Rattle.testing_facts.specs.Uploads.{message_order, first_stays}
-use Rattle.testing_facts.proofs.KeptUploads.{none_gives_way}
+use Rattle.testing_order.specs.Uploads.{message_order, first_stays}
+use Rattle.testing_lists.proofs.KeptUploads.{none_gives_way}
 
 -- sums over an element that is put by key
 module _ {A K : Type 0} (f : A → ℕ) (key : A → K) (cmp : K → K → Ordering) where

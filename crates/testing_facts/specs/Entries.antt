@@ -1,26 +1,12 @@
 -- What one message gives to the facts.
 use Rattle.std.specs.Prelude.{◌++◌}
-use Rattle.testing_items.specs.declared.item.Item.TheVariants as item
 use Rattle.testing_facts.specs.Shifts.{Shift, shift_of}
-use Rattle.testing_facts.specs.Uploads.{with_kept}
-use Rattle.testing_facts.specs.declared.entry.Entry.{Entry}
-use Rattle.testing_facts.specs.declared.entry.Entry.TheVariants.{Upload, Dropped, Build, Bug, Hint, Unhint, Delays, Nothing}
-use Rattle.testing_model.specs.Covered.{CoveredItem, placed_from}
+use Rattle.testing_order.specs.Uploads.{with_kept}
+use Rattle.testing_entries.specs.declared.entry.Entry.{Entry}
+use Rattle.testing_entries.specs.declared.entry.Entry.TheVariants.{Upload, Dropped, Build, Bug, Hint, Unhint, Delays, Nothing}
+pub use Rattle.testing_entries.specs.Entries.{entry_of}
 use Rattle.testing_model.specs.FactLists.{FactLists}
 use Rattle.testing_model.specs.WithMessage.{with_upload, with_builds, with_drop, with_greatest, with_bug, with_hint, with_unhint, with_delays, stands_beside}
-
--- the message as the facts keep it
-abbrev pub entry_of : CoveredItem → Entry
-entry_of m = elim m.item [
-  | item.Upload source version urgency day ↦ Upload (record { source = source; version = version; urgency = urgency; day = day; sender = m.sender; number = m.number })
-  | item.Dropped name arch version ↦ Dropped (record { name = name; arch = arch; version = version; sender = m.sender; number = m.number })
-  | item.Build binaries ↦ Build (placed_from 1 m.sender m.number binaries)
-  | item.Bug bug source severity found fixed ↦ Bug (record { bug = bug; source = source; severity = severity; found = found; fixed = fixed; sender = m.sender; number = m.number })
-  | item.Hint hint ↦ Hint (record { hint = hint; sender = m.sender; number = m.number })
-  | item.Unhint cancels ↦ Unhint (record { cancels = cancels; sender = m.sender; number = m.number })
-  | item.Delays low medium high critical ↦ Delays (record { delays = record { low = low; medium = medium; high = high; critical = critical }; sender = m.sender; number = m.number })
-  | item.Nothing ↦ Nothing
-]
 
 -- the lists with one more message
 abbrev pub lists_with : Entry → FactLists → FactLists

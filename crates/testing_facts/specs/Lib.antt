@@ -1,9 +1,7 @@
-pub mod Blocks
 pub mod Entries
-pub mod Shifts
-pub mod Net
 pub mod Restored
-pub mod Slots
-pub mod SourceFilter
-pub mod Trimming
-pub mod Uploads
+pub mod Shifts
+pub use Rattle.testing_lists.specs.Blocks
+pub use Rattle.testing_lists.specs.SourceFilter
+pub use Rattle.testing_order.specs.Trimming
+pub use Rattle.testing_order.specs.Uploads

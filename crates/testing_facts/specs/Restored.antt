@@ -1,6 +1,6 @@
 -- Facts put back, row by row, each with the item of the message that it names. That facts are kept as rows is this office's own.
 use Rattle.std.specs.Prelude.{ℕ, ◌==◌, ◌&&◌, if◌then◌else◌, List, find, Option, Some, None}
-use Rattle.deb_control.specs.declared.binary.Binary.{Binary}
+pub use Rattle.testing_entries.specs.Entries.{placed_at}
 use Rattle.testing_items.specs.declared.item.Item.{Item}
 use Rattle.testing_model.specs.declared.facts.BuildIn.{BuildIn}
 use Rattle.testing_model.specs.declared.facts.DelaysIn.{DelaysIn}
@@ -8,7 +8,7 @@ use Rattle.testing_model.specs.FactLists.{FactLists}
 use Rattle.testing_model.specs.Covered.{CoveredItem, upload_of, drop_of, bug_of, hint_of, unhint_of, delays_of, builds_of}
 use Rattle.testing_model.specs.WithMessage.{with_upload, with_build, with_greatest, with_bug, with_hint, with_unhint, with_delays}
 use Rattle.testing_model.specs.declared.fact_row.FactRow.{FactRow}
-use Rattle.testing_facts.specs.Uploads.{with_kept}
+use Rattle.testing_order.specs.Uploads.{with_kept}
 
 -- a message by its parts
 abbrev pub said : ℕ → ℕ → Item → CoveredItem
@@ -29,10 +29,6 @@ given_of kind says x = if (x.0.kind == kind) && (x.0.place == 0) then says (mess
 -- what a row of a build gives: the binary of its paragraph
 abbrev pub build_given : Given → Option BuildIn
 build_given x = if x.0.kind == 3 then find (λ b. b.place == x.0.place) (builds_of (message_of x)) else None
-
--- the build of a binary
-abbrev pub placed_at : ℕ → ℕ → Binary → ℕ → BuildIn
-placed_at sender number b place = record { binary = b; sender = sender; number = number; place = place }
 
 -- put in, where there is something
 abbrev pub put_given : {A : Type 0} → (A → List A → List A) → Option A → List A → List A

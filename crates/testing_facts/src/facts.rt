@@ -5,9 +5,9 @@ ghost use Rattle.testing_model.specs.Boxed.{unboxed};
 ghost use Rattle.testing_model.specs.Covered.{Covered, CoveredItem, upload_of, drop_of, bug_of, hint_of, unhint_of, delays_of, builds_of};
 ghost use Rattle.testing_facts.specs.Entries.{with_entry, noted};
 ghost use Rattle.testing_facts.specs.Restored.{said, put_given, last_given, restored};
-ghost use Rattle.testing_facts.specs.Shifts.{shift_builds};
-ghost use Rattle.testing_facts.specs.Uploads.{AreByMessage, with_kept};
-ghost use Rattle.testing_facts.specs.declared.entry.Entry.TheVariants.{Upload, Dropped, Bug, Hint as AHint, Unhint, Delays};
+ghost use Rattle.testing_lists.specs.Shifts.{shift_builds};
+ghost use Rattle.testing_order.specs.Uploads.{AreByMessage, with_kept};
+ghost use Rattle.testing_entries.specs.declared.entry.Entry.TheVariants.{Upload, Dropped, Bug, Hint as AHint, Unhint, Delays};
 ghost use Rattle.testing_model.specs.FactDifference.{IsChangedFrom, IsDifference};
 ghost use Rattle.testing_model.specs.KeptFacts.{trimmed};
 ghost use Rattle.testing_model.specs.declared.fact_row.FactRow.{FactRow as ARow};
@@ -20,24 +20,22 @@ ghost use Rattle.testing_model.specs.Tells.{Tells};
 ghost use Rattle.testing_model.specs.WithMessage.{with_upload, with_build, with_builds, with_greatest, with_bug, with_hint, with_unhint, stands_beside};
 ghost use Rattle.testing_model.specs.declared.facts.UploadIn.{UploadIn as AnUpload};
 
-use crate::build_blocks::BuildBlocks;
-use crate::changes::changes;
-use crate::entry::{Entry, Sent, entry_of};
-use crate::log::{Log, Shifted};
-use crate::restoring::{
-    said_bug, said_build, said_delays, said_drop, said_hint, said_unhint, said_upload,
-};
-use crate::rows::{hint_row, unhint_row};
-use crate::shifts::{bug_shift, drop_shift, hint_left, last_row, source_shift, unhint_left};
-use crate::taken::{later_delays, put_bug, put_drop, put_hint, put_kept, put_unhint, put_upload};
-use crate::trimming::trim_uploads;
 use deb_version::NoMemory;
 use std::alloc::Global;
 use std::marker::Model;
+use testing_entries::{
+    Entry, Sent, changes, entry_of, said_bug, said_build, said_delays, said_drop, said_hint,
+    said_unhint, said_upload,
+};
 use testing_items::{Hint, Item};
+use testing_lists::{
+    BuildBlocks, bug_shift, drop_shift, hint_left, last_row, put_bug, put_drop, put_hint, put_kept,
+    put_unhint, put_upload, source_shift, unhint_left,
+};
 use testing_model::{
     BugIn, BuildIn, DelaysIn, DropIn, FactChanges, FactRow, HasSources, HintIn, UnhintIn, UploadIn,
 };
+use testing_order::{Log, Shifted, hint_row, later_delays, trim_uploads, unhint_row};
 
 /// The facts of a set of messages.
 #[derive(Drop)]
@@ -55,7 +53,7 @@ pub struct Facts {
 }
 
 impl Model for Facts {
-    ghost use Rattle.testing_facts.specs.Uploads.{AreByMessage};
+    ghost use Rattle.testing_order.specs.Uploads.{AreByMessage};
     ghost use Rattle.testing_model.specs.Boxed.{unboxed};
     ghost use Rattle.testing_model.specs.FactLists.{FactLists};
     ghost use Rattle.testing_model.specs.FactOrder.{IsFactOrder};

@@ -1,6 +1,6 @@
 -- Which rows came and which left since the facts were kept, and what is made of them. That facts are kept as rows is this office's own.
 use Rattle.std.specs.Prelude.{◌≡◌, ℕ, ◌+◌, ◌<◌, ◌≤◌, List}
-use Rattle.testing_facts.specs.declared.entry.Entry.{Entry}
+use Rattle.testing_entries.specs.declared.entry.Entry.{Entry}
 use Rattle.testing_facts.specs.Entries.{with_entry}
 use Rattle.testing_facts.specs.Shifts.{Shifts, shift_of}
 use Rattle.testing_model.specs.declared.fact_row.FactRow.{FactRow}

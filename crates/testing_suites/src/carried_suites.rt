@@ -1,33 +1,28 @@
 //! The rows of a pool, which of them stand in testing, and the suite of each architecture: what of a run's suites is of no
 //! one run.
 
-ghost use Rattle.std.specs.Prelude.{◌≡◌, ℕ, ◌++◌, ◌-◌, ◌^◌, ◌<◌, ◌≤◌, true, false, Bool, length, take, replicate, filter, [], IfOk, option_copied, Some, List, Option};
-ghost use Rattle.std.specs.List.{All, slice_get, range_with_len};
+ghost use Rattle.std.specs.Prelude.{◌≡◌, ℕ, ◌++◌, ◌-◌, ◌^◌, ◌<◌, ◌≤◌, true, false, Bool, length, take, replicate, filter, [], IfOk, List, Option};
+ghost use Rattle.std.specs.List.{All, range_with_len};
 ghost use Rattle.testing_install.specs.Among.{with_all, after_change};
 ghost use Rattle.testing_install.specs.Closed.{marked};
-ghost use Rattle.testing_suites.specs.AfterMoves.{with_rows, rows_at};
-ghost use Rattle.testing_suites.specs.Changes.{has};
+ghost use Rattle.testing_pool.specs.AfterMoves.{with_rows, rows_at};
+ghost use Rattle.testing_pool.specs.Changes.{has};
 ghost use Rattle.testing_model.specs.InOrder.{AreByKey};
 ghost use Rattle.testing_model.specs.JudgedRows.{lent};
-ghost use Rattle.testing_suites.specs.ArchRows.{ArchRows};
 ghost use Rattle.testing_model.specs.SameMessages.{SameElements};
-ghost use Rattle.testing_suites.specs.Present.{IsShown};
-ghost use Rattle.testing_suites.specs.PresentSteps.{IsOn, IsSuiteOn, AreOver, AreSuites, set_places};
-ghost use Rattle.testing_suites.specs.Tried.{first_told, Tells, IsWithin};
-ghost use Rattle.testing_suites.specs.Trials.{IsFirstLost};
+ghost use Rattle.testing_pool.specs.Present.{IsShown};
+ghost use Rattle.testing_pool.specs.PresentSteps.{AreOver, AreSuites, set_places};
+ghost use Rattle.testing_pool.specs.Tried.{first_told, Tells, IsWithin};
 ghost use Rattle.testing_items.specs.Words.{Text as Word};
 ghost use Rattle.testing_model.specs.declared.suite.RowIn.{RowIn as ARow};
 
-use crate::arch_suite::ArchSuite;
-use crate::change::Change;
 use crate::lent_rows::{are_by_key, lend_rows, rows_at, rows_in_order};
-use crate::pool::Pool;
-use crate::trial::first_lost;
-use deb_control::Text;
 use deb_version::NoMemory;
 use std::alloc::Global;
 use std::marker::Model;
 use testing_model::{LentRow, Offender, RowIn};
+use testing_pool::{ArchSuite, Change, Pool};
+use testing_trials::lost_anywhere;
 
 /// Sets the flags at the places.
 fn set_flags(flags: &mut Vec<bool>, places: &[usize], flag: bool)
@@ -125,48 +120,6 @@ fn extended(
     Ok(extended)
 }
 
-/// The name of the first watched row, in byte order, that the architecture would lose by the change.
-fn lost_on<'a>(
-    alloc: Global,
-    arch: u32,
-    pool: &'a Pool,
-    suites: &mut Vec<ArchSuite>,
-    change: &Change,
-) -> Result<Option<&'a str>, NoMemory>
-    requires arch { arch < length suites.old.items }
-    requires over { AreOver pool.now suites.old.items }
-    ensures same { suites.new.items ≡ suites.old.items }
-    ensures first { IfOk result (λ name. (suite : ArchRows) → slice_get suites.old.items arch ≡ Some suite
-        → (stands there : List Bool) → IsSuiteOn arch pool.now stands suite → length there ≡ length pool.now → IsOn arch pool.now (marked stands) (marked there)
-        → IsFirstLost arch pool.now there change.now.leaving.items change.now.coming.items (option_copied name)) }
-{
-    let suite = &mut suites[arch as usize];
-    first_lost(alloc, arch, pool, suite, change)
-}
-
-/// The first row that the change would lose, by architecture in listed order and then by name.
-fn lost_anywhere(
-    alloc: Global,
-    archs: u32,
-    pool: &Pool,
-    suites: &mut Vec<ArchSuite>,
-    change: &Change,
-) -> Result<Option<Offender>, NoMemory>
-    requires archs { archs ≡ length suites.old.items }
-    requires over { AreOver pool.now suites.old.items }
-    ensures same { suites.new.items ≡ suites.old.items }
-    ensures first { IfOk result (λ o. (stands : List Bool) (tells : ℕ → Option Word) → AreSuites pool.now stands suites.old.items
-        → Tells pool.now stands change.now.leaving.items change.now.coming.items tells → o ≡ first_told archs tells) }
-{
-    for arch in 0..archs {
-        if let Some(name) = lost_on(alloc, arch, pool, suites, change)? {
-            let package = Text::from_str(alloc, name)?;
-            return Ok(Some(Offender { arch, package }));
-        }
-    }
-    Ok(None)
-}
-
 /// The suites once the change is made on each architecture.
 fn changed(
     alloc: Global,
@@ -198,8 +151,8 @@ pub struct CarriedSuites {
 }
 
 impl Model for CarriedSuites {
-    ghost use Rattle.testing_suites.specs.Present.{CarriedState};
-    ghost use Rattle.testing_suites.specs.PresentSteps.{IsCarriedState};
+    ghost use Rattle.testing_pool.specs.Present.{CarriedState};
+    ghost use Rattle.testing_pool.specs.PresentSteps.{IsCarriedState};
 
     ghost Value = { CarriedState };
 

@@ -15,6 +15,7 @@ use std::cmp::Ordering;
 use std::marker::Model;
 use std::rc::Rc;
 use testing_model::{HasSources, RowIn, SourceIn};
+use testing_pool::order_rows;
 
 /// The sources by name, and the rows by architecture and name.
 #[derive(Drop)]
@@ -73,14 +74,6 @@ fn place_of_source(sources: &[SourceIn], source: &SourceIn) -> Result<usize, usi
     ensures { IsPlaceFor sources.now source.now (moves.put_source source.now sources.now) result }
 {
     place_of_name(sources, source.name.as_str())
-}
-
-/// The order of rows, by architecture and name.
-pub fn order_rows(row: &RowIn, other: &RowIn) -> Ordering
-    ensures { result ≡ moves.row_cmp (moves.row_key row.now) (moves.row_key other.now) }
-{
-    let names = row.binary.name.as_str().cmp(other.binary.name.as_str());
-    row.arch.cmp(&other.arch).then(names)
 }
 
 /// Where the rows have the key of the row, or else where it belongs.

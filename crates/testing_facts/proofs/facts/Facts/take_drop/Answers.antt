@@ -2,14 +2,14 @@ use Rattle.std.proofs.Common.{refl, ◌++◌, [], ◌∙◌, ap, arith, map, opt
 use Rattle.testing_model.specs.Boxed.{unboxed}
 use Rattle.testing_model.specs.FactLists.{FactLists}
 use Rattle.testing_facts.specs.Entries.{with_entry}
-use Rattle.testing_facts.specs.declared.entry.Entry.TheVariants.{Dropped}
+use Rattle.testing_entries.specs.declared.entry.Entry.TheVariants.{Dropped}
 use Rattle.testing_facts.proofs.Shifting.{dropped}
 use Rattle.testing_model.specs.FactOrder.{AreByPair, AreDropsByPair}
 use Rattle.testing_model.specs.FactRows.{drop_row}
 use Rattle.testing_model.specs.WithMessage.{with_greatest}
 use Rattle.testing_model.specs.Unstable.{drop_pair, drop_order, pair_order}
-use Rattle.testing_facts.specs.Shifts.{way_given, come_in}
-use Rattle.testing_facts.proofs.KeySlots.{by_pair-drop, drops_by_pair-drop}
+use Rattle.testing_lists.specs.Shifts.{way_given, come_in}
+use Rattle.testing_lists.proofs.KeySlots.{by_pair-drop, drops_by_pair-drop}
 use Rattle.testing_facts.proofs.facts.Facts.take_drop.Goals as goal
 
 pub invariant_of-self-2 : goal.invariant_of-self-2

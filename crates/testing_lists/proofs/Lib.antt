@@ -1,0 +1,9 @@
+pub mod Blocking
+pub mod Elsewhere
+pub mod EveryPassing
+pub mod KeptUploads
+pub mod KeyMembers
+pub mod KeySlots
+pub mod KeyShifts
+pub mod ShiftLists
+pub mod Slotting

@@ -1,0 +1,4 @@
+pub mod Blocks
+pub mod Shifts
+pub mod Slots
+pub mod SourceFilter

@@ -1,0 +1,22 @@
+//! Which of two facts counts, the orders in which they are kept, and their rows as they come and go.
+#![tactic(auto)]
+
+mod halves;
+mod log;
+mod rows;
+mod select;
+mod trimming;
+mod uploads;
+
+pub use halves::move_upper_half;
+pub use log::{Log, Shifted};
+pub use rows::{
+    bug_row, build_row, delays_row, drop_row, hint_row, source_row, unhint_row, upload_row,
+};
+pub use select::{
+    are_both_elsewhere, bug_order, build_order, delays_order, drop_order, hint_order, is_above,
+    is_current, is_of_source, is_same_version, later_delays, message_order, outlives, unhint_order,
+    upload_order, urgency_rank,
+};
+pub use trimming::trim_uploads;
+pub use uploads::place_of_kept;

@@ -1,0 +1,90 @@
+//! The uploads of the facts, without those that don't count beside a testing. It takes no memory.
+
+ghost use Rattle.std.specs.Prelude.{◌≡◌, ◌+◌, ◌≤◌, ◌++◌, not, filter, length, map, option_copied, option_map, vec_len, vec_capacity};
+ghost use Rattle.std.specs.List.Sorted.{IsBinarySearchResult, IsSearchInRange};
+ghost use Rattle.testing_items.specs.Words.{byte_cmp};
+ghost use Rattle.testing_model.specs.Excuses.{entry_of, is_news};
+ghost use Rattle.testing_model.specs.FactRows.{upload_row};
+ghost use Rattle.testing_model.specs.InOrder.{AreByName};
+ghost use Rattle.testing_model.specs.KeptFacts.{counts_beside};
+ghost use Rattle.testing_order.specs.Trimming.{with_sources};
+
+use crate::rows::upload_row;
+use deb_version::Version;
+use std::cmp::Ordering;
+use testing_model::{FactRow, SourceIn, UploadIn};
+
+/// Where the sources have the name, or else where it belongs.
+fn place_of_name(sources: &[SourceIn], name: &str) -> Result<usize, usize>
+    ensures bound { IsSearchInRange result (length sources.now) }
+    ensures found { IsBinarySearchResult (λ s. byte_cmp s.name name.now) sources.now result }
+{
+    sources.binary_search_by(
+        |source: &SourceIn| -> Ordering
+            ensures { result ≡ byte_cmp source.now.name name.entry.now }
+        { source.name.as_str().cmp(name) },
+    )
+}
+
+/// The version of a name, searched by halves.
+fn version_among<'a>(sources: &'a [SourceIn], name: &str) -> Option<&'a Version>
+    requires { AreByName sources.now }
+    ensures { option_copied result ≡ option_map (λ s. s.version) (entry_of sources.now name.now) }
+{
+    match place_of_name(sources, name) {
+        Ok(place) => Some(&sources[place].version),
+        Err(_place) => None,
+    }
+}
+
+/// Whether the version is above testing's, or testing has none.
+fn is_news(testing: Option<&Version>, version: &Version) -> bool
+    ensures { result ≡ is_news (option_copied testing.entry) version.now }
+{
+    match testing {
+        Some(other) => version.order(other).is_gt(),
+        None => true,
+    }
+}
+
+/// Whether the upload counts beside a testing of these sources.
+fn counts(sources: &[SourceIn], upload: &UploadIn) -> bool
+    requires { AreByName sources.now }
+    ensures { result ≡ counts_beside (with_sources sources.now) upload.now }
+{
+    is_news(
+        version_among(sources, upload.source.as_str()),
+        &upload.version,
+    )
+}
+
+/// Notes the rows of the uploads that don't count. There is room for all.
+fn note_uncounted(uploads: &[UploadIn], left: &mut Vec<FactRow>, sources: &[SourceIn])
+    requires order { AreByName sources.now }
+    requires room { vec_len left.old + length uploads.now ≤ vec_capacity left.old }
+    ensures left { left.new.items ≡ left.old.items ++ map upload_row (filter (λ u. not (counts_beside (with_sources sources.now) u)) uploads.now) }
+    ensures capacity { vec_capacity left.old ≤ vec_capacity left.new }
+{
+    'uploads: for upload in uploads {
+        if !counts(sources, upload) {
+            let _ = left.push(upload_row(upload));
+        }
+    }
+}
+
+/// Leaves the uploads that count alone, and notes the rows of the others.
+pub fn trim_uploads(uploads: &mut Vec<UploadIn>, left: &mut Vec<FactRow>, sources: &[SourceIn])
+    requires order { AreByName sources.now }
+    requires room { vec_len left.old + vec_len uploads.old ≤ vec_capacity left.old }
+    ensures uploads { uploads.new.items ≡ filter (counts_beside (with_sources sources.now)) uploads.old.items }
+    ensures left { left.new.items ≡ left.old.items ++ map upload_row (filter (λ u. not (counts_beside (with_sources sources.now) u)) uploads.old.items) }
+    ensures capacity { vec_capacity left.old ≤ vec_capacity left.new }
+{
+    note_uncounted(uploads, left, sources);
+    uploads.retain(
+        |upload: &UploadIn| -> bool
+            requires { AreByName sources.now }
+            ensures { result ≡ counts_beside (with_sources sources.entry.now) upload.now }
+        { counts(sources, upload) },
+    );
+}
