@@ -8,7 +8,7 @@ work=$(mktemp -d)
 trap 'rm -rf "$work"' EXIT
 
 # The proved program, beside copies of the crates that it stands on.
-crates="deb_version deb_control testing_install testing_items testing_model testing_order testing_entries testing_lists testing_facts testing_pool testing_trials testing_suites testing_kept testing_excuses testing_moves testing_reports testing_laws testing_rules office_mail"
+crates=$("$top/bench/crates_below" office_mail testing_rules)
 for name in $crates; do grep "^$name:" "$top/crates.txt"; done > "$work/crates.txt"
 echo 'bench_restoring: office_mail testing_rules jiff anyhow' >> "$work/crates.txt"
 proved=$work/crates/bench_restoring

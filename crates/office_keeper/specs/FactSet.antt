@@ -7,7 +7,7 @@ use Rattle.testing_model.specs.declared.fact_row.FactChanges.{FactChanges}
 use Rattle.testing_model.specs.FactRows.{is_row, row_order}
 pub use Rattle.testing_model.specs.FactRows.{IsFactRow}
 use Rattle.office_mail.specs.Lists.{Lists}
-use Rattle.office_mail.specs.declared.setup.Role.TheVariants.{Release}
+use Rattle.office_setup.specs.declared.setup.Role.TheVariants.{Release}
 use Rattle.office_mail.specs.Setup.{place_of_role}
 
 abbrev pub FactSet : Type 0

@@ -7,11 +7,11 @@ use Rattle.deb_control.specs.Relations.{◌>>=◌, is_package_name, is_version}
 use Rattle.testing_items.specs.declared.item.Hint.{Hint}
 use Rattle.testing_items.specs.declared.item.Hint.TheVariants.{Block, Unblock, Easy, AgeDays, Remove, BlockAll}
 use Rattle.testing_items.specs.declared.item.HintItem.{HintItem}
-use Rattle.office_mail.specs.declared.field.Field.TheVariants as field
+use Rattle.office_setup.specs.declared.field.Field.TheVariants as field
 use Rattle.office_mail.specs.declared.message.MailFault.{MailFault}
 use Rattle.office_mail.specs.declared.message.MailFault.TheVariants.{BadValue}
-use Rattle.office_mail.specs.Steps.{needs, given, each_of}
-use Rattle.office_mail.specs.Values.{days_in, words}
+use Rattle.office_setup.specs.Steps.{needs, given, each_of}
+use Rattle.office_setup.specs.Values.{days_in, words}
 use Rattle.testing_items.specs.Distinct.{is_distinct}
 
 -- what stands in the place of a hint that is none

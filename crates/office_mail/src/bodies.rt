@@ -2,18 +2,16 @@
 ghost use Rattle.std.specs.Prelude.{◌≡◌};
 ghost use Rattle.office_mail.specs.Answers.{Gives, GivesBy};
 ghost use Rattle.office_mail.specs.Read.{upload_of, drop_of, fault_of_binary, binary_in, build_of, bug_of, hint_of, unhint_of, delays_of, order_of, body_of, said, binary_field};
-ghost use Rattle.office_mail.specs.Steps.{each_of};
+ghost use Rattle.office_setup.specs.Steps.{each_of};
 
 use crate::covers::covers_in;
-use crate::field::Field;
 use crate::fields::{
     day, days, number, package, required, severity, urgency, version, version_if_there,
 };
 use crate::hints::hint_in;
-use crate::kind::Kind;
 use crate::message::{Body, MailFault, RunOrder};
-use crate::setup::Setup;
 use deb_control::{Binary, BinaryFault, BinaryField, Paragraph, Text};
+use office_setup::{Field, Kind, Setup};
 use std::alloc::Global;
 use testing_items::{Binaries, Item};
 

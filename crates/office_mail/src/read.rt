@@ -4,23 +4,20 @@ ghost use Rattle.std.specs.List.{list_all, list_any};
 ghost use Rattle.std.specs.Str.{bytes_eq};
 ghost use Rattle.std.specs.Option.{option_map};
 ghost use Rattle.deb_control.specs.Paragraphs.{reading};
-ghost use Rattle.deb_control.specs.declared.fault.ParagraphFault.TheVariants as paragraph_fault;
 ghost use Rattle.office_mail.specs.declared.message.MailFault.TheVariants as fault;
 ghost use Rattle.office_mail.specs.Answers.{Gives, GivesBy};
 ghost use Rattle.office_mail.specs.Kept.{IsPlace, place_of};
-ghost use Rattle.office_mail.specs.Kinds.{binary_fields_needed};
+ghost use Rattle.office_setup.specs.Kinds.{binary_fields_needed};
 ghost use Rattle.office_mail.specs.Read.{read, all_have, has_binaries, has_fields_of, sender_from, sender_named, most_paragraphs, is_arch, knows_arch, knows_archs, message_of, paragraphs_say};
 ghost use Rattle.office_mail.specs.Fields.{has_fields};
-ghost use Rattle.office_mail.specs.Steps.{each_of, whole, needs};
+ghost use Rattle.office_setup.specs.Steps.{each_of, whole, needs};
 
 use crate::bodies::body_of;
-use crate::field::Field;
 use crate::fields::{has_fields, required};
-use crate::kind::Kind;
 use crate::message::{MailFault, Message};
-use crate::setup::{Role, Setup};
-use crate::values::number_in;
-use deb_control::{Paragraph, ParagraphFault, Paragraphs, Text};
+use deb_control::{Paragraph, ParagraphFault, Text};
+use office_setup::values::number_in;
+use office_setup::{Field, Kind, Role, Setup, all_paragraphs};
 use std::alloc::Global;
 
 /// The message that a text is: its sender's place in the setup, its number, and what it says. Of the faults the
@@ -55,23 +52,6 @@ fn paragraphs_in<'a>(alloc: Global, text: &'a [u8]) -> Result<Vec<Paragraph<'a>>
         Err(ParagraphFault::NoMemory) => Err(MailFault::NoMemory),
         Err(_) => Err(MailFault::BadParagraph),
     }
-}
-
-/// All paragraphs of a text, or the reader's refusal.
-pub fn all_paragraphs<'a>(
-    alloc: Global,
-    text: &'a [u8],
-) -> Result<Vec<Paragraph<'a>>, ParagraphFault>
-    ensures { MatchResult result
-        (λ v. reading text.now ≡ record { paragraphs = v.items; refusal = None })
-        (λ e. (e ≡ paragraph_fault.NoMemory) ⊎ IsSome (reading text.now).refusal) }
-{
-    let mut reader = Paragraphs::new(alloc, text);
-    let mut paragraphs = Vec::new(alloc);
-    'paragraphs: while let Some(paragraph) = reader.next()? {
-        paragraphs.push(paragraph)?;
-    }
-    Ok(paragraphs)
 }
 
 #[tactic(auto, unfolding(crate::specs::Read::paragraphs_say))]

@@ -11,7 +11,7 @@ use Rattle.matchit.specs.Rows.{RowsOf}
 use Rattle.matchit.specs.Router.{RouteOf}
 use Rattle.office_mail.specs.Lists.{Lists}
 use Rattle.office_mail.specs.Read.{sender_named}
-use Rattle.office_mail.specs.declared.setup.Role.{Role}
+use Rattle.office_setup.specs.declared.setup.Role.{Role}
 use Rattle.office_requests.specs.Routes.{route_in, route_of}
 use Rattle.office_requests.specs.declared.routes.Route.{Route}
 use Rattle.office_requests.specs.declared.routes.Route.TheVariants as route

@@ -17,7 +17,7 @@ use Rattle.testing_facts.proofs.KeptUploads.{by_message-filter}
 use Rattle.testing_kept.proofs.Logging.{trims_log}
 use Rattle.testing_kept.proofs.Said.{more_tell, trimmed_tell}
 use Rattle.office_mail.specs.declared.message.RunOrder.{RunOrder}
-use Rattle.office_mail.specs.declared.setup.Role.TheVariants.{Release}
+use Rattle.office_setup.specs.declared.setup.Role.TheVariants.{Release}
 use Rattle.office_mail.specs.Kept.{Kept, Within, Place, IsPlace}
 use Rattle.office_mail.specs.Lists.{Lists}
 use Rattle.office_mail.specs.Runs.{cover, cover_of, order_at, orders_to}

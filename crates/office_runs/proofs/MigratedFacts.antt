@@ -23,7 +23,7 @@ use Rattle.testing_items.specs.declared.item.Item.TheVariants.{Upload, Dropped, 
 use Rattle.office_mail.specs.declared.message.Message.{Message}
 use Rattle.office_mail.specs.declared.message.Body.{Body}
 use Rattle.office_mail.specs.declared.message.Body.TheVariants.{Item, Run}
-use Rattle.office_mail.specs.declared.setup.Role.TheVariants.{Release}
+use Rattle.office_setup.specs.declared.setup.Role.TheVariants.{Release}
 use Rattle.office_mail.specs.Kept.{Kept, Place, IsPlace}
 use Rattle.office_mail.specs.Lists.{Lists}
 use Rattle.office_mail.specs.Read.{read}

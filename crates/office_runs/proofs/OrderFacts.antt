@@ -7,16 +7,16 @@ use Rattle.deb_control.specs.Paragraphs.{reading}
 use Rattle.deb_control.specs.Relations.{◌>>=◌, items}
 use Rattle.testing_items.specs.declared.item.Item.{Item}
 use Rattle.testing_items.specs.Distinct.{is_distinct}
-use Rattle.office_mail.specs.declared.field.Field.TheVariants as field
-use Rattle.office_mail.specs.declared.kind.Kind.{Kind}
-use Rattle.office_mail.specs.declared.kind.Kind.TheVariants as kind
+use Rattle.office_setup.specs.declared.field.Field.TheVariants as field
+use Rattle.office_setup.specs.declared.kind.Kind.{Kind}
+use Rattle.office_setup.specs.declared.kind.Kind.TheVariants as kind
 use Rattle.office_mail.specs.declared.message.Body.{Body}
 use Rattle.office_mail.specs.declared.message.Body.TheVariants.{Run, Item as Saying}
 use Rattle.office_mail.specs.declared.message.Message.{Message}
 use Rattle.office_mail.specs.declared.message.RunOrder.{RunOrder}
 use Rattle.office_mail.specs.declared.message.MailFault.{MailFault}
 use Rattle.office_mail.specs.declared.message.MailFault.TheVariants.{TooLong, BadParagraph, UnknownSender, BadNumber, UnknownKind, WrongRole, TooManyParagraphs, UnknownArchitecture}
-use Rattle.office_mail.specs.declared.setup.Sender.{Sender}
+use Rattle.office_setup.specs.declared.setup.Sender.{Sender}
 use Rattle.office_mail.specs.Lists.{Lists}
 use Rattle.office_mail.specs.Steps.{Paragraph, needs, given, each_of, whole, first_of, rest_of}
 use Rattle.office_mail.specs.Values.{number_in, day_in}

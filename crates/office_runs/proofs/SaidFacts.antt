@@ -8,8 +8,8 @@ use Rattle.testing_model.proofs.Sets.{given_by, gives}
 use Rattle.testing_rules.specs.Covered.{CoveredItem, delays_of}
 use Rattle.testing_rules.specs.SameMessages.{HasOneOfEach}
 use Rattle.office_mail.specs.declared.message.Body.TheVariants.{Item as Saying}
-use Rattle.office_mail.specs.declared.setup.Role.{Role}
-use Rattle.office_mail.specs.declared.setup.Role.TheVariants.{Release}
+use Rattle.office_setup.specs.declared.setup.Role.{Role}
+use Rattle.office_setup.specs.declared.setup.Role.TheVariants.{Release}
 use Rattle.office_mail.specs.Kept.{Kept, Place, Within}
 use Rattle.office_mail.specs.Kinds.{role_needed}
 use Rattle.office_mail.specs.Lists.{Lists}

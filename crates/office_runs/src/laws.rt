@@ -7,7 +7,7 @@ ghost use Rattle.office_mail.specs.Lists.{Lists};
 ghost use Rattle.office_mail.specs.Runs.{IsReady, IsReadyCount, order_at};
 ghost use Rattle.office_mail.specs.Setup.{count_of};
 ghost use Rattle.office_mail.specs.declared.message.RunOrder.{RunOrder};
-ghost use Rattle.office_mail.specs.declared.setup.Role.TheVariants.{Release};
+ghost use Rattle.office_setup.specs.declared.setup.Role.TheVariants.{Release};
 ghost use Rattle.office_keeper.specs.Content.{Content, item_from_one, no_content};
 ghost use Rattle.office_keeper.specs.LastDelays.{GetsLast};
 ghost use Rattle.office_replies.specs.declared.waiting.Lack.{Lack};

@@ -8,7 +8,7 @@ ghost use Rattle.testing_rules.specs.FactDifference.{IsDifference};
 ghost use Rattle.testing_rules.specs.KeptFacts.{KeptFacts};
 ghost use Rattle.testing_rules.specs.StandsFor.{StandsFor};
 ghost use Rattle.testing_rules.specs.Watched.{AllWatchedWork};
-ghost use Rattle.office_mail.specs.declared.setup.Role.TheVariants.{Release as TheRelease};
+ghost use Rattle.office_setup.specs.declared.setup.Role.TheVariants.{Release as TheRelease};
 ghost use Rattle.office_mail.specs.Runs.{IsReady, IsReadyCount, cover_of};
 ghost use Rattle.office_mail.specs.Setup.{count_of, place_of_role, same_role};
 ghost use Rattle.office_keeper.specs.FactSet.{AreHoldable, facts_after};

@@ -16,11 +16,11 @@ use Rattle.deb_control.proofs.Lines.{lines_cut}
 use Rattle.deb_control.proofs.Fronts.{pass_wider}
 use Rattle.deb_control.proofs.Ends.{qualifiers_are_ascii}
 use Rattle.testing_items.specs.Archs.{are_archs, is_arch_name}
-use Rattle.office_mail.specs.declared.setup.Sender.{Sender}
-use Rattle.office_mail.specs.declared.setup.Role.{Role}
-use Rattle.office_mail.specs.declared.setup.Role.TheVariants.{Upload, Build, Bugs, Release, Runs}
-use Rattle.office_mail.specs.declared.setup.SetupFault.{SetupFault}
-use Rattle.office_mail.specs.declared.setup.SetupField.TheVariants as field
+use Rattle.office_setup.specs.declared.setup.Sender.{Sender}
+use Rattle.office_setup.specs.declared.setup.Role.{Role}
+use Rattle.office_setup.specs.declared.setup.Role.TheVariants.{Upload, Build, Bugs, Release, Runs}
+use Rattle.office_setup.specs.declared.setup.SetupFault.{SetupFault}
+use Rattle.office_setup.specs.declared.setup.SetupField.TheVariants as field
 use Rattle.office_mail.specs.Lists.{Lists}
 use Rattle.office_mail.specs.Setup.{setup_in, setup_of, setup_by, stated, sender_texts, sender_in, role_named, are_senders, are_roles, is_small, is_sender_name, names_of, count_of, IsSetup}
 use Rattle.office_mail.specs.Steps.{each_of}

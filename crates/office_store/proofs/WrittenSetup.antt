@@ -9,9 +9,9 @@ use Rattle.deb_control.specs.ReaderSteps.{front_run, after_run}
 use Rattle.deb_control.proofs.Lines.{lines_cut, lines_nil, paragraphs_past_blank, paragraphs_nil, first_paragraph, front_run_head, front_run_blank, empty_is_blank}
 use Rattle.deb_control.proofs.Split.{left_after_yes, left_after_no}
 use Rattle.deb_control.proofs.Fronts.{pass_wider}
-use Rattle.office_mail.specs.declared.setup.Sender.{Sender}
-use Rattle.office_mail.specs.declared.setup.Role.{Role}
-use Rattle.office_mail.specs.declared.setup.Role.TheVariants.{Upload, Build, Bugs, Release, Runs}
+use Rattle.office_setup.specs.declared.setup.Sender.{Sender}
+use Rattle.office_setup.specs.declared.setup.Role.{Role}
+use Rattle.office_setup.specs.declared.setup.Role.TheVariants.{Upload, Build, Bugs, Release, Runs}
 use Rattle.office_store.specs.SetupText.{role_word, sender_lines}
 use Rattle.office_store.proofs.WrittenWords.{IsWord, uncut, word_not_feed}
 

@@ -1,9 +1,9 @@
 -- The text of a setup: a line of its architectures, and a paragraph for each sender.
 use Rattle.std.specs.Prelude.{ℕ, List, [], ◌∷◌, ◌++◌, codes, flat_map}
 use Rattle.office_mail.specs.Lists.{Lists}
-use Rattle.office_mail.specs.declared.setup.Sender.{Sender}
-use Rattle.office_mail.specs.declared.setup.Role.{Role}
-use Rattle.office_mail.specs.declared.setup.Role.TheVariants.{Upload, Build, Bugs, Release, Runs}
+use Rattle.office_setup.specs.declared.setup.Sender.{Sender}
+use Rattle.office_setup.specs.declared.setup.Role.{Role}
+use Rattle.office_setup.specs.declared.setup.Role.TheVariants.{Upload, Build, Bugs, Release, Runs}
 
 abbrev pub role_word : Role → List ℕ
 role_word Upload = codes "upload"

@@ -30,7 +30,7 @@ impl<S: Alter> Model for Tables<S> {
     ghost use Rattle.sqlite.specs.Held.{Held, held_code, state};
     ghost use Rattle.office_tables.specs.Tables.{IsTrusted, IsOurs};
     ghost use Rattle.office_mail.specs.Lists.{Lists};
-    ghost use Rattle.office_mail.specs.contracts.setup.Setup as setup_of;
+    ghost use Rattle.office_setup.specs.contracts.setup.Setup as setup_of;
 
     ghost Value = { Held S × (Lists × ℕ) };
 

@@ -21,7 +21,7 @@ use Rattle.office_tables.specs.declared.said.Said.{Said}
 use Rattle.office_keeper.specs.Content.{Content}
 use Rattle.office_keeper.specs.Provenance.{upload_in, binary_in}
 use Rattle.office_tables.specs.Tables.{kept_rows, said_in, run_map}
-use Rattle.office_mail.specs.declared.setup.Role.TheVariants.{Release}
+use Rattle.office_setup.specs.declared.setup.Role.TheVariants.{Release}
 use Rattle.office_mail.specs.Setup.{place_of_role}
 use Rattle.office_tables.specs.Entries.{source_in, source_map, entry_in, entry_map}
 use Rattle.office_tables.specs.FactTables.{facts_in}

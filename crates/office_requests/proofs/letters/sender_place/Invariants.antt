@@ -1,7 +1,7 @@
 use Rattle.std.proofs.Common.{◌≡◌, ℕ, drop}
 use Rattle.std.specs.Option.{option_map}
 use Rattle.office_mail.specs.Read.{sender_from}
-use Rattle.office_mail.specs.declared.setup.Role.{Role}
+use Rattle.office_setup.specs.declared.setup.Role.{Role}
 use Rattle.office_requests.proofs.letters.sender_place.Given as goal
 
 -- the sender is among those that are left, if anywhere

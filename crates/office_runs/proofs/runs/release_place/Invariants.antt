@@ -1,6 +1,6 @@
 use Rattle.std.proofs.Common.{◌≡◌, ◌+◌, drop}
 use Rattle.office_mail.specs.Setup.{place_of_role}
-use Rattle.office_mail.specs.declared.setup.Role.TheVariants.{Release}
+use Rattle.office_setup.specs.declared.setup.Role.TheVariants.{Release}
 use Rattle.office_runs.proofs.runs.release_place.Given as goal
 
 abbrev pub invariant-loop-sender : goal.invariant-loop-sender

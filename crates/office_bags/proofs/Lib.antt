@@ -1,0 +1,3 @@
+pub mod HeaderFacts
+pub mod BagFacts
+pub mod BagLaw

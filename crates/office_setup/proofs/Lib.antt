@@ -1,0 +1,9 @@
+pub mod Each
+pub mod WordFacts
+pub mod ByteFacts
+pub mod NumberFacts
+pub mod DayFacts
+pub mod Views
+pub mod SetupAnswerFacts
+pub mod SetupFacts
+pub mod NoSetup

@@ -1,0 +1,14 @@
+//! Who sends mail to an office: setups, roles, the kinds of messages with their fields, and what fields spell.
+#![tactic(auto)]
+
+mod field;
+mod kind;
+mod paragraphs;
+mod setup;
+mod setup_read;
+pub mod values;
+
+pub use field::Field;
+pub use kind::Kind;
+pub use paragraphs::all_paragraphs;
+pub use setup::{Role, Sender, Setup, SetupFault, SetupField};
