@@ -1,0 +1,13 @@
+pub mod AgainFacts
+pub mod FinishFacts
+pub mod GivenFacts
+pub mod KeepingFacts
+pub mod KeptRows
+pub mod KnownStand
+pub mod OfficeFacts
+pub mod RestoringFacts
+pub mod RunFacts
+pub mod SaidFacts
+pub mod SaidLetters
+pub mod TakenFacts
+pub mod WalkFacts
