@@ -14,12 +14,12 @@ use Rattle.testing_model.proofs.SameFacts.{stands-same}
 use Rattle.testing_kept.proofs.Naming.{same_nat}
 use Rattle.testing_model.proofs.Sets.{first_or_rest, given_by, gives}
 use Rattle.testing_model.specs.declared.facts.UploadIn.{UploadIn}
-use Rattle.testing_rules.specs.Covered.{Covered, CoveredItem, upload_of, uploads_in}
-use Rattle.testing_rules.specs.FactLists.{FactLists}
-use Rattle.testing_rules.specs.KeptFacts.{AreFallen}
-use Rattle.testing_rules.specs.SameMessages.{SameElements, HasOneOfEach}
-use Rattle.testing_rules.specs.StandsFor.{StandsFor}
-use Rattle.testing_rules.specs.Suite.{Suite}
+use Rattle.testing_model.specs.Covered.{Covered, CoveredItem, upload_of, uploads_in}
+use Rattle.testing_model.specs.FactLists.{FactLists}
+use Rattle.testing_model.specs.KeptFacts.{AreFallen}
+use Rattle.testing_model.specs.SameMessages.{SameElements, HasOneOfEach}
+use Rattle.testing_model.specs.StandsFor.{StandsFor}
+use Rattle.testing_model.specs.Suite.{Suite}
 use Rattle.office_facts.specs.Taking.{IsSaidItem, TookAgain}
 use Rattle.office_facts.proofs.WalkFacts.{in_option}
 

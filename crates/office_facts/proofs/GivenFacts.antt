@@ -2,8 +2,8 @@
 use Rattle.std.proofs.Common.{◌≡◌, inl, inr, ℕ, zero, suc, List, Some, Result, Ok, Err, Contains, sym, ap, subst, ◌∙◌, refl}
 use Rattle.std.specs.FinMap.{get, entries, entries_sorted, get-entries}
 use Rattle.deb_control.specs.declared.binary.Binary.{Binary}
-use Rattle.testing_rules.specs.Covered.{Covered, CoveredItem}
-use Rattle.testing_rules.specs.Suite.{Suite}
+use Rattle.testing_model.specs.Covered.{Covered, CoveredItem}
+use Rattle.testing_model.specs.Suite.{Suite}
 use Rattle.testing_model.specs.declared.suite.SourceIn.{SourceIn}
 use Rattle.testing_model.specs.declared.suite.RowIn.{RowIn}
 use Rattle.office_mail.specs.declared.message.Body.{Body}
@@ -16,7 +16,7 @@ use Rattle.office_mail.specs.Read.{read}
 use Rattle.office_mail.proofs.KeptFacts.{placed_ok}
 use Rattle.office_keeper.specs.Content.{Content, item_from_one}
 use Rattle.office_keeper.specs.Provenance.{AreOwnTexts, IsKept, GivesSource, GivesRow, IsGiven, KnowsArchs, IsArchPlace, upload_in, binary_in}
-use Rattle.testing_rules.specs.Provenance.{IsUploaded, IsBuilt, IsGivenBy, binary_in as built_in}
+use Rattle.testing_model.specs.Provenance.{IsUploaded, IsBuilt, IsGivenBy, binary_in as built_in}
 use Rattle.office_facts.specs.Outcome.{item_at, item_in_answer, item_in_body}
 use Rattle.office_facts.specs.Known.{said_all}
 use Rattle.office_facts.proofs.WalkFacts.{find_entry}

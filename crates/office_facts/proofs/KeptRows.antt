@@ -13,7 +13,7 @@ use Rattle.testing_model.specs.FactLists.{FactLists}
 use Rattle.testing_model.specs.FactRows.{delays_row, is_row, rows_of, times}
 use Rattle.testing_model.specs.SameMessages.{HasOneOfEach}
 use Rattle.testing_model.specs.Tells.{Tells}
-use Rattle.testing_rules.specs.Covered.{Covered}
+use Rattle.testing_model.specs.Covered.{Covered}
 use Rattle.testing_facts.specs.Uploads.{AreByMessage}
 use Rattle.testing_kept.proofs.Logging.{changes_make}
 use Rattle.testing_kept.proofs.Naming.{of_delays}

@@ -11,10 +11,10 @@ use Rattle.testing_model.proofs.SameFacts.{stands-same}
 use Rattle.testing_model.specs.declared.fact_row.FactRow.{FactRow}
 use Rattle.testing_model.specs.FactRows.{rows_of, is_row, times}
 use Rattle.testing_model.specs.Tells.{Tells}
-use Rattle.testing_rules.specs.Covered.{Covered, CoveredItem}
-use Rattle.testing_rules.specs.FactLists.{FactLists}
-use Rattle.testing_rules.specs.SameMessages.{SameElements, HasOneOfEach}
-use Rattle.testing_rules.specs.StandsFor.{StandsFor}
+use Rattle.testing_model.specs.Covered.{Covered, CoveredItem}
+use Rattle.testing_model.specs.FactLists.{FactLists}
+use Rattle.testing_model.specs.SameMessages.{SameElements, HasOneOfEach}
+use Rattle.testing_model.specs.StandsFor.{StandsFor}
 use Rattle.testing_kept.proofs.Restoring.{same_stand}
 use Rattle.testing_kept.proofs.Said.{more_tell, stand_tell}
 use Rattle.testing_kept.proofs.Telling.{same_facts}

@@ -1,12 +1,9 @@
 pub mod AgainFacts
-pub mod FinishFacts
+pub mod CoverFacts
 pub mod GivenFacts
-pub mod KeepingFacts
 pub mod KeptRows
 pub mod KnownStand
-pub mod OfficeFacts
 pub mod RestoringFacts
-pub mod RunFacts
 pub mod SaidFacts
 pub mod SaidLetters
 pub mod TakenFacts

@@ -23,7 +23,7 @@ use Rattle.testing_model.specs.declared.facts.DelaysIn.{DelaysIn}
 use Rattle.testing_model.specs.FactLists.{FactLists, no_facts}
 use Rattle.testing_model.specs.FactRows.{rows_of, is_row, times, row_order}
 use Rattle.testing_model.specs.Tells.{Tells}
-use Rattle.testing_rules.specs.Covered.{Covered}
+use Rattle.testing_model.specs.Covered.{Covered}
 use Rattle.testing_facts.specs.Restored.{Given, restored, said}
 use Rattle.testing_facts.specs.Uploads.{AreByMessage}
 use Rattle.testing_kept.specs.Restored.{restored_all}

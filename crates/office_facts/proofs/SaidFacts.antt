@@ -5,8 +5,8 @@ use Rattle.std.specs.FinMap.{get, entries, entries_sorted, get-entries}
 use Rattle.testing_items.specs.declared.item.Item.{Item}
 use Rattle.testing_items.specs.declared.item.Item.TheVariants.{Upload, Dropped, Build, Bug, Hint, Unhint, Delays, Nothing}
 use Rattle.testing_model.proofs.Sets.{given_by, gives}
-use Rattle.testing_rules.specs.Covered.{CoveredItem, delays_of}
-use Rattle.testing_rules.specs.SameMessages.{HasOneOfEach}
+use Rattle.testing_model.specs.Covered.{CoveredItem, delays_of}
+use Rattle.testing_model.specs.SameMessages.{HasOneOfEach}
 use Rattle.office_mail.specs.declared.message.Body.TheVariants.{Item as Saying}
 use Rattle.office_mail.specs.declared.setup.Role.{Role}
 use Rattle.office_mail.specs.declared.setup.Role.TheVariants.{Release}

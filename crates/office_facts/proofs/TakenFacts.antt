@@ -1,20 +1,23 @@
 -- What is known of the mail from one run to the next.
-use Rattle.std.proofs.Common.{◌≡◌, ◌≢◌, ◌⊎◌, ⊎_elim, inl, inr, ℕ, zero, suc, ◌<◌, ◌≤◌, List, [], ◌++◌, length, slice_index, Some, Result, Err, option_to_list, sym, ap, subst, ◌∙◌, refl, arith}
+use Rattle.std.proofs.Common.{◌≡◌, ◌≢◌, ◌⊎◌, ⊎_elim, inl, inr, ℕ, zero, suc, ◌<◌, ◌≤◌, List, [], ◌++◌, length, slice_index, Some, Result, Ok, Err, option_to_list, sym, ap, subst, ◌∙◌, refl, arith}
 use Rattle.std.specs.Prelude.{Contains}
 use Rattle.std.specs.FinMap.{get}
 use Rattle.std.proofs.lemmas.Bool.{cases_eq}
 use Rattle.std.proofs.lemmas.List.Elements.{Contains-append_left, Contains-append_right, Contains-append_cases}
-use Rattle.testing_rules.specs.Covered.{Covered}
-use Rattle.testing_rules.specs.FactDifference.{IsChangedFrom}
-use Rattle.testing_rules.specs.FactLists.{FactLists}
-use Rattle.testing_rules.specs.StandsFor.{StandsFor}
-use Rattle.testing_rules.specs.Suite.{Suite}
-use Rattle.testing_rules.specs.SameMessages.{SameElements}
-use Rattle.testing_rules.specs.Uploads.{AreByMessage}
+use Rattle.testing_model.specs.Covered.{Covered}
+use Rattle.testing_model.specs.FactDifference.{IsChangedFrom}
+use Rattle.testing_model.specs.FactLists.{FactLists}
+use Rattle.testing_model.specs.StandsFor.{StandsFor}
+use Rattle.testing_model.specs.Suite.{Suite}
+use Rattle.testing_model.specs.SameMessages.{SameElements}
+use Rattle.testing_facts.specs.Uploads.{AreByMessage}
 use Rattle.testing_model.specs.declared.fact_row.FactRow.{FactRow}
+use Rattle.testing_model.specs.KeptFacts.{counts_beside, trimmed}
 use Rattle.testing_model.specs.Tells.{Tells}
 use Rattle.testing_model.proofs.SameFacts.{stands-same}
-use Rattle.testing_kept.proofs.Said.{more_tell}
+use Rattle.testing_facts.proofs.KeptUploads.{by_message-filter}
+use Rattle.testing_kept.proofs.Logging.{trims_log}
+use Rattle.testing_kept.proofs.Said.{more_tell, trimmed_tell}
 use Rattle.office_mail.specs.declared.message.MailFault.{MailFault}
 use Rattle.office_mail.specs.declared.message.MailFault.TheVariants.{NoMemory}
 use Rattle.office_mail.specs.declared.message.Message.{Message}
@@ -110,3 +113,15 @@ way_more setup content p text old new stands tells moved by way = record {
 -- what a text that is refused, but for want of memory, reads as
 pub err_read : (setup : Lists) (text : List ℕ) (fault : MailFault) → (Err fault ≡ read setup text) ⊎ (◌≡◌ {A = Result Message MailFault} (Err fault) (Err NoMemory)) → (fault ≡ NoMemory → ⊥) → read setup text ≡ Err fault
 err_read setup text fault exact other = ⊎_elim (λ e. sym e) (λ e. let same : fault ≡ NoMemory = cc in absurd (other same)) exact
+
+-- a message that was read
+pub ok_read : (setup : Lists) (text : List ℕ) (message : Message) → (Ok message ≡ read setup text) ⊎ (◌≡◌ {A = Result Message MailFault} (Ok message) (Err NoMemory)) → read setup text ≡ Ok message
+ok_read setup text message h = ⊎_elim (λ e. sym e) (λ e. absurd (cc (e))) h
+
+-- Facts under way, trimmed.
+pub AreUnderWay-trimmed : (setup : Lists) (content : Content) (t : Suite) (f : FactLists) → AreUnderWay setup content f → AreUnderWay setup content (trimmed t f)
+AreUnderWay-trimmed setup content t f way = record {
+  tells = trimmed_tell t f (said_all setup content.kept) way.tells;
+  by_message = by_message-filter (counts_beside t) f.uploads way.by_message;
+  rows = trims_log (count_in content.facts) t f way.rows;
+}

@@ -8,11 +8,11 @@ use Rattle.std.proofs.lemmas.Bool.{cases_lt, le-leb, lt-leb}
 use Rattle.std.proofs.lemmas.Cmp.{tied_itself}
 use Rattle.std.proofs.lemmas.List.{append_assoc}
 use Rattle.std.proofs.lemmas.List.Elements.{Contains-append_left, Contains-append_right, Contains-append_cases}
-use Rattle.testing_rules.specs.Covered.{Covered, CoveredItem}
-use Rattle.testing_rules.specs.FactLists.{FactLists}
-use Rattle.testing_rules.specs.StandsFor.{StandsFor}
-use Rattle.testing_rules.specs.Suite.{Suite}
-use Rattle.testing_rules.specs.SameMessages.{SameElements, HasOneOfEach}
+use Rattle.testing_model.specs.Covered.{Covered, CoveredItem}
+use Rattle.testing_model.specs.FactLists.{FactLists}
+use Rattle.testing_model.specs.StandsFor.{StandsFor}
+use Rattle.testing_model.specs.Suite.{Suite}
+use Rattle.testing_model.specs.SameMessages.{SameElements, HasOneOfEach}
 use Rattle.testing_items.proofs.Members.{none_among, tail_of}
 use Rattle.testing_model.proofs.Sets.{first_or_rest, at_front, given_by, gives}
 use Rattle.testing_model.proofs.SameFacts.{stands-same}

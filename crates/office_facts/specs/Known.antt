@@ -6,7 +6,7 @@ use Rattle.testing_model.specs.FactDifference.{IsChangedFrom}
 use Rattle.testing_model.specs.FactLists.{FactLists}
 use Rattle.testing_model.specs.Tells.{Tells}
 use Rattle.testing_facts.specs.Uploads.{AreByMessage}
-use Rattle.testing_rules.specs.Covered.{Covered}
+use Rattle.testing_model.specs.Covered.{Covered}
 use Rattle.office_mail.specs.Lists.{Lists}
 use Rattle.office_mail.specs.Kept.{Kept}
 use Rattle.office_mail.specs.Runs.{cover_of, order_at, orders_to}

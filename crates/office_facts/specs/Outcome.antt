@@ -4,12 +4,12 @@ use Rattle.std.specs.List.{filter_map}
 use Rattle.std.specs.FinMap.{entries}
 use Rattle.jiff.specs.declared.civil.dates.Date.{Date}
 use Rattle.testing_model.specs.declared.excuse.Excuse.{Excuse}
-use Rattle.testing_rules.specs.Suite.{Suite}
-use Rattle.testing_rules.specs.Covered.{Covered, CoveredItem}
-use Rattle.testing_rules.specs.Excuses.{excuses_of}
-use Rattle.testing_rules.specs.Updates.{update_of}
-use Rattle.testing_rules.specs.Updates as updates
-use Rattle.testing_rules.specs.Reports as texts
+use Rattle.testing_model.specs.Suite.{Suite}
+use Rattle.testing_model.specs.Covered.{Covered, CoveredItem}
+use Rattle.testing_model.specs.Excuses.{excuses_of}
+use Rattle.testing_model.specs.Updates.{update_of}
+use Rattle.testing_model.specs.Updates as updates
+use Rattle.testing_reports.specs.Reports as texts
 use Rattle.office_mail.specs.declared.message.Message.{Message}
 use Rattle.office_mail.specs.declared.message.MailFault.{MailFault}
 use Rattle.office_mail.specs.declared.message.Body.{Body}
@@ -20,7 +20,6 @@ use Rattle.office_mail.specs.Kept.{Kept, Place}
 use Rattle.office_mail.specs.Runs.{orders_to, latest_day, covered}
 use Rattle.office_keeper.specs.declared.values.Finished.{Finished}
 use Rattle.office_keeper.specs.declared.values.Reports.{Reports}
-use Rattle.office_facts.specs.declared.rules.RunOutcome.{RunOutcome}
 
 -- testing as the rules see it
 abbrev pub Testing : Type 0
@@ -49,12 +48,9 @@ pub record Outcome : Type 0 where
   pub excuses : List ℕ
   pub updates : List ℕ
 
--- the outcome in what a finished run leaves, and in what the rules of a run give
+-- the outcome in what a finished run leaves
 abbrev pub outcome_in : Finished → Outcome
 outcome_in done = record { testing = done.testing; excuses = done.excuses; updates = done.updates }
-
-abbrev pub outcome_left : RunOutcome → Outcome
-outcome_left left = record { testing = left.testing; excuses = left.excuses; updates = left.updates }
 
 -- the reports on excuses and decisions, and testing as the decisions leave it
 abbrev pub reported : Lists → ℕ → Date → List Excuse → updates.Outcome → Outcome

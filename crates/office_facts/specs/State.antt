@@ -22,7 +22,7 @@ use Rattle.testing_model.specs.FactLists.{FactLists}
 use Rattle.testing_model.specs.FactRows.{rows_of, times}
 use Rattle.testing_model.specs.KeptFacts.{KeptFacts}
 use Rattle.testing_model.specs.declared.fact_row.FactRow.{FactRow}
-use Rattle.testing_rules.specs.Watched.{AllWatchedWork}
+use Rattle.testing_model.specs.Watched.{AllWatchedWork}
 
 -- the state of the office that a store holds
 abbrev pub state_of : {K : Type 0} → Ghosts K → K → OfficeState

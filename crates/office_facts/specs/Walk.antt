@@ -2,7 +2,7 @@
 -- The messages of the mail, place by place, in the order in which they are taken.
 use Rattle.std.specs.Prelude.{ℕ, zero, suc, List, [], ◌∷◌, ◌++◌, Option, Some, None, option_to_list}
 use Rattle.std.specs.FinMap.{get}
-use Rattle.testing_rules.specs.Covered.{Covered, CoveredItem}
+use Rattle.testing_model.specs.Covered.{Covered, CoveredItem}
 use Rattle.office_mail.specs.Lists.{Lists}
 use Rattle.office_mail.specs.Kept.{Kept, Place}
 use Rattle.office_keeper.specs.declared.values.Letter.{Letter}

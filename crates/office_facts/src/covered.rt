@@ -6,10 +6,10 @@ ghost use Rattle.std.specs.FinMap.{get};
 ghost use Rattle.testing_model.specs.FactLists.{no_facts};
 ghost use Rattle.testing_model.specs.FactRows.{rows_of};
 ghost use Rattle.testing_model.specs.declared.facts.UploadIn.{UploadIn};
-ghost use Rattle.testing_rules.specs.Covered.{Covered, CoveredItem, upload_of};
-ghost use Rattle.testing_rules.specs.StandsFor.{StandsFor, StandsForNone};
-ghost use Rattle.testing_rules.specs.Uploads.{AreByMessage};
-ghost use Rattle.testing_rules.specs.Suite.{Suite};
+ghost use Rattle.testing_model.specs.Covered.{Covered, CoveredItem, upload_of};
+ghost use Rattle.testing_model.specs.StandsFor.{StandsFor, StandsForNone};
+ghost use Rattle.testing_facts.specs.Uploads.{AreByMessage};
+ghost use Rattle.testing_model.specs.Suite.{Suite};
 ghost use Rattle.office_mail.specs.Runs.{cover_of};
 ghost use Rattle.office_keeper.specs.Content.{Content};
 ghost use Rattle.office_keeper.specs.FactSet.{rows_in};
@@ -22,7 +22,7 @@ ghost use Rattle.office_facts.specs.Taking.{AreLettersOf, HavePutBack};
 ghost use Rattle.office_facts.specs.Walk.{said_by, said_in, said_within};
 
 use crate::restoring::put_back;
-use crate::rules::{cover_of, take_body};
+use crate::taking::{cover_of, take_body};
 use office_keeper::{Keeper, Letter};
 use office_mail::{MailFault, RunOrder, Setup, read_message};
 use office_orders::orders::make_room;
@@ -30,7 +30,8 @@ use office_orders::stored;
 use office_orders::stored::{BLOCK, block_end};
 use office_replies::StoreFault;
 use std::alloc::Global;
-use testing_rules::{FactRow, Facts};
+use testing_facts::Facts;
+use testing_model::FactRow;
 
 /// Facts of what each sender says up to a number, and these numbers: 0 for a sender that has none.
 #[derive(Drop)]
@@ -304,7 +305,7 @@ fn take_letters(
 }
 
 /// The facts take what a text says under its sender and number. It fails for want of memory alone.
-pub fn take_text(
+pub(crate) fn take_text(
     alloc: Global,
     setup: &Setup,
     facts: &mut Facts,

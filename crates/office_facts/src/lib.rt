@@ -1,8 +1,7 @@
-//! The facts of a run's mail, taken from the kept mail or put back from kept rows, and what the run leaves.
+//! The facts of a run's mail: taken from the kept mail, put back from kept rows, and taken again.
 #![tactic(auto)]
 
 pub mod covered;
-pub mod leaving;
 mod restoring;
-mod retaking;
-mod rules;
+pub mod retaking;
+mod taking;

@@ -19,7 +19,9 @@ use office_orders::stored;
 use office_orders::stored::BLOCK;
 use office_replies::StoreFault;
 use std::alloc::Global;
-use testing_rules::{FactRow, Facts, Item};
+use testing_facts::Facts;
+use testing_items::Item;
+use testing_model::FactRow;
 
 /// The facts of these rows, each put back with the message that it names. A row that names no kept message, or one that
 /// doesn't give it, puts nothing back.

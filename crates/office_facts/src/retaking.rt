@@ -1,16 +1,22 @@
-//! Uploads that are taken again, since testing lost their source or has it in a lower version.
+//! The facts of a run go with the testing that it leaves: uploads are taken again, since testing lost their source or has
+//! it in a lower version.
 #![tactic(auto, using(office_orders::proofs::LastFacts::lasting))]
 
 ghost use Rattle.std.specs.Prelude.{◌≡◌, ◌+◌, ◌<◌, ◌≤◌, ◌++◌, ℕ, Some, IsTrue, IfOk, IfErr, OnOk, Contains, length, option_to_list, slice_index};
 ghost use Rattle.std.specs.FinMap.{get};
-ghost use Rattle.testing_rules.specs.Covered.{Covered, CoveredItem, upload_of};
-ghost use Rattle.testing_rules.specs.FactLists.{FactLists};
-ghost use Rattle.testing_rules.specs.KeptFacts.{AreFallen};
-ghost use Rattle.testing_rules.specs.StandsFor.{StandsFor};
-ghost use Rattle.testing_rules.specs.Suite.{Suite};
+ghost use Rattle.testing_model.specs.Covered.{Covered, CoveredItem, upload_of};
+ghost use Rattle.testing_model.specs.FactDifference.{IsDifference};
+ghost use Rattle.testing_model.specs.FactLists.{FactLists};
+ghost use Rattle.testing_model.specs.KeptFacts.{AreFallen, KeptFacts};
+ghost use Rattle.testing_model.specs.StandsFor.{StandsFor};
+ghost use Rattle.testing_model.specs.Suite.{Suite};
 ghost use Rattle.testing_model.specs.declared.facts.UploadIn.{UploadIn};
+ghost use Rattle.office_mail.specs.declared.setup.Role.TheVariants.{Release as TheRelease};
 ghost use Rattle.office_mail.specs.Kept.{Place};
+ghost use Rattle.office_mail.specs.Setup.{count_of};
 ghost use Rattle.office_keeper.specs.Content.{Content};
+ghost use Rattle.office_keeper.specs.FactSet.{AreHoldable, facts_after};
+ghost use Rattle.office_keeper.specs.Provenance.{AreOwnTexts};
 ghost use Rattle.office_facts.specs.Known.{AreUnderWay};
 ghost use Rattle.office_facts.specs.Outcome.{item_at};
 ghost use Rattle.testing_facts.specs.Restored.{said};
@@ -27,11 +33,49 @@ use office_orders::stored;
 use office_orders::stored::{BLOCK, block_end};
 use office_replies::StoreFault;
 use std::alloc::Global;
-use testing_rules::{Facts, Item};
+use testing_facts::Facts;
+use testing_items::Item;
+use testing_kept::fallen;
+use testing_model::FactChanges;
+use testing_suites::Testing;
+
+/// The facts of a run go with the testing that it leaves: the uploads of the sources that fell are taken again, and none is
+/// kept that doesn't count there. What changed of their rows is told.
+pub fn go_with<K: Keeper>(
+    alloc: Global,
+    setup: &Setup,
+    keeper: &mut K,
+    facts: &mut Facts,
+    taken: &[u32],
+    before: &Testing,
+    after: &Testing,
+) -> Result<FactChanges, StoreFault>
+    ensures way { K.is_trusted keeper.new → AreUnderWay setup.now (K.content keeper.old) facts.old → OnOk result (AreUnderWay setup.now (K.content keeper.old) facts.new) }
+    ensures difference { IfOk result (λ changes. IsDifference facts.new.came facts.new.left changes.put changes.gone) }
+    ensures held { K.is_trusted keeper.new → AreUnderWay setup.now (K.content keeper.old) facts.old → AreOwnTexts setup.now (K.content keeper.old).kept
+        → IfOk result (λ changes. AreHoldable setup.now (facts_after changes (K.content keeper.old).facts)) }
+    ensures kept { K.is_trusted keeper.new → StandsFor facts.old (said_within setup.now (K.content keeper.old).kept (slice_index taken.now) (length setup.now.senders)) before.now
+        → OnOk result (KeptFacts facts.new (said_within setup.now (K.content keeper.old).kept (slice_index taken.now) (length setup.now.senders)) after.now) }
+    ensures looks { ReadsStore K.Keeper keeper.old keeper.new result }
+{
+    has_release(setup);
+    let names = fallen(alloc, before, after)?;
+    retake(alloc, setup, keeper, facts, taken, &names)?;
+    facts.trim(after);
+    let changes = facts.changes()?;
+    Ok(changes)
+}
+
+/// The release team has one sender.
+fn has_release(setup: &Setup)
+    ensures { count_of TheRelease setup.now.senders ≡ 1 }
+{
+    let _ = setup.archs();
+}
 
 /// The facts take the uploads of these names again, of what each sender says up to its number. So they stand beside a
 /// testing that lost these sources, or has them in a lower version. Where there is no name nothing is read.
-pub fn retake<K: Keeper>(
+fn retake<K: Keeper>(
     alloc: Global,
     setup: &Setup,
     keeper: &mut K,

@@ -12,7 +12,8 @@ ghost use Rattle.office_orders.specs.ReadsStore.{ReadsStore};
 
 use office_keeper::{Finished, Keeper, Letter, MailText, Reports};
 use office_replies::StoreFault;
-use testing_rules::{FactRows, Testing};
+use testing_model::FactRows;
+use testing_suites::Testing;
 
 /// How many numbers of a sender are loaded at once, at most. So many texts of the greatest size take 17 MB.
 pub const BLOCK: u32 = 256;

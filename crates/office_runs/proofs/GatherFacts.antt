@@ -22,7 +22,7 @@ use Rattle.office_replies.specs.declared.faults.Held.{Held}
 use Rattle.office_facts.specs.State.{IsOffice, answer_to, answer_by, answer_at, held_at}
 use Rattle.office_runs.specs.GatherSteps.{Gathers, TakesText, letter_of, own_text, ArePlaced}
 use Rattle.office_runs.specs.Together.{answers_to}
-use Rattle.office_facts.proofs.OfficeFacts.{some_of, places-put, IsOffice-later}
+use Rattle.office_runs.proofs.OfficeFacts.{some_of, places-put, IsOffice-later}
 
 -- ---- letters at free places
 

@@ -2,4 +2,5 @@ pub mod GatherSteps
 pub mod Laws
 pub mod Migrated
 pub mod Preserves
+pub mod RuleSteps
 pub mod Together

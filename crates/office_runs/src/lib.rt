@@ -4,8 +4,10 @@
 
 mod gathering;
 pub mod laws;
+mod leaving;
 mod office;
 mod posting;
+mod rules;
 mod runs;
 
 pub use gathering::Reply;

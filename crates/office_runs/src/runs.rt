@@ -12,8 +12,8 @@ ghost use Rattle.office_orders.specs.StaysTrusted.{StaysTrusted};
 ghost use Rattle.office_orders.specs.Ready.{IsCounted};
 ghost use Rattle.office_facts.specs.State.{IsOffice};
 
+use crate::leaving::next_outcome;
 use office_facts::covered::KnownFacts;
-use office_facts::leaving::next_outcome;
 use office_keeper::Keeper;
 use office_mail::{Role, RunOrder, Setup};
 use office_orders::ready::next_is_ready;

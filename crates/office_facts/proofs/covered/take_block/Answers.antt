@@ -1,7 +1,7 @@
 use Rattle.std.proofs.Common.{◌≡◌, ◌+◌, ◌++◌, List, ap, subst, ◌∙◌, arith}
 use Rattle.std.proofs.lemmas.Result.{on_ok_weaker}
-use Rattle.testing_rules.specs.Covered.{Covered}
-use Rattle.testing_rules.specs.StandsFor.{StandsFor}
+use Rattle.testing_model.specs.Covered.{Covered}
+use Rattle.testing_model.specs.StandsFor.{StandsFor}
 use Rattle.office_keeper.specs.declared.values.Letter.{Letter}
 use Rattle.office_keeper.specs.Content.{Content, letters_within}
 use Rattle.office_facts.specs.Walk.{said_by, said_in}

@@ -1,7 +1,7 @@
 use Rattle.std.proofs.Common.{◌≡◌, ◌+◌, ◌++◌, ◌∷◌, [], ℕ, List, take, option_to_list, sym, ap, subst, ◌∙◌, arith}
 use Rattle.std.proofs.lemmas.List.{take_more, take_all}
-use Rattle.testing_rules.specs.Covered.{Covered}
-use Rattle.testing_rules.specs.StandsFor.{StandsFor}
+use Rattle.testing_model.specs.Covered.{Covered}
+use Rattle.testing_model.specs.StandsFor.{StandsFor}
 use Rattle.office_keeper.specs.declared.values.Letter.{Letter}
 use Rattle.office_facts.specs.Outcome.{item_at}
 use Rattle.office_facts.specs.Walk.{said_in}

@@ -1,7 +1,7 @@
 use Rattle.std.proofs.Common.{take}
-use Rattle.testing_rules.specs.Covered.{Covered}
-use Rattle.testing_rules.specs.Suite.{Suite}
-use Rattle.testing_rules.specs.StandsFor.{StandsFor}
+use Rattle.testing_model.specs.Covered.{Covered}
+use Rattle.testing_model.specs.Suite.{Suite}
+use Rattle.testing_model.specs.StandsFor.{StandsFor}
 use Rattle.office_keeper.specs.Content.{Content}
 use Rattle.office_facts.specs.Known.{AreUnderWay}
 use Rattle.office_facts.specs.Taking.{AreLettersOf}

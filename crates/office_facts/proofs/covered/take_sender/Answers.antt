@@ -1,5 +1,5 @@
 use Rattle.std.proofs.Common.{ℕ, ◌++◌, subst, arith}
-use Rattle.testing_rules.specs.StandsFor.{StandsFor}
+use Rattle.testing_model.specs.StandsFor.{StandsFor}
 use Rattle.office_keeper.specs.Content.{Content}
 use Rattle.office_facts.specs.Known.{AreUnderWay}
 use Rattle.office_facts.specs.Walk.{said_by}

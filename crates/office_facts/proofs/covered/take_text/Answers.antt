@@ -1,11 +1,11 @@
 use Rattle.std.proofs.Common.{◌≡◌, ◌++◌, Result, Ok, Err, OnOk, sym, subst, ◌∙◌}
 use Rattle.std.proofs.lemmas.Result.{on_ok_weaker}
-use Rattle.testing_rules.specs.Covered.{Covered}
-use Rattle.testing_rules.specs.StandsFor.{StandsFor}
+use Rattle.testing_model.specs.Covered.{Covered}
+use Rattle.testing_model.specs.StandsFor.{StandsFor}
 use Rattle.testing_model.specs.Tells.{Tells}
 use Rattle.office_mail.specs.declared.message.MailFault.TheVariants.{NoMemory}
 use Rattle.office_mail.specs.Kept.{Place}
-use Rattle.office_facts.proofs.OfficeFacts.{ok_read}
+use Rattle.office_facts.proofs.TakenFacts.{ok_read}
 use Rattle.office_facts.proofs.TakenFacts.{err_read, way_more}
 use Rattle.office_facts.proofs.WalkFacts.{item_at-read, item_is}
 use Rattle.office_facts.proofs.covered.take_text.Goals as goal

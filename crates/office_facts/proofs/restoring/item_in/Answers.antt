@@ -5,7 +5,7 @@ use Rattle.office_mail.specs.declared.message.MailFault.TheVariants.{NoMemory}
 use Rattle.office_mail.specs.Kept.{Place}
 use Rattle.office_facts.specs.Outcome.{item_at}
 use Rattle.office_facts.specs.Taking.{IsSaidItem}
-use Rattle.office_facts.proofs.OfficeFacts.{ok_read}
+use Rattle.office_facts.proofs.TakenFacts.{ok_read}
 use Rattle.office_facts.proofs.TakenFacts.{err_read}
 use Rattle.office_facts.proofs.WalkFacts.{item_is}
 use Rattle.office_facts.proofs.restoring.item_in.Goals as goal

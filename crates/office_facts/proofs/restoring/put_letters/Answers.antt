@@ -1,6 +1,6 @@
 use Rattle.std.proofs.Common.{◌≡◌, ℕ, List, get_or, take, subst, arith}
 use Rattle.testing_model.specs.declared.fact_row.FactRow.{FactRow}
-use Rattle.testing_rules.specs.Covered.{Covered}
+use Rattle.testing_model.specs.Covered.{Covered}
 use Rattle.office_facts.specs.Known.{said_all}
 use Rattle.office_facts.specs.Taking.{HavePutBack}
 use Rattle.office_facts.proofs.RestoringFacts.{items_near}

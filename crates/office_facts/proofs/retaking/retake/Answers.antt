@@ -1,5 +1,5 @@
 use Rattle.std.proofs.Common.{length, slice_index, sym, ◌∙◌}
-use Rattle.testing_rules.specs.Covered.{Covered}
+use Rattle.testing_model.specs.Covered.{Covered}
 use Rattle.office_keeper.specs.Content.{Content}
 use Rattle.office_facts.specs.Walk.{said_within}
 use Rattle.std.proofs.lemmas.Result.{on_ok_weaker}

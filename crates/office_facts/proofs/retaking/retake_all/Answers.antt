@@ -1,5 +1,5 @@
 use Rattle.std.proofs.Common.{◌≡◌, ℕ, ◌++◌, length, slice_index, ap, subst, ◌∙◌, arith}
-use Rattle.testing_rules.specs.Covered.{Covered}
+use Rattle.testing_model.specs.Covered.{Covered}
 use Rattle.office_keeper.specs.Content.{Content}
 use Rattle.office_facts.specs.Known.{AreUnderWay}
 use Rattle.office_facts.specs.Taking.{TookAgain}

@@ -1,6 +1,6 @@
 use Rattle.std.proofs.Common.{take}
-use Rattle.testing_rules.specs.Covered.{Covered}
-use Rattle.testing_rules.specs.FactLists.{FactLists}
+use Rattle.testing_model.specs.Covered.{Covered}
+use Rattle.testing_model.specs.FactLists.{FactLists}
 use Rattle.office_keeper.specs.Content.{Content}
 use Rattle.office_facts.specs.Known.{AreUnderWay}
 use Rattle.office_facts.specs.Taking.{AreLettersOf, TookAgain}

@@ -1,5 +1,5 @@
 use Rattle.office_runs.proofs.LawFacts.{runs_stand}
-use Rattle.office_facts.proofs.OfficeFacts.{outcome_of-later, reports_to-later}
+use Rattle.office_runs.proofs.OfficeFacts.{outcome_of-later, reports_to-later}
 use Rattle.office_runs.proofs.laws.runs_stay.Goals as goal
 
 pub returns-clause-outcome : goal.returns-clause-outcome

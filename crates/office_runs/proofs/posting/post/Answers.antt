@@ -3,7 +3,7 @@ use Rattle.std.specs.FinMap.{get, insert}
 use Rattle.office_mail.specs.Kept.{place_of}
 use Rattle.office_mail.proofs.KeptFacts.{kept_from-free}
 use Rattle.office_keeper.specs.Content.{Content, with_text}
-use Rattle.office_facts.proofs.OfficeFacts.{on_ok, kept_from-stored, IsOffice-kept, Within-put}
+use Rattle.office_runs.proofs.OfficeFacts.{on_ok, kept_from-stored, IsOffice-kept, Within-put}
 use Rattle.office_runs.proofs.posting.post.Goals as goal
 
 pub returns-in-Some-clause-kept : goal.returns-in-Some-clause-kept

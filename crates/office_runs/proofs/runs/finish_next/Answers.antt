@@ -19,9 +19,9 @@ use Rattle.office_orders.specs.Ready.{FirstOrders, HasEach}
 use Rattle.office_facts.specs.State.{IsOffice, KeepsFacts}
 use Rattle.office_facts.specs.Walk.{said_within}
 use Rattle.office_orders.proofs.CountFacts.{IsCounted-later}
-use Rattle.office_facts.proofs.FinishFacts.{IsOffice-finished}
+use Rattle.office_runs.proofs.FinishFacts.{IsOffice-finished}
 use Rattle.office_orders.proofs.LastFacts.{lasts_then}
-use Rattle.office_facts.proofs.KeepingFacts.{Leaves, held_by_same, if_known-then, keeps_facts, leaves_over}
+use Rattle.office_runs.proofs.KeepingFacts.{Leaves, held_by_same, if_known-then, keeps_facts, leaves_over}
 use Rattle.office_runs.proofs.runs.finish_next.Goals as goal
 
 -- what is given stays so by equal lists, over equal contents

@@ -1,19 +1,19 @@
 use Rattle.std.proofs.Common.{◌≡◌, List, length, slice_index, sym, ap, subst, ◌∙◌}
 use Rattle.testing_items.specs.Words.{Text}
-use Rattle.testing_rules.specs.Covered.{Covered}
-use Rattle.testing_rules.specs.FactLists.{FactLists}
-use Rattle.testing_rules.specs.KeptFacts.{AreFallen, KeptFacts, trimmed}
-use Rattle.testing_rules.specs.StandsFor.{StandsFor}
-use Rattle.testing_rules.specs.Suite.{Suite}
+use Rattle.testing_model.specs.Covered.{Covered}
+use Rattle.testing_model.specs.FactLists.{FactLists}
+use Rattle.testing_model.specs.KeptFacts.{AreFallen, KeptFacts, trimmed}
+use Rattle.testing_model.specs.StandsFor.{StandsFor}
+use Rattle.testing_model.specs.Suite.{Suite}
 use Rattle.testing_kept.proofs.BesideTesting.{trim_keeps}
 use Rattle.testing_kept.proofs.FallenNames.{names_are_fallen}
 use Rattle.office_keeper.specs.Content.{Content}
 use Rattle.office_facts.specs.Known.{AreUnderWay, said_all}
 use Rattle.office_facts.specs.Walk.{said_within}
-use Rattle.office_facts.proofs.KeepingFacts.{AreUnderWay-trimmed}
+use Rattle.office_facts.proofs.TakenFacts.{AreUnderWay-trimmed}
 use Rattle.office_facts.proofs.KeptRows.{holdable, release_by_mail}
 use Rattle.office_facts.proofs.SaidFacts.{one_of_all}
-use Rattle.office_facts.proofs.leaving.go_with.Goals as goal
+use Rattle.office_facts.proofs.retaking.go_with.Goals as goal
 
 pub returns-clause-way : goal.returns-clause-way
 returns-clause-way g c = λ trusted way.

@@ -2,8 +2,8 @@ use Rattle.std.proofs.Common.{◌≡◌, ◌+◌, List, [], ◌∷◌, drop, max
 use Rattle.std.proofs.lemmas.List.{drop_more, drop_all}
 use Rattle.office_mail.specs.declared.message.RunOrder.{RunOrder}
 use Rattle.office_mail.specs.Runs.{cover_of}
-use Rattle.office_facts.proofs.RunFacts.{cover_of-none, cover_of-more, max_of_three}
-use Rattle.office_facts.proofs.rules.cover_of.Goals as goal
+use Rattle.office_facts.proofs.CoverFacts.{cover_of-none, cover_of-more, max_of_three}
+use Rattle.office_facts.proofs.taking.cover_of.Goals as goal
 
 pub orders-preserved : goal.orders-preserved
 orders-preserved c =

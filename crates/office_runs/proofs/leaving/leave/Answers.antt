@@ -12,7 +12,7 @@ use Rattle.office_facts.specs.Outcome.{outcome}
 use Rattle.office_facts.specs.Walk.{said_within}
 use Rattle.office_facts.proofs.GivenFacts.{given_by_mail, known_by_mail}
 use Rattle.office_orders.proofs.LookFacts.{looked_fails, looked_none, looked_then}
-use Rattle.office_facts.proofs.leaving.leave.Goals as goal
+use Rattle.office_runs.proofs.leaving.leave.Goals as goal
 
 pub returns-in-Ok-clause-outcome : goal.returns-in-Ok-clause-outcome
 returns-in-Ok-clause-outcome g c = λ trusted s stands.

@@ -1,6 +1,6 @@
 use Rattle.std.proofs.lemmas.Result.{on_ok_weaker}
 use Rattle.office_facts.proofs.AgainFacts.{item_upload}
-use Rattle.office_facts.proofs.rules.take_body.Goals as goal
+use Rattle.office_facts.proofs.taking.take_body.Goals as goal
 
 pub returns-in-Item-clause-stand : goal.returns-in-Item-clause-stand
 returns-in-Item-clause-stand c = rw c.in-Item.is c.take_item.ensures.stand

@@ -10,9 +10,9 @@ use Rattle.office_keeper.specs.Provenance.{AreOwnTexts, IsGiven}
 use Rattle.office_facts.specs.Known.{AreUnderWay}
 use Rattle.office_facts.specs.Outcome.{outcome, outcome_in}
 use Rattle.office_facts.specs.Walk.{said_within}
-use Rattle.office_facts.proofs.RunFacts.{next_run}
+use Rattle.office_runs.proofs.RunFacts.{next_run}
 use Rattle.office_facts.proofs.TakenFacts.{said_within-same}
-use Rattle.office_facts.proofs.leaving.next_outcome.Goals as goal
+use Rattle.office_runs.proofs.leaving.next_outcome.Goals as goal
 
 pub returns-in-Ok-clause-outcome : goal.returns-in-Ok-clause-outcome
 returns-in-Ok-clause-outcome g c = λ trusted office first size run.

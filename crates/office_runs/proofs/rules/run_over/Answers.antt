@@ -12,8 +12,8 @@ use Rattle.testing_kept.specs.GivenUpdate.{suite_by}
 use Rattle.testing_model.specs.Updates.{Outcome as Update}
 use Rattle.office_keeper.specs.declared.values.Reports.{Reports}
 use Rattle.office_facts.specs.Outcome.{Outcome, outcome}
-use Rattle.office_facts.proofs.RunFacts.{reported_is}
-use Rattle.office_facts.proofs.rules.run_over.Goals as goal
+use Rattle.office_runs.proofs.RunFacts.{reported_is}
+use Rattle.office_runs.proofs.rules.run_over.Goals as goal
 
 abbrev left : List ℕ → List ℕ → Suite → Outcome
 left excuses updates testing = record { testing = testing; excuses = excuses; updates = updates }

@@ -58,9 +58,6 @@ answer_due r due e = search (rules, e)
 pub answer_no_memory : (due : Result Held DeliverFault) → AnswersDelivery (Err (Mail NoMemory)) due
 answer_no_memory due = search rules
 
-pub ok_read : (setup : Lists) (text : List ℕ) (message : Message) → (Ok message ≡ read setup text) ⊎ (◌≡◌ {A = Result Message MailFault} (Ok message) (Err NoMemory)) → read setup text ≡ Ok message
-ok_read setup text message h = ⊎_elim (λ e. sym e) (λ e. absurd (cc (e))) h
-
 pub answer_fault : (setup : Lists) (kept : Kept) (text : List ℕ) (fault : MailFault) → (Err fault ≡ read setup text) ⊎ (◌≡◌ {A = Result Message MailFault} (Err fault) (Err NoMemory)) → AnswersDelivery (Err (Mail fault)) (answer_to setup kept text)
 unfolding answer_to
 answer_fault setup kept text fault h = ⊎_elim

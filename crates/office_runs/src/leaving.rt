@@ -1,4 +1,4 @@
-//! What a run leaves, and the facts that go with it.
+//! What a run leaves.
 #![tactic(auto, using(office_orders::proofs::LastFacts::lasting))]
 
 ghost use Rattle.std.specs.Prelude.{◌≡◌, ℕ, ◌+◌, ◌<◌, IfOk, IfSome, OnOk, length, slice_index};
@@ -7,9 +7,7 @@ ghost use Rattle.testing_rules.specs.FactDifference.{IsDifference};
 ghost use Rattle.testing_rules.specs.KeptFacts.{KeptFacts};
 ghost use Rattle.testing_rules.specs.StandsFor.{StandsFor};
 ghost use Rattle.testing_rules.specs.Watched.{AllWatchedWork};
-ghost use Rattle.office_mail.specs.declared.setup.Role.TheVariants.{Release as TheRelease};
 ghost use Rattle.office_mail.specs.Runs.{cover_of};
-ghost use Rattle.office_mail.specs.Setup.{count_of};
 ghost use Rattle.office_keeper.specs.FactSet.{AreHoldable, facts_after};
 ghost use Rattle.office_keeper.specs.Provenance.{AreOwnTexts, IsGiven, KnowsArchs};
 ghost use Rattle.office_facts.specs.Known.{AreKnown, AreUnderWay};
@@ -19,16 +17,15 @@ ghost use Rattle.office_orders.specs.Ready.{FirstOrders};
 ghost use Rattle.office_facts.specs.State.{IsOffice};
 ghost use Rattle.office_facts.specs.Walk.{said_within};
 
-use crate::covered::{KnownFacts, facts};
-use crate::retaking::retake;
 use crate::rules::run_beside;
 use jiff::civil::Date;
+use office_facts::covered::{KnownFacts, facts};
+use office_facts::retaking::go_with;
 use office_keeper::{Finished, Keeper};
 use office_mail::{RunOrder, Setup, latest_day};
 use office_orders::stored;
 use office_replies::StoreFault;
 use std::alloc::Global;
-use testing_rules::{FactChanges, Facts, Testing, fallen};
 
 /// What a run leaves, of which and of those before it these are the orders; and what is known for the next one.
 pub fn next_outcome<K: Keeper>(
@@ -117,38 +114,4 @@ fn leave<K: Keeper>(
             Err(fault)
         }
     }
-}
-
-/// The facts of a run go with the testing that it leaves: the uploads of the sources that fell are taken again, and none is
-/// kept that doesn't count there. What changed of their rows is told.
-fn go_with<K: Keeper>(
-    alloc: Global,
-    setup: &Setup,
-    keeper: &mut K,
-    facts: &mut Facts,
-    taken: &[u32],
-    before: &Testing,
-    after: &Testing,
-) -> Result<FactChanges, StoreFault>
-    ensures way { K.is_trusted keeper.new → AreUnderWay setup.now (K.content keeper.old) facts.old → OnOk result (AreUnderWay setup.now (K.content keeper.old) facts.new) }
-    ensures difference { IfOk result (λ changes. IsDifference facts.new.came facts.new.left changes.put changes.gone) }
-    ensures held { K.is_trusted keeper.new → AreUnderWay setup.now (K.content keeper.old) facts.old → AreOwnTexts setup.now (K.content keeper.old).kept
-        → IfOk result (λ changes. AreHoldable setup.now (facts_after changes (K.content keeper.old).facts)) }
-    ensures kept { K.is_trusted keeper.new → StandsFor facts.old (said_within setup.now (K.content keeper.old).kept (slice_index taken.now) (length setup.now.senders)) before.now
-        → OnOk result (KeptFacts facts.new (said_within setup.now (K.content keeper.old).kept (slice_index taken.now) (length setup.now.senders)) after.now) }
-    ensures looks { ReadsStore K.Keeper keeper.old keeper.new result }
-{
-    has_release(setup);
-    let names = fallen(alloc, before, after)?;
-    retake(alloc, setup, keeper, facts, taken, &names)?;
-    facts.trim(after);
-    let changes = facts.changes()?;
-    Ok(changes)
-}
-
-/// The release team has one sender.
-fn has_release(setup: &Setup)
-    ensures { count_of TheRelease setup.now.senders ≡ 1 }
-{
-    let _ = setup.archs();
 }
