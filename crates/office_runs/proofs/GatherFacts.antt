@@ -1,6 +1,7 @@
 -- The letters of a block: what they leave beside what is kept, and which answers they give.
 use Rattle.std.proofs.Common.{◌≡◌, ℕ, Bool, true, false, cond, List, [], ◌∷◌, ◌++◌, Option, Some, None, Result, Ok, Err, IsSome, ◌⊎◌, ⊎_elim, sym, ap, subst, ◌∙◌, refl}
 use Rattle.std.specs.Prelude.{bytes_eq, nat_eq, ◌&&◌, if◌then◌else◌}
+use Rattle.std.specs.List.{AllByRecursion}
 use Rattle.std.specs.Option.{option_map}
 use Rattle.std.specs.Ordering.{eq_by_cmp, is_eq}
 use Rattle.std.specs.FinMap.{get, insert, get-insert}
