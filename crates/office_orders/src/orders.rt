@@ -52,7 +52,7 @@ fn order_in(message: Message) -> Option<RunOrder>
 }
 
 /// The run order of a number, none where it isn't kept.
-pub fn order<K: Keeper>(
+pub(crate) fn order<K: Keeper>(
     alloc: Global,
     setup: &Setup,
     keeper: &mut K,
@@ -68,7 +68,7 @@ pub fn order<K: Keeper>(
 }
 
 /// Reads the orders on up to that of a run, as far as they are kept.
-pub fn read_orders<K: Keeper>(
+pub(crate) fn read_orders<K: Keeper>(
     alloc: Global,
     setup: &Setup,
     keeper: &mut K,
@@ -92,7 +92,7 @@ pub fn read_orders<K: Keeper>(
 }
 
 /// Whether all that an order states is within these numbers, 0 for a sender that has no entry.
-pub fn is_within(order: &RunOrder, counts: &[u32]) -> bool
+pub(crate) fn is_within(order: &RunOrder, counts: &[u32]) -> bool
     ensures { IsTrue result ↔ ((sender : ℕ) → slice_index order.now.covers sender ≤ slice_index counts.now sender) }
 {
     ready(std::slice::from_ref(order), counts) == 1
@@ -201,7 +201,7 @@ fn reach<K: Keeper>(
 }
 
 /// Counts each sender's numbers on, as far as an order wants it.
-pub fn reach_all<K: Keeper>(
+pub(crate) fn reach_all<K: Keeper>(
     setup: &Setup,
     keeper: &mut K,
     order: &RunOrder,
@@ -220,7 +220,7 @@ pub fn reach_all<K: Keeper>(
 }
 
 /// Whether each number that an order states is kept, with the numbers before it.
-pub fn is_there<K: Keeper>(
+pub(crate) fn is_there<K: Keeper>(
     setup: &Setup,
     keeper: &mut K,
     order: &RunOrder,
