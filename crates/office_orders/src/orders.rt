@@ -92,7 +92,7 @@ pub(crate) fn read_orders<K: Keeper>(
 }
 
 /// Whether all that an order states is within these numbers, 0 for a sender that has no entry.
-pub(crate) fn is_within(order: &RunOrder, counts: &[u32]) -> bool
+fn is_within(order: &RunOrder, counts: &[u32]) -> bool
     ensures { IsTrue result ↔ ((sender : ℕ) → slice_index order.now.covers sender ≤ slice_index counts.now sender) }
 {
     ready(std::slice::from_ref(order), counts) == 1
