@@ -12,7 +12,7 @@ use Rattle.office_mail.proofs.KeptFacts.{kept_from-free}
 use Rattle.office_replies.specs.declared.faults.DeliverFault.{DeliverFault}
 use Rattle.office_replies.specs.declared.faults.DeliverFault.TheVariants.{OtherText}
 use Rattle.office_replies.specs.declared.faults.Held.{Held}
-use Rattle.office_runs.specs.State.{AnswersDelivery, answer_at, answer_by, answer_to, held_at}
+use Rattle.office_facts.specs.State.{AnswersDelivery, answer_at, answer_by, answer_to, held_at}
 use Rattle.office_checks.specs.Reading.{IsOther}
 use Rattle.office_checks.proofs.FrontFacts.{put_here}
 

@@ -8,7 +8,7 @@ use Rattle.office_keeper.specs.Content.{Content, item_from_one}
 use Rattle.office_keeper.specs.FactSet.{rows_in}
 use Rattle.office_keeper.specs.MemoryState.{content_of}
 use Rattle.office_keeper.specs.declared.values.Reports.{Reports}
-use Rattle.office_runs.specs.State.{IsOffice}
+use Rattle.office_facts.specs.State.{IsOffice}
 use Rattle.office_checks.specs.Reading.{IsFront}
 use Rattle.office_checks.specs.Whole.{IsForeign, excuses_at, update_at}
 use Rattle.office_checks.specs.declared.bounded.Bounded.{Bounded}

@@ -6,8 +6,8 @@ use Rattle.office_mail.specs.Lists.{Lists}
 use Rattle.office_mail.specs.Runs.{IsReady}
 use Rattle.office_keeper.specs.Content.{Content, item_from_one}
 use Rattle.office_keeper.specs.declared.values.Reports.{Reports}
-use Rattle.office_runs.specs.Outcome.{reports_of, testing_after}
-use Rattle.office_runs.specs.State.{IsOffice, KeepsFacts}
+use Rattle.office_facts.specs.Outcome.{reports_of, testing_after}
+use Rattle.office_facts.specs.State.{IsOffice, KeepsFacts}
 use Rattle.office_checks.specs.declared.Checked.{Checked}
 use Rattle.office_checks.specs.declared.Checked.TheVariants.{Whole, Differs}
 use Rattle.office_checks.specs.declared.Difference.{Difference}

@@ -1,12 +1,12 @@
 //! Whether a store holds what an office leaves.
-#![tactic(auto, using(office_runs::proofs::LastFacts::lasting))]
+#![tactic(auto, using(office_orders::proofs::LastFacts::lasting))]
 
 ghost use Rattle.std.specs.Prelude.{◌≡◌, None, IfOk, is_ok, length};
 ghost use Rattle.office_keeper.specs.MemoryState.{content_of};
 ghost use Rattle.office_replies.specs.Counted.{Counted};
-ghost use Rattle.office_runs.specs.ReadsStore.{ReadsStore};
-ghost use Rattle.office_runs.specs.StaysTrusted.{StaysTrusted};
-ghost use Rattle.office_runs.specs.State.{IsOffice};
+ghost use Rattle.office_orders.specs.ReadsStore.{ReadsStore};
+ghost use Rattle.office_orders.specs.StaysTrusted.{StaysTrusted};
+ghost use Rattle.office_facts.specs.State.{IsOffice};
 ghost use Rattle.office_checks.specs.Comparing.{IsAnew, IsMade, found_by};
 ghost use Rattle.office_checks.specs.Reading.{IsFront};
 ghost use Rattle.office_checks.specs.Whole.{AreOfSenders, IsFound};

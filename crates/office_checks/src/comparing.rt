@@ -1,5 +1,5 @@
 //! What a store holds of its runs, compared with what an office made anew holds.
-#![tactic(auto, using(office_runs::proofs::LastFacts::lasting))]
+#![tactic(auto, using(office_orders::proofs::LastFacts::lasting))]
 
 ghost use Rattle.std.specs.Prelude.{◌≡◌, ◌↔◌, ◌+◌, ◌≤◌, ℕ, IsTrue, Ok, IfOk, IfErr, length};
 ghost use Rattle.office_keeper.specs.Content.{item_from_one};
@@ -7,7 +7,7 @@ ghost use Rattle.office_keeper.specs.FactSet.{rows_in};
 ghost use Rattle.office_keeper.specs.MemoryState.{content_of};
 ghost use Rattle.office_keeper.specs.declared.faults.KeepFault.{KeepFault};
 ghost use Rattle.office_replies.specs.declared.faults.StoreFault.TheVariants.{NoMemory};
-ghost use Rattle.office_runs.specs.ReadsStore.{ReadsStore};
+ghost use Rattle.office_orders.specs.ReadsStore.{ReadsStore};
 ghost use Rattle.office_checks.specs.Comparing.{AreRunsCompared, IsCompared, IsRunDifference};
 
 use crate::Difference;

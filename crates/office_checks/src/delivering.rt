@@ -1,5 +1,5 @@
 //! An office that is made anew from the mail of a store.
-#![tactic(auto, using(office_runs::proofs::LastFacts::lasting))]
+#![tactic(auto, using(office_orders::proofs::LastFacts::lasting))]
 
 ghost use Rattle.std.specs.Prelude.{◌≡◌, ◌≢◌, ◌≤◌, ℕ, IsTrue, false, Some, None, Ok, IfOk, IfErr, IfSome, OnOk};
 ghost use Rattle.std.specs.FinMap.{get, insert};
@@ -7,7 +7,7 @@ ghost use Rattle.office_mail.specs.Kept.{placed};
 ghost use Rattle.office_keeper.specs.Content.{no_content};
 ghost use Rattle.office_keeper.specs.MemoryState.{content_of};
 ghost use Rattle.office_replies.specs.declared.faults.StoreFault.TheVariants as fault;
-ghost use Rattle.office_runs.specs.ReadsStore.{ReadsStore};
+ghost use Rattle.office_orders.specs.ReadsStore.{ReadsStore};
 ghost use Rattle.office_checks.specs.Comparing.{IsAnew, IsTaken, IsAllTaken, IsShort, IsMade};
 ghost use Rattle.office_checks.specs.Reading.{IsFront, IsOther};
 

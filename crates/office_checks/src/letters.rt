@@ -1,9 +1,9 @@
 //! The kept mail of a store, text by text.
-#![tactic(auto, using(office_runs::proofs::LastFacts::lasting))]
+#![tactic(auto, using(office_orders::proofs::LastFacts::lasting))]
 
 ghost use Rattle.std.specs.Prelude.{◌≡◌, IfOk};
 ghost use Rattle.office_keeper.specs.Content.{IsNextNumber, letter_at};
-ghost use Rattle.office_runs.specs.ReadsStore.{ReadsStore};
+ghost use Rattle.office_orders.specs.ReadsStore.{ReadsStore};
 ghost use Rattle.office_checks.specs.Reading.{IsFrom, IsLetterFrom, IsNextLetter};
 
 use office_keeper::{Keeper, Letter};

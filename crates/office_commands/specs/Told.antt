@@ -1,9 +1,9 @@
 -- Steps: no contract of a call that users make rests on this file.
 -- What is told without a run, and its exit status.
 use Rattle.std.specs.Prelude.{◌≡◌, ℕ, List, Option, Some, option_map, length}
-use Rattle.office_runs.specs.Outcome.{testing_after, testing_text}
-use Rattle.office_runs.specs.OfficeState.{OfficeState}
-use Rattle.office_runs.specs.State.{reports_at}
+use Rattle.office_facts.specs.Outcome.{testing_after, testing_text}
+use Rattle.office_facts.specs.OfficeState.{OfficeState}
+use Rattle.office_facts.specs.State.{reports_at}
 use Rattle.office_words.specs.declared.reports.Report.{Report}
 use Rattle.office_words.specs.declared.reports.Report.TheVariants.{Testing, Excuses, Update}
 use Rattle.office_questions.specs.declared.mail.MailCount.{MailCount}

@@ -3,7 +3,7 @@
 ghost use Rattle.std.specs.Prelude.{◌≡◌, IfOk};
 ghost use Rattle.office_commands.specs.Told.{TellsMail};
 ghost use Rattle.office_runs.specs.Preserves.{Asks, Holds};
-ghost use Rattle.office_runs.specs.State.{state_of};
+ghost use Rattle.office_facts.specs.State.{state_of};
 
 use crate::telling::{print_text, refuse, refuse_output};
 use deb_control::Text;

@@ -2,7 +2,7 @@
 
 ghost use Rattle.std.specs.Prelude.{◌≡◌, IfOk};
 ghost use Rattle.office_commands.specs.Told.{report_text, status_of_awaited};
-ghost use Rattle.office_runs.specs.State.{IsSound, state_of};
+ghost use Rattle.office_facts.specs.State.{IsSound, state_of};
 
 use deb_control::Text;
 use office_http::{Office, StoreFault};

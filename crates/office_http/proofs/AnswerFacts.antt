@@ -16,9 +16,9 @@ use Rattle.office_requests.specs.declared.request.Asked.{Asked}
 use Rattle.office_requests.specs.declared.request.Asked.TheVariants as asks
 use Rattle.office_requests.specs.declared.request.Page.{Page}
 use Rattle.office_requests.specs.declared.request.Page.TheVariants as page
-use Rattle.office_runs.specs.OfficeState.{OfficeState}
-use Rattle.office_runs.specs.Waiting.{Awaits, AwaitsBy}
-use Rattle.office_runs.proofs.WaitingFacts.{one_list}
+use Rattle.office_facts.specs.OfficeState.{OfficeState}
+use Rattle.office_orders.specs.Waiting.{Awaits, AwaitsBy}
+use Rattle.office_orders.proofs.WaitingFacts.{one_list}
 use Rattle.office_http.specs.Serve.{page_answer, page_counts, page_awaits, post_answer, post_counts, posted_body, answer_of, counts_ready, tells_awaited}
 
 one_count : (setup : Lists) (kept : Kept) (n m : ℕ) → IsReadyCount setup kept n → IsReadyCount setup kept m → n ≡ m

@@ -39,22 +39,22 @@ use Rattle.office_http.specs.declared.serve.ServeFault.{ServeFault}
 use Rattle.office_http.specs.declared.serve.ServeFault.TheVariants.{Read, Write}
 use Rattle.office_http.specs.declared.serve.Served.{Served}
 use Rattle.office_requests.specs.Asked.{asked_of, body_size, is_head_method}
-use Rattle.office_runs.specs.Losses.{TextCounted, DeliveryCounted}
+use Rattle.office_replays.specs.Losses.{TextCounted, DeliveryCounted}
 use Rattle.office_questions.specs.Mail.{mail_text}
 use Rattle.office_questions.specs.RunLines.{runs_text}
-use Rattle.office_runs.specs.Outcome.{testing_text, testing_after}
+use Rattle.office_facts.specs.Outcome.{testing_text, testing_after}
 use Rattle.office_replies.specs.Replies.{reply_by, mark_of, if_taken}
 use Rattle.office_requests.specs.Reply.{continue_bytes, refused, reply_in, reply_bytes, HasPlace}
 use Rattle.office_requests.specs.Request.{body_room, head_room, BeginsWith}
 use Rattle.office_requests.specs.RequestSteps.{Came, IsHeadAt}
-use Rattle.office_runs.specs.OfficeState.{OfficeState}
-use Rattle.office_runs.specs.State.{answer_to, reports_at}
+use Rattle.office_facts.specs.OfficeState.{OfficeState}
+use Rattle.office_facts.specs.State.{answer_to, reports_at}
 use Rattle.office_replies.specs.Written.{AppendsFront}
 use Rattle.office_http.specs.Serve.{mail_counts, page_answer, page_awaits, page_counts, refusal_for, report_answer, letter_answer, delivery_answer, by_fault, posted_body, post_answer, answer_of, post_counts, waits_of, continued, kept_by, settles, Does, Exchange, IsUnread, IsServed, Replied, RepliedFront, Serves, IsAwaited, StopsBefore, StopsServe}
 use Rattle.office_http.specs.ServeSteps.{status_answer, text_answer, Tells, TellsAwaited, Runs, Answers, ServesHead, ServesFront, StopsRequest}
-use Rattle.office_runs.proofs.ReplayFacts.{Leaves, reply_by-mark, delivery_counted, kept_after}
-use Rattle.office_runs.proofs.RiseFacts.{delivery_weaker, text_weaker}
-use Rattle.office_runs.specs.DeliverySteps.{Settles}
+use Rattle.office_replays.proofs.ReplayFacts.{Leaves, reply_by-mark, delivery_counted, kept_after}
+use Rattle.office_replays.proofs.RiseFacts.{delivery_weaker, text_weaker}
+use Rattle.office_replays.specs.DeliverySteps.{Settles}
 use Rattle.office_replies.proofs.WrittenFacts.{front_after}
 
 -- pages

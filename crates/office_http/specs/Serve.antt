@@ -31,16 +31,16 @@ use Rattle.office_requests.specs.declared.request.Asked.TheVariants as asks
 use Rattle.office_http.specs.declared.serve.ServeFault.{ServeFault}
 use Rattle.office_http.specs.declared.serve.ServeFault.TheVariants.{Read, Write}
 use Rattle.office_requests.specs.Asked.{asked_of, body_size, is_head_method}
-use Rattle.office_runs.specs.Losses.{TextCounted}
+use Rattle.office_replays.specs.Losses.{TextCounted}
 use Rattle.office_questions.specs.declared.mail.MailCount.{MailCount}
 use Rattle.office_questions.specs.Mail.{letters_of, mail_text}
 use Rattle.office_questions.specs.RunLines.{runs_text}
-use Rattle.office_runs.specs.Outcome.{testing_text, testing_after}
+use Rattle.office_facts.specs.Outcome.{testing_text, testing_after}
 use Rattle.office_requests.specs.Reply.{refused, reply_in, reply_bytes, continue_bytes}
 use Rattle.office_requests.specs.Request.{BeginsWith, body_room, field_room, head_room}
-use Rattle.office_runs.specs.OfficeState.{OfficeState}
-use Rattle.office_runs.specs.State.{answer_to, reports_at}
-use Rattle.office_runs.specs.Waiting.{Awaits}
+use Rattle.office_facts.specs.OfficeState.{OfficeState}
+use Rattle.office_facts.specs.State.{answer_to, reports_at}
+use Rattle.office_orders.specs.Waiting.{Awaits}
 use Rattle.office_replies.specs.Written.{AppendsFront}
 
 -- how a fault of memory or of the store is told

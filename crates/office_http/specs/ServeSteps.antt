@@ -16,10 +16,10 @@ use Rattle.office_requests.specs.declared.request.Asked.{Asked}
 use Rattle.office_http.specs.declared.serve.ServeFault.{ServeFault}
 use Rattle.office_http.specs.declared.serve.ServeFault.TheVariants.{Read, Write}
 use Rattle.office_requests.specs.Asked.{body_size}
-use Rattle.office_runs.specs.Losses.{TextCounted}
+use Rattle.office_replays.specs.Losses.{TextCounted}
 use Rattle.office_requests.specs.Request.{body_room}
-use Rattle.office_runs.specs.OfficeState.{OfficeState}
-use Rattle.office_runs.specs.Waiting.{Awaits}
+use Rattle.office_facts.specs.OfficeState.{OfficeState}
+use Rattle.office_orders.specs.Waiting.{Awaits}
 use Rattle.office_replies.specs.Written.{AppendsFront}
 use Rattle.office_http.specs.Serve.{refusal_for, by_fault, page_answer, action_answer, posted_body, answer_of, page_counts, page_awaits, action_counts, counts_ready, tells_awaited, waits_of, continued, Moves, Does, IsWhole, IsAwaited, StopsBefore, Exchange}
 

@@ -14,7 +14,7 @@ ghost use Rattle.office_requests.specs.Request.{body_room, head_room};
 ghost use Rattle.office_requests.specs.RequestSteps.{IsHeadAt};
 ghost use Rattle.office_http.specs.Serve.{mail_counts, refusal_for, report_answer, letter_answer, delivery_answer, waits_of, Does, StopsBefore, Serves, StopsServe};
 ghost use Rattle.office_http.specs.ServeSteps.{status_answer, text_answer, Tells, TellsAwaited, Runs, Answers, StopsRequest, ServesHead};
-ghost use Rattle.office_runs.specs.State.{state_of};
+ghost use Rattle.office_facts.specs.State.{state_of};
 ghost use Rattle.office_replies.specs.Counted.{Counted};
 ghost use Rattle.office_replies.specs.Written.{AppendsFront};
 
@@ -23,13 +23,14 @@ use httparse::spans::{EMPTY_HEADER_SPAN, HeaderSpan, RequestSpans};
 use office_keeper::{Keeper, MailText};
 use office_mail::{Feed, MailFault, ReadFailed, Setup, Sink};
 use office_questions::{MailCount, mail_counts, mail_text, runs_text};
+use office_replays::settle_behind;
 use office_replies::{DeliverFault, Held, Progress, StoreFault, WriteFault, waiting_text};
 use office_requests::routes::routes;
 use office_requests::{
     Action, Answer, Asked, BodyRead, FIELD_ROOM, HeadRead, Page, Posted, Refusal, asked_of,
     is_head_method, read_head, read_up_to, write_answer, write_continue,
 };
-use office_runs::{Office, settle_behind};
+use office_runs::Office;
 use std::alloc::Global;
 use thiserror::Error;
 

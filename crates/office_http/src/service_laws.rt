@@ -4,8 +4,8 @@ ghost use Rattle.office_mail.specs.Runs.{IsReadyCount};
 ghost use Rattle.office_replies.specs.declared.waiting.Awaited.{Awaited};
 ghost use Rattle.office_requests.specs.declared.request.Asked.{Asked};
 ghost use Rattle.office_http.specs.Serve.{answer_of, counts_ready, tells_awaited};
-ghost use Rattle.office_runs.specs.OfficeState.{OfficeState};
-ghost use Rattle.office_runs.specs.Waiting.{Awaits};
+ghost use Rattle.office_facts.specs.OfficeState.{OfficeState};
+ghost use Rattle.office_orders.specs.Waiting.{Awaits};
 
 /// The answer to a request is a function of the request and of the office's state: what `serve_one` says of the ready runs
 /// and of what the next one waits for leaves no other.

@@ -5,7 +5,7 @@ use Rattle.office_replies.specs.Counted.{Counted}
 use Rattle.office_replies.specs.declared.faults.StoreFault.{StoreFault}
 use Rattle.office_runs.specs.Preserves.{Asks, Holds}
 use Rattle.office_runs.proofs.CarryFacts.{asks_none, asks_twice}
-use Rattle.office_runs.proofs.LastFacts.{lasts_none, lasts_then}
+use Rattle.office_orders.proofs.LastFacts.{lasts_none, lasts_then}
 use Rattle.office_questions.specs.declared.faults.AskFault.{AskFault}
 use Rattle.office_questions.specs.Asking.{AsksBoth, AsksOffice, CountsBoth, CountsWrites}
 

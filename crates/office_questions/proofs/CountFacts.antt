@@ -8,7 +8,7 @@ use Rattle.office_mail.specs.Kept.{Kept}
 use Rattle.office_mail.specs.Runs.{greatest}
 use Rattle.office_keeper.specs.declared.values.Letter.{Letter}
 use Rattle.office_keeper.specs.Content.{letters_within, IsNextNumber}
-use Rattle.office_runs.specs.Ready.{HasNumbers}
+use Rattle.office_orders.specs.Ready.{HasNumbers}
 use Rattle.office_questions.specs.declared.mail.MailCount.{MailCount}
 use Rattle.office_questions.specs.Mail.{AreMailCounts, IsMailCount}
 use Rattle.office_questions.specs.Numbers.{IsCountSoFar, NoneAbove, NoneBetween, with_number}

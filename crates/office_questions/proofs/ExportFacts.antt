@@ -19,7 +19,7 @@ use Rattle.office_mail.specs.Laws.{IsOneOf}
 use Rattle.office_mail.proofs.KeptFacts.{get-kept_from, or_else, places_total, same_kept, tied}
 use Rattle.office_keeper.specs.Content.{letter_at, letters_within}
 use Rattle.office_keeper.specs.Provenance.{AreOwnTexts}
-use Rattle.office_runs.specs.Ready.{HasPlaces}
+use Rattle.office_orders.specs.Ready.{HasPlaces}
 use Rattle.office_questions.specs.Export.{kept_bag, kept_texts, sender_texts, texts_to}
 use Rattle.office_questions.proofs.LetterLists.{letter_by}
 use Rattle.office_questions.proofs.TextLists.{texts_in}

@@ -6,12 +6,12 @@ use Rattle.office_keeper.specs.declared.keeping.Keeper.{Ghosts}
 use Rattle.office_keeper.specs.declared.values.Reports.{Reports}
 use Rattle.office_mail.specs.Kept.{Kept}
 use Rattle.office_mail.specs.Lists.{Lists}
-use Rattle.office_runs.specs.OfficeState.{OfficeState}
-use Rattle.office_runs.specs.Outcome.{reports_of}
+use Rattle.office_facts.specs.OfficeState.{OfficeState}
+use Rattle.office_facts.specs.Outcome.{reports_of}
 use Rattle.office_runs.specs.Preserves.{Asks, Holds}
-use Rattle.office_runs.specs.State.{reports_at, state_of}
+use Rattle.office_facts.specs.State.{reports_at, state_of}
 use Rattle.office_runs.proofs.CarryFacts.{holds_first, holds_next, state_asked}
-use Rattle.office_runs.proofs.EndFacts.{reports_there}
+use Rattle.office_runs.proofs.FinishFacts.{reports_there}
 use Rattle.office_questions.specs.RunLines.{run_line, line_on, lines_to}
 
 -- a report of a finished run, or the text in its place

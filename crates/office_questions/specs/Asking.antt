@@ -5,7 +5,7 @@ use Rattle.office_keeper.specs.declared.keeping.Keeper.{Ghosts}
 use Rattle.office_replies.specs.declared.faults.StoreFault.{StoreFault}
 use Rattle.office_replies.specs.Counted.{Counted}
 use Rattle.office_runs.specs.Preserves.{Asks}
-use Rattle.office_runs.specs.StaysTrusted.{StaysTrusted}
+use Rattle.office_orders.specs.StaysTrusted.{StaysTrusted}
 use Rattle.office_questions.specs.declared.faults.AskFault.{AskFault}
 use Rattle.office_questions.specs.declared.faults.AskFault.TheVariants.{NoMemory, Store, Write}
 

@@ -8,7 +8,7 @@ use Rattle.office_mail.specs.Runs.{greatest}
 use Rattle.office_keeper.specs.declared.values.Letter.{Letter}
 use Rattle.office_keeper.specs.Content.{letters_within}
 use Rattle.office_replies.specs.Replies.{name_at}
-use Rattle.office_runs.specs.Ready.{HasNumbers}
+use Rattle.office_orders.specs.Ready.{HasNumbers}
 use Rattle.office_questions.specs.declared.mail.MailCount.{MailCount}
 
 -- all kept mail of a sender with its numbers, by number: a message has a number from 1 to 999,999,999

@@ -4,8 +4,8 @@ use Rattle.std.specs.List.{filter, slice_split, starts_with}
 use Rattle.std.specs.Str.Lines.{lines}
 use Rattle.office_mail.specs.Kept.{Kept}
 use Rattle.office_mail.specs.Lists.{Lists}
-use Rattle.office_runs.specs.OfficeState.{OfficeState}
-use Rattle.office_runs.specs.Outcome.{reports_of}
+use Rattle.office_facts.specs.OfficeState.{OfficeState}
+use Rattle.office_facts.specs.Outcome.{reports_of}
 use Rattle.office_questions.specs.declared.run_lines.LineKind.{LineKind}
 use Rattle.office_questions.specs.declared.run_lines.LineKind.TheVariants.{Excuse, Candidate, Accept, Easy, Remove, Wait}
 

@@ -5,7 +5,7 @@ ghost use Rattle.office_mail.specs.Bag.{IsBag};
 ghost use Rattle.office_mail.specs.Kept.{kept_from};
 ghost use Rattle.office_mail.specs.Lists.{Lists};
 ghost use Rattle.office_keeper.specs.Content.{Content};
-ghost use Rattle.office_runs.specs.State.{IsOffice};
+ghost use Rattle.office_facts.specs.State.{IsOffice};
 ghost use Rattle.office_questions.specs.Export.{kept_bag, kept_texts};
 
 /// The bag of all kept mail is a backup: its messages, delivered where nothing is kept, leave what is kept.

@@ -4,7 +4,7 @@ ghost use Rattle.std.specs.Prelude.{◌≡◌, ◌++◌, ◌≤◌, [], IfOk, On
 ghost use Rattle.std.specs.Option.{option_map};
 ghost use Rattle.office_replies.specs.Counted.{Counted};
 ghost use Rattle.office_runs.specs.Preserves.{Asks, Holds};
-ghost use Rattle.office_runs.specs.State.{reports_at, state_of};
+ghost use Rattle.office_facts.specs.State.{reports_at, state_of};
 ghost use Rattle.office_questions.specs.RunLines.{word_at, has_word, is_line, count_of, date_of, excuse_counts, update_counts, run_line, line_on, runs_text};
 
 use deb_control::Text;

@@ -11,10 +11,10 @@ use Rattle.office_replies.specs.declared.faults.DeliverFault.TheVariants as deli
 use Rattle.office_replies.specs.declared.faults.Held.{Held}
 use Rattle.office_runs.specs.Preserves.{HasNotFallen, Holds, StoreRefused, Preserves, Asks}
 use Rattle.office_replies.specs.Counted.{Counted, CountedDelivery}
-use Rattle.office_runs.specs.StaysTrusted.{StaysTrusted}
-use Rattle.office_runs.specs.OfficeState.{OfficeState}
-use Rattle.office_runs.specs.State.{IsSound, state_of}
-use Rattle.office_runs.proofs.LastFacts.{risen_after, risen_before, lasts_none}
+use Rattle.office_orders.specs.StaysTrusted.{StaysTrusted}
+use Rattle.office_facts.specs.OfficeState.{OfficeState}
+use Rattle.office_facts.specs.State.{IsSound, state_of}
+use Rattle.office_orders.proofs.LastFacts.{risen_after, risen_before, lasts_none}
 
 not_fallen_same : (a b : ℕ) → b ≡ a → HasNotFallen a b
 not_fallen_same a b e = omega (arith, e)

@@ -8,36 +8,19 @@ use Rattle.jiff.specs.declared.civil.dates.Date.{Date}
 use Rattle.office_mail.specs.declared.message.RunOrder.{RunOrder}
 use Rattle.office_mail.specs.Lists.{Lists}
 use Rattle.office_mail.specs.Kept.{Kept}
-use Rattle.office_mail.specs.Runs.{orders_to, latest_day, IsReady, IsReadyCount}
-use Rattle.office_mail.proofs.RunFacts.{IsReady-before}
+use Rattle.office_mail.specs.Runs.{orders_to, latest_day, IsReady}
 use Rattle.office_keeper.specs.declared.values.Reports.{Reports}
 use Rattle.office_keeper.specs.declared.values.Finished.{Finished}
 use Rattle.office_keeper.specs.Content.{Content, item_from_one, reports_in, with_run}
 use Rattle.office_keeper.specs.Provenance.{AreOwnTexts}
-use Rattle.office_runs.specs.State.{IsOffice, KeepsFacts, reports_at}
+use Rattle.office_facts.specs.OfficeState.{OfficeState}
+use Rattle.office_facts.specs.State.{IsOffice, KeepsFacts, reports_at}
 use Rattle.testing_rules.specs.Watched.{AllWatchedWork}
-use Rattle.office_runs.specs.Outcome.{Outcome, Testing, covered_items, outcome, outcome_in, outcome_on, outcome_of, reports_from, reports_of, reports_to, testing_after}
-
-pub IsReady-down : (setup : Lists) (kept : Kept) (n m : ℕ) → m ≤ n → IsReady setup kept n → IsReady setup kept m
-IsReady-down setup kept zero m le ready = let none : m ≡ 0 = omega arith in rw none ready
-IsReady-down setup kept (suc n) m le ready = ⊎_elim
-    (λ (lt : n < m). let all : m ≡ suc n = omega arith in rw all ready)
-    (λ (low : m ≤ n). IsReady-down setup kept n m low (IsReady-before setup kept n ready))
-    (cases_lt n m)
+use Rattle.office_facts.specs.Outcome.{Outcome, Testing, covered_items, outcome, outcome_in, outcome_on, outcome_of, reports_from, reports_of, reports_to, testing_after}
 
 outcome_of-suc : (setup : Lists) (kept : Kept) (n : ℕ) → outcome_of setup kept (suc n) ≡ outcome_on setup (suc n) (latest_day (orders_to setup kept (suc n))) (covered_items setup kept (suc n)) (testing_after setup kept n)
 unfolding outcome_of
 outcome_of-suc setup kept n = refl
-
--- a ready run that none follows is the last
-pub ready_count : (setup : Lists) (kept : Kept) (n : ℕ) → IsReady setup kept n → (IsReady setup kept (n + 1) → ⊥) → IsReadyCount setup kept n
-ready_count setup kept n ready none = record {
-  holds = ready;
-  none_above = λ m above. ⊎_elim
-      (λ (lt : n < m). absurd (none (IsReady-down setup kept m (n + 1) (omega arith) above)))
-      (λ (le : m ≤ n). le)
-      (cases_lt n m);
-}
 
 -- the next run by the rules, on the day of its orders
 pub outcome_is : (setup : Lists) (kept : Kept) (orders : List RunOrder) (n : ℕ) (date : Date) → orders ≡ orders_to setup kept (n + 1) → Some date ≡ latest_day orders → outcome setup (n + 1) date (covered_items setup kept (n + 1)) (testing_after setup kept n) ≡ outcome_of setup kept (n + 1)
@@ -117,3 +100,12 @@ report_is setup content run office first last =
     reports_at-is setup content run office
     ∙ ap (λ b. shown b (nat_le run (length content.reports)) (reports_of setup content.kept run)) (le-leb 1 run first)
     ∙ ap (λ b. shown true b (reports_of setup content.kept run)) (le-leb run (length content.reports) last)
+
+by_test : {A : Type 0} (a b : Bool) (x : A) → a ≡ true → b ≡ true → (if a && b then Some x else None) ≡ Some x
+by_test true true x e f = refl
+by_test true false x e f = absurd (cc (f))
+by_test false b x e f = absurd (cc (e))
+
+-- a finished run has its reports
+pub reports_there : (s : OfficeState) (run : ℕ) → 1 ≤ run → run ≤ s.finished → reports_at s run ≡ Some (reports_of s.setup s.kept run)
+reports_there s run h k = by_test (nat_le 1 run) (nat_le run s.finished) (reports_of s.setup s.kept run) (le-leb 1 run h) (le-leb run s.finished k)

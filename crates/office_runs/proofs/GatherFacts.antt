@@ -1,6 +1,7 @@
 -- The letters of a block: what they leave beside what is kept, and which answers they give.
 use Rattle.std.proofs.Common.{◌≡◌, ℕ, Bool, true, false, cond, List, [], ◌∷◌, ◌++◌, Option, Some, None, Result, Ok, Err, IsSome, ◌⊎◌, ⊎_elim, sym, ap, subst, ◌∙◌, refl}
 use Rattle.std.specs.Prelude.{bytes_eq, nat_eq, ◌&&◌, if◌then◌else◌}
+use Rattle.std.specs.List.{AllByRecursion}
 use Rattle.std.specs.Option.{option_map}
 use Rattle.std.specs.Ordering.{eq_by_cmp, is_eq}
 use Rattle.std.specs.FinMap.{get, insert, get-insert}
@@ -19,8 +20,9 @@ use Rattle.office_keeper.specs.declared.values.NewLetter.{NewLetter}
 use Rattle.office_replies.specs.declared.faults.DeliverFault.{DeliverFault}
 use Rattle.office_replies.specs.declared.faults.DeliverFault.TheVariants.{Mail, OtherText}
 use Rattle.office_replies.specs.declared.faults.Held.{Held}
-use Rattle.office_runs.specs.State.{IsOffice, answer_to, answer_by, answer_at, held_at}
-use Rattle.office_runs.specs.BlockSteps.{Gathers, TakesText, answers_to, letter_of, own_text, ArePlaced}
+use Rattle.office_facts.specs.State.{IsOffice, answer_to, answer_by, answer_at, held_at}
+use Rattle.office_runs.specs.GatherSteps.{Gathers, TakesText, letter_of, own_text, ArePlaced}
+use Rattle.office_runs.specs.Together.{answers_to}
 use Rattle.office_runs.proofs.OfficeFacts.{some_of, places-put, IsOffice-later}
 
 -- ---- letters at free places
@@ -253,3 +255,8 @@ IsOffice-mail setup old new ls rs texts office so placed put =
 
 pub Within-mail : (old new : Kept) (ls : List NewLetter) → AreFree old ls → new ≡ with_letters old ls → Within old new
 Within-mail old new ls free is = subst (Within old) (sym is) (within_letters old ls free)
+
+-- one more of which this is true
+pub each_push : {A : Type 0} (P : A → Type 0) (xs : List A) (x : A) → AllByRecursion P xs → P x → AllByRecursion P (xs ++ x ∷ [])
+each_push P [] x h k = (k, tt)
+each_push P (y ∷ ys) x h k = (h.0, each_push P ys x h.1 k)

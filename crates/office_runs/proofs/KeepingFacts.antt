@@ -1,5 +1,5 @@
 -- What is known of the kept facts, after a delivery and behind a run.
-use Rattle.std.proofs.Common.{◌≡◌, ℕ, ◌+◌, ◌<◌, ◌≤◌, List, [], length, slice_index, Option, Some, None, IfSome, IsSome, sym, ap, subst, ◌∙◌, refl, arith}
+use Rattle.std.proofs.Common.{◌≡◌, ℕ, ◌+◌, ◌<◌, ◌≤◌, List, [], length, slice_index, Option, Some, None, IfSome, IsSome, sym, ap, subst, ◌∙◌, arith}
 use Rattle.std.specs.Prelude.{Contains}
 use Rattle.std.specs.FinMap.{get}
 use Rattle.testing_model.specs.declared.fact_row.FactRow.{FactRow}
@@ -8,33 +8,30 @@ use Rattle.testing_model.specs.declared.facts.DelaysIn.{DelaysIn}
 use Rattle.testing_model.specs.FactDifference.{IsChangedFrom, IsDifference}
 use Rattle.testing_model.specs.FactLists.{FactLists}
 use Rattle.testing_model.specs.FactRows.{rows_of, times}
-use Rattle.testing_model.specs.KeptFacts.{KeptFacts, counts_beside, trimmed}
+use Rattle.testing_model.specs.KeptFacts.{KeptFacts}
 use Rattle.testing_model.specs.StandsFor.{StandsFor}
-use Rattle.testing_model.specs.Suite.{Suite}
 use Rattle.testing_model.specs.Tells.{Tells}
 use Rattle.testing_rules.specs.Covered.{Covered}
-use Rattle.testing_facts.proofs.KeptUploads.{by_message-filter}
-use Rattle.testing_kept.proofs.Logging.{trims_log}
-use Rattle.testing_kept.proofs.Said.{more_tell, trimmed_tell}
+use Rattle.testing_kept.proofs.Said.{more_tell}
 use Rattle.office_mail.specs.declared.message.RunOrder.{RunOrder}
 use Rattle.office_setup.specs.declared.setup.Role.TheVariants.{Release}
 use Rattle.office_mail.specs.Kept.{Kept, Within, Place, IsPlace}
 use Rattle.office_mail.specs.Lists.{Lists}
-use Rattle.office_mail.specs.Runs.{cover, cover_of, order_at, orders_to}
+use Rattle.office_mail.specs.Runs.{cover_of, order_at, orders_to}
 use Rattle.office_mail.specs.Setup.{place_of_role}
 use Rattle.office_mail.proofs.RunFacts.{order_at-later, orders_to-later}
 use Rattle.office_keeper.specs.Content.{Content}
 use Rattle.office_keeper.specs.FactSet.{FactSet, count_in, facts_after, AreHoldable}
-use Rattle.office_runs.specs.declared.covered.KnownFacts.{KnownFacts}
-use Rattle.office_runs.specs.Known.{AreKnown, AreUnderWay, said_all}
-use Rattle.office_runs.specs.Outcome.{covered_items}
-use Rattle.office_runs.specs.Ready.{FirstOrders, HasEach}
-use Rattle.office_runs.specs.State.{IsOffice, KeepsFacts}
-use Rattle.office_runs.specs.Walk.{said_within}
-use Rattle.office_runs.proofs.CountFacts.{some_later}
-use Rattle.office_runs.proofs.KeptRows.{count_is, holdable, release_by_test}
-use Rattle.office_runs.proofs.SaidFacts.{all_later, one_of_all}
-use Rattle.office_runs.proofs.WalkFacts.{stands_for_covered}
+use Rattle.office_facts.specs.declared.covered.KnownFacts.{KnownFacts}
+use Rattle.office_facts.specs.Known.{AreKnown, AreUnderWay, said_all}
+use Rattle.office_facts.specs.Outcome.{covered_items}
+use Rattle.office_orders.specs.Ready.{FirstOrders, HasEach}
+use Rattle.office_facts.specs.State.{KeepsFacts}
+use Rattle.office_facts.specs.Walk.{said_within}
+use Rattle.office_orders.proofs.CountFacts.{some_later}
+use Rattle.office_facts.proofs.KeptRows.{count_is, holdable, release_by_test}
+use Rattle.office_facts.proofs.SaidFacts.{all_later, one_of_all}
+use Rattle.office_facts.proofs.WalkFacts.{stands_for_covered}
 
 -- Facts under way, over more mail and the same kept rows.
 AreUnderWay-later : (setup : Lists) (old new : Content) (f : FactLists) → Within old.kept new.kept → new.facts ≡ old.facts → AreUnderWay setup old f → AreUnderWay setup new f
@@ -42,14 +39,6 @@ AreUnderWay-later setup old new f within same way = record {
   tells = more_tell (said_all setup old.kept) (said_all setup new.kept) (all_later setup old.kept new.kept within) f way.tells;
   by_message = way.by_message;
   rows = subst (λ (s : FactSet). IsChangedFrom (count_in s) f) (sym same) way.rows;
-}
-
--- And trimmed.
-pub AreUnderWay-trimmed : (setup : Lists) (content : Content) (t : Suite) (f : FactLists) → AreUnderWay setup content f → AreUnderWay setup content (trimmed t f)
-AreUnderWay-trimmed setup content t f way = record {
-  tells = trimmed_tell t f (said_all setup content.kept) way.tells;
-  by_message = by_message-filter (counts_beside t) f.uploads way.by_message;
-  rows = trims_log (count_in content.facts) t f way.rows;
 }
 
 -- a delivery leaves what is known

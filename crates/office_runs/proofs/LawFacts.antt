@@ -8,8 +8,8 @@ use Rattle.office_mail.proofs.LawFacts.{same_kept_from}
 use Rattle.office_keeper.specs.Content.{Content, item_from_one}
 use Rattle.office_keeper.specs.declared.values.Reports.{Reports}
 use Rattle.office_runs.specs.Laws.{RunsStand, TookTexts}
-use Rattle.office_runs.specs.Outcome.{Outcome, reports_of, reports_to, testing_after}
-use Rattle.office_runs.specs.State.{IsOffice}
+use Rattle.office_facts.specs.Outcome.{Outcome, reports_of, reports_to, testing_after}
+use Rattle.office_facts.specs.State.{IsOffice}
 use Rattle.office_runs.proofs.FinishFacts.{report_is, reports_to-suc}
 use Rattle.office_runs.proofs.OfficeFacts.{outcome_of-later, reports_to-later}
 

@@ -34,14 +34,14 @@ use Rattle.office_keeper.specs.FactSet.{FactSet, count_in}
 use Rattle.office_keeper.specs.LastDelays.{delays_in_body, TellsDelays, IsLastTold, GetsLast, release_delays, with_last}
 use Rattle.office_keeper.specs.Provenance.{AreOwnTexts, IsKept}
 use Rattle.office_keeper.proofs.FactSets.{has-insert}
-use Rattle.office_runs.specs.Known.{said_all}
+use Rattle.office_facts.specs.Known.{said_all}
 use Rattle.office_runs.specs.Migrated.{without_delays, KeepsFactsBefore, IsOfficeBefore}
-use Rattle.office_runs.specs.Outcome.{item_in_body, item_in_answer, item_at, covered_items}
-use Rattle.office_runs.specs.State.{IsOffice, KeepsFacts}
-use Rattle.office_runs.specs.Walk.{item_of}
-use Rattle.office_runs.proofs.GivenFacts.{says}
-use Rattle.office_runs.proofs.SaidFacts.{said_at_place, told_by_release}
-use Rattle.office_runs.proofs.WalkFacts.{at_place, of_text, within_place, place_within, same_messages}
+use Rattle.office_facts.specs.Outcome.{item_in_body, item_in_answer, item_at, covered_items}
+use Rattle.office_facts.specs.State.{IsOffice, KeepsFacts}
+use Rattle.office_facts.specs.Walk.{item_of}
+use Rattle.office_facts.proofs.GivenFacts.{says}
+use Rattle.office_facts.proofs.SaidFacts.{said_at_place, told_by_release}
+use Rattle.office_facts.proofs.WalkFacts.{at_place, of_text, within_place, place_within, same_messages}
 
 -- ---- how often a row stands among those of facts
 

@@ -15,7 +15,7 @@ use Rattle.office_replies.specs.declared.faults.Held.{Held}
 use Rattle.office_keeper.specs.Content.{Content, no_content, with_text}
 use Rattle.office_keeper.specs.FactSet.{FactSet, count_in}
 use Rattle.office_keeper.specs.Provenance.{AreOwnTexts}
-use Rattle.office_runs.specs.State.{IsOffice, KeepsFacts, AnswersDelivery, answer_to, answer_by, answer_at}
+use Rattle.office_facts.specs.State.{IsOffice, KeepsFacts, AnswersDelivery, answer_to, answer_by, answer_at}
 use Rattle.office_mail.specs.declared.message.RunOrder.{RunOrder}
 use Rattle.office_mail.specs.Lists.{Lists}
 use Rattle.office_mail.specs.Runs.{orders_to, latest_day, IsReady}
@@ -28,9 +28,9 @@ use Rattle.testing_model.specs.FactLists.{no_facts}
 use Rattle.testing_model.specs.FactRows.{row_order}
 use Rattle.testing_model.specs.KeptFacts.{KeptFacts}
 use Rattle.testing_rules.specs.Watched.{AllWatchedWork}
-use Rattle.office_runs.proofs.WalkFacts.{none_covered}
+use Rattle.office_facts.proofs.WalkFacts.{none_covered}
 use Rattle.testing_rules.specs.Covered.{Covered}
-use Rattle.office_runs.specs.Outcome.{Outcome, Testing, item_at, covered_items, outcome_on, outcome_of, reports_from, reports_of, reports_to, testing_after}
+use Rattle.office_facts.specs.Outcome.{Outcome, Testing, item_at, covered_items, outcome_on, outcome_of, reports_from, reports_of, reports_to, testing_after}
 
 pub covered_items-later : (setup : Lists) (small large : Kept) (k : ℕ) → Within small large → IsReady setup small k → covered_items setup large k ≡ covered_items setup small k
 unfolding covered_items
@@ -57,9 +57,6 @@ answer_due r due e = search (rules, e)
 
 pub answer_no_memory : (due : Result Held DeliverFault) → AnswersDelivery (Err (Mail NoMemory)) due
 answer_no_memory due = search rules
-
-pub ok_read : (setup : Lists) (text : List ℕ) (message : Message) → (Ok message ≡ read setup text) ⊎ (◌≡◌ {A = Result Message MailFault} (Ok message) (Err NoMemory)) → read setup text ≡ Ok message
-ok_read setup text message h = ⊎_elim (λ e. sym e) (λ e. absurd (cc (e))) h
 
 pub answer_fault : (setup : Lists) (kept : Kept) (text : List ℕ) (fault : MailFault) → (Err fault ≡ read setup text) ⊎ (◌≡◌ {A = Result Message MailFault} (Err fault) (Err NoMemory)) → AnswersDelivery (Err (Mail fault)) (answer_to setup kept text)
 unfolding answer_to

@@ -1,5 +1,5 @@
 -- A run by the rules.
-use Rattle.std.proofs.Common.{◌≡◌, ℕ, ◌+◌, List, [], ◌∷◌, length, max, slice_index, Some, sym, ap, subst, ◌∙◌, refl, arith}
+use Rattle.std.proofs.Common.{◌≡◌, ℕ, ◌+◌, List, length, Some, sym, ap, subst, ◌∙◌}
 use Rattle.office_mail.specs.declared.message.RunOrder.{RunOrder}
 use Rattle.office_mail.specs.Runs.{cover_of, cover, latest_day, orders_to}
 use Rattle.jiff.specs.declared.civil.dates.Date.{Date}
@@ -13,11 +13,11 @@ use Rattle.office_mail.specs.Lists.{Lists}
 use Rattle.testing_rules.specs.FactLists.{FactLists}
 use Rattle.testing_rules.specs.StandsFor.{StandsFor}
 use Rattle.office_keeper.specs.Content.{Content}
-use Rattle.office_runs.specs.Ready.{FirstOrders}
-use Rattle.office_runs.specs.State.{IsOffice}
-use Rattle.office_runs.specs.Walk.{said_within}
-use Rattle.office_runs.specs.Outcome.{Outcome, Testing, covered_items, outcome, outcome_of, reported}
-use Rattle.office_runs.proofs.WalkFacts.{stands_for_covered}
+use Rattle.office_orders.specs.Ready.{FirstOrders}
+use Rattle.office_facts.specs.State.{IsOffice}
+use Rattle.office_facts.specs.Walk.{said_within}
+use Rattle.office_facts.specs.Outcome.{Outcome, Testing, covered_items, outcome, outcome_of, reported}
+use Rattle.office_facts.proofs.WalkFacts.{stands_for_covered}
 use Rattle.office_runs.proofs.FinishFacts.{outcome_is}
 
 -- what is written and left by the excuses and the decisions is the run's outcome
@@ -27,18 +27,6 @@ reported_is setup run date s t new es ds e u =
     ap (λ (d : List Decision). reported setup run date es (record { decisions = d; suite = new })) u.0
     ∙ ap (λ (x : Suite). reported setup run date es (record { decisions = (update_of setup.archs s es t).decisions; suite = x })) u.1
     ∙ ap (λ (x : List Excuse). reported setup run date x (update_of setup.archs s x t)) e
-
--- no order covers anything, and one more order covers the greater number
-pub cover_of-none : (sender : ℕ) → cover_of [] sender ≡ 0
-unfolding cover_of
-cover_of-none sender = refl
-
-pub cover_of-more : (order : RunOrder) (orders : List RunOrder) (sender : ℕ) → cover_of (order ∷ orders) sender ≡ max (slice_index order.covers sender) (cover_of orders sender)
-unfolding cover_of
-cover_of-more order orders sender = refl
-
-pub max_of_three : (a b n : ℕ) → max (max a b) n ≡ max a (max b n)
-max_of_three a b n = omega arith
 
 -- a run over the facts of its covered mail is the office's next run
 pub next_run : (setup : Lists) (content : Content) (orders : List RunOrder) (run : ℕ) (date : Date) (facts : FactLists) (testing : Testing) (left : Outcome) → IsOffice setup content → FirstOrders setup content.kept orders → length orders ≡ length content.reports + 1 → run ≡ length content.reports + 1 → testing ≡ content.testing → Some date ≡ latest_day orders → StandsFor facts (said_within setup content.kept (cover_of orders) (length setup.senders)) testing → ((s : Covered) → StandsFor facts s testing → left ≡ outcome setup run date s testing) → left ≡ outcome_of setup content.kept run

@@ -6,7 +6,7 @@ use Rattle.office_mail.specs.Laws.{OneText}
 use Rattle.office_mail.specs.Lists.{Lists}
 use Rattle.office_keeper.specs.Content.{Content}
 use Rattle.office_keeper.specs.declared.values.Reports.{Reports}
-use Rattle.office_runs.specs.State.{IsOffice}
+use Rattle.office_facts.specs.State.{IsOffice}
 
 -- an office that kept what these deliveries leave, of which no sender gives one number two texts
 pub record TookTexts (setup : Lists) (texts : List (List ℕ)) (content : Content) : Type 0 where

@@ -12,7 +12,7 @@ use Rattle.office_mail.specs.Runs.{IsReady}
 use Rattle.office_keeper.specs.Content.{Content}
 use Rattle.office_keeper.specs.FactSet.{count_in}
 use Rattle.office_keeper.specs.Provenance.{AreOwnTexts}
-use Rattle.office_runs.specs.Outcome.{covered_items, reports_to, testing_after}
+use Rattle.office_facts.specs.Outcome.{covered_items, reports_to, testing_after}
 
 -- the facts without the last delays
 abbrev pub without_delays : FactLists → FactLists

@@ -2,8 +2,8 @@
 use Rattle.std.specs.Prelude.{◌≡◌, ℕ, ◌≤◌, false, min}
 use Rattle.office_mail.specs.Counts.{HasRisen, most}
 use Rattle.office_keeper.specs.declared.keeping.Keeper.{Ghosts}
-use Rattle.office_runs.specs.StaysTrusted.{StaysTrusted}
-use Rattle.office_runs.specs.State.{IsSound}
+use Rattle.office_orders.specs.StaysTrusted.{StaysTrusted}
+use Rattle.office_facts.specs.State.{IsSound}
 
 -- a count didn't fall, unless it was above the greatest
 abbrev pub HasNotFallen : ℕ → ℕ → Type 0

@@ -1,5 +1,5 @@
 //! Texts that are kept together: their letters are gathered first, and then kept all at once.
-#![tactic(auto, using(crate::proofs::LastFacts::lasting))]
+#![tactic(auto, using(office_orders::proofs::LastFacts::lasting))]
 
 ghost use Rattle.std.specs.Prelude.{is_ok, ◌≡◌, ◌≢◌, ◌<◌, ◌++◌, ◌∷◌, [], false, Ok, Err, None, Some, IfOk, OnOk, OnErr, IfSome, bytes_eq, length, if◌then◌else◌};
 ghost use Rattle.std.specs.Option.{option_map};
@@ -7,15 +7,16 @@ ghost use Rattle.office_keeper.specs.NewMail.{AreFree, with_letters, with_mail};
 ghost use Rattle.office_mail.specs.Kept.{kept_from, place_of, IsPlace, Within};
 ghost use Rattle.office_mail.specs.Read.{read};
 ghost use Rattle.office_replies.specs.Counted.{Counted};
-ghost use Rattle.office_runs.specs.BlockSteps.{AreHeldHere, ArePlaced, Gathers, TakesText, answers_to, letter_of, own_text};
-ghost use Rattle.office_runs.specs.ReadsStore.{ReadsStore};
-ghost use Rattle.office_runs.specs.StaysTrusted.{StaysTrusted};
-ghost use Rattle.office_runs.specs.State.{IsOffice};
+ghost use Rattle.office_runs.specs.GatherSteps.{ArePlaced, Gathers, TakesText, letter_of, own_text};
+ghost use Rattle.office_runs.specs.Together.{AreHeldHere, answers_to};
+ghost use Rattle.office_orders.specs.ReadsStore.{ReadsStore};
+ghost use Rattle.office_orders.specs.StaysTrusted.{StaysTrusted};
+ghost use Rattle.office_facts.specs.State.{IsOffice};
 
 use crate::posting::compare;
-use crate::stored;
 use office_keeper::{Keeper, MailText, NewLetter};
 use office_mail::{MailFault, Message, Setup, read_message};
+use office_orders::stored;
 use office_replies::{DeliverFault, Held, StoreFault};
 use std::alloc::Global;
 

@@ -1,5 +1,5 @@
 //! What is true of every store, and of every office whatever mail comes and in whatever order.
-ghost use Rattle.std.specs.Prelude.{◌≡◌, ◌+◌, ◌≤◌, ◌↔◌, ⊤, ℕ, List, [], length, Contains, Option, Some, None, false};
+ghost use Rattle.std.specs.Prelude.{◌≡◌, ◌+◌, ◌≤◌, ◌↔◌, ℕ, List, [], length, Contains, Some, None};
 ghost use Rattle.std.specs.FinMap.{get};
 ghost use Rattle.office_mail.specs.Kept.{Kept, Within};
 ghost use Rattle.office_mail.specs.Laws.{SameTexts};
@@ -11,14 +11,11 @@ ghost use Rattle.office_setup.specs.declared.setup.Role.TheVariants.{Release};
 ghost use Rattle.office_keeper.specs.Content.{Content, item_from_one, no_content};
 ghost use Rattle.office_keeper.specs.LastDelays.{GetsLast};
 ghost use Rattle.office_replies.specs.declared.waiting.Lack.{Lack};
-ghost use Rattle.office_runs.specs.Blocks.{DeliversTexts};
 ghost use Rattle.office_runs.specs.Laws.{RunsStand, TookTexts};
 ghost use Rattle.office_runs.specs.Migrated.{IsOfficeBefore};
-ghost use Rattle.office_runs.specs.OfficeState.{OfficeState};
-ghost use Rattle.office_runs.specs.Outcome.{outcome_of, reports_to};
-ghost use Rattle.office_runs.specs.Output.{reply_lines};
-ghost use Rattle.office_runs.specs.State.{IsOffice, IsSound};
-ghost use Rattle.office_runs.specs.Waiting.{AreLacks};
+ghost use Rattle.office_facts.specs.Outcome.{outcome_of, reports_to};
+ghost use Rattle.office_facts.specs.State.{IsOffice, IsSound};
+ghost use Rattle.office_orders.specs.Waiting.{AreLacks};
 
 use office_keeper::Keeper;
 
@@ -63,10 +60,4 @@ pub fn lacks_are_needed()
     ensures mail { (setup : Lists) (small large : Kept) (n : ℕ) (order : RunOrder) (lacks : List Lack) (lack : Lack) → Within small large → order_at setup small (n + 1) ≡ Some order → AreLacks small order (length setup.senders) lacks → Contains lacks lack → get large (lack.sender, lack.number) ≡ None → IsReady setup large (n + 1) → ⊥ }
     // So must an order that isn't kept.
     ensures order { (setup : Lists) (kept : Kept) (n : ℕ) → order_at setup kept (n + 1) ≡ None → IsReady setup kept (n + 1) → ⊥ }
-{}
-
-/// Where nothing is lost, texts that are kept a block at a time leave the same mail as texts that are delivered one by
-/// one, and the same lines answer them.
-pub fn blocks_are_no_other()
-    ensures { (s a b : OfficeState) (texts : List (List ℕ)) (w v x : Option (List ℕ)) → (p : DeliversTexts s a texts w v false ⊤) → (q : DeliversTexts s b texts w x false ⊤) → (a.kept ≡ b.kept) × (reply_lines s.setup s.kept p.deliveries ≡ reply_lines s.setup s.kept q.deliveries) }
 {}

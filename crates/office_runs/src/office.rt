@@ -1,7 +1,7 @@
 //! The office: what it takes, finishes and reports.
-#![tactic(auto, using(crate::proofs::LastFacts::lasting))]
+#![tactic(auto, using(office_orders::proofs::LastFacts::lasting))]
 
-ghost use Rattle.std.specs.Prelude.{is_ok, ◌≡◌, ℕ, ◌+◌, ◌≤◌, ◌<◌, ◌∷◌, [], None, IfOk, IfSome, OnOk, OnErr, length};
+ghost use Rattle.std.specs.Prelude.{is_ok, ◌≡◌, ◌+◌, ◌≤◌, ◌<◌, ◌∷◌, [], None, IfOk, IfSome, OnOk, OnErr, length};
 ghost use Rattle.std.specs.FinMap.{get};
 ghost use Rattle.std.specs.Option.{option_map};
 ghost use Rattle.testing_rules.specs.Watched.{AllWatchedWork};
@@ -10,21 +10,22 @@ ghost use Rattle.office_mail.specs.Runs.{IsReady, IsReadyCount};
 ghost use Rattle.office_keeper.specs.Content.{IsNextNumber};
 ghost use Rattle.office_keeper.specs.Provenance.{AreOwnTexts};
 ghost use Rattle.office_replies.specs.Counted.{Counted, CountedDelivery};
-ghost use Rattle.office_runs.specs.BlockSteps.{AreHeldHere, answers_to};
-ghost use Rattle.office_runs.specs.StaysTrusted.{StaysTrusted};
-ghost use Rattle.office_runs.specs.Outcome.{testing_after, testing_text};
-ghost use Rattle.office_runs.specs.State.{IsSound, KeepsFacts, state_of, answer_to, AnswersDelivery, reports_at};
-ghost use Rattle.office_runs.specs.Waiting.{Awaits, AwaitsSome};
+ghost use Rattle.office_runs.specs.Together.{AreHeldHere, answers_to};
+ghost use Rattle.office_orders.specs.StaysTrusted.{StaysTrusted};
+ghost use Rattle.office_facts.specs.Outcome.{testing_after, testing_text};
+ghost use Rattle.office_facts.specs.State.{IsSound, KeepsFacts, state_of, answer_to, AnswersDelivery, reports_at};
+ghost use Rattle.office_orders.specs.Waiting.{Awaits, AwaitsSome};
 
-use crate::covered::KnownFacts;
 use crate::gathering::{Reply, keep_texts};
 use crate::posting::deliver;
-use crate::runs::{ready_count, settle};
-use crate::stored;
-use crate::waiting::waiting;
+use crate::runs::settle;
 use deb_control::{NoMemory, Text};
+use office_facts::covered::KnownFacts;
 use office_keeper::{Keeper, MailText, Reports};
 use office_mail::{RunOrder, Setup};
+use office_orders::ready::ready_count;
+use office_orders::stored;
+use office_orders::waiting::waiting;
 use office_replies::{DeliverFault, Held, Progress, StoreFault, Waiting};
 use std::alloc::Global;
 use std::marker::Model;
@@ -44,8 +45,8 @@ pub struct Office<K: Keeper> {
 
 impl<K: Keeper> Model for Office<K> {
     ghost use Rattle.std.specs.Prelude.{◌≡◌, IfSome};
-    ghost use Rattle.office_runs.specs.Known.{AreKnown};
-    ghost use Rattle.office_runs.specs.Ready.{IsCounted};
+    ghost use Rattle.office_facts.specs.Known.{AreKnown};
+    ghost use Rattle.office_orders.specs.Ready.{IsCounted};
 
     ghost Value = { K };
 
@@ -101,8 +102,8 @@ impl<K: Keeper> Office<K> {
         self.alloc
     }
 
-    /// How many runs are finished.
-    pub(crate) fn finished(&mut self) -> Result<u32, StoreFault>
+    /// How many runs are finished. It fails for want of memory or of the store alone.
+    pub fn finished(&mut self) -> Result<u32, StoreFault>
         ensures finished { K.is_trusted self.new → IsSound K.Keeper self.old → IfOk result (λ n. n ≡ (state_of K.Keeper self.old).finished) }
         ensures ready { K.is_trusted self.new → IsSound K.Keeper self.old → IsReady (K.setup self.old) (K.content self.old).kept (state_of K.Keeper self.old).finished }
         ensures same { K.is_trusted self.new → K.content self.new ≡ K.content self.old }
@@ -141,17 +142,14 @@ impl<K: Keeper> Office<K> {
     }
 
     /// How many texts the store keeps best together.
-    pub(crate) fn keeps_together(&self) -> usize {
+    pub fn keeps_together(&self) -> usize {
         self.keeper.keeps_together()
     }
 
     /// Takes texts in order, as `deliver` takes each, and keeps them together: the answer to each text. There is none where
     /// the store keeps them best one by one. Then nothing changes, and neither does it where memory runs out or the store
     /// fails.
-    pub(crate) fn deliver_together(
-        &mut self,
-        texts: &[MailText],
-    ) -> Result<Option<Vec<Reply>>, StoreFault>
+    pub fn deliver_together(&mut self, texts: &[MailText]) -> Result<Option<Vec<Reply>>, StoreFault>
         ensures answers { K.is_trusted self.new → IsSound K.Keeper self.old → IfOk result (λ replies. IfSome replies (λ rs. rs.items ≡ answers_to (K.setup self.old) (K.content self.old).kept texts.now)) }
         ensures kept { K.is_trusted self.new → IsSound K.Keeper self.old → IfOk result (λ replies. IfSome replies (λ rs. (K.content self.new).kept ≡ kept_from (K.setup self.old) (K.content self.old).kept texts.now)) }
         ensures none { K.is_trusted self.new → IsSound K.Keeper self.old → IfOk result (λ replies. replies ≡ None → K.content self.new ≡ K.content self.old) }
@@ -340,7 +338,7 @@ fn update_in(reports: Option<Reports>) -> Option<Text>
 }
 
 /// The text of testing after a number of runs.
-#[tactic(auto, unfolding(crate::specs::Outcome::testing_text))]
+#[tactic(auto, unfolding(office_facts::specs::Outcome::testing_text))]
 fn testing_text(
     alloc: Global,
     setup: &Setup,

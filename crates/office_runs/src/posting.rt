@@ -1,17 +1,17 @@
 //! One delivery: a message finds its place free, its own text there, or another.
-#![tactic(auto, using(crate::proofs::LastFacts::lasting))]
+#![tactic(auto, using(office_orders::proofs::LastFacts::lasting))]
 
 ghost use Rattle.std.specs.Prelude.{is_ok, ◌≡◌, ◌<◌, ◌∷◌, [], Ok, Err, IfOk, OnOk, OnErr, bytes_eq, length, if◌then◌else◌};
 ghost use Rattle.std.specs.FinMap.{get};
 ghost use Rattle.office_mail.specs.Kept.{kept_from, place_of, IsPlace, Within};
 ghost use Rattle.office_mail.specs.Read.{read};
 ghost use Rattle.office_replies.specs.Counted.{CountedDelivery};
-ghost use Rattle.office_runs.specs.StaysTrusted.{StaysTrusted};
-ghost use Rattle.office_runs.specs.State.{AnswersDelivery, IsOffice, answer_at, answer_to};
+ghost use Rattle.office_orders.specs.StaysTrusted.{StaysTrusted};
+ghost use Rattle.office_facts.specs.State.{AnswersDelivery, IsOffice, answer_at, answer_to};
 
-use crate::stored;
 use office_keeper::{Keeper, MailText};
 use office_mail::{Message, Setup, read_message};
+use office_orders::stored;
 use office_replies::{DeliverFault, Held};
 use std::alloc::Global;
 

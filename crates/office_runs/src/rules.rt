@@ -1,28 +1,21 @@
 //! What a run writes and leaves.
-ghost use Rattle.std.specs.Prelude.{◌≡◌, ◌≤◌, ℕ, List, ◌∷◌, ◌++◌, Some, Contains, IfOk, IfErr, OnOk, length, max, option_to_list};
-ghost use Rattle.office_runs.specs.Outcome.{Outcome, item_in_body, outcome, outcome_left};
-ghost use Rattle.testing_rules.specs.Covered.{Covered, CoveredItem, upload_of};
-ghost use Rattle.testing_rules.specs.FactDifference.{IsChangedFrom};
-ghost use Rattle.testing_model.specs.declared.fact_row.FactRow.{FactRow};
-ghost use Rattle.testing_model.specs.declared.facts.UploadIn.{UploadIn};
-ghost use Rattle.testing_rules.specs.Uploads.{AreByMessage};
+ghost use Rattle.std.specs.Prelude.{◌≡◌, IfOk};
+ghost use Rattle.office_facts.specs.Outcome.{Outcome, outcome};
+ghost use Rattle.office_runs.specs.RuleSteps.{outcome_left};
+ghost use Rattle.testing_rules.specs.Covered.{Covered};
 ghost use Rattle.testing_rules.specs.Reports.{excuses_text, update_text};
 ghost use Rattle.testing_rules.specs.StandsFor.{StandsFor};
-ghost use Rattle.testing_rules.specs.Suite.{Suite};
-ghost use Rattle.testing_model.specs.Tells.{AreSaidBy, Tells};
+ghost use Rattle.testing_model.specs.Tells.{AreSaidBy};
 ghost use Rattle.testing_rules.specs.Watched.{AllWatchedWork};
-ghost use Rattle.office_mail.specs.Runs.{cover_of};
 ghost use Rattle.testing_rules.specs.Provenance.{IsGivenBy};
 
-use crate::orders::stated_for;
 use deb_control::{NoMemory, Text};
 use jiff::civil::Date;
 use office_keeper::Reports;
-use office_mail::{Body, RunOrder, Setup};
-use office_replies::StoreFault;
+use office_mail::Setup;
 use std::alloc::Global;
 use testing_rules::{
-    Archs, Excuses, Facts, Item, Testing, Update, excuses, excuses_text, migrate, update_text,
+    Archs, Excuses, Facts, Testing, Update, excuses, excuses_text, migrate, update_text,
 };
 
 /// What a run decides: testing as it leaves it, and the two reports.
@@ -126,53 +119,4 @@ fn reports(
         excuses: Text::from_string(excuses),
         updates: Text::from_string(updates),
     })
-}
-
-/// The facts take what a message says to the rules. It fails for want of memory alone.
-pub fn take_body(facts: &mut Facts, sender: u32, number: u32, body: &Body) -> Result<(), StoreFault>
-    ensures stand { OnOk result ((s : Covered) (t : Suite) → StandsFor facts.old s t → StandsFor facts.new (option_to_list (item_in_body (sender, number) body.now) ++ s) t) }
-    ensures tells { OnOk result ((s : Covered) → Tells facts.old s → Tells facts.new (option_to_list (item_in_body (sender, number) body.now) ++ s)) }
-    ensures moved { OnOk result ((count : FactRow → ℕ) → IsChangedFrom count facts.old → IsChangedFrom count facts.new) }
-    ensures by_message { OnOk result (AreByMessage facts.old.uploads → AreByMessage facts.new.uploads) }
-    ensures kept { OnOk result ((u : UploadIn) → Contains facts.old.uploads u → Contains facts.new.uploads u) }
-    ensures there { OnOk result ((m : CoveredItem) (u : UploadIn) → item_in_body (sender, number) body.now ≡ Some m → upload_of m ≡ Some u → Contains facts.new.uploads u) }
-    ensures no_store { IfErr result (λ fault. fault ≡ StoreFault.NoMemory) }
-{
-    match body {
-        Body::Item(item) => take_item(facts, sender, number, item),
-        Body::Run(_) => Ok(()),
-    }
-}
-
-/// The facts take an item that a message says. It fails for want of memory alone.
-fn take_item(facts: &mut Facts, sender: u32, number: u32, item: &Item) -> Result<(), StoreFault>
-    ensures stand { OnOk result ((s : Covered) (t : Suite) → let m : CoveredItem = record { sender = sender; number = number; item = item.now } in StandsFor facts.old s t → StandsFor facts.new (m ∷ s) t) }
-    ensures tells { OnOk result ((s : Covered) → let m : CoveredItem = record { sender = sender; number = number; item = item.now } in Tells facts.old s → Tells facts.new (m ∷ s)) }
-    ensures moved { OnOk result ((count : FactRow → ℕ) → IsChangedFrom count facts.old → IsChangedFrom count facts.new) }
-    ensures by_message { OnOk result (AreByMessage facts.new.uploads) }
-    ensures kept { OnOk result ((u : UploadIn) → Contains facts.old.uploads u → Contains facts.new.uploads u) }
-    ensures there { OnOk result ((u : UploadIn) → let m : CoveredItem = record { sender = sender; number = number; item = item.now } in upload_of m ≡ Some u → Contains facts.new.uploads u) }
-    ensures no_store { IfErr result (λ fault. fault ≡ StoreFault.NoMemory) }
-{
-    facts.take(sender, number, item)?;
-    let _ = facts.uploads();
-    Ok(())
-}
-
-/// The greatest number that the orders state for a sender, 0 where there is none.
-pub fn cover_of(orders: &[RunOrder], sender: usize) -> u32
-    ensures { result ≡ cover_of orders.now sender }
-{
-    let mut cover = 0;
-    'orders: for order in orders {
-        cover = greater(cover, stated_for(order, sender));
-    }
-    cover
-}
-
-/// The greater of two numbers.
-fn greater(a: u32, b: u32) -> u32
-    ensures { result ≡ max a b }
-{
-    if a < b { b } else { a }
 }

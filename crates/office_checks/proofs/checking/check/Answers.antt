@@ -3,7 +3,7 @@ use Rattle.std.proofs.lemmas.Result.{IfOk-weaker}
 use Rattle.office_mail.specs.Lists.{Lists}
 use Rattle.office_keeper.specs.Content.{Content, no_content}
 use Rattle.office_keeper.specs.MemoryState.{content_of}
-use Rattle.office_runs.specs.State.{IsOffice}
+use Rattle.office_facts.specs.State.{IsOffice}
 use Rattle.office_runs.proofs.OfficeFacts.{IsOffice-new}
 use Rattle.office_checks.specs.Comparing.{IsAnew}
 use Rattle.office_checks.specs.Reading.{IsFront}

@@ -1,7 +1,7 @@
 use Rattle.std.proofs.Common.{◌-◌, ◌≡◌, ◌≤◌, ℕ}
 use Rattle.office_keeper.specs.Content.{item_from_one}
 use Rattle.office_keeper.specs.MemoryState.{content_of}
-use Rattle.office_runs.proofs.LookFacts.{Looked}
+use Rattle.office_orders.proofs.LookFacts.{Looked}
 use Rattle.office_checks.proofs.comparing.compare_runs.Given as goal
 
 -- the reports of the runs so far are the same

@@ -2,7 +2,7 @@ use Rattle.std.proofs.Common.{rules, ◌+◌, Some, sym, subst, ◌∙◌, arith
 use Rattle.office_keeper.specs.Content.{Content}
 use Rattle.office_keeper.specs.MemoryState.{content_of}
 use Rattle.office_keeper.specs.declared.values.Letter.{Letter}
-use Rattle.office_runs.proofs.LookFacts.{looked_then}
+use Rattle.office_orders.proofs.LookFacts.{looked_then}
 use Rattle.office_checks.specs.Reading.{IsFront, IsNextLetter}
 use Rattle.office_checks.proofs.FrontFacts.{front_more}
 use Rattle.office_checks.proofs.delivering.take_sender.Goals as goal

@@ -1,6 +1,6 @@
 use Rattle.std.proofs.Common.{◌-◌, ◌≡◌, ◌≤◌}
 use Rattle.office_keeper.specs.MemoryState.{content_of}
-use Rattle.office_runs.proofs.LookFacts.{Looked}
+use Rattle.office_orders.proofs.LookFacts.{Looked}
 use Rattle.office_checks.specs.Comparing.{IsAnew}
 use Rattle.office_checks.specs.Reading.{IsFront}
 use Rattle.office_checks.proofs.delivering.take_sender.Given as goal

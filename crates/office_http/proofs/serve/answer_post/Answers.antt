@@ -2,7 +2,7 @@ use Rattle.std.proofs.Common.{drop}
 use Rattle.std.proofs.lemmas.Result.{err_from_is_err_and}
 use Rattle.office_requests.specs.declared.request.Asked.TheVariants as asks
 use Rattle.office_runs.specs.Preserves.{StoreRefused}
-use Rattle.office_runs.specs.State.{state_of}
+use Rattle.office_facts.specs.State.{state_of}
 use Rattle.office_http.proofs.ServeFacts.{whole_answers, short_answers, post_body, few_body, stopped_writing, stopped_body}
 use Rattle.office_http.proofs.serve.answer_post.Goals as goal
 

@@ -1,5 +1,5 @@
 use Rattle.office_runs.specs.Preserves.{StoreRefused}
-use Rattle.office_runs.specs.State.{state_of}
+use Rattle.office_facts.specs.State.{state_of}
 use Rattle.office_runs.proofs.CarryFacts.{risen}
 use Rattle.office_http.proofs.ServeFacts.{settled, place_status}
 use Rattle.office_http.proofs.serve.settle.Goals as goal

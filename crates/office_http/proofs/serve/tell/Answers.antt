@@ -1,5 +1,5 @@
 use Rattle.office_runs.specs.Preserves.{StoreRefused}
-use Rattle.office_runs.specs.State.{state_of}
+use Rattle.office_facts.specs.State.{state_of}
 use Rattle.office_runs.proofs.CarryFacts.{risen}
 use Rattle.office_http.proofs.ServeFacts.{told_status, told_testing, told_excuses, told_update, told_waiting, told_runs, told_kept, told_letter, place_status, place_text, place_report, place_letter}
 use Rattle.office_http.proofs.serve.tell.Goals as goal

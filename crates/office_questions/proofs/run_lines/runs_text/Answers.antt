@@ -1,6 +1,6 @@
 use Rattle.std.proofs.Common.{ap, ◌++◌, ◌∙◌, sym}
-use Rattle.office_runs.specs.OfficeState.{OfficeState}
-use Rattle.office_runs.specs.State.{state_of}
+use Rattle.office_facts.specs.OfficeState.{OfficeState}
+use Rattle.office_facts.specs.State.{state_of}
 use Rattle.office_runs.proofs.CarryFacts.{asks_twice, holds_first, holds_next, state_asked}
 use Rattle.office_questions.specs.RunLines.{runs_text}
 use Rattle.office_questions.proofs.run_lines.runs_text.Goals as goal

@@ -3,10 +3,9 @@ use Rattle.std.proofs.lemmas.List.{take_more, length-append}
 use Rattle.office_keeper.specs.Content.{Content}
 use Rattle.office_replies.specs.declared.faults.DeliverFault.{DeliverFault}
 use Rattle.office_replies.specs.declared.faults.Held.{Held}
-use Rattle.office_runs.specs.BlockSteps.{TakesText}
-use Rattle.office_runs.proofs.DeliverFacts.{each_push}
-use Rattle.office_runs.proofs.GatherFacts.{gathers_none, gathers_more}
-use Rattle.office_runs.proofs.LookFacts.{looked_none, looked_then}
+use Rattle.office_runs.specs.GatherSteps.{TakesText}
+use Rattle.office_runs.proofs.GatherFacts.{each_push, gathers_none, gathers_more}
+use Rattle.office_orders.proofs.LookFacts.{looked_none, looked_then}
 use Rattle.office_runs.proofs.gathering.gather_all.Goals as goal
 
 pub texts-init : goal.texts-init

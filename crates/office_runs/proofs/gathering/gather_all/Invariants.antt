@@ -1,6 +1,7 @@
 use Rattle.std.proofs.Common.{◌≡◌, length, take}
-use Rattle.office_runs.specs.BlockSteps.{AreHeldHere, ArePlaced, Gathers}
-use Rattle.office_runs.proofs.LookFacts.{Looked}
+use Rattle.office_runs.specs.GatherSteps.{ArePlaced, Gathers}
+use Rattle.office_runs.specs.Together.{AreHeldHere}
+use Rattle.office_orders.proofs.LookFacts.{Looked}
 use Rattle.office_runs.proofs.gathering.gather_all.Given as goal
 
 abbrev pub invariant-texts : goal.invariant-texts

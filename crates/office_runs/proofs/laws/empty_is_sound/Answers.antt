@@ -1,5 +1,5 @@
 use Rattle.std.proofs.Common.{sym, subst}
-use Rattle.office_runs.specs.State.{IsOffice}
+use Rattle.office_facts.specs.State.{IsOffice}
 use Rattle.office_runs.proofs.OfficeFacts.{IsOffice-new}
 use Rattle.office_runs.proofs.laws.empty_is_sound.Goals as goal
 

@@ -1,4 +1,4 @@
-use Rattle.office_runs.proofs.WaitingFacts.{lacks_come, order_comes}
+use Rattle.office_orders.proofs.WaitingFacts.{lacks_come, order_comes}
 use Rattle.office_runs.proofs.laws.lacks_are_needed.Goals as goal
 
 pub returns-clause-mail : goal.returns-clause-mail

@@ -1,4 +1,4 @@
-use Rattle.office_runs.proofs.WaitingFacts.{lacks_tell, one_list}
+use Rattle.office_orders.proofs.WaitingFacts.{lacks_tell, one_list}
 use Rattle.office_runs.proofs.laws.lacks_say_why.Goals as goal
 
 pub returns-clause-why : goal.returns-clause-why

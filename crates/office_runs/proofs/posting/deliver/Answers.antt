@@ -1,4 +1,5 @@
-use Rattle.office_runs.proofs.OfficeFacts.{ok_read, answer_fault, answer_read}
+use Rattle.office_facts.proofs.TakenFacts.{ok_read}
+use Rattle.office_runs.proofs.OfficeFacts.{answer_fault, answer_read}
 use Rattle.office_runs.proofs.posting.deliver.Goals as goal
 
 pub post-answer-requires-clause-read : goal.post-answer-requires-clause-read

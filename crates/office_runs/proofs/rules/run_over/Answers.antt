@@ -11,7 +11,7 @@ use Rattle.testing_kept.proofs.Giving.{facts_give_update}
 use Rattle.testing_kept.specs.GivenUpdate.{suite_by}
 use Rattle.testing_model.specs.Updates.{Outcome as Update}
 use Rattle.office_keeper.specs.declared.values.Reports.{Reports}
-use Rattle.office_runs.specs.Outcome.{Outcome, outcome}
+use Rattle.office_facts.specs.Outcome.{Outcome, outcome}
 use Rattle.office_runs.proofs.RunFacts.{reported_is}
 use Rattle.office_runs.proofs.rules.run_over.Goals as goal
 

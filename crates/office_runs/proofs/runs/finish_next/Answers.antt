@@ -12,15 +12,15 @@ use Rattle.office_mail.specs.Runs.{IsReady, cover_of}
 use Rattle.office_keeper.specs.Content.{Content, with_run}
 use Rattle.office_keeper.specs.FactSet.{AreHoldable, facts_after}
 use Rattle.office_keeper.specs.Provenance.{AreOwnTexts, IsGiven}
-use Rattle.office_runs.specs.declared.covered.KnownFacts.{KnownFacts}
-use Rattle.office_runs.specs.Known.{AreKnown}
-use Rattle.office_runs.specs.Outcome.{outcome_in, outcome_of}
-use Rattle.office_runs.specs.Ready.{FirstOrders, HasEach}
-use Rattle.office_runs.specs.State.{IsOffice, KeepsFacts}
-use Rattle.office_runs.specs.Walk.{said_within}
-use Rattle.office_runs.proofs.CountFacts.{IsCounted-later}
+use Rattle.office_facts.specs.declared.covered.KnownFacts.{KnownFacts}
+use Rattle.office_facts.specs.Known.{AreKnown}
+use Rattle.office_facts.specs.Outcome.{outcome_in, outcome_of}
+use Rattle.office_orders.specs.Ready.{FirstOrders, HasEach}
+use Rattle.office_facts.specs.State.{IsOffice, KeepsFacts}
+use Rattle.office_facts.specs.Walk.{said_within}
+use Rattle.office_orders.proofs.CountFacts.{IsCounted-later}
 use Rattle.office_runs.proofs.FinishFacts.{IsOffice-finished}
-use Rattle.office_runs.proofs.LastFacts.{lasts_then}
+use Rattle.office_orders.proofs.LastFacts.{lasts_then}
 use Rattle.office_runs.proofs.KeepingFacts.{Leaves, held_by_same, if_known-then, keeps_facts, leaves_over}
 use Rattle.office_runs.proofs.runs.finish_next.Goals as goal
 
@@ -50,7 +50,7 @@ returns-in-Ok-clause-office g c = λ trusted legible office.
     let orders : List RunOrder = c.next_is_ready.new.orders.items in
     let known = at1.known t1 in
     let size : length orders ≡ n + 1 = omega (arith, known.next, at1.there c.if-not-branch.false, finished) in
-    let ready : IsReady setup old.kept (n + 1) = subst (λ k. IsReady setup old.kept (k + 1)) finished ((at1.ready t1 office).0 c.if-not-branch.false) in
+    let ready : IsReady setup old.kept (n + 1) = subst (λ k. IsReady setup old.kept (k + 1)) finished ((at1.ready t1 office.places office.ready).0 c.if-not-branch.false) in
     let there : IsOffice setup mid = subst (IsOffice setup) (sym same1) office in
     let legible2 = at2.looks.legible t2 (at1.looks.legible t1 legible) in
     let lists : g.K.Keeper.setup c.next_outcome.new.keeper ≡ setup = at2.looks.setup ∙ at1.looks.setup ∙ c.requires.lists in
@@ -172,7 +172,7 @@ returns-in-Ok-clause-kept g c = λ trusted.
 pub returns-in-Ok-clause-ready : goal.returns-in-Ok-clause-ready
 returns-in-Ok-clause-ready g c = λ trusted office.
     let t1 = c.in_ok-done.ensures.looks.before (c.in-Ok.ensures.before trusted) in
-    (λ yes. (c.in_ok-next_is_ready.ensures.ready t1 office).0 c.if-not-branch.false, λ ready. refl)
+    (λ yes. (c.in_ok-next_is_ready.ensures.ready t1 office.places office.ready).0 c.if-not-branch.false, λ ready. refl)
 
 pub returns-in-Ok-clause-setup : goal.returns-in-Ok-clause-setup
 returns-in-Ok-clause-setup g c = c.in-Ok.ensures.setup ∙ c.in_ok-done.ensures.looks.setup ∙ c.in_ok-next_is_ready.ensures.looks.setup

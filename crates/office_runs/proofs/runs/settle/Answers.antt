@@ -2,7 +2,7 @@ use Rattle.std.proofs.Common.{sym, subst}
 use Rattle.office_mail.specs.Kept.{Kept}
 use Rattle.office_mail.specs.Runs.{IsReady, IsReadyCount}
 use Rattle.office_keeper.specs.Content.{Content}
-use Rattle.office_runs.proofs.FinishFacts.{ready_count}
+use Rattle.office_orders.proofs.ReadyCount.{ready_count}
 use Rattle.office_runs.proofs.runs.settle.Goals as goal
 
 pub returns-clause-ready : goal.returns-clause-ready

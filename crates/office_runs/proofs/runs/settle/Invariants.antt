@@ -1,8 +1,8 @@
 use Rattle.std.proofs.Common.{true, ◌≡◌, ◌-◌, ◌≤◌, IfSome, length}
-use Rattle.office_runs.specs.Known.{AreKnown}
-use Rattle.office_runs.specs.Ready.{IsCounted}
-use Rattle.office_runs.specs.State.{IsOffice}
-use Rattle.office_runs.specs.StaysTrusted.{StaysTrusted}
+use Rattle.office_facts.specs.Known.{AreKnown}
+use Rattle.office_orders.specs.Ready.{IsCounted}
+use Rattle.office_facts.specs.State.{IsOffice}
+use Rattle.office_orders.specs.StaysTrusted.{StaysTrusted}
 use Rattle.office_runs.proofs.runs.settle.Given as goal
 
 abbrev pub invariant-runs : goal.invariant-runs

@@ -1,6 +1,6 @@
 use Rattle.std.proofs.Common.{length, ap, ◌∙◌, arith}
 use Rattle.office_keeper.specs.Content.{Content}
-use Rattle.office_runs.proofs.CountFacts.{IsCounted-later}
+use Rattle.office_orders.proofs.CountFacts.{IsCounted-later}
 use Rattle.office_runs.proofs.KeepingFacts.{if_known-later}
 use Rattle.office_runs.proofs.office.Office.deliver_together.Goals as goal
 

@@ -1,4 +1,4 @@
-use Rattle.office_runs.proofs.CountFacts.{IsCounted-new}
+use Rattle.office_orders.proofs.CountFacts.{IsCounted-new}
 use Rattle.office_runs.proofs.office.Office.new.Goals as goal
 
 pub invariant_of-result : goal.invariant_of-result

@@ -1,0 +1,10 @@
+pub mod AgainFacts
+pub mod CoverFacts
+pub mod GivenFacts
+pub mod KeptRows
+pub mod KnownStand
+pub mod RestoringFacts
+pub mod SaidFacts
+pub mod SaidLetters
+pub mod TakenFacts
+pub mod WalkFacts

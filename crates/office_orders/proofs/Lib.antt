@@ -1,0 +1,7 @@
+pub mod CountFacts
+pub mod LastFacts
+pub mod LetterFacts
+pub mod LookFacts
+pub mod OrderFacts
+pub mod ReadyCount
+pub mod WaitingFacts

@@ -1,0 +1,4 @@
+pub mod ReadsStore
+pub mod Ready
+pub mod StaysTrusted
+pub mod Waiting
