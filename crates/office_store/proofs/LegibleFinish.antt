@@ -15,7 +15,7 @@ use Rattle.office_mail.specs.Lists.{Lists}
 use Rattle.office_mail.specs.Kept.{Kept, Place}
 use Rattle.office_keeper.specs.declared.values.Finished.{Finished}
 use Rattle.office_keeper.specs.declared.values.Reports.{Reports}
-use Rattle.office_tables.specs.Tables.{Said}
+use Rattle.office_tables.specs.declared.said.Said.{Said}
 use Rattle.office_keeper.specs.Content.{reports_in}
 use Rattle.office_keeper.specs.FactSet.{AreHoldable, facts_after}
 use Rattle.office_keeper.specs.Provenance.{IsGiven}

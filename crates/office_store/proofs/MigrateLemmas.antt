@@ -17,7 +17,7 @@ use Rattle.office_keeper.specs.declared.faults.KeepFault.TheVariants.{NoMemory, 
 use Rattle.office_keeper.specs.declared.faults.KeepFault.TheVariants as kept
 use Rattle.office_store.specs.declared.opening.OpenFault.{OpenFault}
 use Rattle.office_store.specs.declared.opening.OpenFault.TheVariants as opening
-use Rattle.office_tables.specs.Tables.{Said}
+use Rattle.office_tables.specs.declared.said.Said.{Said}
 use Rattle.office_tables.specs.Layout.{schema_before, office_schema, fact_delays}
 use Rattle.office_tables.specs.Tables.{number_in, text_in, office_by, office_in, said_in, kept_rows, IsWhole}
 use Rattle.office_tables.specs.TableContent.{release_place}

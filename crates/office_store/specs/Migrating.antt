@@ -11,7 +11,7 @@ use Rattle.office_mail.specs.Lists.{Lists}
 use Rattle.office_mail.specs.Runs.{runs, cover, order_in_body}
 use Rattle.office_keeper.specs.Content.{Content}
 use Rattle.office_keeper.specs.LastDelays.{IsLastTold}
-use Rattle.office_tables.specs.Tables.{Said}
+use Rattle.office_tables.specs.declared.said.Said.{Said}
 use Rattle.office_tables.specs.Tables.{IsWhole, kept_rows, office_in, said_in}
 use Rattle.office_tables.specs.TableContent.{message_at, release_place, content_in}
 use Rattle.office_tables.specs.FactTables.{fact_entry, fact_in, delays_of, delays_in, facts_in}

@@ -12,7 +12,7 @@ use Rattle.office_mail.specs.Read.{read}
 use Rattle.office_mail.specs.Runs.{runs}
 use Rattle.office_keeper.specs.declared.values.Letter.{Letter}
 use Rattle.office_keeper.specs.LastDelays.{delays_in_body}
-use Rattle.office_tables.specs.Tables.{Said}
+use Rattle.office_tables.specs.declared.said.Said.{Said}
 use Rattle.office_tables.specs.Tables.{number_in, office_in, said_in}
 use Rattle.office_tables.specs.TableContent.{own_by, release_place}
 use Rattle.office_tables.specs.TableSteps.{SaysAlone, rows_in, WentOn}

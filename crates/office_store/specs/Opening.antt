@@ -11,7 +11,7 @@ use Rattle.office_keeper.specs.declared.faults.KeepFault.{KeepFault}
 use Rattle.office_keeper.specs.declared.faults.KeepFault.TheVariants.{NoMemory, Store}
 use Rattle.office_store.specs.declared.opening.OpenFault.{OpenFault}
 use Rattle.office_store.specs.declared.opening.OpenFault.TheVariants as opening
-use Rattle.office_tables.specs.Tables.{Said}
+use Rattle.office_tables.specs.declared.said.Said.{Said}
 use Rattle.office_tables.specs.Layout.{no_schema, schema_before, office_schema, has_none, HasEach, HasEachBefore}
 use Rattle.office_tables.specs.Tables.{IsWhole, number_in, text_in, kept_rows, office_by, office_in, said_in}
 use Rattle.office_store.specs.Creating.{IsBlank}

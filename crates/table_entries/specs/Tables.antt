@@ -4,7 +4,7 @@ use Rattle.std.specs.declared.cmp.Ordering.{Ordering}
 use Rattle.std.specs.Prelude.{◌≡◌, ◌≤◌, ◌⊎◌, length, filter_map, ℕ, pos, negsuc, List, Option, Some, None, IsTrue, false, nat_lt, if◌then◌else◌}
 use Rattle.std.specs.FinMap.{FinMap, find, len, from_entries}
 use Rattle.office_keeper.specs.declared.values.Reports.{Reports}
-pub use Rattle.table_entries.specs.declared.said.Said.{Said}
+use Rattle.table_entries.specs.declared.said.Said.{Said}
 use Rattle.sqlite.specs.Order.{Row, column}
 use Rattle.sqlite.specs.State.{State, HasCleanDisk}
 use Rattle.sqlite_trees.specs.View.{doubt}

@@ -351,10 +351,7 @@ fn change_rows<S: Alter>(
 }
 
 /// Puts these rows in place of the old ones: what is gone is taken out, and what is new is put in.
-pub fn set_rows<S: Alter>(
-    tx: &mut Transaction<'_, S>,
-    rows: &[RowIn],
-) -> Result<(), KeepFault>
+pub fn set_rows<S: Alter>(tx: &mut Transaction<'_, S>, rows: &[RowIn]) -> Result<(), KeepFault>
     requires inside { IsTrusted (state S.Store tx.old.conn.now) → IsInside (state S.Store tx.old.conn.now) }
     requires ordered { AreByKey rows.now }
     ensures same_reference { tx.new.conn.ghost_name ≡ tx.old.conn.ghost_name }
