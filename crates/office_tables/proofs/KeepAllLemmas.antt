@@ -5,9 +5,9 @@ use Rattle.sqlite.specs.Tree.{Trees}
 use Rattle.office_mail.specs.Kept.{Kept}
 use Rattle.office_keeper.specs.declared.values.NewLetter.{NewLetter}
 use Rattle.office_keeper.specs.NewMail.{AreFree, with_letters}
-use Rattle.office_tables.specs.Tables.{kept_rows}
-use Rattle.office_tables.specs.TableSteps.{AddsLetter, AddsLetters}
-use Rattle.office_tables.proofs.KeepLemmas.{inserted}
+use Rattle.table_entries.specs.Tables.{kept_rows}
+use Rattle.table_entries.specs.TableSteps.{AddsLetter, AddsLetters}
+use Rattle.testing_tables.proofs.KeepLemmas.{inserted}
 
 -- one letter more
 adds_more : (a b c : Trees) (letters : List NewLetter) (l : NewLetter) → AddsLetters a b letters → AddsLetter b c l.sender l.number l.text → AddsLetters a c (letters ++ l ∷ [])

@@ -35,17 +35,17 @@ use Rattle.sqlite_rules.proofs.ListLemmas.{has_filtered, has_kept, contains_had}
 use Rattle.office_mail.specs.Kept.{Place}
 use Rattle.office_mail.proofs.KeptFacts.{places_total, exact_places}
 use Rattle.office_keeper.specs.Content.{IsNextNumber}
-use Rattle.office_tables.specs.Layout.{office_schema}
-use Rattle.office_tables.specs.Texts.{next_text}
-use Rattle.office_tables.specs.Tables.{letter_in, kept_rows}
-use Rattle.office_tables.specs.TableSteps.{AreSmall, IsCrowded, IsLeast, IsOnlyNumber, ShowsLeast, is_from, letter_columns}
-use Rattle.office_tables.proofs.Compiled.{plain_query, equals}
-use Rattle.office_tables.proofs.Answered.{passes, shown_of, picked, fused}
-use Rattle.office_tables.proofs.LetterFacts.{letter_parts, letter_of_parts, int_is}
-use Rattle.office_tables.proofs.MailLemmas.{equal_is, truth_is, filter_same, has_permuted, empty_of, as_many}
-use Rattle.office_tables.proofs.EntryMaps.{from_first, has_first}
-use Rattle.office_tables.proofs.EntryValues.{read_has, has_read, has_map, map_has}
-use Rattle.office_tables.proofs.LoadFacts.{both, reaches, same_number, int_from}
+use Rattle.table_entries.specs.Layout.{office_schema}
+use Rattle.testing_tables.specs.Texts.{next_text}
+use Rattle.table_entries.specs.Tables.{letter_in, kept_rows}
+use Rattle.table_entries.specs.TableSteps.{AreSmall, IsCrowded, IsLeast, IsOnlyNumber, ShowsLeast, is_from, letter_columns}
+use Rattle.testing_tables.proofs.Compiled.{plain_query, equals}
+use Rattle.testing_tables.proofs.Answered.{passes, shown_of, picked, fused}
+use Rattle.testing_tables.proofs.LetterFacts.{letter_parts, letter_of_parts, int_is}
+use Rattle.testing_tables.proofs.MailLemmas.{equal_is, truth_is, filter_same, has_permuted, empty_of, as_many}
+use Rattle.testing_tables.proofs.EntryMaps.{from_first, has_first}
+use Rattle.testing_tables.proofs.EntryValues.{read_has, has_read, has_map, map_has}
+use Rattle.testing_tables.proofs.LoadFacts.{both, reaches, same_number, int_from}
 
 -- ---- the statement
 

@@ -10,15 +10,15 @@ use Rattle.sqlite.specs.Order.{Row, column}
 use Rattle.sqlite_rules.specs.Lists.{Has}
 use Rattle.sqlite_rules.proofs.ListLemmas.{has_filtered}
 use Rattle.office_keeper.specs.declared.values.Reports.{Reports}
-use Rattle.office_tables.specs.Tables.{number_in, text_in, run_by, run_in, run_map}
-use Rattle.office_tables.specs.TableSteps.{is_run, run_columns}
-use Rattle.office_tables.specs.Legible.{AreReported}
-use Rattle.office_tables.proofs.KeyedFacts.{tied}
-use Rattle.office_tables.proofs.LetterFacts.{number_is}
-use Rattle.office_tables.proofs.EntryReads.{text_is}
-use Rattle.office_tables.proofs.MailLemmas.{as_many, only_shown}
+use Rattle.table_entries.specs.Tables.{number_in, text_in, run_by, run_in, run_map}
+use Rattle.table_entries.specs.TableSteps.{is_run, run_columns}
+use Rattle.table_entries.specs.Legible.{AreReported}
+use Rattle.testing_tables.proofs.KeyedFacts.{tied}
+use Rattle.testing_tables.proofs.LetterFacts.{number_is}
+use Rattle.testing_tables.proofs.EntryReads.{text_is}
+use Rattle.testing_tables.proofs.MailLemmas.{as_many, only_shown}
 use Rattle.office_tables.proofs.RunLemmas.{at_run}
-use Rattle.office_tables.proofs.Whole.{whole_reads, whole_gets, one_here}
+use Rattle.testing_tables.proofs.Whole.{whole_reads, whole_gets, one_here}
 
 parts_by : (n : Option ℕ) (e u : Option (List ℕ)) (run : ℕ) (reports : Reports) → run_by n e u ≡ Some (run, reports) → (n ≡ Some run) × (e ≡ Some reports.excuses) × (u ≡ Some reports.updates)
 parts_by None e u run reports h = absurd (let x = h in cc)

@@ -1,5 +1,5 @@
 -- What the statements on finished runs show.
-use Rattle.std.proofs.Common.{◌≡◌, ℕ, pos, List, [], ◌∷◌, map, filter, filter_map, length, Bool, true, false, Some, None, Option, Ok, Err, Result, IfOk, codes, refl, sym, ap, subst, ◌∙◌}
+use Rattle.std.proofs.Common.{◌≡◌, ℕ, pos, List, [], ◌∷◌, map, filter, filter_map, length, false, Some, None, Option, Ok, Err, Result, IfOk, codes, refl, sym, ap, subst, ◌∙◌}
 use Rattle.std.specs.List.Sorted.{IsPermutation}
 use Rattle.std.specs.Ordering.{nat_cmp, eq_by_cmp}
 use Rattle.std.specs.FinMap.{find, get, nat_cmp-IsAntisymmetric}
@@ -17,16 +17,16 @@ use Rattle.sqlite.specs.Effect.{Answers}
 use Rattle.sqlite.specs.Listing.{understood, reads_listing}
 use Rattle.sqlite.proofs.Callers.{IsPlain, command_of, reads_as}
 use Rattle.office_keeper.specs.declared.values.Reports.{Reports}
-use Rattle.office_tables.specs.declared.said.Said.{Said}
-use Rattle.office_tables.specs.Layout.{office_schema}
-use Rattle.office_tables.specs.Texts.{office_text, reports_text}
-use Rattle.office_tables.specs.Tables.{number_in, text_in, office_in, said_in, run_by, run_in, run_map}
-use Rattle.office_tables.specs.TableSteps.{office_columns, IsOnlyOffice, is_run, run_columns, IsOnlyRun}
-use Rattle.office_tables.proofs.Compiled.{plain_query, equals}
-use Rattle.office_tables.proofs.Answered.{passes, plain_answer}
-use Rattle.office_tables.proofs.KeyedFacts.{get_at, found_one}
-use Rattle.office_tables.proofs.LetterFacts.{number_is, int_is, nat_is}
-use Rattle.office_tables.proofs.MailLemmas.{equal_is, filter_same, as_many, empty_of, only_shown}
+use Rattle.table_entries.specs.declared.said.Said.{Said}
+use Rattle.table_entries.specs.Layout.{office_schema}
+use Rattle.testing_tables.specs.Texts.{office_text, reports_text}
+use Rattle.table_entries.specs.Tables.{number_in, text_in, office_in, said_in, run_by, run_in, run_map}
+use Rattle.table_entries.specs.TableSteps.{office_columns, IsOnlyOffice, is_run, run_columns, IsOnlyRun}
+use Rattle.testing_tables.proofs.Compiled.{plain_query, equals}
+use Rattle.testing_tables.proofs.Answered.{passes, plain_answer}
+use Rattle.testing_tables.proofs.KeyedFacts.{get_at, found_one}
+use Rattle.testing_tables.proofs.LetterFacts.{number_is, int_is, nat_is}
+use Rattle.testing_tables.proofs.MailLemmas.{equal_is, filter_same, filter_all, as_many, empty_of, only_shown}
 
 -- ---- what the office says of itself
 
@@ -40,10 +40,6 @@ office_is = refl
 pub office_plain : IsPlain (understood office_schema office_text) × (reads_listing office_schema office_text ≡ false)
 unfolding understood everything
 office_plain = ((refl, refl), refl)
-
-pub filter_all : {X : Type 0} (p : X → Bool) → ((x : X) → p x ≡ true) → (xs : List X) → filter p xs ≡ xs
-filter_all p all [] = refl
-filter_all p all (x ∷ xs) = rw (all x, filter_all p all xs) refl
 
 pub shows_office : (old new : State) (rows : List Row) → old.now.schema ≡ office_schema → Shown office_text [] old new rows → IsPermutation (map office_columns (old.now.trees 0)) rows
 shows_office old new rows has h =

@@ -23,19 +23,19 @@ use Rattle.sqlite_rules.specs.Lists.{Has}
 use Rattle.sqlite_tied.specs.Compute.{everything}
 use Rattle.sqlite_value.proofs.OrderLemmas.{value_cmp_total}
 use Rattle.office_keeper.specs.declared.values.Reports.{Reports}
-use Rattle.office_tables.specs.declared.said.Said.{Said}
-use Rattle.office_tables.specs.Layout.{office_schema, run, office}
-use Rattle.office_tables.specs.Texts.{add_run_text, clear_office_text, add_office_text}
-use Rattle.office_tables.specs.Tables.{number_in, text_in, run_in, run_map, office_by, office_in, said_in, IsWhole}
-use Rattle.office_tables.specs.TableSteps.{Rows, SaysAlone, AddsRun, Silences, SaysMore, RecordsRun}
-use Rattle.office_tables.proofs.Compiled.{plain_query}
-use Rattle.office_tables.proofs.WriteLemmas.{Inserted, inserts_one, cast_int}
-use Rattle.office_tables.proofs.DeleteLemmas.{Deleted, deletes_some, nothing_left}
-use Rattle.office_tables.proofs.KeyedFacts.{tied, map_put, put_found}
-use Rattle.office_tables.proofs.LetterFacts.{number_is}
-use Rattle.office_tables.proofs.KeepLemmas.{with_office, with_runs}
+use Rattle.table_entries.specs.declared.said.Said.{Said}
+use Rattle.table_entries.specs.Layout.{office_schema, run, office}
+use Rattle.testing_tables.specs.Texts.{add_run_text, clear_office_text, add_office_text}
+use Rattle.table_entries.specs.Tables.{number_in, text_in, run_in, run_map, office_by, office_in, said_in, IsWhole}
+use Rattle.table_entries.specs.TableSteps.{Rows, SaysAlone, AddsRun, Silences, SaysMore, RecordsRun}
+use Rattle.testing_tables.proofs.Compiled.{plain_query}
+use Rattle.testing_tables.proofs.WriteLemmas.{Inserted, inserts_one, cast_int}
+use Rattle.testing_tables.proofs.DeleteLemmas.{Deleted, deletes_some, nothing_left}
+use Rattle.testing_tables.proofs.KeyedFacts.{tied, map_put, put_found}
+use Rattle.testing_tables.proofs.LetterFacts.{number_is}
+use Rattle.testing_tables.proofs.KeepLemmas.{with_office, with_runs}
 use Rattle.office_tables.proofs.RunLemmas.{run_says, run_number, office_says}
-use Rattle.office_tables.proofs.Whole.{whole_put}
+use Rattle.testing_tables.proofs.Whole.{whole_put}
 
 -- ---- reports
 

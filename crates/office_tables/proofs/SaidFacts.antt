@@ -6,14 +6,14 @@ use Rattle.std.specs.Ordering.{nat_cmp, eq_by_cmp}
 use Rattle.std.specs.FinMap.{find, nat_cmp-IsAntisymmetric}
 use Rattle.sqlite.specs.declared.types.Value.TheVariants.{Int, Text}
 use Rattle.sqlite.specs.Order.{Row, column}
-use Rattle.office_tables.specs.declared.said.Said.{Said}
-use Rattle.office_tables.specs.Tables.{number_in, text_in, office_by, office_in, said_in}
-use Rattle.office_tables.specs.TableSteps.{office_columns}
-use Rattle.office_tables.specs.Legible.{SaysOnce}
-use Rattle.office_tables.proofs.KeyedFacts.{tied}
-use Rattle.office_tables.proofs.LetterFacts.{number_is}
-use Rattle.office_tables.proofs.EntryReads.{text_is, four}
-use Rattle.office_tables.proofs.MailLemmas.{single_of, as_many, only_shown}
+use Rattle.table_entries.specs.declared.said.Said.{Said}
+use Rattle.table_entries.specs.Tables.{number_in, text_in, office_by, office_in, said_in}
+use Rattle.table_entries.specs.TableSteps.{office_columns}
+use Rattle.table_entries.specs.Legible.{SaysOnce}
+use Rattle.testing_tables.proofs.KeyedFacts.{tied}
+use Rattle.testing_tables.proofs.LetterFacts.{number_is}
+use Rattle.testing_tables.proofs.EntryReads.{text_is, four}
+use Rattle.testing_tables.proofs.MailLemmas.{single_of, as_many, only_shown}
 
 parts_by : (i s : Option ℕ) (t : Option (List ℕ)) (f : Option ℕ) (id : ℕ) (said : Said) → office_by i s t f ≡ Some (id, said) → (i ≡ Some id) × (s ≡ Some said.schema) × (t ≡ Some said.setup) × (f ≡ Some said.finished)
 parts_by None s t f id said h = absurd (let e = h in cc)

@@ -1,8 +1,8 @@
 use Rattle.std.proofs.Common.{◌∙◌}
 use Rattle.std.proofs.lemmas.Result.{IfOk-from_err}
 use Rattle.sqlite.specs.Held.{state}
-use Rattle.office_tables.proofs.StateLemmas.{lasts_then, clean_before}
-use Rattle.office_tables.proofs.FactMoves.{changes}
+use Rattle.testing_tables.proofs.StateLemmas.{lasts_then, clean_before}
+use Rattle.testing_tables.proofs.FactMoves.{changes}
 use Rattle.office_tables.proofs.fact_changes.change_facts.Goals as goal
 
 pub returns-clause-changed : goal.returns-clause-changed

@@ -1,10 +1,10 @@
 use Rattle.std.proofs.Common.{◌∷◌, [], pos}
 use Rattle.sqlite.specs.declared.types.Value.TheVariants.{Int, Blob}
 use Rattle.sqlite.specs.Held.{state}
-use Rattle.office_tables.specs.Texts.{keep_text}
-use Rattle.office_tables.specs.TableSteps.{AddsLetter}
-use Rattle.office_tables.proofs.StepLemmas.{Stepped, step_went, step_gives, step_open}
-use Rattle.office_tables.proofs.KeepLemmas.{keeps}
+use Rattle.testing_tables.specs.Texts.{keep_text}
+use Rattle.table_entries.specs.TableSteps.{AddsLetter}
+use Rattle.testing_tables.proofs.StepLemmas.{Stepped, step_went, step_gives, step_open}
+use Rattle.testing_tables.proofs.KeepLemmas.{keeps}
 use Rattle.office_tables.proofs.mail.add_letter.Goals as goal
 
 stepped : (g : _) (c : goal.After-execute g) → Stepped keep_text (Int (pos c.args.sender) ∷ Int (pos c.args.number) ∷ Blob c.args.text.now ∷ []) (state g.S.Store c.args.tx.now.conn.now) (state g.S.Store c.execute.new.self.conn.now) c.execute.result

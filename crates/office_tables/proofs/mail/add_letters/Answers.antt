@@ -1,7 +1,7 @@
 use Rattle.std.proofs.Common.{refl, ◌∙◌}
 use Rattle.std.proofs.lemmas.Result.{IfOk-from_err}
 use Rattle.sqlite.specs.Held.{state}
-use Rattle.office_tables.proofs.StateLemmas.{lasts_same, lasts_then, clean_before}
+use Rattle.testing_tables.proofs.StateLemmas.{lasts_same, lasts_then, clean_before}
 use Rattle.office_tables.proofs.KeepAllLemmas.{letters_at}
 use Rattle.office_tables.proofs.mail.add_letters.Goals as goal
 

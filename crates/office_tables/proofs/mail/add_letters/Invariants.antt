@@ -1,9 +1,9 @@
 use Rattle.std.proofs.Common.{◌≡◌, take}
 use Rattle.sqlite.specs.Held.{state}
-use Rattle.office_tables.specs.Tables.{IsTrusted, Lasts}
+use Rattle.table_entries.specs.Tables.{IsTrusted, Lasts}
 use Rattle.sqlite.specs.State.{HasCleanDisk}
-use Rattle.office_tables.specs.TableSteps.{AddsLetters}
-use Rattle.office_tables.proofs.StepLemmas.{IsUnderWay}
+use Rattle.table_entries.specs.TableSteps.{AddsLetters}
+use Rattle.testing_tables.proofs.StepLemmas.{IsUnderWay}
 use Rattle.office_tables.proofs.mail.add_letters.Given as goal
 
 abbrev pub invariant-letters : goal.invariant-letters

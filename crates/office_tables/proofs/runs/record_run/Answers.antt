@@ -1,7 +1,7 @@
 use Rattle.std.proofs.Common.{◌∙◌}
 use Rattle.std.proofs.lemmas.Result.{IfOk-from_err}
 use Rattle.sqlite.specs.Held.{state}
-use Rattle.office_tables.proofs.StateLemmas.{lasts_then, clean_before}
+use Rattle.testing_tables.proofs.StateLemmas.{lasts_then, clean_before}
 use Rattle.office_tables.proofs.RunWrites.{records}
 use Rattle.office_tables.proofs.runs.record_run.Goals as goal
 

@@ -1,0 +1,11 @@
+pub mod Layout
+pub mod Tables
+pub mod TableSteps
+pub mod Entries
+pub mod EntrySteps
+pub mod FactTables
+pub mod TableContent
+pub mod Legible
+pub mod FactSteps
+pub mod Differences
+pub mod Loaded

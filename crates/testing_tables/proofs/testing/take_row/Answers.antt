@@ -1,0 +1,35 @@
+use Rattle.std.proofs.Common.{◌∷◌, [], SFits, w64, rules, to_z-of_z}
+use Rattle.sqlite.specs.declared.types.Value.TheVariants.{Int}
+use Rattle.sqlite.specs.Held.{state}
+use Rattle.testing_tables.specs.Texts.{take_row_text}
+use Rattle.table_entries.specs.EntrySteps.{TakesRow}
+use Rattle.testing_tables.proofs.StepLemmas.{Stepped, step_counts_on, step_counts, step_open}
+use Rattle.testing_tables.proofs.EntryWrites.{takes_row}
+use Rattle.testing_tables.proofs.testing.take_row.Goals as goal
+
+stepped : (g : _) (c : goal.After-execute g) → Stepped take_row_text (Int c.args.id ∷ []) (state g.S.Store c.args.tx.now.conn.now) (state g.S.Store c.execute.new.self.conn.now) c.execute.result
+stepped g c =
+    let fits : SFits w64 c.args.id = search rules in
+    record {
+      clean = c.execute.ensures.survives.clean;
+      limit = c.execute.ensures.survives.limit;
+      ended = λ idle. (_, (c.execute.ensures.ended idle).0);
+      runs = rw (to_z-of_z fits) at (rw c.params-to_sql.ensures at c.execute.ensures.runs);
+    }
+
+pub returns-clause-on : goal.returns-clause-on
+returns-clause-on g c trusted =
+    let old = state g.S.Store c.args.tx.now.conn.now in
+    let new = state g.S.Store c.execute.new.self.conn.now in
+    step_counts_on _ _ old new (λ count. TakesRow old.now.trees new.now.trees c.args.id count) c.execute.result (stepped g c) trusted c.requires.inside
+    (λ count inside h. takes_row c.args.id old new count inside.schema h)
+
+pub returns-clause-taken : goal.returns-clause-taken
+returns-clause-taken g c trusted =
+    let old = state g.S.Store c.args.tx.now.conn.now in
+    let new = state g.S.Store c.execute.new.self.conn.now in
+    step_counts _ _ old new (λ count. TakesRow old.now.trees new.now.trees c.args.id count) c.execute.result (stepped g c) trusted c.requires.inside
+    (λ count inside h. takes_row c.args.id old new count inside.schema h)
+
+pub returns-clause-open : goal.returns-clause-open
+returns-clause-open g c clean trusted = step_open _ _ _ _ c.execute.result (stepped g c) clean trusted

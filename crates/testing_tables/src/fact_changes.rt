@@ -1,0 +1,339 @@
+//! Changes of the tables of facts.
+ghost use Rattle.std.specs.Prelude.{◌≡◌, ◌≢◌, Err, map, filter, IfOk, OnOk, OnErr};
+ghost use Rattle.std.specs.List.Sorted.{IsPermutation};
+ghost use Rattle.sqlite.specs.Held.{state};
+ghost use Rattle.sqlite.specs.State.{HasCleanDisk};
+ghost use Rattle.table_entries.specs.Tables.{IsTrusted, Lasts};
+ghost use Rattle.table_entries.specs.TableSteps.{IsInside, WentOn};
+ghost use Rattle.table_entries.specs.FactSteps.{is_fact, is_delays, id_columns, IsFound, TakesFact, TakesDelays, AddsFact, AddsDelays, DropsFact, DropsDelays, DropsOne, AddsOne, DropsEach, AddsEach};
+
+use office_keeper::{Cause, KeepFault};
+use sqlite::{Alter, Error, Row, Transaction, params};
+use table_entries::rowids::{alone, only_id};
+use testing_model::FactRow;
+
+/// The rowids of a fact, in any order.
+fn fact_ids<S: Alter>(
+    tx: &mut Transaction<'_, S>,
+    kind: u32,
+    sender: u32,
+    number: u32,
+    place: u32,
+) -> Result<Vec<Row>, Error>
+    requires inside { IsTrusted (state S.Store tx.old.conn.now) → IsInside (state S.Store tx.old.conn.now) }
+    ensures same_reference { tx.new.conn.ghost_name ≡ tx.old.conn.ghost_name }
+    ensures before { IsTrusted (state S.Store tx.new.conn.now) → IsTrusted (state S.Store tx.old.conn.now) }
+    ensures lasts { Lasts (state S.Store tx.old.conn.now) (state S.Store tx.new.conn.now) }
+    ensures open { HasCleanDisk (state S.Store tx.new.conn.now) → IsTrusted (state S.Store tx.old.conn.now) → OnOk result (IsTrusted (state S.Store tx.new.conn.now)) }
+    ensures on { IsTrusted (state S.Store tx.new.conn.now) → OnOk result (WentOn (state S.Store tx.old.conn.now) (state S.Store tx.new.conn.now)) }
+    ensures same { IsTrusted (state S.Store tx.new.conn.now) → OnOk result ((state S.Store tx.new.conn.now).now ≡ (state S.Store tx.old.conn.now).now) }
+    ensures rows { IsTrusted (state S.Store tx.new.conn.now) → IfOk result (λ rows. IsPermutation (map id_columns (filter (is_fact (record { kind = kind; sender = sender; number = number; place = place })) ((state S.Store tx.old.conn.now).now.trees 8))) rows.items) }
+    ensures err { IsTrusted (state S.Store tx.new.conn.now) → OnErr result ((state S.Store tx.new.conn.now).committed ≡ (state S.Store tx.old.conn.now).committed) }
+{
+    tx.query_all(
+        "SELECT rowid FROM fact WHERE kind = ?1 AND sender = ?2 AND number = ?3 AND place = ?4",
+        params![kind, sender, number, place],
+    )
+}
+
+/// The rowids of the delays under a number, in any order.
+fn delays_ids<S: Alter>(tx: &mut Transaction<'_, S>, number: u32) -> Result<Vec<Row>, Error>
+    requires inside { IsTrusted (state S.Store tx.old.conn.now) → IsInside (state S.Store tx.old.conn.now) }
+    ensures same_reference { tx.new.conn.ghost_name ≡ tx.old.conn.ghost_name }
+    ensures before { IsTrusted (state S.Store tx.new.conn.now) → IsTrusted (state S.Store tx.old.conn.now) }
+    ensures lasts { Lasts (state S.Store tx.old.conn.now) (state S.Store tx.new.conn.now) }
+    ensures open { HasCleanDisk (state S.Store tx.new.conn.now) → IsTrusted (state S.Store tx.old.conn.now) → OnOk result (IsTrusted (state S.Store tx.new.conn.now)) }
+    ensures on { IsTrusted (state S.Store tx.new.conn.now) → OnOk result (WentOn (state S.Store tx.old.conn.now) (state S.Store tx.new.conn.now)) }
+    ensures same { IsTrusted (state S.Store tx.new.conn.now) → OnOk result ((state S.Store tx.new.conn.now).now ≡ (state S.Store tx.old.conn.now).now) }
+    ensures rows { IsTrusted (state S.Store tx.new.conn.now) → IfOk result (λ rows. IsPermutation (map id_columns (filter (is_delays number) ((state S.Store tx.old.conn.now).now.trees 10))) rows.items) }
+    ensures err { IsTrusted (state S.Store tx.new.conn.now) → OnErr result ((state S.Store tx.new.conn.now).committed ≡ (state S.Store tx.old.conn.now).committed) }
+{
+    tx.query_all(
+        "SELECT id FROM fact_delays WHERE number = ?1",
+        params![number],
+    )
+}
+
+/// Takes the facts with a rowid out, and counts them.
+fn take_fact<S: Alter>(tx: &mut Transaction<'_, S>, id: i64) -> Result<usize, Error>
+    requires inside { IsTrusted (state S.Store tx.old.conn.now) → IsInside (state S.Store tx.old.conn.now) }
+    ensures same_reference { tx.new.conn.ghost_name ≡ tx.old.conn.ghost_name }
+    ensures before { IsTrusted (state S.Store tx.new.conn.now) → IsTrusted (state S.Store tx.old.conn.now) }
+    ensures lasts { Lasts (state S.Store tx.old.conn.now) (state S.Store tx.new.conn.now) }
+    ensures open { HasCleanDisk (state S.Store tx.new.conn.now) → IsTrusted (state S.Store tx.old.conn.now) → OnOk result (IsTrusted (state S.Store tx.new.conn.now)) }
+    ensures on { IsTrusted (state S.Store tx.new.conn.now) → OnOk result (WentOn (state S.Store tx.old.conn.now) (state S.Store tx.new.conn.now)) }
+    ensures taken { IsTrusted (state S.Store tx.new.conn.now) → IfOk result (λ count. TakesFact (state S.Store tx.old.conn.now).now.trees (state S.Store tx.new.conn.now).now.trees id count) }
+    ensures err { IsTrusted (state S.Store tx.new.conn.now) → OnErr result ((state S.Store tx.new.conn.now).committed ≡ (state S.Store tx.old.conn.now).committed) }
+{
+    tx.execute("DELETE FROM fact WHERE rowid = ?1", params![id])
+}
+
+/// Takes the delays with a rowid out, and counts them.
+fn take_delays<S: Alter>(tx: &mut Transaction<'_, S>, id: i64) -> Result<usize, Error>
+    requires inside { IsTrusted (state S.Store tx.old.conn.now) → IsInside (state S.Store tx.old.conn.now) }
+    ensures same_reference { tx.new.conn.ghost_name ≡ tx.old.conn.ghost_name }
+    ensures before { IsTrusted (state S.Store tx.new.conn.now) → IsTrusted (state S.Store tx.old.conn.now) }
+    ensures lasts { Lasts (state S.Store tx.old.conn.now) (state S.Store tx.new.conn.now) }
+    ensures open { HasCleanDisk (state S.Store tx.new.conn.now) → IsTrusted (state S.Store tx.old.conn.now) → OnOk result (IsTrusted (state S.Store tx.new.conn.now)) }
+    ensures on { IsTrusted (state S.Store tx.new.conn.now) → OnOk result (WentOn (state S.Store tx.old.conn.now) (state S.Store tx.new.conn.now)) }
+    ensures taken { IsTrusted (state S.Store tx.new.conn.now) → IfOk result (λ count. TakesDelays (state S.Store tx.old.conn.now).now.trees (state S.Store tx.new.conn.now).now.trees id count) }
+    ensures err { IsTrusted (state S.Store tx.new.conn.now) → OnErr result ((state S.Store tx.new.conn.now).committed ≡ (state S.Store tx.old.conn.now).committed) }
+{
+    tx.execute("DELETE FROM fact_delays WHERE id = ?1", params![id])
+}
+
+/// Adds one fact.
+fn add_fact<S: Alter>(
+    tx: &mut Transaction<'_, S>,
+    kind: u32,
+    sender: u32,
+    number: u32,
+    place: u32,
+) -> Result<usize, Error>
+    requires inside { IsTrusted (state S.Store tx.old.conn.now) → IsInside (state S.Store tx.old.conn.now) }
+    ensures same_reference { tx.new.conn.ghost_name ≡ tx.old.conn.ghost_name }
+    ensures before { IsTrusted (state S.Store tx.new.conn.now) → IsTrusted (state S.Store tx.old.conn.now) }
+    ensures lasts { Lasts (state S.Store tx.old.conn.now) (state S.Store tx.new.conn.now) }
+    ensures open { HasCleanDisk (state S.Store tx.new.conn.now) → IsTrusted (state S.Store tx.old.conn.now) → OnOk result (IsTrusted (state S.Store tx.new.conn.now)) }
+    ensures on { IsTrusted (state S.Store tx.new.conn.now) → OnOk result (WentOn (state S.Store tx.old.conn.now) (state S.Store tx.new.conn.now)) }
+    ensures added { IsTrusted (state S.Store tx.new.conn.now) → OnOk result (AddsFact (state S.Store tx.old.conn.now).now.trees (state S.Store tx.new.conn.now).now.trees (record { kind = kind; sender = sender; number = number; place = place })) }
+    ensures err { IsTrusted (state S.Store tx.new.conn.now) → OnErr result ((state S.Store tx.new.conn.now).committed ≡ (state S.Store tx.old.conn.now).committed) }
+{
+    tx.execute(
+        "INSERT INTO fact (kind, sender, number, place) VALUES (?1, ?2, ?3, ?4)",
+        params![kind, sender, number, place],
+    )
+}
+
+/// Adds the number of the last delays.
+pub fn add_delays<S: Alter>(tx: &mut Transaction<'_, S>, number: u32) -> Result<usize, Error>
+    requires inside { IsTrusted (state S.Store tx.old.conn.now) → IsInside (state S.Store tx.old.conn.now) }
+    ensures same_reference { tx.new.conn.ghost_name ≡ tx.old.conn.ghost_name }
+    ensures before { IsTrusted (state S.Store tx.new.conn.now) → IsTrusted (state S.Store tx.old.conn.now) }
+    ensures lasts { Lasts (state S.Store tx.old.conn.now) (state S.Store tx.new.conn.now) }
+    ensures open { HasCleanDisk (state S.Store tx.new.conn.now) → IsTrusted (state S.Store tx.old.conn.now) → OnOk result (IsTrusted (state S.Store tx.new.conn.now)) }
+    ensures on { IsTrusted (state S.Store tx.new.conn.now) → OnOk result (WentOn (state S.Store tx.old.conn.now) (state S.Store tx.new.conn.now)) }
+    ensures added { IsTrusted (state S.Store tx.new.conn.now) → OnOk result (AddsDelays (state S.Store tx.old.conn.now).now.trees (state S.Store tx.new.conn.now).now.trees number) }
+    ensures err { IsTrusted (state S.Store tx.new.conn.now) → OnErr result ((state S.Store tx.new.conn.now).committed ≡ (state S.Store tx.old.conn.now).committed) }
+{
+    tx.execute(
+        "INSERT INTO fact_delays (id, number) VALUES (1, ?1)",
+        params![number],
+    )
+}
+
+/// The rowid of a fact, if it is there.
+fn found_fact<S: Alter>(
+    tx: &mut Transaction<'_, S>,
+    fact: &FactRow,
+) -> Result<Option<i64>, KeepFault>
+    requires inside { IsTrusted (state S.Store tx.old.conn.now) → IsInside (state S.Store tx.old.conn.now) }
+    ensures same_reference { tx.new.conn.ghost_name ≡ tx.old.conn.ghost_name }
+    ensures before { IsTrusted (state S.Store tx.new.conn.now) → IsTrusted (state S.Store tx.old.conn.now) }
+    ensures lasts { Lasts (state S.Store tx.old.conn.now) (state S.Store tx.new.conn.now) }
+    ensures open { HasCleanDisk (state S.Store tx.new.conn.now) → IsTrusted (state S.Store tx.old.conn.now) → OnOk result (IsTrusted (state S.Store tx.new.conn.now)) }
+    ensures on { IsTrusted (state S.Store tx.new.conn.now) → OnOk result (WentOn (state S.Store tx.old.conn.now) (state S.Store tx.new.conn.now)) }
+    ensures same { IsTrusted (state S.Store tx.new.conn.now) → OnOk result ((state S.Store tx.new.conn.now).now ≡ (state S.Store tx.old.conn.now).now) }
+    ensures found { IsTrusted (state S.Store tx.new.conn.now) → IfOk result (λ id. IsFound (is_fact fact.now) ((state S.Store tx.old.conn.now).now.trees 8) id) }
+    ensures err { IsTrusted (state S.Store tx.new.conn.now) → OnErr result ((state S.Store tx.new.conn.now).committed ≡ (state S.Store tx.old.conn.now).committed) }
+    ensures bad { result ≢ Err (KeepFault.Store Cause.BadRow) }
+{
+    let shown = fact_ids(tx, fact.kind, fact.sender, fact.number, fact.place)?;
+    let id = only_id(shown.as_slice())?;
+    Ok(id)
+}
+
+/// Takes the one fact with a rowid out.
+fn take_one_fact<S: Alter>(tx: &mut Transaction<'_, S>, id: i64) -> Result<(), KeepFault>
+    requires inside { IsTrusted (state S.Store tx.old.conn.now) → IsInside (state S.Store tx.old.conn.now) }
+    ensures same_reference { tx.new.conn.ghost_name ≡ tx.old.conn.ghost_name }
+    ensures before { IsTrusted (state S.Store tx.new.conn.now) → IsTrusted (state S.Store tx.old.conn.now) }
+    ensures lasts { Lasts (state S.Store tx.old.conn.now) (state S.Store tx.new.conn.now) }
+    ensures open { HasCleanDisk (state S.Store tx.new.conn.now) → IsTrusted (state S.Store tx.old.conn.now) → OnOk result (IsTrusted (state S.Store tx.new.conn.now)) }
+    ensures on { IsTrusted (state S.Store tx.new.conn.now) → OnOk result (WentOn (state S.Store tx.old.conn.now) (state S.Store tx.new.conn.now)) }
+    ensures taken { IsTrusted (state S.Store tx.new.conn.now) → OnOk result (TakesFact (state S.Store tx.old.conn.now).now.trees (state S.Store tx.new.conn.now).now.trees id 1) }
+    ensures err { IsTrusted (state S.Store tx.new.conn.now) → OnErr result ((state S.Store tx.new.conn.now).committed ≡ (state S.Store tx.old.conn.now).committed) }
+    ensures bad { result ≢ Err (KeepFault.Store Cause.BadRow) }
+{
+    let count = take_fact(tx, id)?;
+    alone(count)?;
+    Ok(())
+}
+
+/// Takes a fact out of the table of facts, if it is there.
+fn drop_fact<S: Alter>(tx: &mut Transaction<'_, S>, fact: &FactRow) -> Result<(), KeepFault>
+    requires inside { IsTrusted (state S.Store tx.old.conn.now) → IsInside (state S.Store tx.old.conn.now) }
+    ensures same_reference { tx.new.conn.ghost_name ≡ tx.old.conn.ghost_name }
+    ensures before { IsTrusted (state S.Store tx.new.conn.now) → IsTrusted (state S.Store tx.old.conn.now) }
+    ensures lasts { Lasts (state S.Store tx.old.conn.now) (state S.Store tx.new.conn.now) }
+    ensures open { HasCleanDisk (state S.Store tx.new.conn.now) → IsTrusted (state S.Store tx.old.conn.now) → OnOk result (IsTrusted (state S.Store tx.new.conn.now)) }
+    ensures on { IsTrusted (state S.Store tx.new.conn.now) → OnOk result (WentOn (state S.Store tx.old.conn.now) (state S.Store tx.new.conn.now)) }
+    ensures dropped { IsTrusted (state S.Store tx.new.conn.now) → OnOk result (DropsFact (state S.Store tx.old.conn.now).now.trees (state S.Store tx.new.conn.now).now.trees fact.now) }
+    ensures err { IsTrusted (state S.Store tx.new.conn.now) → OnErr result ((state S.Store tx.new.conn.now).committed ≡ (state S.Store tx.old.conn.now).committed) }
+    ensures bad { result ≢ Err (KeepFault.Store Cause.BadRow) }
+{
+    let found = found_fact(tx, fact)?;
+    match found {
+        None => Ok(()),
+        Some(id) => {
+            take_one_fact(tx, id)?;
+            Ok(())
+        }
+    }
+}
+
+/// The rowid of the delays under a number, if they are there.
+fn found_delays<S: Alter>(
+    tx: &mut Transaction<'_, S>,
+    number: u32,
+) -> Result<Option<i64>, KeepFault>
+    requires inside { IsTrusted (state S.Store tx.old.conn.now) → IsInside (state S.Store tx.old.conn.now) }
+    ensures same_reference { tx.new.conn.ghost_name ≡ tx.old.conn.ghost_name }
+    ensures before { IsTrusted (state S.Store tx.new.conn.now) → IsTrusted (state S.Store tx.old.conn.now) }
+    ensures lasts { Lasts (state S.Store tx.old.conn.now) (state S.Store tx.new.conn.now) }
+    ensures open { HasCleanDisk (state S.Store tx.new.conn.now) → IsTrusted (state S.Store tx.old.conn.now) → OnOk result (IsTrusted (state S.Store tx.new.conn.now)) }
+    ensures on { IsTrusted (state S.Store tx.new.conn.now) → OnOk result (WentOn (state S.Store tx.old.conn.now) (state S.Store tx.new.conn.now)) }
+    ensures same { IsTrusted (state S.Store tx.new.conn.now) → OnOk result ((state S.Store tx.new.conn.now).now ≡ (state S.Store tx.old.conn.now).now) }
+    ensures found { IsTrusted (state S.Store tx.new.conn.now) → IfOk result (λ id. IsFound (is_delays number) ((state S.Store tx.old.conn.now).now.trees 10) id) }
+    ensures err { IsTrusted (state S.Store tx.new.conn.now) → OnErr result ((state S.Store tx.new.conn.now).committed ≡ (state S.Store tx.old.conn.now).committed) }
+    ensures bad { result ≢ Err (KeepFault.Store Cause.BadRow) }
+{
+    let shown = delays_ids(tx, number)?;
+    let id = only_id(shown.as_slice())?;
+    Ok(id)
+}
+
+/// Takes the one row of delays with a rowid out.
+fn take_one_delays<S: Alter>(tx: &mut Transaction<'_, S>, id: i64) -> Result<(), KeepFault>
+    requires inside { IsTrusted (state S.Store tx.old.conn.now) → IsInside (state S.Store tx.old.conn.now) }
+    ensures same_reference { tx.new.conn.ghost_name ≡ tx.old.conn.ghost_name }
+    ensures before { IsTrusted (state S.Store tx.new.conn.now) → IsTrusted (state S.Store tx.old.conn.now) }
+    ensures lasts { Lasts (state S.Store tx.old.conn.now) (state S.Store tx.new.conn.now) }
+    ensures open { HasCleanDisk (state S.Store tx.new.conn.now) → IsTrusted (state S.Store tx.old.conn.now) → OnOk result (IsTrusted (state S.Store tx.new.conn.now)) }
+    ensures on { IsTrusted (state S.Store tx.new.conn.now) → OnOk result (WentOn (state S.Store tx.old.conn.now) (state S.Store tx.new.conn.now)) }
+    ensures taken { IsTrusted (state S.Store tx.new.conn.now) → OnOk result (TakesDelays (state S.Store tx.old.conn.now).now.trees (state S.Store tx.new.conn.now).now.trees id 1) }
+    ensures err { IsTrusted (state S.Store tx.new.conn.now) → OnErr result ((state S.Store tx.new.conn.now).committed ≡ (state S.Store tx.old.conn.now).committed) }
+    ensures bad { result ≢ Err (KeepFault.Store Cause.BadRow) }
+{
+    let count = take_delays(tx, id)?;
+    alone(count)?;
+    Ok(())
+}
+
+/// Takes the delays under a number out of their table, if they are there.
+fn drop_delays<S: Alter>(tx: &mut Transaction<'_, S>, number: u32) -> Result<(), KeepFault>
+    requires inside { IsTrusted (state S.Store tx.old.conn.now) → IsInside (state S.Store tx.old.conn.now) }
+    ensures same_reference { tx.new.conn.ghost_name ≡ tx.old.conn.ghost_name }
+    ensures before { IsTrusted (state S.Store tx.new.conn.now) → IsTrusted (state S.Store tx.old.conn.now) }
+    ensures lasts { Lasts (state S.Store tx.old.conn.now) (state S.Store tx.new.conn.now) }
+    ensures open { HasCleanDisk (state S.Store tx.new.conn.now) → IsTrusted (state S.Store tx.old.conn.now) → OnOk result (IsTrusted (state S.Store tx.new.conn.now)) }
+    ensures on { IsTrusted (state S.Store tx.new.conn.now) → OnOk result (WentOn (state S.Store tx.old.conn.now) (state S.Store tx.new.conn.now)) }
+    ensures dropped { IsTrusted (state S.Store tx.new.conn.now) → OnOk result (DropsDelays (state S.Store tx.old.conn.now).now.trees (state S.Store tx.new.conn.now).now.trees number) }
+    ensures err { IsTrusted (state S.Store tx.new.conn.now) → OnErr result ((state S.Store tx.new.conn.now).committed ≡ (state S.Store tx.old.conn.now).committed) }
+    ensures bad { result ≢ Err (KeepFault.Store Cause.BadRow) }
+{
+    let found = found_delays(tx, number)?;
+    match found {
+        None => Ok(()),
+        Some(id) => {
+            take_one_delays(tx, id)?;
+            Ok(())
+        }
+    }
+}
+
+/// Takes a fact out of its table, if it is there.
+fn drop_one<S: Alter>(
+    tx: &mut Transaction<'_, S>,
+    release: u32,
+    fact: &FactRow,
+) -> Result<(), KeepFault>
+    requires inside { IsTrusted (state S.Store tx.old.conn.now) → IsInside (state S.Store tx.old.conn.now) }
+    ensures same_reference { tx.new.conn.ghost_name ≡ tx.old.conn.ghost_name }
+    ensures before { IsTrusted (state S.Store tx.new.conn.now) → IsTrusted (state S.Store tx.old.conn.now) }
+    ensures lasts { Lasts (state S.Store tx.old.conn.now) (state S.Store tx.new.conn.now) }
+    ensures open { HasCleanDisk (state S.Store tx.new.conn.now) → IsTrusted (state S.Store tx.old.conn.now) → OnOk result (IsTrusted (state S.Store tx.new.conn.now)) }
+    ensures on { IsTrusted (state S.Store tx.new.conn.now) → OnOk result (WentOn (state S.Store tx.old.conn.now) (state S.Store tx.new.conn.now)) }
+    ensures dropped { IsTrusted (state S.Store tx.new.conn.now) → OnOk result (DropsOne release (state S.Store tx.old.conn.now).now.trees (state S.Store tx.new.conn.now).now.trees fact.now) }
+    ensures err { IsTrusted (state S.Store tx.new.conn.now) → OnErr result ((state S.Store tx.new.conn.now).committed ≡ (state S.Store tx.old.conn.now).committed) }
+    ensures bad { result ≢ Err (KeepFault.Store Cause.BadRow) }
+{
+    if fact.kind != 8 {
+        drop_fact(tx, fact)?;
+        return Ok(());
+    }
+    if fact.sender != release {
+        return Ok(());
+    }
+    if fact.place != 0 {
+        return Ok(());
+    }
+    drop_delays(tx, fact.number)?;
+    Ok(())
+}
+
+/// Puts a fact into its table.
+fn add_one<S: Alter>(
+    tx: &mut Transaction<'_, S>,
+    release: u32,
+    fact: &FactRow,
+) -> Result<usize, Error>
+    requires inside { IsTrusted (state S.Store tx.old.conn.now) → IsInside (state S.Store tx.old.conn.now) }
+    ensures same_reference { tx.new.conn.ghost_name ≡ tx.old.conn.ghost_name }
+    ensures before { IsTrusted (state S.Store tx.new.conn.now) → IsTrusted (state S.Store tx.old.conn.now) }
+    ensures lasts { Lasts (state S.Store tx.old.conn.now) (state S.Store tx.new.conn.now) }
+    ensures open { HasCleanDisk (state S.Store tx.new.conn.now) → IsTrusted (state S.Store tx.old.conn.now) → OnOk result (IsTrusted (state S.Store tx.new.conn.now)) }
+    ensures on { IsTrusted (state S.Store tx.new.conn.now) → OnOk result (WentOn (state S.Store tx.old.conn.now) (state S.Store tx.new.conn.now)) }
+    ensures added { IsTrusted (state S.Store tx.new.conn.now) → OnOk result (AddsOne release (state S.Store tx.old.conn.now).now.trees (state S.Store tx.new.conn.now).now.trees fact.now) }
+    ensures err { IsTrusted (state S.Store tx.new.conn.now) → OnErr result ((state S.Store tx.new.conn.now).committed ≡ (state S.Store tx.old.conn.now).committed) }
+{
+    if fact.kind != 8 {
+        let added = add_fact(tx, fact.kind, fact.sender, fact.number, fact.place)?;
+        return Ok(added);
+    }
+    let put = add_delays(tx, fact.number)?;
+    Ok(put)
+}
+
+/// Takes these facts out of their tables.
+pub fn drop_each<S: Alter>(
+    tx: &mut Transaction<'_, S>,
+    release: u32,
+    facts: &[FactRow],
+) -> Result<(), KeepFault>
+    requires inside { IsTrusted (state S.Store tx.old.conn.now) → IsInside (state S.Store tx.old.conn.now) }
+    ensures same_reference { tx.new.conn.ghost_name ≡ tx.old.conn.ghost_name }
+    ensures before { IsTrusted (state S.Store tx.new.conn.now) → IsTrusted (state S.Store tx.old.conn.now) }
+    ensures lasts { Lasts (state S.Store tx.old.conn.now) (state S.Store tx.new.conn.now) }
+    ensures open { HasCleanDisk (state S.Store tx.new.conn.now) → IsTrusted (state S.Store tx.old.conn.now) → OnOk result (IsTrusted (state S.Store tx.new.conn.now)) }
+    ensures on { IsTrusted (state S.Store tx.new.conn.now) → OnOk result (WentOn (state S.Store tx.old.conn.now) (state S.Store tx.new.conn.now)) }
+    ensures dropped { IsTrusted (state S.Store tx.new.conn.now) → OnOk result (DropsEach release (state S.Store tx.old.conn.now).now.trees (state S.Store tx.new.conn.now).now.trees facts.now) }
+    ensures err { IsTrusted (state S.Store tx.new.conn.now) → OnErr result ((state S.Store tx.new.conn.now).committed ≡ (state S.Store tx.old.conn.now).committed) }
+    ensures bad { result ≢ Err (KeepFault.Store Cause.BadRow) }
+{
+    'facts: for fact in facts {
+        drop_one(tx, release, fact)?;
+    }
+    Ok(())
+}
+
+/// Puts these facts into their tables.
+pub fn add_each<S: Alter>(
+    tx: &mut Transaction<'_, S>,
+    release: u32,
+    facts: &[FactRow],
+) -> Result<(), Error>
+    requires inside { IsTrusted (state S.Store tx.old.conn.now) → IsInside (state S.Store tx.old.conn.now) }
+    ensures same_reference { tx.new.conn.ghost_name ≡ tx.old.conn.ghost_name }
+    ensures before { IsTrusted (state S.Store tx.new.conn.now) → IsTrusted (state S.Store tx.old.conn.now) }
+    ensures lasts { Lasts (state S.Store tx.old.conn.now) (state S.Store tx.new.conn.now) }
+    ensures open { HasCleanDisk (state S.Store tx.new.conn.now) → IsTrusted (state S.Store tx.old.conn.now) → OnOk result (IsTrusted (state S.Store tx.new.conn.now)) }
+    ensures on { IsTrusted (state S.Store tx.new.conn.now) → OnOk result (WentOn (state S.Store tx.old.conn.now) (state S.Store tx.new.conn.now)) }
+    ensures added { IsTrusted (state S.Store tx.new.conn.now) → OnOk result (AddsEach release (state S.Store tx.old.conn.now).now.trees (state S.Store tx.new.conn.now).now.trees facts.now) }
+    ensures err { IsTrusted (state S.Store tx.new.conn.now) → OnErr result ((state S.Store tx.new.conn.now).committed ≡ (state S.Store tx.old.conn.now).committed) }
+{
+    'facts: for fact in facts {
+        add_one(tx, release, fact)?;
+    }
+    Ok(())
+}

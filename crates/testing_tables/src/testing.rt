@@ -1,0 +1,370 @@
+//! The tables of testing: of their rows a finished run writes those that changed.
+ghost use Rattle.std.specs.Prelude.{◌≡◌, ◌≢◌, ◌≤◌, ◌<◌, ◌⊎◌, Err, map, length, IfOk, OnOk, OnErr};
+ghost use Rattle.std.specs.List.Sorted.{IsPermutation};
+ghost use Rattle.sqlite.specs.Held.{state};
+ghost use Rattle.sqlite.specs.Tree.{Trees};
+ghost use Rattle.sqlite.specs.State.{HasCleanDisk};
+ghost use Rattle.testing_model.specs.InOrder.{AreByName, AreByKey};
+ghost use Rattle.table_entries.specs.Tables.{IsTrusted, Lasts};
+ghost use Rattle.table_entries.specs.TableSteps.{IsInside, WentOn};
+ghost use Rattle.table_entries.specs.EntrySteps.{source_columns, entry_columns, TakesSource, AddsSource, SetsSources, TakesRow, AddsRow, SetsRows};
+ghost use Rattle.table_entries.specs.Differences.{GoesOn, SourcesCompared, RowsCompared};
+
+use office_keeper::{Cause, KeepFault};
+use sqlite::{Alter, Error, Row, Transaction, params};
+use table_entries::differences::{
+    Change, Compared, name_or_none, number_or_none, row_change, source_change,
+};
+use table_entries::rowids::alone;
+use testing_model::{RowIn, SourceIn};
+
+/// The rows of testing's sources, in any order.
+fn listed_sources<S: Alter>(tx: &mut Transaction<'_, S>) -> Result<Vec<Row>, Error>
+    requires inside { IsTrusted (state S.Store tx.old.conn.now) → IsInside (state S.Store tx.old.conn.now) }
+    ensures same_reference { tx.new.conn.ghost_name ≡ tx.old.conn.ghost_name }
+    ensures before { IsTrusted (state S.Store tx.new.conn.now) → IsTrusted (state S.Store tx.old.conn.now) }
+    ensures lasts { Lasts (state S.Store tx.old.conn.now) (state S.Store tx.new.conn.now) }
+    ensures open { HasCleanDisk (state S.Store tx.new.conn.now) → IsTrusted (state S.Store tx.old.conn.now) → OnOk result (IsTrusted (state S.Store tx.new.conn.now)) }
+    ensures on { IsTrusted (state S.Store tx.new.conn.now) → OnOk result (WentOn (state S.Store tx.old.conn.now) (state S.Store tx.new.conn.now)) }
+    ensures same { IsTrusted (state S.Store tx.new.conn.now) → OnOk result ((state S.Store tx.new.conn.now).now ≡ (state S.Store tx.old.conn.now).now) }
+    ensures rows { IsTrusted (state S.Store tx.new.conn.now) → IfOk result (λ rows. IsPermutation (map source_columns ((state S.Store tx.old.conn.now).now.trees 4)) rows.items) }
+    ensures err { IsTrusted (state S.Store tx.new.conn.now) → OnErr result ((state S.Store tx.new.conn.now).committed ≡ (state S.Store tx.old.conn.now).committed) }
+{
+    tx.query_all(
+        "SELECT rowid, name, sender, number FROM testing_source",
+        &[],
+    )
+}
+
+/// These shown rows by name. Nothing rests on their order.
+fn sources_in_order(rows: Vec<Row>) -> Vec<Row>
+    ensures { IsPermutation rows.items result.items }
+{
+    let mut sorted = rows;
+    sorted.sort_unstable_by(|row, other| name_or_none(row, 1).cmp(name_or_none(other, 1)));
+    sorted
+}
+
+/// Takes the sources with a rowid out, and counts them.
+fn take_source<S: Alter>(tx: &mut Transaction<'_, S>, id: i64) -> Result<usize, Error>
+    requires inside { IsTrusted (state S.Store tx.old.conn.now) → IsInside (state S.Store tx.old.conn.now) }
+    ensures same_reference { tx.new.conn.ghost_name ≡ tx.old.conn.ghost_name }
+    ensures before { IsTrusted (state S.Store tx.new.conn.now) → IsTrusted (state S.Store tx.old.conn.now) }
+    ensures lasts { Lasts (state S.Store tx.old.conn.now) (state S.Store tx.new.conn.now) }
+    ensures open { HasCleanDisk (state S.Store tx.new.conn.now) → IsTrusted (state S.Store tx.old.conn.now) → OnOk result (IsTrusted (state S.Store tx.new.conn.now)) }
+    ensures on { IsTrusted (state S.Store tx.new.conn.now) → OnOk result (WentOn (state S.Store tx.old.conn.now) (state S.Store tx.new.conn.now)) }
+    ensures taken { IsTrusted (state S.Store tx.new.conn.now) → IfOk result (λ count. TakesSource (state S.Store tx.old.conn.now).now.trees (state S.Store tx.new.conn.now).now.trees id count) }
+    ensures err { IsTrusted (state S.Store tx.new.conn.now) → OnErr result ((state S.Store tx.new.conn.now).committed ≡ (state S.Store tx.old.conn.now).committed) }
+{
+    tx.execute("DELETE FROM testing_source WHERE rowid = ?1", params![id])
+}
+
+/// Takes the one source with a rowid out.
+fn take_one_source<S: Alter>(tx: &mut Transaction<'_, S>, id: i64) -> Result<(), KeepFault>
+    requires inside { IsTrusted (state S.Store tx.old.conn.now) → IsInside (state S.Store tx.old.conn.now) }
+    ensures same_reference { tx.new.conn.ghost_name ≡ tx.old.conn.ghost_name }
+    ensures before { IsTrusted (state S.Store tx.new.conn.now) → IsTrusted (state S.Store tx.old.conn.now) }
+    ensures lasts { Lasts (state S.Store tx.old.conn.now) (state S.Store tx.new.conn.now) }
+    ensures open { HasCleanDisk (state S.Store tx.new.conn.now) → IsTrusted (state S.Store tx.old.conn.now) → OnOk result (IsTrusted (state S.Store tx.new.conn.now)) }
+    ensures on { IsTrusted (state S.Store tx.new.conn.now) → OnOk result (WentOn (state S.Store tx.old.conn.now) (state S.Store tx.new.conn.now)) }
+    ensures taken { IsTrusted (state S.Store tx.new.conn.now) → OnOk result (TakesSource (state S.Store tx.old.conn.now).now.trees (state S.Store tx.new.conn.now).now.trees id 1) }
+    ensures err { IsTrusted (state S.Store tx.new.conn.now) → OnErr result ((state S.Store tx.new.conn.now).committed ≡ (state S.Store tx.old.conn.now).committed) }
+    ensures bad { result ≢ Err (KeepFault.Store Cause.BadRow) }
+{
+    let count = take_source(tx, id)?;
+    alone(count)?;
+    Ok(())
+}
+
+/// Adds one source.
+fn add_source<S: Alter>(
+    tx: &mut Transaction<'_, S>,
+    name: &str,
+    sender: u32,
+    number: u32,
+) -> Result<usize, Error>
+    requires inside { IsTrusted (state S.Store tx.old.conn.now) → IsInside (state S.Store tx.old.conn.now) }
+    ensures same_reference { tx.new.conn.ghost_name ≡ tx.old.conn.ghost_name }
+    ensures before { IsTrusted (state S.Store tx.new.conn.now) → IsTrusted (state S.Store tx.old.conn.now) }
+    ensures lasts { Lasts (state S.Store tx.old.conn.now) (state S.Store tx.new.conn.now) }
+    ensures open { HasCleanDisk (state S.Store tx.new.conn.now) → IsTrusted (state S.Store tx.old.conn.now) → OnOk result (IsTrusted (state S.Store tx.new.conn.now)) }
+    ensures on { IsTrusted (state S.Store tx.new.conn.now) → OnOk result (WentOn (state S.Store tx.old.conn.now) (state S.Store tx.new.conn.now)) }
+    ensures added { IsTrusted (state S.Store tx.new.conn.now) → OnOk result (AddsSource (state S.Store tx.old.conn.now).now.trees (state S.Store tx.new.conn.now).now.trees name.now sender number) }
+    ensures err { IsTrusted (state S.Store tx.new.conn.now) → OnErr result ((state S.Store tx.new.conn.now).committed ≡ (state S.Store tx.old.conn.now).committed) }
+{
+    tx.execute(
+        "INSERT INTO testing_source (name, sender, number) VALUES (?1, ?2, ?3)",
+        params![name, sender, number],
+    )
+}
+
+/// Does what is next to be done with the table of sources.
+fn change_source<S: Alter>(
+    tx: &mut Transaction<'_, S>,
+    shown: &[Row],
+    sources: &[SourceIn],
+    at: Compared,
+) -> Result<Compared, KeepFault>
+    requires inside { IsTrusted (state S.Store tx.old.conn.now) → IsInside (state S.Store tx.old.conn.now) }
+    requires within { (at.shown ≤ length shown.now) × (at.entries ≤ length sources.now) }
+    requires left { (at.shown < length shown.now) ⊎ (at.entries < length sources.now) }
+    ensures same_reference { tx.new.conn.ghost_name ≡ tx.old.conn.ghost_name }
+    ensures before { IsTrusted (state S.Store tx.new.conn.now) → IsTrusted (state S.Store tx.old.conn.now) }
+    ensures lasts { Lasts (state S.Store tx.old.conn.now) (state S.Store tx.new.conn.now) }
+    ensures open { HasCleanDisk (state S.Store tx.new.conn.now) → IsTrusted (state S.Store tx.old.conn.now) → OnOk result (IsTrusted (state S.Store tx.new.conn.now)) }
+    ensures on { IsTrusted (state S.Store tx.new.conn.now) → OnOk result (WentOn (state S.Store tx.old.conn.now) (state S.Store tx.new.conn.now)) }
+    ensures further { IfOk result (λ to. GoesOn (length shown.now) (length sources.now) at.shown at.entries to.shown to.entries) }
+    ensures compared { IsTrusted (state S.Store tx.new.conn.now) → IfOk result (λ to. (first : Trees) → SourcesCompared first (state S.Store tx.old.conn.now).now.trees shown.now sources.now at.shown at.entries → SourcesCompared first (state S.Store tx.new.conn.now).now.trees shown.now sources.now to.shown to.entries) }
+    ensures err { IsTrusted (state S.Store tx.new.conn.now) → OnErr result ((state S.Store tx.new.conn.now).committed ≡ (state S.Store tx.old.conn.now).committed) }
+    ensures bad { result ≢ Err (KeepFault.Store Cause.BadRow) }
+{
+    match source_change(shown, sources, at)? {
+        Change::Stays => Ok(Compared {
+            shown: at.shown + 1,
+            entries: at.entries + 1,
+        }),
+        Change::Leaves(id) => {
+            take_one_source(tx, id)?;
+            Ok(Compared {
+                shown: at.shown + 1,
+                entries: at.entries,
+            })
+        }
+        Change::Comes => {
+            let place = at.entries;
+            let source = &sources[place];
+            add_source(tx, source.name.as_str(), source.sender, source.number)?;
+            Ok(Compared {
+                shown: at.shown,
+                entries: at.entries + 1,
+            })
+        }
+    }
+}
+
+/// Changes the table of sources, of which all rows are shown, until it has these sources alone.
+fn change_sources<S: Alter>(
+    tx: &mut Transaction<'_, S>,
+    shown: &[Row],
+    sources: &[SourceIn],
+) -> Result<(), KeepFault>
+    requires inside { IsTrusted (state S.Store tx.old.conn.now) → IsInside (state S.Store tx.old.conn.now) }
+    requires shown { IsTrusted (state S.Store tx.old.conn.now) → IsPermutation (map source_columns ((state S.Store tx.old.conn.now).now.trees 4)) shown.now }
+    requires ordered { AreByName sources.now }
+    ensures same_reference { tx.new.conn.ghost_name ≡ tx.old.conn.ghost_name }
+    ensures before { IsTrusted (state S.Store tx.new.conn.now) → IsTrusted (state S.Store tx.old.conn.now) }
+    ensures lasts { Lasts (state S.Store tx.old.conn.now) (state S.Store tx.new.conn.now) }
+    ensures open { HasCleanDisk (state S.Store tx.new.conn.now) → IsTrusted (state S.Store tx.old.conn.now) → OnOk result (IsTrusted (state S.Store tx.new.conn.now)) }
+    ensures on { IsTrusted (state S.Store tx.new.conn.now) → OnOk result (WentOn (state S.Store tx.old.conn.now) (state S.Store tx.new.conn.now)) }
+    ensures set { IsTrusted (state S.Store tx.new.conn.now) → OnOk result (SetsSources (state S.Store tx.old.conn.now).now.trees (state S.Store tx.new.conn.now).now.trees sources.now) }
+    ensures err { IsTrusted (state S.Store tx.new.conn.now) → OnErr result ((state S.Store tx.new.conn.now).committed ≡ (state S.Store tx.old.conn.now).committed) }
+    ensures bad { result ≢ Err (KeepFault.Store Cause.BadRow) }
+{
+    let mut at = Compared {
+        shown: 0,
+        entries: 0,
+    };
+    'changes: while at.shown < shown.len() || at.entries < sources.len() {
+        at = change_source(tx, shown, sources, at)?;
+    }
+    Ok(())
+}
+
+/// Puts these sources in place of the old ones: what is gone is taken out, and what is new is put in.
+pub fn set_sources<S: Alter>(
+    tx: &mut Transaction<'_, S>,
+    sources: &[SourceIn],
+) -> Result<(), KeepFault>
+    requires inside { IsTrusted (state S.Store tx.old.conn.now) → IsInside (state S.Store tx.old.conn.now) }
+    requires ordered { AreByName sources.now }
+    ensures same_reference { tx.new.conn.ghost_name ≡ tx.old.conn.ghost_name }
+    ensures before { IsTrusted (state S.Store tx.new.conn.now) → IsTrusted (state S.Store tx.old.conn.now) }
+    ensures lasts { Lasts (state S.Store tx.old.conn.now) (state S.Store tx.new.conn.now) }
+    ensures open { HasCleanDisk (state S.Store tx.new.conn.now) → IsTrusted (state S.Store tx.old.conn.now) → OnOk result (IsTrusted (state S.Store tx.new.conn.now)) }
+    ensures on { IsTrusted (state S.Store tx.new.conn.now) → OnOk result (WentOn (state S.Store tx.old.conn.now) (state S.Store tx.new.conn.now)) }
+    ensures set { IsTrusted (state S.Store tx.new.conn.now) → OnOk result (SetsSources (state S.Store tx.old.conn.now).now.trees (state S.Store tx.new.conn.now).now.trees sources.now) }
+    ensures err { IsTrusted (state S.Store tx.new.conn.now) → OnErr result ((state S.Store tx.new.conn.now).committed ≡ (state S.Store tx.old.conn.now).committed) }
+    ensures bad { result ≢ Err (KeepFault.Store Cause.BadRow) }
+{
+    let listed = listed_sources(tx)?;
+    let shown = sources_in_order(listed);
+    change_sources(tx, shown.as_slice(), sources)?;
+    Ok(())
+}
+
+/// The rows of testing's rows, in any order.
+fn listed_rows<S: Alter>(tx: &mut Transaction<'_, S>) -> Result<Vec<Row>, Error>
+    requires inside { IsTrusted (state S.Store tx.old.conn.now) → IsInside (state S.Store tx.old.conn.now) }
+    ensures same_reference { tx.new.conn.ghost_name ≡ tx.old.conn.ghost_name }
+    ensures before { IsTrusted (state S.Store tx.new.conn.now) → IsTrusted (state S.Store tx.old.conn.now) }
+    ensures lasts { Lasts (state S.Store tx.old.conn.now) (state S.Store tx.new.conn.now) }
+    ensures open { HasCleanDisk (state S.Store tx.new.conn.now) → IsTrusted (state S.Store tx.old.conn.now) → OnOk result (IsTrusted (state S.Store tx.new.conn.now)) }
+    ensures on { IsTrusted (state S.Store tx.new.conn.now) → OnOk result (WentOn (state S.Store tx.old.conn.now) (state S.Store tx.new.conn.now)) }
+    ensures same { IsTrusted (state S.Store tx.new.conn.now) → OnOk result ((state S.Store tx.new.conn.now).now ≡ (state S.Store tx.old.conn.now).now) }
+    ensures rows { IsTrusted (state S.Store tx.new.conn.now) → IfOk result (λ rows. IsPermutation (map entry_columns ((state S.Store tx.old.conn.now).now.trees 6)) rows.items) }
+    ensures err { IsTrusted (state S.Store tx.new.conn.now) → OnErr result ((state S.Store tx.new.conn.now).committed ≡ (state S.Store tx.old.conn.now).committed) }
+{
+    tx.query_all(
+        "SELECT rowid, arch, name, sender, number, place FROM testing_row",
+        &[],
+    )
+}
+
+/// These shown rows by architecture and name. Nothing rests on their order.
+fn rows_in_order(rows: Vec<Row>) -> Vec<Row>
+    ensures { IsPermutation rows.items result.items }
+{
+    let mut sorted = rows;
+    sorted.sort_unstable_by(|row, other| {
+        let archs = number_or_none(row, 1).cmp(&number_or_none(other, 1));
+        archs.then(name_or_none(row, 2).cmp(name_or_none(other, 2)))
+    });
+    sorted
+}
+
+/// Takes the rows with a rowid out, and counts them.
+fn take_row<S: Alter>(tx: &mut Transaction<'_, S>, id: i64) -> Result<usize, Error>
+    requires inside { IsTrusted (state S.Store tx.old.conn.now) → IsInside (state S.Store tx.old.conn.now) }
+    ensures same_reference { tx.new.conn.ghost_name ≡ tx.old.conn.ghost_name }
+    ensures before { IsTrusted (state S.Store tx.new.conn.now) → IsTrusted (state S.Store tx.old.conn.now) }
+    ensures lasts { Lasts (state S.Store tx.old.conn.now) (state S.Store tx.new.conn.now) }
+    ensures open { HasCleanDisk (state S.Store tx.new.conn.now) → IsTrusted (state S.Store tx.old.conn.now) → OnOk result (IsTrusted (state S.Store tx.new.conn.now)) }
+    ensures on { IsTrusted (state S.Store tx.new.conn.now) → OnOk result (WentOn (state S.Store tx.old.conn.now) (state S.Store tx.new.conn.now)) }
+    ensures taken { IsTrusted (state S.Store tx.new.conn.now) → IfOk result (λ count. TakesRow (state S.Store tx.old.conn.now).now.trees (state S.Store tx.new.conn.now).now.trees id count) }
+    ensures err { IsTrusted (state S.Store tx.new.conn.now) → OnErr result ((state S.Store tx.new.conn.now).committed ≡ (state S.Store tx.old.conn.now).committed) }
+{
+    tx.execute("DELETE FROM testing_row WHERE rowid = ?1", params![id])
+}
+
+/// Takes the one row with a rowid out.
+fn take_one_row<S: Alter>(tx: &mut Transaction<'_, S>, id: i64) -> Result<(), KeepFault>
+    requires inside { IsTrusted (state S.Store tx.old.conn.now) → IsInside (state S.Store tx.old.conn.now) }
+    ensures same_reference { tx.new.conn.ghost_name ≡ tx.old.conn.ghost_name }
+    ensures before { IsTrusted (state S.Store tx.new.conn.now) → IsTrusted (state S.Store tx.old.conn.now) }
+    ensures lasts { Lasts (state S.Store tx.old.conn.now) (state S.Store tx.new.conn.now) }
+    ensures open { HasCleanDisk (state S.Store tx.new.conn.now) → IsTrusted (state S.Store tx.old.conn.now) → OnOk result (IsTrusted (state S.Store tx.new.conn.now)) }
+    ensures on { IsTrusted (state S.Store tx.new.conn.now) → OnOk result (WentOn (state S.Store tx.old.conn.now) (state S.Store tx.new.conn.now)) }
+    ensures taken { IsTrusted (state S.Store tx.new.conn.now) → OnOk result (TakesRow (state S.Store tx.old.conn.now).now.trees (state S.Store tx.new.conn.now).now.trees id 1) }
+    ensures err { IsTrusted (state S.Store tx.new.conn.now) → OnErr result ((state S.Store tx.new.conn.now).committed ≡ (state S.Store tx.old.conn.now).committed) }
+    ensures bad { result ≢ Err (KeepFault.Store Cause.BadRow) }
+{
+    let count = take_row(tx, id)?;
+    alone(count)?;
+    Ok(())
+}
+
+/// Adds one row.
+fn add_row<S: Alter>(
+    tx: &mut Transaction<'_, S>,
+    arch: u32,
+    name: &str,
+    sender: u32,
+    number: u32,
+    place: u32,
+) -> Result<usize, Error>
+    requires inside { IsTrusted (state S.Store tx.old.conn.now) → IsInside (state S.Store tx.old.conn.now) }
+    ensures same_reference { tx.new.conn.ghost_name ≡ tx.old.conn.ghost_name }
+    ensures before { IsTrusted (state S.Store tx.new.conn.now) → IsTrusted (state S.Store tx.old.conn.now) }
+    ensures lasts { Lasts (state S.Store tx.old.conn.now) (state S.Store tx.new.conn.now) }
+    ensures open { HasCleanDisk (state S.Store tx.new.conn.now) → IsTrusted (state S.Store tx.old.conn.now) → OnOk result (IsTrusted (state S.Store tx.new.conn.now)) }
+    ensures on { IsTrusted (state S.Store tx.new.conn.now) → OnOk result (WentOn (state S.Store tx.old.conn.now) (state S.Store tx.new.conn.now)) }
+    ensures added { IsTrusted (state S.Store tx.new.conn.now) → OnOk result (AddsRow (state S.Store tx.old.conn.now).now.trees (state S.Store tx.new.conn.now).now.trees arch name.now sender number place) }
+    ensures err { IsTrusted (state S.Store tx.new.conn.now) → OnErr result ((state S.Store tx.new.conn.now).committed ≡ (state S.Store tx.old.conn.now).committed) }
+{
+    tx.execute(
+        "INSERT INTO testing_row (arch, name, sender, number, place) VALUES (?1, ?2, ?3, ?4, ?5)",
+        params![arch, name, sender, number, place],
+    )
+}
+
+/// Does what is next to be done with the table of rows.
+fn change_row<S: Alter>(
+    tx: &mut Transaction<'_, S>,
+    shown: &[Row],
+    rows: &[RowIn],
+    at: Compared,
+) -> Result<Compared, KeepFault>
+    requires inside { IsTrusted (state S.Store tx.old.conn.now) → IsInside (state S.Store tx.old.conn.now) }
+    requires within { (at.shown ≤ length shown.now) × (at.entries ≤ length rows.now) }
+    requires left { (at.shown < length shown.now) ⊎ (at.entries < length rows.now) }
+    ensures same_reference { tx.new.conn.ghost_name ≡ tx.old.conn.ghost_name }
+    ensures before { IsTrusted (state S.Store tx.new.conn.now) → IsTrusted (state S.Store tx.old.conn.now) }
+    ensures lasts { Lasts (state S.Store tx.old.conn.now) (state S.Store tx.new.conn.now) }
+    ensures open { HasCleanDisk (state S.Store tx.new.conn.now) → IsTrusted (state S.Store tx.old.conn.now) → OnOk result (IsTrusted (state S.Store tx.new.conn.now)) }
+    ensures on { IsTrusted (state S.Store tx.new.conn.now) → OnOk result (WentOn (state S.Store tx.old.conn.now) (state S.Store tx.new.conn.now)) }
+    ensures further { IfOk result (λ to. GoesOn (length shown.now) (length rows.now) at.shown at.entries to.shown to.entries) }
+    ensures compared { IsTrusted (state S.Store tx.new.conn.now) → IfOk result (λ to. (first : Trees) → RowsCompared first (state S.Store tx.old.conn.now).now.trees shown.now rows.now at.shown at.entries → RowsCompared first (state S.Store tx.new.conn.now).now.trees shown.now rows.now to.shown to.entries) }
+    ensures err { IsTrusted (state S.Store tx.new.conn.now) → OnErr result ((state S.Store tx.new.conn.now).committed ≡ (state S.Store tx.old.conn.now).committed) }
+    ensures bad { result ≢ Err (KeepFault.Store Cause.BadRow) }
+{
+    match row_change(shown, rows, at)? {
+        Change::Stays => Ok(Compared {
+            shown: at.shown + 1,
+            entries: at.entries + 1,
+        }),
+        Change::Leaves(id) => {
+            take_one_row(tx, id)?;
+            Ok(Compared {
+                shown: at.shown + 1,
+                entries: at.entries,
+            })
+        }
+        Change::Comes => {
+            let place = at.entries;
+            let row = &rows[place];
+            let name = row.binary.name.as_str();
+            add_row(tx, row.arch, name, row.sender, row.number, row.place)?;
+            Ok(Compared {
+                shown: at.shown,
+                entries: at.entries + 1,
+            })
+        }
+    }
+}
+
+/// Changes the table of rows, of which all rows are shown, until it has these rows alone.
+fn change_rows<S: Alter>(
+    tx: &mut Transaction<'_, S>,
+    shown: &[Row],
+    rows: &[RowIn],
+) -> Result<(), KeepFault>
+    requires inside { IsTrusted (state S.Store tx.old.conn.now) → IsInside (state S.Store tx.old.conn.now) }
+    requires shown { IsTrusted (state S.Store tx.old.conn.now) → IsPermutation (map entry_columns ((state S.Store tx.old.conn.now).now.trees 6)) shown.now }
+    requires ordered { AreByKey rows.now }
+    ensures same_reference { tx.new.conn.ghost_name ≡ tx.old.conn.ghost_name }
+    ensures before { IsTrusted (state S.Store tx.new.conn.now) → IsTrusted (state S.Store tx.old.conn.now) }
+    ensures lasts { Lasts (state S.Store tx.old.conn.now) (state S.Store tx.new.conn.now) }
+    ensures open { HasCleanDisk (state S.Store tx.new.conn.now) → IsTrusted (state S.Store tx.old.conn.now) → OnOk result (IsTrusted (state S.Store tx.new.conn.now)) }
+    ensures on { IsTrusted (state S.Store tx.new.conn.now) → OnOk result (WentOn (state S.Store tx.old.conn.now) (state S.Store tx.new.conn.now)) }
+    ensures set { IsTrusted (state S.Store tx.new.conn.now) → OnOk result (SetsRows (state S.Store tx.old.conn.now).now.trees (state S.Store tx.new.conn.now).now.trees rows.now) }
+    ensures err { IsTrusted (state S.Store tx.new.conn.now) → OnErr result ((state S.Store tx.new.conn.now).committed ≡ (state S.Store tx.old.conn.now).committed) }
+    ensures bad { result ≢ Err (KeepFault.Store Cause.BadRow) }
+{
+    let mut at = Compared {
+        shown: 0,
+        entries: 0,
+    };
+    'changes: while at.shown < shown.len() || at.entries < rows.len() {
+        at = change_row(tx, shown, rows, at)?;
+    }
+    Ok(())
+}
+
+/// Puts these rows in place of the old ones: what is gone is taken out, and what is new is put in.
+pub fn set_rows<S: Alter>(tx: &mut Transaction<'_, S>, rows: &[RowIn]) -> Result<(), KeepFault>
+    requires inside { IsTrusted (state S.Store tx.old.conn.now) → IsInside (state S.Store tx.old.conn.now) }
+    requires ordered { AreByKey rows.now }
+    ensures same_reference { tx.new.conn.ghost_name ≡ tx.old.conn.ghost_name }
+    ensures before { IsTrusted (state S.Store tx.new.conn.now) → IsTrusted (state S.Store tx.old.conn.now) }
+    ensures lasts { Lasts (state S.Store tx.old.conn.now) (state S.Store tx.new.conn.now) }
+    ensures open { HasCleanDisk (state S.Store tx.new.conn.now) → IsTrusted (state S.Store tx.old.conn.now) → OnOk result (IsTrusted (state S.Store tx.new.conn.now)) }
+    ensures on { IsTrusted (state S.Store tx.new.conn.now) → OnOk result (WentOn (state S.Store tx.old.conn.now) (state S.Store tx.new.conn.now)) }
+    ensures set { IsTrusted (state S.Store tx.new.conn.now) → OnOk result (SetsRows (state S.Store tx.old.conn.now).now.trees (state S.Store tx.new.conn.now).now.trees rows.now) }
+    ensures err { IsTrusted (state S.Store tx.new.conn.now) → OnErr result ((state S.Store tx.new.conn.now).committed ≡ (state S.Store tx.old.conn.now).committed) }
+    ensures bad { result ≢ Err (KeepFault.Store Cause.BadRow) }
+{
+    let listed = listed_rows(tx)?;
+    let shown = rows_in_order(listed);
+    change_rows(tx, shown.as_slice(), rows)?;
+    Ok(())
+}
