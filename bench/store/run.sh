@@ -14,7 +14,7 @@ echo "sqlite3 $(sqlite3 --version | cut -d' ' -f1):"
 (time sqlite3 :memory: < "$work/statements") 2>&1 | grep real
 
 # The proved program, beside copies of the crates that it stands on.
-crates="deb_version deb_control testing_install testing_items testing_model testing_suites office_mail office_keeper office_tables office_store"
+crates="deb_version deb_control testing_install testing_items testing_model testing_suites office_mail office_keeper office_tables office_layout office_opening office_store"
 for name in $crates; do grep "^$name:" "$top/crates.txt"; done > "$work/crates.txt"
 echo 'bench_store: office_mail office_store sqlite anyhow' >> "$work/crates.txt"
 proved=$work/crates/bench_store
