@@ -1,16 +1,6 @@
-pub mod CreateLemmas
-pub mod SchemaLemmas
-pub mod WrittenWords
-pub mod WrittenSetup
-pub mod SetupRoundTrip
-pub mod OpenLemmas
 pub mod ContentFacts
-pub mod BlankFacts
 pub mod LegibleKeep
 pub mod LegibleKeepAll
 pub mod LegibleFinish
 pub mod KeeperFacts
 pub mod NumberFacts
-pub mod RangeFacts
-pub mod MigrateLemmas
-pub mod MigratedContent

@@ -10,11 +10,9 @@ pub use Rattle.office_tables.specs.Entries
 pub use Rattle.office_tables.specs.FactTables
 pub use Rattle.office_tables.specs.TableContent
 pub use Rattle.office_tables.specs.Legible
-pub mod LayoutSteps
-pub mod Creating
-pub mod CreatingSteps
-pub mod SetupText
-pub mod Migrating
-pub mod MigratingSteps
-pub mod Opening
-pub mod Fresh
+pub use Rattle.office_layout.specs.Creating
+pub use Rattle.office_layout.specs.SetupText
+pub use Rattle.office_layout.specs.Fresh
+pub use Rattle.office_layout.specs.Unchanged
+pub use Rattle.office_opening.specs.Migrating
+pub use Rattle.office_opening.specs.Opening

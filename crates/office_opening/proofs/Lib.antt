@@ -1,0 +1,4 @@
+pub mod OpenLemmas
+pub mod RangeFacts
+pub mod MigrateLemmas
+pub mod MigratedContent

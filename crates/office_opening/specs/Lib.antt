@@ -1,0 +1,3 @@
+pub mod Migrating
+pub mod MigratingSteps
+pub mod Opening
