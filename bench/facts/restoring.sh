@@ -8,7 +8,7 @@ work=$(mktemp -d)
 trap 'rm -rf "$work"' EXIT
 
 # The proved program, beside copies of the crates that it stands on.
-crates="deb_version deb_control testing_install testing_items testing_model testing_facts testing_suites testing_kept testing_excuses testing_moves testing_reports testing_laws testing_rules office_bags office_setup office_mail"
+crates="deb_version deb_control testing_install testing_items testing_model testing_facts testing_suites testing_kept testing_excuses testing_live testing_moves testing_reports testing_laws testing_rules office_bags office_setup office_mail"
 for name in $crates; do grep "^$name:" "$top/crates.txt"; done > "$work/crates.txt"
 echo 'bench_restoring: office_mail testing_rules jiff anyhow' >> "$work/crates.txt"
 proved=$work/crates/bench_restoring

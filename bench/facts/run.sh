@@ -8,12 +8,12 @@ work=$(mktemp -d)
 trap 'rm -rf "$work"' EXIT
 
 # The proved program, beside copies of the crates that it stands on.
-grep -E '^(deb_version|deb_control|testing_install|testing_items|testing_model|testing_facts|testing_suites|testing_kept|testing_excuses|testing_moves|testing_reports|testing_laws|testing_rules|office_bags|office_setup|office_mail):' "$top/crates.txt" > "$work/crates.txt"
+grep -E '^(deb_version|deb_control|testing_install|testing_items|testing_model|testing_facts|testing_suites|testing_kept|testing_excuses|testing_live|testing_moves|testing_reports|testing_laws|testing_rules|office_bags|office_setup|office_mail):' "$top/crates.txt" > "$work/crates.txt"
 echo 'bench_facts: deb_version deb_control testing_items testing_model testing_rules office_mail jiff anyhow' >> "$work/crates.txt"
 proved=$work/crates/bench_facts
 mkdir -p "$proved/src"
 cp "$here/program.rattle" "$proved/src/main.rt"
-for name in deb_version deb_control testing_install testing_items testing_model testing_facts testing_suites testing_kept testing_excuses testing_moves testing_reports testing_laws testing_rules office_bags office_setup office_mail; do cp -r "$top/crates/$name" "$work/crates/"; done
+for name in deb_version deb_control testing_install testing_items testing_model testing_facts testing_suites testing_kept testing_excuses testing_live testing_moves testing_reports testing_laws testing_rules office_bags office_setup office_mail; do cp -r "$top/crates/$name" "$work/crates/"; done
 (cd "$proved" && rt run --jobs 1 < /dev/null) > "$work/build" 2>&1 || { cat "$work/build"; exit 1; }
 
 peak='import resource, subprocess, sys

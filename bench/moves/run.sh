@@ -8,13 +8,13 @@ work=$(mktemp -d)
 trap 'rm -rf "$work"' EXIT
 
 # The proved program, beside copies of the crates that it stands on.
-grep -E '^(deb_version|deb_control|testing_install|testing_items|testing_model|testing_facts|testing_suites|testing_kept|testing_excuses|testing_moves|testing_reports|testing_laws|testing_rules):' "$top/crates.txt" > "$work/crates.txt"
+grep -E '^(deb_version|deb_control|testing_install|testing_items|testing_model|testing_facts|testing_suites|testing_kept|testing_excuses|testing_live|testing_moves|testing_reports|testing_laws|testing_rules):' "$top/crates.txt" > "$work/crates.txt"
 echo 'bench_moves: deb_version deb_control testing_items testing_model testing_rules jiff anyhow' >> "$work/crates.txt"
 proved=$work/crates/bench_moves
 mkdir -p "$proved/src" "$proved/proofs/one_arch"
 cp "$here/program.rattle" "$proved/src/main.rt"
 cp "$here/one_arch.answers" "$proved/proofs/one_arch/Answers.antt"
-for name in deb_version deb_control testing_install testing_items testing_model testing_facts testing_suites testing_kept testing_excuses testing_moves testing_reports testing_laws testing_rules; do cp -r "$top/crates/$name" "$work/crates/"; done
+for name in deb_version deb_control testing_install testing_items testing_model testing_facts testing_suites testing_kept testing_excuses testing_live testing_moves testing_reports testing_laws testing_rules; do cp -r "$top/crates/$name" "$work/crates/"; done
 (cd "$proved" && rt run --jobs 1 < /dev/null) > "$work/build" 2>&1 || { cat "$work/build"; exit 1; }
 
 peak='import resource, subprocess, sys
