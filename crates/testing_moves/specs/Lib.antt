@@ -1,4 +1,2 @@
-pub mod Held
 pub mod LentItems
-pub mod LiveSources
 pub mod Runs

@@ -5,22 +5,19 @@ ghost use Rattle.testing_install.specs.Closed.{marked};
 ghost use Rattle.testing_model.specs.Boxed.{unboxed};
 ghost use Rattle.testing_suites.specs.AfterMoves.{moved_rows, rows_without};
 ghost use Rattle.testing_model.specs.FactOrder.{AreBySource, IsUnstableOrder};
-ghost use Rattle.testing_moves.specs.Held.{held, AreLive};
+ghost use Rattle.testing_live.specs.Held.{held, AreLive};
 ghost use Rattle.testing_model.specs.InOrder.{AreByKey};
 ghost use Rattle.testing_model.specs.JudgedRows.{lent};
 ghost use Rattle.testing_model.specs.Moves as rules;
 ghost use Rattle.testing_suites.specs.Present.{IsShown};
 ghost use Rattle.testing_suites.specs.PresentSteps.{IsLive, present_rows};
 
-use crate::lent_rows::{moved_rows, rows_without};
-use crate::live_rows::LiveRows;
-use crate::offender::offender_of;
-use crate::pool_suites::PoolSuites;
 use deb_control::Text;
 use deb_version::NoMemory;
 use std::alloc::Global;
 use testing_facts::Unstable;
 use testing_items::Archs;
+use testing_live::{LiveRows, PoolSuites, moved_rows, offender_of, rows_without};
 use testing_model::{LentRow, Offender};
 
 /// What the move of a group would break, judged anew.

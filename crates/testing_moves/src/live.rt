@@ -10,10 +10,6 @@ ghost use Rattle.testing_suites.specs.CarriedOver.{AreCarriedOver};
 ghost use Rattle.testing_moves.specs.Runs.{after_move, broken_by_move, after_removal, broken_by_removal};
 
 use crate::breaking;
-use crate::live_rows::LiveRows;
-use crate::live_sources::{
-    LiveSource, lend_sources, move_sources, own_sources, place_of_name, take_source,
-};
 use deb_control::Text;
 use deb_version::{NoMemory, Version};
 use std::alloc::Global;
@@ -21,6 +17,9 @@ use std::marker::Model;
 use std::mem;
 use testing_facts::{Hashes, Unstable};
 use testing_items::Archs;
+use testing_live::{
+    LiveRows, LiveSource, lend_sources, move_sources, own_sources, place_of_name, take_source,
+};
 use testing_model::{Offender, UploadIn};
 use testing_suites::{CarriedSuites, Testing};
 
@@ -37,9 +36,9 @@ pub struct LiveTesting<'u, 'a> {
 
 impl<'u, 'a> Model for LiveTesting<'u, 'a> {
     ghost use Rattle.testing_model.specs.Boxed.{unboxed};
-    ghost use Rattle.testing_moves.specs.Held.{held, IsLiveTesting};
+    ghost use Rattle.testing_live.specs.Held.{held, IsLiveTesting};
     ghost use Rattle.testing_model.specs.JudgedRows.{lent};
-    ghost use Rattle.testing_moves.specs.LiveSources.{sources_of};
+    ghost use Rattle.testing_live.specs.LiveSources.{sources_of};
     ghost use Rattle.testing_moves.specs.Runs.{Moment};
 
     ghost Value = { Moment };

@@ -1,5 +1,5 @@
 use Rattle.std.proofs.Common.{sym, subst}
-use Rattle.testing_moves.specs.Held.{held, AreLive}
+use Rattle.testing_live.specs.Held.{held, AreLive}
 use Rattle.testing_model.specs.InOrder.{AreByKey}
 use Rattle.testing_model.specs.JudgedRows.{lent}
 use Rattle.testing_suites.proofs.Showing.{by_key-none}

@@ -3,7 +3,7 @@ use Rattle.testing_model.specs.Boxed.{unboxed}
 use Rattle.testing_model.specs.declared.suite.RowIn.{RowIn}
 use Rattle.testing_model.specs.declared.suite.SourceIn.{SourceIn}
 use Rattle.testing_suites.specs.AfterMoves.{rows_without}
-use Rattle.testing_moves.specs.Held.{held, AreLive}
+use Rattle.testing_live.specs.Held.{held, AreLive}
 use Rattle.testing_model.specs.InOrder.{AreByKey}
 use Rattle.testing_model.specs.JudgedRows.{lent}
 use Rattle.testing_moves.specs.Runs.{Moment, after_removal}

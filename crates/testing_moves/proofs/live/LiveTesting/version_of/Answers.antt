@@ -1,7 +1,7 @@
 use Rattle.std.proofs.Common.{◌≡◌, sym, ap, ◌∙◌, subst, arith, ◌<◌, length, option_map, Some, None}
 use Rattle.std.proofs.lemmas.List.{get_or-map, length-map}
 use Rattle.testing_model.specs.Excuses.{testing_version}
-use Rattle.testing_moves.specs.LiveSources.{source_of, sources_of}
+use Rattle.testing_live.specs.LiveSources.{source_of, sources_of}
 use Rattle.testing_moves.specs.Runs.{Moment}
 use Rattle.testing_model.specs.declared.suite.SourceIn.{SourceIn}
 use Rattle.testing_model.proofs.Orders.{text_order}

@@ -1,7 +1,0 @@
-use Rattle.std.proofs.Common.{◌≡◌, take}
-use Rattle.testing_moves.specs.LiveSources.{sources_of}
-use Rattle.testing_moves.proofs.live_sources.lend_sources.Given as goal
-
--- those so far
-abbrev pub invariant-loop-source : goal.invariant-loop-source
-invariant-loop-source l = sources_of l.live.items ≡ take l.source-index l.sources
