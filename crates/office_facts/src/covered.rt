@@ -146,7 +146,7 @@ fn known_by(
 }
 
 /// Whether the facts have as many rows as these.
-fn has_all(facts: &Facts, rows: &[FactRow]) -> bool
+pub fn has_all(facts: &Facts, rows: &[FactRow]) -> bool
     ensures { IsTrue result → length (rows_of facts.now) ≡ length rows.now }
 {
     facts.count() == rows.len() as u128
@@ -176,7 +176,7 @@ fn known_at(
 }
 
 /// The covers of these orders, sender by sender. It fails for want of memory alone.
-fn covers(alloc: Global, setup: &Setup, orders: &[RunOrder]) -> Result<Vec<u32>, StoreFault>
+pub fn covers(alloc: Global, setup: &Setup, orders: &[RunOrder]) -> Result<Vec<u32>, StoreFault>
     ensures covers { IfOk result (λ taken. (s : ℕ) → s < length setup.now.senders → slice_index taken.items s ≡ cover_of orders.now s) }
     ensures within { IfOk result (λ taken. (s : ℕ) → slice_index taken.items s ≤ cover_of orders.now s) }
     ensures no_store { IfErr result (λ fault. fault ≡ StoreFault.NoMemory) }
@@ -189,7 +189,7 @@ fn covers(alloc: Global, setup: &Setup, orders: &[RunOrder]) -> Result<Vec<u32>,
 }
 
 /// Nothing is known, and all of these rows have left. It fails for want of memory alone.
-fn known_without(alloc: Global, rows: &[FactRow]) -> Result<KnownFacts, StoreFault>
+pub fn known_without(alloc: Global, rows: &[FactRow]) -> Result<KnownFacts, StoreFault>
     ensures facts { IfOk result (λ known. known.facts ≡ record no_facts { left = rows.now }) }
     ensures none { IfOk result (λ known. StandsForNone known.facts) }
     ensures by_message { IfOk result (λ known. AreByMessage known.facts.uploads) }
@@ -217,7 +217,7 @@ fn is_covered(taken: &[u32], orders: &[RunOrder]) -> bool
 }
 
 /// What a sender says is known on up to its cover.
-fn take_on<K: Keeper>(
+pub fn take_on<K: Keeper>(
     alloc: Global,
     setup: &Setup,
     keeper: &mut K,
@@ -286,7 +286,7 @@ fn take_block<K: Keeper>(
 }
 
 /// The facts take what letters of a sender say. It fails for want of memory alone.
-fn take_letters(
+pub fn take_letters(
     alloc: Global,
     setup: &Setup,
     facts: &mut Facts,

@@ -2,6 +2,6 @@
 #![tactic(auto)]
 
 pub mod covered;
-mod restoring;
+pub mod restoring;
 pub mod retaking;
-mod taking;
+pub mod taking;

@@ -115,7 +115,7 @@ fn last_in_line(number: u32, end: u32, letters: &[Letter]) -> u32
 }
 
 /// The number up to which a sender's numbers go on without a gap behind another, at most up to the end of a block.
-fn count_block<K: Keeper>(
+pub fn count_block<K: Keeper>(
     keeper: &mut K,
     sender: u32,
     number: u32,
@@ -133,7 +133,7 @@ fn count_block<K: Keeper>(
 
 /// The size of the next block: twice that of the last one, up to the greatest. So not many more texts are loaded than
 /// are counted.
-fn next_size(size: u32) -> u32
+pub fn next_size(size: u32) -> u32
     requires some { 0 < size }
     ensures some { 0 < result }
     ensures room { result ≤ 256 }

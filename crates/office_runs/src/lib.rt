@@ -7,8 +7,8 @@ pub mod laws;
 mod leaving;
 mod office;
 mod posting;
-mod rules;
-mod runs;
+pub mod rules;
+pub mod runs;
 
 pub use gathering::Reply;
 pub use office::Office;

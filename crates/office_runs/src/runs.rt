@@ -30,7 +30,7 @@ fn is_release(role: Role) -> bool
 }
 
 /// The place of the release team's sender.
-fn release_place(setup: &Setup) -> u32
+pub fn release_place(setup: &Setup) -> u32
     ensures { result ≡ place_of_role TheRelease setup.now.senders }
 {
     let senders = setup.senders();
