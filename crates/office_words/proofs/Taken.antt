@@ -9,11 +9,11 @@ use Rattle.clap.specs.declared.error.kind.ErrorKind.TheVariants as kind
 use Rattle.clap.specs.Faults.{built_fault, check_fault, defaults_fault, entered_fault, fault_of, level_fault, settle_fault, walk_fault}
 use Rattle.clap.specs.Kinds.{check_kinds, or_else}
 use Rattle.clap.specs.Simple.{App, Shape, argument_words, built, built_leaf, entered, filled, help_rule, inherited, label_of, names_of, rows_at, subcommand_of, with_index}
-use Rattle.clap.specs.Walk.{Row, Rule, Text, answers_to, finished, first_of, has_row, nothing_held, rows_after, settled, stop_after, walk, walk_from, with_default}
+use Rattle.clap.specs.Walk.{Row, Rule, Text, all_of, answers_to, finished, first_of, has_row, nothing_held, rows_after, settled, stop_after, walk, walk_from, with_default}
 use Rattle.office_words.specs.Program as program
-use Rattle.office_words.specs.Asked.{Asked, ToCheck, ToExport, ToReplay, ToTellMail, ToTellRuns, ToTellWaiting, asked_by, command_in, compare_of, is_set, number_in, of_store, report_from, serve_of, stored_in}
+use Rattle.office_words.specs.Asked.{Asked, ToCheck, ToExport, ToReplay, ToTellMail, ToTellRuns, ToTellWaiting, ToTellWhy, ToTry, asked_by, command_in, compare_of, is_set, number_in, number_of, of_store, of_values, report_from, serve_of, stored_in}
 use Rattle.office_words.proofs.Walks.{EachKeeps, never_none, no_kinds}
-use Rattle.office_words.proofs.Values.{Good, HasFirst, fits, default_there, given_first, keeps_flag, keeps_help, keeps_value, level_leaves, no_default, numbers_accepted, row_first}
+use Rattle.office_words.proofs.Values.{Good, HasFirst, fits, default_there, given_all, given_first, keeps_flag, keeps_help, keeps_value, keeps_values, level_leaves, no_default, numbers_accepted, row_first}
 
 -- ---- each command
 
@@ -33,7 +33,7 @@ compare_read (Some v1) None v2 a b c = absurd b
 compare_read (Some v1) (Some op) None a b c = absurd c
 
 compare_reads : Reads (leaf program.compare)
-unfolding program.of_three program.of_five program.office
+unfolding program.of_three program.of_five program.of_nine program.office
 compare_reads words none =
     let rows = rows_after (leaf program.compare).rules [] words in
     let keeps : EachKeeps Good false (leaf program.compare).rules = (
@@ -55,7 +55,7 @@ replay_read (Some conf) rows a = refl
 replay_read None rows a = absurd a
 
 replay_reads : Reads (leaf program.replay)
-unfolding program.of_three program.of_five program.office
+unfolding program.of_three program.of_five program.of_nine program.office
 replay_reads words none =
     let rows = rows_after (leaf program.replay).rules [] words in
     let keeps : EachKeeps Good false (leaf program.replay).rules = (
@@ -73,7 +73,7 @@ waiting_read (Some conf) rows a = refl
 waiting_read None rows a = absurd a
 
 waiting_reads : Reads (leaf program.waiting)
-unfolding program.of_three program.of_five program.office
+unfolding program.of_three program.of_five program.of_nine program.office
 waiting_reads words none =
     let rows = rows_after (leaf program.waiting).rules [] words in
     let keeps : EachKeeps Good false (leaf program.waiting).rules = (
@@ -94,7 +94,7 @@ report_read (Some conf) None run word a b c = absurd b
 report_read (Some conf) (Some db) None word a b c = absurd c
 
 report_reads : Reads (leaf program.report)
-unfolding program.of_three program.of_five program.office
+unfolding program.of_three program.of_five program.of_nine program.office
 report_reads words none =
     let rows = rows_after (leaf program.report).rules [] words in
     let keeps : EachKeeps Good false (leaf program.report).rules = (
@@ -122,7 +122,7 @@ store_read ask (Some conf) None a b = absurd b
 -- a command that takes a setup and a store, whatever its name
 looking_reads : (name : Text) (ask : Text → Text → Asked) (words : List Text) → level_fault (leaf (program.looking name)) [] nothing_held words false [] ≡ []
     → is_some (stored_in ask (rows_after (leaf (program.looking name)).rules [] words)) ≡ true
-unfolding program.of_three program.of_five program.office
+unfolding program.of_three program.of_five program.of_nine program.office
 looking_reads name ask words none =
     let rows = rows_after (leaf (program.looking name)).rules [] words in
     let keeps : EachKeeps Good false (leaf (program.looking name)).rules = (
@@ -136,19 +136,19 @@ looking_reads name ask words none =
     store_read ask (first_of (codes "conf") rows) (first_of (codes "db") rows) (given_first (codes "conf") rows left.0 (left.1.0 refl)) (given_first (codes "db") rows left.0 (left.1.1.0 refl))
 
 runs_reads : Reads (leaf program.runs)
-unfolding program.of_three program.of_five program.office
+unfolding program.of_three program.of_five program.of_nine program.office
 runs_reads words none = looking_reads (codes "runs") ToTellRuns words none
 
 export_reads : Reads (leaf program.export)
-unfolding program.of_three program.of_five program.office
+unfolding program.of_three program.of_five program.of_nine program.office
 export_reads words none = looking_reads (codes "export") ToExport words none
 
 check_reads : Reads (leaf program.check)
-unfolding program.of_three program.of_five program.office
+unfolding program.of_three program.of_five program.of_nine program.office
 check_reads words none = looking_reads (codes "check") ToCheck words none
 
 mail_reads : Reads (leaf program.mail)
-unfolding program.of_three program.of_five program.office
+unfolding program.of_three program.of_five program.of_nine program.office
 mail_reads words none =
     let rows = rows_after (leaf program.mail).rules [] words in
     let keeps : EachKeeps Good false (leaf program.mail).rules = (
@@ -164,6 +164,57 @@ mail_reads words none =
     let left = level_leaves (leaf program.mail) words keeps (refl, (refl, (refl, (refl, tt)))) none in
     store_read (ToTellMail (is_set (codes "list") rows)) (first_of (codes "conf") rows) (first_of (codes "db") rows)
     (given_first (codes "conf") rows left.0 (left.1.0 refl)) (given_first (codes "db") rows left.0 (left.1.1.0 refl))
+
+values_read : (ask : Text → List Text → Asked) (conf : Option Text) (values : Option (List Text)) → HasFirst (codes "conf") conf → is_some values ≡ true → is_some (of_values ask conf values) ≡ true
+values_read ask (Some conf) (Some values) a b = refl
+values_read ask None values a b = absurd a
+values_read ask (Some conf) None a b = absurd (cc)
+
+why_reads : Reads (leaf program.why)
+unfolding program.of_three program.of_five program.of_nine program.office
+why_reads words none =
+    let rows = rows_after (leaf program.why).rules [] words in
+    let run_rule = ready 2 program.run in
+    let keeps : EachKeeps Good false (leaf program.why).rules = (
+      keeps_values false (ready 1 (program.places (codes "SOURCE"))) refl refl refl (λ values fine. refl),
+      (
+        keeps_value false (ready 2 program.conf) refl refl refl (λ values fine. refl),
+        (
+          keeps_value false (ready 2 program.db) refl refl refl (λ values fine. refl),
+          (
+            keeps_value false run_rule refl refl refl (λ values fine. numbers_accepted run_rule 1 999_999_999 values (omega arith) refl fine),
+            (keeps_help false (ready 2 help_rule) refl, tt),
+          ),
+        ),
+      ),
+    ) in
+    let left = level_leaves (leaf program.why) words keeps (refl, (refl, (refl, (refl, (refl, tt))))) none in
+    values_read (λ conf sources. ToTellWhy conf (first_of (codes "db") rows) (number_of (codes "run") rows) sources) (first_of (codes "conf") rows) (all_of (codes "SOURCE") rows)
+    (given_first (codes "conf") rows left.0 (left.1.1.0 refl)) (given_all (codes "SOURCE") rows (left.1.0 refl))
+
+try_reads : Reads (leaf program.tries)
+unfolding program.of_three program.of_five program.of_nine program.office
+try_reads words none =
+    let rows = rows_after (leaf program.tries).rules [] words in
+    let keeps : EachKeeps Good false (leaf program.tries).rules = (
+      keeps_values false (ready 1 (program.places (codes "HINT"))) refl refl refl (λ values fine. refl),
+      (
+        keeps_value false (ready 2 program.conf) refl refl refl (λ values fine. refl),
+        (
+          keeps_value false (ready 2 program.db) refl refl refl (λ values fine. refl),
+          (
+            keeps_value false (ready 2 program.day) refl refl refl (λ values fine. refl),
+            (
+              keeps_flag false (ready 2 program.all) (codes "true") [] refl refl (λ values. refl),
+              (keeps_help false (ready 2 help_rule) refl, tt),
+            ),
+          ),
+        ),
+      ),
+    ) in
+    let left = level_leaves (leaf program.tries) words keeps (refl, (refl, (refl, (refl, (refl, (refl, tt)))))) none in
+    values_read (λ conf hints. ToTry (is_set (codes "all") rows) conf (first_of (codes "db") rows) (first_of (codes "day") rows) hints) (first_of (codes "conf") rows) (all_of (codes "HINT") rows)
+    (given_first (codes "conf") rows left.0 (left.1.1.0 refl)) (given_all (codes "HINT") rows (left.1.0 refl))
 
 -- a first value of a number is one
 number_there : (id : Text) (o : Option Text) → (fits_number : (v : Text) → fits id (v ∷ []) ≡ true → is_some (number_in v) ≡ true) → HasFirst id o → is_some (option_and_then number_in o) ≡ true
@@ -186,7 +237,7 @@ reads_one true h = refl
 reads_one false h = h
 
 serve_reads : Reads (leaf program.serve)
-unfolding program.of_three program.of_five program.office
+unfolding program.of_three program.of_five program.of_nine program.office
 serve_reads words none =
     let rows = rows_after (leaf program.serve).rules [] words in
     let port_rule = ready 1 program.port in
@@ -268,6 +319,6 @@ command_reads a words required each none =
 
 -- words in which clap finds no fault ask for something
 pub taken_words_ask : (words : List Text) → fault_of program.office words ≡ [] → is_some (asked_by (subcommand_of program.office words)) ≡ true
-unfolding program.of_three program.of_five program.office
+unfolding program.of_three program.of_five program.of_nine program.office
 taken_words_ask words none =
-    command_reads (built program.office) (argument_words program.office words) refl (compare_reads, (replay_reads, (serve_reads, (waiting_reads, (report_reads, (runs_reads, (mail_reads, (export_reads, (check_reads, tt))))))))) none
+    command_reads (built program.office) (argument_words program.office words) refl (compare_reads, (replay_reads, (serve_reads, (waiting_reads, (report_reads, (runs_reads, (mail_reads, (export_reads, (check_reads, (why_reads, (try_reads, tt))))))))))) none

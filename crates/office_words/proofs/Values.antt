@@ -2,7 +2,7 @@
 use Rattle.std.proofs.Common.{◌≡◌, ◌^◌, ◌<◌, ◌≤◌, ℕ, Bool, true, false, not, ◌&&◌, ◌||◌, cond, codes, nat_le, nat_lt, List, [], ◌∷◌, ◌++◌, length, Option, Some, None, refl, sym, ap, subst, arith, lt-ltb, leb-true}
 use Rattle.std.proofs.lemmas.Bool.{and_parts, and_from}
 use Rattle.std.proofs.lemmas.Slice.Eq.{bytes_eq-Decides}
-use Rattle.std.specs.Prelude.{⊤, find, fold, is_some, option_and_then, slice_get}
+use Rattle.std.specs.Prelude.{⊤, find, fold, is_some, option_and_then, option_map, slice_get}
 use Rattle.std.specs.List.{list_all, list_any}
 use Rattle.std.specs.Option.{option_map_or}
 use Rattle.std.specs.Str.{bytes_eq}
@@ -12,9 +12,9 @@ use Rattle.clap.specs.Kinds.{check_kinds, or_else, range_kinds, value_kinds}
 use Rattle.clap.specs.Faults.{action_fault, level_fault, values_fault}
 use Rattle.clap.specs.Takes.{is_given}
 use Rattle.clap.specs.Simple.{Shape}
-use Rattle.clap.specs.Walk.{Row, Rule, Text, action_of, at_row, default_rows, first_of, has_row, more_values, most_values, nothing_held, reading_by, rows_after, used_as, values_or_missing, walk, walk_from, with_default, with_values, without}
+use Rattle.clap.specs.Walk.{Row, Rule, Text, action_of, all_of, at_row, default_rows, first_of, has_row, more_values, most_values, nothing_held, reading_by, rows_after, used_as, values_or_missing, walk, walk_from, with_default, with_values, without}
 use Rattle.clap.specs.declared.builder.action.ArgAction.{ArgAction}
-use Rattle.clap.specs.declared.builder.action.ArgAction.TheVariants.{Help, Set, SetTrue}
+use Rattle.clap.specs.declared.builder.action.ArgAction.TheVariants.{Append, Help, Set, SetTrue}
 use Rattle.clap.specs.declared.builder.value_parser.ValueParser.TheVariants.{Unsigned}
 use Rattle.clap.specs.declared.builder.range.ValueRange.{ValueRange}
 use Rattle.clap.specs.declared.error.kind.ErrorKind.{ErrorKind}
@@ -30,7 +30,7 @@ use Rattle.office_words.proofs.Walks.{EachKeeps, Keeps, held_settled, never_none
 -- ---- good rows: each has a value, and those of a number are numbers
 
 abbrev is_numeric : Text → Bool
-is_numeric id = bytes_eq id (codes "port") || bytes_eq id (codes "connections")
+is_numeric id = bytes_eq id (codes "port") || bytes_eq id (codes "connections") || bytes_eq id (codes "run")
 
 abbrev reads : Text → Bool
 reads text = is_some (number_in text)
@@ -123,6 +123,19 @@ keeps_value again a set missing one accepted (v ∷ vs) rows h none =
     let more = no_kinds _ _ uses in
     subst (λ (x : ArgAction). Good (used_as x a.id (reading_by a) (v ∷ vs) rows)) (sym set)
     (values_good a.id (reading_by a) CommandLine v vs (without a.id rows) (accepted (v ∷ vs) more.1) (none_good a.id rows h))
+
+-- the same for a value that may be followed by others of its name
+pub keeps_values : (again : Bool) (a : Rule) → action_of a ≡ Append → a.missing ≡ [] → unwrap_or_range a.range ≡ record { start_inclusive = 1; end_inclusive = 1 }
+    → ((values : List Text) → values_fault a values ≡ [] → fits a.id values ≡ true) → Keeps Good again a
+keeps_values again a adds missing one accepted [] rows h none =
+    let parts = no_kinds (range_kinds 1 1 0) (action_fault (action_of a) again a (values_or_missing a []) rows)
+    (subst (λ (r : ValueRange). or_else (range_kinds r.start_inclusive r.end_inclusive 0) (action_fault (action_of a) again a (values_or_missing a []) rows) ≡ []) one none) in
+    absurd (never_none kind.InvalidValue [] parts.0)
+keeps_values again a adds missing one accepted (v ∷ vs) rows h none =
+    let parts = no_kinds _ _ none in
+    let fine : values_fault a (v ∷ vs) ≡ [] = subst (λ (x : ArgAction). action_fault x again a (v ∷ vs) rows ≡ []) adds parts.1 in
+    subst (λ (x : ArgAction). Good (used_as x a.id (reading_by a) (v ∷ vs) rows)) (sym adds)
+    (values_good a.id (reading_by a) CommandLine v vs rows (accepted (v ∷ vs) fine) h)
 
 -- a flag, whose use stands for a text
 pub keeps_flag : (again : Bool) (a : Rule) (v : Text) (vs : List Text) → action_of a ≡ SetTrue → a.missing ≡ v ∷ vs → ((values : List Text) → fits a.id values ≡ true) → Keeps Good again a
@@ -243,6 +256,14 @@ given_row id (r ∷ rs) given = go (bytes_eq r.id id) given (given_row id rs)
 
 pub given_first : (id : Text) (rows : List Row) → Good rows → is_given id rows ≡ true → HasFirst id (first_of id rows)
 given_first id rows h given = row_first id rows h (given_row id rows given)
+
+-- all values of a name that is given
+pub given_all : (id : Text) (rows : List Row) → is_given id rows ≡ true → is_some (all_of id rows) ≡ true
+given_all id rows given = go (find (λ r. bytes_eq r.id id) rows) given
+  where
+    go : (o : Option Row) → option_map_or (λ r. explicit_source r.source) o false ≡ true → is_some (option_map (λ r. r.values) o) ≡ true
+    go None none = absurd (cc)
+    go (Some r) some = refl
 
 -- a default stands at the end
 row_there : (id : Text) (change : Row → List Row) (new : Row) (rows : List Row) → new.id ≡ id

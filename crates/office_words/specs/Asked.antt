@@ -1,23 +1,24 @@
 -- What the words of the command line ask for.
-use Rattle.std.specs.Prelude.{◌≡◌, ⊤, Result, Ok, Err, ℕ, Bool, false, ◌&&◌, ◌==◌, ◌^◌, codes, length, List, [], ◌∷◌, Option, Some, None, option_map, option_and_then, nat_lt, if◌then◌else◌}
+use Rattle.std.specs.Prelude.{◌≡◌, ⊤, Result, Ok, Err, ℕ, Bool, false, ◌&&◌, ◌==◌, ◌^◌, codes, length, List, [], ◌∷◌, map, Option, Some, None, option_map, option_and_then, nat_lt, if◌then◌else◌}
 use Rattle.std.specs.List.{list_all}
 use Rattle.std.specs.Option.{option_map_or}
 use Rattle.std.specs.Str.{bytes_eq}
 use Rattle.std.specs.Str.Parse.{digits_value, without_leading_plus}
 use Rattle.std.specs.Char.{digit_value}
-use Rattle.clap.specs.Words.{Row, Text, fault_of, first_of, subcommand_of}
+use Rattle.clap.specs.Words.{Row, Text, all_of, fault_of, first_of, subcommand_of}
 use Rattle.clap.specs.Kinds.{Kinds}
 use Rattle.office_words.specs.Program.{office}
 use Rattle.office_words.specs.declared.Words.{Words}
 use Rattle.office_words.specs.declared.WordsFault.{WordsFault}
 use Rattle.office_words.specs.declared.WordsFault.TheVariants.{NoMemory, Usage}
-use Rattle.office_words.specs.declared.Words.TheVariants.{Compare, Replay, Serve, Waiting, Report, UnknownReport, Runs, Mail, Export, Check, Version}
+use Rattle.office_words.specs.declared.Words.TheVariants.{Compare, Replay, Serve, Waiting, Report, UnknownReport, Runs, Mail, Export, Check, Why, Try, Version}
 use Rattle.office_words.specs.declared.reports.Report.{Report as ReportName}
 use Rattle.office_words.specs.declared.reports.Report.TheVariants.{Testing, Excuses, Update}
 
 -- what is asked: to compare two versions by an operator; to replay a bag for the setup in a file, over a store in a file or in memory;
 -- to serve so many connections for it on a port; to tell what a run waits for; to tell a report, or one that isn't known; to tell the
--- finished runs; to tell the kept mail, by counts or message by message; to export it; to check the store; or the version
+-- finished runs; to tell the kept mail, by counts or message by message; to export it; to check the store; to tell why sources stand where
+-- they stand after a run; to try hints on a day, over the covered mail or over all; or the version
 pub data Asked : Type 0 where
   ToCompare : Text → Text → Text → Asked
   ToReplay : Text → Option Text → Asked
@@ -29,6 +30,8 @@ pub data Asked : Type 0 where
   ToTellMail : Bool → Text → Text → Asked
   ToExport : Text → Text → Asked
   ToCheck : Text → Text → Asked
+  ToTellWhy : Text → Option Text → Option ℕ → List Text → Asked
+  ToTry : Bool → Text → Option Text → Option Text → List Text → Asked
   ToTellVersion : Asked
 
 abbrev pub asked : Words → Asked
@@ -42,6 +45,8 @@ asked (Runs conf db) = ToTellRuns conf.now db.now
 asked (Mail conf db list) = ToTellMail list conf.now db.now
 asked (Export conf db) = ToExport conf.now db.now
 asked (Check conf db) = ToCheck conf.now db.now
+asked (Why conf db run sources) = ToTellWhy conf.now (option_map (λ text. text.now) db) run (map (λ text. text.now) sources.items)
+asked (Try conf db day all hints) = ToTry all conf.now (option_map (λ text. text.now) db) (option_map (λ text. text.now) day) (map (λ text. text.now) hints.items)
 asked Version = ToTellVersion
 
 -- decimal digits, of a number of 32 bits
@@ -119,6 +124,17 @@ is_set id rows = option_map_or (λ value. bytes_eq value (codes "true")) (first_
 abbrev pub mail_in : List Row → Option Asked
 mail_in rows = stored_in (ToTellMail (is_set (codes "list") rows)) rows
 
+-- what is asked of some values, for the setup in a file
+abbrev pub of_values : (Text → List Text → Asked) → Option Text → Option (List Text) → Option Asked
+of_values ask (Some conf) (Some values) = Some (ask conf values)
+of_values ask _ _ = None
+
+abbrev pub why_in : List Row → Option Asked
+why_in rows = of_values (λ conf sources. ToTellWhy conf (first_of (codes "db") rows) (number_of (codes "run") rows) sources) (first_of (codes "conf") rows) (all_of (codes "SOURCE") rows)
+
+abbrev pub try_in : List Row → Option Asked
+try_in rows = of_values (λ conf hints. ToTry (is_set (codes "all") rows) conf (first_of (codes "db") rows) (first_of (codes "day") rows) hints) (first_of (codes "conf") rows) (all_of (codes "HINT") rows)
+
 abbrev pub command_in : Text → List Row → Option Asked
 command_in name rows =
     if bytes_eq name (codes "compare") then compare_in rows
@@ -130,6 +146,8 @@ command_in name rows =
     else if bytes_eq name (codes "mail") then mail_in rows
     else if bytes_eq name (codes "export") then stored_in ToExport rows
     else if bytes_eq name (codes "check") then stored_in ToCheck rows
+    else if bytes_eq name (codes "why") then why_in rows
+    else if bytes_eq name (codes "try") then try_in rows
     else None
 
 -- by the command that the words name and what they give it

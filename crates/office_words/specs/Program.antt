@@ -1,12 +1,16 @@
 -- The program's command line: a command of clap with a subcommand for each task.
 use Rattle.std.specs.Prelude.{codes, Some, true, [], ◌∷◌}
 use Rattle.clap.specs.Words.{App, Rule, Text, new_app, new_rule, with_rule, with_subcommand}
-use Rattle.clap.specs.declared.builder.action.ArgAction.TheVariants.{SetTrue}
+use Rattle.clap.specs.declared.builder.action.ArgAction.TheVariants.{Append, SetTrue}
 use Rattle.clap.specs.declared.builder.value_parser.ValueParser.TheVariants.{Unsigned}
 
 -- a value that has to be given, by its place
 abbrev pub place : Text → Rule
 place id = record (new_rule id) { required = true }
+
+-- the same, of which more may stand behind it
+abbrev pub places : Text → Rule
+places id = record (place id) { action = Some Append }
 
 -- `--NAME VALUE`, which may be given once
 abbrev pub option : Text → Rule
@@ -81,6 +85,23 @@ listed = record (new_rule (codes "list")) { long = Some (codes "list"); action =
 abbrev pub mail : App
 mail = with_rule (looking (codes "mail")) listed
 
+-- `why SOURCE.. --conf F [--db F] [--run K]`, where K is the number of a run
+abbrev pub run : Rule
+run = record (option (codes "run")) { parser = Some (Unsigned 1 999_999_999) }
+
+abbrev pub why : App
+why = with_rule (with_rule (with_rule (with_rule (new_app (codes "why")) (places (codes "SOURCE"))) conf) db) run
+
+-- `try HINT.. --conf F [--db F] [--day DAY] [--all]`
+abbrev pub day : Rule
+day = option (codes "day")
+
+abbrev pub all : Rule
+all = record (new_rule (codes "all")) { long = Some (codes "all"); action = Some SetTrue }
+
+abbrev pub tries : App
+tries = with_rule (with_rule (with_rule (with_rule (with_rule (new_app (codes "try")) (places (codes "HINT"))) conf) db) day) all
+
 -- `office COMMAND ..`: a command has to be named, and no words at all are a call for help
 abbrev pub bare : App
 bare = record (new_app (codes "office")) {
@@ -99,6 +120,10 @@ of_three = with_subcommand (with_subcommand (with_subcommand bare compare.top) r
 unfoldable pub of_five : App
 of_five = with_subcommand (with_subcommand of_three waiting.top) report.top
 
--- the program's command, which also tells runs and mail, exports mail, and checks a store
+-- the command that also tells runs and mail, exports mail, and checks a store
+unfoldable pub of_nine : App
+of_nine = with_subcommand (with_subcommand (with_subcommand (with_subcommand of_five runs.top) mail.top) export.top) check.top
+
+-- the program's command, which also tells why a source waits, and tries hints
 unfoldable pub office : App
-office = with_subcommand (with_subcommand (with_subcommand (with_subcommand of_five runs.top) mail.top) export.top) check.top
+office = with_subcommand (with_subcommand of_nine why.top) tries.top

@@ -1,18 +1,42 @@
 //! What was given to each command.
 
-ghost use Rattle.std.specs.Prelude.{◌≡◌, option_map};
-ghost use Rattle.clap.specs.Words.{first_of, found_of, rows_of, subcommand_rows_of};
-ghost use Rattle.office_words.specs.Asked.{ToCheck, ToExport, ToTellRuns, asked, asked_by, command_in, compare_in, is_set, mail_in, number_of, replay_in, report_in, report_of, serve_in, asked_report, stored_in, waiting_in};
+ghost use Rattle.std.specs.Prelude.{◌≡◌, map, option_map, IfOk};
+ghost use Rattle.clap.specs.Words.{all_of, first_of, found_of, rows_of, subcommand_rows_of};
+ghost use Rattle.office_words.specs.Asked.{ToCheck, ToExport, ToTellRuns, asked, asked_by, command_in, compare_in, is_set, mail_in, number_of, replay_in, report_in, report_of, serve_in, asked_report, stored_in, try_in, waiting_in, why_in};
 
 use crate::Words;
 use crate::reports::{number_in, report_of};
 use clap::ArgMatches;
+use std::alloc::{AllocError, Global};
 
 /// The text given under a name.
 fn text_of<'a>(given: &ArgMatches<'a>, name: &str) -> Option<&'a str>
     ensures { option_map (λ text. text.now) result ≡ first_of name.now (rows_of (found_of given.now)) }
 {
     given.get_str(name)
+}
+
+/// The texts given under a name.
+fn texts_of<'a>(
+    alloc: Global,
+    given: &ArgMatches<'a>,
+    name: &str,
+) -> Result<Option<Vec<&'a str>>, AllocError>
+    ensures { IfOk result (λ texts. option_map (λ all. map (λ text. text.now) all.items) texts ≡ all_of name.now (rows_of (found_of given.now))) }
+{
+    match given.get_strs(name) {
+        Some(texts) => Ok(Some(copied(alloc, texts)?)),
+        None => Ok(None),
+    }
+}
+
+/// The same texts, in a list of their own.
+fn copied<'a>(alloc: Global, texts: &[&'a str]) -> Result<Vec<&'a str>, AllocError>
+    ensures { IfOk result (λ copy. copy.items ≡ texts.now) }
+{
+    let mut copy = Vec::with_capacity(alloc, texts.len())?;
+    copy.extend_from_slice(texts)?;
+    Ok(copy)
 }
 
 /// The number given under a name.
@@ -133,27 +157,73 @@ fn check_words<'a>(given: &ArgMatches<'a>) -> Option<Words<'a>>
     Some(Words::Check { conf, db })
 }
 
-fn command_words<'a>(name: &str, given: &ArgMatches<'a>) -> Option<Words<'a>>
-    ensures { option_map asked result ≡ command_in name.now (rows_of (found_of given.now)) }
+fn why_words<'a>(alloc: Global, given: &ArgMatches<'a>) -> Result<Option<Words<'a>>, AllocError>
+    ensures { IfOk result (λ words. option_map asked words ≡ why_in (rows_of (found_of given.now))) }
+{
+    let Some(conf) = text_of(given, "conf") else {
+        return Ok(None);
+    };
+    match texts_of(alloc, given, "SOURCE")? {
+        Some(sources) => Ok(Some(Words::Why {
+            conf,
+            db: text_of(given, "db"),
+            run: number_of(given, "run"),
+            sources,
+        })),
+        None => Ok(None),
+    }
+}
+
+fn try_words<'a>(alloc: Global, given: &ArgMatches<'a>) -> Result<Option<Words<'a>>, AllocError>
+    ensures { IfOk result (λ words. option_map asked words ≡ try_in (rows_of (found_of given.now))) }
+{
+    let Some(conf) = text_of(given, "conf") else {
+        return Ok(None);
+    };
+    match texts_of(alloc, given, "HINT")? {
+        Some(hints) => Ok(Some(Words::Try {
+            conf,
+            db: text_of(given, "db"),
+            day: text_of(given, "day"),
+            all: is_set(given, "all"),
+            hints,
+        })),
+        None => Ok(None),
+    }
+}
+
+fn command_words<'a>(
+    alloc: Global,
+    name: &str,
+    given: &ArgMatches<'a>,
+) -> Result<Option<Words<'a>>, AllocError>
+    ensures { IfOk result (λ words. option_map asked words ≡ command_in name.now (rows_of (found_of given.now))) }
 {
     match name {
-        "compare" => compare_words(given),
-        "replay" => replay_words(given),
-        "serve" => serve_words(given),
-        "waiting" => waiting_words(given),
-        "report" => report_words(given),
-        "runs" => runs_words(given),
-        "mail" => mail_words(given),
-        "export" => export_words(given),
-        "check" => check_words(given),
-        _ => None,
+        "compare" => Ok(compare_words(given)),
+        "replay" => Ok(replay_words(given)),
+        "serve" => Ok(serve_words(given)),
+        "waiting" => Ok(waiting_words(given)),
+        "report" => Ok(report_words(given)),
+        "runs" => Ok(runs_words(given)),
+        "mail" => Ok(mail_words(given)),
+        "export" => Ok(export_words(given)),
+        "check" => Ok(check_words(given)),
+        "why" => why_words(alloc, given),
+        "try" => try_words(alloc, given),
+        _ => Ok(None),
     }
 }
 
 /// What is asked by the command that the words name and what they give it.
-pub(crate) fn asked_words<'a>(matches: &ArgMatches<'a>) -> Option<Words<'a>>
-    ensures { option_map asked result ≡ asked_by (subcommand_rows_of matches.now) }
+pub(crate) fn asked_words<'a>(
+    alloc: Global,
+    matches: &ArgMatches<'a>,
+) -> Result<Option<Words<'a>>, AllocError>
+    ensures { IfOk result (λ words. option_map asked words ≡ asked_by (subcommand_rows_of matches.now)) }
 {
-    let (name, given) = matches.subcommand()?;
-    command_words(name, given)
+    match matches.subcommand() {
+        Some((name, given)) => command_words(alloc, name, given),
+        None => Ok(None),
+    }
 }

@@ -22,11 +22,11 @@ use clap::{ArgMatches, Error};
 use command::office_command;
 use given::asked_words;
 pub use reports::{Report, refuse_report};
-use std::alloc::Global;
+use std::alloc::{AllocError, Global};
 pub use versions::{Comparison, Refusal, compare, compare_status};
 
 /// What the words after the program's name ask for.
-#[derive(Clone, Copy, Debug)]
+#[derive(Debug, Drop)]
 pub enum Words<'a> {
     /// Compare two versions by an operator.
     Compare {
@@ -84,6 +84,23 @@ pub enum Words<'a> {
         conf: &'a str,
         db: &'a str,
     },
+    /// Tell why each of these sources stands where it stands after the last finished run, or after another one, for the
+    /// setup in a file: over a store in a file, or over the bag on standard input.
+    Why {
+        conf: &'a str,
+        db: Option<&'a str>,
+        run: Option<u32>,
+        sources: Vec<&'a str>,
+    },
+    /// Tell what the next run would decide with these hints, for the setup in a file: over a store in a file, or over the
+    /// bag on standard input; on a day, and over the covered mail or over all.
+    Try {
+        conf: &'a str,
+        db: Option<&'a str>,
+        day: Option<&'a str>,
+        all: bool,
+        hints: Vec<&'a str>,
+    },
     /// Tell the program's version.
     Version,
 }
@@ -94,6 +111,17 @@ pub enum WordsFault {
     /// They are no command, or a request for help: clap's text says more.
     Usage(Error),
     NoMemory,
+}
+
+impl From<AllocError> for WordsFault {
+    ghost use Rattle.std.specs.Prelude.{◌≡◌};
+    ghost use Rattle.office_words.specs.declared.WordsFault.TheVariants.{NoMemory};
+
+    ghost from_gives = { λ _ e. e ≡ NoMemory };
+
+    fn from(_error: AllocError) -> WordsFault {
+        WordsFault::NoMemory
+    }
 }
 
 impl WordsFault {
@@ -135,7 +163,7 @@ fn read_command<'a>(alloc: Global, words: &'a [&'a str]) -> Result<Words<'a>, Wo
     ensures faultless { IfErr result (λ fault. fault_of office (map (λ word. word.now) words.now) ≡ [] → fault ≡ NoMemory) }
 {
     match matches(alloc, words) {
-        Ok(matches) => Ok(asked_words(&matches).unwrap()),
+        Ok(matches) => Ok(asked_words(alloc, &matches)?.unwrap()),
         Err(error) => Err(WordsFault::of(error)),
     }
 }
@@ -143,8 +171,9 @@ fn read_command<'a>(alloc: Global, words: &'a [&'a str]) -> Result<Words<'a>, Wo
 /// What the words ask for, the program's name being the first. `--version` alone asks for the version. All other words
 /// are read as clap reads them in the command `office` with its subcommands `compare V1 OP V2`, `replay --conf F
 /// [--db F]`, `serve --conf F --port N [--db F] [--connections C]`, `waiting --conf F [--db F]`, `report RUN [REPORT]
-/// --conf F --db F`, `runs --conf F --db F`, `mail --conf F --db F [--list]`, `export --conf F --db F` and `check
-/// --conf F --db F`, where N is from 1 to 65,535 and C from 0 to 1,000,000, which it is where it isn't given.
+/// --conf F --db F`, `runs --conf F --db F`, `mail --conf F --db F [--list]`, `export --conf F --db F`, `check --conf F
+/// --db F`, `why SOURCE.. --conf F [--db F] [--run K]` and `try HINT.. --conf F [--db F] [--day DAY] [--all]`, where N is
+/// from 1 to 65,535, C from 0 to 1,000,000, which it is where it isn't given, and K from 1 to 999,999,999.
 ///
 /// Refused as `Usage` are words in which clap finds a fault, a request for help among them.
 pub fn read_words<'a>(alloc: Global, words: &'a [&'a str]) -> Result<Words<'a>, WordsFault>

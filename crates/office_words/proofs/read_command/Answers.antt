@@ -11,11 +11,11 @@ use Rattle.office_words.proofs.read_command.Goals as goal
 pub unwrap-requires : goal.unwrap-requires
 unwrap-requires c =
     let words = map (λ word. word.now) c.args.words.now in
-    some_of_text asked c.asked_words.result (asked_by (subcommand_of office words)) (c.asked_words.ensures ∙ ap asked_by c.in-Ok.ensures.ok) (taken_words_ask words c.in-Ok.ensures.kinds)
+    some_of_text asked c.in_ok-asked_words-in-Ok.field-0 (asked_by (subcommand_of office words)) (c.in_ok-asked_words-in-Ok.ensures ∙ ap asked_by c.in-Ok.ensures.ok) (taken_words_ask words c.in-Ok.ensures.kinds)
 
-pub returns-in-Ok-clause-asked : goal.returns-in-Ok-clause-asked
-returns-in-Ok-clause-asked c =
-    faultless (map (λ word. word.now) c.args.words.now) c.in-Ok.ensures.kinds ∙ (ap asked_by (sym c.in-Ok.ensures.ok) ∙ (sym c.asked_words.ensures ∙ ap (option_map asked) c.unwrap.ensures))
+pub returns-in_ok-asked_words-in-Ok-clause-asked : goal.returns-in_ok-asked_words-in-Ok-clause-asked
+returns-in_ok-asked_words-in-Ok-clause-asked c =
+    faultless (map (λ word. word.now) c.args.words.now) c.in-Ok.ensures.kinds ∙ (ap asked_by (sym c.in-Ok.ensures.ok) ∙ (sym c.in_ok-asked_words-in-Ok.ensures ∙ ap (option_map asked) c.unwrap.ensures))
 
 pub returns-in-Err-clause-asked : goal.returns-in-Err-clause-asked
 returns-in-Err-clause-asked c = gives_refusal c.of.result c.in-Err.error (map (λ word. word.now) c.args.words.now) c.of.ensures.usage c.in-Err.ensures.kinds
