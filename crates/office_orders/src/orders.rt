@@ -68,7 +68,7 @@ pub(crate) fn order<K: Keeper>(
 }
 
 /// Reads the orders on up to that of a run, as far as they are kept.
-pub(crate) fn read_orders<K: Keeper>(
+pub fn read_orders<K: Keeper>(
     alloc: Global,
     setup: &Setup,
     keeper: &mut K,
