@@ -8,6 +8,7 @@ use Rattle.office_words.specs.declared.reports.Report.{Report}
 use Rattle.office_words.specs.declared.reports.Report.TheVariants.{Testing, Excuses, Update}
 use Rattle.office_questions.specs.declared.mail.MailCount.{MailCount}
 use Rattle.office_questions.specs.Mail.{AreMailCounts, mail_text}
+use Rattle.report_lines.specs.Sources.{source_text}
 use Rattle.office_replies.specs.declared.waiting.Awaited.{Awaited}
 use Rattle.office_replies.specs.declared.waiting.Awaited.TheVariants.{Order, Mail}
 
@@ -27,3 +28,7 @@ pub record TellsMail (state : OfficeState) (text : List ℕ) : Type 0 where
   pub counts : List MailCount
   pub counted : AreMailCounts state.kept (length state.setup.senders) counts
   pub text_is : text ≡ mail_text state.setup counts
+
+-- what a run says of a source in an office's state, none where the run isn't finished
+abbrev pub why_text : OfficeState → ℕ → List ℕ → Option (List ℕ)
+why_text state run name = option_map (λ reports. source_text run name reports.excuses reports.updates) (reports_at state run)

@@ -1,12 +1,14 @@
 //! What the office's program does with an office: it replays bags of mail from standard input, serves mail and reports
 //! over HTTP on loopback, tells earlier reports and what a run waits for, over a store in memory or in a file, answers
-//! questions about the runs and the mail of a store in a file, and checks such a store.
+//! questions about the runs and the mail of a store in a file, checks such a store, and tells
+//! what a run said of sources.
 #![tactic(auto)]
 
 mod asking;
 mod batched;
 mod checking;
 mod noted;
+mod reasons;
 mod service;
 mod tasks;
 mod teller;

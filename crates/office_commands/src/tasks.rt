@@ -1,8 +1,10 @@
-//! What the program's words ask for: a comparison, the version, or a task over a store.
+//! What the program's words ask for: a comparison, the version, what a run said of sources, or a task over a
+//! store.
 
 use crate::asking::{Question, tell_answer};
 use crate::checking::tell_check;
 use crate::noted::Noted;
+use crate::reasons::why_for;
 use crate::service::{serve, service_status};
 use crate::teller::Teller;
 use crate::telling::{tell_report, tell_version, tell_waiting};
@@ -56,6 +58,12 @@ pub fn run_command(rt: &HostRuntime, words: Words) -> u8 {
         Words::Mail { conf, db, list } => answer_for(rt, conf, db, mail_question(list)),
         Words::Export { conf, db } => answer_for(rt, conf, db, Question::Export),
         Words::Check { conf, db } => check_for(rt, conf, db),
+        Words::Why {
+            conf,
+            db,
+            run,
+            sources,
+        } => why_for(rt, conf, db, run, &sources),
         Words::Version => tell_version(rt),
     }
 }
@@ -70,7 +78,7 @@ fn answer_for(rt: &HostRuntime, conf: &str, db: &str, question: Question) -> u8 
     run_for(rt, conf, Some(db), Task::Answer(question))
 }
 
-fn out_of_memory(rt: &HostRuntime) -> u8 {
+pub(crate) fn out_of_memory(rt: &HostRuntime) -> u8 {
     let _ = eprintln!(rt; "office: out of memory");
     FAILED
 }
@@ -95,13 +103,13 @@ fn check_for(rt: &HostRuntime, conf: &str, db: &str) -> u8 {
 }
 
 /// Says on standard error why the setup in a file is refused, and gives the exit status.
-fn tell_setup(rt: &HostRuntime, conf: &str, fault: &ConfFault) -> u8 {
+pub(crate) fn tell_setup(rt: &HostRuntime, conf: &str, fault: &ConfFault) -> u8 {
     let _ = eprintln!(rt; "office: {conf}: {fault}");
     conf_status(fault)
 }
 
 /// Looks whether a file is there.
-fn find_file(rt: &HostRuntime, path: &str) -> io::Result<()> {
+pub(crate) fn find_file(rt: &HostRuntime, path: &str) -> io::Result<()> {
     fs::open(rt, path).map(drop)
 }
 
@@ -114,7 +122,7 @@ fn look_at(rt: &HostRuntime, path: &str, task: Task) -> io::Result<()> {
 }
 
 /// Says on standard error why a store's file can't be read, and gives the exit status.
-fn tell_unfound(rt: &HostRuntime, path: &str, fault: io::Error) -> u8 {
+pub(crate) fn tell_unfound(rt: &HostRuntime, path: &str, fault: io::Error) -> u8 {
     let _ = eprintln!(rt; "office: {path}: the file can't be read: {fault}");
     FAILED
 }
@@ -150,7 +158,12 @@ fn check_stored(rt: &HostRuntime, path: &str, setup: &Setup) -> u8 {
 }
 
 /// Closes the store of a task that ended with a status, and gives the exit status.
-fn end_store(rt: &HostRuntime, path: &str, tables: Tables<FileStore<File>>, status: u8) -> u8 {
+pub(crate) fn end_store(
+    rt: &HostRuntime,
+    path: &str,
+    tables: Tables<FileStore<File>>,
+    status: u8,
+) -> u8 {
     match close_store(tables) {
         Ok(()) => status,
         Err(fault) => tell_store(rt, path, &fault),
@@ -158,7 +171,7 @@ fn end_store(rt: &HostRuntime, path: &str, tables: Tables<FileStore<File>>, stat
 }
 
 /// Says on standard error what a store in a file was refused for, and gives the exit status.
-fn tell_store(rt: &HostRuntime, path: &str, fault: &StoreFault) -> u8 {
+pub(crate) fn tell_store(rt: &HostRuntime, path: &str, fault: &StoreFault) -> u8 {
     let _ = eprintln!(rt; "office: {path}: {fault}");
     store_status(fault)
 }
@@ -201,7 +214,11 @@ fn deliver_and_tell<K: Keeper>(rt: &HostRuntime, office: &mut Office<K>) -> u8 {
 }
 
 /// Replays the bag on standard input in an office, and gives the exit status.
-fn replay_to<K: Keeper, W: Write>(rt: &HostRuntime, office: &mut Office<K>, output: &mut W) -> u8 {
+pub(crate) fn replay_to<K: Keeper, W: Write>(
+    rt: &HostRuntime,
+    office: &mut Office<K>,
+    output: &mut W,
+) -> u8 {
     let mut writer = ToWrite::new(&mut *output);
     let mut input = Noted::new(rt.stdin());
     let mut bag = Bag::new(rt.alloc(), FromRead::new(&mut input));

@@ -1,0 +1,4 @@
+pub mod Changes
+pub mod Sources
+pub mod LentLines
+pub mod Tried
