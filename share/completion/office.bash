@@ -38,10 +38,10 @@ _office() {
             mapfile -t COMPREPLY < <(compgen -f -- "$current")
             return
             ;;
-        --port | --connections) return ;;
+        --port | --connections | --run) return ;;
     esac
     if ((COMP_CWORD == 1)); then
-        _office_words 'compare replay serve waiting report runs mail export check --help --version' "$current"
+        _office_words 'compare replay serve waiting report runs why mail export check --help --version' "$current"
         return
     fi
     case $command in
@@ -60,6 +60,7 @@ _office() {
             _office_words "$(_office_options --conf --db)" "$current"
             ;;
         runs | export | check) _office_words "$(_office_options --conf --db)" "$current" ;;
+        why) _office_words "$(_office_options --conf --db --run)" "$current" ;;
         mail) _office_words "$(_office_options --conf --db --list)" "$current" ;;
         serve) _office_words "$(_office_options --conf --port --db --connections)" "$current" ;;
     esac
