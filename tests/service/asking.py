@@ -5,8 +5,8 @@
 
 PROGRAM is the built program, `crates/office/out/office`. For each seed from FIRST to LAST (1-40) some of the mail of
 tests/rows/reopened_rows.py is left out. Then `office waiting` has to tell what the model misses, over the bag and over
-a store, `office report` the texts of each finished run, `office runs` and `office mail` what they count, `office
-export` the kept mail, `office check` that all is whole, and the service the same on its pages. The bytes of the store's
+a store, `office report` the texts of each finished run, `office why` what they say of each source, `office runs` and
+`office mail` what they count, `office export` the kept mail, `office check` that all is whole, and the service the same on its pages. The bytes of the store's
 file have to be the same before and after. A copy of a store in which Python's sqlite3 changes a text or a row has to be
 told by `office check`. A replay has to tell refused messages on standard error. Exit status 0 where all was as it is
 due.
@@ -93,6 +93,22 @@ def run_lines(office):
     return lines
 
 
+def said(office, run, source):
+    """What a run says of a source, and whether it says anything."""
+    excuses, update = [report.splitlines()[1:] for report in office.reports[run]]
+    lines, own = [], False
+    for line in excuses:
+        own = own if line.startswith(" ") else line.split(" ")[0] == source
+        lines += [line] * own
+    lines += [line for line in update if source in line.split(" ")[1:]]
+    return "".join("%s\n" % line for line in ["why %d %s" % (run, source)] + lines), bool(lines)
+
+
+def why(office, run, sources):
+    told = [said(office, run, source) for source in sources]
+    return "".join(text for text, _ in told), 0 if all(is_told for _, is_told in told) else 1
+
+
 def mail_lines(office):
     """How much mail is kept of each sender."""
     lines = ""
@@ -147,6 +163,15 @@ def over_a_store(seed, office, store):
         for report, text in zip(("excuses", "update"), office.reports[run]):
             got = call("report", str(run), report, "--conf", CONF, "--db", store)
             want("%d: report %d %s" % (seed, run, report), (text, 0), got)
+    sources = sorted({paragraphs(text)[0]["source"] for text in office.kept.values() if "source" in paragraphs(text)[0]}) or ["none"]
+    for run in range(1, office.finished + 1):
+        told = why(office, run, sources)
+        want("%d: why in run %d" % (seed, run), told, call("why", *sources, "--run", str(run), "--conf", CONF, "--db", store))
+    if office.finished:
+        told = why(office, office.finished, sources[:1])
+        want("%d: why" % seed, told, call("why", sources[0], "--conf", CONF, "--db", store))
+    got = call("why", sources[0], "--run", str(office.finished + 1), "--conf", CONF, "--db", store)
+    want("%d: why in no run" % seed, ("", 1), got)
     got = call("report", str(office.finished + 1), "excuses", "--conf", CONF, "--db", store)
     want("%d: a report of no run" % seed, ("", 1), got)
     stored = ["--conf", CONF, "--db", store]
@@ -189,7 +214,7 @@ def words(folder):
     rows = [(["report", "0", "excuses"], 2), (["report", "1"], 2), (["report", "x", "update"], 2),
             (["report", "testing", "update"], 2), (["report", "1", "testing"], 2), (["report", "1", "excuses"], 4),
             (["report", "testing"], 4), (["waiting"], 4), (["runs"], 4), (["mail"], 4), (["mail", "--list"], 4),
-            (["export"], 4), (["check"], 4), (["runs", "--list"], 2), (["check", "--list"], 2)]
+            (["why", "greeter"], 4), (["why"], 2), (["why", "greeter", "--run", "0"], 2), (["export"], 4), (["check"], 4), (["runs", "--list"], 2), (["check", "--list"], 2)]
     for row, status in rows:
         want("words %s" % row, ("", status), call(*row, *stored))
         want("words %s, the file" % row, False, os.path.exists(none))
