@@ -6,10 +6,10 @@
 PROGRAM is the built program, `crates/office/out/office`. For each seed from FIRST to LAST (1-40) some of the mail of
 tests/rows/reopened_rows.py is left out. Then `office waiting` has to tell what the model misses, over the bag and over
 a store, `office report` the texts of each finished run, `office why` what they say of each source, `office runs` and
-`office mail` what they count, `office export` the kept mail, `office check` that all is whole, and the service the same on its pages. The bytes of the store's
-file have to be the same before and after. A copy of a store in which Python's sqlite3 changes a text or a row has to be
-told by `office check`. A replay has to tell refused messages on standard error. Exit status 0 where all was as it is
-due.
+`office mail` what they count, `office export` the kept mail, `office check` that all is whole, and the service the same
+on its pages. The bytes of the store's file have to be the same before and after. A copy of a store in which Python's
+sqlite3 changes a text or a row has to be told by `office check`. A replay has to tell refused messages on standard
+error. Exit status 0 where all was as it is due.
 """
 import os
 import random
@@ -163,10 +163,11 @@ def over_a_store(seed, office, store):
         for report, text in zip(("excuses", "update"), office.reports[run]):
             got = call("report", str(run), report, "--conf", CONF, "--db", store)
             want("%d: report %d %s" % (seed, run, report), (text, 0), got)
-    sources = sorted({paragraphs(text)[0]["source"] for text in office.kept.values() if "source" in paragraphs(text)[0]}) or ["none"]
+    sources = sorted({paragraphs(text)[0].get("source", "greeter") for text in office.kept.values()}) or ["greeter"]
     for run in range(1, office.finished + 1):
         told = why(office, run, sources)
-        want("%d: why in run %d" % (seed, run), told, call("why", *sources, "--run", str(run), "--conf", CONF, "--db", store))
+        got = call("why", *sources, "--run", str(run), "--conf", CONF, "--db", store)
+        want("%d: why in run %d" % (seed, run), told, got)
     if office.finished:
         told = why(office, office.finished, sources[:1])
         want("%d: why" % seed, told, call("why", sources[0], "--conf", CONF, "--db", store))
@@ -214,7 +215,8 @@ def words(folder):
     rows = [(["report", "0", "excuses"], 2), (["report", "1"], 2), (["report", "x", "update"], 2),
             (["report", "testing", "update"], 2), (["report", "1", "testing"], 2), (["report", "1", "excuses"], 4),
             (["report", "testing"], 4), (["waiting"], 4), (["runs"], 4), (["mail"], 4), (["mail", "--list"], 4),
-            (["why", "greeter"], 4), (["why"], 2), (["why", "greeter", "--run", "0"], 2), (["export"], 4), (["check"], 4), (["runs", "--list"], 2), (["check", "--list"], 2)]
+            (["export"], 4), (["check"], 4), (["runs", "--list"], 2), (["check", "--list"], 2), (["why", "greeter"], 4),
+            (["why"], 2), (["why", "greeter", "--run", "0"], 2)]
     for row, status in rows:
         want("words %s" % row, ("", status), call(*row, *stored))
         want("words %s, the file" % row, False, os.path.exists(none))
