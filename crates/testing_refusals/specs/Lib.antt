@@ -1,0 +1,4 @@
+pub mod Needs
+pub mod Refusals
+pub mod Lines
+pub mod Judged
