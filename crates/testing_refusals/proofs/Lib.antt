@@ -2,4 +2,4 @@ pub mod Everywhere
 pub mod Numbering
 pub mod Failings
 pub mod Refusing
-pub mod Failing
+pub mod Searching

@@ -7,8 +7,10 @@ mod judged;
 mod lines;
 mod needs;
 mod refusal;
+mod told;
 
 pub use failing::{is_row_of, rows_on};
 pub use lines::{push_clause, push_leaving, push_need, push_package};
 pub use needs::{Need, bearers, meeting, need_at};
-pub use refusal::{Refusal, refusal};
+pub use refusal::{Refusal, refused};
+pub use told::{Told, told_lines};

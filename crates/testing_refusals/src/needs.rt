@@ -30,7 +30,7 @@ fn step_at(steps: &[Step], number: usize) -> Option<Step>
 
 /// The clause of a row with the number.
 fn need_of<'a>(row: LentRow<'a>, need: usize) -> Option<Need<'a>>
-    ensures { option_map need_of result ≡ rules.need_in need (row_of row) }
+    ensures { option_map need_of result ≡ rules.need_in need (row_of row.entry) }
 {
     match row.binary.clauses.as_slice().get(need) {
         Some(clause) => Some(Need { row, clause }),

@@ -88,9 +88,10 @@ fn refusal_on<'a>(
 }
 
 /// The first row that a change from the old rows to the new ones breaks, for a group that came in, and what shows that it
-/// isn't installable then. There is none exactly where the change breaks nothing. It costs three judgements on the
-/// offender's architecture, and on each one before it. The one error is want of memory.
-pub fn refusal<'a>(
+/// isn't installable then. There is none exactly where the change breaks nothing. It costs two judgements of the
+/// offender's architecture and of each one before it, and what clauses reach from the offender. The one error is want of
+/// memory.
+pub fn refused<'a>(
     alloc: Global,
     archs: &Archs,
     old: &[LentRow],

@@ -4,7 +4,7 @@ use Rattle.deb_control.specs.declared.binary.Binary.{Binary}
 use Rattle.testing_items.specs.Words.{byte_cmp, first_of_two}
 use Rattle.testing_model.specs.Moves.{fails_on}
 use Rattle.testing_refusals.specs.Judged.{answer, answers}
-use Rattle.testing_refusals.proofs.Failing.{first_failing-more}
+use Rattle.testing_refusals.proofs.Searching.{first_failing-more}
 use Rattle.testing_refusals.proofs.failing.first_name.Goals as goal
 use Rattle.testing_refusals.proofs.failing.first_name.Goals.{then-fails_on, else-fails_on}
 

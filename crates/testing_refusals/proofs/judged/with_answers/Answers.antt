@@ -1,5 +1,5 @@
 use Rattle.std.proofs.Common.{arith, append-nil}
-use Rattle.testing_refusals.proofs.Failing.{with_answers-end}
+use Rattle.testing_refusals.proofs.Searching.{with_answers-end}
 use Rattle.testing_refusals.proofs.judged.with_answers.Goals as goal
 
 pub returns : goal.returns

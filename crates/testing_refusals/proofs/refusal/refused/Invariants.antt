@@ -2,7 +2,7 @@ use Rattle.std.proofs.Common.{◌≡◌, ◌-◌, length}
 use Rattle.std.specs.List.{filter_map, range_with_len}
 use Rattle.testing_model.specs.JudgedRows.{lent}
 use Rattle.testing_model.specs.Moves as moves
-use Rattle.testing_refusals.proofs.refusal.refusal.Given as goal
+use Rattle.testing_refusals.proofs.refusal.refused.Given as goal
 
 -- none before this architecture
 abbrev pub invariant-loop-arch : goal.invariant-loop-arch
