@@ -1,9 +1,9 @@
 -- Where all of the rows are there.
-use Rattle.std.proofs.Common.{◌≡◌, ℕ, ◌+◌, ◌<◌, Bool, true, false, List, [], ◌∷◌, ◌++◌, length, refl, sym, ap, ◌∙◌, subst, inl, inr, arith}
+use Rattle.std.proofs.Common.{◌≡◌, ℕ, ◌+◌, ◌<◌, Bool, true, false, List, [], ◌∷◌, ◌++◌, length, get_or, slice_index_or, replicate, refl, sym, ap, ◌∙◌, subst, inl, inr, arith}
 use Rattle.std.specs.List.{slice_get, range_with_len}
 use Rattle.std.specs.Prelude.{Contains, ◌↔◌}
 use Rattle.std.proofs.lemmas.Bool.{cases_lt}
-use Rattle.std.proofs.lemmas.List.{get_or_append_left, get_or_push}
+use Rattle.std.proofs.lemmas.List.{get_or_append_left, get_or_push, length-replicate}
 use Rattle.std.proofs.lemmas.List.FromFn.{length-range_with_len, get_or-range_with_len}
 use Rattle.std.proofs.lemmas.Option.{slice_get_within}
 use Rattle.deb_control.specs.declared.binary.Binary.{Binary}
@@ -24,6 +24,21 @@ first_has n k h = (k, omega (arith, h, length-range_with_len 0 n), get_or-range_
 -- where all places come, each is marked
 pub all_come : (there : List Bool) (n k : ℕ) → length there ≡ n → k < n → marked (after_change [] (range_with_len 0 n) there) k ≡ true
 all_come there n k long h = with_here true (range_with_len 0 n) there k (omega (arith, long, h)) (first_has n k h)
+
+-- the first places lie within a list of so many
+pub first_within : (ks : List ℕ) (n m k d : ℕ) → ks ≡ range_with_len 0 n → n ≡ m → k < length ks → slice_index_or ks k d < m
+first_within ks n m k d e same h =
+    let below : k < n = omega (arith, h, ap length e, length-range_with_len 0 n) in
+    let at : get_or ks k d ≡ 0 + k = ap (λ xs. get_or xs k d) e ∙ get_or-range_with_len 0 n k d below in
+    omega (arith, at, below, same)
+
+-- so many rows, none of which is there yet: once all places came, each of them is
+pub all_there_now : (count k n : ℕ) (rows : List Binary) (old there : List Bool) (ks : List ℕ) → old ≡ replicate count false → length rows ≡ count → n ≡ length rows
+    → ks ≡ range_with_len 0 n → there ≡ after_change [] ks old → k < length rows → marked there k ≡ true
+all_there_now count k n rows old there ks o long same e t h =
+    let size : length old ≡ n = omega (arith, ap length o, length-replicate count false, long, same) in
+    let below : k < n = omega (arith, h, same) in
+    subst (λ m. marked m k ≡ true) (sym (t ∙ ap (λ xs. after_change [] xs old) e)) (all_come old n k size below)
 
 -- a groundless list over all rows, as one where each is there
 pub shown_everywhere : (rows : List Binary) (there : ℕ → Bool) (place : ℕ) (steps : List Step) → ((k : ℕ) → k < length rows → there k ≡ true)

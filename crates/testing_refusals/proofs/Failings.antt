@@ -1,5 +1,5 @@
 -- The place of a row that fails.
-use Rattle.std.proofs.Common.{◌≡◌, ℕ, ◌+◌, ◌<◌, ◌≤◌, ◌&&◌, Bool, true, false, List, length, Some, refl, sym, ap, ◌∙◌, inl, inr, arith}
+use Rattle.std.proofs.Common.{◌≡◌, ℕ, ◌+◌, ◌<◌, ◌≤◌, ◌&&◌, Bool, true, false, List, length, Option, Some, None, IfNone, refl, sym, ap, ◌∙◌, inl, inr, arith}
 use Rattle.std.specs.Prelude.{map, filter, Contains}
 use Rattle.std.specs.List.{slice_get}
 use Rattle.std.specs.Str.{bytes_eq}
@@ -65,3 +65,8 @@ failing_there arch group before after name e =
         is = both (bytes_eq (named found.0) name) (fails found.0) ((bytes_eq-Decides (named found.0) name).1 found.2) from.1;
       };
     }
+
+-- what is found to be missing makes something else so
+pub none_then : {A : Type 0} (o : Option A) (P Q : Type 0) → (P → Q) → IfNone o P → IfNone o Q
+none_then None P Q f p = f p
+none_then (Some x) P Q f p = p

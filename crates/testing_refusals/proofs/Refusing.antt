@@ -59,8 +59,8 @@ module _ (arch : ℕ) (group : List Text) (before : List RowAnswer) (rows : List
 
   off : answer.is_installable ≡ false
   off = not_true answer.is_installable
-      (first_of_both (not answer.is_installable) (is_row_of group answer.row || was_installable before answer.row)
-      (second_of_both (is_watched_on arch answer.row) (not answer.is_installable && (is_row_of group answer.row || was_installable before answer.row)) fails))
+      (second_of_both (is_watched_on arch answer.row) (not answer.is_installable)
+      (first_of_both (is_watched_on arch answer.row && not answer.is_installable) (is_row_of group answer.row || was_installable before answer.row) fails))
 
   pub fails_so : fails_on arch group before (record { row = answer.row; is_installable = false }) ≡ true
   fails_so = ap (λ b. fails_on arch group before (record { row = answer.row; is_installable = b })) (sym off) ∙ fails

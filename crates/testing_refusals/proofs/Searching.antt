@@ -4,8 +4,9 @@ use Rattle.std.proofs.Common.{◌≡◌, refl, sym, ap, ◌∙◌, arith, add-on
 use Rattle.std.proofs.lemmas.List.{take_more, drop_all, map-append}
 use Rattle.std.proofs.lemmas.List.Elements.{filter-append}
 use Rattle.std.proofs.lemmas.Bool.{cases_lt}
+use Rattle.std.proofs.lemmas.Option.{slice_get-map, slice_get_read}
 use Rattle.std.proofs.Math.Seq.{drop-cons}
-use Rattle.std.specs.List.{filter_map, range_with_len}
+use Rattle.std.specs.List.{filter_map, range_with_len, slice_get}
 use Rattle.std.specs.declared.cmp.Ordering.{Ordering}
 use Rattle.std.specs.Cmp.{IsTotalOrder}
 use Rattle.testing_model.specs.declared.suite.LentRow.{LentRow}
@@ -26,6 +27,10 @@ with_answers-drop rows marks k d h g = rw (drop-cons rows k d h, drop-cons marks
 with_answers-nil : (rows : List RowIn) → with_answers rows [] ≡ []
 with_answers-nil [] = refl
 with_answers-nil (r ∷ rows) = refl
+
+-- the answer at a place
+pub answer_at : (after : List JudgedRow) (i : ℕ) (j : JudgedRow) → i < length after → j ≡ get_or after i j → slice_get (answers after) i ≡ Some (answer j)
+answer_at after i j h e = slice_get-map answer after i ∙ ap (option_map answer) (slice_get_read after (length after) i j refl h e)
 
 -- nothing is left where either list ends
 pub with_answers-end : (rows : List (LentRow)) (marks : List Bool) (k : ℕ) → min (length rows) (length marks) ≤ k → with_answers (lent (drop k rows)) (drop k marks) ≡ []
