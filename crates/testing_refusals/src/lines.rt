@@ -1,6 +1,6 @@
 //! The lines of what shows that a row isn't installable.
 
-ghost use Rattle.std.specs.Prelude.{◌≡◌, ◌++◌, OnOk, string_bytes};
+ghost use Rattle.std.specs.Prelude.{◌≡◌, ◌++◌, ◌∷◌, OnOk, codes, decimal, string_bytes};
 ghost use Rattle.std.specs.List.{flat_map};
 ghost use Rattle.testing_model.specs.JudgedRows.{lent, row_of};
 ghost use Rattle.testing_refusals.specs.Lines as lines;
@@ -98,6 +98,27 @@ fn push_place(text: &mut String, group: &[Text], row: &LentRow) -> Result<(), Al
     }
 }
 
+fn push_row(
+    text: &mut String,
+    group: &[Text],
+    number: usize,
+    row: &LentRow,
+) -> Result<(), AllocError>
+    ensures { OnOk result (string_bytes text.new ≡ string_bytes text.old ++ (decimal number ++ 32 ∷ lines.package_text (row_of row.now) ++ lines.place_text group.now (row_of row.now))) }
+{
+    write!(text, "{number} ")?;
+    push_package(text, row)?;
+    push_place(text, group, row)
+}
+
+fn push_met(text: &mut String, clause: &Clause, numbers: &[usize]) -> Result<(), AllocError>
+    ensures { OnOk result (string_bytes text.new ≡ string_bytes text.old ++ (lines.clause_text clause.now ++ codes ": " ++ lines.numbers_text numbers.now)) }
+{
+    push_clause(text, clause)?;
+    text.push_str(": ")?;
+    push_numbers(text, numbers)
+}
+
 /// The line with the number, whose clause the rows of the lines with the other numbers meet.
 pub fn push_need(
     text: &mut String,
@@ -108,12 +129,8 @@ pub fn push_need(
 ) -> Result<(), AllocError>
     ensures { OnOk result (string_bytes text.new ≡ string_bytes text.old ++ lines.need_line group.now number (need_of need.now) numbers.now) }
 {
-    write!(text, "{number} ")?;
-    push_package(text, &need.row)?;
-    push_place(text, group, &need.row)?;
-    push_clause(text, need.clause)?;
-    text.push_str(": ")?;
-    push_numbers(text, numbers)?;
+    push_row(text, group, number, &need.row)?;
+    push_met(text, need.clause, numbers)?;
     text.push_str("\n")
 }
 
