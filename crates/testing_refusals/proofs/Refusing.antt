@@ -1,11 +1,11 @@
 -- What is found on one architecture is what the change breaks there, and what shows it.
 use Rattle.std.proofs.Common.{◌≡◌, ℕ, zero, suc, ◌<◌, ◌&&◌, ◌||◌, not, Bool, true, false, List, [], ◌∷◌, length, Some, None, refl, sym, ap, ◌∙◌, subst, arith}
-use Rattle.std.specs.Prelude.{map, Option, ◌↔◌}
+use Rattle.std.specs.Prelude.{map, Option, IfSome, get_or, option_map, ◌↔◌}
 use Rattle.std.specs.List.{slice_get}
 use Rattle.std.specs.Str.{bytes_eq}
 use Rattle.std.proofs.lemmas.Bool.{false≢true}
 use Rattle.std.proofs.lemmas.List.{length-map}
-use Rattle.std.proofs.lemmas.Option.{same_Some, slice_get_within}
+use Rattle.std.proofs.lemmas.Option.{same_Some, slice_get_within, slice_get-map, slice_get_read}
 use Rattle.std.proofs.lemmas.Slice.Eq.{bytes_eq-Decides}
 use Rattle.deb_control.specs.declared.binary.Binary.{Binary}
 use Rattle.testing_install.specs.Among.{IsInstallableAmong}
@@ -15,7 +15,9 @@ use Rattle.testing_install.specs.Suite.{SuiteState}
 use Rattle.testing_install.proofs.Choosing.{are_exact}
 use Rattle.testing_items.specs.Words.{Text}
 use Rattle.testing_model.specs.declared.suite.RowIn.{RowIn}
+use Rattle.testing_model.specs.declared.suite.LentRow.{LentRow}
 use Rattle.testing_model.specs.declared.update.Offender.{Offender}
+use Rattle.testing_model.specs.JudgedRows.{lent, row_of}
 use Rattle.testing_model.specs.Moves.{RowAnswer, with_answers, rows_on, judged_on, fails_on, is_watched_on, is_row_of, was_installable, first_failing, offender_on}
 use Rattle.testing_refusals.proofs.Searching.{offender_on-some, offender_on-none}
 use Rattle.testing_refusals.proofs.Failings.{first_of_both, second_of_both}
@@ -99,6 +101,16 @@ module _ (arch : ℕ) (group : List Text) (before : List RowAnswer) (rows : List
           shown = subst (λ rs. IsShownBy rs all_there place steps) a.same (shown_everywhere suite.rows (marked suite.there) place steps a.there s);
         };
       }
+
+-- the row that is found, of a list that is lent
+pub found_now : (arch : ℕ) (group : List Text) (before : List RowAnswer) (rows read : List LentRow) (o : Option ℕ) (place : ℕ) → read ≡ rows → o ≡ Some place
+    → IfSome o (λ p. IsFirstFailing arch group before (judged (lent read)) p) → IsFirstFailing arch group before (judged (lent rows)) place
+found_now arch group before rows read o place same is found =
+    subst (λ rs. IsFirstFailing arch group before (judged (lent rs)) place) same (subst (λ q. IfSome q (λ p. IsFirstFailing arch group before (judged (lent read)) p)) is found)
+
+-- the row at a place of a list that is lent
+pub row_at : (rows : List LentRow) (i : ℕ) (r : LentRow) (q : RowIn) → i < length rows → r ≡ get_or rows i r → slice_get (lent rows) i ≡ Some q → row_of r ≡ q
+row_at rows i r q h e at = same_Some (row_of r) q (sym (slice_get-map row_of rows i ∙ ap (option_map row_of) (slice_get_read rows (length rows) i r refl h e)) ∙ at)
 
 -- where no row fails, nothing is broken there
 pub none_broken : (arch : ℕ) (group : List Text) (old new rows : List RowIn) → rows ≡ rows_on arch new

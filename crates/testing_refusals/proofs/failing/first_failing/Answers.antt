@@ -14,4 +14,4 @@ returns-in-Some-clause-none c =
     let name = c.in-Some.name.now in
     let first : first_failing a.arch a.group.now before after ≡ Some name = sym c.first_name.ensures ∙ ap option_copied c.in-Some.is in
     none_then c.place_of.result (HasFailing a.arch a.group.now before after name → ⊥) (first_failing a.arch a.group.now before after ≡ None)
-        (λ missing. absurd (missing (failing_there a.arch a.group.now before after name first))) c.place_of.ensures.none
+    (λ missing. absurd (missing (failing_there a.arch a.group.now before after name first))) c.place_of.ensures.none

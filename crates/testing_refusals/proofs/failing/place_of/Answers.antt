@@ -23,7 +23,7 @@ loop-place-preserved c =
     let n = c.loop-place.place in
     let below : n < length a.after.now = omega arith in
     none_more a.arch a.group.now (answers a.before.now) (answers a.after.now) a.name.now n (answer j)
-        (answer_at a.after.now n j below c.index-after-place.is) (sym c.is_failing.ensures ∙ c.if-is_failing.false) c.loop-place.invariant
+    (answer_at a.after.now n j below c.index-after-place.is) (sym c.is_failing.ensures ∙ c.if-is_failing.false) c.loop-place.invariant
 
 pub returns-clause-none : goal.returns-clause-none
 returns-clause-none c =

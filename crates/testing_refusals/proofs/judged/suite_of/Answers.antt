@@ -22,5 +22,5 @@ returns c =
       same = c.change.ensures.rows ∙ rows ∙ exact;
       there = λ k h.
           all_there_now (length shares) k c.len.result s.rows s.there now.there c.deref.result.now there long c.len.ensures comes c.in_ok-change.ensures.there
-              (omega (arith, h, ap length c.change.ensures.rows));
+          (omega (arith, h, ap length c.change.ensures.rows));
     }

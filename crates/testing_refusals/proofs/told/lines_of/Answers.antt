@@ -19,7 +19,7 @@ loop-before-preserved c =
     elim c.match-need_at.branch [
       | in-Some+in_ok-told_need+in_ok-push w ↦
           let here : at (n + 1) ≡ Some (told (n + 1) (need_of w.in-Some.need)) =
-              ap (option_map (told (n + 1))) (sym c.need_at.ensures ∙ ap (option_map need_of) w.in-Some.is) in
+          ap (option_map (told (n + 1))) (sym c.need_at.ensures ∙ ap (option_map need_of) w.in-Some.is) in
           ap (λ v. map told_of v.items) w.lines-is ∙ ap (map told_of) w.in_ok-push.ensures.items ∙ map-append told_of c.loop-before.lines.items (w.in_ok-told_need.field-0 ∷ [])
           ∙ ap (λ x. map told_of c.loop-before.lines.items ++ x ∷ []) w.in_ok-told_need.ensures ∙ ap (λ xs. xs ++ told (n + 1) (need_of w.in-Some.need) ∷ []) c.loop-before.invariant
           ∙ sym (having_more at 1 n (n + 1) (Some (told (n + 1) (need_of w.in-Some.need))) next here)
