@@ -8,6 +8,4 @@ mod near;
 mod reasons;
 mod source_filter;
 
-pub use days::asked_days;
 pub use excusing::excuses;
-pub use reasons::{blocks, removes};

@@ -1,6 +1,6 @@
 -- Where all of the rows are there.
 use Rattle.std.proofs.Common.{◌≡◌, ℕ, ◌+◌, ◌<◌, Bool, true, false, List, [], ◌∷◌, ◌++◌, length, get_or, slice_index_or, replicate, refl, sym, ap, ◌∙◌, subst, inl, inr, arith}
-use Rattle.std.specs.List.{slice_get, range_with_len}
+use Rattle.std.specs.List.{range_with_len}
 use Rattle.std.specs.Prelude.{Contains, ◌↔◌}
 use Rattle.std.proofs.lemmas.Bool.{cases_lt}
 use Rattle.std.proofs.lemmas.List.{get_or_append_left, get_or_push, length-replicate}
@@ -14,7 +14,6 @@ use Rattle.testing_install.proofs.Choosing.{answers_computed}
 use Rattle.testing_install.proofs.Marking.{with_here}
 use Rattle.testing_why.specs.declared.Step.{Step}
 use Rattle.testing_why.specs.Certificate.{IsShownBy}
-use Rattle.testing_why.specs.Order.{Falls, IsGroundless}
 use Rattle.testing_refusals.specs.Needs.{all_there}
 
 -- a number below the count is one of the first places

@@ -6,7 +6,7 @@ use Rattle.std.specs.Str.{bytes_eq}
 use Rattle.std.proofs.lemmas.Bool.{cases_lt, false≢true}
 use Rattle.std.proofs.lemmas.Option.{same_Some, slice_get_within, slice_get-get_or}
 use Rattle.std.proofs.lemmas.Slice.Eq.{bytes_eq-Decides}
-use Rattle.testing_items.specs.Words.{Text, byte_cmp}
+use Rattle.testing_items.specs.Words.{Text}
 use Rattle.testing_model.specs.Moves.{RowAnswer, fails_on, first_failing}
 use Rattle.testing_model.proofs.Least.{from_filter, least_from}
 use Rattle.testing_model.proofs.Orders.{text_order}

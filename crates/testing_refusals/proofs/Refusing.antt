@@ -1,13 +1,12 @@
 -- What is found on one architecture is what the change breaks there, and what shows it.
 use Rattle.std.proofs.Common.{◌≡◌, ℕ, zero, suc, ◌<◌, ◌&&◌, ◌||◌, not, Bool, true, false, List, [], ◌∷◌, length, Some, None, refl, sym, ap, ◌∙◌, subst, arith}
-use Rattle.std.specs.Prelude.{map, Option, IfSome, get_or, option_map, ◌↔◌}
+use Rattle.std.specs.Prelude.{Option, IfSome, get_or, option_map}
 use Rattle.std.specs.List.{slice_get}
 use Rattle.std.specs.Str.{bytes_eq}
 use Rattle.std.proofs.lemmas.Bool.{false≢true}
 use Rattle.std.proofs.lemmas.List.{length-map}
 use Rattle.std.proofs.lemmas.Option.{same_Some, slice_get_within, slice_get-map, slice_get_read}
 use Rattle.std.proofs.lemmas.Slice.Eq.{bytes_eq-Decides}
-use Rattle.deb_control.specs.declared.binary.Binary.{Binary}
 use Rattle.testing_install.specs.Among.{IsInstallableAmong}
 use Rattle.testing_install.specs.Closed.{IsInstallable, marked}
 use Rattle.testing_install.specs.Installable.{are_installable}
@@ -16,7 +15,6 @@ use Rattle.testing_install.proofs.Choosing.{are_exact}
 use Rattle.testing_items.specs.Words.{Text}
 use Rattle.testing_model.specs.declared.suite.RowIn.{RowIn}
 use Rattle.testing_model.specs.declared.suite.LentRow.{LentRow}
-use Rattle.testing_model.specs.declared.update.Offender.{Offender}
 use Rattle.testing_model.specs.JudgedRows.{lent, row_of}
 use Rattle.testing_model.specs.Moves.{RowAnswer, with_answers, rows_on, judged_on, fails_on, is_watched_on, is_row_of, was_installable, first_failing, offender_on}
 use Rattle.testing_refusals.proofs.Searching.{offender_on-some, offender_on-none}
@@ -24,7 +22,7 @@ use Rattle.testing_refusals.proofs.Failings.{first_of_both, second_of_both}
 use Rattle.testing_why.specs.Certificate.{IsShownBy}
 use Rattle.testing_why.specs.declared.Step.{Step}
 use Rattle.testing_refusals.specs.Needs.{packages, all_there}
-use Rattle.testing_refusals.specs.Refusals.{AreAllThere, IsFailing, IsFirstFailing, IsShownRow, IsRefusalOn}
+use Rattle.testing_refusals.specs.Refusals.{AreAllThere, IsFirstFailing, IsRefusalOn}
 use Rattle.testing_refusals.proofs.Everywhere.{shown_everywhere, installable_anyway}
 
 of_answer : (rows : List RowIn) (marks : List Bool) (i : ℕ) (j : RowAnswer) → slice_get (with_answers rows marks) i ≡ Some j → (slice_get rows i ≡ Some j.row) × (marked marks i ≡ j.is_installable)

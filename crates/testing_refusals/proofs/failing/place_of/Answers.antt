@@ -1,4 +1,4 @@
-use Rattle.std.proofs.Common.{arith, ◌≡◌, ◌∙◌, sym, ◌<◌, ◌≤◌, length}
+use Rattle.std.proofs.Common.{arith, ◌∙◌, sym, ◌<◌, ◌≤◌, length}
 use Rattle.std.proofs.lemmas.List.{length-map}
 use Rattle.testing_refusals.specs.Judged.{answer, answers}
 use Rattle.testing_refusals.proofs.Failings.{none_more, none_at_all}

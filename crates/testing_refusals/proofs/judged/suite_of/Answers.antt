@@ -1,4 +1,4 @@
-use Rattle.std.proofs.Common.{arith, ◌≡◌, ◌∙◌, sym, ap, ◌++◌, length, replicate, false}
+use Rattle.std.proofs.Common.{arith, ◌≡◌, ◌∙◌, ap, ◌++◌, length, replicate, false}
 use Rattle.std.proofs.lemmas.List.{length-map}
 use Rattle.testing_install.specs.Rows.{shared}
 use Rattle.testing_refusals.proofs.Everywhere.{first_within, all_there_now}

@@ -1,5 +1,5 @@
-use Rattle.std.proofs.Common.{◌≡◌, ◌∙◌, sym, ap, ◌+◌, ◌++◌, ◌∷◌, [], map, append-nil, arith, Option, Some, None, option_map}
-use Rattle.std.specs.List.{filter_map, range_with_len, cons_option}
+use Rattle.std.proofs.Common.{◌≡◌, ◌∙◌, sym, ap, ◌+◌, ◌++◌, ◌∷◌, [], map, append-nil, arith, Some, None, option_map}
+use Rattle.std.specs.List.{filter_map, range_with_len}
 use Rattle.std.proofs.lemmas.List.{map-append}
 use Rattle.testing_model.specs.JudgedRows.{lent}
 use Rattle.testing_refusals.specs.Needs.{need_of}
