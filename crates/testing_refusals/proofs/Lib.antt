@@ -1,0 +1,5 @@
+pub mod Everywhere
+pub mod Numbering
+pub mod Failings
+pub mod Refusing
+pub mod Searching

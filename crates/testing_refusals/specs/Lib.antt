@@ -1,0 +1,5 @@
+pub mod Needs
+pub mod Refusals
+pub mod Lines
+pub mod Judged
+pub mod Told
