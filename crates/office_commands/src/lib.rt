@@ -1,7 +1,7 @@
 //! What the office's program does with an office: it replays bags of mail from standard input, serves mail and reports
 //! over HTTP on loopback, tells earlier reports and what a run waits for, over a store in memory or in a file, answers
-//! questions about the runs and the mail of a store in a file, checks such a store, and tells
-//! what a run said of sources.
+//! questions about the runs and the mail of a store in a file, checks such a store, tells what a
+//! run said of sources, and tries hints.
 #![tactic(auto)]
 
 mod asking;
@@ -14,6 +14,7 @@ mod tasks;
 mod teller;
 mod telling;
 mod timed;
+mod trials;
 
 pub use office_files::{
     ConfFault, StoreFault, close_store, conf_status, open_store, open_tables, read_setup,

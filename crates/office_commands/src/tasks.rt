@@ -1,5 +1,5 @@
-//! What the program's words ask for: a comparison, the version, what a run said of sources, or a task over a
-//! store.
+//! What the program's words ask for: a comparison, the version, what a run said of sources, a trial of hints, or a
+//! task over a store.
 
 use crate::asking::{Question, tell_answer};
 use crate::checking::tell_check;
@@ -8,6 +8,7 @@ use crate::reasons::why_for;
 use crate::service::{serve, service_status};
 use crate::teller::Teller;
 use crate::telling::{tell_report, tell_version, tell_waiting};
+use crate::trials::try_for;
 use office_files::{
     ConfFault, StoreFault, close_store, conf_status, open_store, read_setup, store_status,
 };
@@ -64,6 +65,13 @@ pub fn run_command(rt: &HostRuntime, words: Words) -> u8 {
             run,
             sources,
         } => why_for(rt, conf, db, run, &sources),
+        Words::Try {
+            conf,
+            db,
+            day,
+            all,
+            hints,
+        } => try_for(rt, conf, db, day, all, &hints),
         Words::Version => tell_version(rt),
     }
 }

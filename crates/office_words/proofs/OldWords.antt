@@ -13,7 +13,7 @@ use Rattle.clap.specs.Kinds.{Kinds, or_else}
 use Rattle.clap.specs.Simple.{App, Shape, argument_words, built, built_leaf, entered, inherited, label_of, names_of, rows_at, subcommand_of}
 use Rattle.clap.specs.Walk.{Names, Row, Text, Waiting, Walk, after_step, answers_to, finished, idle, nothing_held, option, positional, settled, stop_after, subcommand_met, subcommand_or_other, value, walk, walk_from, walked, walked_from}
 use Rattle.office_words.specs.Program as program
-use Rattle.office_words.specs.Asked.{Asked, ToCheck, ToExport, ToTellRuns, ToTellVersion, asked_by, command_in, command_words_in, compare_in, if_faultless, mail_in, replay_in, report_in, serve_in, stored_in, waiting_in, why_in, words_in}
+use Rattle.office_words.specs.Asked.{Asked, ToCheck, ToExport, ToTellRuns, ToTellVersion, asked_by, command_in, command_words_in, compare_in, if_faultless, mail_in, replay_in, report_in, serve_in, stored_in, try_in, waiting_in, why_in, words_in}
 use Rattle.office_words.specs.Laws.{OldWordsStay, old_words_in, one_of_three}
 use Rattle.office_words.proofs.Walks.{never_none, no_kinds}
 
@@ -133,13 +133,13 @@ abbrev new_leaf : App → Shape
 new_leaf a = built_leaf (inherited three.top a.top)
 
 abbrev new_shapes : List Shape
-new_shapes = new_leaf program.waiting ∷ new_leaf program.report ∷ new_leaf program.runs ∷ new_leaf program.mail ∷ new_leaf program.export ∷ new_leaf program.check ∷ new_leaf program.why ∷ []
+new_shapes = new_leaf program.waiting ∷ new_leaf program.report ∷ new_leaf program.runs ∷ new_leaf program.mail ∷ new_leaf program.export ∷ new_leaf program.check ∷ new_leaf program.why ∷ new_leaf program.tries ∷ []
 
 abbrev plain_name : Text → Text × List Text
 plain_name name = (name, [])
 
 abbrev new_names : List Text
-new_names = codes "waiting" ∷ codes "report" ∷ codes "runs" ∷ codes "mail" ∷ codes "export" ∷ codes "check" ∷ codes "why" ∷ []
+new_names = codes "waiting" ∷ codes "report" ∷ codes "runs" ∷ codes "mail" ∷ codes "export" ∷ codes "check" ∷ codes "why" ∷ codes "try" ∷ []
 
 stray_waiting : IsStray three.top (codes "waiting")
 unfolding clap_on_literals program.of_three
@@ -169,6 +169,10 @@ stray_why : IsStray three.top (codes "why")
 unfolding clap_on_literals program.of_three
 stray_why w none = never_none kind.UnknownArgument (kind.InvalidSubcommand ∷ []) none
 
+stray_try : IsStray three.top (codes "try")
+unfolding clap_on_literals program.of_three
+stray_try w none = never_none kind.UnknownArgument (kind.InvalidSubcommand ∷ []) none
+
 abbrev EachStray : List Text → Type 0
 EachStray [] = ⊤
 EachStray (name ∷ rest) = IsStray three.top name × EachStray rest
@@ -183,7 +187,7 @@ strays_among (name ∷ rest) each word there = go (bytes_eq name word) refl (str
     go false other later found = later found
 
 new_strays : (word : Text) → is_some (find (answers_to word) (map plain_name new_names)) ≡ true → IsStray three.top word
-new_strays = strays_among new_names (stray_waiting, (stray_report, (stray_runs, (stray_mail, (stray_export, (stray_check, (stray_why, tt)))))))
+new_strays = strays_among new_names (stray_waiting, (stray_report, (stray_runs, (stray_mail, (stray_export, (stray_check, (stray_why, (stray_try, tt))))))))
 
 faultless_parts : (kinds : Kinds) (found : Option Asked) (ask : Asked) → if_faultless kinds found ≡ Some ask → (kinds ≡ []) × (found ≡ Some ask)
 faultless_parts [] found ask is = (refl, is)
@@ -203,7 +207,8 @@ new_command name rows =
     (cond (bytes_eq name (codes "mail")) (mail_in rows)
     (cond (bytes_eq name (codes "export")) (stored_in ToExport rows)
     (cond (bytes_eq name (codes "check")) (stored_in ToCheck rows)
-    (cond (bytes_eq name (codes "why")) (why_in rows) None))))))
+    (cond (bytes_eq name (codes "why")) (why_in rows)
+    (cond (bytes_eq name (codes "try")) (try_in rows) None)))))))
 
 command_same : (name : Text) (rows : List Row) (ask : Asked) → one_of_three name rows ≡ Some ask → command_in name rows ≡ Some ask
 command_same name rows ask is =

@@ -2,7 +2,7 @@
 use Rattle.std.proofs.Common.{◌≡◌, true, false, refl, codes, [], ◌∷◌, Some, None}
 use Rattle.clap.proofs.OnLiterals.{clap_on_literals}
 use Rattle.office_words.specs.Program.{of_five, of_nine, of_three, office}
-use Rattle.office_words.specs.Asked.{ToCheck, ToCompare, ToExport, ToRefuseReport, ToReplay, ToReport, ToServe, ToTellMail, ToTellRuns, ToTellVersion, ToTellWaiting, ToTellWhy, command_words_in, words_in}
+use Rattle.office_words.specs.Asked.{ToCheck, ToCompare, ToExport, ToRefuseReport, ToReplay, ToReport, ToServe, ToTellMail, ToTellRuns, ToTellVersion, ToTellWaiting, ToTellWhy, ToTry, command_words_in, words_in}
 use Rattle.office_words.specs.declared.reports.Report.TheVariants.{Excuses, Testing, Update}
 
 -- a service with its defaults
@@ -164,6 +164,20 @@ no_why_of_nothing = refl
 no_why_of_run_zero : words_in (codes "office" ∷ codes "why" ∷ codes "s" ∷ codes "--run" ∷ codes "0" ∷ codes "--conf" ∷ codes "f" ∷ []) ≡ None
 unfolding clap_on_literals of_three of_five of_nine office command_words_in words_in
 no_why_of_run_zero = refl
+
+-- hints that are tried: one or more, on a day, over all mail
+try_by_default : words_in (codes "office" ∷ codes "try" ∷ codes "block a" ∷ codes "--conf" ∷ codes "f" ∷ []) ≡ Some (ToTry false (codes "f") None None (codes "block a" ∷ []))
+unfolding clap_on_literals of_three of_five of_nine office command_words_in words_in
+try_by_default = refl
+
+try_with_all : words_in (codes "office" ∷ codes "try" ∷ codes "block a" ∷ codes "block b" ∷ codes "--all" ∷ codes "--day=2025-03-20" ∷ codes "--conf=f" ∷ codes "--db=g" ∷ [])
+    ≡ Some (ToTry true (codes "f") (Some (codes "g")) (Some (codes "2025-03-20")) (codes "block a" ∷ codes "block b" ∷ []))
+unfolding clap_on_literals of_three of_five of_nine office command_words_in words_in
+try_with_all = refl
+
+no_try_of_nothing : words_in (codes "office" ∷ codes "try" ∷ codes "--conf" ∷ codes "f" ∷ []) ≡ None
+unfolding clap_on_literals of_three of_five of_nine office command_words_in words_in
+no_try_of_nothing = refl
 
 -- the version is asked for by one word alone
 version_alone : words_in (codes "office" ∷ codes "--version" ∷ []) ≡ Some ToTellVersion

@@ -11,7 +11,7 @@ use Rattle.clap.specs.Kinds.{check_kinds, or_else}
 use Rattle.clap.specs.Simple.{App, Shape, argument_words, built, built_leaf, entered, filled, help_rule, inherited, label_of, names_of, rows_at, subcommand_of, with_index}
 use Rattle.clap.specs.Walk.{Row, Rule, Text, all_of, answers_to, finished, first_of, has_row, nothing_held, rows_after, settled, stop_after, walk, walk_from, with_default}
 use Rattle.office_words.specs.Program as program
-use Rattle.office_words.specs.Asked.{Asked, ToCheck, ToExport, ToReplay, ToTellMail, ToTellRuns, ToTellWaiting, ToTellWhy, asked_by, command_in, compare_of, is_set, number_in, number_of, of_store, of_values, report_from, serve_of, stored_in}
+use Rattle.office_words.specs.Asked.{Asked, ToCheck, ToExport, ToReplay, ToTellMail, ToTellRuns, ToTellWaiting, ToTellWhy, ToTry, asked_by, command_in, compare_of, is_set, number_in, number_of, of_store, of_values, report_from, serve_of, stored_in}
 use Rattle.office_words.proofs.Walks.{EachKeeps, never_none, no_kinds}
 use Rattle.office_words.proofs.Values.{Good, HasFirst, fits, default_there, given_all, given_first, keeps_flag, keeps_help, keeps_value, keeps_values, level_leaves, no_default, numbers_accepted, row_first}
 
@@ -192,6 +192,30 @@ why_reads words none =
     values_read (λ conf sources. ToTellWhy conf (first_of (codes "db") rows) (number_of (codes "run") rows) sources) (first_of (codes "conf") rows) (all_of (codes "SOURCE") rows)
     (given_first (codes "conf") rows left.0 (left.1.1.0 refl)) (given_all (codes "SOURCE") rows (left.1.0 refl))
 
+try_reads : Reads (leaf program.tries)
+unfolding program.of_three program.of_five program.of_nine program.office
+try_reads words none =
+    let rows = rows_after (leaf program.tries).rules [] words in
+    let keeps : EachKeeps Good false (leaf program.tries).rules = (
+      keeps_values false (ready 1 (program.places (codes "HINT"))) refl refl refl (λ values fine. refl),
+      (
+        keeps_value false (ready 2 program.conf) refl refl refl (λ values fine. refl),
+        (
+          keeps_value false (ready 2 program.db) refl refl refl (λ values fine. refl),
+          (
+            keeps_value false (ready 2 program.day) refl refl refl (λ values fine. refl),
+            (
+              keeps_flag false (ready 2 program.all) (codes "true") [] refl refl (λ values. refl),
+              (keeps_help false (ready 2 help_rule) refl, tt),
+            ),
+          ),
+        ),
+      ),
+    ) in
+    let left = level_leaves (leaf program.tries) words keeps (refl, (refl, (refl, (refl, (refl, (refl, tt)))))) none in
+    values_read (λ conf hints. ToTry (is_set (codes "all") rows) conf (first_of (codes "db") rows) (first_of (codes "day") rows) hints) (first_of (codes "conf") rows) (all_of (codes "HINT") rows)
+    (given_first (codes "conf") rows left.0 (left.1.1.0 refl)) (given_all (codes "HINT") rows (left.1.0 refl))
+
 -- a first value of a number is one
 number_there : (id : Text) (o : Option Text) → (fits_number : (v : Text) → fits id (v ∷ []) ≡ true → is_some (number_in v) ≡ true) → HasFirst id o → is_some (option_and_then number_in o) ≡ true
 number_there id None number has = absurd has
@@ -297,4 +321,4 @@ command_reads a words required each none =
 pub taken_words_ask : (words : List Text) → fault_of program.office words ≡ [] → is_some (asked_by (subcommand_of program.office words)) ≡ true
 unfolding program.of_three program.of_five program.of_nine program.office
 taken_words_ask words none =
-    command_reads (built program.office) (argument_words program.office words) refl (compare_reads, (replay_reads, (serve_reads, (waiting_reads, (report_reads, (runs_reads, (mail_reads, (export_reads, (check_reads, (why_reads, tt)))))))))) none
+    command_reads (built program.office) (argument_words program.office words) refl (compare_reads, (replay_reads, (serve_reads, (waiting_reads, (report_reads, (runs_reads, (mail_reads, (export_reads, (check_reads, (why_reads, (try_reads, tt))))))))))) none

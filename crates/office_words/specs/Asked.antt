@@ -11,14 +11,14 @@ use Rattle.office_words.specs.Program.{office}
 use Rattle.office_words.specs.declared.Words.{Words}
 use Rattle.office_words.specs.declared.WordsFault.{WordsFault}
 use Rattle.office_words.specs.declared.WordsFault.TheVariants.{NoMemory, Usage}
-use Rattle.office_words.specs.declared.Words.TheVariants.{Compare, Replay, Serve, Waiting, Report, UnknownReport, Runs, Mail, Export, Check, Why, Version}
+use Rattle.office_words.specs.declared.Words.TheVariants.{Compare, Replay, Serve, Waiting, Report, UnknownReport, Runs, Mail, Export, Check, Why, Try, Version}
 use Rattle.office_words.specs.declared.reports.Report.{Report as ReportName}
 use Rattle.office_words.specs.declared.reports.Report.TheVariants.{Testing, Excuses, Update}
 
 -- what is asked: to compare two versions by an operator; to replay a bag for the setup in a file, over a store in a file or in memory;
 -- to serve so many connections for it on a port; to tell what a run waits for; to tell a report, or one that isn't known; to tell the
 -- finished runs; to tell the kept mail, by counts or message by message; to export it; to check the store; to tell what a run said of
--- sources; or the version
+-- sources; to try hints on a day, over the covered mail or over all; or the version
 pub data Asked : Type 0 where
   ToCompare : Text → Text → Text → Asked
   ToReplay : Text → Option Text → Asked
@@ -31,6 +31,7 @@ pub data Asked : Type 0 where
   ToExport : Text → Text → Asked
   ToCheck : Text → Text → Asked
   ToTellWhy : Text → Option Text → Option ℕ → List Text → Asked
+  ToTry : Bool → Text → Option Text → Option Text → List Text → Asked
   ToTellVersion : Asked
 
 abbrev pub asked : Words → Asked
@@ -45,6 +46,7 @@ asked (Mail conf db list) = ToTellMail list conf.now db.now
 asked (Export conf db) = ToExport conf.now db.now
 asked (Check conf db) = ToCheck conf.now db.now
 asked (Why conf db run sources) = ToTellWhy conf.now (option_map (λ text. text.now) db) run (map (λ text. text.now) sources.items)
+asked (Try conf db day all hints) = ToTry all conf.now (option_map (λ text. text.now) db) (option_map (λ text. text.now) day) (map (λ text. text.now) hints.items)
 asked Version = ToTellVersion
 
 -- decimal digits, of a number of 32 bits
@@ -130,6 +132,9 @@ of_values ask _ _ = None
 abbrev pub why_in : List Row → Option Asked
 why_in rows = of_values (λ conf sources. ToTellWhy conf (first_of (codes "db") rows) (number_of (codes "run") rows) sources) (first_of (codes "conf") rows) (all_of (codes "SOURCE") rows)
 
+abbrev pub try_in : List Row → Option Asked
+try_in rows = of_values (λ conf hints. ToTry (is_set (codes "all") rows) conf (first_of (codes "db") rows) (first_of (codes "day") rows) hints) (first_of (codes "conf") rows) (all_of (codes "HINT") rows)
+
 abbrev pub command_in : Text → List Row → Option Asked
 command_in name rows =
     if bytes_eq name (codes "compare") then compare_in rows
@@ -142,6 +147,7 @@ command_in name rows =
     else if bytes_eq name (codes "export") then stored_in ToExport rows
     else if bytes_eq name (codes "check") then stored_in ToCheck rows
     else if bytes_eq name (codes "why") then why_in rows
+    else if bytes_eq name (codes "try") then try_in rows
     else None
 
 -- by the command that the words name and what they give it

@@ -92,6 +92,16 @@ run = record (option (codes "run")) { parser = Some (Unsigned 1 999_999_999) }
 abbrev pub why : App
 why = with_rule (with_rule (with_rule (with_rule (new_app (codes "why")) (places (codes "SOURCE"))) conf) db) run
 
+-- `try HINT.. --conf F [--db F] [--day DAY] [--all]`
+abbrev pub day : Rule
+day = option (codes "day")
+
+abbrev pub all : Rule
+all = record (new_rule (codes "all")) { long = Some (codes "all"); action = Some SetTrue }
+
+abbrev pub tries : App
+tries = with_rule (with_rule (with_rule (with_rule (with_rule (new_app (codes "try")) (places (codes "HINT"))) conf) db) day) all
+
 -- `office COMMAND ..`: a command has to be named, and no words at all are a call for help
 abbrev pub bare : App
 bare = record (new_app (codes "office")) {
@@ -114,6 +124,6 @@ of_five = with_subcommand (with_subcommand of_three waiting.top) report.top
 unfoldable pub of_nine : App
 of_nine = with_subcommand (with_subcommand (with_subcommand (with_subcommand of_five runs.top) mail.top) export.top) check.top
 
--- the program's command, which also tells what a run said of sources
+-- the program's command, which also tells what a run said of sources, and tries hints
 unfoldable pub office : App
-office = with_subcommand of_nine why.top
+office = with_subcommand (with_subcommand of_nine why.top) tries.top

@@ -13,11 +13,12 @@ const ABOUT: &str = "Decides which Debian source packages migrate from unstable 
 const AFTER: &str =
     "office --version tells the version. Each command has its own help: office compare --help, office replay --help,
 office serve --help, office waiting --help, office report --help, office runs --help, office mail --help,
-office export --help, office check --help, office why --help.
+office export --help, office check --help, office why --help, office try --help.
 
 Exit status: 0 done, or the comparison is true; 1 the comparison is false, an ordered run waits for mail, the run of a
-report isn't finished, the store isn't what its mail gives, or the run says nothing of a source; 2 usage, or help
-was asked for; 3 a version, the setup or the bag was refused; 4 memory, a file, the store, the socket or the output failed.";
+report isn't finished, the store isn't what its mail gives, the run says nothing of a source, or hints change nothing;
+2 usage, or help was asked for; 3 a version, the setup, the bag or a hint was refused; 4 memory, a file, the store, the
+socket or the output failed.";
 
 const COMPARE: &str =
     "Compares two versions as Debian Policy 5.6.12 orders them: status 0 true, 1 false";
@@ -115,6 +116,22 @@ finished, or says nothing of one of the sources.";
 const SOURCE: &str = "The name of a source";
 
 const RUN_TOLD: &str = "The number of a finished run; without it the last one";
+
+const TRY: &str = "Tells what the next run would decide with hints that aren't mailed yet";
+
+const AFTER_TRY: &str =
+    "Example: office try 'unblock libgreet/2.0-1' --conf examples/setup.conf --db store.db
+
+Prints a line for each hint with the number that it would have, and then what the next run would say less (-) and
+more (+) of excuses, update and testing than without the hints. Nothing is kept. Status 1: nothing changes; 3: a hint
+is refused.";
+
+const HINT: &str = "A hint, as in the Hint field of a message";
+
+const DAY: &str = "The day of the run, as 2025-03-20; without it that of the last run";
+
+const ALL: &str =
+    "Covers all mail that is kept without a gap, and not only what the last run covered";
 
 const SETUP: &str =
     "The file of the setup: the architectures, and the senders of mail with their roles";
@@ -217,6 +234,28 @@ fn run_option<'a>(alloc: Global) -> Arg<'a>
         .value_name("RUN")
         .help(RUN_TOLD)
         .value_parser(ValueParser::unsigned(1, 999_999_999))
+}
+
+/// `--day DAY`.
+fn day_option<'a>(alloc: Global) -> Arg<'a>
+    ensures rule { rule_of result ≡ program.day }
+    ensures local { result.global ≡ false }
+{
+    Arg::new(alloc, "day")
+        .long("day")
+        .value_name("DAY")
+        .help(DAY)
+}
+
+/// `--all`.
+fn all_option<'a>(alloc: Global) -> Arg<'a>
+    ensures rule { rule_of result ≡ program.all }
+    ensures local { result.global ≡ false }
+{
+    Arg::new(alloc, "all")
+        .long("all")
+        .help(ALL)
+        .action(ArgAction::SetTrue)
 }
 
 /// The report of a run, by its place, which may be left out.
@@ -323,6 +362,20 @@ fn why_command<'a>(alloc: Global) -> Result<Command<'a>, AllocError>
         .arg(run_option(alloc))
 }
 
+/// `try HINT.. --conf SETUP [--db FILE] [--day DAY] [--all]`.
+fn try_command<'a>(alloc: Global) -> Result<Command<'a>, AllocError>
+    ensures { IfOk result (λ c. app_of c ≡ program.tries) }
+{
+    Command::new(alloc, "try")
+        .about(TRY)
+        .after_help(AFTER_TRY)
+        .arg(places(alloc, "HINT", HINT))?
+        .arg(conf_option(alloc))?
+        .arg(db_option(alloc, LOOKED_AT))?
+        .arg(day_option(alloc))?
+        .arg(all_option(alloc))
+}
+
 /// The command without its subcommands.
 fn bare_command<'a>(alloc: Global) -> Command<'a>
     ensures { app_of result ≡ program.bare }
@@ -372,6 +425,8 @@ fn command_of_nine<'a>(alloc: Global) -> Result<Command<'a>, AllocError>
 pub(crate) fn office_command<'a>(alloc: Global) -> Result<Command<'a>, AllocError>
     ensures { IfOk result (λ c. app_of c ≡ program.office) }
 {
-    let whole = command_of_nine(alloc)?.subcommand(why_command(alloc)?)?;
+    let whole = command_of_nine(alloc)?
+        .subcommand(why_command(alloc)?)?
+        .subcommand(try_command(alloc)?)?;
     Ok(whole)
 }

@@ -2,7 +2,7 @@
 
 ghost use Rattle.std.specs.Prelude.{◌≡◌, map, option_map, IfOk};
 ghost use Rattle.clap.specs.Words.{all_of, first_of, found_of, rows_of, subcommand_rows_of};
-ghost use Rattle.office_words.specs.Asked.{ToCheck, ToExport, ToTellRuns, asked, asked_by, command_in, compare_in, is_set, mail_in, number_of, replay_in, report_in, report_of, serve_in, asked_report, stored_in, waiting_in, why_in};
+ghost use Rattle.office_words.specs.Asked.{ToCheck, ToExport, ToTellRuns, asked, asked_by, command_in, compare_in, is_set, mail_in, number_of, replay_in, report_in, report_of, serve_in, asked_report, stored_in, try_in, waiting_in, why_in};
 
 use crate::Words;
 use crate::reports::{number_in, report_of};
@@ -174,6 +174,24 @@ fn why_words<'a>(alloc: Global, given: &ArgMatches<'a>) -> Result<Option<Words<'
     }
 }
 
+fn try_words<'a>(alloc: Global, given: &ArgMatches<'a>) -> Result<Option<Words<'a>>, AllocError>
+    ensures { IfOk result (λ words. option_map asked words ≡ try_in (rows_of (found_of given.now))) }
+{
+    let Some(conf) = text_of(given, "conf") else {
+        return Ok(None);
+    };
+    match texts_of(alloc, given, "HINT")? {
+        Some(hints) => Ok(Some(Words::Try {
+            conf,
+            db: text_of(given, "db"),
+            day: text_of(given, "day"),
+            all: is_set(given, "all"),
+            hints,
+        })),
+        None => Ok(None),
+    }
+}
+
 fn command_words<'a>(
     alloc: Global,
     name: &str,
@@ -192,6 +210,7 @@ fn command_words<'a>(
         "export" => Ok(export_words(given)),
         "check" => Ok(check_words(given)),
         "why" => why_words(alloc, given),
+        "try" => try_words(alloc, given),
         _ => Ok(None),
     }
 }

@@ -1,0 +1,6 @@
+pub mod CountFacts
+pub mod CoveredFacts
+pub mod HintFacts
+pub mod NextFacts
+pub mod OutcomeFacts
+pub mod TryFacts

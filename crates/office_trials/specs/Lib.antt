@@ -1,0 +1,4 @@
+pub mod Counting
+pub mod Hints
+pub mod NextRun
+pub mod Trial
