@@ -38,10 +38,10 @@ _office() {
             mapfile -t COMPREPLY < <(compgen -f -- "$current")
             return
             ;;
-        --port | --connections | --run) return ;;
+        --port | --connections | --run | --day) return ;;
     esac
     if ((COMP_CWORD == 1)); then
-        _office_words 'compare replay serve waiting report runs why mail export check --help --version' "$current"
+        _office_words 'compare replay serve waiting report runs why try mail export check --help --version' "$current"
         return
     fi
     case $command in
@@ -61,6 +61,7 @@ _office() {
             ;;
         runs | export | check) _office_words "$(_office_options --conf --db)" "$current" ;;
         why) _office_words "$(_office_options --conf --db --run)" "$current" ;;
+        try) _office_words "$(_office_options --conf --db --day --all)" "$current" ;;
         mail) _office_words "$(_office_options --conf --db --list)" "$current" ;;
         serve) _office_words "$(_office_options --conf --port --db --connections)" "$current" ;;
     esac
