@@ -1,6 +1,7 @@
 #!/usr/bin/env python3
 """A slow model of the office, written from its rules and formats alone: what a replay of well-formed mail prints.
 It decides no refusal of a text that is malformed: a row that has one says how it is refused."""
+import collections
 import datetime
 import re
 
@@ -118,11 +119,15 @@ def works(rows):
     return watched, good
 
 
+# What the last run knew of unstable's sources and rows, of hints in force and bugs, and what can be asked of it.
+Known = collections.namedtuple("Known", "sources rows hints bugs excuse named moved offender")
+
+
 class Office:
     def __init__(self):
         self.kept, self.finished = {}, 0
         self.sources, self.rows = {}, {}
-        self.reports, self.facts = {}, []
+        self.reports, self.facts, self.known = {}, [], None
 
     def deliver(self, text):
         ps = paragraphs(text)
@@ -214,11 +219,12 @@ class Office:
                     for i in (h[2:] if word == "age-days" else h[1:])
                     if i.split("/")[0] == s and vcmp(i.split("/")[1], v) == 0]
 
-        candidates, lines = {}, ["excuses %d %s" % (k, day)]
-        for s in sorted(unstable):
+        def excuse(s):
+            """The age of an unstable source, the days that it needs, the hints that ask for days, and why it is kept out;
+            none if testing has its version, or one above it."""
             v, old = unstable[s][1], self.sources.get(s)
             if old is not None and vcmp(v, old) <= 0:
-                continue
+                return None
             aged = named("age-days", s, v)
             if aged:
                 need = int(hints[max(aged)][1])
@@ -246,6 +252,14 @@ class Office:
                 why.append("blocked")
             if named("remove", s, v) or (old is not None and named("remove", s, old)):
                 why.append("removal asked")
+            return age, need, aged, why
+
+        candidates, lines = {}, ["excuses %d %s" % (k, day)]
+        for s in sorted(unstable):
+            v, old = unstable[s][1], self.sources.get(s)
+            if not excuse(s):
+                continue
+            age, need, _, why = excuse(s)
             lines += ["%s %s %s" % (s, old or "-", v), " age %d of %d" % (age, need)] + [" " + w for w in why]
             lines.append(" not a candidate" if why else " candidate")
             if not why:
@@ -323,6 +337,7 @@ class Office:
             lines.append("wait %s %s uninstallable %s %s" % (s, left[s], *offender(new, coming)))
         self.reports[k] = (excuses, "\n".join(lines) + "\n")
         self.facts = sorted(said + last_delays + self.gave(unstable, uploads, chosen, drops, bugs))
+        self.known = Known(unstable, chosen, standing, bugs, excuse, named, moved, offender)
 
     def gave(self, unstable, uploads, chosen, drops, bugs):
         """The messages that gave what a run knows, by kind: all but hints, their cancelling and days."""

@@ -5,9 +5,9 @@
 
 PROGRAM is the built program, `crates/office/out/office`. For each seed from FIRST to LAST (1-40) some of the mail of
 tests/rows/reopened_rows.py is left out. Then `office waiting` has to tell what the model misses, over the bag and over
-a store, `office report` the texts of each finished run, `office why` what they say of each source, `office runs` and
-`office mail` what they count, `office export` the kept mail, `office check` that all is whole, and the service the same
-on its pages. The bytes of the store's file have to be the same before and after. A copy of a store in which Python's
+a store, `office report` the texts of each finished run, `office why` what they say of each source, `office try` what
+hints would change in the next run, `office runs` and `office mail` what they count, `office export` the kept mail,
+`office check` that all is whole, and the service the same on its pages. The bytes of the store's file have to be the same before and after. A copy of a store in which Python's
 sqlite3 changes a text or a row has to be told by `office check`. A replay has to tell refused messages on standard
 error. Exit status 0 where all was as it is due.
 """
@@ -22,6 +22,7 @@ import urllib.request
 sys.dont_write_bytecode = True
 TESTS = os.path.join(os.path.dirname(os.path.abspath(__file__)), "..")
 sys.path.insert(0, os.path.join(TESTS, "rows"))
+from asked import tried as would_change
 from model import Office, SENDERS, paragraphs
 from reopened_rows import row_of
 from rows import mail, rows_of, steps_of
@@ -153,6 +154,32 @@ def texts_of(seed):
     return [text for text in texts if draw.random() >= lost]
 
 
+def drawn_hints(draw, office):
+    """One or two hints, most of which mean something to the next run."""
+    names = sorted({paragraphs(text)[0].get("source", "greeter") for text in office.kept.values()})
+    known = office.known.sources if office.known else {}
+    versions = {name: office.sources.get(name) or (known[name][1] if name in known else "1") for name in names}
+    unstable = ["%s/%s" % (name, known[name][1]) for name in names if name in known] or ["greeter/1"]
+    moving = " ".join(draw.sample(unstable, min(2, len(unstable))))
+    one = draw.choice(names or ["greeter"])
+    hints = ["easy " + moving, "remove %s/%s" % (one, versions.get(one, "1")), "block " + one, "unblock " + unstable[0],
+             "age-days %d %s" % (draw.choice([0, 100]), draw.choice(unstable)), "block-all source"]
+    return draw.sample(hints, draw.choice([1, 1, 2]))
+
+
+def over_trials(seed, office, store):
+    """What `office try` tells of hints that are drawn, and of one that is refused."""
+    draw = random.Random(seed)
+    for terms in [], ["--all"], ["--day", "2031-02-03"], ["--all", "--day", "2024-12-31"]:
+        hints = drawn_hints(draw, office)
+        day = terms[terms.index("--day") + 1] if "--day" in terms else None
+        due = would_change(office, hints, day, "--all" in terms) or ("", 3)
+        got = call("try", *hints, *terms, "--conf", CONF, "--db", store)
+        want("%d: try %s %s" % (seed, hints, terms), due, got)
+    got = call("try", "unblock", "--day", "2031-02-03", "--conf", CONF, "--db", store)
+    want("%d: a refused hint" % seed, ("", 3), got)
+
+
 def over_a_store(seed, office, store):
     """What a store with this mail tells, by the commands and by the service. Nothing in its file changes."""
     before = bytes_of(store)
@@ -175,6 +202,7 @@ def over_a_store(seed, office, store):
     want("%d: why in no run" % seed, ("", 1), got)
     got = call("report", str(office.finished + 1), "excuses", "--conf", CONF, "--db", store)
     want("%d: a report of no run" % seed, ("", 1), got)
+    over_trials(seed, office, store)
     stored = ["--conf", CONF, "--db", store]
     want("%d: runs" % seed, (run_lines(office), 0), call("runs", *stored))
     want("%d: mail" % seed, (mail_lines(office), 0), call("mail", *stored))
@@ -216,7 +244,7 @@ def words(folder):
             (["report", "testing", "update"], 2), (["report", "1", "testing"], 2), (["report", "1", "excuses"], 4),
             (["report", "testing"], 4), (["waiting"], 4), (["runs"], 4), (["mail"], 4), (["mail", "--list"], 4),
             (["export"], 4), (["check"], 4), (["runs", "--list"], 2), (["check", "--list"], 2), (["why", "greeter"], 4),
-            (["why"], 2), (["why", "greeter", "--run", "0"], 2)]
+            (["why"], 2), (["why", "greeter", "--run", "0"], 2), (["try", "block greeter"], 4), (["try"], 2)]
     for row, status in rows:
         want("words %s" % row, ("", status), call(*row, *stored))
         want("words %s, the file" % row, False, os.path.exists(none))

@@ -1,0 +1,174 @@
+"""What `office try` and `office why` tell, by model.py: a trial's whole text, and what is wrong with a text on a source."""
+import copy
+import datetime
+import re
+from model import ARCHS, SENDERS, satisfies, vcmp
+
+RELEASE, CLOCK = SENDERS.index("rt"), SENDERS.index("clock")
+NEED = re.compile(r"(\d+) (\S+) (\S+) of (\S+) (comes in|in testing), needs (.+): (nothing|\d+(?: and \d+)*)")
+
+
+def unbroken(kept, sender):
+    number = 0
+    while (sender, number + 1) in kept:
+        number += 1
+    return number
+
+
+def next_run(office, covers, day, hints):
+    """The office once its next run, which has these covers and this day, is finished with these hints behind the covered ones."""
+    late, run = copy.deepcopy(office), office.finished + 1
+    late.kept = {(s, n): text for (s, n), text in office.kept.items() if s == CLOCK and n < run or s != CLOCK and n <= covers[s]}
+    for number, hint in enumerate(hints, covers[RELEASE] + 1):
+        late.kept[RELEASE, number] = "From: rt\nNumber: %d\nKind: hint\nHint: %s\n" % (number, hint)
+    covers = [*covers]
+    covers[RELEASE] += len(hints)
+    stated = ", ".join("%s %d" % (SENDERS[s], n) for s, n in enumerate(covers) if s != CLOCK and n)
+    late.kept[CLOCK, run] = "From: clock\nNumber: %d\nKind: run\nDay: %s\nCovers: %s\n" % (run, day, stated)
+    late.finished = run
+    late.run(run)
+    return late
+
+
+def excuse_lines(report):
+    """The lines of excuses, each inner one behind its first line."""
+    lines, front = [], ""
+    for line in report.splitlines():
+        front = front if line.startswith(" ") else line
+        lines.append(front + line if line.startswith(" ") else line)
+    return lines
+
+
+def changes(kind, first, second):
+    gone = ["-%s %s\n" % (kind, line) for line in first if line not in second]
+    return "".join(gone + ["+%s %s\n" % (kind, line) for line in second if line not in first])
+
+
+def tried(office, hints, day=None, of_all=False):
+    """What hints would change in the next run, and the exit status of who asks; None where there is no date."""
+    covers, last = office.covers(office.finished) if office.finished else ([0] * len(SENDERS), None)
+    date = max(filter(None, [last, day]), default=None)
+    if date is None:
+        return None
+    covers = [unbroken(office.kept, s) if s != CLOCK and (of_all or s == RELEASE) else n for s, n in enumerate(covers)]
+    without, late = next_run(office, covers, date, []), next_run(office, covers, date, hints)
+    run = office.finished + 1
+    text = "".join("try %d %s rt %d %s\n" % (run, date, covers[RELEASE] + place, hint) for place, hint in enumerate(hints, 1))
+    (excuses, update), (others, decided) = without.reports[run], late.reports[run]
+    changed = changes("excuse", excuse_lines(excuses), excuse_lines(others))
+    changed += changes("update", update.splitlines(), decided.splitlines())
+    changed += changes("testing", without.testing().splitlines(), late.testing().splitlines())
+    return text + changed, 0 if changed else 1
+
+
+def origin_lines(office, source):
+    """Where the reasons come from that keep a source out, over the testing that the last run left."""
+    known, upload = office.known, office.known.sources.get(source)
+    if upload is None:
+        return []
+    _, version, _, day, sender, number = upload
+    lines, old = ["upload %s %d %s" % (SENDERS[sender], number, day)], office.sources.get(source)
+    _, need, aged, why = known.excuse(source) or (0, 0, [], [])
+    for reason in why:
+        words = reason.split()
+        if reason == "too young":
+            when = datetime.date.fromisoformat(day) + datetime.timedelta(days=need)
+            lines.append("old enough on %s by %s" % (when, "rt %d" % max(aged) if aged else "urgency"))
+        elif words[:2] == ["new", "bug"]:
+            lines.append("new bug %s by bts %d" % (words[2], known.bugs[int(words[2])][0]))
+        elif words[:2] == ["missing", "on"]:
+            rows = sorted((key, r) for key, r in known.rows.items() if key[0] == words[2] and r["source"] == source)
+            lines += ["missing on %s %s %s of %s by %s %d" % (words[2], name, r["version"], r["source_version"],
+                                                              SENDERS[r["message"][0]], r["message"][1]) for (_, name), r in rows]
+        elif reason == "blocked":
+            lines += ["blocked by rt %d" % n for n, h in known.hints if h[0] == "block-all" or h[0] == "block" and source in h[1:]]
+        elif reason == "removal asked":
+            asked = known.named("remove", source, version) + (known.named("remove", source, old) if old else [])
+            lines += ["removal asked by rt %d" % n for n in sorted({*asked})]
+    return lines
+
+
+def clause_text(clause):
+    return " | ".join(name if op is None else "%s (%s %s)" % (name, {"<": "<=", ">": ">="}.get(op, op), version)
+                      for name, op, version in clause)
+
+
+def meets(row, clause):
+    return any(satisfies(row, alternative) for alternative in clause)
+
+
+def state(office, source, row):
+    """How it stands with a row of unstable, where a source waits."""
+    known, of = office.known, row["source"]
+    if of not in known.sources or vcmp(row["source_version"], known.sources[of][1]) != 0:
+        return "isn't current"
+    if of == source:
+        return "comes too"
+    excuse = known.excuse(of)
+    if excuse is None:
+        return "is in testing"
+    return "isn't a candidate: " + ", ".join(excuse[3]) if excuse[3] else "waits"
+
+
+def on(arch, rows):
+    """The rows on an architecture, in order."""
+    places = ARCHS + ["all"]
+    here = sorted((places.index(key[0]), key[1], key) for key in rows if key[0] in (arch, "all"))
+    return [rows[key] for _, _, key in here]
+
+
+def behind_nothing(office, source, arch, clause):
+    """The lines behind one whose clause nothing meets."""
+    lines = ["leaves %s %s" % (r["package"], r["version"]) for r in on(arch, office.rows) if meets(r, clause)]
+    offers = [r for r in on(arch, office.known.rows) if meets(r, clause)]
+    lines += ["unstable %s %s of %s %s" % (r["package"], r["version"], r["source"], state(office, source, r)) for r in offers]
+    return lines if offers else lines + ["unstable nothing"]
+
+
+def need_of(line, rows, source, number):
+    """The row and the clause that a line of a refusal names, and the numbers of the lines that meet it; None if it names none."""
+    found = NEED.fullmatch(line)
+    if found is None or int(found.group(1)) != number:
+        return None
+    _, package, version, of, place, text, numbers = found.groups()
+    for row in rows:
+        for clause in row["clauses"]:
+            if (row["package"], row["version"], row["source"], clause_text(clause)) == (package, version, of, text) \
+                    and (place == "comes in") == (of == source):
+                return row, clause, [int(n) for n in numbers.split(" and ")] if numbers != "nothing" else []
+    return None
+
+
+def refusal_fault(office, source, lines):
+    """What is wrong with the lines that show why a source can't move alone; None if nothing is."""
+    rows, coming = office.known.moved([source])
+    arch, package = office.known.offender(rows, coming)
+    here, needs, rest = on(arch, rows), [], [*lines]
+    while rest:
+        line, found = rest[0], need_of(rest[0], here, source, len(needs) + 1)
+        if found is None:
+            return "no line of a refusal: %r" % line
+        needs.append(found)
+        due = behind_nothing(office, source, arch, found[1]) if not found[2] else []
+        if rest[1:1 + len(due)] != due:
+            return "behind %r: due %r" % (line, due)
+        rest = rest[1 + len(due):]
+    for number, (row, clause, numbers) in enumerate(needs, 1):
+        bearers = [r for r in here if meets(r, clause)]
+        if any(n <= number or n > len(needs) for n in numbers) or sorted(id(needs[n - 1][0]) for n in numbers) != sorted(map(id, bearers)):
+            return "line %d isn't groundless" % number
+    return None if needs and needs[0][0]["package"] == package else "another package than %s comes first" % package
+
+
+def why_fault(office, source, said, text):
+    """What is wrong with a text on a source of the last run, where these are the lines of its excuse, and those of the update
+    that name it; None if nothing is."""
+    own, named = said
+    front = ["why %d %s" % (office.finished, source), *own, *origin_lines(office, source), *named]
+    lines = text.splitlines()
+    if lines[:len(front)] != front:
+        return "due %r, got %r" % (front, lines)
+    waits = any(line.startswith("wait %s " % source) for line in named)
+    if not waits:
+        return "more lines than are due: %r" % lines[len(front):] if lines[len(front):] else None
+    return refusal_fault(office, source, lines[len(front):])
