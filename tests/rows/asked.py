@@ -1,4 +1,4 @@
-"""What `office try` and `office why` tell, by model.py: a trial's whole text, and what is wrong with a text on a source."""
+"""What `office try` tells, by model.py, and what is wrong with a text of `office why`."""
 import copy
 import datetime
 import re
@@ -16,9 +16,10 @@ def unbroken(kept, sender):
 
 
 def next_run(office, covers, day, hints):
-    """The office once its next run, which has these covers and this day, is finished with these hints behind the covered ones."""
+    """The office behind its next run, of these covers and this day, with these hints behind the covered ones."""
     late, run = copy.deepcopy(office), office.finished + 1
-    late.kept = {(s, n): text for (s, n), text in office.kept.items() if s == CLOCK and n < run or s != CLOCK and n <= covers[s]}
+    last = [run - 1 if s == CLOCK else n for s, n in enumerate(covers)]
+    late.kept = {(s, n): text for (s, n), text in office.kept.items() if n <= last[s]}
     for number, hint in enumerate(hints, covers[RELEASE] + 1):
         late.kept[RELEASE, number] = "From: rt\nNumber: %d\nKind: hint\nHint: %s\n" % (number, hint)
     covers = [*covers]
@@ -53,12 +54,18 @@ def tried(office, hints, day=None, of_all=False):
     covers = [unbroken(office.kept, s) if s != CLOCK and (of_all or s == RELEASE) else n for s, n in enumerate(covers)]
     without, late = next_run(office, covers, date, []), next_run(office, covers, date, hints)
     run = office.finished + 1
-    text = "".join("try %d %s rt %d %s\n" % (run, date, covers[RELEASE] + place, hint) for place, hint in enumerate(hints, 1))
+    numbered = enumerate(hints, covers[RELEASE] + 1)
+    text = "".join("try %d %s rt %d %s\n" % (run, date, number, hint) for number, hint in numbered)
     (excuses, update), (others, decided) = without.reports[run], late.reports[run]
     changed = changes("excuse", excuse_lines(excuses), excuse_lines(others))
     changed += changes("update", update.splitlines(), decided.splitlines())
     changed += changes("testing", without.testing().splitlines(), late.testing().splitlines())
     return text + changed, 0 if changed else 1
+
+
+def sent_by(row):
+    sender, number, _ = row["message"]
+    return "%s %d" % (SENDERS[sender], number)
 
 
 def origin_lines(office, source):
@@ -78,10 +85,11 @@ def origin_lines(office, source):
             lines.append("new bug %s by bts %d" % (words[2], known.bugs[int(words[2])][0]))
         elif words[:2] == ["missing", "on"]:
             rows = sorted((key, r) for key, r in known.rows.items() if key[0] == words[2] and r["source"] == source)
-            lines += ["missing on %s %s %s of %s by %s %d" % (words[2], name, r["version"], r["source_version"],
-                                                              SENDERS[r["message"][0]], r["message"][1]) for (_, name), r in rows]
+            lines += ["missing on %s %s %s of %s by %s" % (*key, r["version"], r["source_version"], sent_by(r))
+                      for key, r in rows]
         elif reason == "blocked":
-            lines += ["blocked by rt %d" % n for n, h in known.hints if h[0] == "block-all" or h[0] == "block" and source in h[1:]]
+            blocks = [n for n, h in known.hints if h[0] == "block-all" or h[0] == "block" and source in h[1:]]
+            lines += ["blocked by rt %d" % n for n in blocks]
         elif reason == "removal asked":
             asked = known.named("remove", source, version) + (known.named("remove", source, old) if old else [])
             lines += ["removal asked by rt %d" % n for n in sorted({*asked})]
@@ -121,12 +129,13 @@ def behind_nothing(office, source, arch, clause):
     """The lines behind one whose clause nothing meets."""
     lines = ["leaves %s %s" % (r["package"], r["version"]) for r in on(arch, office.rows) if meets(r, clause)]
     offers = [r for r in on(arch, office.known.rows) if meets(r, clause)]
-    lines += ["unstable %s %s of %s %s" % (r["package"], r["version"], r["source"], state(office, source, r)) for r in offers]
+    lines += ["unstable %s %s of %s %s" % (r["package"], r["version"], r["source"], state(office, source, r))
+              for r in offers]
     return lines if offers else lines + ["unstable nothing"]
 
 
 def need_of(line, rows, source, number):
-    """The row and the clause that a line of a refusal names, and the numbers of the lines that meet it; None if it names none."""
+    """The row and the clause that a line of a refusal names, and which lines meet it; None for another line."""
     found = NEED.fullmatch(line)
     if found is None or int(found.group(1)) != number:
         return None
@@ -155,14 +164,16 @@ def refusal_fault(office, source, lines):
         rest = rest[1 + len(due):]
     for number, (row, clause, numbers) in enumerate(needs, 1):
         bearers = [r for r in here if meets(r, clause)]
-        if any(n <= number or n > len(needs) for n in numbers) or sorted(id(needs[n - 1][0]) for n in numbers) != sorted(map(id, bearers)):
+        if any(n <= number or n > len(needs) for n in numbers):
+            return "line %d names another number" % number
+        if sorted(id(needs[n - 1][0]) for n in numbers) != sorted(map(id, bearers)):
             return "line %d isn't groundless" % number
     return None if needs and needs[0][0]["package"] == package else "another package than %s comes first" % package
 
 
 def why_fault(office, source, said, text):
-    """What is wrong with a text on a source of the last run, where these are the lines of its excuse, and those of the update
-    that name it; None if nothing is."""
+    """What is wrong with a text on a source of the last run, where these are the lines of its excuse, and those of the
+    update that name it; None if nothing is."""
     own, named = said
     front = ["why %d %s" % (office.finished, source), *own, *origin_lines(office, source), *named]
     lines = text.splitlines()

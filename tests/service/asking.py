@@ -5,11 +5,12 @@
 
 PROGRAM is the built program, `crates/office/out/office`. For each seed from FIRST to LAST (1-40) some of the mail of
 tests/rows/reopened_rows.py is left out. Then `office waiting` has to tell what the model misses, over the bag and over
-a store, `office report` the texts of each finished run, `office why` what they say of each source, `office try` what
-hints would change in the next run, `office runs` and `office mail` what they count, `office export` the kept mail,
-`office check` that all is whole, and the service the same on its pages. The bytes of the store's file have to be the same before and after. A copy of a store in which Python's
-sqlite3 changes a text or a row has to be told by `office check`. A replay has to tell refused messages on standard
-error. Exit status 0 where all was as it is due.
+a store, `office report` the texts of each finished run, `office why` what they say of each source, where its reasons
+come from and why it waits, `office try` what hints would change in the next run, `office runs` and `office mail` what
+they count, `office export` the kept mail, `office check` that all is whole, and the service the same on its pages. The
+bytes of the store's file have to be the same before and after. A copy of a store in which Python's sqlite3 changes a
+text or a row has to be told by `office check`. A replay has to tell refused messages on standard error. Exit status 0
+where all was as it is due.
 """
 import os
 import random
@@ -22,7 +23,7 @@ import urllib.request
 sys.dont_write_bytecode = True
 TESTS = os.path.join(os.path.dirname(os.path.abspath(__file__)), "..")
 sys.path.insert(0, os.path.join(TESTS, "rows"))
-from asked import tried as would_change
+from asked import tried as would_change, why_fault
 from model import Office, SENDERS, paragraphs
 from reopened_rows import row_of
 from rows import mail, rows_of, steps_of
@@ -95,19 +96,20 @@ def run_lines(office):
 
 
 def said(office, run, source):
-    """What a run says of a source, and whether it says anything."""
+    """The lines of a run's excuses that are of a source, and those of its update that name it."""
     excuses, update = [report.splitlines()[1:] for report in office.reports[run]]
     lines, own = [], False
     for line in excuses:
         own = own if line.startswith(" ") else line.split(" ")[0] == source
         lines += [line] * own
-    lines += [line for line in update if source in line.split(" ")[1:]]
-    return "".join("%s\n" % line for line in ["why %d %s" % (run, source)] + lines), bool(lines)
+    return lines, [line for line in update if source in line.split(" ")[1:]]
 
 
 def why(office, run, sources):
-    told = [said(office, run, source) for source in sources]
-    return "".join(text for text, _ in told), 0 if all(is_told for _, is_told in told) else 1
+    """What an earlier run says of sources, and the exit status: whether it says something of each."""
+    told = [sum(said(office, run, source), []) for source in sources]
+    lines = [["why %d %s" % (run, source), *lines] for source, lines in zip(sources, told)]
+    return "".join("%s\n" % line for of_one in lines for line in of_one), 0 if all(told) else 1
 
 
 def mail_lines(office):
@@ -191,13 +193,16 @@ def over_a_store(seed, office, store):
             got = call("report", str(run), report, "--conf", CONF, "--db", store)
             want("%d: report %d %s" % (seed, run, report), (text, 0), got)
     sources = sorted({paragraphs(text)[0].get("source", "greeter") for text in office.kept.values()}) or ["greeter"]
-    for run in range(1, office.finished + 1):
+    for run in range(1, office.finished):
         told = why(office, run, sources)
         got = call("why", *sources, "--run", str(run), "--conf", CONF, "--db", store)
         want("%d: why in run %d" % (seed, run), told, got)
-    if office.finished:
-        told = why(office, office.finished, sources[:1])
-        want("%d: why" % seed, told, call("why", sources[0], "--conf", CONF, "--db", store))
+    for source in sources if office.finished else []:
+        got, status = call("why", source, "--conf", CONF, "--db", store)
+        fault = why_fault(office, source, said(office, office.finished, source), got)
+        want("%d: why %s" % (seed, source), (None, 0 if len(got.splitlines()) > 1 else 1), (fault, status))
+        again = call("why", source, "--run", str(office.finished), "--conf", CONF, "--db", store)
+        want("%d: why %s in the last run" % (seed, source), (got, status), again)
     got = call("why", sources[0], "--run", str(office.finished + 1), "--conf", CONF, "--db", store)
     want("%d: why in no run" % seed, ("", 1), got)
     got = call("report", str(office.finished + 1), "excuses", "--conf", CONF, "--db", store)
@@ -211,19 +216,25 @@ def over_a_store(seed, office, store):
     want("%d: check" % seed, ("whole %d runs\n" % office.finished, 0), call("check", *stored))
     want("%d: the store's bytes" % seed, True, before == bytes_of(store))
     if seed % 5 == 0:
-        by_service(seed, office, store, due[0])
+        by_service(seed, office, store, due[0], sources if office.finished else [])
 
 
-def by_service(seed, office, store, due):
+def by_service(seed, office, store, due, sources):
+    """What the service tells on its pages. Of these sources, and of hints that are tried, it tells what
+    the commands tell."""
+    stored = ["--conf", CONF, "--db", store]
     pages = [("/waiting", due), ("/testing", office.testing())]
     pages += [("/update/%d" % run, office.reports[run][1]) for run in range(1, office.finished + 1)]
     pages += [("/runs", run_lines(office)), ("/kept", mail_lines(office))]
     pages += [("/kept/%s/%d" % (SENDERS[of], number), text) for (of, number), text in sorted(office.kept.items())]
-    words = [program, "serve", "--conf", CONF, "--port", str(port), "--connections", str(len(pages)), "--db", store]
+    pages += [("/why/%s" % name, call("why", name, *stored)[0]) for name in sources]
+    tries = [["block %s" % name for name in names] for names in (sources[:1], sources) if names]
+    pages += [("/try", call("try", *hints, *stored)[0], "\n".join(hints).encode()) for hints in tries]
+    words = [program, "serve", *stored[:2], "--port", str(port), "--connections", str(len(pages)), *stored[2:]]
     with subprocess.Popen(words, stdout=subprocess.PIPE) as service:
         service.stdout.readline()
-        for path, text in pages:
-            with urllib.request.urlopen("http://127.0.0.1:%d%s" % (port, path), timeout=20) as reply:
+        for path, text, *body in pages:
+            with urllib.request.urlopen("http://127.0.0.1:%d%s" % (port, path), *body, timeout=20) as reply:
                 want("%d: %s" % (seed, path), text, reply.read().decode())
 
 

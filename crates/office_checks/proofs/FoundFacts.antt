@@ -16,7 +16,7 @@ use Rattle.office_keeper.specs.declared.values.Reports.{Reports}
 use Rattle.office_facts.specs.Outcome.{covered_items, reports_of, testing_after}
 use Rattle.office_facts.specs.State.{IsOffice, KeepsFacts}
 use Rattle.office_orders.proofs.ReadyCount.{IsReady-down}
-use Rattle.office_runs.proofs.FinishFacts.{report_is}
+use Rattle.office_facts.proofs.ReportFacts.{report_is}
 use Rattle.office_checks.specs.Comparing.{IsCompared, IsMade, IsShort, IsUnlike, IsUnmade, found_by}
 use Rattle.office_checks.specs.Reading.{IsFront}
 use Rattle.office_checks.specs.Whole.{AreOfSenders, IsDifference, IsFound, excuses_at, update_at}

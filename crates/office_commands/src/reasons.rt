@@ -1,7 +1,7 @@
-//! What a finished run says of sources.
+//! Why sources stand where a run left them.
 
 ghost use Rattle.std.specs.Prelude.{◌≡◌, IfOk};
-ghost use Rattle.office_commands.specs.Told.{why_text};
+ghost use Rattle.office_commands.specs.Told.{IsSourceText, source_text};
 ghost use Rattle.office_facts.specs.State.{IsSound, state_of};
 
 use crate::tasks::{
@@ -20,8 +20,9 @@ use std::io;
 /// The exit status where the run isn't finished, or says nothing of a source.
 const SILENT: u8 = 1;
 
-/// Tells what a run said of sources, for the setup in a file, over the store in another or over the bag on standard input,
-/// and gives the exit status. Without a run it is the last finished one.
+/// Tells why sources stand where the last finished run left them, or what an earlier run said of them, for the setup in a
+/// file, over the store in another or over the bag on standard input, and gives the exit status. Without a run it is the
+/// last finished one.
 pub fn why_for(
     rt: &HostRuntime,
     conf: &str,
@@ -73,7 +74,7 @@ fn why_in_memory(rt: &HostRuntime, setup: Setup, run: Option<u32>, sources: &[&s
     }
 }
 
-/// Prints what a run of an office says of sources, and gives the exit status.
+/// Prints what is told of sources for a run of an office, and gives the exit status.
 fn tell_why<K: Keeper>(
     rt: &HostRuntime,
     office: &mut Office<K>,
@@ -94,7 +95,7 @@ fn run_of<K: Keeper>(office: &mut Office<K>, run: Option<u32>) -> Result<u32, St
     }
 }
 
-/// Prints what a run says of each source, and gives the exit status.
+/// Prints what is told of each source for a run, and gives the exit status.
 fn tell_sources<K: Keeper>(
     rt: &HostRuntime,
     office: &mut Office<K>,
@@ -112,9 +113,9 @@ fn tell_sources<K: Keeper>(
     status
 }
 
-/// Prints what a run says of a source, and gives the exit status. Nothing is printed where the run isn't finished.
+/// Prints what is told of a source for a run, and gives the exit status. Nothing is printed where the run isn't finished.
 fn tell_source<K: Keeper>(rt: &HostRuntime, office: &mut Office<K>, run: u32, source: &str) -> u8 {
-    match why_text(office, run, source) {
+    match told_text(office, run, source) {
         Ok(Some(text)) => print_text(rt, &text, status_of(&text)),
         Ok(None) => SILENT,
         Err(fault) => refuse(rt, fault),
@@ -131,14 +132,16 @@ fn status_of(text: &Text) -> u8 {
 }
 
 /// What a run says of a source, none where the run isn't finished.
-fn why_text<K: Keeper>(
+fn said_text<K: Keeper>(
     office: &mut Office<K>,
     run: u32,
     source: &str,
 ) -> Result<Option<Text>, StoreFault>
-    ensures text { K.is_trusted office.new → IsSound K.Keeper office.old → IfOk result (λ text. text ≡ why_text (state_of K.Keeper office.old) run source.now) }
+    ensures text { K.is_trusted office.new → IsSound K.Keeper office.old → IfOk result (λ text. text ≡ source_text (state_of K.Keeper office.old) run source.now) }
     // Nothing is finished and nothing else changes.
     ensures same { K.is_trusted office.new → K.content office.new ≡ K.content office.old }
+    ensures setup { K.setup office.new ≡ K.setup office.old }
+    ensures before { K.is_trusted office.new → K.is_trusted office.old }
 {
     let excuses = office.excuses_text(run)?;
     let update = office.update_text(run)?;
@@ -150,9 +153,28 @@ fn why_text<K: Keeper>(
                 source,
                 excuses.as_str(),
                 update.as_str(),
+                "",
             )?;
             Ok(Some(said))
         }
         _ => Ok(None),
+    }
+}
+
+/// Why a source stands where the last finished run left it, or what another run says of it: none where that run isn't
+/// finished.
+fn told_text<K: Keeper>(
+    office: &mut Office<K>,
+    run: u32,
+    source: &str,
+) -> Result<Option<Text>, StoreFault>
+    ensures told { K.is_trusted office.new → IsSound K.Keeper office.old → IfOk result (IsSourceText (state_of K.Keeper office.old) run source.now) }
+    ensures same { K.is_trusted office.new → K.content office.new ≡ K.content office.old }
+{
+    let finished = office.finished()?;
+    if run == finished {
+        office.why_text(source)
+    } else {
+        said_text(office, run, source)
     }
 }

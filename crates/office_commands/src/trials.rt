@@ -9,7 +9,7 @@ use office_files::{open_store, read_setup};
 use office_http::{Office, StoreFault};
 use office_mail::Setup;
 use office_replies::{DeliverFault, fault_words, name_at};
-use office_runs::runs::release_place;
+use office_rules::release_place;
 use office_setup::values::day_in;
 use office_store::{Keeper, Plain};
 use office_trials::{RefusedHint, Terms, Trial, Tried, has_changes, tried_text, try_hints};

@@ -1,8 +1,10 @@
 pub mod AgainFacts
 pub mod CoverFacts
+pub mod FinishedFacts
 pub mod GivenFacts
 pub mod KeptRows
 pub mod KnownStand
+pub mod ReportFacts
 pub mod RestoringFacts
 pub mod SaidFacts
 pub mod SaidLetters

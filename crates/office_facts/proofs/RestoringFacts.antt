@@ -130,6 +130,10 @@ logs_stay : (xs : List Given) (f : FactLists) → ((restored_all xs f).came ≡ 
 logs_stay [] f = (refl, refl)
 logs_stay (x ∷ xs) f = logs_stay xs (restored x f)
 
+pub back_logs : (s : Covered) (rows : List FactRow) (f : FactLists) → HavePutBack s rows no_facts f → (f.came ≡ []) × (f.left ≡ [])
+back_logs s rows f back =
+    let logs = logs_stay back.given no_facts in (ap (λ (g : FactLists). g.came) back.become ∙ logs.0, ap (λ (g : FactLists). g.left) back.become ∙ logs.1)
+
 none_told : (s : Covered) → Tells no_facts s
 unfolding IsStrictlySortedBy
 none_told s = record {
@@ -155,9 +159,9 @@ pub whole_back : (setup : Lists) (content : Content) (rows : List FactRow) (f : 
 whole_back setup content rows f are size by back =
     let long : length (rows_of (restored_all back.given no_facts)) ≡ length back.given =
     ap (λ (g : FactLists). length (rows_of g)) (sym back.become) ∙ size ∙ ap length (sym back.same) ∙ length-map back.given (λ (x : Given). x.0) in
-    let logs = logs_stay back.given no_facts in
-    let came : f.came ≡ [] = ap (λ (g : FactLists). g.came) back.become ∙ logs.0 in
-    let left : f.left ≡ [] = ap (λ (g : FactLists). g.left) back.become ∙ logs.1 in
+    let logs = back_logs (said_all setup content.kept) rows f back in
+    let came : f.came ≡ [] = logs.0 in
+    let left : f.left ≡ [] = logs.1 in
     let count : (r : FactRow) → times r (rows_of f) ≡ count_in content.facts r = λ r.
     ap (λ (g : FactLists). times r (rows_of g)) back.become ∙ all_came back.given long r ∙ ap (times r) (back.same ∙ are) ∙ times-rows_in content.facts r in
     record {

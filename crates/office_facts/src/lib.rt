@@ -2,6 +2,7 @@
 #![tactic(auto)]
 
 pub mod covered;
+pub mod finished;
 pub mod restoring;
 pub mod retaking;
 pub mod taking;

@@ -1,5 +1,6 @@
 -- One state has one answer to a request.
-use Rattle.std.proofs.Common.{◌≡◌, ℕ, ◌+◌, true, List, ◌++◌, length, flat_map, Option, Some, None, refl, ap, subst, ◌∙◌, arith}
+use Rattle.std.proofs.Common.{◌≡◌, ℕ, ◌+◌, List, ◌++◌, length, flat_map, Option, Some, None, Ok, refl, ap, subst, ◌∙◌, arith}
+use Rattle.std.specs.Option.{option_map}
 use Rattle.office_mail.specs.Kept.{Kept}
 use Rattle.office_mail.specs.Lists.{Lists}
 use Rattle.office_mail.specs.Runs.{IsReadyCount}
@@ -9,17 +10,21 @@ use Rattle.office_replies.specs.Waiting.{lack_line, awaited_lines, waiting_text}
 use Rattle.office_replies.specs.declared.waiting.Awaited.{Awaited}
 use Rattle.office_replies.specs.declared.waiting.Awaited.TheVariants.{Order, Mail}
 use Rattle.office_replies.specs.declared.waiting.Lack.{Lack}
+use Rattle.office_requests.specs.declared.reply.Answer.{Answer}
 use Rattle.office_requests.specs.declared.reply.Answer.TheVariants.{Status, Told}
 use Rattle.office_requests.specs.declared.request.Action.{Action}
-use Rattle.office_requests.specs.declared.request.Action.TheVariants.{Deliver, Settle}
+use Rattle.office_requests.specs.declared.request.Action.TheVariants.{Deliver, Settle, Try}
 use Rattle.office_requests.specs.declared.request.Asked.{Asked}
 use Rattle.office_requests.specs.declared.request.Asked.TheVariants as asks
 use Rattle.office_requests.specs.declared.request.Page.{Page}
 use Rattle.office_requests.specs.declared.request.Page.TheVariants as page
+use Rattle.office_requests.specs.declared.request.Posted.{Posted}
+use Rattle.office_trials.specs.declared.Trial.{Trial}
 use Rattle.office_facts.specs.OfficeState.{OfficeState}
 use Rattle.office_orders.specs.Waiting.{Awaits, AwaitsBy}
 use Rattle.office_orders.proofs.WaitingFacts.{one_list}
-use Rattle.office_http.specs.Serve.{page_answer, page_counts, page_awaits, post_answer, post_counts, posted_body, answer_of, counts_ready, tells_awaited}
+use Rattle.office_http.specs.Serve.{action_answer, body_of, page_answer, post_answer, answer_of, report_answer, Found, IsFound, IsFoundBy, IsFoundByPost, IsFoundFor}
+use Rattle.office_http.specs.Trials.{tried_answer}
 
 one_count : (setup : Lists) (kept : Kept) (n m : ℕ) → IsReadyCount setup kept n → IsReadyCount setup kept m → n ≡ m
 one_count setup kept n m h g = omega (arith, h.none_above m g.holds, g.none_above n h.holds)
@@ -32,28 +37,39 @@ same_lines setup kept run (Some order) Order y h g = absurd h
 same_lines setup kept run (Some order) (Mail a) Order h g = absurd g
 same_lines setup kept run (Some order) (Mail a) (Mail b) h g = ap (λ (l : List Lack). flat_map (lack_line setup run) l) (one_list kept order (length setup.senders) a.items b.items h g)
 
-same_text : (s : OfficeState) (n m : ℕ) (x y : Awaited) → n ≡ m → Awaits s.setup s.kept (n + 1) x → Awaits s.setup s.kept (m + 1) y → page_answer s n x page.Waiting ≡ page_answer s m y page.Waiting
+-- what is told of the run behind so many ready ones
+abbrev waits : OfficeState → ℕ → Awaited → Answer
+waits s n x = Told (waiting_text s.setup (record { progress = record { ready = n; finished = s.finished }; awaited = x }))
+
+same_text : (s : OfficeState) (n m : ℕ) (x y : Awaited) → n ≡ m → Awaits s.setup s.kept (n + 1) x → Awaits s.setup s.kept (m + 1) y → waits s n x ≡ waits s m y
 unfolding waiting_text
 same_text s n m x y e h g =
-    ap (λ (k : ℕ). page_answer s k x page.Waiting) e
+    ap (λ (k : ℕ). waits s k x) e
     ∙ ap (λ (l : List ℕ). Told (status_line m s.finished ++ l)) (same_lines s.setup s.kept (m + 1) _ x y (subst (λ (k : ℕ). Awaits s.setup s.kept (k + 1) x) e h) g)
 
-one_page : (s : OfficeState) (p : Page) (n m : ℕ) (x y : Awaited) → (page_counts p ≡ true → IsReadyCount s.setup s.kept n) → (page_counts p ≡ true → IsReadyCount s.setup s.kept m) → (page_awaits p ≡ true → Awaits s.setup s.kept (n + 1) x) → (page_awaits p ≡ true → Awaits s.setup s.kept (m + 1) y) → page_answer s n x p ≡ page_answer s m y p
-one_page s page.Status n m x y a b h g = ap (λ (k : ℕ). Status (record { ready = k; finished = s.finished })) (one_count s.setup s.kept n m (a refl) (b refl))
-one_page s page.Testing n m x y a b h g = refl
-one_page s (page.Excuses run) n m x y a b h g = refl
-one_page s (page.Update run) n m x y a b h g = refl
-one_page s page.Runs n m x y a b h g = refl
-one_page s page.Kept n m x y a b h g = refl
-one_page s (page.Letter sender number) n m x y a b h g = refl
-one_page s page.Waiting n m x y a b h g = same_text s n m x y (one_count s.setup s.kept n m (a refl) (b refl)) (h refl) (g refl)
+one_page : (s : OfficeState) (p : Page) (x y : Found) → IsFoundFor s x p → IsFoundFor s y p → ((source : List ℕ) → p ≡ page.Why source → x.why ≡ y.why) → page_answer s x p ≡ page_answer s y p
+one_page s page.Status x y h g told = ap (λ (k : ℕ). Status (record { ready = k; finished = s.finished })) (one_count s.setup s.kept x.ready y.ready h g)
+one_page s page.Testing x y h g told = refl
+one_page s (page.Excuses run) x y h g told = refl
+one_page s (page.Update run) x y h g told = refl
+one_page s page.Runs x y h g told = refl
+one_page s page.Kept x y h g told = refl
+one_page s (page.Letter sender number) x y h g told = refl
+one_page s (page.Why source) x y h g told = ap (λ (o : Option (List ℕ)). report_answer (Ok o)) (told source refl)
+one_page s page.Waiting x y h g told = same_text s x.ready y.ready x.awaited y.awaited (one_count s.setup s.kept x.ready y.ready h.0 g.0) h.1 g.1
 
-one_post : (s : OfficeState) (post : Option (Action × List ℕ)) (n m : ℕ) → (post_counts post ≡ true → IsReadyCount s.setup s.kept n) → (post_counts post ≡ true → IsReadyCount s.setup s.kept m) → post_answer s n post ≡ post_answer s m post
-one_post s None n m a b = refl
-one_post s (Some (Deliver, body)) n m a b = refl
-one_post s (Some (Settle, body)) n m a b = ap (λ (k : ℕ). Status (record { ready = k; finished = k })) (one_count s.setup s.kept n m (a refl) (b refl))
+one_action : (s : OfficeState) (action : Action) (body : List ℕ) (x y : Found) → IsFoundBy s x action body → IsFoundBy s y action body → (action ≡ Try → x.trial ≡ y.trial) → action_answer s x action body ≡ action_answer s y action body
+one_action s Deliver body x y h g tried = refl
+one_action s Settle body x y h g tried = ap (λ (k : ℕ). Status (record { ready = k; finished = k })) (one_count s.setup s.kept x.ready y.ready h g)
+one_action s Try body x y h g tried = ap (λ (t : Trial). tried_answer s.setup body t) (tried refl)
 
-pub one_answer : (s : OfficeState) (asked : Asked) (rest : List ℕ) (n m : ℕ) (x y : Awaited) → (counts_ready asked rest ≡ true → IsReadyCount s.setup s.kept n) → (counts_ready asked rest ≡ true → IsReadyCount s.setup s.kept m) → (tells_awaited asked ≡ true → Awaits s.setup s.kept (n + 1) x) → (tells_awaited asked ≡ true → Awaits s.setup s.kept (m + 1) y) → answer_of s n x asked rest ≡ answer_of s m y asked rest
-one_answer s (asks.Refused r) rest n m x y a b h g = refl
-one_answer s (asks.Tell p) rest n m x y a b h g = one_page s p n m x y a b h g
-one_answer s (asks.Post p) rest n m x y a b h g = one_post s (posted_body (asks.Post p) rest) n m a b
+one_post : (s : OfficeState) (action : Action) (body : Option (List ℕ)) (x y : Found) → IsFoundByPost s x (option_map (λ (b : List ℕ). (action, b)) body) → IsFoundByPost s y (option_map (λ (b : List ℕ). (action, b)) body) → (action ≡ Try → x.trial ≡ y.trial)
+    → post_answer s x (option_map (λ (b : List ℕ). (action, b)) body) ≡ post_answer s y (option_map (λ (b : List ℕ). (action, b)) body)
+one_post s action None x y h g tried = refl
+one_post s action (Some body) x y h g tried = one_action s action body x y h g tried
+
+pub one_answer : (s : OfficeState) (asked : Asked) (rest : List ℕ) (x y : Found) → IsFound s x asked rest → IsFound s y asked rest → ((source : List ℕ) → asked ≡ asks.Tell (page.Why source) → x.why ≡ y.why)
+    → ((p : Posted) → asked ≡ asks.Post p → p.action ≡ Try → x.trial ≡ y.trial) → answer_of s x asked rest ≡ answer_of s y asked rest
+one_answer s (asks.Refused r) rest x y h g told tried = refl
+one_answer s (asks.Tell p) rest x y h g told tried = one_page s p x y h g (λ source e. told source (ap (λ (q : Page). asks.Tell q) e))
+one_answer s (asks.Post p) rest x y h g told tried = one_post s p.action (body_of p.length rest) x y h g (tried p refl)

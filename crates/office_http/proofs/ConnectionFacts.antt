@@ -4,7 +4,7 @@ use Rattle.office_mail.specs.Kept.{Within}
 use Rattle.office_mail.proofs.KeptFacts.{kept_from-Within}
 use Rattle.office_replies.specs.declared.faults.StoreFault.{StoreFault}
 use Rattle.office_requests.specs.declared.request.Action.{Action}
-use Rattle.office_requests.specs.declared.request.Action.TheVariants.{Deliver, Settle}
+use Rattle.office_requests.specs.declared.request.Action.TheVariants.{Deliver, Settle, Try}
 use Rattle.office_http.specs.declared.serve.ServeFault.{ServeFault}
 use Rattle.office_http.specs.declared.serve.ServeFault.TheVariants.{Read, Write}
 use Rattle.office_http.specs.declared.serve.Served.{Served}
@@ -16,13 +16,14 @@ within_by : (s : OfficeState) (action : Action) (body : List ℕ) (fault : Optio
 within_by s Deliver body None = kept_from-Within s.setup s.kept (body ∷ [])
 within_by s Deliver body (Some f) = λ p h. refl
 within_by s Settle body fault = λ p h. refl
+within_by s Try body fault = λ p h. refl
 
 grows_does : (before after : OfficeState) (post : Option (Action × List ℕ)) (fault : Option StoreFault) (ready : ℕ) (rose : Type 0) → Does before after post fault ready rose → Grows before after
 grows_does before after None fault ready rose h = grows_same before after h
 grows_does before after (Some post) fault ready rose m = record { kept = subst (Within before.kept) (sym m.kept) (within_by before post.0 post.1 fault); finished = m.grows }
 
 grows_served : (before after : OfficeState) (left : Option (List ℕ)) (input bytes : List ℕ) (code : ℕ) (rose : Type 0) → IsServed before after left input bytes code rose → Grows before after
-grows_served before after left input bytes code rose h = ⊎_elim (λ e. grows_does before after _ e.fault e.ready rose e.does) (λ u. grows_same before after u.same) h
+grows_served before after left input bytes code rose h = ⊎_elim (λ e. grows_does before after _ e.fault e.found.ready rose e.does) (λ u. grows_same before after u.same) h
 
 grows_serves : (before after : OfficeState) (l0 l1 w0 w1 : Option (List ℕ)) (code : Option ℕ) (rose : Type 0) → Serves before after l0 l1 w0 w1 code rose → Grows before after
 grows_serves before after l0 l1 w0 w1 None rose s = grows_same before after s.same

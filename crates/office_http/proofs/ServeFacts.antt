@@ -2,7 +2,8 @@
 use Rattle.std.proofs.Common.{◌≡◌, inl, inr, ⊎_elim, ℕ, ◌+◌, ◌-◌, ◌≤◌, ◌<◌, Bool, true, false, cond, nat_le, List, [], ◌++◌, length, take, drop, Option, Some, None, Result, Ok, Err, IfOk, IfErr, IfSome, OnOk, is_ok, refl, sym, ap, subst, ◌∙◌, arith, append_assoc, append-nil, ◌⊎◌}
 use Rattle.std.specs.Option.{option_map}
 use Rattle.std.specs.FinMap.{get}
-use Rattle.std.specs.Io.KnownBytes.{Appends, Consumes}
+use Rattle.std.specs.Str.{is_utf8}
+use Rattle.std.specs.Io.KnownBytes.{Appends, Consumes, IsAtEnd}
 use Rattle.std.proofs.KnownBytes.{Appends-nil, Appends-trans, Consumes-nil, Consumes-trans}
 use Rattle.std.proofs.lemmas.Bool.Decides.{nat_tests}
 use Rattle.std.proofs.lemmas.List.{drop-append-le, length-append, length-drop}
@@ -27,9 +28,9 @@ use Rattle.office_replies.specs.declared.waiting.Awaited.TheVariants.{Order}
 use Rattle.office_requests.specs.declared.reply.Refusal.{Refusal}
 use Rattle.office_requests.specs.declared.reply.Refusal.TheVariants as refusal
 use Rattle.office_requests.specs.declared.reply.Answer.{Answer}
-use Rattle.office_requests.specs.declared.reply.Answer.TheVariants.{Refused, Status, Told}
+use Rattle.office_requests.specs.declared.reply.Answer.TheVariants.{Refused, Delivered, Status, Told}
 use Rattle.office_requests.specs.declared.request.Action.{Action}
-use Rattle.office_requests.specs.declared.request.Action.TheVariants.{Deliver, Settle}
+use Rattle.office_requests.specs.declared.request.Action.TheVariants.{Deliver, Settle, Try}
 use Rattle.office_requests.specs.declared.request.Page.{Page}
 use Rattle.office_requests.specs.declared.request.Page.TheVariants as page
 use Rattle.office_requests.specs.declared.request.Posted.{Posted}
@@ -50,55 +51,71 @@ use Rattle.office_requests.specs.RequestSteps.{Came, IsHeadAt}
 use Rattle.office_facts.specs.OfficeState.{OfficeState}
 use Rattle.office_facts.specs.State.{answer_to, reports_at}
 use Rattle.office_replies.specs.Written.{AppendsFront}
-use Rattle.office_http.specs.Serve.{mail_counts, page_answer, page_awaits, page_counts, refusal_for, report_answer, letter_answer, delivery_answer, by_fault, posted_body, post_answer, answer_of, post_counts, waits_of, continued, kept_by, settles, Does, Exchange, IsUnread, IsServed, Replied, RepliedFront, Serves, IsAwaited, StopsBefore, StopsServe}
-use Rattle.office_http.specs.ServeSteps.{status_answer, text_answer, Tells, TellsAwaited, Runs, Answers, ServesHead, ServesFront, StopsRequest}
+use Rattle.office_trials.specs.declared.Trial.TheVariants.{NoDate}
+use Rattle.office_http.specs.Serve.{mail_counts, page_answer, refusal_for, report_answer, letter_answer, delivery_answer, by_fault, posted_body, post_answer, answer_of, waits_of, continued, kept_by, settles, Does, Exchange, Found, IsFoundByPost, IsFoundFor, IsUnread, IsServed, Moves, Replied, RepliedFront, Serves, IsAwaited, StopsBefore, StopsServe}
+use Rattle.office_reasons.specs.Why.{IsWhy}
+use Rattle.office_http.specs.Trials.{hints_in, trial_answer}
+use Rattle.office_http.specs.ServeSteps.{answer_or, status_answer, text_answer, Tells, TellsAwaited, TellsTrial, Runs, Answers, ServesHead, ServesFront, StopsRequest}
 use Rattle.office_replays.proofs.ReplayFacts.{Leaves, reply_by-mark, delivery_counted, kept_after}
 use Rattle.office_replays.proofs.RiseFacts.{delivery_weaker, text_weaker}
 use Rattle.office_replays.specs.DeliverySteps.{Settles}
 use Rattle.office_replies.proofs.WrittenFacts.{front_after}
 
--- pages
-pub told_status : (rose : Type 0) (s : OfficeState) (r : Result Progress StoreFault) → IfOk r (λ p. IsReadyCount s.setup s.kept p.ready) → IfOk r (λ p. p.finished ≡ s.finished) → (r ≡ Err fault.Store → rose) → Tells s page.Status (status_answer r) rose
-told_status rose s (Ok p) counted finished err = record { fault = None; by_store = tt; ready = p.ready; counts = λ e h. counted; awaited = Order; awaits = λ e h. absurd (cc (h)); answer_is = ap (λ (n : ℕ). Status (record { ready = p.ready; finished = n })) finished }
-told_status rose s (Err fault.NoMemory) counted finished err = record { fault = Some fault.NoMemory; by_store = tt; ready = 0; counts = λ e. absurd (cc (e)); awaited = Order; awaits = λ e. absurd (cc (e)); answer_is = refl }
-told_status rose s (Err fault.Store) counted finished err = record { fault = Some fault.Store; by_store = err refl; ready = 0; counts = λ e. absurd (cc (e)); awaited = Order; awaits = λ e. absurd (cc (e)); answer_is = refl }
+-- where nothing is found that the answer tells
+abbrev nothing : Found
+nothing = record { ready = 0; awaited = Order; why = None; trial = NoDate }
 
-pub told_testing : (rose : Type 0) (s : OfficeState) (r : Result (List ℕ) StoreFault) → IfOk r (λ t. t ≡ testing_text s.setup s.finished (testing_after s.setup s.kept s.finished)) → (r ≡ Err fault.Store → rose) → Tells s page.Testing (text_answer r) rose
-told_testing rose s (Ok t) is err = record { fault = None; by_store = tt; ready = 0; counts = λ e h. absurd (cc (h)); awaited = Order; awaits = λ e h. absurd (cc (h)); answer_is = ap Told is }
-told_testing rose s (Err fault.NoMemory) is err = record { fault = Some fault.NoMemory; by_store = tt; ready = 0; counts = λ e. absurd (cc (e)); awaited = Order; awaits = λ e. absurd (cc (e)); answer_is = refl }
-told_testing rose s (Err fault.Store) is err = record { fault = Some fault.Store; by_store = err refl; ready = 0; counts = λ e. absurd (cc (e)); awaited = Order; awaits = λ e. absurd (cc (e)); answer_is = refl }
+abbrev ready_runs : ℕ → Found
+ready_runs n = record { ready = n; awaited = Order; why = None; trial = NoDate }
+
+-- pages
+told_missed : (rose : Type 0) (s : OfficeState) (p : Page) (f : StoreFault) → TextCounted rose (Some f) → Tells s p (Refused (refusal_for f)) rose
+told_missed rose s p f by = record { fault = Some f; by_store = by; found = nothing; is = λ e. absurd (cc (e)); answer_is = refl }
+
+pub told_status : (rose : Type 0) (s : OfficeState) (r : Result Progress StoreFault) → IfOk r (λ p. IsReadyCount s.setup s.kept p.ready) → IfOk r (λ p. p.finished ≡ s.finished) → (r ≡ Err fault.Store → rose) → Tells s page.Status (status_answer r) rose
+told_status rose s (Ok p) counted finished err = record { fault = None; by_store = tt; found = ready_runs p.ready; is = λ e. counted; answer_is = ap (λ (n : ℕ). Status (record { ready = p.ready; finished = n })) finished }
+told_status rose s (Err fault.NoMemory) counted finished err = told_missed rose s page.Status fault.NoMemory tt
+told_status rose s (Err fault.Store) counted finished err = told_missed rose s page.Status fault.Store (err refl)
 
 pub told_excuses : (rose : Type 0) (s : OfficeState) (run : ℕ) (r : Result (Option (List ℕ)) StoreFault) → IfOk r (λ t. t ≡ option_map (λ reports. reports.excuses) (reports_at s run)) → (r ≡ Err fault.Store → rose) → Tells s (page.Excuses run) (report_answer r) rose
-told_excuses rose s run (Ok t) is err = record { fault = None; by_store = tt; ready = 0; counts = λ e h. absurd (cc (h)); awaited = Order; awaits = λ e h. absurd (cc (h)); answer_is = ap (λ (o : Option (List ℕ)). report_answer (Ok o)) is }
-told_excuses rose s run (Err fault.NoMemory) is err = record { fault = Some fault.NoMemory; by_store = tt; ready = 0; counts = λ e. absurd (cc (e)); awaited = Order; awaits = λ e. absurd (cc (e)); answer_is = refl }
-told_excuses rose s run (Err fault.Store) is err = record { fault = Some fault.Store; by_store = err refl; ready = 0; counts = λ e. absurd (cc (e)); awaited = Order; awaits = λ e. absurd (cc (e)); answer_is = refl }
+told_excuses rose s run (Ok t) is err = record { fault = None; by_store = tt; found = nothing; is = λ e. tt; answer_is = ap (λ (o : Option (List ℕ)). report_answer (Ok o)) is }
+told_excuses rose s run (Err fault.NoMemory) is err = told_missed rose s (page.Excuses run) fault.NoMemory tt
+told_excuses rose s run (Err fault.Store) is err = told_missed rose s (page.Excuses run) fault.Store (err refl)
 
 pub told_update : (rose : Type 0) (s : OfficeState) (run : ℕ) (r : Result (Option (List ℕ)) StoreFault) → IfOk r (λ t. t ≡ option_map (λ reports. reports.updates) (reports_at s run)) → (r ≡ Err fault.Store → rose) → Tells s (page.Update run) (report_answer r) rose
-told_update rose s run (Ok t) is err = record { fault = None; by_store = tt; ready = 0; counts = λ e h. absurd (cc (h)); awaited = Order; awaits = λ e h. absurd (cc (h)); answer_is = ap (λ (o : Option (List ℕ)). report_answer (Ok o)) is }
-told_update rose s run (Err fault.NoMemory) is err = record { fault = Some fault.NoMemory; by_store = tt; ready = 0; counts = λ e. absurd (cc (e)); awaited = Order; awaits = λ e. absurd (cc (e)); answer_is = refl }
-told_update rose s run (Err fault.Store) is err = record { fault = Some fault.Store; by_store = err refl; ready = 0; counts = λ e. absurd (cc (e)); awaited = Order; awaits = λ e. absurd (cc (e)); answer_is = refl }
+told_update rose s run (Ok t) is err = record { fault = None; by_store = tt; found = nothing; is = λ e. tt; answer_is = ap (λ (o : Option (List ℕ)). report_answer (Ok o)) is }
+told_update rose s run (Err fault.NoMemory) is err = told_missed rose s (page.Update run) fault.NoMemory tt
+told_update rose s run (Err fault.Store) is err = told_missed rose s (page.Update run) fault.Store (err refl)
 
 pub told_waiting : (rose : Type 0) (s : OfficeState) (r : Result (List ℕ) StoreFault) → IfOk r (λ text. TellsAwaited s text) → (r ≡ Err fault.Store → rose) → Tells s page.Waiting (text_answer r) rose
-told_waiting rose s (Ok t) h err = record { fault = None; by_store = tt; ready = h.ready; counts = λ e g. h.counts; awaited = h.awaited; awaits = λ e g. h.awaits; answer_is = ap Told h.text_is }
-told_waiting rose s (Err fault.NoMemory) h err = record { fault = Some fault.NoMemory; by_store = tt; ready = 0; counts = λ e. absurd (cc (e)); awaited = Order; awaits = λ e. absurd (cc (e)); answer_is = refl }
-told_waiting rose s (Err fault.Store) h err = record { fault = Some fault.Store; by_store = err refl; ready = 0; counts = λ e. absurd (cc (e)); awaited = Order; awaits = λ e. absurd (cc (e)); answer_is = refl }
+told_waiting rose s (Ok t) h err = record { fault = None; by_store = tt; found = record { ready = h.ready; awaited = h.awaited; why = None; trial = NoDate }; is = λ e. (h.counts, h.awaits); answer_is = ap Told h.text_is }
+told_waiting rose s (Err fault.NoMemory) h err = told_missed rose s page.Waiting fault.NoMemory tt
+told_waiting rose s (Err fault.Store) h err = told_missed rose s page.Waiting fault.Store (err refl)
+
+pub told_why : (rose : Type 0) (s : OfficeState) (source : List ℕ) (r : Result (Option (List ℕ)) StoreFault) → IfOk r (IsWhy s.setup s.kept s.finished source) → (r ≡ Err fault.Store → rose) → Tells s (page.Why source) (report_answer r) rose
+told_why rose s source (Ok t) is err = record { fault = None; by_store = tt; found = record { ready = 0; awaited = Order; why = t; trial = NoDate }; is = λ e. is; answer_is = refl }
+told_why rose s source (Err fault.NoMemory) is err = told_missed rose s (page.Why source) fault.NoMemory tt
+told_why rose s source (Err fault.Store) is err = told_missed rose s (page.Why source) fault.Store (err refl)
 
 -- a page whose text is that of the state alone
-told_page : (rose : Type 0) (s : OfficeState) (p : Page) (due : List ℕ) (r : Result (List ℕ) StoreFault) → page_counts p ≡ false → page_awaits p ≡ false → page_answer s 0 Order p ≡ Told due → IfOk r (λ t. t ≡ due) → (r ≡ Err fault.Store → rose) → Tells s p (text_answer r) rose
-told_page rose s p due (Ok t) counts awaits answers is err = record { fault = None; by_store = tt; ready = 0; counts = λ e h. absurd (let no : true ≡ false = sym h ∙ counts in cc); awaited = Order; awaits = λ e h. absurd (let no : true ≡ false = sym h ∙ awaits in cc); answer_is = ap Told is ∙ sym answers }
-told_page rose s p due (Err fault.NoMemory) counts awaits answers is err = record { fault = Some fault.NoMemory; by_store = tt; ready = 0; counts = λ e. absurd (cc (e)); awaited = Order; awaits = λ e. absurd (cc (e)); answer_is = refl }
-told_page rose s p due (Err fault.Store) counts awaits answers is err = record { fault = Some fault.Store; by_store = err refl; ready = 0; counts = λ e. absurd (cc (e)); awaited = Order; awaits = λ e. absurd (cc (e)); answer_is = refl }
+told_page : (rose : Type 0) (s : OfficeState) (p : Page) (due : List ℕ) (r : Result (List ℕ) StoreFault) → IsFoundFor s nothing p → page_answer s nothing p ≡ Told due → IfOk r (λ t. t ≡ due) → (r ≡ Err fault.Store → rose) → Tells s p (text_answer r) rose
+told_page rose s p due (Ok t) found answers is err = record { fault = None; by_store = tt; found = nothing; is = λ e. found; answer_is = ap Told is ∙ sym answers }
+told_page rose s p due (Err fault.NoMemory) found answers is err = told_missed rose s p fault.NoMemory tt
+told_page rose s p due (Err fault.Store) found answers is err = told_missed rose s p fault.Store (err refl)
+
+pub told_testing : (rose : Type 0) (s : OfficeState) (r : Result (List ℕ) StoreFault) → IfOk r (λ t. t ≡ testing_text s.setup s.finished (testing_after s.setup s.kept s.finished)) → (r ≡ Err fault.Store → rose) → Tells s page.Testing (text_answer r) rose
+told_testing rose s r is err = told_page rose s page.Testing (testing_text s.setup s.finished (testing_after s.setup s.kept s.finished)) r tt refl is err
 
 pub told_runs : (rose : Type 0) (s : OfficeState) (r : Result (List ℕ) StoreFault) → IfOk r (λ t. t ≡ runs_text s) → (r ≡ Err fault.Store → rose) → Tells s page.Runs (text_answer r) rose
-told_runs rose s r is err = told_page rose s page.Runs (runs_text s) r refl refl refl is err
+told_runs rose s r is err = told_page rose s page.Runs (runs_text s) r tt refl is err
 
 pub told_kept : (rose : Type 0) (s : OfficeState) (r : Result (List ℕ) StoreFault) → IfOk r (λ t. t ≡ mail_text s.setup (mail_counts s.setup s.kept)) → (r ≡ Err fault.Store → rose) → Tells s page.Kept (text_answer r) rose
-told_kept rose s r is err = told_page rose s page.Kept (mail_text s.setup (mail_counts s.setup s.kept)) r refl refl refl is err
+told_kept rose s r is err = told_page rose s page.Kept (mail_text s.setup (mail_counts s.setup s.kept)) r tt refl is err
 
 pub told_letter : (rose : Type 0) (s : OfficeState) (sender number : ℕ) (r : Result (Option (List ℕ)) StoreFault) → IfOk r (λ t. t ≡ get s.kept (sender, number)) → (r ≡ Err fault.Store → rose) → Tells s (page.Letter sender number) (letter_answer r) rose
-told_letter rose s sender number (Ok t) is err = record { fault = None; by_store = tt; ready = 0; counts = λ e h. absurd (cc (h)); awaited = Order; awaits = λ e h. absurd (cc (h)); answer_is = ap (λ (o : Option (List ℕ)). letter_answer (Ok o)) is }
-told_letter rose s sender number (Err fault.NoMemory) is err = record { fault = Some fault.NoMemory; by_store = tt; ready = 0; counts = λ e. absurd (cc (e)); awaited = Order; awaits = λ e. absurd (cc (e)); answer_is = refl }
-told_letter rose s sender number (Err fault.Store) is err = record { fault = Some fault.Store; by_store = err refl; ready = 0; counts = λ e. absurd (cc (e)); awaited = Order; awaits = λ e. absurd (cc (e)); answer_is = refl }
+told_letter rose s sender number (Ok t) is err = record { fault = None; by_store = tt; found = nothing; is = λ e. tt; answer_is = ap (λ (o : Option (List ℕ)). letter_answer (Ok o)) is }
+told_letter rose s sender number (Err fault.NoMemory) is err = told_missed rose s (page.Letter sender number) fault.NoMemory tt
+told_letter rose s sender number (Err fault.Store) is err = told_missed rose s (page.Letter sender number) fault.Store (err refl)
 
 -- an answer that names no sender has a place for its name
 pub place_status : (setup : Lists) (r : Result Progress StoreFault) → HasPlace setup (status_answer r)
@@ -118,6 +135,10 @@ pub place_letter : (setup : Lists) (r : Result (Option (List ℕ)) StoreFault) �
 place_letter setup (Ok None) = tt
 place_letter setup (Ok (Some t)) = tt
 place_letter setup (Err f) = tt
+
+pub place_or : (setup : Lists) (r : Result Answer StoreFault) → IfOk r (λ answer. HasPlace setup answer) → HasPlace setup (answer_or r)
+place_or setup (Ok answer) h = h
+place_or setup (Err f) h = tt
 
 -- a delivery
 lost_of : Mark → Option StoreFault
@@ -179,8 +200,8 @@ delivered P Q R before mid after text r l l_rises f f_rises =
     record {
       fault = lost_of m;
       by_store = loss_counted R m (delivery_weaker P R m l_rises (delivery_counted P r l.by_store));
-      ready = 0;
-      counts = λ e h. absurd (cc (h));
+      found = nothing;
+      is = λ e. tt;
       answer_is = answered m r (answer_to before.setup before.kept text) by;
       moves = record {
         setup = f.setup ∙ l.setup;
@@ -200,8 +221,8 @@ settle_missed : (rose : Type 0) (before after : OfficeState) (text : List ℕ) (
 settle_missed rose before after text f by_store s k g o = record {
   fault = Some f;
   by_store = by_store;
-  ready = 0;
-  counts = λ e. absurd (cc (e));
+  found = nothing;
+  is = λ e. absurd (cc (e));
   answer_is = refl;
   moves = record { setup = s; kept = k; grows = g; still = λ h. absurd (cc (h)); settled = λ h e. absurd (cc (e)); met = Some f; met_by_store = by_store; all_ready = λ h e. absurd (cc (e)); only_ready = λ h. ready_moved before after after.finished s k o };
 }
@@ -210,8 +231,8 @@ pub settled : (rose : Type 0) (before after : OfficeState) (text : List ℕ) (r 
 settled rose before after text (Ok p) counted fin s k g o err = record {
   fault = None;
   by_store = tt;
-  ready = p.ready;
-  counts = λ e h. counted;
+  found = ready_runs p.ready;
+  is = λ e. counted;
   answer_is = ap (λ (n : ℕ). Status (record { ready = p.ready; finished = n })) fin.0;
   moves = record {
     setup = s;
@@ -228,11 +249,53 @@ settled rose before after text (Ok p) counted fin s k g o err = record {
 settled rose before after text (Err fault.NoMemory) counted fin s k g o err = settle_missed rose before after text fault.NoMemory tt s k g o
 settled rose before after text (Err fault.Store) counted fin s k g o err = settle_missed rose before after text fault.Store (err refl) s k g o
 
+-- a trial does nothing
+tried_moves : (rose : Type 0) (before after : OfficeState) (body : List ℕ) (f : Option StoreFault) (ready : ℕ) → after ≡ before → Moves before after Try body f ready rose
+tried_moves rose before after body f ready same = record {
+  setup = ap (λ (s : OfficeState). s.setup) same;
+  kept = ap (λ (s : OfficeState). s.kept) same;
+  grows = omega (arith, ap (λ (s : OfficeState). s.finished) same);
+  still = λ h. ap (λ (s : OfficeState). s.finished) same;
+  settled = λ h e. absurd (cc (h));
+  met = None;
+  met_by_store = tt;
+  all_ready = λ h e. absurd (cc (h));
+  only_ready = λ h. subst (λ (s : OfficeState). IsReady s.setup s.kept s.finished) (sym same) h;
+}
+
+tried_missed : (rose : Type 0) (before after : OfficeState) (body : List ℕ) (f : StoreFault) → TextCounted rose (Some f) → after ≡ before → Runs before after Try body (Refused (refusal_for f)) rose
+tried_missed rose before after body f by same = record { fault = Some f; by_store = by; found = nothing; is = λ e. absurd (cc (e)); answer_is = refl; moves = tried_moves rose before after body (Some f) 0 same }
+
+-- the hints of a body
+pub tried : (rose : Type 0) (before after : OfficeState) (body : List ℕ) (r : Result Answer StoreFault) → is_utf8 body ≡ true → IfOk r (λ answer. TellsTrial before (hints_in body) answer) → after ≡ before → (r ≡ Err fault.Store → rose) → Runs before after Try body (answer_or r) rose
+tried rose before after body (Ok answer) legible h same err = record {
+  fault = None;
+  by_store = tt;
+  found = record { ready = 0; awaited = Order; why = None; trial = h.trial };
+  is = λ e g. h.tried;
+  answer_is = h.answer_is ∙ sym (ap (λ b. cond b (trial_answer before.setup (hints_in body) h.trial) (Delivered (Err (Mail mail.BadParagraph)))) legible);
+  moves = tried_moves rose before after body None 0 same;
+}
+tried rose before after body (Err fault.NoMemory) legible h same err = tried_missed rose before after body fault.NoMemory tt same
+tried rose before after body (Err fault.Store) legible h same err = tried_missed rose before after body fault.Store (err refl) same
+
+-- a body that isn't UTF-8
+pub tried_bad : (rose : Type 0) (s : OfficeState) (body : List ℕ) → is_utf8 body ≡ false → Runs s s Try body (Delivered (Err (Mail mail.BadParagraph))) rose
+tried_bad rose s body bad = record {
+  fault = None;
+  by_store = tt;
+  found = nothing;
+  is = λ e g. absurd (let no : true ≡ false = sym g ∙ bad in cc);
+  answer_is = sym (ap (λ b. cond b (trial_answer s.setup (hints_in body) NoDate) (Delivered (Err (Mail mail.BadParagraph)))) bad);
+  moves = tried_moves rose s s body None 0 refl;
+}
+
 -- where a fault was met before anything was done
 does_nothing : (rose : Type 0) (s : OfficeState) (o : Option (Action × List ℕ)) (f : StoreFault) (ready : ℕ) → TextCounted rose (Some f) → Does s s o (Some f) ready rose
 does_nothing rose s None f ready h = refl
 does_nothing rose s (Some (Deliver, body)) f ready by = record { setup = refl; kept = refl; grows = omega arith; still = λ h. refl; settled = λ h e. absurd (cc (e)); met = Some f; met_by_store = by; all_ready = λ h e. absurd (cc (e)); only_ready = λ h. h }
 does_nothing rose s (Some (Settle, body)) f ready by = record { setup = refl; kept = refl; grows = omega arith; still = λ h. refl; settled = λ h e. absurd (cc (e)); met = Some f; met_by_store = by; all_ready = λ h e. absurd (cc (e)); only_ready = λ h. h }
+does_nothing rose s (Some (Try, body)) f ready by = tried_moves rose s s body (Some f) ready refl
 
 pub short_answers : (rose : Type 0) (s : OfficeState) (l0 l1 w0 w1 : Option (List ℕ)) (front : List ℕ) (asked : Asked) (more : List ℕ) (goes_on : Bool) → Consumes l0 l1 more → (length more ≡ 0) ⊎ (length (front ++ more) ≤ body_size asked) → Appends w0 w1 (continued goes_on) → (goes_on ≡ true → waits_of asked ≡ true) → Answers s s l0 l1 w0 w1 front asked (Refused refusal.NoMemory) rose
 short_answers rose s l0 l1 w0 w1 front asked more goes_on took few wrote waited = record {
@@ -241,11 +304,9 @@ short_answers rose s l0 l1 w0 w1 front asked more goes_on took few wrote waited 
   few = few;
   fault = Some fault.NoMemory;
   by_store = tt;
-  ready = 0;
+  found = nothing;
   whole = λ e. absurd (cc (e));
-  counts = λ e. absurd (cc (e));
-  awaited = Order;
-  awaits = λ e. absurd (cc (e));
+  is = λ e. absurd (cc (e));
   answer_is = refl;
   does = does_nothing rose s (posted_body asked (front ++ more)) fault.NoMemory 0 tt;
   goes_on = goes_on;
@@ -261,11 +322,9 @@ refused_answers rose s l w front r due e = subst (λ (a : Asked). Answers s s l 
   few = inl refl;
   fault = None;
   by_store = tt;
-  ready = 0;
+  found = nothing;
   whole = λ e. tt;
-  counts = λ e h. absurd (cc (h));
-  awaited = Order;
-  awaits = λ e h. absurd (cc (h));
+  is = λ e. tt;
   answer_is = refl;
   does = refl;
   goes_on = false;
@@ -281,11 +340,9 @@ told_answers rose s s' l w front p answer due e t same = subst (λ (a : Asked). 
   few = inl refl;
   fault = t.fault;
   by_store = t.by_store;
-  ready = t.ready;
+  found = t.found;
   whole = λ e. tt;
-  counts = t.counts;
-  awaited = t.awaited;
-  awaits = t.awaits;
+  is = t.is;
   answer_is = t.answer_is;
   does = same;
   goes_on = false;
@@ -317,18 +374,44 @@ whole_answers rose before after l0 l1 w0 w1 front p answer more body took few lo
       few = few;
       fault = r.fault;
       by_store = r.by_store;
-      ready = r.ready;
+      found = r.found;
       whole = λ e. inl long;
-      counts = λ e h. r.counts e (sym (ap post_counts is) ∙ h);
-      awaited = Order;
-      awaits = λ e h. absurd (cc (h));
-      answer_is = r.answer_is ∙ ap (λ (o : Option (Action × List ℕ)). by_fault r.fault (post_answer before r.ready o)) (sym is);
-      does = subst (λ (o : Option (Action × List ℕ)). Does before after o r.fault r.ready rose) (sym is) r.moves;
+      is = λ e. subst (IsFoundByPost before r.found) (sym is) (r.is e);
+      answer_is = r.answer_is ∙ ap (λ (o : Option (Action × List ℕ)). by_fault r.fault (post_answer before r.found o)) (sym is);
+      does = subst (λ (o : Option (Action × List ℕ)). Does before after o r.fault r.found.ready rose) (sym is) r.moves;
       goes_on = p.waits;
       wrote = wrote;
       went = λ e. refl;
       waited = λ h. h;
     }
+
+past_end : (n m : ℕ) → m < n → nat_le n m ≡ false
+past_end n m h = grind (arith, nat_tests)
+
+-- a POST whose body broke off
+pub broken_answers : (rose : Type 0) (s : OfficeState) (l0 l1 w0 w1 : Option (List ℕ)) (front : List ℕ) (p : Posted) (more : List ℕ) → Consumes l0 l1 more → (length more ≡ 0) ⊎ (length (front ++ more) ≤ p.length) → length (front ++ more) < p.length → IsAtEnd l1 → Appends w0 w1 (continued p.waits) → Answers s s l0 l1 w0 w1 front (asks.Post p) (Refused refusal.BadRequest) rose
+broken_answers rose s l0 l1 w0 w1 front p more took few short over wrote =
+    let rest : List ℕ = front ++ more in
+    let none : posted_body (asks.Post p) rest ≡ None = ap (λ b. option_map (λ (body : List ℕ). (p.action, body)) (cond b (Some (take p.length rest)) None)) (past_end p.length (length rest) short) in
+    record {
+      more = more;
+      took = took;
+      few = few;
+      fault = None;
+      by_store = tt;
+      found = nothing;
+      whole = λ e. inr over;
+      is = λ e. subst (IsFoundByPost s nothing) (sym none) tt;
+      answer_is = ap (λ (o : Option (Action × List ℕ)). post_answer s nothing o) (sym none);
+      does = subst (λ (o : Option (Action × List ℕ)). Does s s o None 0 rose) (sym none) refl;
+      goes_on = p.waits;
+      wrote = wrote;
+      went = λ e. refl;
+      waited = λ h. h;
+    }
+
+pub short_body : (seen seen' taken : List ℕ) (start size : ℕ) → seen' ≡ seen ++ taken → start ≤ length seen → length seen' < start + size → length (drop start seen ++ taken) < size
+short_body seen seen' taken start size is h short = omega (arith, ap length is, length-append seen taken, length-append (drop start seen) taken, length-drop start seen, short, h)
 
 -- the bytes after the head, and the body in front of them
 pub post_body : (seen seen' taken : List ℕ) (start size : ℕ) → seen' ≡ seen ++ taken → start ≤ length seen → start + size ≤ length seen' → (size ≤ length (drop start seen ++ taken)) × (take (start + size - start) (drop start seen') ≡ take size (drop start seen ++ taken))
@@ -357,17 +440,15 @@ exchanged rose before after l0 l1 w0 w1 seen headers spans answer is_head h a e 
   few = ⊎_elim (λ none. inl (omega (arith, h.short, none, length-append seen a.more))) (λ body. inr body) a.few;
   fault = a.fault;
   by_store = a.by_store;
-  ready = a.ready;
+  found = a.found;
   whole = a.whole;
-  counts = a.counts;
-  awaited = a.awaited;
-  awaits = a.awaits;
+  is = a.is;
   does = a.does;
   goes_on = a.goes_on;
   went = a.went;
   waited = a.waited;
   bytes_are = ap (λ (r : Answer). continued a.goes_on ++ reply_bytes (reply_in before.setup r) is_head) a.answer_is
-      ∙ ap (λ (b : Bool). continued a.goes_on ++ reply_bytes (reply_in before.setup (by_fault a.fault (answer_of before a.ready a.awaited (asked_of before.setup h.head) (drop spans.len seen ++ a.more)))) b) e;
+      ∙ ap (λ (b : Bool). continued a.goes_on ++ reply_bytes (reply_in before.setup (by_fault a.fault (answer_of before a.found (asked_of before.setup h.head) (drop spans.len seen ++ a.more)))) b) e;
   code_is = ap (λ (r : Answer). (reply_in before.setup r).code) a.answer_is;
 }
 

@@ -1,5 +1,6 @@
 pub mod Serve
 pub mod ServeSteps
+pub mod Trials
 pub use Rattle.office_requests.specs.Asked
 pub use Rattle.office_runs.specs.Preserves
 pub use Rattle.office_replies.specs.Counted

@@ -3,6 +3,7 @@ use Rattle.std.specs.Prelude.{◌≡◌, ⊤, ◌⊎◌, ◌≤◌, ◌<◌, ◌
 use Rattle.std.specs.Option.{option_map}
 use Rattle.std.specs.FinMap.{get}
 use Rattle.std.specs.List.{range_with_len}
+use Rattle.std.specs.Str.{is_utf8}
 use Rattle.std.specs.Io.KnownBytes.{Appends, Consumes, IsAtEnd}
 use Rattle.httparse.specs.Grammar.{RequestHead, HasNoRequest, NeverHasRequest}
 use Rattle.httparse.specs.Spans.{RequestExceeds, RequestOverflows}
@@ -23,13 +24,15 @@ use Rattle.office_requests.specs.declared.reply.Refusal.TheVariants as refusal
 use Rattle.office_requests.specs.declared.reply.Answer.{Answer}
 use Rattle.office_requests.specs.declared.reply.Answer.TheVariants.{Refused, Delivered, Status, Told, Letter}
 use Rattle.office_requests.specs.declared.request.Action.{Action}
-use Rattle.office_requests.specs.declared.request.Action.TheVariants.{Deliver, Settle}
+use Rattle.office_requests.specs.declared.request.Action.TheVariants.{Deliver, Settle, Try}
 use Rattle.office_requests.specs.declared.request.Page.{Page}
 use Rattle.office_requests.specs.declared.request.Page.TheVariants as page
 use Rattle.office_requests.specs.declared.request.Asked.{Asked}
 use Rattle.office_requests.specs.declared.request.Asked.TheVariants as asks
 use Rattle.office_http.specs.declared.serve.ServeFault.{ServeFault}
 use Rattle.office_http.specs.declared.serve.ServeFault.TheVariants.{Read, Write}
+use Rattle.office_trials.specs.declared.Trial.{Trial}
+use Rattle.office_trials.specs.Trial.{IsTrial}
 use Rattle.office_requests.specs.Asked.{asked_of, body_size, is_head_method}
 use Rattle.office_replays.specs.Losses.{TextCounted}
 use Rattle.office_questions.specs.declared.mail.MailCount.{MailCount}
@@ -42,6 +45,8 @@ use Rattle.office_facts.specs.OfficeState.{OfficeState}
 use Rattle.office_facts.specs.State.{answer_to, reports_at}
 use Rattle.office_orders.specs.Waiting.{Awaits}
 use Rattle.office_replies.specs.Written.{AppendsFront}
+use Rattle.office_http.specs.Trials.{hints_in, request_terms, tried_answer}
+use Rattle.office_reasons.specs.Why.{IsWhy}
 
 -- how a fault of memory or of the store is told
 abbrev pub refusal_for : StoreFault → Refusal
@@ -96,21 +101,31 @@ mail_count kept sender = record {
 abbrev pub mail_counts : Lists → Kept → List MailCount
 mail_counts setup kept = map (mail_count kept) (range_with_len 0 (length setup.senders))
 
--- the text that a page tells, where this many runs are ready, and the next one waits for this
-abbrev pub page_answer : OfficeState → ℕ → Awaited → Page → Answer
-page_answer s ready awaited page.Status = Status (record { ready = ready; finished = s.finished })
-page_answer s ready awaited page.Testing = Told (testing_text s.setup s.finished (testing_after s.setup s.kept s.finished))
-page_answer s ready awaited (page.Excuses run) = report_answer (Ok (option_map (λ reports. reports.excuses) (reports_at s run)))
-page_answer s ready awaited (page.Update run) = report_answer (Ok (option_map (λ reports. reports.updates) (reports_at s run)))
-page_answer s ready awaited page.Waiting = Told (waiting_text s.setup (record { progress = record { ready = ready; finished = s.finished }; awaited = awaited }))
-page_answer s ready awaited page.Runs = Told (runs_text s)
-page_answer s ready awaited page.Kept = Told (mail_text s.setup (mail_counts s.setup s.kept))
-page_answer s ready awaited (page.Letter sender number) = letter_answer (Ok (get s.kept (sender, number)))
+-- What is found of an office beside its state, as far as a request asks for it: how many runs are ready, what the next
+-- one waits for, what is told of a source, and what a trial of hints is told.
+pub record Found : Type 0 where
+  pub ready : ℕ
+  pub awaited : Awaited
+  pub why : Option (List ℕ)
+  pub trial : Trial
 
--- the answer to a POST with this body: what is due to the delivery, or the status after the settle
-abbrev pub action_answer : OfficeState → ℕ → Action → List ℕ → Answer
-action_answer s ready Deliver body = delivery_answer (answer_to s.setup s.kept body)
-action_answer s ready Settle body = Status (record { ready = ready; finished = ready })
+-- the text that a page tells, where this is found
+abbrev pub page_answer : OfficeState → Found → Page → Answer
+page_answer s found page.Status = Status (record { ready = found.ready; finished = s.finished })
+page_answer s found page.Testing = Told (testing_text s.setup s.finished (testing_after s.setup s.kept s.finished))
+page_answer s found (page.Excuses run) = report_answer (Ok (option_map (λ reports. reports.excuses) (reports_at s run)))
+page_answer s found (page.Update run) = report_answer (Ok (option_map (λ reports. reports.updates) (reports_at s run)))
+page_answer s found page.Waiting = Told (waiting_text s.setup (record { progress = record { ready = found.ready; finished = s.finished }; awaited = found.awaited }))
+page_answer s found page.Runs = Told (runs_text s)
+page_answer s found page.Kept = Told (mail_text s.setup (mail_counts s.setup s.kept))
+page_answer s found (page.Letter sender number) = letter_answer (Ok (get s.kept (sender, number)))
+page_answer s found (page.Why source) = report_answer (Ok found.why)
+
+-- the answer to a POST with this body: what is due to the delivery, the status after the settle, or what the hints would change
+abbrev pub action_answer : OfficeState → Found → Action → List ℕ → Answer
+action_answer s found Deliver body = delivery_answer (answer_to s.setup s.kept body)
+action_answer s found Settle body = Status (record { ready = found.ready; finished = found.ready })
+action_answer s found Try body = tried_answer s.setup body found.trial
 
 -- the body that a request has, of the bytes after its head; none where they are too few
 abbrev pub body_of : ℕ → List ℕ → Option (List ℕ)
@@ -122,56 +137,43 @@ posted_body (asks.Tell page) rest = None
 posted_body (asks.Refused r) rest = None
 
 -- the answer to a POST, which is refused where the input ends within its body
-abbrev pub post_answer : OfficeState → ℕ → Option (Action × List ℕ) → Answer
-post_answer s ready None = Refused refusal.BadRequest
-post_answer s ready (Some post) = action_answer s ready post.0 post.1
+abbrev pub post_answer : OfficeState → Found → Option (Action × List ℕ) → Answer
+post_answer s found None = Refused refusal.BadRequest
+post_answer s found (Some post) = action_answer s found post.0 post.1
 
--- THE ANSWER TO A REQUEST, by what it asks, the bytes after its head, how many runs are ready, and what the next one
--- waits for
-abbrev pub answer_of : OfficeState → ℕ → Awaited → Asked → List ℕ → Answer
-answer_of s ready awaited (asks.Refused r) rest = Refused r
-answer_of s ready awaited (asks.Tell page) rest = page_answer s ready awaited page
-answer_of s ready awaited (asks.Post p) rest = post_answer s ready (posted_body (asks.Post p) rest)
+-- THE ANSWER TO A REQUEST, by what it asks, the bytes after its head, and what is found
+abbrev pub answer_of : OfficeState → Found → Asked → List ℕ → Answer
+answer_of s found (asks.Refused r) rest = Refused r
+answer_of s found (asks.Tell page) rest = page_answer s found page
+answer_of s found (asks.Post p) rest = post_answer s found (posted_body (asks.Post p) rest)
 
--- whether the answer tells how many runs are ready
-abbrev pub page_counts : Page → Bool
-page_counts page.Status = true
-page_counts page.Testing = false
-page_counts (page.Excuses run) = false
-page_counts (page.Update run) = false
-page_counts page.Waiting = true
-page_counts page.Runs = false
-page_counts page.Kept = false
-page_counts (page.Letter sender number) = false
+-- what is found is so, as far as a page tells it
+abbrev pub IsFoundFor : OfficeState → Found → Page → Type 0
+IsFoundFor s found page.Status = IsReadyCount s.setup s.kept found.ready
+IsFoundFor s found page.Testing = ⊤
+IsFoundFor s found (page.Excuses run) = ⊤
+IsFoundFor s found (page.Update run) = ⊤
+IsFoundFor s found page.Waiting = IsReadyCount s.setup s.kept found.ready × Awaits s.setup s.kept (found.ready + 1) found.awaited
+IsFoundFor s found page.Runs = ⊤
+IsFoundFor s found page.Kept = ⊤
+IsFoundFor s found (page.Letter sender number) = ⊤
+IsFoundFor s found (page.Why source) = IsWhy s.setup s.kept s.finished source found.why
 
-abbrev pub action_counts : Action → Bool
-action_counts Settle = true
-action_counts Deliver = false
+-- and as far as the answer to a POST does
+abbrev pub IsFoundBy : OfficeState → Found → Action → List ℕ → Type 0
+IsFoundBy s found Deliver body = ⊤
+IsFoundBy s found Settle body = IsReadyCount s.setup s.kept found.ready
+IsFoundBy s found Try body = is_utf8 body ≡ true → IsTrial s.setup s.kept s.finished request_terms (hints_in body) found.trial
 
-abbrev pub post_counts : Option (Action × List ℕ) → Bool
-post_counts None = false
-post_counts (Some post) = action_counts post.0
+abbrev pub IsFoundByPost : OfficeState → Found → Option (Action × List ℕ) → Type 0
+IsFoundByPost s found None = ⊤
+IsFoundByPost s found (Some post) = IsFoundBy s found post.0 post.1
 
-abbrev pub counts_ready : Asked → List ℕ → Bool
-counts_ready (asks.Refused r) rest = false
-counts_ready (asks.Tell page) rest = page_counts page
-counts_ready (asks.Post p) rest = post_counts (posted_body (asks.Post p) rest)
-
--- whether it tells what a run waits for
-abbrev pub page_awaits : Page → Bool
-page_awaits page.Status = false
-page_awaits page.Testing = false
-page_awaits (page.Excuses run) = false
-page_awaits (page.Update run) = false
-page_awaits page.Waiting = true
-page_awaits page.Runs = false
-page_awaits page.Kept = false
-page_awaits (page.Letter sender number) = false
-
-abbrev pub tells_awaited : Asked → Bool
-tells_awaited (asks.Refused r) = false
-tells_awaited (asks.Tell page) = page_awaits page
-tells_awaited (asks.Post p) = false
+-- as far as the answer to a request does
+abbrev pub IsFound : OfficeState → Found → Asked → List ℕ → Type 0
+IsFound s found (asks.Refused r) rest = ⊤
+IsFound s found (asks.Tell page) rest = IsFoundFor s found page
+IsFound s found (asks.Post p) rest = IsFoundByPost s found (posted_body (asks.Post p) rest)
 
 -- whether a client waits for 100 Continue
 abbrev pub waits_of : Asked → Bool
@@ -187,12 +189,14 @@ abbrev pub kept_by : OfficeState → Action → List ℕ → Option StoreFault �
 kept_by s Deliver body None = kept_from s.setup s.kept (body ∷ [])
 kept_by s Deliver body (Some f) = s.kept
 kept_by s Settle body fault = s.kept
+kept_by s Try body fault = s.kept
 
 -- whether a POST settles: a delivery that is held, and a settle
 abbrev pub settles : OfficeState → Action → List ℕ → Option StoreFault → Bool
 settles s Deliver body None = is_ok (answer_to s.setup s.kept body)
 settles s Deliver body (Some f) = false
 settles s Settle body fault = true
+settles s Try body fault = false
 
 -- what a POST does
 pub record Moves (before after : OfficeState) (action : Action) (body : List ℕ) (fault : Option StoreFault) (ready : ℕ) (rose : Type 0) : Type 0 where
@@ -200,7 +204,7 @@ pub record Moves (before after : OfficeState) (action : Action) (body : List ℕ
   pub kept : after.kept ≡ kept_by before action body fault
   pub grows : before.finished ≤ after.finished
   pub still : settles before action body fault ≡ false → after.finished ≡ before.finished
-  pub settled : action_counts action ≡ true → fault ≡ None → after.finished ≡ ready
+  pub settled : action ≡ Settle → fault ≡ None → after.finished ≡ ready
   -- what the settle met; where it met nothing, all ready runs are finished
   pub met : Option StoreFault
   pub met_by_store : TextCounted rose met
@@ -245,17 +249,15 @@ pub record Exchange (before after : OfficeState) (left : Option (List ℕ)) (inp
   -- what was met for want of memory or by the store
   pub fault : Option StoreFault
   pub by_store : TextCounted rose fault
-  pub ready : ℕ
-  pub awaited : Awaited
+  pub found : Found
   pub whole : fault ≡ None → IsWhole (asked_of before.setup head) rest left
-  pub counts : fault ≡ None → counts_ready (asked_of before.setup head) rest ≡ true → IsReadyCount before.setup before.kept ready
-  pub awaits : fault ≡ None → tells_awaited (asked_of before.setup head) ≡ true → Awaits before.setup before.kept (ready + 1) awaited
-  pub does : Does before after (posted_body (asked_of before.setup head) rest) fault ready rose
+  pub is : fault ≡ None → IsFound before found (asked_of before.setup head) rest
+  pub does : Does before after (posted_body (asked_of before.setup head) rest) fault found.ready rose
   pub goes_on : Bool
   pub went : fault ≡ None → goes_on ≡ waits_of (asked_of before.setup head)
   pub waited : goes_on ≡ true → waits_of (asked_of before.setup head) ≡ true
-  pub bytes_are : bytes ≡ continued goes_on ++ reply_bytes (reply_in before.setup (by_fault fault (answer_of before ready awaited (asked_of before.setup head) rest))) (is_head_method head)
-  pub code_is : code ≡ (reply_in before.setup (by_fault fault (answer_of before ready awaited (asked_of before.setup head) rest))).code
+  pub bytes_are : bytes ≡ continued goes_on ++ reply_bytes (reply_in before.setup (by_fault fault (answer_of before found (asked_of before.setup head) rest))) (is_head_method head)
+  pub code_is : code ≡ (reply_in before.setup (by_fault fault (answer_of before found (asked_of before.setup head) rest))).code
 
 -- Bytes that are no request within the limits, by the cause that they are refused for, or too much for the memory.
 abbrev pub IsUnread : Option (List ℕ) → List ℕ → Refusal → Type 0

@@ -21,7 +21,10 @@ use Rattle.office_requests.specs.Request.{body_room}
 use Rattle.office_facts.specs.OfficeState.{OfficeState}
 use Rattle.office_orders.specs.Waiting.{Awaits}
 use Rattle.office_replies.specs.Written.{AppendsFront}
-use Rattle.office_http.specs.Serve.{refusal_for, by_fault, page_answer, action_answer, posted_body, answer_of, page_counts, page_awaits, action_counts, counts_ready, tells_awaited, waits_of, continued, Moves, Does, IsWhole, IsAwaited, StopsBefore, Exchange}
+use Rattle.office_trials.specs.declared.Trial.{Trial}
+use Rattle.office_trials.specs.Trial.{IsTrial}
+use Rattle.office_http.specs.Serve.{refusal_for, by_fault, page_answer, action_answer, posted_body, answer_of, waits_of, continued, Found, IsFound, IsFoundBy, IsFoundFor, Moves, Does, IsWhole, IsAwaited, StopsBefore, Exchange}
+use Rattle.office_http.specs.Trials.{request_terms, trial_answer}
 
 -- the answers of the office's calls
 abbrev pub status_answer : Result Progress StoreFault → Answer
@@ -40,25 +43,34 @@ pub record TellsAwaited (s : OfficeState) (text : List ℕ) : Type 0 where
   pub awaits : Awaits s.setup s.kept (ready + 1) awaited
   pub text_is : text ≡ waiting_text s.setup (record { progress = record { ready = ready; finished = s.finished }; awaited = awaited })
 
+-- the answer of a call on the office, or to a fault
+abbrev pub answer_or : Result Answer StoreFault → Answer
+answer_or (Ok answer) = answer
+answer_or (Err f) = Refused (refusal_for f)
+
+-- the answer to hints by what their trial is told
+pub record TellsTrial (s : OfficeState) (hints : List (List ℕ)) (answer : Answer) : Type 0 where
+  pub trial : Trial
+  pub tried : IsTrial s.setup s.kept s.finished request_terms hints trial
+  pub answer_is : answer ≡ trial_answer s.setup hints trial
+
 -- a page was told
 pub record Tells (s : OfficeState) (page : Page) (answer : Answer) (rose : Type 0) : Type 0 where
   -- what was met
   pub fault : Option StoreFault
   pub by_store : TextCounted rose fault
-  pub ready : ℕ
-  pub counts : fault ≡ None → page_counts page ≡ true → IsReadyCount s.setup s.kept ready
-  pub awaited : Awaited
-  pub awaits : fault ≡ None → page_awaits page ≡ true → Awaits s.setup s.kept (ready + 1) awaited
-  pub answer_is : answer ≡ by_fault fault (page_answer s ready awaited page)
+  pub found : Found
+  pub is : fault ≡ None → IsFoundFor s found page
+  pub answer_is : answer ≡ by_fault fault (page_answer s found page)
 
 -- a POST was done
 pub record Runs (before after : OfficeState) (action : Action) (body : List ℕ) (answer : Answer) (rose : Type 0) : Type 0 where
   pub fault : Option StoreFault
   pub by_store : TextCounted rose fault
-  pub ready : ℕ
-  pub counts : fault ≡ None → action_counts action ≡ true → IsReadyCount before.setup before.kept ready
-  pub answer_is : answer ≡ by_fault fault (action_answer before ready action body)
-  pub moves : Moves before after action body fault ready rose
+  pub found : Found
+  pub is : fault ≡ None → IsFoundBy before found action body
+  pub answer_is : answer ≡ by_fault fault (action_answer before found action body)
+  pub moves : Moves before after action body fault found.ready rose
 
 -- A request was answered: the bytes after its head, of which the front had come before, the faults that were met, the
 -- answer, and what was done. Where the client waited, 100 Continue was written first; nothing else yet.
@@ -69,13 +81,11 @@ pub record Answers (before after : OfficeState) (left left' written written' : O
   pub few : (length more ≡ 0) ⊎ (length (front ++ more) ≤ body_size asked)
   pub fault : Option StoreFault
   pub by_store : TextCounted rose fault
-  pub ready : ℕ
+  pub found : Found
   pub whole : fault ≡ None → IsWhole asked (front ++ more) left'
-  pub counts : fault ≡ None → counts_ready asked (front ++ more) ≡ true → IsReadyCount before.setup before.kept ready
-  pub awaited : Awaited
-  pub awaits : fault ≡ None → tells_awaited asked ≡ true → Awaits before.setup before.kept (ready + 1) awaited
-  pub answer_is : answer ≡ by_fault fault (answer_of before ready awaited asked (front ++ more))
-  pub does : Does before after (posted_body asked (front ++ more)) fault ready rose
+  pub is : fault ≡ None → IsFound before found asked (front ++ more)
+  pub answer_is : answer ≡ by_fault fault (answer_of before found asked (front ++ more))
+  pub does : Does before after (posted_body asked (front ++ more)) fault found.ready rose
   pub goes_on : Bool
   pub wrote : Appends written written' (continued goes_on)
   pub went : fault ≡ None → goes_on ≡ waits_of asked

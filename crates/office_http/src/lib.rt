@@ -4,6 +4,7 @@
 pub mod laws;
 mod serve;
 pub mod service_laws;
+mod trials;
 
 pub use office_replays::{Replayed, Unwatched, Watcher, replay, replay_status, replay_watched};
 pub use office_replies::{

@@ -13,11 +13,13 @@ ghost use Rattle.office_requests.specs.Reply.{continue_bytes, refused, reply_byt
 ghost use Rattle.office_requests.specs.Request.{body_room, head_room};
 ghost use Rattle.office_requests.specs.RequestSteps.{IsHeadAt};
 ghost use Rattle.office_http.specs.Serve.{mail_counts, refusal_for, report_answer, letter_answer, delivery_answer, waits_of, Does, StopsBefore, Serves, StopsServe};
-ghost use Rattle.office_http.specs.ServeSteps.{status_answer, text_answer, Tells, TellsAwaited, Runs, Answers, StopsRequest, ServesHead};
+ghost use Rattle.office_reasons.specs.Why.{IsWhy};
+ghost use Rattle.office_http.specs.ServeSteps.{answer_or, status_answer, text_answer, Tells, TellsAwaited, Runs, Answers, StopsRequest, ServesHead};
 ghost use Rattle.office_facts.specs.State.{state_of};
 ghost use Rattle.office_replies.specs.Counted.{Counted};
 ghost use Rattle.office_replies.specs.Written.{AppendsFront};
 
+use crate::trials::try_body;
 use deb_control::Text;
 use httparse::spans::{EMPTY_HEADER_SPAN, HeaderSpan, RequestSpans};
 use office_keeper::{Keeper, MailText};
@@ -129,6 +131,16 @@ fn delivery_answer(reply: Result<Held, DeliverFault>) -> Answer
     }
 }
 
+/// The answer of a call on the office, or to a fault.
+fn answer_or(answer: Result<Answer, StoreFault>) -> Answer
+    ensures { result ≡ answer_or answer }
+{
+    match answer {
+        Ok(answer) => answer,
+        Err(fault) => Answer::Refused(refusal_for(fault)),
+    }
+}
+
 /// The text that tells what the first run that isn't ready waits for.
 fn awaited_text<K: Keeper>(office: &mut Office<K>) -> Result<Text, StoreFault>
     ensures asks { Asks K.Keeper office.old office.new }
@@ -158,6 +170,17 @@ fn counted_text<K: Keeper>(office: &mut Office<K>) -> Result<Text, StoreFault>
     Ok(mail_text(office.alloc(), office.setup(), &counts)?)
 }
 
+/// The text that tells of a source what the last finished run says, none where no run is finished.
+fn source_text<K: Keeper>(office: &mut Office<K>, source: Text) -> Result<Option<Text>, StoreFault>
+    ensures asks { Asks K.Keeper office.old office.new }
+    ensures tells { Holds K.Keeper office.old office.new → IfOk result (IsWhy (K.setup office.old) (K.content office.old).kept (state_of K.Keeper office.old).finished source) }
+    ensures counted { Counted (K.refusals office.old) (K.refusals office.new) result }
+{
+    let text = office.why_text(source.as_str());
+    drop(source);
+    text
+}
+
 /// Tells a text of the office.
 fn tell<K: Keeper>(office: &mut Office<K>, page: Page) -> Answer
     ensures asks { Asks K.Keeper office.old office.new }
@@ -173,6 +196,7 @@ fn tell<K: Keeper>(office: &mut Office<K>, page: Page) -> Answer
         Page::Runs => text_answer(runs_text(office)),
         Page::Kept => text_answer(counted_text(office)),
         Page::Letter { sender, number } => letter_answer(office.kept_text(sender, number)),
+        Page::Why(source) => report_answer(source_text(office, source)),
     }
 }
 
@@ -195,6 +219,18 @@ fn settle<K: Keeper>(office: &mut Office<K>, text: &[u8]) -> Answer
     status_answer(office.settle())
 }
 
+/// Tries the hints of a body. A body that isn't UTF-8 is answered as mail that isn't.
+fn try_bytes<K: Keeper>(office: &mut Office<K>, body: &[u8]) -> Answer
+    ensures carries { Preserves K.Keeper office.old office.new }
+    ensures place { HasPlace (K.setup office.old) result }
+    ensures runs { Holds K.Keeper office.old office.new → Runs (state_of K.Keeper office.old) (state_of K.Keeper office.new) Action.Try body.now result (StoreRefused K.Keeper office.old office.new) }
+{
+    match str::from_utf8(body) {
+        Ok(text) => answer_or(try_body(office, text)),
+        Err(_) => Answer::Delivered(Err(DeliverFault::Mail(MailFault::BadParagraph))),
+    }
+}
+
 /// Does what a POST with this body asks for.
 fn run<K: Keeper>(office: &mut Office<K>, action: Action, body: &[u8]) -> Answer
     ensures carries { Preserves K.Keeper office.old office.new }
@@ -204,6 +240,7 @@ fn run<K: Keeper>(office: &mut Office<K>, action: Action, body: &[u8]) -> Answer
     match action {
         Action::Deliver => deliver(office, body),
         Action::Settle => settle(office, body),
+        Action::Try => try_bytes(office, body),
     }
 }
 
@@ -248,8 +285,11 @@ fn asked_in(
     ensures asked { IfSome result (λ asked. (head : RequestHead) → IsRequestAt seen.now headers.now spans head → asked ≡ asked_of setup.now head) }
     ensures fits { IfSome result (λ asked. body_size asked ≤ body_room) }
 {
-    match routes(alloc) {
-        Ok(router) => Some(asked_of(&router, setup, seen, spans, headers)),
+    let Ok(router) = routes(alloc) else {
+        return None;
+    };
+    match asked_of(alloc, &router, setup, seen, spans, headers) {
+        Ok(asked) => Some(asked),
         Err(_) => None,
     }
 }

@@ -1,14 +1,16 @@
 //! What is true of what the service answers.
-ghost use Rattle.std.specs.Prelude.{◌≡◌, ◌+◌, ℕ, true, List};
-ghost use Rattle.office_mail.specs.Runs.{IsReadyCount};
-ghost use Rattle.office_replies.specs.declared.waiting.Awaited.{Awaited};
+ghost use Rattle.std.specs.Prelude.{◌≡◌, ℕ, List};
+ghost use Rattle.office_requests.specs.declared.request.Action.{Action};
 ghost use Rattle.office_requests.specs.declared.request.Asked.{Asked};
-ghost use Rattle.office_http.specs.Serve.{answer_of, counts_ready, tells_awaited};
+ghost use Rattle.office_requests.specs.declared.request.Page.{Page};
+ghost use Rattle.office_requests.specs.declared.request.Posted.{Posted};
+ghost use Rattle.office_http.specs.Serve.{answer_of, Found, IsFound};
 ghost use Rattle.office_facts.specs.OfficeState.{OfficeState};
-ghost use Rattle.office_orders.specs.Waiting.{Awaits};
 
-/// The answer to a request is a function of the request and of the office's state: what `serve_one` says of the ready runs
-/// and of what the next one waits for leaves no other.
+/// The answer to a request is a function of the request and of the office's state: what `serve_one` says of what is found
+/// leaves no other. What is told of a source, and of a trial, is what was found of it.
 pub fn requests_have_one_answer()
-    ensures { (s : OfficeState) (asked : Asked) (rest : List ℕ) (n m : ℕ) (x y : Awaited) → (counts_ready asked rest ≡ true → IsReadyCount s.setup s.kept n) → (counts_ready asked rest ≡ true → IsReadyCount s.setup s.kept m) → (tells_awaited asked ≡ true → Awaits s.setup s.kept (n + 1) x) → (tells_awaited asked ≡ true → Awaits s.setup s.kept (m + 1) y) → answer_of s n x asked rest ≡ answer_of s m y asked rest }
+    ensures { (s : OfficeState) (asked : Asked) (rest : List ℕ) (x y : Found) → IsFound s x asked rest → IsFound s y asked rest
+        → ((source : List ℕ) → asked ≡ Asked.Tell (Page.Why source) → x.why ≡ y.why) → ((p : Posted) → asked ≡ Asked.Post p → p.action ≡ Action.Try → x.trial ≡ y.trial)
+        → answer_of s x asked rest ≡ answer_of s y asked rest }
 {}

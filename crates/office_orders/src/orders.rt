@@ -142,7 +142,7 @@ pub fn next_size(size: u32) -> u32
 }
 
 /// Counts a sender's numbers on from those that are known to be kept, up to a number: it stops before one that isn't.
-fn count_on<K: Keeper>(
+pub fn count_on<K: Keeper>(
     keeper: &mut K,
     sender: u32,
     known: u32,

@@ -11,7 +11,7 @@ use Rattle.office_facts.specs.Outcome.{reports_of}
 use Rattle.office_runs.specs.Preserves.{Asks, Holds}
 use Rattle.office_facts.specs.State.{reports_at, state_of}
 use Rattle.office_runs.proofs.CarryFacts.{holds_first, holds_next, state_asked}
-use Rattle.office_runs.proofs.FinishFacts.{reports_there}
+use Rattle.office_facts.proofs.ReportFacts.{reports_there}
 use Rattle.office_questions.specs.RunLines.{run_line, line_on, lines_to}
 
 -- a report of a finished run, or the text in its place

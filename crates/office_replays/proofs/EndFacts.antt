@@ -21,7 +21,7 @@ use Rattle.office_replays.specs.Losses.{is_missing, is_report_missing, TextCount
 use Rattle.office_replays.specs.Ending.{status_shown, text_shown, mark_in, report_shown, run_lines, WritesRun, WritesRunFront, WritesReports, WritesReportsFront}
 use Rattle.std.proofs.KnownBytes.{Appends-nil, Appends-trans}
 use Rattle.office_runs.proofs.GatherFacts.{each_push}
-use Rattle.office_runs.proofs.FinishFacts.{reports_there}
+use Rattle.office_facts.proofs.ReportFacts.{reports_there}
 use Rattle.office_replays.proofs.RiseFacts.{text_weaker, reports_weaker}
 use Rattle.office_replies.proofs.WrittenFacts.{front_after, front_before}
 

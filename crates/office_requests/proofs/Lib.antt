@@ -4,3 +4,4 @@ pub mod LengthFacts
 pub mod RequestFacts
 pub mod RouteFacts
 pub mod SizeFacts
+pub mod SourceFacts

@@ -9,8 +9,9 @@ use Rattle.matchit.specs.Rows.{RowsOf, param_token, catch_all_token}
 use Rattle.matchit.specs.Router.{RouteOf}
 use Rattle.matchit.specs.Seek.{own, step, or_else, param_step, seek}
 use Rattle.office_mail.specs.Lists.{Lists}
-use Rattle.office_requests.specs.Asked.{asked_at, asked_by, asked_by_table, asked_of, framing_of, path_of, tell_asked}
-use Rattle.office_requests.specs.Routes.{office_routes, six_routes, route_in, route_of, plain, with_letter, with_run}
+use Rattle.office_requests.specs.Asked.{asked_at, asked_by, asked_by_table, asked_of, framing_of, path_of, post_asked, tell_asked}
+use Rattle.office_requests.specs.Routes.{office_routes, six_routes, ten_routes, route_in, route_of, plain, with_letter, with_name}
+use Rattle.office_requests.specs.declared.request.Action.TheVariants.{Try}
 use Rattle.office_requests.specs.declared.request.Page.TheVariants.{Waiting, Runs, Kept}
 use Rattle.office_requests.specs.declared.routes.Route.{Route}
 use Rattle.office_requests.specs.declared.routes.Route.TheVariants as route
@@ -86,7 +87,7 @@ module _ {K : Type 0} where
 
 -- the table, row by row
 abbrev excuses_row : RowsOf (RouteOf Route)
-excuses_row = with_run (codes "/excuses/") (codes "/excuses/{run}") (10, 13) route.Excuses ∷ []
+excuses_row = with_name (codes "/excuses/") (codes "/excuses/{run}") (10, 13) route.Excuses ∷ []
 
 abbrev letter : RouteOf Route
 letter = (with_letter (codes "/kept/") (codes "/kept/{sender}/{number}") ((7, 13) ∷ (16, 22) ∷ []) route.Letter).1
@@ -94,8 +95,11 @@ letter = (with_letter (codes "/kept/") (codes "/kept/{sender}/{number}") ((7, 13
 abbrev mail_row : RowsOf (RouteOf Route)
 mail_row = plain (codes "/mail") route.Mail ∷ []
 
-abbrev last_rows : RowsOf (RouteOf Route)
-last_rows = plain (codes "/settle") route.Settle ∷ plain (codes "/status") route.Status ∷ plain (codes "/testing") route.Testing ∷ with_run (codes "/update/") (codes "/update/{run}") (9, 12) route.Update ∷ []
+abbrev status_rows : RowsOf (RouteOf Route)
+status_rows = plain (codes "/settle") route.Settle ∷ plain (codes "/status") route.Status ∷ plain (codes "/testing") route.Testing ∷ []
+
+abbrev update_row : RowsOf (RouteOf Route)
+update_row = with_name (codes "/update/") (codes "/update/{run}") (9, 12) route.Update ∷ []
 
 abbrev waiting_row : RowsOf (RouteOf Route)
 waiting_row = plain (codes "/waiting") route.Waiting ∷ []
@@ -106,26 +110,54 @@ runs_row = plain (codes "/runs") route.Runs ∷ []
 abbrev kept_row : RowsOf (RouteOf Route)
 kept_row = plain (codes "/kept") route.Kept ∷ []
 
-six_answer : (path : List ℕ) → path ≢ codes "/waiting" → path ≢ codes "/runs" → path ≢ codes "/kept" → ((rest : List ℕ) → path ≢ codes "/kept/" ++ rest) → route_of path ≡ route_in six_routes path
-unfolding office_routes six_routes
+abbrev letter_row : RowsOf (RouteOf Route)
+letter_row = with_letter (codes "/kept/") (codes "/kept/{sender}/{number}") ((7, 13) ∷ (16, 22) ∷ []) route.Letter ∷ []
+
+abbrev try_row : RowsOf (RouteOf Route)
+try_row = plain (codes "/try") route.Try ∷ []
+
+abbrev why : RouteOf Route
+why = (with_name (codes "/why/") (codes "/why/{source}") (6, 12) route.Why).1
+
+-- the rows in front of that of trials
+abbrev rows_before : RowsOf (RouteOf Route)
+rows_before = excuses_row ++ (letter_row ++ (kept_row ++ (mail_row ++ (runs_row ++ status_rows))))
+
+ten_answer : (path : List ℕ) → path ≢ codes "/try" → ((rest : List ℕ) → path ≢ codes "/why/" ++ rest) → route_of path ≡ route_in ten_routes path
+unfolding office_routes ten_routes
+ten_answer path other beside =
+    let of_try : IsText (codes "/try") = (omega arith, (omega arith, (omega arith, (omega arith, tt)))) in
+    let of_why : IsText (codes "/why/") = (omega arith, (omega arith, (omega arith, (omega arith, (omega arith, tt))))) in
+    ap (λ (o : Option (RouteOf Route)). option_map (λ (r : RouteOf Route). r.value) o)
+    (seek_beside (codes "/why/") (param_token ∷ []) path (rows_before ++ (try_row ++ (update_row ++ waiting_row))) [] why of_why beside
+    ∙ seek_others (codes "/try") path rows_before (update_row ++ waiting_row) (plain (codes "/try") route.Try).1 of_try other)
+
+six_answer : (path : List ℕ) → path ≢ codes "/waiting" → path ≢ codes "/runs" → path ≢ codes "/kept" → ((rest : List ℕ) → path ≢ codes "/kept/" ++ rest) → route_in ten_routes path ≡ route_in six_routes path
+unfolding ten_routes six_routes
 six_answer path waiting runs kept below =
     let of_waiting : IsText (codes "/waiting") = (omega arith, (omega arith, (omega arith, (omega arith, (omega arith, (omega arith, (omega arith, (omega arith, tt)))))))) in
     let of_runs : IsText (codes "/runs") = (omega arith, (omega arith, (omega arith, (omega arith, (omega arith, tt))))) in
     let of_below : IsText (codes "/kept/") = (omega arith, (omega arith, (omega arith, (omega arith, (omega arith, (omega arith, tt)))))) in
     let of_kept : IsText (codes "/kept") = (omega arith, (omega arith, (omega arith, (omega arith, (omega arith, tt))))) in
     ap (λ (o : Option (RouteOf Route)). option_map (λ (r : RouteOf Route). r.value) o)
-    (seek_beside (codes "/kept/") (param_token ∷ 47 ∷ param_token ∷ []) path excuses_row (kept_row ++ (mail_row ++ (runs_row ++ (last_rows ++ waiting_row)))) letter of_below below
-    ∙ seek_others (codes "/kept") path excuses_row (mail_row ++ (runs_row ++ (last_rows ++ waiting_row))) (plain (codes "/kept") route.Kept).1 of_kept kept
-    ∙ seek_others (codes "/runs") path (excuses_row ++ mail_row) (last_rows ++ waiting_row) (plain (codes "/runs") route.Runs).1 of_runs runs
-    ∙ seek_others (codes "/waiting") path (excuses_row ++ (mail_row ++ last_rows)) [] (plain (codes "/waiting") route.Waiting).1 of_waiting waiting)
+    (seek_beside (codes "/kept/") (param_token ∷ 47 ∷ param_token ∷ []) path excuses_row (kept_row ++ (mail_row ++ (runs_row ++ (status_rows ++ (update_row ++ waiting_row))))) letter of_below below
+    ∙ seek_others (codes "/kept") path excuses_row (mail_row ++ (runs_row ++ (status_rows ++ (update_row ++ waiting_row)))) (plain (codes "/kept") route.Kept).1 of_kept kept
+    ∙ seek_others (codes "/runs") path (excuses_row ++ mail_row) (status_rows ++ (update_row ++ waiting_row)) (plain (codes "/runs") route.Runs).1 of_runs runs
+    ∙ seek_others (codes "/waiting") path (excuses_row ++ (mail_row ++ (status_rows ++ update_row))) [] (plain (codes "/waiting") route.Waiting).1 of_waiting waiting)
 
 -- the laws
-pub others_stay : (setup : Lists) (head : RequestHead) → path_of head.target ≢ codes "/waiting" → path_of head.target ≢ codes "/runs" → path_of head.target ≢ codes "/kept" → ((rest : List ℕ) → path_of head.target ≢ codes "/kept/" ++ rest)
-    → asked_of setup head ≡ asked_by_table six_routes setup head
+pub later_stay : (setup : Lists) (head : RequestHead) → path_of head.target ≢ codes "/try" → ((rest : List ℕ) → path_of head.target ≢ codes "/why/" ++ rest) → asked_of setup head ≡ asked_by_table ten_routes setup head
 unfolding asked_of asked_by
-others_stay setup head waiting runs kept below =
+later_stay setup head other beside =
     let path = path_of head.target in
-    ap (λ (o : Option Route). asked_at setup o head.method path head.minor (framing_of (map name_and_value head.fields))) (six_answer path waiting runs kept below)
+    ap (λ (o : Option Route). asked_at setup o head.method path head.minor (framing_of (map name_and_value head.fields))) (ten_answer path other beside)
+
+pub others_stay : (setup : Lists) (head : RequestHead) → path_of head.target ≢ codes "/waiting" → path_of head.target ≢ codes "/runs" → path_of head.target ≢ codes "/kept" → ((rest : List ℕ) → path_of head.target ≢ codes "/kept/" ++ rest)
+    → path_of head.target ≢ codes "/try" → ((rest : List ℕ) → path_of head.target ≢ codes "/why/" ++ rest) → asked_of setup head ≡ asked_by_table six_routes setup head
+others_stay setup head waiting runs kept below other beside =
+    let path = path_of head.target in
+    later_stay setup head other beside
+    ∙ ap (λ (o : Option Route). asked_at setup o head.method path head.minor (framing_of (map name_and_value head.fields))) (six_answer path waiting runs kept below)
 
 told_at : (setup : Lists) (head : RequestHead) (path : List ℕ) → path_of head.target ≡ path → asked_of setup head ≡ asked_at setup (route_of path) head.method path head.minor (framing_of (map name_and_value head.fields))
 unfolding asked_of asked_by
@@ -142,3 +174,7 @@ runs_told setup head e = told_at setup head (codes "/runs") e
 pub kept_told : (setup : Lists) (head : RequestHead) → path_of head.target ≡ codes "/kept" → asked_of setup head ≡ tell_asked Kept head.method
 unfolding office_routes matchit_on_literals
 kept_told setup head e = told_at setup head (codes "/kept") e
+
+pub try_told : (setup : Lists) (head : RequestHead) → path_of head.target ≡ codes "/try" → asked_of setup head ≡ post_asked Try head.method head.minor (framing_of (map name_and_value head.fields))
+unfolding office_routes matchit_on_literals
+try_told setup head e = told_at setup head (codes "/try") e

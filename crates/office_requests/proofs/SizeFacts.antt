@@ -5,19 +5,20 @@ use Rattle.std.specs.Str.{bytes_eq}
 use Rattle.std.specs.Str.Parse.{digits_value}
 use Rattle.httparse.specs.Grammar.{RequestHead}
 use Rattle.httparse.specs.Spans.{name_and_value}
+use Rattle.deb_control.specs.Relations.{is_package_name}
 use Rattle.office_mail.specs.Lists.{Lists}
 use Rattle.office_requests.specs.Routes.{route_of}
 use Rattle.office_requests.specs.declared.routes.Route.{Route}
 use Rattle.office_requests.specs.declared.routes.Route.TheVariants as route
 use Rattle.office_requests.specs.declared.reply.Refusal.{Refusal}
-use Rattle.office_requests.specs.declared.reply.Refusal.TheVariants.{OnlyGet, OnlyPost}
+use Rattle.office_requests.specs.declared.reply.Refusal.TheVariants.{NoRoute, OnlyGet, OnlyPost}
 use Rattle.office_requests.specs.declared.request.Stated.{Stated}
 use Rattle.office_requests.specs.declared.request.Stated.TheVariants.{Absent, Bad, TooLong, Exactly}
 use Rattle.office_requests.specs.declared.request.Framing.{Framing}
 use Rattle.office_requests.specs.declared.request.Action.{Action}
-use Rattle.office_requests.specs.declared.request.Action.TheVariants.{Deliver, Settle}
+use Rattle.office_requests.specs.declared.request.Action.TheVariants.{Deliver, Settle, Try}
 use Rattle.office_requests.specs.declared.request.Page.{Page}
-use Rattle.office_requests.specs.declared.request.Page.TheVariants.{Status, Testing, Excuses, Update, Waiting, Runs, Kept}
+use Rattle.office_requests.specs.declared.request.Page.TheVariants.{Status, Testing, Excuses, Update, Waiting, Runs, Kept, Why}
 use Rattle.office_requests.specs.declared.request.Asked.{Asked}
 use Rattle.office_requests.specs.declared.request.Asked.TheVariants.{Refused, Tell}
 use Rattle.office_requests.specs.Asked.{Line, are_digits, number_stated, stated, values_named, framing_of, posted_length, posted_by, post_asked, tell_asked, asked_at, asked_by, asked_of, letter_by, path_of, plain_number, sender_place, slash_at, body_size}
@@ -51,6 +52,7 @@ length_fits : (action : Action) (s : Stated) (coded waits : Bool) → stated_siz
 length_fits Settle Absent true waits h = omega arith
 length_fits Settle Absent false waits h = omega arith
 length_fits Deliver Absent coded waits h = omega arith
+length_fits Try Absent coded waits h = omega arith
 length_fits action Bad coded waits h = omega arith
 length_fits action TooLong true waits h = omega arith
 length_fits action TooLong false waits h = omega arith
@@ -87,6 +89,8 @@ asked_fits setup (Some route.Kept) method path minor framing h = tell_fits Kept 
 asked_fits setup (Some route.Letter) method path minor framing h =
     let text = drop 6 path in
     if_fits (bytes_eq method (codes "GET")) (letter_by (sender_place setup (take (slash_at text) text)) (plain_number (drop (slash_at text + 1) text))) OnlyGet (letter_fits (sender_place setup (take (slash_at text) text)) (plain_number (drop (slash_at text + 1) text)))
+asked_fits setup (Some route.Why) method path minor framing h = if_fits (is_package_name (drop 5 path)) (tell_asked (Why (drop 5 path)) method) NoRoute (tell_fits (Why (drop 5 path)) method)
+asked_fits setup (Some route.Try) method path minor framing h = post_fits Try method minor framing h
 
 -- no body that is read is longer than 65,536 bytes
 pub body_fits : (setup : Lists) (head : RequestHead) → body_size (asked_of setup head) ≤ body_room

@@ -9,6 +9,7 @@ use Rattle.httparse.specs.Grammar.{RequestHead}
 use Rattle.httparse.specs.Spans.{name_and_value}
 use Rattle.matchit.specs.Rows.{RowsOf}
 use Rattle.matchit.specs.Router.{RouteOf}
+use Rattle.deb_control.specs.Relations.{is_package_name}
 use Rattle.office_mail.specs.Lists.{Lists}
 use Rattle.office_mail.specs.Read.{sender_named}
 use Rattle.office_setup.specs.declared.setup.Role.{Role}
@@ -22,9 +23,9 @@ use Rattle.office_requests.specs.declared.request.Stated.{Stated}
 use Rattle.office_requests.specs.declared.request.Stated.TheVariants.{Absent, Bad, TooLong, Exactly}
 use Rattle.office_requests.specs.declared.request.Framing.{Framing}
 use Rattle.office_requests.specs.declared.request.Action.{Action}
-use Rattle.office_requests.specs.declared.request.Action.TheVariants.{Deliver, Settle}
+use Rattle.office_requests.specs.declared.request.Action.TheVariants.{Deliver, Settle, Try}
 use Rattle.office_requests.specs.declared.request.Page.{Page}
-use Rattle.office_requests.specs.declared.request.Page.TheVariants.{Status, Testing, Excuses, Update, Waiting, Runs, Kept, Letter}
+use Rattle.office_requests.specs.declared.request.Page.TheVariants.{Status, Testing, Excuses, Update, Waiting, Runs, Kept, Letter, Why}
 use Rattle.office_requests.specs.declared.request.Asked.{Asked}
 use Rattle.office_requests.specs.declared.request.Asked.TheVariants.{Refused, Tell, Post}
 
@@ -115,6 +116,7 @@ plain_number text = if has_leading_zero text then 0 else number_or_zero text
 abbrev pub absent_length : Action → Bool → Result ℕ Refusal
 absent_length Settle coded = if coded then Err LengthRequired else Ok 0
 absent_length Deliver coded = Err LengthRequired
+absent_length Try coded = Err LengthRequired
 
 abbrev pub posted_length : Action → Stated → Bool → Result ℕ Refusal
 posted_length action Absent coded = absent_length action coded
@@ -156,7 +158,12 @@ abbrev pub letter_asked : Lists → List ℕ → List ℕ → Asked
 letter_asked setup text method =
     if bytes_eq method (codes "GET") then letter_by (sender_place setup (take (slash_at text) text)) (plain_number (drop (slash_at text + 1) text)) else Refused OnlyGet
 
--- by the route of the path; a report names its run behind the second slash, a kept text its sender there, and then its number
+-- what a GET asks for by the name of a source (Debian Policy 5.6.1); any other text there is the path of nothing
+abbrev pub why_asked : List ℕ → List ℕ → Asked
+why_asked name method = if is_package_name name then tell_asked (Why name) method else Refused NoRoute
+
+-- By the route of the path. A report names its run behind the second slash, a kept text its sender there, and then its
+-- number; what is told of a source names the source there.
 abbrev pub asked_at : Lists → Option Route → List ℕ → List ℕ → ℕ → Framing → Asked
 asked_at setup None method path minor framing = Refused NoRoute
 asked_at setup (Some route.Mail) method path minor framing = post_asked Deliver method minor framing
@@ -169,6 +176,8 @@ asked_at setup (Some route.Waiting) method path minor framing = tell_asked Waiti
 asked_at setup (Some route.Runs) method path minor framing = tell_asked Runs method
 asked_at setup (Some route.Kept) method path minor framing = tell_asked Kept method
 asked_at setup (Some route.Letter) method path minor framing = letter_asked setup (drop 6 path) method
+asked_at setup (Some route.Why) method path minor framing = why_asked (drop 5 path) method
+asked_at setup (Some route.Try) method path minor framing = post_asked Try method minor framing
 
 unfoldable pub asked_by : Lists → List ℕ → List ℕ → ℕ → Framing → Asked
 asked_by setup method target minor framing = asked_at setup (route_of (path_of target)) method (path_of target) minor framing

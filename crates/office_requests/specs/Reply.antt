@@ -10,7 +10,7 @@ use Rattle.office_replies.specs.declared.faults.Held.{Held}
 use Rattle.office_requests.specs.declared.reply.Refusal.{Refusal}
 use Rattle.office_requests.specs.declared.reply.Refusal.TheVariants as refusal
 use Rattle.office_requests.specs.declared.reply.Answer.{Answer}
-use Rattle.office_requests.specs.declared.reply.Answer.TheVariants.{Refused, Delivered, Status, Told, Letter}
+use Rattle.office_requests.specs.declared.reply.Answer.TheVariants.{Refused, Delivered, Status, Told, Letter, BadHint}
 use Rattle.office_replies.specs.Replies.{status_line, reply_line}
 
 -- a status code, the field Allow or nothing, and a body
@@ -80,6 +80,10 @@ refused refusal = record { code = refusal_code refusal; allow = refusal_allow re
 abbrev pub accepted : List ℕ → Reply
 accepted text = record { code = 200; allow = []; body = text }
 
+-- the reply that tells why what a request says is bad
+abbrev pub bad_request : List ℕ → Reply
+bad_request text = record { code = 400; allow = []; body = text }
+
 -- the status code for a delivery that is refused
 abbrev pub mail_code : MailFault → ℕ
 mail_code mail.TooLong = 413
@@ -110,6 +114,7 @@ reply_in setup (Delivered reply) = record { code = delivery_code reply; allow = 
 reply_in setup (Status progress) = accepted (status_line progress.ready progress.finished)
 reply_in setup (Told text) = accepted text
 reply_in setup (Letter text) = accepted text
+reply_in setup (BadHint text) = bad_request text
 
 -- a text that is held has a sender of the setup
 abbrev pub HasPlaceOf : Lists → Result Held DeliverFault → Type 0
@@ -122,3 +127,4 @@ HasPlace setup (Refused refusal) = ⊤
 HasPlace setup (Status progress) = ⊤
 HasPlace setup (Told text) = ⊤
 HasPlace setup (Letter text) = ⊤
+HasPlace setup (BadHint text) = ⊤

@@ -7,6 +7,7 @@ mod letters;
 mod reply;
 mod request;
 pub mod routes;
+mod sources;
 
 pub use head::{BodyRead, FIELD_ROOM, HeadRead, read_head, read_up_to};
 pub use reply::{Answer, Refusal, write_answer, write_continue};

@@ -3,7 +3,7 @@ ghost use Rattle.std.specs.Prelude.{◌≡◌, Ok, Err, ◌≤◌, ◌<◌, ◌+
 ghost use Rattle.std.specs.Io.KnownBytes.{Appends};
 ghost use Rattle.http.specs.StatusCode.{reason_phrase};
 ghost use Rattle.office_mail.specs.Counts.{HasRisen};
-ghost use Rattle.office_requests.specs.Reply.{Reply, refusal_code, refusal_name, refusal_allow, refused, fault_code, accepted, reply_in, reply_bytes, front_bytes, continue_bytes, HasPlace};
+ghost use Rattle.office_requests.specs.Reply.{Reply, refusal_code, refusal_name, refusal_allow, refused, fault_code, accepted, bad_request, reply_in, reply_bytes, front_bytes, continue_bytes, HasPlace};
 ghost use Rattle.office_replies.specs.Replies.{status_line};
 ghost use Rattle.office_replies.specs.Written.{AppendsFront, joined};
 
@@ -96,6 +96,8 @@ pub enum Answer {
     Told(Text),
     /// A kept text, byte for byte.
     Letter(MailText),
+    /// Why a hint is refused.
+    BadHint(Text),
 }
 
 /// The status code for a delivery that is refused.
@@ -289,6 +291,24 @@ fn write_text<W: Sink>(text: &[u8], is_head: bool, writer: &mut W) -> Result<u16
     write_whole(StatusCode::OK, "", &body, text.len(), is_head, writer)
 }
 
+fn write_bad_hint<W: Sink>(text: &[u8], is_head: bool, writer: &mut W) -> Result<u16, WriteFault>
+    ensures ok { OnOk result (Appends (W.written writer.old) (W.written writer.new) (reply_bytes (bad_request text.now) is_head)) }
+    ensures code { IfOk result (λ code. code ≡ 400) }
+    ensures err { OnErr result (AppendsFront (W.written writer.old) (W.written writer.new) (reply_bytes (bad_request text.now) is_head)) }
+    ensures cause { OnErr result (HasRisen (W.failures writer.old) (W.failures writer.new)) }
+    ensures clean { OnOk result (W.failures writer.new ≡ W.failures writer.old) }
+{
+    let body = [text];
+    write_whole(
+        StatusCode::BAD_REQUEST,
+        "",
+        &body,
+        text.len(),
+        is_head,
+        writer,
+    )
+}
+
 /// Writes the reply to what a request comes to, or a front of it. It gives the status code.
 pub fn write_answer<W: Sink>(
     setup: &Setup,
@@ -310,6 +330,7 @@ pub fn write_answer<W: Sink>(
         Answer::Status(progress) => write_progress(*progress, is_head, writer),
         Answer::Told(text) => write_text(text.as_str().as_bytes(), is_head, writer),
         Answer::Letter(text) => write_text(text.as_slice(), is_head, writer),
+        Answer::BadHint(text) => write_bad_hint(text.as_str().as_bytes(), is_head, writer),
     }
 }
 

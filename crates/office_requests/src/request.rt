@@ -12,9 +12,12 @@ ghost use Rattle.office_requests.specs.Request.{field_room};
 use crate::letters::letter_asked;
 use crate::reply::Refusal;
 use crate::routes::{Route, find_route};
+use crate::sources::why_asked;
+use deb_control::Text;
 use httparse::spans::{HeaderSpan, RequestSpans};
 use matchit::Router;
 use office_mail::Setup;
+use std::alloc::{AllocError, Global};
 use std::cmp::min;
 
 /// The greatest length of a body.
@@ -45,6 +48,8 @@ pub struct Framing {
 pub enum Action {
     Deliver,
     Settle,
+    /// Tries the hints in the lines of the body.
+    Try,
 }
 
 /// A POST: what it is for, how long its body is, and whether the client waits for `100 Continue`.
@@ -56,7 +61,7 @@ pub struct Posted {
 }
 
 /// A text that the office tells.
-#[derive(Clone, Copy, Debug, PartialEq, Eq)]
+#[derive(Debug, Drop)]
 pub enum Page {
     Status,
     Testing,
@@ -70,10 +75,12 @@ pub enum Page {
     Kept,
     /// The kept text of a number of a sender, who is told by its place in the setup.
     Letter { sender: u32, number: u32 },
+    /// What is told of the source of a name.
+    Why(Text),
 }
 
 /// What a request asks for.
-#[derive(Clone, Copy, Debug, PartialEq, Eq)]
+#[derive(Debug, Drop)]
 pub enum Asked {
     Refused(Refusal),
     Tell(Page),
@@ -278,6 +285,7 @@ fn absent_length(action: Action, coded: bool) -> Result<u32, Refusal>
             }
         }
         Action::Deliver => Err(Refusal::LengthRequired),
+        Action::Try => Err(Refusal::LengthRequired),
     }
 }
 
@@ -323,62 +331,68 @@ fn post_asked(action: Action, method: &[u8], minor: u8, framing: Framing) -> Ask
 }
 
 /// What is asked for on a route that takes GET.
-fn tell_asked(page: Page, method: &[u8]) -> Asked
+pub(crate) fn tell_asked(page: Page, method: &[u8]) -> Asked
     ensures { result ≡ tell_asked page method.now }
 {
-    if method != b"GET".as_slice() {
-        return Asked::Refused(Refusal::OnlyGet);
+    if method == b"GET".as_slice() {
+        return Asked::Tell(page);
     }
-    Asked::Tell(page)
+    drop(page);
+    Asked::Refused(Refusal::OnlyGet)
 }
 
-/// What is asked for, by the parts of the head.
+/// What is asked for, by the parts of the head. It fails for want of memory alone.
 #[tactic(auto, unfolding(crate::specs::Asked::asked_by))]
 fn asked_by(
+    alloc: Global,
     router: &Router<Route>,
     setup: &Setup,
     method: &[u8],
     target: &str,
     minor: u8,
     framing: Framing,
-) -> Asked
+) -> Result<Asked, AllocError>
     requires { router.now ≡ office_routes }
-    ensures { result ≡ asked_by setup.now method.now target.now minor framing }
+    ensures { IfOk result (λ asked. asked ≡ asked_by setup.now method.now target.now minor framing) }
 {
     let path = path_of(target);
     match find_route(router, path) {
-        None => Asked::Refused(Refusal::NoRoute),
-        Some(Route::Mail) => post_asked(Action::Deliver, method, minor, framing),
-        Some(Route::Settle) => post_asked(Action::Settle, method, minor, framing),
-        Some(Route::Status) => tell_asked(Page::Status, method),
-        Some(Route::Testing) => tell_asked(Page::Testing, method),
-        Some(Route::Excuses) => tell_asked(Page::Excuses(run_in(path, 9)), method),
-        Some(Route::Update) => tell_asked(Page::Update(run_in(path, 8)), method),
-        Some(Route::Waiting) => tell_asked(Page::Waiting, method),
-        Some(Route::Runs) => tell_asked(Page::Runs, method),
-        Some(Route::Kept) => tell_asked(Page::Kept, method),
-        Some(Route::Letter) => letter_asked(setup, behind(path, 6), method),
+        None => Ok(Asked::Refused(Refusal::NoRoute)),
+        Some(Route::Mail) => Ok(post_asked(Action::Deliver, method, minor, framing)),
+        Some(Route::Settle) => Ok(post_asked(Action::Settle, method, minor, framing)),
+        Some(Route::Status) => Ok(tell_asked(Page::Status, method)),
+        Some(Route::Testing) => Ok(tell_asked(Page::Testing, method)),
+        Some(Route::Excuses) => Ok(tell_asked(Page::Excuses(run_in(path, 9)), method)),
+        Some(Route::Update) => Ok(tell_asked(Page::Update(run_in(path, 8)), method)),
+        Some(Route::Waiting) => Ok(tell_asked(Page::Waiting, method)),
+        Some(Route::Runs) => Ok(tell_asked(Page::Runs, method)),
+        Some(Route::Kept) => Ok(tell_asked(Page::Kept, method)),
+        Some(Route::Letter) => Ok(letter_asked(setup, behind(path, 6), method)),
+        Some(Route::Why) => why_asked(alloc, behind(path, 5), method),
+        Some(Route::Try) => Ok(post_asked(Action::Try, method, minor, framing)),
     }
 }
 
-/// What the head of a request asks for of an office with this setup.
+/// What the head of a request asks for of an office with this setup. It fails for want of memory alone.
 #[tactic(auto, unfolding(crate::specs::Asked::asked_of))]
 pub fn asked_of(
+    alloc: Global,
     router: &Router<Route>,
     setup: &Setup,
     seen: &[u8],
     spans: RequestSpans,
     headers: &[HeaderSpan],
-) -> Asked
+) -> Result<Asked, AllocError>
     requires table { router.now ≡ office_routes }
     requires within { IsRequestWithin seen.now headers.now spans }
-    ensures { (head : RequestHead) → IsRequestAt seen.now headers.now spans head → result ≡ asked_of setup.now head }
+    ensures { IfOk result (λ asked. (head : RequestHead) → IsRequestAt seen.now headers.now spans head → asked ≡ asked_of setup.now head) }
 {
     let framing = framing_of(seen, &headers[..spans.headers]);
     let Ok(target) = str::from_utf8(spans.path.of(seen)) else {
-        return Asked::Refused(Refusal::BadRequest);
+        return Ok(Asked::Refused(Refusal::BadRequest));
     };
     asked_by(
+        alloc,
         router,
         setup,
         spans.method.of(seen),

@@ -10,8 +10,10 @@ use Rattle.office_keeper.specs.declared.values.Reports.{Reports}
 use Rattle.office_runs.specs.Laws.{RunsStand, TookTexts}
 use Rattle.office_facts.specs.Outcome.{Outcome, reports_of, reports_to, testing_after}
 use Rattle.office_facts.specs.State.{IsOffice}
-use Rattle.office_runs.proofs.FinishFacts.{report_is, reports_to-suc}
-use Rattle.office_runs.proofs.OfficeFacts.{outcome_of-later, reports_to-later}
+use Rattle.office_facts.proofs.ReportFacts.{report_is}
+use Rattle.office_rules.proofs.OutcomeFacts.{outcome_of-later}
+use Rattle.office_runs.proofs.FinishFacts.{reports_to-suc}
+use Rattle.office_runs.proofs.OfficeFacts.{reports_to-later}
 
 same_kept : (setup : Lists) (xs ys : List (List ℕ)) (a b : Content) → TookTexts setup xs a → TookTexts setup ys b → SameTexts setup xs ys → a.kept ≡ b.kept
 same_kept setup xs ys a b x y same = x.kept ∙ same_kept_from setup xs ys x.one_text y.one_text same ∙ sym y.kept

@@ -1,14 +1,14 @@
 -- What a delivery leaves of an office.
 use Rattle.std.proofs.Common.{OnOk, ◌≡◌, ◌⊎◌, ⊎_elim, inl, inr, ℕ, zero, suc, Bool, true, false, cond, List, [], ◌∷◌, ◌++◌, length, Option, Some, None, Result, Ok, Err, IsSome, sym, ap, subst, ◌∙◌, refl, rules}
 use Rattle.std.specs.Ordering.{eq_by_cmp}
-use Rattle.std.specs.FinMap.{get, insert, empty, get-empty, get-insert, entries}
+use Rattle.std.specs.FinMap.{get, insert, empty, get-empty, get-insert}
 use Rattle.office_mail.specs.declared.message.Message.{Message}
 use Rattle.office_mail.specs.declared.message.MailFault.{MailFault}
 use Rattle.office_mail.specs.declared.message.MailFault.TheVariants.{NoMemory}
 use Rattle.office_mail.specs.Kept.{place_cmp, place_of, placed, kept_from, IsPlace, Kept, Place, Within}
 use Rattle.office_mail.specs.Read.{read}
 use Rattle.office_mail.proofs.KeptFacts.{places_total, tied, placed_ok, kept_from-nil, kept_from-append, kept_from-fault, kept_from-free, kept_from-taken, kept_from-Within}
-use Rattle.office_mail.proofs.RunFacts.{IsReady-zero, orders_to-later, covered-later, IsReady-before, IsReady-later}
+use Rattle.office_mail.proofs.RunFacts.{IsReady-zero, IsReady-before, IsReady-later}
 use Rattle.office_replies.specs.declared.faults.DeliverFault.{DeliverFault}
 use Rattle.office_replies.specs.declared.faults.DeliverFault.TheVariants.{Mail}
 use Rattle.office_replies.specs.declared.faults.Held.{Held}
@@ -16,11 +16,9 @@ use Rattle.office_keeper.specs.Content.{Content, no_content, with_text}
 use Rattle.office_keeper.specs.FactSet.{FactSet, count_in}
 use Rattle.office_keeper.specs.Provenance.{AreOwnTexts}
 use Rattle.office_facts.specs.State.{IsOffice, KeepsFacts, AnswersDelivery, answer_to, answer_by, answer_at}
-use Rattle.office_mail.specs.declared.message.RunOrder.{RunOrder}
 use Rattle.office_mail.specs.Lists.{Lists}
-use Rattle.office_mail.specs.Runs.{orders_to, latest_day, IsReady}
+use Rattle.office_mail.specs.Runs.{IsReady}
 use Rattle.office_keeper.specs.declared.values.Reports.{Reports}
-use Rattle.std.specs.List.{filter_map}
 use Rattle.std.specs.Prelude.{⊤, is_some, if◌then◌else◌, Contains}
 use Rattle.testing_items.proofs.Members.{none_among}
 use Rattle.testing_model.proofs.Sets.{at_front}
@@ -29,21 +27,9 @@ use Rattle.testing_model.specs.FactRows.{row_order}
 use Rattle.testing_model.specs.KeptFacts.{KeptFacts}
 use Rattle.testing_rules.specs.Watched.{AllWatchedWork}
 use Rattle.office_facts.proofs.WalkFacts.{none_covered}
+use Rattle.office_rules.proofs.OutcomeFacts.{covered_items-later, outcome_of-later}
 use Rattle.testing_rules.specs.Covered.{Covered}
-use Rattle.office_facts.specs.Outcome.{Outcome, Testing, item_at, covered_items, outcome_on, outcome_of, reports_from, reports_of, reports_to, testing_after}
-
-pub covered_items-later : (setup : Lists) (small large : Kept) (k : ℕ) → Within small large → IsReady setup small k → covered_items setup large k ≡ covered_items setup small k
-unfolding covered_items
-covered_items-later setup small large k within ready = ap (λ (m : Kept). filter_map (item_at setup) (entries m)) (covered-later setup small large k within ready)
-
--- later mail changes no outcome of a ready run
-pub outcome_of-later : (setup : Lists) (small large : Kept) (k : ℕ) → Within small large → IsReady setup small k → outcome_of setup large k ≡ outcome_of setup small k
-unfolding outcome_of
-outcome_of-later setup small large zero within ready = refl
-outcome_of-later setup small large (suc k) within ready =
-    ap (λ (os : List RunOrder). outcome_on setup (suc k) (latest_day os) (covered_items setup large (suc k)) (outcome_of setup large k).testing) (orders_to-later setup small large (suc k) within ready.orders)
-    ∙ ap (λ (mail : Covered). outcome_on setup (suc k) (latest_day (orders_to setup small (suc k))) mail (outcome_of setup large k).testing) (covered_items-later setup small large (suc k) within ready)
-    ∙ ap (λ (o : Outcome). outcome_on setup (suc k) (latest_day (orders_to setup small (suc k))) (covered_items setup small (suc k)) o.testing) (outcome_of-later setup small large k within (IsReady-before setup small k ready))
+use Rattle.office_facts.specs.Outcome.{Outcome, Testing, covered_items, outcome_of, reports_from, reports_of, reports_to, testing_after}
 
 pub reports_to-later : (setup : Lists) (small large : Kept) (k : ℕ) → Within small large → IsReady setup small k → reports_to setup large k ≡ reports_to setup small k
 unfolding reports_to

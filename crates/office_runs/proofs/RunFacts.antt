@@ -3,12 +3,7 @@ use Rattle.std.proofs.Common.{◌≡◌, ℕ, ◌+◌, List, length, Some, sym, 
 use Rattle.office_mail.specs.declared.message.RunOrder.{RunOrder}
 use Rattle.office_mail.specs.Runs.{cover_of, cover, latest_day, orders_to}
 use Rattle.jiff.specs.declared.civil.dates.Date.{Date}
-use Rattle.testing_model.specs.declared.excuse.Excuse.{Excuse}
-use Rattle.testing_model.specs.declared.update.Decision.{Decision}
 use Rattle.testing_rules.specs.Covered.{Covered}
-use Rattle.testing_rules.specs.Suite.{Suite}
-use Rattle.testing_rules.specs.Excuses.{excuses_of}
-use Rattle.testing_rules.specs.Updates.{update_of, IsUpdate}
 use Rattle.office_mail.specs.Lists.{Lists}
 use Rattle.testing_rules.specs.FactLists.{FactLists}
 use Rattle.testing_rules.specs.StandsFor.{StandsFor}
@@ -16,17 +11,9 @@ use Rattle.office_keeper.specs.Content.{Content}
 use Rattle.office_orders.specs.Ready.{FirstOrders}
 use Rattle.office_facts.specs.State.{IsOffice}
 use Rattle.office_facts.specs.Walk.{said_within}
-use Rattle.office_facts.specs.Outcome.{Outcome, Testing, covered_items, outcome, outcome_of, reported}
+use Rattle.office_facts.specs.Outcome.{Outcome, Testing, covered_items, outcome, outcome_of}
 use Rattle.office_facts.proofs.WalkFacts.{stands_for_covered}
-use Rattle.office_runs.proofs.FinishFacts.{outcome_is}
-
--- what is written and left by the excuses and the decisions is the run's outcome
-pub reported_is : (setup : Lists) (run : ℕ) (date : Date) (s : Covered) (t new : Suite) (es : List Excuse) (ds : List Decision) → es ≡ excuses_of setup.archs s t date → IsUpdate setup.archs s es t ds new → reported setup run date es (record { decisions = ds; suite = new }) ≡ outcome setup run date s t
-unfolding outcome
-reported_is setup run date s t new es ds e u =
-    ap (λ (d : List Decision). reported setup run date es (record { decisions = d; suite = new })) u.0
-    ∙ ap (λ (x : Suite). reported setup run date es (record { decisions = (update_of setup.archs s es t).decisions; suite = x })) u.1
-    ∙ ap (λ (x : List Excuse). reported setup run date x (update_of setup.archs s x t)) e
+use Rattle.office_rules.proofs.OutcomeFacts.{outcome_is}
 
 -- a run over the facts of its covered mail is the office's next run
 pub next_run : (setup : Lists) (content : Content) (orders : List RunOrder) (run : ℕ) (date : Date) (facts : FactLists) (testing : Testing) (left : Outcome) → IsOffice setup content → FirstOrders setup content.kept orders → length orders ≡ length content.reports + 1 → run ≡ length content.reports + 1 → testing ≡ content.testing → Some date ≡ latest_day orders → StandsFor facts (said_within setup content.kept (cover_of orders) (length setup.senders)) testing → ((s : Covered) → StandsFor facts s testing → left ≡ outcome setup run date s testing) → left ≡ outcome_of setup content.kept run

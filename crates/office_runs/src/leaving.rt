@@ -17,7 +17,6 @@ ghost use Rattle.office_orders.specs.Ready.{FirstOrders};
 ghost use Rattle.office_facts.specs.State.{IsOffice};
 ghost use Rattle.office_facts.specs.Walk.{said_within};
 
-use crate::rules::run_beside;
 use jiff::civil::Date;
 use office_facts::covered::{KnownFacts, facts};
 use office_facts::retaking::go_with;
@@ -25,6 +24,7 @@ use office_keeper::{Finished, Keeper};
 use office_mail::{RunOrder, Setup, latest_day};
 use office_orders::stored;
 use office_replies::StoreFault;
+use office_rules::run_beside;
 use std::alloc::Global;
 
 /// What a run leaves, of which and of those before it these are the orders; and what is known for the next one.

@@ -7,7 +7,6 @@ pub mod laws;
 mod leaving;
 mod office;
 mod posting;
-pub mod rules;
 pub mod runs;
 
 pub use gathering::Reply;

@@ -15,6 +15,8 @@ ghost use Rattle.office_orders.specs.StaysTrusted.{StaysTrusted};
 ghost use Rattle.office_facts.specs.Outcome.{testing_after, testing_text};
 ghost use Rattle.office_facts.specs.State.{IsSound, KeepsFacts, state_of, answer_to, AnswersDelivery, reports_at};
 ghost use Rattle.office_orders.specs.Waiting.{Awaits, AwaitsSome};
+ghost use Rattle.office_reasons.specs.Why.{IsWhy};
+ghost use Rattle.office_trials.specs.Trial.{IsTrial};
 
 use crate::gathering::{Reply, keep_texts};
 use crate::posting::deliver;
@@ -26,7 +28,9 @@ use office_mail::{RunOrder, Setup};
 use office_orders::ready::ready_count;
 use office_orders::stored;
 use office_orders::waiting::waiting;
+use office_reasons::why_text;
 use office_replies::{DeliverFault, Held, Progress, StoreFault, Waiting};
+use office_trials::{Terms, Trial, try_hints};
 use std::alloc::Global;
 use std::marker::Model;
 use testing_rules::Testing;
@@ -243,6 +247,20 @@ impl<K: Keeper> Office<K> {
         waiting(self.alloc, &self.setup, &mut self.keeper, &mut self.counts)
     }
 
+    /// What the next run would decide if these hints were covered too, beside what it would decide without them. Nothing is
+    /// kept, and no run is finished. It fails for want of memory or of the store alone.
+    pub fn try_hints(&mut self, hints: &[Text], terms: Terms) -> Result<Trial, StoreFault>
+        ensures tried { K.is_trusted self.new → IsSound K.Keeper self.old → IfOk result (IsTrial (K.setup self.old) (K.content self.old).kept (state_of K.Keeper self.old).finished terms hints.now) }
+        ensures same { K.is_trusted self.new → K.content self.new ≡ K.content self.old }
+        ensures setup { K.setup self.new ≡ K.setup self.old }
+        ensures sound { K.is_trusted self.new → IsSound K.Keeper self.old → IsSound K.Keeper self.new }
+        ensures before { K.is_trusted self.new → K.is_trusted self.old }
+        ensures lasts { StaysTrusted K.Keeper self.old self.new (is_ok result) }
+        ensures counted { Counted (K.refusals self.old) (K.refusals self.new) result }
+    {
+        try_hints(self.alloc, &self.setup, &mut self.keeper, hints, terms)
+    }
+
     /// The text of testing, as the last finished run left it. It fails for want of memory or of the store alone.
     pub fn testing_text(&mut self) -> Result<Text, StoreFault>
         ensures text { K.is_trusted self.new → IsSound K.Keeper self.old → IfOk result (λ text. text ≡ testing_text (K.setup self.old) (state_of K.Keeper self.old).finished (testing_after (K.setup self.old) (K.content self.old).kept (state_of K.Keeper self.old).finished)) }
@@ -286,6 +304,26 @@ impl<K: Keeper> Office<K> {
     {
         let reports = stored::reports(&mut self.keeper, run)?;
         Ok(update_in(reports))
+    }
+
+    /// Why a source stands where the last finished run left it, none where no run is finished. It fails for want of memory
+    /// or of the store alone.
+    pub fn why_text(&mut self, source: &str) -> Result<Option<Text>, StoreFault>
+        ensures why { K.is_trusted self.new → IsSound K.Keeper self.old → IfOk result (IsWhy (K.setup self.old) (K.content self.old).kept (state_of K.Keeper self.old).finished source.now) }
+        ensures same { K.is_trusted self.new → K.content self.new ≡ K.content self.old }
+        ensures setup { K.setup self.new ≡ K.setup self.old }
+        ensures sound { K.is_trusted self.new → IsSound K.Keeper self.old → IsSound K.Keeper self.new }
+        ensures before { K.is_trusted self.new → K.is_trusted self.old }
+        ensures lasts { StaysTrusted K.Keeper self.old self.new (is_ok result) }
+        ensures counted { Counted (K.refusals self.old) (K.refusals self.new) result }
+    {
+        why_text(
+            self.alloc,
+            &self.setup,
+            &mut self.keeper,
+            &mut self.known,
+            source,
+        )
     }
 
     /// The least kept number of a sender from `from` on, or none. The sender is told by its place in the setup. It fails

@@ -5,7 +5,7 @@ ghost use Rattle.std.specs.Prelude.{is_ok, ◌≡◌, ℕ, ◌+◌, ◌<◌, ◌
 ghost use Rattle.testing_model.specs.declared.facts.DelaysIn.{DelaysIn as SomeDelays};
 ghost use Rattle.office_setup.specs.declared.setup.Role.TheVariants.{Release as TheRelease};
 ghost use Rattle.office_mail.specs.Runs.{IsReady, IsReadyCount};
-ghost use Rattle.office_mail.specs.Setup.{place_of_role, same_role};
+ghost use Rattle.office_mail.specs.Setup.{place_of_role};
 ghost use Rattle.office_replies.specs.Counted.{Counted};
 ghost use Rattle.office_facts.specs.Known.{AreKnown};
 ghost use Rattle.office_orders.specs.StaysTrusted.{StaysTrusted};
@@ -15,34 +15,13 @@ ghost use Rattle.office_facts.specs.State.{IsOffice};
 use crate::leaving::next_outcome;
 use office_facts::covered::KnownFacts;
 use office_keeper::Keeper;
-use office_mail::{Role, RunOrder, Setup};
+use office_mail::{RunOrder, Setup};
 use office_orders::ready::next_is_ready;
 use office_orders::stored;
 use office_replies::StoreFault;
+use office_rules::release_place;
 use std::alloc::Global;
 use testing_rules::DelaysIn;
-
-/// Whether the release team has this role.
-fn is_release(role: Role) -> bool
-    ensures { result ≡ same_role TheRelease role }
-{
-    matches!(role, Role::Release)
-}
-
-/// The place of the release team's sender.
-pub fn release_place(setup: &Setup) -> u32
-    ensures { result ≡ place_of_role TheRelease setup.now.senders }
-{
-    let senders = setup.senders();
-    let mut place = 0;
-    for sender in senders {
-        if is_release(sender.role) {
-            return place;
-        }
-        place += 1;
-    }
-    place
-}
 
 /// Whether these delays, if any, are told by the release team, as all are where each text is kept under its own place.
 fn are_of_release(setup: &Setup, delays: Option<DelaysIn>) -> bool

@@ -18,8 +18,7 @@ use Rattle.office_keeper.specs.declared.values.Letter.{Letter}
 use Rattle.office_facts.specs.Outcome.{Outcome, covered_items, item_at, outcome, outcome_of, testing_after}
 use Rattle.office_orders.specs.Ready.{HasPlaces}
 use Rattle.office_facts.specs.Walk.{item_of, said_within}
-use Rattle.office_runs.proofs.FinishFacts.{outcome_is}
-use Rattle.office_runs.proofs.OfficeFacts.{outcome_of-later}
+use Rattle.office_rules.proofs.OutcomeFacts.{outcome_is, outcome_of-later}
 use Rattle.office_facts.proofs.WalkFacts.{of_text, one_of_each, place_within, same_messages, within_place}
 use Rattle.office_trials.specs.Hints.{release, hint_letters, with_letters}
 use Rattle.office_trials.specs.NextRun.{HasCome, covers_with}

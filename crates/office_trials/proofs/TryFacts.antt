@@ -1,15 +1,11 @@
 -- What a trial is told.
-use Rattle.std.proofs.Common.{◌≡◌, ⊎_elim, ℕ, ◌+◌, ◌<◌, ◌≤◌, List, [], length, Option, Some, None, IsSome, sym, ap, subst, ◌∙◌, refl, arith}
-use Rattle.std.proofs.lemmas.Bool.{cases_lt}
+use Rattle.std.proofs.Common.{◌≡◌, ℕ, ◌+◌, List, length, Option, Some, None, ap, ◌∙◌}
 use Rattle.jiff.specs.declared.civil.dates.Date.{Date}
 use Rattle.testing_model.specs.Covered.{Covered}
 use Rattle.testing_model.specs.Suite.{Suite}
-use Rattle.office_mail.specs.declared.message.RunOrder.{RunOrder}
 use Rattle.office_mail.specs.Lists.{Lists}
 use Rattle.office_mail.specs.Kept.{Kept}
-use Rattle.office_mail.specs.Runs.{latest_day, order_at, orders_to}
-use Rattle.office_orders.proofs.ReadyCount.{orders_to-zero}
-use Rattle.office_orders.specs.Ready.{FirstOrders}
+use Rattle.office_mail.specs.Runs.{latest_day, orders_to}
 use Rattle.office_keeper.specs.Content.{Content}
 use Rattle.office_keeper.specs.declared.values.Letter.{Letter}
 use Rattle.office_facts.specs.Outcome.{outcome, testing_after}
@@ -41,22 +37,6 @@ module _ (setup : Lists) (content : Content) (date : Date) (covers : ℕ → ℕ
       let e_two = two ∙ ap (λ (ls : List Letter). over (with_letters setup (release setup) ls mail) run content.testing) lettered ∙ moved (with_letters setup (release setup) (hint_letters setup (covers (release setup)) hints) mail) in
       λ i. record { run = next i; date = date; first = behind i; without = e_one i; with = e_two i }
 
-some_or_none : {A : Type 0} {P : Type 0} (o : Option A) → IsSome o → o ≡ None → P
-some_or_none o some none = absurd (cc (subst IsSome none some))
-
-pub first_none : (setup : Lists) (kept : Kept) → FirstOrders setup kept []
-first_none setup kept = record { same = sym (orders_to-zero setup kept); each = λ j low high. absurd (omega (arith, low, high)) }
-
--- the first orders up to that of the last finished run
-pub orders_whole : (setup : Lists) (content : Content) (orders : List RunOrder) (run : ℕ) → IsOffice setup content → run ≡ length content.reports → FirstOrders setup content.kept orders → length orders ≤ run
-    → (length orders < run → order_at setup content.kept (length orders + 1) ≡ None) → orders ≡ orders_to setup content.kept (length content.reports)
-orders_whole setup content orders run office is first low none =
-    let all : length orders ≡ length content.reports = ⊎_elim
-    (λ (lt : length orders < run). some_or_none (order_at setup content.kept (length orders + 1)) (office.ready.orders (length orders + 1) (omega arith) (omega (arith, lt, is))) (none lt))
-    (λ (le : run ≤ length orders). omega (arith, le, low, is))
-    (cases_lt (length orders) run) in
-    first.same ∙ ap (orders_to setup content.kept) all
-
 -- a trial whose hints are refused
 pub told_refused : (setup : Lists) (kept : Kept) (k : ℕ) (date : Date) (covers : ℕ → ℕ) (hints : List (List ℕ)) (refused : RefusedHint) → Some refused ≡ first_refused setup (covers (release setup)) 0 hints
     → Refused refused ≡ told_on setup kept k (Some date) covers hints
@@ -68,10 +48,10 @@ pub told_tried : (setup : Lists) (kept : Kept) (k : ℕ) (date : Date) (covers :
 told_tried setup kept k date covers hints t e is = ap Told is ∙ ap (λ (o : Option RefusedHint). unless_refused o (tried setup kept k date covers hints)) e
 
 -- a trial over these covers, with this date
-pub is_trial : (setup : Lists) (content : Content) (terms : Terms) (hints : List (List ℕ)) (covers : ℕ → ℕ) (day : Option Date) (trial : Trial) → AreTrialCovers setup content.kept (length content.reports) terms.all covers
-    → trial ≡ told_on setup content.kept (length content.reports) day covers hints → day ≡ trial_date (latest_day (orders_to setup content.kept (length content.reports))) terms.day → IsTrial setup content terms hints trial
-is_trial setup content terms hints covers day trial are told is = record {
+pub is_trial : (setup : Lists) (kept : Kept) (k : ℕ) (terms : Terms) (hints : List (List ℕ)) (covers : ℕ → ℕ) (day : Option Date) (trial : Trial) → AreTrialCovers setup kept k terms.all covers
+    → trial ≡ told_on setup kept k day covers hints → day ≡ trial_date (latest_day (orders_to setup kept k)) terms.day → IsTrial setup kept k terms hints trial
+is_trial setup kept k terms hints covers day trial are told is = record {
   covers = covers;
   are = are;
-  told = told ∙ ap (λ (d : Option Date). told_on setup content.kept (length content.reports) d covers hints) is;
+  told = told ∙ ap (λ (d : Option Date). told_on setup kept k d covers hints) is;
 }

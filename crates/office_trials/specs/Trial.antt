@@ -8,7 +8,6 @@ use Rattle.testing_model.specs.Suite.{Suite}
 use Rattle.office_mail.specs.Lists.{Lists}
 use Rattle.office_mail.specs.Kept.{Kept}
 use Rattle.office_mail.specs.Runs.{cover, is_covered, later, latest_day, orders_to, runs}
-use Rattle.office_keeper.specs.Content.{Content}
 use Rattle.office_facts.specs.Outcome.{Outcome, item_at, outcome, testing_after, testing_text}
 use Rattle.office_orders.specs.Ready.{HasNumbers}
 use Rattle.report_lines.specs.declared.telling.Decided.{Decided}
@@ -74,8 +73,8 @@ abbrev pub told_on : Lists → Kept → ℕ → Option Date → (ℕ → ℕ) �
 told_on setup kept k None covers hints = NoDate
 told_on setup kept k (Some date) covers hints = unless_refused (first_refused setup (covers (release setup)) 0 hints) (tried setup kept k date covers hints)
 
--- A trial of hints behind the finished runs of an office.
-pub record IsTrial (setup : Lists) (content : Content) (terms : Terms) (hints : List (List ℕ)) (trial : Trial) : Type 0 where
+-- A trial of hints behind k finished runs.
+pub record IsTrial (setup : Lists) (kept : Kept) (k : ℕ) (terms : Terms) (hints : List (List ℕ)) (trial : Trial) : Type 0 where
   pub covers : ℕ → ℕ
-  pub are : AreTrialCovers setup content.kept (length content.reports) terms.all covers
-  pub told : trial ≡ told_on setup content.kept (length content.reports) (trial_date (latest_day (orders_to setup content.kept (length content.reports))) terms.day) covers hints
+  pub are : AreTrialCovers setup kept k terms.all covers
+  pub told : trial ≡ told_on setup kept k (trial_date (latest_day (orders_to setup kept k)) terms.day) covers hints

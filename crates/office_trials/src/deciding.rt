@@ -5,7 +5,7 @@ ghost use Rattle.testing_rules.specs.Covered.{Covered};
 ghost use Rattle.testing_rules.specs.StandsFor.{StandsFor};
 ghost use Rattle.testing_rules.specs.Suite.{Suite};
 ghost use Rattle.office_facts.specs.Outcome.{outcome, testing_text};
-ghost use Rattle.office_runs.specs.RuleSteps.{outcome_left};
+ghost use Rattle.office_rules.specs.RuleSteps.{outcome_left};
 ghost use Rattle.office_trials.specs.Hints.{release, with_letters};
 ghost use Rattle.office_trials.specs.Trial.{decided};
 
@@ -15,8 +15,7 @@ use office_facts::covered::take_letters;
 use office_keeper::Letter;
 use office_mail::Setup;
 use office_replies::StoreFault;
-use office_runs::rules::{RunOutcome, run_beside};
-use office_runs::runs::release_place;
+use office_rules::{RunOutcome, release_place, run_beside};
 use report_lines::Decided;
 use std::alloc::Global;
 use testing_rules::{Facts, Testing};

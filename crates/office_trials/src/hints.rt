@@ -9,7 +9,7 @@ use deb_control::Text;
 use office_keeper::{Letter, MailText};
 use office_mail::{MailFault, Setup, read_message};
 use office_replies::{StoreFault, name_at};
-use office_runs::runs::release_place;
+use office_rules::release_place;
 use std::alloc::{AllocError, Global};
 
 /// The greatest number of a message.

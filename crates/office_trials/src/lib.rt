@@ -4,7 +4,6 @@
 mod counting;
 mod covers;
 mod deciding;
-mod finished;
 mod hints;
 pub mod laws;
 mod trying;

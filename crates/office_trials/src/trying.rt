@@ -15,17 +15,16 @@ ghost use Rattle.office_trials.specs.Trial.{IsTrial, decided, items_within, told
 
 use crate::covers::trial_covers;
 use crate::deciding::decide_both;
-use crate::finished::{cover_at, facts_within};
 use crate::hints::take_hints;
 use crate::{Terms, Trial};
 use deb_control::Text;
 use jiff::civil::Date;
+use office_facts::finished::{cover_at, facts_within, finished_orders};
 use office_keeper::{Keeper, Letter};
 use office_mail::{RunOrder, Setup, latest_day};
-use office_orders::orders::read_orders;
 use office_orders::stored;
 use office_replies::StoreFault;
-use office_runs::runs::release_place;
+use office_rules::release_place;
 use report_lines::{Decided, Tried};
 use std::alloc::Global;
 use testing_rules::Facts;
@@ -161,7 +160,7 @@ fn try_behind<K: Keeper>(
     terms: Terms,
 ) -> Result<Trial, StoreFault>
     ensures tried { K.is_trusted keeper.new → IsOffice setup.now (K.content keeper.old) → orders.now ≡ orders_to setup.now (K.content keeper.old).kept (length (K.content keeper.old).reports) → finished ≡ length (K.content keeper.old).reports
-        → IfOk result (IsTrial setup.now (K.content keeper.old) terms hints.now) }
+        → IfOk result (IsTrial setup.now (K.content keeper.old).kept (length (K.content keeper.old).reports) terms hints.now) }
     ensures looks { ReadsStore K.Keeper keeper.old keeper.new result }
 {
     let covers = trial_covers(alloc, setup, keeper, orders, terms.all)?;
@@ -169,22 +168,6 @@ fn try_behind<K: Keeper>(
         Some(date) => try_on(alloc, setup, keeper, orders, &covers, finished, date, hints),
         None => Ok(Trial::NoDate),
     }
-}
-
-/// The orders of the finished runs.
-fn finished_orders<K: Keeper>(
-    alloc: Global,
-    setup: &Setup,
-    keeper: &mut K,
-    finished: u32,
-) -> Result<Vec<RunOrder>, StoreFault>
-    ensures orders { K.is_trusted keeper.new → IsOffice setup.now (K.content keeper.old) → finished ≡ length (K.content keeper.old).reports
-        → IfOk result (λ orders. orders.items ≡ orders_to setup.now (K.content keeper.old).kept (length (K.content keeper.old).reports)) }
-    ensures looks { ReadsStore K.Keeper keeper.old keeper.new result }
-{
-    let mut orders = Vec::new(alloc);
-    read_orders(alloc, setup, keeper, &mut orders, finished)?;
-    Ok(orders)
 }
 
 /// What the next run of an office with this store would decide if these hints were covered too, beside what it would decide
@@ -199,7 +182,7 @@ pub fn try_hints<K: Keeper>(
     hints: &[Text],
     terms: Terms,
 ) -> Result<Trial, StoreFault>
-    ensures tried { K.is_trusted keeper.new → IsOffice setup.now (K.content keeper.old) → IfOk result (IsTrial setup.now (K.content keeper.old) terms hints.now) }
+    ensures tried { K.is_trusted keeper.new → IsOffice setup.now (K.content keeper.old) → IfOk result (IsTrial setup.now (K.content keeper.old).kept (length (K.content keeper.old).reports) terms hints.now) }
     ensures same { K.is_trusted keeper.new → K.content keeper.new ≡ K.content keeper.old }
     ensures setup { K.setup keeper.new ≡ K.setup keeper.old }
     ensures before { K.is_trusted keeper.new → K.is_trusted keeper.old }

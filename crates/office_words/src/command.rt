@@ -104,14 +104,15 @@ sender and number; run K mail, where not all that the run covers is kept; run K 
 that differs; testing; facts. Nothing is changed. Status 1: a difference.";
 
 const WHY: &str =
-    "Tells what a finished run said of a source: its excuse, and the decisions that name it";
+    "Tells why a source stands where the last run left it, or what an earlier run said of it";
 
 const AFTER_WHY: &str = "Examples: office why libgreet --conf examples/setup.conf --db store.db
           office why libgreet greeter --run 2 --conf examples/setup.conf < examples/archive.bag
 
 For each source a line why RUN SOURCE, then its excuse, and each line of the run's update that names it: that it
-moves, that it waits and for what, or that another one waits for a package of its name. Status 1: the run isn't
-finished, or says nothing of one of the sources.";
+moves, that it waits and for what, or that another one waits for a package of its name. Of the last finished run also
+where each reason comes from, and of a source that waits, what shows that it can't move alone. Status 1: the run isn't
+finished, or nothing is told of one of the sources.";
 
 const SOURCE: &str = "The name of a source";
 

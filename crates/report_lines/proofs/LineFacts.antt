@@ -12,3 +12,8 @@ any_lent line (x ∷ found) = ap (λ b. bytes_eq line x.now || b) (any_lent line
 -- a set that has a line where a list has it
 pub line_alike : (line : List ℕ) (keys found : List (Bor (List ℕ))) → has_line keys line ≡ has_line found line → has_line keys line ≡ list_any (bytes_eq line) (lent_lines found)
 line_alike line keys found e = e ∙ any_lent line found
+
+-- what is so of a line is so of the line that is lent
+pub one_lent : (p : List ℕ → Bool) (found : List (Bor (List ℕ))) → list_any p (lent_lines found) ≡ list_any (λ (x : Bor (List ℕ)). p x.now) found
+one_lent p [] = refl
+one_lent p (x ∷ found) = ap (λ b. p x.now || b) (one_lent p found)

@@ -1,6 +1,6 @@
 -- What the reports of a run say of one source. That a source is told by itself is this office's own.
-use Rattle.std.specs.Prelude.{ℕ, Bool, true, false, List, [], ◌∷◌, ◌++◌, ◌==◌, codes, decimal, drop, filter, if◌then◌else◌}
-use Rattle.std.specs.List.{before_first, flat_map, list_any, slice_split}
+use Rattle.std.specs.Prelude.{ℕ, Bool, true, false, List, [], ◌∷◌, ◌++◌, ◌==◌, codes, decimal, drop, filter, nat_eq, if◌then◌else◌}
+use Rattle.std.specs.List.{before_first, flat_map, list_any, slice_split, starts_with}
 use Rattle.std.specs.Str.{bytes_eq}
 use Rattle.std.specs.Str.Lines.{lines}
 use Rattle.report_lines.specs.Changes.{is_inner, behind}
@@ -29,10 +29,19 @@ own_lines name before (line ∷ rest) = if is_own name before line then line ∷
 abbrev pub told_lines : List ℕ → List (List ℕ)
 told_lines report = drop 1 (lines report)
 
--- the source's excuse, and each line of the update that names it
-abbrev pub said_of : List ℕ → List ℕ → List ℕ → List (List ℕ)
-said_of name excuses update = own_lines name false (told_lines excuses) ++ filter (names name) (told_lines update)
+-- the source's excuse
+abbrev pub excuse_of : List ℕ → List ℕ → List (List ℕ)
+excuse_of name excuses = own_lines name false (told_lines excuses)
 
--- what the reports of a run say of a source
-abbrev pub source_text : ℕ → List ℕ → List ℕ → List ℕ → List ℕ
-source_text run name excuses update = codes "why " ++ decimal run ++ 32 ∷ name ++ 10 ∷ flat_map (behind []) (said_of name excuses update)
+-- the lines of an update that name a source
+abbrev pub update_on : List ℕ → List ℕ → List (List ℕ)
+update_on name update = filter (names name) (told_lines update)
+
+-- what the reports of a run say of a source: its excuse, a text behind that, and each line of the update that names it
+abbrev pub source_text : ℕ → List ℕ → List ℕ → List ℕ → List ℕ → List ℕ
+source_text run name excuses update origins =
+    codes "why " ++ decimal run ++ 32 ∷ name ++ 10 ∷ flat_map (behind []) (excuse_of name excuses) ++ origins ++ flat_map (behind []) (update_on name update)
+
+-- a source waits by an update: a line of that begins with the word `wait`, a space, the source's name and a space
+abbrev pub waits_in : List ℕ → List ℕ → Bool
+waits_in name update = list_any (λ line. starts_with nat_eq line (codes "wait " ++ name ++ 32 ∷ [])) (told_lines update)

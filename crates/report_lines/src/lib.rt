@@ -5,5 +5,6 @@ mod lines;
 mod sources;
 mod telling;
 
-pub use sources::source_text;
+pub use lines::lines_of;
+pub use sources::{source_text, waits_in};
 pub use telling::{Decided, Tried, has_changes, tried_text};

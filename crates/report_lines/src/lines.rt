@@ -15,7 +15,7 @@ use std::collections::HashSet;
 pub(crate) type LineSet<'a> = HashSet<&'a str>;
 
 /// The lines of a text.
-pub(crate) fn lines_of<'a>(alloc: Global, text: &'a str) -> Result<Vec<&'a str>, AllocError>
+pub fn lines_of<'a>(alloc: Global, text: &'a str) -> Result<Vec<&'a str>, AllocError>
     ensures { IfOk result (λ found. lent_lines found.items ≡ lines text.now) }
 {
     let found = text.lines().collect(alloc)?;

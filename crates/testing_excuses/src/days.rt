@@ -89,7 +89,7 @@ fn most_urgent(uploads: &[UploadIn], testing: Option<&Version>, name: &str) -> U
 }
 
 /// The days that a hint asks for the source at the version.
-fn asked_days(name: &str, version: &Version, hint: &Hint) -> Option<u32>
+pub fn asked_days(name: &str, version: &Version, hint: &Hint) -> Option<u32>
     ensures { result ≡ rules.asked_days name.now version.now hint.now }
 {
     match hint {

@@ -26,7 +26,11 @@ use testing_model::{Excuse, Excuses, HintIn, UnhintIn, UploadIn};
 use testing_suites::Testing;
 
 /// Those of the hints that are in force.
-fn in_force(alloc: Global, hints: &[HintIn], unhints: &[UnhintIn]) -> Result<Vec<HintIn>, NoMemory>
+pub fn in_force(
+    alloc: Global,
+    hints: &[HintIn],
+    unhints: &[UnhintIn],
+) -> Result<Vec<HintIn>, NoMemory>
     ensures { IfOk result (λ in_force. in_force.items ≡ filter (unstable.is_in_force unhints.now) hints.now) }
 {
     let mut in_force = Vec::new(alloc);

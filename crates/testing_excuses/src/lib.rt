@@ -8,4 +8,7 @@ mod near;
 mod reasons;
 mod source_filter;
 
-pub use excusing::excuses;
+pub use days::asked_days;
+pub use excusing::{excuses, in_force};
+pub use near::testing_version_near;
+pub use reasons::{blocks, removes};

@@ -30,7 +30,8 @@ fn has_name(names: &[Text], name: &str) -> bool
     names.iter().any(|other| name == other.as_str())
 }
 
-fn blocks(name: &str, hint: &Hint) -> bool
+/// The hint keeps the source out.
+pub fn blocks(name: &str, hint: &Hint) -> bool
     ensures { result ≡ rules.blocks name.now hint.now }
 {
     match hint {
@@ -50,7 +51,8 @@ fn unblocks(name: &str, version: &Version, hint: &Hint) -> bool
     }
 }
 
-fn removes(name: &str, version: &Version, hint: &Hint) -> bool
+/// The hint asks to remove the source at the version.
+pub fn removes(name: &str, version: &Version, hint: &Hint) -> bool
     ensures { result ≡ rules.removes name.now version.now hint.now }
 {
     match hint {

@@ -12,5 +12,5 @@ pub use live_rows::LiveRows;
 pub use live_sources::{
     LiveSource, lend_sources, move_sources, own_sources, place_of_name, take_source,
 };
-pub use offender::offender_of;
+pub use offender::{fails_on, first_failing, offender_of, rows_on, with_answers};
 pub use pool_suites::PoolSuites;

@@ -31,7 +31,7 @@ fn was_installable(before: &[RowAnswer], row: &LentRow) -> bool
 }
 
 /// The row fails: it isn't installable, though it came in with the group or was installable before.
-fn fails_on(arch: u32, group: &[Text], before: &[RowAnswer], judged: RowAnswer) -> bool
+pub fn fails_on(arch: u32, group: &[Text], before: &[RowAnswer], judged: RowAnswer) -> bool
     ensures { result ≡ moves.fails_on arch group.now (answers before.now) (record { row = row_of judged.entry.row; is_installable = judged.entry.is_installable }) }
 {
     is_watched_on(arch, &judged.row)
@@ -40,7 +40,7 @@ fn fails_on(arch: u32, group: &[Text], before: &[RowAnswer], judged: RowAnswer) 
 }
 
 /// The name of the first row that fails, in byte order.
-fn first_failing<'a>(
+pub fn first_failing<'a>(
     arch: u32,
     group: &[Text],
     before: &[RowAnswer],
@@ -58,7 +58,7 @@ fn first_failing<'a>(
 }
 
 /// The rows on an architecture.
-fn rows_on<'a>(
+pub fn rows_on<'a>(
     alloc: Global,
     arch: u32,
     rows: &[LentRow<'a>],
@@ -86,7 +86,7 @@ fn packages<'a>(alloc: Global, rows: &[LentRow<'a>]) -> Result<Vec<Row<'a>>, All
 }
 
 /// Each row with its answer.
-fn with_answers<'a>(
+pub fn with_answers<'a>(
     alloc: Global,
     rows: &[LentRow<'a>],
     marks: &[bool],

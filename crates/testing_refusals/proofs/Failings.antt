@@ -1,16 +1,18 @@
 -- The place of a row that fails.
 use Rattle.std.proofs.Common.{◌≡◌, ℕ, ◌+◌, ◌<◌, ◌≤◌, ◌&&◌, Bool, true, false, List, length, Option, Some, None, IfNone, refl, sym, ap, ◌∙◌, inl, inr, arith}
-use Rattle.std.specs.Prelude.{map, filter, Contains}
+use Rattle.std.specs.Prelude.{map, filter, get_or, option_map, Contains}
 use Rattle.std.specs.List.{slice_get}
 use Rattle.std.specs.Str.{bytes_eq}
 use Rattle.std.proofs.lemmas.Bool.{cases_lt, false≢true}
-use Rattle.std.proofs.lemmas.Option.{same_Some, slice_get_within, slice_get-get_or}
+use Rattle.std.proofs.lemmas.Option.{same_Some, slice_get_within, slice_get-get_or, slice_get-map, slice_get_read}
 use Rattle.std.proofs.lemmas.Slice.Eq.{bytes_eq-Decides}
 use Rattle.testing_items.specs.Words.{Text}
 use Rattle.testing_model.specs.Moves.{RowAnswer, fails_on, first_failing}
 use Rattle.testing_model.proofs.Least.{from_filter, least_from}
 use Rattle.testing_model.proofs.Orders.{text_order}
 use Rattle.testing_model.proofs.Sets.{mapped_from}
+use Rattle.testing_pool.specs.declared.offender.RowAnswer.{RowAnswer as Judged}
+use Rattle.testing_suites.specs.JudgedRows.{answer, answers}
 use Rattle.testing_refusals.specs.Refusals.{IsFailing, HasFailing, is_failing}
 
 -- no row of the name fails at a place below the number
@@ -65,6 +67,10 @@ failing_there arch group before after name e =
         is = both (bytes_eq (named found.0) name) (fails found.0) ((bytes_eq-Decides (named found.0) name).1 found.2) from.1;
       };
     }
+
+-- the answer at a place
+pub answer_at : (after : List Judged) (i : ℕ) (j : Judged) → i < length after → j ≡ get_or after i j → slice_get (answers after) i ≡ Some (answer j)
+answer_at after i j h e = slice_get-map answer after i ∙ ap (option_map answer) (slice_get_read after (length after) i j refl h e)
 
 -- what is found to be missing makes something else so
 pub none_then : {A : Type 0} (o : Option A) (P Q : Type 0) → (P → Q) → IfNone o P → IfNone o Q

@@ -2,4 +2,6 @@ pub mod Everywhere
 pub mod Numbering
 pub mod Failings
 pub mod Refusing
-pub mod Searching
+pub mod Helping
+pub mod Pushing
+pub mod Moving

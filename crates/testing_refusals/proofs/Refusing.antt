@@ -17,7 +17,7 @@ use Rattle.testing_model.specs.declared.suite.RowIn.{RowIn}
 use Rattle.testing_model.specs.declared.suite.LentRow.{LentRow}
 use Rattle.testing_model.specs.JudgedRows.{lent, row_of}
 use Rattle.testing_model.specs.Moves.{RowAnswer, with_answers, rows_on, judged_on, fails_on, is_watched_on, is_row_of, was_installable, first_failing, offender_on}
-use Rattle.testing_refusals.proofs.Searching.{offender_on-some, offender_on-none}
+use Rattle.testing_suites.proofs.Failing.{offender_on-some, offender_on-none}
 use Rattle.testing_refusals.proofs.Failings.{first_of_both, second_of_both}
 use Rattle.testing_why.specs.Certificate.{IsShownBy}
 use Rattle.testing_why.specs.declared.Step.{Step}

@@ -1,5 +1,7 @@
 pub mod Needs
 pub mod Refusals
 pub mod Lines
-pub mod Judged
 pub mod Told
+pub mod Texts
+pub mod Alone
+pub mod ToldChange

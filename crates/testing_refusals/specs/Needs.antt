@@ -1,5 +1,5 @@
 -- What is read of a list that shows why a row isn't installable: its lines, and who meets a clause (Debian Policy 7.1, 7.2 and 7.5).
-use Rattle.std.specs.Prelude.{ℕ, ◌+◌, ◌-◌, Bool, true, false, List, map, filter, length, Option, Some, None, option_map}
+use Rattle.std.specs.Prelude.{ℕ, ◌-◌, Bool, true, false, List, map, filter, length, Option, None, option_map}
 use Rattle.std.specs.List.{slice_get, range_with_len}
 use Rattle.std.specs.Option.{option_map_or}
 use Rattle.deb_control.specs.declared.binary.Binary.{Binary}

@@ -1,6 +1,6 @@
 -- Why a change of testing is refused (Debian Developer's Reference 5.13.2): the first row that it breaks, with what shows that this row isn't
 -- installable then (Debian Policy 7.1, 7.2 and 7.5).
-use Rattle.std.specs.Prelude.{◌≡◌, ℕ, ◌<◌, Bool, true, false, ◌&&◌, List, length, Option, Some}
+use Rattle.std.specs.Prelude.{◌≡◌, ℕ, ◌<◌, Bool, true, false, ◌&&◌, List, length, Some}
 use Rattle.std.specs.List.{slice_get}
 use Rattle.std.specs.Str.{bytes_eq}
 use Rattle.deb_control.specs.declared.binary.Binary.{Binary}

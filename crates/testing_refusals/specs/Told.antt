@@ -1,5 +1,5 @@
 -- What shows that a row isn't installable, line by line (Debian Policy 7.1, 7.2 and 7.5; that it is told in lines is decided by this office).
-use Rattle.std.specs.Prelude.{ℕ, Bool, if◌then◌else◌, List, [], map, length, Option, option_map}
+use Rattle.std.specs.Prelude.{ℕ, Bool, if◌then◌else◌, List, [], length, Option, option_map}
 use Rattle.std.specs.List.{filter_map, range_with_len}
 use Rattle.deb_control.specs.declared.relation.Clause.{Clause}
 use Rattle.testing_items.specs.Words.{is_empty}

@@ -9,21 +9,16 @@ ghost use Rattle.testing_model.specs.JudgedRows.{lent};
 ghost use Rattle.testing_model.specs.Moves as moves;
 ghost use Rattle.testing_refusals.specs.Needs.{packages};
 ghost use Rattle.testing_refusals.specs.Refusals.{AreAllThere};
-ghost use Rattle.testing_refusals.specs.Judged.{answers};
+ghost use Rattle.testing_suites.specs.JudgedRows.{answers};
 
 use deb_control::Binary;
 use deb_version::NoMemory;
 use std::alloc::{AllocError, Global};
 use std::rc::Rc;
 use testing_install::Suite;
+use testing_live::with_answers;
 use testing_model::LentRow;
-
-/// A row on an architecture, and whether it is installable there.
-#[derive(Clone, Copy)]
-pub struct JudgedRow<'a> {
-    pub row: LentRow<'a>,
-    pub is_installable: bool,
-}
+use testing_suites::RowAnswer;
 
 /// The packages of the rows, shared.
 fn packages(alloc: Global, rows: &[LentRow]) -> Result<Vec<Rc<Binary>>, NoMemory>
@@ -70,30 +65,12 @@ fn marks_of(alloc: Global, suite: &Suite) -> Result<Vec<bool>, AllocError>
     Ok(marks)
 }
 
-/// Each row with its answer.
-fn with_answers<'a>(
-    alloc: Global,
-    rows: &[LentRow<'a>],
-    marks: &[bool],
-) -> Result<Vec<JudgedRow<'a>>, AllocError>
-    ensures { IfOk result (λ judged. answers judged.items ≡ moves.with_answers (lent rows.now) marks.now) }
-{
-    let mut judged = Vec::new(alloc);
-    for k in 0..rows.len().min(marks.len()) {
-        judged.push(JudgedRow {
-            row: rows[k],
-            is_installable: marks[k],
-        })?;
-    }
-    Ok(judged)
-}
-
 /// Each row of a suite with its answer.
 pub fn judged_by<'a>(
     alloc: Global,
     suite: &Suite,
     rows: &[LentRow<'a>],
-) -> Result<Vec<JudgedRow<'a>>, AllocError>
+) -> Result<Vec<RowAnswer<'a>>, AllocError>
     requires { AreAllThere (packages (lent rows.now)) suite.now }
     ensures { IfOk result (λ judged. answers judged.items ≡ moves.with_answers (lent rows.now) (are_installable (packages (lent rows.now)))) }
 {
@@ -102,7 +79,7 @@ pub fn judged_by<'a>(
 }
 
 /// Each of the rows with its answer, where all are there.
-pub fn judged<'a>(alloc: Global, rows: &[LentRow<'a>]) -> Result<Vec<JudgedRow<'a>>, NoMemory>
+pub fn judged<'a>(alloc: Global, rows: &[LentRow<'a>]) -> Result<Vec<RowAnswer<'a>>, NoMemory>
     ensures { IfOk result (λ judged. answers judged.items ≡ moves.with_answers (lent rows.now) (are_installable (packages (lent rows.now)))) }
 {
     let suite = suite_of(alloc, rows)?;

@@ -2,15 +2,19 @@
 //! installable after it.
 #![tactic(auto)]
 
+mod alone;
 mod failing;
 mod judged;
+pub mod laws;
 mod lines;
 mod needs;
 mod refusal;
+mod telling;
 mod told;
 
-pub use failing::{is_row_of, rows_on};
+pub use alone::{told_alone, why_waits};
 pub use lines::{push_clause, push_leaving, push_need, push_package};
 pub use needs::{Need, bearers, meeting, need_at};
 pub use refusal::{Refusal, refused};
+pub use telling::{LoneMove, refusal_text};
 pub use told::{Told, told_lines};

@@ -7,16 +7,18 @@ ghost use Rattle.testing_model.specs.Moves as moves;
 ghost use Rattle.testing_model.specs.Moves.{judged_on};
 ghost use Rattle.testing_refusals.specs.Needs.{packages};
 ghost use Rattle.testing_refusals.specs.Refusals.{AreAllThere, IsFirstFailing, IsRefusal, IsRefusalOn};
-ghost use Rattle.testing_refusals.specs.Judged.{answers};
+ghost use Rattle.testing_suites.specs.JudgedRows.{answers};
 
-use crate::failing::{first_failing, rows_on};
-use crate::judged::{JudgedRow, judged, judged_by, suite_of};
+use crate::failing::place_of_first;
+use crate::judged::{judged, judged_by, suite_of};
 use deb_control::Text;
 use deb_version::NoMemory;
 use std::alloc::Global;
 use testing_install::Suite;
 use testing_items::Archs;
+use testing_live::rows_on;
 use testing_model::{LentRow, Offender};
+use testing_suites::RowAnswer;
 use testing_why::{Step, certificate};
 
 /// The first row that a change breaks, the rows on its architecture after the change, and the steps that show that it
@@ -33,7 +35,7 @@ fn judged_rows<'a>(
     alloc: Global,
     arch: u32,
     rows: &[LentRow<'a>],
-) -> Result<Vec<JudgedRow<'a>>, NoMemory>
+) -> Result<Vec<RowAnswer<'a>>, NoMemory>
     ensures { IfOk result (λ judged. answers judged.items ≡ judged_on arch (lent rows.now)) }
 {
     let there = rows_on(alloc, arch, rows)?;
@@ -57,7 +59,7 @@ fn failing_place(
 {
     let before = judged_rows(alloc, arch, old)?;
     let after = judged_by(alloc, suite, rows)?;
-    Ok(first_failing(arch, group, &before, &after))
+    Ok(place_of_first(arch, group, &before, &after))
 }
 
 /// The first row that the change breaks on the architecture, and why.

@@ -7,12 +7,12 @@ ghost use Rattle.testing_refusals.specs.Needs.{need_of};
 ghost use Rattle.testing_refusals.specs.Told as rules;
 ghost use Rattle.testing_refusals.specs.Told.{told_of};
 
-use crate::failing::rows_on;
 use crate::needs::{Need, bearers, meeting, need_at};
 use crate::refusal::Refusal;
 use deb_control::Clause;
 use deb_version::NoMemory;
 use std::alloc::{AllocError, Global};
+use testing_live::rows_on;
 use testing_model::LentRow;
 use testing_why::Step;
 

@@ -3,4 +3,4 @@
 
 mod report;
 
-pub use report::{excuses_text, testing_text, update_text};
+pub use report::{excuses_text, push_reason_words, testing_text, update_text};

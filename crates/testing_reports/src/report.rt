@@ -3,7 +3,7 @@
 ghost use Rattle.std.specs.Prelude.{◌≡◌, ◌++◌, ◌∷◌, [], IfOk, OnOk, string_bytes};
 ghost use Rattle.std.specs.List.{flat_map};
 ghost use Rattle.testing_reports.specs.Reports as texts;
-ghost use Rattle.testing_reports.specs.Reports.{line, inner_line, reason_words, source_words, age_words, verdict, excuse_text, heading, decision_line, offender_text, moved_text, source_line, row_line};
+ghost use Rattle.testing_reports.specs.Reports.{words, line, inner_line, reason_words, source_words, age_words, verdict, excuse_text, heading, decision_line, offender_text, moved_text, source_line, row_line};
 
 use deb_version::NoMemory;
 use jiff::civil::Date;
@@ -153,13 +153,22 @@ fn push_reasons(text: &mut String, archs: &Archs, reasons: &[Reason]) -> Result<
 fn push_reason(text: &mut String, archs: &Archs, reason: Reason) -> Result<(), AllocError>
     ensures { OnOk result (string_bytes text.new ≡ string_bytes text.old ++ inner_line (reason_words archs.now reason)) }
 {
+    text.push_str(" ")?;
+    push_reason_words(text, archs, reason)?;
+    text.push_str("\n")
+}
+
+/// A reason in the words of the report on excuses.
+pub fn push_reason_words(text: &mut String, archs: &Archs, reason: Reason) -> Result<(), AllocError>
+    ensures { OnOk result (string_bytes text.new ≡ string_bytes text.old ++ words (reason_words archs.now reason)) }
+{
     match reason {
-        Reason::TooYoung => text.push_str(" too young\n"),
-        Reason::NewBug(bug) => writeln!(text, " new bug {bug}"),
-        Reason::NoBinaries => text.push_str(" no binaries\n"),
-        Reason::MissingOn(arch) => writeln!(text, " missing on {}", archs.name(arch)),
-        Reason::Blocked => text.push_str(" blocked\n"),
-        Reason::RemovalAsked => text.push_str(" removal asked\n"),
+        Reason::TooYoung => text.push_str("too young"),
+        Reason::NewBug(bug) => write!(text, "new bug {bug}"),
+        Reason::NoBinaries => text.push_str("no binaries"),
+        Reason::MissingOn(arch) => write!(text, "missing on {}", archs.name(arch)),
+        Reason::Blocked => text.push_str("blocked"),
+        Reason::RemovalAsked => text.push_str("removal asked"),
     }
 }
 

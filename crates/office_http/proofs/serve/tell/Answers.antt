@@ -1,7 +1,7 @@
 use Rattle.office_runs.specs.Preserves.{StoreRefused}
 use Rattle.office_facts.specs.State.{state_of}
 use Rattle.office_runs.proofs.CarryFacts.{risen}
-use Rattle.office_http.proofs.ServeFacts.{told_status, told_testing, told_excuses, told_update, told_waiting, told_runs, told_kept, told_letter, place_status, place_text, place_report, place_letter}
+use Rattle.office_http.proofs.ServeFacts.{told_status, told_testing, told_excuses, told_update, told_waiting, told_runs, told_kept, told_letter, told_why, place_status, place_text, place_report, place_letter}
 use Rattle.office_http.proofs.serve.tell.Goals as goal
 
 pub returns-in-Status-clause-place : goal.returns-in-Status-clause-place
@@ -99,3 +99,15 @@ returns-in-Letter-clause-tells g c =
     let r = c.kept_text.result in
     let e = c.kept_text.ensures in
     λ h. rw (c.in-Letter.is, c.letter_answer.ensures) (told_letter (StoreRefused keeper s0 s1) (state_of keeper s0) c.in-Letter.sender c.in-Letter.number r (e.text h.0) (risen (keeper.refusals s0) (keeper.refusals s1) r e.counted))
+
+pub returns-in-Why-clause-place : goal.returns-in-Why-clause-place
+returns-in-Why-clause-place g c = rw c.report_answer-in-Why.ensures (place_report (g.K.Keeper.setup c.args.office.now) c.source_text.result)
+
+pub returns-in-Why-clause-tells : goal.returns-in-Why-clause-tells
+returns-in-Why-clause-tells g c =
+    let keeper = g.K.Keeper in
+    let s0 = c.args.office.now in
+    let s1 = c.source_text.new.office in
+    let r = c.source_text.result in
+    let e = c.source_text.ensures in
+    λ h. rw (c.in-Why.is, c.report_answer-in-Why.ensures) (told_why (StoreRefused keeper s0 s1) (state_of keeper s0) c.in-Why.source r (e.tells h) (risen (keeper.refusals s0) (keeper.refusals s1) r e.counted))

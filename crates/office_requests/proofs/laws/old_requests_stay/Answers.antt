@@ -1,4 +1,4 @@
-use Rattle.office_requests.proofs.RouteFacts.{others_stay, waiting_told, runs_told, kept_told}
+use Rattle.office_requests.proofs.RouteFacts.{others_stay, later_stay, waiting_told, runs_told, kept_told, try_told}
 use Rattle.office_requests.proofs.laws.old_requests_stay.Goals as goal
 
 pub returns-clause-others : goal.returns-clause-others
@@ -12,3 +12,9 @@ returns-clause-runs c = runs_told
 
 pub returns-clause-kept : goal.returns-clause-kept
 returns-clause-kept c = kept_told
+
+pub returns-clause-later : goal.returns-clause-later
+returns-clause-later c = later_stay
+
+pub returns-clause-hints : goal.returns-clause-hints
+returns-clause-hints c = try_told

@@ -1,5 +1,6 @@
 use Rattle.office_runs.proofs.LawFacts.{runs_stand}
-use Rattle.office_runs.proofs.OfficeFacts.{outcome_of-later, reports_to-later}
+use Rattle.office_rules.proofs.OutcomeFacts.{outcome_of-later}
+use Rattle.office_runs.proofs.OfficeFacts.{reports_to-later}
 use Rattle.office_runs.proofs.laws.runs_stay.Goals as goal
 
 pub returns-clause-outcome : goal.returns-clause-outcome

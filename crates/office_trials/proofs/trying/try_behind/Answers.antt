@@ -31,8 +31,8 @@ returns-in-Some-clause-tried g c = λ trusted office are is.
     sym c.in-Some.is ∙ c.trial_date.ensures ∙ ap (λ (last : Option Date). trial_date last c.args.terms.day) (c.latest_day.ensures ∙ ap latest_day are) in
     IfOk-weaker c.try_on.result
     (λ (trial : Trial). trial ≡ told_on setup content.kept (length content.reports) (Some date) (slice_index c.deref.result.now) hints)
-    (IsTrial setup content c.args.terms hints)
-    (λ trial told. is_trial setup content c.args.terms hints (slice_index covers) (Some date) trial (c.in_ok-covers.ensures.covers earlier office are)
+    (IsTrial setup content.kept (length content.reports) c.args.terms hints)
+    (λ trial told. is_trial setup content.kept (length content.reports) c.args.terms hints (slice_index covers) (Some date) trial (c.in_ok-covers.ensures.covers earlier office are)
     (told ∙ ap (λ (l : List ℕ). told_on setup content.kept (length content.reports) (Some date) (slice_index l) hints) c.deref.ensures.value) day)
     (subst (λ (m : Content). IsOffice setup m → c.args.orders.now ≡ orders_to setup m.kept (length m.reports) → c.args.finished ≡ length m.reports → slice_index c.deref.result.now (release setup) ≤ 999_999_999
     → IfOk c.try_on.result (λ (trial : Trial). trial ≡ told_on setup m.kept (length m.reports) (Some date) (slice_index c.deref.result.now) hints))
@@ -42,5 +42,5 @@ pub returns-clause-tried : goal.returns-clause-tried
 returns-clause-tried g c = λ trusted office are is.
     let setup = c.args.setup.now in
     let content : Content = g.K.Keeper.content c.args.keeper.now in
-    is_trial setup content c.args.terms c.args.hints.now (slice_index c.in_ok-covers.covers.items) None NoDate (c.in_ok-covers.ensures.covers trusted office are) refl
+    is_trial setup content.kept (length content.reports) c.args.terms c.args.hints.now (slice_index c.in_ok-covers.covers.items) None NoDate (c.in_ok-covers.ensures.covers trusted office are) refl
     (sym c.in-None.is ∙ c.trial_date.ensures ∙ ap (λ (last : Option Date). trial_date last c.args.terms.day) (c.latest_day.ensures ∙ ap latest_day are))

@@ -15,5 +15,5 @@ returns-clause-tried g c = λ trusted office.
     let first = c.in_ok-finished.ensures.looks.same earlier in
     let is = c.in_ok-finished.ensures.value earlier in
     let are = subst (λ (m : Content). IsOffice setup m → finished ≡ length m.reports → orders ≡ orders_to setup m.kept (length m.reports)) first (c.in_ok-orders.ensures.orders later) office is in
-    subst (λ (m : Content). IsOffice setup m → c.deref.result.now ≡ orders_to setup m.kept (length m.reports) → finished ≡ length m.reports → IfOk c.try_behind.result (IsTrial setup m c.args.terms c.args.hints.now))
+    subst (λ (m : Content). IsOffice setup m → c.deref.result.now ≡ orders_to setup m.kept (length m.reports) → finished ≡ length m.reports → IfOk c.try_behind.result (IsTrial setup m.kept (length m.reports) c.args.terms c.args.hints.now))
     (c.in_ok-orders.ensures.looks.same later ∙ first) (c.try_behind.ensures.tried trusted) office (c.deref.ensures.value ∙ are) is

@@ -1,8 +1,8 @@
 use Rattle.std.proofs.Common.{arith, ◌∙◌, sym, ◌<◌, ◌≤◌, length}
 use Rattle.std.proofs.lemmas.List.{length-map}
-use Rattle.testing_refusals.specs.Judged.{answer, answers}
+use Rattle.testing_suites.specs.JudgedRows.{answer, answers}
 use Rattle.testing_refusals.proofs.Failings.{none_more, none_at_all}
-use Rattle.testing_refusals.proofs.Searching.{answer_at}
+use Rattle.testing_refusals.proofs.Failings.{answer_at}
 use Rattle.testing_refusals.proofs.failing.place_of.Goals as goal
 
 pub returns-then-is_failing-clause-some : goal.returns-then-is_failing-clause-some

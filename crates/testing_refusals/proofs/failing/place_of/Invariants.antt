@@ -1,4 +1,4 @@
-use Rattle.testing_refusals.specs.Judged.{answers}
+use Rattle.testing_suites.specs.JudgedRows.{answers}
 use Rattle.testing_refusals.proofs.Failings.{NoneFailing}
 use Rattle.testing_refusals.proofs.failing.place_of.Given as goal
 

@@ -1,7 +1,7 @@
 use Rattle.std.proofs.Common.{◌≡◌, ◌∙◌, subst, IfNone, ◌<◌, length, None, arith}
 use Rattle.testing_model.specs.JudgedRows.{lent}
 use Rattle.testing_model.specs.Moves.{offender_on}
-use Rattle.testing_refusals.proofs.Searching.{first_of-next}
+use Rattle.testing_suites.proofs.Failing.{first_of-next}
 use Rattle.testing_refusals.proofs.refusal.refused.Goals as goal
 
 pub loop-arch-preserved : goal.loop-arch-preserved

@@ -2,7 +2,7 @@ use Rattle.std.proofs.Common.{ap, ◌∙◌}
 use Rattle.std.specs.Option.{option_map}
 use Rattle.office_keeper.specs.Content.{item_from_one}
 use Rattle.office_keeper.specs.declared.values.Reports.{Reports}
-use Rattle.office_runs.proofs.FinishFacts.{reports_at-is}
+use Rattle.office_facts.proofs.ReportFacts.{reports_at-is}
 use Rattle.office_runs.proofs.office.Office.excuses_text.Goals as goal
 
 pub returns-clause-text : goal.returns-clause-text

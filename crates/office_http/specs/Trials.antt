@@ -1,0 +1,39 @@
+-- What is answered to a request that tries hints. That a service takes such requests is this office's own.
+use Rattle.std.specs.Prelude.{ℕ, false, List, [], ◌∷◌, ◌++◌, ◌==◌, length, codes, if◌then◌else◌, slice_index_or, None, Err}
+use Rattle.std.specs.Str.{is_utf8}
+use Rattle.std.specs.Str.Lines.{lines}
+use Rattle.office_mail.specs.declared.message.MailFault.TheVariants as mail
+use Rattle.office_mail.specs.Lists.{Lists}
+use Rattle.office_replies.specs.declared.faults.DeliverFault.TheVariants.{Mail}
+use Rattle.office_replies.specs.Replies.{fault_words, name_at}
+use Rattle.office_requests.specs.declared.reply.Refusal.TheVariants as refusal
+use Rattle.office_requests.specs.declared.reply.Answer.{Answer}
+use Rattle.office_requests.specs.declared.reply.Answer.TheVariants.{Refused, Delivered, Told, BadHint}
+use Rattle.office_trials.specs.declared.RefusedHint.{RefusedHint}
+use Rattle.office_trials.specs.declared.Terms.{Terms}
+use Rattle.office_trials.specs.declared.Trial.{Trial}
+use Rattle.office_trials.specs.declared.Trial.TheVariants as trial
+use Rattle.office_trials.specs.Hints.{release}
+use Rattle.report_lines.specs.Tried.{tried_text}
+
+-- a trial that a request asks for covers the mail of the release team alone, and has no day of its own
+abbrev pub request_terms : Terms
+request_terms = record { day = None; all = false }
+
+-- the hints of a body, one in each line; an empty body has an empty one
+abbrev pub hints_in : List ℕ → List (List ℕ)
+hints_in body = if length body == 0 then [] ∷ [] else lines body
+
+-- the line on a hint that is refused
+abbrev pub refused_line : List (List ℕ) → RefusedHint → List ℕ
+refused_line hints refused = codes "'" ++ slice_index_or hints refused.place [] ++ codes "': refused " ++ fault_words (Mail refused.fault) ++ 10 ∷ []
+
+-- the answer to hints by what their trial is told
+abbrev pub trial_answer : Lists → List (List ℕ) → Trial → Answer
+trial_answer setup hints (trial.Told tried) = Told (tried_text (name_at setup (release setup)) hints tried)
+trial_answer setup hints trial.NoDate = Refused refusal.NoRun
+trial_answer setup hints (trial.Refused refused) = BadHint (refused_line hints refused)
+
+-- the answer to a body of hints; one that isn't UTF-8 is answered as mail that isn't
+abbrev pub tried_answer : Lists → List ℕ → Trial → Answer
+tried_answer setup body told = if is_utf8 body then trial_answer setup (hints_in body) told else Delivered (Err (Mail mail.BadParagraph))

@@ -1,0 +1,149 @@
+//! Hints that a request tries before they are mailed.
+ghost use Rattle.std.specs.Prelude.{◌≡◌, ◌∷◌, [], IfErr, IfOk, slice_index_or};
+ghost use Rattle.office_facts.specs.State.{state_of};
+ghost use Rattle.office_http.specs.ServeSteps.{TellsTrial};
+ghost use Rattle.office_http.specs.Trials.{hints_in, refused_line, trial_answer};
+ghost use Rattle.office_replies.specs.Counted.{Counted};
+ghost use Rattle.office_replies.specs.Replies.{name_at};
+ghost use Rattle.office_requests.specs.Reply.{HasPlace};
+ghost use Rattle.office_runs.specs.Preserves.{Asks, Holds};
+ghost use Rattle.office_trials.specs.Hints.{release};
+ghost use Rattle.report_lines.specs.LentLines.{lent_lines};
+ghost use Rattle.report_lines.specs.Tried.{tried_text};
+
+use deb_control::{NoMemory, Text};
+use office_keeper::Keeper;
+use office_mail::Setup;
+use office_replies::{DeliverFault, StoreFault, fault_words, name_at};
+use office_requests::{Answer, Refusal};
+use office_rules::release_place;
+use office_runs::Office;
+use office_trials::{RefusedHint, Terms, Trial, Tried, tried_text};
+use report_lines::lines_of;
+use std::alloc::{AllocError, Global};
+
+/// Copies of texts.
+fn copies(alloc: Global, texts: &[&str]) -> Result<Vec<Text>, AllocError>
+    ensures { IfOk result (λ all. all.items ≡ lent_lines texts.now) }
+{
+    let mut all = Vec::new(alloc);
+    'texts: for text in texts {
+        all.push(Text::from_str(alloc, text)?)?;
+    }
+    Ok(all)
+}
+
+/// One empty line.
+fn empty_line<'a>(alloc: Global) -> Result<Vec<&'a str>, AllocError>
+    ensures { IfOk result (λ found. lent_lines found.items ≡ [] ∷ []) }
+{
+    let mut found = Vec::new(alloc);
+    found.push("")?;
+    Ok(found)
+}
+
+/// The lines of a text; an empty text has an empty one.
+fn lines_in<'a>(alloc: Global, text: &'a str) -> Result<Vec<&'a str>, AllocError>
+    ensures { IfOk result (λ found. lent_lines found.items ≡ hints_in text.now) }
+{
+    if text.is_empty() {
+        return empty_line(alloc);
+    }
+    lines_of(alloc, text)
+}
+
+/// The hints of a body.
+fn hints_in(alloc: Global, body: &str) -> Result<Vec<Text>, AllocError>
+    ensures { IfOk result (λ hints. hints.items ≡ hints_in body.now) }
+{
+    let found = lines_in(alloc, body)?;
+    copies(alloc, &found)
+}
+
+/// The hint at a place, empty where there is none.
+fn hint_at(hints: &[Text], place: usize) -> &str
+    ensures { result.now ≡ slice_index_or hints.now place [] }
+{
+    match hints.get(place) {
+        Some(hint) => hint.as_str(),
+        None => "",
+    }
+}
+
+/// The line on a hint that is refused.
+fn refused_line(alloc: Global, hints: &[Text], refused: RefusedHint) -> Result<Text, NoMemory>
+    ensures { IfOk result (λ line. line ≡ refused_line hints.now refused) }
+{
+    let hint = hint_at(hints, refused.place);
+    let (cause, field) = fault_words(DeliverFault::Mail(refused.fault));
+    let line = format!(in alloc; "'{hint}': refused {cause}{field}\n")?;
+    Ok(Text::from_string(line))
+}
+
+/// The text that tells what hints of the release team would change.
+fn told_text(alloc: Global, setup: &Setup, hints: &[Text], tried: &Tried) -> Result<Text, NoMemory>
+    ensures { IfOk result (λ text. text ≡ tried_text (name_at setup.now (release setup.now)) hints.now tried.now) }
+{
+    tried_text(alloc, name_at(setup, release_place(setup)), hints, tried)
+}
+
+/// The answer to hints by what their trial is told.
+fn trial_answer(
+    alloc: Global,
+    setup: &Setup,
+    hints: &[Text],
+    trial: &Trial,
+) -> Result<Answer, NoMemory>
+    ensures answer { IfOk result (λ answer. answer ≡ trial_answer setup.now hints.now trial.now) }
+    ensures place { IfOk result (λ answer. HasPlace setup.now answer) }
+{
+    match trial {
+        Trial::Told(tried) => Ok(Answer::Told(told_text(alloc, setup, hints, tried)?)),
+        Trial::NoDate => Ok(Answer::Refused(Refusal::NoRun)),
+        Trial::Refused(refused) => Ok(Answer::BadHint(refused_line(alloc, hints, *refused)?)),
+    }
+}
+
+/// The answer to hints by what their trial is told, which is let go. It fails for want of memory alone.
+fn answer_told(
+    alloc: Global,
+    setup: &Setup,
+    hints: &[Text],
+    trial: Trial,
+) -> Result<Answer, StoreFault>
+    ensures answer { IfOk result (λ answer. answer ≡ trial_answer setup.now hints.now trial) }
+    ensures place { IfOk result (λ answer. HasPlace setup.now answer) }
+    ensures no_store { IfErr result (λ fault. fault ≡ StoreFault.NoMemory) }
+{
+    let answer = trial_answer(alloc, setup, hints, &trial);
+    drop(trial);
+    Ok(answer?)
+}
+
+/// The answer to hints that are tried over the office, for the mail of the release team and with no day of their own.
+fn try_hints<K: Keeper>(office: &mut Office<K>, hints: &[Text]) -> Result<Answer, StoreFault>
+    ensures asks { Asks K.Keeper office.old office.new }
+    ensures place { IfOk result (λ answer. HasPlace (K.setup office.old) answer) }
+    ensures tells { Holds K.Keeper office.old office.new → IfOk result (λ answer. TellsTrial (state_of K.Keeper office.old) hints.now answer) }
+    ensures counted { Counted (K.refusals office.old) (K.refusals office.new) result }
+{
+    let terms = Terms {
+        day: None,
+        all: false,
+    };
+    let trial = office.try_hints(hints, terms)?;
+    answer_told(office.alloc(), office.setup(), hints, trial)
+}
+
+/// The answer to the hints of a body that are tried over the office.
+pub(crate) fn try_body<K: Keeper>(office: &mut Office<K>, body: &str) -> Result<Answer, StoreFault>
+    ensures asks { Asks K.Keeper office.old office.new }
+    ensures place { IfOk result (λ answer. HasPlace (K.setup office.old) answer) }
+    ensures tells { Holds K.Keeper office.old office.new → IfOk result (λ answer. TellsTrial (state_of K.Keeper office.old) (hints_in body.now) answer) }
+    ensures counted { Counted (K.refusals office.old) (K.refusals office.new) result }
+{
+    let hints = hints_in(office.alloc(), body)?;
+    let answer = try_hints(office, &hints);
+    drop(hints);
+    answer
+}
