@@ -47,6 +47,7 @@ try replay_phases python3 "$bench/replay/phases.py" "$office" both:20
 try replay_trials count_trials
 try limit env ROUNDS=1 "$bench/limit/run.sh" "$office" runs:20 both:20 "$packages"
 try asking env ROUNDS=1 python3 "$bench/asking/run.py" "$office" one:20
+try asking_mail env ROUNDS=1 python3 "$bench/asking/over_mail.py" "$office" 100
 try reopen env ROUNDS=1 python3 "$bench/reopen/run.py" "$office" one:20
 try start_to_end "$bench/versions/start_to_end.sh" "$office" 5
 if [ $# -eq 1 ]; then

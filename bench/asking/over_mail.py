@@ -4,11 +4,13 @@
 usage: over_mail.py OFFICE [SOURCES]
 
 The mail is that of ../replay/bag.py, of 34,000 sources without another count. By turns the program replays the mail
-alone, the mail and its first run, and that with two runs over 500 newer uploads each; and over the last of these it
-answers `why` for a source that moved and for one that waits, and tries a hint. What a question costs is what it takes
-more than that replay. ROUNDS in the environment is how often: 5 without it.
+alone, the mail and its first run, and that with two runs over 500 newer uploads each. Behind the last of these comes a
+run over a source more, which waits for a package that isn't there. Over all of it the program answers `why` for a
+source that moved and for the one that waits, and tries a hint. What a question costs is what it takes more than that
+replay. ROUNDS in the environment is how often: 5 without it.
 """
 import os
+import re
 import statistics
 import subprocess
 import sys
@@ -30,14 +32,16 @@ def seconds(office, words, bag):
     return usage.ru_utime + usage.ru_stime
 
 
-def one_that_waits(office, bag):
-    """A source that waits after the last run, and one that stands in testing."""
-    with open(bag, "rb") as file:
-        told = subprocess.run([office, "replay", "--conf", SETUP], stdin=file, capture_output=True, check=True)
-    lines = told.stdout.decode().splitlines()
-    waits = [line.split()[1] for line in lines if line.startswith("wait ")]
-    moved = [line.split()[1] for line in lines if line.startswith("source ")]
-    return (waits or moved)[-1], moved[-1]
+def with_one_that_waits(bag):
+    """The bag, a source more that waits in a run behind the others, and another source of the bag."""
+    day, covered = re.findall(r"Kind: run\nDay: (.*)\nCovers: ftp (\d+)", bag)[-1]
+    number, run = int(covered) + 1, bag.count("\nKind: run\n") + 1
+    upload = f"Source: waiting\nVersion: 1-1\nUrgency: critical\nDay: {day}\n"
+    texts = [f"From: ftp\nNumber: {number}\nKind: upload\n{upload}",
+             f"From: bd\nNumber: {number}\nKind: build\n\nPackage: waiting\nVersion: 1-1\nArchitecture: amd64\n"
+             "Depends: none\n",
+             f"From: clock\nNumber: {run}\nKind: run\nDay: {day}\nCovers: ftp {number}, bd {number}\n"]
+    return bag + "".join(f"mail {len(text)}\n{text}" for text in texts), re.search(r"\nSource: (.*)\n", bag)[1]
 
 
 def main(office, sources):
@@ -46,20 +50,24 @@ def main(office, sources):
         bags = {shape: os.path.join(folder, shape) for shape in SHAPES}
         for shape, bag in bags.items():
             with open(bag, "wb") as file:
-                subprocess.run([sys.executable, os.path.join(HERE, "../replay/bag.py"), shape, sources], stdout=file, check=True)
-        waiting, moved = one_that_waits(office, bags["runs"])
-        asked = {"why, moved": ["why", moved], "why, waits": ["why", waiting], "try": ["try", f"remove {moved}/1.0-1"]}
-        took = {name: [] for name in (*SHAPES, *asked)}
+                words = [sys.executable, os.path.join(HERE, "..", "replay", "bag.py"), shape, sources]
+                subprocess.run(words, stdout=file, check=True)
+        bags["all"] = os.path.join(folder, "all")
+        with open(bags["runs"], encoding="utf-8") as runs, open(bags["all"], "w", encoding="utf-8") as file:
+            mail, moved = with_one_that_waits(runs.read())
+            file.write(mail)
+        asked = {"why, moved": ["why", moved], "why, waits": ["why", "waiting"], "try": ["try", f"block {moved}"]}
+        took = {name: [] for name in (*bags, *asked)}
         for _ in range(rounds):
             for shape, bag in bags.items():
                 took[shape].append(seconds(office, ["replay"], bag))
             for name, words in asked.items():
-                took[name].append(seconds(office, words, bags["runs"]))
+                took[name].append(seconds(office, words, bags["all"]))
     median = {name: statistics.median(each) for name, each in took.items()}
     first, later = median["first"] - median["mail"], (median["runs"] - median["first"]) / 2
     print(f"{sources} sources: the first run {first:.2f} s, a later one {later:.2f} s")
     for name in asked:
-        more = median[name] - median["runs"]
+        more = median[name] - median["all"]
         print(f"{name}: {more:.2f} s, {more / first:.2f} of the first run, {more / later:.1f} of a later one")
 
 
