@@ -250,7 +250,7 @@ options_are_told() {
 
 # The program's version is the newest one that the list of changes names.
 version_is_told() {
-    newest=$(sed -n 's/^## \([0-9.]*\).*/\1/p' ../CHANGELOG.md | head -n 1)
+    newest=$(sed -n 's/^## \([0-9][0-9.]*\).*/\1/p' ../CHANGELOG.md | head -n 1)
     "$program" --version > "$work/version" || return 1
     [ "$(head -n 1 "$work/version")" = "office $newest" ] || { cat "$work/version" && return 1; }
 }
