@@ -41,10 +41,17 @@ count_trials() {
         python3 "$bench/replay/trials.py" < "$told/replayed"
 }
 
+move_chain() {
+    python3 "$bench/moves/chain.py" 20 > "$told/bag" &&
+        "$office" replay --conf "$bench/replay/setup.conf" < "$told/bag" > "$told/replayed" &&
+        tail -n 1 "$told/replayed"
+}
+
 try replay "$bench/replay/run.sh" "$office" mail:20 waiting:20 backwards:20 idle:20 first:20 runs:20 both:20
 try replay_store env DB=1 "$bench/replay/run.sh" "$office" runs:20
 try replay_phases python3 "$bench/replay/phases.py" "$office" both:20
 try replay_trials count_trials
+try moves_chain move_chain
 try limit env ROUNDS=1 "$bench/limit/run.sh" "$office" runs:20 both:20 "$packages"
 try asking env ROUNDS=1 python3 "$bench/asking/run.py" "$office" one:20
 try asking_mail env ROUNDS=1 python3 "$bench/asking/over_mail.py" "$office" 100

@@ -2,7 +2,7 @@
 import copy
 import datetime
 import re
-from model import ARCHS, SENDERS, satisfies, vcmp
+from model import ARCHS, Office, SENDERS, satisfies, vcmp
 
 RELEASE, CLOCK = SENDERS.index("rt"), SENDERS.index("clock")
 NEED = re.compile(r"(\d+) (\S+) (\S+) of (\S+) (comes in|in testing), needs (.+): (nothing|\d+(?: and \d+)*)")
@@ -13,6 +13,15 @@ def unbroken(kept, sender):
     while (sender, number + 1) in kept:
         number += 1
     return number
+
+
+def office_after(office, run):
+    """An office as a run left it: all mail, but for the orders of later runs."""
+    left = Office()
+    for (sender, number), text in sorted(office.kept.items()):
+        if sender != CLOCK or number <= run:
+            left.deliver(text)
+    return left
 
 
 def next_run(office, covers, day, hints):
@@ -69,7 +78,7 @@ def sent_by(row):
 
 
 def origin_lines(office, source):
-    """Where the reasons come from that keep a source out, over the testing that the last run left."""
+    """Where the reasons come from that keep a source out, over the testing that an office's last run left."""
     known, upload = office.known, office.known.sources.get(source)
     if upload is None:
         return []
@@ -172,8 +181,8 @@ def refusal_fault(office, source, lines):
 
 
 def why_fault(office, source, said, text):
-    """What is wrong with a text on a source of the last run, where these are the lines of its excuse, and those of the
-    update that name it; None if nothing is."""
+    """What is wrong with a text on a source of an office's last run, where these are the lines of its excuse, and those of
+    the update that name it; None if nothing is."""
     own, named = said
     front = ["why %d %s" % (office.finished, source), *own, *origin_lines(office, source), *named]
     lines = text.splitlines()

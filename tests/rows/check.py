@@ -1,8 +1,9 @@
 #!/usr/bin/env python3
-"""Holds model.py against the statements, and crates/worked_rows/stdout against both. Exit status 0 where all agree."""
+"""Holds model.py against the statements, and the rows of crates/office_rows/stdout against both. Exit status 0 where
+all agree."""
 import sys
 sys.dont_write_bytecode = True
-from rows import CRATE, agrees, all_rows, due, in_memory, is_whole, judged, read
+from rows import agrees, all_rows, due, in_memory, is_whole, judged, printed
 
 counts = {"stated whole, the same by the model": 0, "stated in part, completed by the model": 0,
           "stated whole, not judged by the model": 0}
@@ -15,7 +16,7 @@ for name, lines, statement in all_rows():
     kind = "not judged" if came is None else "the same" if is_whole(statement) else "in part"
     counts[next(key for key in counts if kind in key)] += 1
     text += "=== %s\n%s" % (name, due(lines, statement))
-if text != read(CRATE, "stdout"):
+if text != printed()[0]:
     print("stdout isn't what is due: run make.py")
     faults += 1
 for key, count in counts.items():

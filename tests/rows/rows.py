@@ -4,7 +4,9 @@ import re
 from model import Office, SENDERS
 
 HERE = os.path.dirname(os.path.abspath(__file__))
-CRATE = os.path.join(HERE, "..", "..", "crates", "worked_rows")
+CRATE = os.path.join(HERE, "..", "..", "crates", "office_rows")
+# What the program prints behind the rows: its parts, each with `right`.
+PARTS = re.compile(r"\n((?:[a-z]+, [a-z ]+: right\n)+)\Z")
 LETTERS = {"n": "\n", "r": "\r", "f": "\xff", "x": "x" * 65498, "y": "y" * 8167}
 OMITTED = ".."
 OVER_TABLES = "over tables:\n"
@@ -13,6 +15,13 @@ OVER_TABLES = "over tables:\n"
 def read(folder, name):
     with open(os.path.join(folder, name), encoding="utf-8") as f:
         return f.read()
+
+
+def printed():
+    """What the program prints for the rows, and what it prints behind them for its parts."""
+    text = read(CRATE, "stdout")
+    place = PARTS.search(text).start(1)
+    return text[:place], text[place:]
 
 
 def rows_of(text):

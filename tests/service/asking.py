@@ -6,7 +6,7 @@
 PROGRAM is the built program, `crates/office/out/office`. For each seed from FIRST to LAST (1-40) some of the mail of
 tests/rows/reopened_rows.py is left out. Then `office waiting` has to tell what the model misses, over the bag and over
 a store, `office report` the texts of each finished run, `office why` what they say of each source, where its reasons
-come from and why it waits, `office try` what hints would change in the next run, `office runs` and `office mail` what
+come from and why it waits, of the last run and of each earlier one, `office try` what hints would change in the next run, `office runs` and `office mail` what
 they count, `office export` the kept mail, `office check` that all is whole, and the service the same on its pages. The
 bytes of the store's file have to be the same before and after. A copy of a store in which Python's sqlite3 changes a
 text or a row has to be told by `office check`. A replay has to tell refused messages on standard error. Exit status 0
@@ -23,7 +23,7 @@ import urllib.request
 sys.dont_write_bytecode = True
 TESTS = os.path.join(os.path.dirname(os.path.abspath(__file__)), "..")
 sys.path.insert(0, os.path.join(TESTS, "rows"))
-from asked import tried as would_change, why_fault
+from asked import office_after, tried as would_change, why_fault
 from model import Office, SENDERS, paragraphs
 from reopened_rows import row_of
 from rows import mail, rows_of, steps_of
@@ -105,11 +105,33 @@ def said(office, run, source):
     return lines, [line for line in update if source in line.split(" ")[1:]]
 
 
-def why(office, run, sources):
-    """What an earlier run says of sources, and the exit status: whether it says something of each."""
-    told = [sum(said(office, run, source), []) for source in sources]
-    lines = [["why %d %s" % (run, source), *lines] for source, lines in zip(sources, told)]
-    return "".join("%s\n" % line for of_one in lines for line in of_one), 0 if all(told) else 1
+def parted(text, run, sources):
+    """The texts on sources of a run, which stand one behind the other."""
+    parts, heads = [], ["why %d %s" % (run, source) for source in sources]
+    for line in text.splitlines(keepends=True):
+        if len(parts) < len(heads) and line == heads[len(parts)] + "\n":
+            parts.append("")
+        if parts:
+            parts[-1] += line
+    return parts
+
+
+def over_earlier_runs(seed, office, store, sources):
+    """What is told of sources of each run but the last: the same over the store and over its mail, and what is due by the
+    model of an office as that run left it."""
+    bag = kept_bag(office)
+    for run in range(1, office.finished):
+        left = office_after(office, run)
+        want("%d: the model up to run %d" % (seed, run), office.reports[run], left.reports[left.finished])
+        got, status = call("why", *sources, "--run", str(run), "--conf", CONF, "--db", store)
+        parts = parted(got, run, sources)
+        want("%d: sources in run %d" % (seed, run), (len(sources), got), (len(parts), "".join(parts)))
+        for source, text in zip(sources, parts):
+            fault = why_fault(left, source, said(office, run, source), text)
+            want("%d: why %s in run %d" % (seed, source, run), None, fault)
+        want("%d: why in run %d" % (seed, run), 0 if all(text.count("\n") > 1 for text in parts) else 1, status)
+        again = call("why", *sources, "--run", str(run), "--conf", CONF, bag=bag)
+        want("%d: why in run %d over a bag" % (seed, run), (got, status), again)
 
 
 def mail_lines(office):
@@ -193,10 +215,7 @@ def over_a_store(seed, office, store):
             got = call("report", str(run), report, "--conf", CONF, "--db", store)
             want("%d: report %d %s" % (seed, run, report), (text, 0), got)
     sources = sorted({paragraphs(text)[0].get("source", "greeter") for text in office.kept.values()}) or ["greeter"]
-    for run in range(1, office.finished):
-        told = why(office, run, sources)
-        got = call("why", *sources, "--run", str(run), "--conf", CONF, "--db", store)
-        want("%d: why in run %d" % (seed, run), told, got)
+    over_earlier_runs(seed, office, store, sources)
     for source in sources if office.finished else []:
         got, status = call("why", source, "--conf", CONF, "--db", store)
         fault = why_fault(office, source, said(office, office.finished, source), got)
@@ -299,10 +318,14 @@ CHANGES = [
 
 
 def differences(folder):
-    """A store that was changed is told by its first difference, and stays as it is. So is one that wasn't."""
+    """A store that was changed is told by its first difference, and stays as it is. So is one that wasn't. What is told of
+    a source for an earlier run is what the mail gives, and nothing where that run isn't made of it."""
     made = os.path.join(folder, "made.store")
     with open(os.path.join(EXAMPLES, "archive.bag"), encoding="utf-8") as bag:
         want("the archive", 0, call("replay", "--conf", CONF, "--db", made, bag=bag.read())[1])
+    earlier = ["why", "greeter", "--run", "1", "--conf", CONF, "--db"]
+    whole = call(*earlier, made)
+    want("why in the first run", True, whole[0].startswith("why 1 greeter\n"))
     rows = [(changed_rows("UPDATE office SET schema = schema"), ("whole 2 runs\n", 0))]
     rows += [(change, (told + "\n", 1)) for change, told in CHANGES]
     for place, (change, due) in enumerate(rows):
@@ -313,6 +336,8 @@ def differences(folder):
         store.close()
         before = bytes_of(copy)
         want("change %d" % place, due, call("check", "--conf", CONF, "--db", copy))
+        if "excuses" not in due[0]:
+            want("change %d, why" % place, ("", 1) if "mail" in due[0] else whole, call(*earlier, copy))
         want("change %d, the store's bytes" % place, True, before == bytes_of(copy))
 
 

@@ -38,7 +38,7 @@ impl Read for Reader<'_> {
 }
 
 /// What a writer does at one of its writes.
-#[derive(Clone, Copy, Debug, PartialEq, Eq)]
+#[derive(Clone, Copy)]
 pub enum Failure {
     /// It fails.
     Fails,

@@ -4,7 +4,7 @@ use deb_version::NoMemory;
 use std::alloc::AllocError;
 
 /// Why a part isn't right: memory was refused in what it needs itself, or what came isn't due.
-#[derive(Clone, Copy, Debug, PartialEq, Eq, Drop)]
+#[derive(Clone, Copy)]
 pub enum Met {
     NoMemory,
     Wrong(&'static str),

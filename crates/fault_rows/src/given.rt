@@ -106,7 +106,7 @@ pub const BROKEN: [&str; 4] = [
 ];
 
 /// How many bytes of its bag the messages end behind.
-pub const ENDS: [usize; 3] = [100, 188, 264];
+pub static ENDS: [usize; 3] = [100, 188, 264];
 
 /// The mail of a group that a hint asks for and that can't move: one of its sources moves alone, the other waits.
 pub static GROUP: [Letter; 6] = [
@@ -168,4 +168,12 @@ pub const EXPECT: &str = "Expect: 100-continue\r\n";
 /// The first mail of the two runs.
 pub fn first_letters(count: usize) -> &'static [Letter] {
     LETTERS.get(..count).unwrap_or(&LETTERS)
+}
+
+/// The mail of so many letters: that of the first run has three, that of the group six, that of the two runs seven.
+pub fn letters_of(count: usize) -> &'static [Letter] {
+    match count {
+        6 => &GROUP,
+        _ => first_letters(count),
+    }
 }

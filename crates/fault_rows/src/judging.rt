@@ -3,6 +3,7 @@
 use crate::faults::Met;
 use crate::given::Letter;
 use crate::offices::{bag_of, new_office, replayed};
+use deb_version::NoMemory;
 use std::alloc::Global;
 
 /// A line that stands for a delivery, for the status or for a text.
@@ -11,24 +12,22 @@ const REFUSED: &[u8] = b"refused NoMemory\n";
 /// The line of a bag that ended for want of memory.
 const BAG_REFUSED: &[u8] = b"bag refused NoMemory\n";
 
-/// What stands behind the answers where these letters alone are replayed, in a new office and with no refusal.
-fn clean_end(alloc: Global, letters: &[Letter]) -> Result<Vec<u8>, Met> {
+/// What is printed where these letters alone are replayed, in a new office and with no refusal, and the status.
+fn clean_output(alloc: Global, letters: &[Letter]) -> Result<(Vec<u8>, u8), Met> {
     let bag = bag_of(alloc, letters)?;
     let mut office = new_office(alloc)?;
-    let (output, status) = replayed(alloc, &mut office, &bag)?;
-    if status != 0 {
-        return Err(Met::NoMemory);
-    }
-    let mut end = output.as_slice();
+    let output = replayed(alloc, &mut office, &bag);
+    drop(office);
+    Ok(output?)
+}
+
+/// What stands behind the answers of these letters.
+fn end_behind<'a>(letters: &[Letter], output: &'a [u8]) -> Option<&'a [u8]> {
+    let mut end = output;
     for letter in letters {
-        match end.strip_prefix(letter.reply.as_bytes()) {
-            Some(later) => end = later,
-            None => return Err(Met::Wrong("an answer that isn't due")),
-        }
+        end = end.strip_prefix(letter.reply.as_bytes())?;
     }
-    let mut rest = Vec::new(alloc);
-    rest.extend_from_slice(end)?;
-    Ok(rest)
+    Some(end)
 }
 
 /// Whether a text begins here, or the output ends.
@@ -70,29 +69,25 @@ fn shows_one_refused(due: &[u8], end: &[u8]) -> bool {
     shows
 }
 
-/// The letters that an output says are held, whether it says that one was lost, and what stands behind the answers.
-#[derive(Drop)]
+/// Whether an output says that a letter was lost, and what stands behind the answers.
+#[derive(Clone, Copy)]
 struct Answered<'a> {
-    held: Vec<Letter>,
     lost: bool,
     rest: &'a [u8],
 }
 
-/// What an output says of these letters.
+/// What an output says of these letters. Those that are held come into a list.
 fn answers_in<'a>(
-    alloc: Global,
     letters: &[Letter],
     output: &'a [u8],
-) -> Result<Answered<'a>, Met> {
+    held: &mut Vec<Letter>,
+) -> Result<Answered<'a>, NoMemory> {
     let mut rest = output;
-    let mut held = Vec::new(alloc);
     let mut lost = false;
     for letter in letters {
         if let Some(later) = rest.strip_prefix(letter.reply.as_bytes()) {
             rest = later;
-            if held.push(*letter).is_err() {
-                return Err(Met::NoMemory);
-            }
+            held.push(*letter)?;
         } else if let Some(later) = rest.strip_prefix(REFUSED) {
             rest = later;
             lost = true;
@@ -104,7 +99,7 @@ fn answers_in<'a>(
         rest = later;
         lost = true;
     }
-    Ok(Answered { held, lost, rest })
+    Ok(Answered { lost, rest })
 }
 
 /// Whether what a replay of these letters printed is right for what it shows: each letter is answered by its line or by
@@ -114,10 +109,27 @@ pub fn is_right(alloc: Global, letters: &[Letter], output: &[u8], status: u8) ->
     if output == REFUSED {
         return Ok(status == 4);
     }
-    let told = answers_in(alloc, letters, output)?;
-    let due = clean_end(alloc, &told.held)?;
-    if told.rest == due.as_slice() {
-        return Ok(status == 4 || (status == 0 && !told.lost));
+    let mut held = Vec::new(alloc);
+    let told = answers_in(letters, output, &mut held)?;
+    is_end_of(alloc, &held, told, status)
+}
+
+/// Whether an end is that of the letters that were held, or one of its texts is refused.
+fn is_end_of(alloc: Global, held: &[Letter], told: Answered<'_>, status: u8) -> Result<bool, Met> {
+    let (output, clean) = clean_output(alloc, held)?;
+    if clean != 0 {
+        return Err(Met::NoMemory);
     }
-    Ok(status == 4 && !told.lost && shows_one_refused(&due, told.rest))
+    match end_behind(held, &output) {
+        Some(due) => Ok(is_end(due, told, status)),
+        None => Err(Met::Wrong("an answer that isn't due")),
+    }
+}
+
+/// Whether an end is the due one, or one of its texts is refused.
+fn is_end(due: &[u8], told: Answered<'_>, status: u8) -> bool {
+    if told.rest == due {
+        return status == 4 || (status == 0 && !told.lost);
+    }
+    status == 4 && !told.lost && shows_one_refused(due, told.rest)
 }

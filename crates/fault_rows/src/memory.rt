@@ -1,30 +1,25 @@
 //! Calls that may be refused memory: a refusal shows in its due place, and the same call with memory gives what is due.
 
+ghost use Rattle.std.specs.Prelude.{◌≡◌};
+
 use crate::failing::{Writer, reader_of, whole_writer};
 use crate::faults::{Met, due};
-use crate::given::{
-    EXCUSES, GROUP, GROUP_TESTING, GROUP_UPDATE, Letter, TESTING, UPDATES, first_letters,
-};
+use crate::given::{EXCUSES, GROUP_TESTING, GROUP_UPDATE, Letter, TESTING, UPDATES};
 use crate::judging::is_right;
-use crate::offices::{bag_of, longest_post, new_office, replayed, serve_by, setup_of};
-use deb_control::{Binary, BinaryFault, ParagraphFault, Paragraphs};
-use jiff::civil::Date;
+use crate::offices::{bag_of, longest_post, new_office, opened, replayed, serve_by, setup_of};
+use deb_control::{Binary, BinaryFault, Paragraph, ParagraphFault, Paragraphs};
 use office_http::{Office, Served};
-use office_mail::{Body, MailFault, Setup, read_message};
-use office_store::{Keeper, OpenFault, Tables};
+use office_mail::Setup;
+use office_store::Keeper;
 use sqlite::{Alter, Connection};
 use std::alloc::Global;
-use testing_rules::{
-    Archs, Excuses, Facts, Testing, Update, excuses, migrate, testing_text, update_text,
-};
 
 /// A setup is read whole, or memory ran out.
 pub fn try_setup(alloc: Global) -> Result<(), Met> {
     let setup = setup_of(alloc)?;
-    due(
-        setup.senders().len() == 5 && setup.archs().len() == 2,
-        "another setup",
-    )
+    let is_read = setup.senders().len() == 5 && setup.archs().len() == 2;
+    drop(setup);
+    due(is_read, "another setup")
 }
 
 /// A binary paragraph with each of its fields.
@@ -34,124 +29,25 @@ const BINARY: &[u8] =
 /// A binary is read whole, or memory ran out.
 pub fn try_binary(alloc: Global) -> Result<(), Met> {
     let mut reader = Paragraphs::new(alloc, BINARY);
-    let paragraph = match reader.next() {
-        Ok(Some(paragraph)) => paragraph,
-        Ok(None) => return Err(Met::Wrong("no paragraph")),
-        Err(ParagraphFault::NoMemory) => return Err(Met::NoMemory),
-        Err(_) => return Err(Met::Wrong("another fault of a paragraph")),
-    };
-    match Binary::parse(alloc, &paragraph) {
+    match reader.next() {
+        Ok(Some(paragraph)) => try_paragraph(alloc, &paragraph),
+        Ok(None) => Err(Met::Wrong("no paragraph")),
+        Err(ParagraphFault::NoMemory) => Err(Met::NoMemory),
+        Err(_) => Err(Met::Wrong("another fault of a paragraph")),
+    }
+}
+
+/// The same by its paragraph.
+fn try_paragraph(alloc: Global, paragraph: &Paragraph<'_>) -> Result<(), Met> {
+    match Binary::parse(alloc, paragraph) {
         Ok(binary) => {
             let is_read = binary.name.as_str() == "foo" && binary.source.as_str() == "bar";
+            drop(binary);
             due(is_read, "another binary")
         }
         Err(BinaryFault::NoMemory) => Err(Met::NoMemory),
         Err(_) => Err(Met::Wrong("another fault of a binary")),
     }
-}
-
-/// The facts take what a text says.
-fn take_text(alloc: Global, setup: &Setup, facts: &mut Facts, text: &str) -> Result<(), Met> {
-    match read_message(alloc, setup, text.as_bytes()) {
-        Ok(message) => {
-            if let Body::Item(item) = &message.body {
-                facts.take(message.sender, message.number, item)?;
-            }
-            Ok(())
-        }
-        Err(MailFault::NoMemory) => Err(Met::NoMemory),
-        Err(_) => Err(Met::Wrong("a message is refused")),
-    }
-}
-
-/// The facts of the group.
-fn group_facts(alloc: Global, setup: &Setup) -> Result<Facts, Met> {
-    let mut facts = Facts::new(alloc);
-    for letter in &GROUP {
-        take_text(alloc, setup, &mut facts, letter.text)?;
-    }
-    Ok(facts)
-}
-
-/// The moves of the group, which are asked for again where they are refused.
-fn moved(
-    alloc: Global,
-    archs: &Archs,
-    facts: &Facts,
-    testing: &mut Testing,
-    date: Date,
-) -> Result<Update, Met> {
-    let excuses = excuses(alloc, archs, facts, testing, date)?;
-    moved_by(alloc, archs, facts, &excuses, testing)
-}
-
-/// The moves by these excuses, which are asked for again where they are refused.
-fn moved_by(
-    alloc: Global,
-    archs: &Archs,
-    facts: &Facts,
-    excuses: &Excuses,
-    testing: &mut Testing,
-) -> Result<Update, Met> {
-    match migrate(alloc, archs, facts, excuses, testing) {
-        Ok(update) => Ok(update),
-        Err(_) => moved_again(alloc, archs, facts, excuses, testing),
-    }
-}
-
-/// The moves behind ones that were refused, which left testing as it was.
-fn moved_again(
-    alloc: Global,
-    archs: &Archs,
-    facts: &Facts,
-    excuses: &Excuses,
-    testing: &mut Testing,
-) -> Result<Update, Met> {
-    tells_testing(alloc, archs, 0, testing, TESTING[0])?;
-    let update = migrate(alloc, archs, facts, excuses, testing)?;
-    Ok(update)
-}
-
-/// Testing after so many runs is this.
-fn tells_testing(
-    alloc: Global,
-    archs: &Archs,
-    runs: u32,
-    testing: &Testing,
-    text: &str,
-) -> Result<(), Met> {
-    let told = testing_text(alloc, archs, runs, testing)?;
-    due(told.as_str() == text, "another testing")
-}
-
-/// The update of the group's moves is the one that is due.
-fn tells_update(
-    alloc: Global,
-    archs: &Archs,
-    facts: &Facts,
-    testing: &mut Testing,
-    date: Date,
-) -> Result<(), Met> {
-    let update = moved(alloc, archs, facts, testing, date)?;
-    let told = update_text(alloc, archs, 1, date, &update)?;
-    due(told.as_str() == GROUP_UPDATE, "another update")
-}
-
-/// The moves by the group's facts, from a testing that is empty.
-fn try_moves_by(alloc: Global, archs: &Archs, facts: &Facts) -> Result<(), Met> {
-    let Ok(date) = Date::new(2025, 3, 6) else {
-        return Err(Met::Wrong("no date"));
-    };
-    let mut testing = Testing::new(alloc);
-    tells_update(alloc, archs, facts, &mut testing, date)?;
-    tells_testing(alloc, archs, 1, &testing, GROUP_TESTING)
-}
-
-/// A group that can't move: its moves are those that are due, whether or not they were refused before.
-pub fn try_moves(alloc: Global) -> Result<(), Met> {
-    let setup = setup_of(alloc)?;
-    let facts = group_facts(alloc, &setup)?;
-    try_moves_by(alloc, setup.archs(), &facts)
 }
 
 /// Another text under the number of the longest post.
@@ -169,7 +65,9 @@ pub fn try_post(alloc: Global) -> Result<(), Met> {
     let mut writer = whole_writer(alloc);
     writer.taken = Vec::with_capacity(alloc, 1024)?;
     let mut office = new_office(alloc)?;
-    judge_post(&mut office, &request, &mut writer)
+    let judged = judge_post(&mut office, &request, &mut writer);
+    drop(office);
+    judged
 }
 
 /// Serves the longest post, and judges its reply.
@@ -279,10 +177,12 @@ fn try_replay<K: Keeper>(
     tells_updates(office, updates)
 }
 
-/// The same in an office over a store in memory.
-fn try_in_memory(alloc: Global, letters: &[Letter]) -> Result<(), Met> {
+/// These letters, in an office over a store in memory.
+pub fn try_in_memory(alloc: Global, letters: &[Letter]) -> Result<(), Met> {
     let mut office = new_office(alloc)?;
-    try_replay(alloc, &mut office, letters)
+    let tried = try_replay(alloc, &mut office, letters);
+    drop(office);
+    tried
 }
 
 /// The same in an office over tables that are opened in this connection.
@@ -292,58 +192,42 @@ fn try_over<S: Alter + Drop>(
     conn: Connection<S>,
     letters: &[Letter],
 ) -> Result<(), Met> {
-    match Tables::open(alloc, conn, &setup) {
+    match opened(alloc, conn, &setup) {
         Ok(tables) => {
-            let mut office = Office::new(alloc, setup, tables);
-            let tried = try_replay(alloc, &mut office, letters);
-            drop(office.into_keeper().into_connection());
+            let (tables, tried) = try_in(alloc, setup, tables, letters);
+            drop(tables.into_connection());
             tried
         }
-        Err((fault, conn)) => {
+        Err((met, conn)) => {
             drop(conn);
-            Err(refused_opening(fault))
+            drop(setup);
+            Err(met)
         }
     }
 }
 
-/// What tables that aren't opened are told as.
-fn refused_opening(fault: OpenFault) -> Met {
-    match fault {
-        OpenFault::NoMemory => Met::NoMemory,
-        _ => Met::Wrong("the tables are refused"),
-    }
+/// The same in an office over a store, which is given back.
+fn try_in<K: Keeper>(
+    alloc: Global,
+    setup: Setup,
+    keeper: K,
+    letters: &[Letter],
+) -> (K, Result<(), Met>)
+    requires { K.setup keeper ≡ setup }
+{
+    let mut office = Office::new(alloc, setup, keeper);
+    let tried = try_replay(alloc, &mut office, letters);
+    (office.into_keeper(), tried)
 }
 
-/// The same in an office over tables in memory.
-fn try_in_tables(alloc: Global, letters: &[Letter]) -> Result<(), Met> {
+/// These letters, in an office over tables in memory.
+pub fn try_in_tables(alloc: Global, letters: &[Letter]) -> Result<(), Met> {
     let setup = setup_of(alloc)?;
     match Connection::open_in_memory(alloc) {
         Ok(conn) => try_over(alloc, setup, conn, letters),
-        Err(_) => Err(Met::NoMemory),
+        Err(_) => {
+            drop(setup);
+            Err(Met::NoMemory)
+        }
     }
-}
-
-/// The first run's mail, in memory.
-pub fn try_first(alloc: Global) -> Result<(), Met> {
-    try_in_memory(alloc, first_letters(3))
-}
-
-/// The same over tables.
-pub fn try_first_in_tables(alloc: Global) -> Result<(), Met> {
-    try_in_tables(alloc, first_letters(3))
-}
-
-/// The mail of both runs, in memory.
-pub fn try_both(alloc: Global) -> Result<(), Met> {
-    try_in_memory(alloc, first_letters(7))
-}
-
-/// The same over tables.
-pub fn try_both_in_tables(alloc: Global) -> Result<(), Met> {
-    try_in_tables(alloc, first_letters(7))
-}
-
-/// The group's mail, in memory.
-pub fn try_group(alloc: Global) -> Result<(), Met> {
-    try_in_memory(alloc, &GROUP)
 }

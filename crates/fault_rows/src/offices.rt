@@ -1,5 +1,7 @@
 //! Offices, bags and requests of the parts, and the calls that take them.
 
+ghost use Rattle.std.specs.Prelude.{◌≡◌, IfOk};
+
 use crate::failing::{Reader, Writer, reader_of, whole_writer};
 use crate::faults::Met;
 use crate::given::{Letter, SETUP};
@@ -8,7 +10,8 @@ use office_http::{
     Office, Replayed, ServeFault, Served, WriteFault, replay, replay_status, serve_one,
 };
 use office_mail::{Bag, FromRead, Setup, SetupFault, ToWrite};
-use office_store::{Keeper, Plain};
+use office_store::{Keeper, OpenFault, Plain, Tables};
+use sqlite::{Alter, Connection};
 use std::alloc::Global;
 
 /// More than any of the outputs has.
@@ -26,24 +29,67 @@ pub fn setup_of(alloc: Global) -> Result<Setup, Met> {
 /// An office over a store in memory.
 pub fn new_office(alloc: Global) -> Result<Office<Plain>, Met> {
     let setup = setup_of(alloc)?;
-    let plain = Plain::new(alloc, &setup)?;
-    Ok(Office::new(alloc, setup, plain))
+    match Plain::new(alloc, &setup) {
+        Ok(plain) => Ok(Office::new(alloc, setup, plain)),
+        Err(_) => {
+            drop(setup);
+            Err(Met::NoMemory)
+        }
+    }
+}
+
+/// The office's tables in a database that is new, or that was left by an office of this setup.
+pub fn opened<S: Alter>(
+    alloc: Global,
+    conn: Connection<S>,
+    setup: &Setup,
+) -> Result<Tables<S>, (Met, Connection<S>)>
+    ensures { IfOk result (λ tables. tables.1.0 ≡ setup.now) }
+{
+    match Tables::open(alloc, conn, setup) {
+        Ok(tables) => Ok(tables),
+        Err((fault, conn)) => Err((refused_opening(fault), conn)),
+    }
+}
+
+/// What tables that aren't opened are told as.
+fn refused_opening(fault: OpenFault) -> Met {
+    match fault {
+        OpenFault::NoMemory => Met::NoMemory,
+        _ => Met::Wrong("the tables aren't opened"),
+    }
+}
+
+/// Lets an office over a store in memory go.
+pub fn close(office: Office<Plain>) {
+    drop(office);
 }
 
 /// The bag of these letters.
 pub fn bag_of(alloc: Global, letters: &[Letter]) -> Result<Vec<u8>, NoMemory> {
     let mut bag = Vec::new(alloc);
     for letter in letters {
-        let line = format!(in alloc; "mail {}\n", letter.text.len())?;
-        bag.extend_from_slice(line.as_bytes())?;
-        bag.extend_from_slice(letter.text.as_bytes())?;
+        put_letter(alloc, letter, &mut bag)?;
     }
     Ok(bag)
+}
+
+/// Adds a letter to a bag.
+fn put_letter(alloc: Global, letter: &Letter, bag: &mut Vec<u8>) -> Result<(), NoMemory> {
+    let message = format!(in alloc; "mail {}\n{}", letter.text.len(), letter.text)?;
+    bag.extend_from_slice(message.as_bytes())?;
+    Ok(())
 }
 
 /// A post of the longest message, which says nothing in 65,536 bytes. `more` is a header or none.
 pub fn longest_post(alloc: Global, more: &str) -> Result<Vec<u8>, NoMemory> {
     let mut request = Vec::with_capacity(alloc, 70_000)?;
+    put_post(more, &mut request)?;
+    Ok(request)
+}
+
+/// Adds that post.
+fn put_post(more: &str, request: &mut Vec<u8>) -> Result<(), NoMemory> {
     request.extend_from_slice(b"POST /mail HTTP/1.1\r\nHost: x\r\n")?;
     request.extend_from_slice(more.as_bytes())?;
     request.extend_from_slice(
@@ -51,7 +97,7 @@ pub fn longest_post(alloc: Global, more: &str) -> Result<Vec<u8>, NoMemory> {
     )?;
     request.resize(request.len().saturating_add(65_498), b'x')?;
     request.extend_from_slice(b"\n")?;
-    Ok(request)
+    Ok(())
 }
 
 /// Replays the bag that a reader gives, to a writer.

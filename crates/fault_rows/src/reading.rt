@@ -2,7 +2,7 @@
 
 use crate::failing::{Reader, Writer, whole_writer};
 use crate::faults::{Met, due};
-use crate::given::{BROKEN, CONTINUE, ENDS, EXPECT, OUTPUT, first_letters};
+use crate::given::{BROKEN, ENDS, OUTPUT, first_letters};
 use crate::offices::{bag_of, is_free, longest_post, new_office, replay_by, serve_by};
 use deb_version::NoMemory;
 use office_http::{Office, Replayed, ServeFault, Served};
@@ -19,8 +19,8 @@ const BYTES_A_READ: usize = 1_000;
 /// What a replay prints whose reader fails behind so many bytes of the bag.
 fn broken_output(bytes: usize) -> &'static str {
     let mut whole = 0usize;
-    for end in ENDS {
-        if end <= bytes {
+    for end in &ENDS {
+        if *end <= bytes {
             whole = whole.saturating_add(1);
         }
     }
@@ -31,7 +31,9 @@ fn broken_output(bytes: usize) -> &'static str {
 fn replay_read(alloc: Global, bag: &[u8], fails_at: u32) -> Result<bool, Met> {
     let mut office = new_office(alloc)?;
     let mut writer = whole_writer(alloc);
-    judge_replay(alloc, &mut office, bag, fails_at, &mut writer)
+    let judged = judge_replay(alloc, &mut office, bag, fails_at, &mut writer);
+    drop(office);
+    judged
 }
 
 /// The same in an office that is new, to a writer that doesn't fail.
@@ -90,7 +92,9 @@ pub fn try_replay_reads(alloc: Global) -> Result<(), Met> {
 fn post_read(alloc: Global, request: &[u8], front: &str, fails_at: u32) -> Result<bool, Met> {
     let mut office = new_office(alloc)?;
     let mut writer = whole_writer(alloc);
-    judge_post(&mut office, request, front, fails_at, &mut writer)
+    let judged = judge_post(&mut office, request, front, fails_at, &mut writer);
+    drop(office);
+    judged
 }
 
 /// The same in an office that is new, to a writer that doesn't fail.
@@ -130,8 +134,9 @@ fn judge_post<K: Keeper>(
     Ok(true)
 }
 
-/// A post of the longest message whose nth read fails, for each n.
-fn try_reads(alloc: Global, more: &str, front: &str) -> Result<(), Met> {
+/// A post of the longest message with this header, whose nth read fails, for each n. The client may be told a front of
+/// the reply before.
+pub fn try_post_reads(alloc: Global, more: &str, front: &str) -> Result<(), Met> {
     let request = longest_post(alloc, more)?;
     let mut failed = 0u32;
     for fails_at in 1..MOST {
@@ -144,22 +149,14 @@ fn try_reads(alloc: Global, more: &str, front: &str) -> Result<(), Met> {
     due(failed == 66, "another count of reads")
 }
 
-/// The same from a client that sends its body at once.
-pub fn try_post_reads(alloc: Global) -> Result<(), Met> {
-    try_reads(alloc, "", "")
-}
-
-/// The same from a client that waits to be asked for its body.
-pub fn try_waiting_reads(alloc: Global) -> Result<(), Met> {
-    try_reads(alloc, EXPECT, CONTINUE)
-}
-
 /// A reader that gives a byte a read, and more of them than are ever read: the bag is given up after 1,000,000 reads.
 pub fn try_endless(alloc: Global) -> Result<(), Met> {
     let bytes = endless_bag(alloc)?;
     let mut office = new_office(alloc)?;
     let mut writer = whole_writer(alloc);
-    judge_endless(alloc, &mut office, &bytes, &mut writer)
+    let judged = judge_endless(alloc, &mut office, &bytes, &mut writer);
+    drop(office);
+    judged
 }
 
 /// The front of a bag whose only message is longer than 1,000,000 reads of a byte.

@@ -1,10 +1,10 @@
 //! An office over two files, of which one stops, and what is there when they are opened again.
 
-ghost use Rattle.std.specs.Prelude.{IsTrue, IfOk};
+ghost use Rattle.std.specs.Prelude.{◌≡◌};
 
 use crate::faults::{Met, due};
 use crate::given::{EXCUSES, LETTERS, TESTING, UPDATES, first_letters};
-use crate::offices::{bag_of, replayed, setup_of};
+use crate::offices::{bag_of, opened, replayed, setup_of};
 use office_http::{DeliverFault, Held, Office, Progress};
 use office_mail::{MailFault, Setup};
 use office_store::{Keeper, Tables};
@@ -13,7 +13,7 @@ use sqlite_disk::{Crash, Disk, Fuse, Memory};
 use std::alloc::Global;
 
 /// What a file has, when its machine comes back, of that which wasn't synced.
-#[derive(Clone, Copy, Debug, PartialEq, Eq)]
+#[derive(Clone, Copy)]
 pub enum Left {
     Nothing,
     Everything,
@@ -196,36 +196,63 @@ fn judge_office<K: Keeper>(
     due(tells_runs(office, 2), "reports behind the bag again")
 }
 
+/// A connection to files, or the files where they aren't opened.
+fn connected<D: Disk + Drop>(
+    alloc: Global,
+    files: Files<D>,
+) -> Result<Connection<FileStore<D>>, Files<D>> {
+    if !files.may_be_used() {
+        return Err(files);
+    }
+    match Connection::open_files(alloc, files, Options::new(1)) {
+        Ok(conn) => Ok(conn),
+        Err((_error, left)) => Err(left.into_files()),
+    }
+}
+
 /// The files of an office whose mail is delivered until a stop, as they are left, and what was answered.
 fn run_until_stop<D: Disk + Drop>(
     alloc: Global,
     setup: Setup,
     files: Files<D>,
-) -> (Answers, Files<D>)
-    requires log { IsTrue (D.Disk.is_usable files.log) }
-    requires db { IsTrue (D.Disk.is_usable files.db) }
-{
-    match Connection::open_files(alloc, files, Options::new(1)) {
-        Ok(conn) => deliver_over(alloc, setup, conn),
-        Err((_error, left)) => (unopened(), left.into_files()),
+) -> (Answers, Files<D>) {
+    match connected(alloc, files) {
+        Ok(conn) => {
+            let (conn, answers) = answered_over(alloc, setup, conn);
+            (answers, conn.into_store().close())
+        }
+        Err(files) => {
+            drop(setup);
+            (unopened(), files)
+        }
     }
 }
 
-/// The same over a connection.
-fn deliver_over<D: Disk + Drop>(
+/// A connection behind the delivery of the mail in an office over it, and what was answered.
+fn answered_over<S: Alter>(
     alloc: Global,
     setup: Setup,
-    conn: Connection<FileStore<D>>,
-) -> (Answers, Files<D>) {
-    match Tables::open(alloc, conn, &setup) {
+    conn: Connection<S>,
+) -> (Connection<S>, Answers) {
+    match opened(alloc, conn, &setup) {
         Ok(tables) => {
-            let mut office = Office::new(alloc, setup, tables);
-            let answers = deliver_all(&mut office);
-            let conn = office.into_keeper().into_connection();
-            (answers, conn.into_store().close())
+            let (tables, answers) = answered_in(alloc, setup, tables);
+            (tables.into_connection(), answers)
         }
-        Err((_fault, conn)) => (unopened(), conn.into_store().close()),
+        Err((_met, conn)) => {
+            drop(setup);
+            (conn, unopened())
+        }
     }
+}
+
+/// A store behind the delivery of the mail in an office over it, and what was answered.
+fn answered_in<K: Keeper>(alloc: Global, setup: Setup, keeper: K) -> (K, Answers)
+    requires { K.setup keeper ≡ setup }
+{
+    let mut office = Office::new(alloc, setup, keeper);
+    let answers = deliver_all(&mut office);
+    (office.into_keeper(), answers)
 }
 
 /// The answers where nothing was opened.
@@ -237,39 +264,38 @@ fn unopened() -> Answers {
 }
 
 /// A file as it is when the machine comes back.
-fn come_back(alloc: Global, file: Fuse<Memory>, left: Left) -> Result<Fuse<Memory>, Met>
-    ensures { IfOk result (λ file. IsTrue (⟦<Fuse<Memory> as Disk>⟧.is_usable file)) }
-{
+fn come_back(alloc: Global, file: Fuse<Memory>, left: Left) -> Result<Fuse<Memory>, Met> {
     match left {
         Left::Nothing => {
             let mut file = file;
             file.crash();
             Ok(file)
         }
-        Left::Everything => all_written(alloc, &file),
+        Left::Everything => {
+            let written = all_written(alloc, file.inner().bytes());
+            drop(file);
+            written
+        }
     }
 }
 
-/// A file that has synced all that was written to this one.
-fn all_written(alloc: Global, file: &Fuse<Memory>) -> Result<Fuse<Memory>, Met>
-    ensures { IfOk result (λ file. IsTrue (⟦<Fuse<Memory> as Disk>⟧.is_usable file)) }
-{
+/// A file that has synced these bytes.
+fn all_written(alloc: Global, bytes: &[u8]) -> Result<Fuse<Memory>, Met> {
     let mut memory = Memory::new(alloc);
-    if memory.write_at(0, file.inner().bytes()).is_err() || memory.sync().is_err() {
+    if memory.write_at(0, bytes).is_err() || memory.sync().is_err() {
+        drop(memory);
         return Err(Met::NoMemory);
     }
     Ok(Fuse::new(memory, u64::MAX))
 }
 
 /// A file that is new and stops after so many calls.
-fn new_file(alloc: Global, calls: u64) -> Fuse<Memory>
-    ensures { IsTrue (⟦<Fuse<Memory> as Disk>⟧.is_usable result) }
-{
+fn new_file(alloc: Global, calls: u64) -> Fuse<Memory> {
     Fuse::new(Memory::new(alloc), calls)
 }
 
 /// Whether neither file has stopped.
-fn still_run(files: &mut Files<Fuse<Memory>>) -> bool {
+fn still_run<D: Disk>(files: &mut Files<D>) -> bool {
     if !files.may_be_used() {
         return false;
     }
@@ -285,45 +311,102 @@ pub fn stops(alloc: Global, stop: Stop) -> Result<bool, Met> {
         log: new_file(alloc, stop.log_calls),
         db: new_file(alloc, stop.db_calls),
     };
-    let (answers, mut files) = run_until_stop(alloc, setup, files);
+    let (answers, files) = run_until_stop(alloc, setup, files);
+    judge_stop(alloc, stop, &answers, files)
+}
+
+/// Whether these files were stopped in a run that was answered so; what they have is judged.
+fn judge_stop(
+    alloc: Global,
+    stop: Stop,
+    answers: &Answers,
+    files: Files<Fuse<Memory>>,
+) -> Result<bool, Met> {
+    let mut files = files;
     let ran_through = still_run(&mut files);
-    let again = Files {
-        log: come_back(alloc, files.log, stop.left_of_log)?,
-        db: come_back(alloc, files.db, stop.left_of_db)?,
-    };
+    judge_left(alloc, stop, answers, files.log, files.db)?;
     due(!answers.wrong, "an answer")?;
     due(answers.all_due || !ran_through, "an answer with no stop")?;
-    judge_files(alloc, again, &answers)?;
     Ok(!ran_through)
 }
 
+/// What is wrong with a log and a database once the machine comes back, if something is.
+fn judge_left(
+    alloc: Global,
+    stop: Stop,
+    answers: &Answers,
+    log: Fuse<Memory>,
+    db: Fuse<Memory>,
+) -> Result<(), Met> {
+    match come_back(alloc, log, stop.left_of_log) {
+        Ok(log) => judge_database(alloc, stop, answers, log, db),
+        Err(met) => {
+            drop(db);
+            Err(met)
+        }
+    }
+}
+
+/// The same with the log that came back.
+fn judge_database(
+    alloc: Global,
+    stop: Stop,
+    answers: &Answers,
+    log: Fuse<Memory>,
+    db: Fuse<Memory>,
+) -> Result<(), Met> {
+    match come_back(alloc, db, stop.left_of_db) {
+        Ok(db) => judge_files(alloc, Files { log, db }, answers),
+        Err(met) => {
+            drop(log);
+            Err(met)
+        }
+    }
+}
+
 /// What is wrong with files that are opened again, if something is.
-fn judge_files(alloc: Global, files: Files<Fuse<Memory>>, answers: &Answers) -> Result<(), Met>
-    requires log { IsTrue (⟦<Fuse<Memory> as Disk>⟧.is_usable files.log) }
-    requires db { IsTrue (⟦<Fuse<Memory> as Disk>⟧.is_usable files.db) }
-{
-    let setup = setup_of(alloc)?;
-    match Connection::open_files(alloc, files, Options::new(1)) {
-        Ok(conn) => judge_over(alloc, setup, conn, answers),
-        Err((_error, left)) => {
-            drop(left);
+fn judge_files<D: Disk + Drop>(
+    alloc: Global,
+    files: Files<D>,
+    answers: &Answers,
+) -> Result<(), Met> {
+    match connected(alloc, files) {
+        Ok(conn) => judge_connection(alloc, conn, answers),
+        Err(files) => {
+            drop(files);
             Err(Met::Wrong("the files aren't opened again"))
         }
     }
 }
 
 /// The same over a connection.
+fn judge_connection<S: Alter + Drop>(
+    alloc: Global,
+    conn: Connection<S>,
+    answers: &Answers,
+) -> Result<(), Met> {
+    match setup_of(alloc) {
+        Ok(setup) => judge_over(alloc, setup, conn, answers),
+        Err(met) => {
+            drop(conn);
+            Err(met)
+        }
+    }
+}
+
+/// The same with a setup.
 fn judge_over<S: Alter + Drop>(
     alloc: Global,
     setup: Setup,
     conn: Connection<S>,
     answers: &Answers,
 ) -> Result<(), Met> {
-    match Tables::open(alloc, conn, &setup) {
+    match opened(alloc, conn, &setup) {
         Ok(tables) => judge_kept(alloc, setup, tables, answers),
-        Err((_fault, conn)) => {
+        Err((met, conn)) => {
             drop(conn);
-            Err(Met::Wrong("the tables aren't opened again"))
+            drop(setup);
+            Err(met)
         }
     }
 }
@@ -350,16 +433,31 @@ fn judge_runs<S: Alter + Drop>(
     finished: u32,
     answers: &Answers,
 ) -> Result<(), Met> {
-    match Tables::open(alloc, conn, &setup) {
+    match opened(alloc, conn, &setup) {
         Ok(tables) => {
-            let mut office = Office::new(alloc, setup, tables);
-            let judged = judge_office(alloc, &mut office, finished, answers);
-            drop(office.into_keeper().into_connection());
+            let (tables, judged) = judge_in(alloc, setup, tables, finished, answers);
+            drop(tables.into_connection());
             judged
         }
-        Err((_fault, conn)) => {
+        Err((met, conn)) => {
             drop(conn);
-            Err(Met::Wrong("the tables aren't opened once more"))
+            drop(setup);
+            Err(met)
         }
     }
+}
+
+/// The same of the office over a store, which is given back.
+fn judge_in<K: Keeper>(
+    alloc: Global,
+    setup: Setup,
+    keeper: K,
+    finished: u32,
+    answers: &Answers,
+) -> (K, Result<(), Met>)
+    requires { K.setup keeper ≡ setup }
+{
+    let mut office = Office::new(alloc, setup, keeper);
+    let judged = judge_office(alloc, &mut office, finished, answers);
+    (office.into_keeper(), judged)
 }

@@ -8,7 +8,7 @@ use std::alloc::Global;
 const MOST: u64 = 400;
 
 /// What the log and the database have, when the machine comes back, of that which wasn't synced.
-const LOSSES: [(Left, Left); 4] = [
+static LOSSES: [(Left, Left); 4] = [
     (Left::Nothing, Left::Nothing),
     (Left::Nothing, Left::Everything),
     (Left::Everything, Left::Nothing),
@@ -32,7 +32,7 @@ fn stop_after(is_log: bool, calls: u64, left: (Left, Left)) -> Stop {
 }
 
 /// One file, the log or the database, stops after each number of its calls, until a run meets no stop.
-fn try_file(alloc: Global, is_log: bool, left: (Left, Left)) -> Result<(), Met> {
+fn try_loss(alloc: Global, is_log: bool, left: (Left, Left)) -> Result<(), Met> {
     let mut met = 0u64;
     for calls in 0..MOST {
         if !stops(alloc, stop_after(is_log, calls, left))? {
@@ -43,18 +43,10 @@ fn try_file(alloc: Global, is_log: bool, left: (Left, Left)) -> Result<(), Met> 
     due(met > 10 && met < MOST, "another count of stops")
 }
 
-/// The log stops, with each loss.
-pub fn try_log(alloc: Global) -> Result<(), Met> {
-    for left in LOSSES {
-        try_file(alloc, true, left)?;
-    }
-    Ok(())
-}
-
-/// The database stops, with each loss.
-pub fn try_database(alloc: Global) -> Result<(), Met> {
-    for left in LOSSES {
-        try_file(alloc, false, left)?;
+/// The log or the database stops, with each loss.
+pub fn try_file(alloc: Global, is_log: bool) -> Result<(), Met> {
+    for left in &LOSSES {
+        try_loss(alloc, is_log, *left)?;
     }
     Ok(())
 }

@@ -2,7 +2,7 @@
 
 use crate::failing::{Failure, Writer, reader_of};
 use crate::faults::{Met, due};
-use crate::given::{CONTINUE, EXPECT, OUTPUT, REPLY, TESTING, first_letters};
+use crate::given::{OUTPUT, REPLY, TESTING, first_letters};
 use crate::offices::{bag_of, is_free, longest_post, new_office, replay_by, replayed, serve_by};
 use office_http::{Office, ServeFault, Served};
 use office_store::Keeper;
@@ -20,7 +20,7 @@ struct Kind {
 }
 
 /// The kinds: each takes all bytes of a write or one, and at one write fails or takes none.
-const KINDS: [Kind; 4] = [
+static KINDS: [Kind; 4] = [
     Kind {
         most: usize::MAX,
         failure: Failure::Fails,
@@ -70,7 +70,9 @@ fn is_count(kind: Kind, failed: u32, bytes: usize) -> bool {
 fn replay_written(alloc: Global, bag: &[u8], kind: Kind, fails_at: u32) -> Result<bool, Met> {
     let mut office = new_office(alloc)?;
     let mut writer = writer_of(alloc, kind, fails_at);
-    judge_replay(alloc, &mut office, bag, &mut writer)
+    let judged = judge_replay(alloc, &mut office, bag, &mut writer);
+    drop(office);
+    judged
 }
 
 /// The same bag again in an office ends in the testing that is due.
@@ -126,8 +128,8 @@ fn try_replays(alloc: Global, bag: &[u8], kind: Kind) -> Result<(), Met> {
 /// The same for each kind of writer.
 pub fn try_replay_writes(alloc: Global) -> Result<(), Met> {
     let bag = bag_of(alloc, first_letters(3))?;
-    for kind in KINDS {
-        try_replays(alloc, &bag, kind)?;
+    for kind in &KINDS {
+        try_replays(alloc, &bag, *kind)?;
     }
     Ok(())
 }
@@ -142,7 +144,9 @@ fn post_written(
     writer: &mut Writer,
 ) -> Result<bool, Met> {
     let mut office = new_office(alloc)?;
-    judge_post(&mut office, request, front, reply, writer)
+    let judged = judge_post(&mut office, request, front, reply, writer);
+    drop(office);
+    judged
 }
 
 /// The same in an office that is new.
@@ -202,22 +206,12 @@ fn try_posts(
     )
 }
 
-/// The same for each kind of writer, of the longest message.
-fn try_writes(alloc: Global, more: &str, front: &str) -> Result<(), Met> {
+/// The same for each kind of writer, of the longest message with this header. The client is told a front before.
+pub fn try_post_writes(alloc: Global, more: &str, front: &str) -> Result<(), Met> {
     let request = longest_post(alloc, more)?;
     let reply = format!(in alloc; "{front}{REPLY}")?;
-    for kind in KINDS {
-        try_posts(alloc, &request, front.len(), reply.as_bytes(), kind)?;
+    for kind in &KINDS {
+        try_posts(alloc, &request, front.len(), reply.as_bytes(), *kind)?;
     }
     Ok(())
-}
-
-/// The same from a client that sends its body at once.
-pub fn try_post_writes(alloc: Global) -> Result<(), Met> {
-    try_writes(alloc, "", "")
-}
-
-/// The same from a client that waits to be asked for its body.
-pub fn try_waiting_writes(alloc: Global) -> Result<(), Met> {
-    try_writes(alloc, EXPECT, CONTINUE)
 }

@@ -112,7 +112,7 @@ made_by setup kept front runs (Some Testing) all short = absurd short
 made_by setup kept front runs (Some Facts) all short = absurd short
 
 -- what is found where there is no office made anew
-pub unmade_differs : (setup : Lists) (c : Content) (runs : ℕ) (d : Difference) → runs ≡ length c.reports → IsUnmade setup c.kept runs d → AreOfSenders setup c.kept → IsDifference setup c d
+pub unmade_differs : (setup : Lists) (c : Content) (runs : ℕ) (d : Difference) → runs ≤ length c.reports → IsUnmade setup c.kept runs d → AreOfSenders setup c.kept → IsDifference setup c d
 unmade_differs setup c runs (Mail sender number) size h are = h
 unmade_differs setup c runs (RunMail run) size h are =
     let last = h.1 in
@@ -124,7 +124,7 @@ unmade_differs setup c runs Testing size h are = absurd h
 unmade_differs setup c runs Facts size h are = absurd h
 
 -- what an office leaves differs nowhere
-no_difference : (setup : Lists) (c : Content) (d : Difference) → IsOffice setup c → IsDifference setup c d → ⊥
+pub no_difference : (setup : Lists) (c : Content) (d : Difference) → IsOffice setup c → IsDifference setup c d → ⊥
 no_difference setup c (Mail sender number) office h = h.2 (office.texts (sender, number) h.0 h.1)
 no_difference setup c (RunMail run) office h = h.1 (IsReady-down setup c.kept (length c.reports) run h.0.1 office.ready)
 no_difference setup c (Excuses run) office h = h.1 (excuses_are setup c c.kept run office refl h.0.0 h.0.1)

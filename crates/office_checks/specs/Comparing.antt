@@ -1,6 +1,6 @@
 -- Steps: no contract of a call that users make rests on this file.
 -- What a store holds, compared with what an office made anew holds.
-use Rattle.std.specs.Prelude.{◌≡◌, ◌≢◌, ℕ, ◌+◌, ◌≤◌, length, Option, Some, None, option_map}
+use Rattle.std.specs.Prelude.{◌≡◌, ◌≢◌, ℕ, ◌+◌, ◌≤◌, Bool, true, false, length, Option, Some, None, option_map}
 use Rattle.office_mail.specs.Kept.{Kept}
 use Rattle.office_mail.specs.Lists.{Lists}
 use Rattle.office_mail.specs.Runs.{IsReady}
@@ -9,9 +9,10 @@ use Rattle.office_keeper.specs.FactSet.{rows_in}
 use Rattle.office_keeper.specs.MemoryState.{content_of}
 use Rattle.office_keeper.specs.declared.values.Reports.{Reports}
 use Rattle.office_facts.specs.State.{IsOffice}
+use Rattle.office_checks.specs.Earlier.{HoldsAfter}
 use Rattle.office_checks.specs.Reading.{IsFront}
 use Rattle.office_checks.specs.Whole.{IsForeign, excuses_at, update_at}
-use Rattle.office_checks.specs.declared.bounded.Bounded.{Bounded}
+use Rattle.office_checks.specs.declared.memory.Bounded.{Bounded}
 use Rattle.office_checks.specs.declared.Checked.{Checked}
 use Rattle.office_checks.specs.declared.Checked.TheVariants.{Whole, Differs}
 use Rattle.office_checks.specs.declared.Difference.{Difference}
@@ -46,6 +47,11 @@ IsShort setup kept runs _ = ⊥
 abbrev pub IsMade : Lists → Kept → ℕ → Kept → Option Difference → Type 0
 IsMade setup kept runs front None = IsFront kept (length setup.senders) 0 front
 IsMade setup kept runs front (Some difference) = IsUnmade setup kept runs difference
+
+-- an office made anew took all of a store's mail and finished the runs up to this one; or the store isn't what an office leaves
+abbrev pub IsMadeAfter : Lists → Content → ℕ → Bounded → Bool → Type 0
+IsMadeAfter setup content run office true = HoldsAfter setup content.kept run office
+IsMadeAfter setup content run office false = IsOffice setup content → ⊥
 
 -- how the reports of a run differ, if they do
 abbrev pub IsRunDifference : ℕ → Option Reports → Option Reports → Option Difference → Type 0

@@ -2,3 +2,4 @@ pub mod Reading
 pub mod Comparing
 pub mod Telling
 pub mod Whole
+pub mod Earlier

@@ -12,9 +12,9 @@ ghost use Rattle.office_checks.specs.Reading.{IsFront};
 ghost use Rattle.office_checks.specs.Whole.{AreOfSenders, IsFound};
 ghost use Rattle.office_checks.specs.declared.Checked.TheVariants.{Whole};
 
-use crate::bounded::Bounded;
 use crate::comparing::{compare, in_memory};
 use crate::delivering::{make_anew, new_office};
+use crate::memory::Bounded;
 use crate::{Checked, Difference};
 use office_keeper::Keeper;
 use office_mail::Setup;

@@ -11,10 +11,10 @@ ghost use Rattle.office_orders.specs.ReadsStore.{ReadsStore};
 ghost use Rattle.office_checks.specs.Comparing.{AreRunsCompared, IsCompared, IsRunDifference};
 
 use crate::Difference;
-use crate::bounded::Bounded;
-use crate::same::{Same, are_same};
+use crate::memory::Bounded;
 use office_keeper::{KeepFault, Keeper, Reports};
 use office_replies::StoreFault;
+use testing_same::{Same, are_same};
 use testing_suites::Testing;
 
 /// What a store in memory answers, whose faults are want of memory.

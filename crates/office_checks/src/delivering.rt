@@ -12,8 +12,8 @@ ghost use Rattle.office_checks.specs.Comparing.{IsAnew, IsTaken, IsAllTaken, IsS
 ghost use Rattle.office_checks.specs.Reading.{IsFront, IsOther};
 
 use crate::Difference;
-use crate::bounded::Bounded;
 use crate::letters::letter_from;
+use crate::memory::Bounded;
 use deb_control::NoMemory;
 use office_keeper::{Keeper, Letter};
 use office_mail::{MailFault, Setup};

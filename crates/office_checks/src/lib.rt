@@ -1,16 +1,18 @@
 //! Whether a store holds what an office leaves: all its runs are made anew from the mail that it keeps, and what it holds of
-//! them is compared.
+//! them is compared. And an office in memory as an earlier run of a store left it, which is made of the same mail.
 #![tactic(auto)]
 
-mod bounded;
 mod checking;
 mod comparing;
 mod delivering;
+mod earlier;
 mod letters;
-mod same;
+mod memory;
 mod telling;
 
 pub use checking::check;
+pub use earlier::{office_after, told_after_run};
+pub use memory::Bounded;
 pub use telling::{check_status, checked_text};
 
 /// Where a store differs first from an office that took the same mail.

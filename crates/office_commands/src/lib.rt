@@ -1,7 +1,7 @@
 //! What the office's program does with an office: it replays bags of mail from standard input, serves mail and reports
 //! over HTTP on loopback, tells earlier reports and what a run waits for, over a store in memory or in a file, answers
-//! questions about the runs and the mail of a store in a file, checks such a store, tells what a
-//! run said of sources, and tries hints.
+//! questions about the runs and the mail of a store in a file, checks such a store, tells why sources stand where a run
+//! left them, and tries hints.
 #![tactic(auto)]
 
 mod asking;

@@ -1,7 +1,7 @@
 //! Why sources stand where a run left them.
 
 ghost use Rattle.std.specs.Prelude.{◌≡◌, IfOk};
-ghost use Rattle.office_commands.specs.Told.{IsSourceText, source_text};
+ghost use Rattle.office_commands.specs.Told.{IsAsked};
 ghost use Rattle.office_facts.specs.State.{IsSound, state_of};
 
 use crate::tasks::{
@@ -9,20 +9,30 @@ use crate::tasks::{
 };
 use crate::telling::{print_text, refuse};
 use deb_control::Text;
+use office_checks::office_after;
 use office_files::{open_store, read_setup};
 use office_http::{Office, StoreFault};
 use office_mail::Setup;
 use office_store::{Keeper, Plain};
-use report_lines::source_text;
 use sqlite::Unknown;
 use std::io;
 
 /// The exit status where the run isn't finished, or says nothing of a source.
 const SILENT: u8 = 1;
 
-/// Tells why sources stand where the last finished run left them, or what an earlier run said of them, for the setup in a
-/// file, over the store in another or over the bag on standard input, and gives the exit status. Without a run it is the
-/// last finished one.
+/// The run that is asked about, beside the finished ones.
+#[derive(Drop)]
+pub enum Asked {
+    /// The last finished one, which is asked about where none is named.
+    Last,
+    /// An earlier one.
+    Earlier { run: u32 },
+    /// One that isn't finished.
+    Unfinished,
+}
+
+/// Tells why sources stand where a run left them, for the setup in a file, over the store in another or over the bag on
+/// standard input, and gives the exit status. Without a run it is the last finished one.
 pub fn why_for(
     rt: &HostRuntime,
     conf: &str,
@@ -50,11 +60,14 @@ fn why_stored(
     if let Err(fault) = find_file(rt, path) {
         return tell_unfound(rt, path, fault);
     }
+    let Ok(copy) = setup.copy(rt.alloc()) else {
+        return out_of_memory(rt);
+    };
     match open_store(rt, path, Unknown, &setup) {
         Ok(tables) => {
-            let mut office = Office::new(rt.alloc(), setup, tables);
-            let status = tell_why(rt, &mut office, run, sources);
-            end_store(rt, path, office.into_keeper(), status)
+            let office = Office::new(rt.alloc(), setup, tables);
+            let (tables, status) = tell_why(rt, &copy, office, run, sources);
+            end_store(rt, path, tables, status)
         }
         Err(fault) => tell_store(rt, path, &fault),
     }
@@ -62,11 +75,17 @@ fn why_stored(
 
 /// The same over the bag on standard input. Where the bag is refused or mail was lost, that alone is told.
 fn why_in_memory(rt: &HostRuntime, setup: Setup, run: Option<u32>, sources: &[&str]) -> u8 {
+    let Ok(copy) = setup.copy(rt.alloc()) else {
+        return out_of_memory(rt);
+    };
     match Plain::new(rt.alloc(), &setup) {
         Ok(plain) => {
             let mut office = Office::new(rt.alloc(), setup, plain);
             match replay_to(rt, &mut office, &mut io::sink()) {
-                0 => tell_why(rt, &mut office, run, sources),
+                0 => {
+                    let (_plain, status) = tell_why(rt, &copy, office, run, sources);
+                    status
+                }
                 status => status,
             }
         }
@@ -74,37 +93,93 @@ fn why_in_memory(rt: &HostRuntime, setup: Setup, run: Option<u32>, sources: &[&s
     }
 }
 
-/// Prints what is told of sources for a run of an office, and gives the exit status.
+/// Prints why sources stand where a run of an office left them, and gives the office's store with the exit status.
 fn tell_why<K: Keeper>(
     rt: &HostRuntime,
-    office: &mut Office<K>,
+    setup: &Setup,
+    office: Office<K>,
     run: Option<u32>,
     sources: &[&str],
+) -> (K, u8) {
+    let mut office = office;
+    match asked_run(&mut office, run) {
+        Ok(Asked::Earlier { run }) => {
+            let mut keeper = office.into_keeper();
+            let status = tell_earlier(rt, setup, &mut keeper, run, sources);
+            (keeper, status)
+        }
+        asked => {
+            let status = tell_last(rt, &mut office, asked, sources);
+            (office.into_keeper(), status)
+        }
+    }
+}
+
+/// The run that is asked about.
+fn asked_run<K: Keeper>(office: &mut Office<K>, run: Option<u32>) -> Result<Asked, StoreFault>
+    ensures asked { K.is_trusted office.new → IsSound K.Keeper office.old → IfOk result (IsAsked (state_of K.Keeper office.old).finished run) }
+    // Nothing is finished and nothing else changes.
+    ensures same { K.is_trusted office.new → K.content office.new ≡ K.content office.old }
+{
+    let finished = office.finished()?;
+    Ok(asked_of(finished, run))
+}
+
+/// The run that is asked about, where so many are finished.
+fn asked_of(finished: u32, run: Option<u32>) -> Asked
+    ensures { IsAsked finished run result }
+{
+    match run {
+        Some(run) if run < finished => Asked::Earlier { run },
+        Some(run) if run > finished => Asked::Unfinished,
+        _ => Asked::Last,
+    }
+}
+
+/// Prints what is told of sources for the last finished run, and gives the exit status. Nothing is printed for a run that
+/// isn't finished.
+fn tell_last<K: Keeper>(
+    rt: &HostRuntime,
+    office: &mut Office<K>,
+    asked: Result<Asked, StoreFault>,
+    sources: &[&str],
 ) -> u8 {
-    match run_of(office, run) {
-        Ok(run) => tell_sources(rt, office, run, sources),
+    match asked {
+        Ok(Asked::Last) => tell_sources(rt, office, sources),
+        Ok(_) => SILENT,
         Err(fault) => refuse(rt, fault),
     }
 }
 
-/// The run that is asked about: the last finished one where none is named.
-fn run_of<K: Keeper>(office: &mut Office<K>, run: Option<u32>) -> Result<u32, StoreFault> {
-    match run {
-        Some(run) => Ok(run),
-        None => office.finished(),
-    }
-}
-
-/// Prints what is told of each source for a run, and gives the exit status.
-fn tell_sources<K: Keeper>(
+/// Prints what is told of sources for an earlier run of a store, over an office in memory that is as that run left it, and
+/// gives the exit status.
+fn tell_earlier<K: Keeper>(
     rt: &HostRuntime,
-    office: &mut Office<K>,
+    setup: &Setup,
+    keeper: &mut K,
     run: u32,
     sources: &[&str],
 ) -> u8 {
+    match office_after(rt.alloc(), setup, keeper, run) {
+        Ok(Some(office)) => {
+            let mut office = office;
+            tell_sources(rt, &mut office, sources)
+        }
+        Ok(None) => {
+            let _ = eprintln!(rt;
+                "office: the store isn't what its mail gives: office check tells where"
+            );
+            SILENT
+        }
+        Err(fault) => refuse(rt, fault),
+    }
+}
+
+/// Prints what is told of each source for the last finished run of an office, and gives the exit status.
+fn tell_sources<K: Keeper>(rt: &HostRuntime, office: &mut Office<K>, sources: &[&str]) -> u8 {
     let mut status = 0;
     for source in sources {
-        match tell_source(rt, office, run, source) {
+        match tell_source(rt, office, source) {
             0 => {}
             SILENT => status = SILENT,
             failed => return failed,
@@ -113,9 +188,10 @@ fn tell_sources<K: Keeper>(
     status
 }
 
-/// Prints what is told of a source for a run, and gives the exit status. Nothing is printed where the run isn't finished.
-fn tell_source<K: Keeper>(rt: &HostRuntime, office: &mut Office<K>, run: u32, source: &str) -> u8 {
-    match told_text(office, run, source) {
+/// Prints what is told of a source for the last finished run of an office, and gives the exit status. Nothing is printed
+/// where no run is finished.
+fn tell_source<K: Keeper>(rt: &HostRuntime, office: &mut Office<K>, source: &str) -> u8 {
+    match office.why_text(source) {
         Ok(Some(text)) => print_text(rt, &text, status_of(&text)),
         Ok(None) => SILENT,
         Err(fault) => refuse(rt, fault),
@@ -128,53 +204,5 @@ fn status_of(text: &Text) -> u8 {
         0
     } else {
         SILENT
-    }
-}
-
-/// What a run says of a source, none where the run isn't finished.
-fn said_text<K: Keeper>(
-    office: &mut Office<K>,
-    run: u32,
-    source: &str,
-) -> Result<Option<Text>, StoreFault>
-    ensures text { K.is_trusted office.new → IsSound K.Keeper office.old → IfOk result (λ text. text ≡ source_text (state_of K.Keeper office.old) run source.now) }
-    // Nothing is finished and nothing else changes.
-    ensures same { K.is_trusted office.new → K.content office.new ≡ K.content office.old }
-    ensures setup { K.setup office.new ≡ K.setup office.old }
-    ensures before { K.is_trusted office.new → K.is_trusted office.old }
-{
-    let excuses = office.excuses_text(run)?;
-    let update = office.update_text(run)?;
-    match (excuses, update) {
-        (Some(excuses), Some(update)) => {
-            let said = source_text(
-                office.alloc(),
-                run,
-                source,
-                excuses.as_str(),
-                update.as_str(),
-                "",
-            )?;
-            Ok(Some(said))
-        }
-        _ => Ok(None),
-    }
-}
-
-/// Why a source stands where the last finished run left it, or what another run says of it: none where that run isn't
-/// finished.
-fn told_text<K: Keeper>(
-    office: &mut Office<K>,
-    run: u32,
-    source: &str,
-) -> Result<Option<Text>, StoreFault>
-    ensures told { K.is_trusted office.new → IsSound K.Keeper office.old → IfOk result (IsSourceText (state_of K.Keeper office.old) run source.now) }
-    ensures same { K.is_trusted office.new → K.content office.new ≡ K.content office.old }
-{
-    let finished = office.finished()?;
-    if run == finished {
-        office.why_text(source)
-    } else {
-        said_text(office, run, source)
     }
 }

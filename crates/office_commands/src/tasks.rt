@@ -1,5 +1,5 @@
-//! What the program's words ask for: a comparison, the version, what a run said of sources, a trial of hints, or a
-//! task over a store.
+//! What the program's words ask for: a comparison, the version, why sources stand where a run left them, a trial of
+//! hints, or a task over a store.
 
 use crate::asking::{Question, tell_answer};
 use crate::checking::tell_check;

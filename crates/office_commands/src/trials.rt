@@ -12,7 +12,7 @@ use office_replies::{DeliverFault, fault_words, name_at};
 use office_rules::release_place;
 use office_setup::values::day_in;
 use office_store::{Keeper, Plain};
-use office_trials::{RefusedHint, Terms, Trial, Tried, has_changes, tried_text, try_hints};
+use office_trials::{RefusedHint, Terms, Trial, Tried, has_changes, tried_text};
 use sqlite::Unknown;
 use std::alloc::Global;
 use std::io;
@@ -71,21 +71,21 @@ fn texts_of(alloc: Global, hints: &[&str]) -> Result<Vec<Text>, NoMemory> {
 /// Tries hints over the store in a file, or over the bag on standard input.
 fn try_over(rt: &HostRuntime, db: Option<&str>, setup: Setup, hints: &[Text], terms: Terms) -> u8 {
     match db {
-        Some(path) => try_stored(rt, path, &setup, hints, terms),
+        Some(path) => try_stored(rt, path, setup, hints, terms),
         None => try_in_memory(rt, setup, hints, terms),
     }
 }
 
 /// Tries hints over the store in a file.
-fn try_stored(rt: &HostRuntime, path: &str, setup: &Setup, hints: &[Text], terms: Terms) -> u8 {
+fn try_stored(rt: &HostRuntime, path: &str, setup: Setup, hints: &[Text], terms: Terms) -> u8 {
     if let Err(fault) = find_file(rt, path) {
         return tell_unfound(rt, path, fault);
     }
-    match open_store(rt, path, Unknown, setup) {
+    match open_store(rt, path, Unknown, &setup) {
         Ok(tables) => {
-            let mut tables = tables;
-            let status = tell_trial(rt, setup, &mut tables, hints, terms);
-            end_store(rt, path, tables, status)
+            let mut office = Office::new(rt.alloc(), setup, tables);
+            let status = tell_trial(rt, &mut office, hints, terms);
+            end_store(rt, path, office.into_keeper(), status)
         }
         Err(fault) => tell_store(rt, path, &fault),
     }
@@ -93,14 +93,11 @@ fn try_stored(rt: &HostRuntime, path: &str, setup: &Setup, hints: &[Text], terms
 
 /// Tries hints over the bag on standard input. Where the bag is refused or mail was lost, that alone is told.
 fn try_in_memory(rt: &HostRuntime, setup: Setup, hints: &[Text], terms: Terms) -> u8 {
-    let Ok(copy) = setup.copy(rt.alloc()) else {
-        return out_of_memory(rt);
-    };
     match Plain::new(rt.alloc(), &setup) {
         Ok(plain) => {
             let mut office = Office::new(rt.alloc(), setup, plain);
             match replay_to(rt, &mut office, &mut io::sink()) {
-                0 => tell_trial(rt, &copy, &mut office.into_keeper(), hints, terms),
+                0 => tell_trial(rt, &mut office, hints, terms),
                 status => status,
             }
         }
@@ -108,16 +105,15 @@ fn try_in_memory(rt: &HostRuntime, setup: Setup, hints: &[Text], terms: Terms) -
     }
 }
 
-/// Prints what hints would change in the next run, and gives the exit status.
+/// Prints what hints would change in the next run of an office, and gives the exit status.
 fn tell_trial<K: Keeper>(
     rt: &HostRuntime,
-    setup: &Setup,
-    keeper: &mut K,
+    office: &mut Office<K>,
     hints: &[Text],
     terms: Terms,
 ) -> u8 {
-    match try_hints(rt.alloc(), setup, keeper, hints, terms) {
-        Ok(Trial::Told(tried)) => print_tried(rt, setup, hints, &tried),
+    match office.try_hints(hints, terms) {
+        Ok(Trial::Told(tried)) => print_tried(rt, office.setup(), hints, &tried),
         Ok(Trial::NoDate) => refuse_dateless(rt),
         Ok(Trial::Refused(refused)) => refuse_hint(rt, hints, refused),
         Err(fault) => refuse(rt, fault),

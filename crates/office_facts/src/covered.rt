@@ -205,7 +205,7 @@ pub fn known_without(alloc: Global, rows: &[FactRow]) -> Result<KnownFacts, Stor
 }
 
 /// Whether none of these numbers is greater than what the orders cover of its sender.
-fn is_covered(taken: &[u32], orders: &[RunOrder]) -> bool
+pub(crate) fn is_covered(taken: &[u32], orders: &[RunOrder]) -> bool
     ensures { IsTrue result → (s : ℕ) → slice_index taken.now s ≤ cover_of orders.now s }
 {
     'senders: for sender in 0..taken.len() {

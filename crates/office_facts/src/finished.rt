@@ -1,9 +1,10 @@
 //! The facts of the finished runs: put back from the store, and taken on as far as covers go.
 #![tactic(auto, using(office_orders::proofs::LastFacts::lasting))]
 
-ghost use Rattle.std.specs.Prelude.{◌≡◌, ◌≤◌, ◌<◌, ℕ, IsTrue, IfOk, IfErr, IfSome, length, slice_index};
+ghost use Rattle.std.specs.Prelude.{◌≡◌, ◌≤◌, ◌<◌, ℕ, IsTrue, IfOk, IfErr, IfSome, OnOk, length, slice_index};
 ghost use Rattle.testing_model.specs.FactLists.{no_facts};
 ghost use Rattle.testing_model.specs.StandsFor.{StandsFor};
+ghost use Rattle.testing_model.specs.Suite.{Suite};
 ghost use Rattle.testing_facts.specs.Uploads.{AreByMessage};
 ghost use Rattle.office_mail.specs.Runs.{cover_of, orders_to};
 ghost use Rattle.office_keeper.specs.Content.{Content};
@@ -116,7 +117,27 @@ pub fn cover_at(covers: &[u32], sender: usize) -> u32
     covers.get(sender).copied().unwrap_or(0)
 }
 
-/// What is known up to these covers, which aren't below those of the finished runs, of which these are the orders.
+/// What is known takes what each sender says on up to its cover.
+pub(crate) fn take_to<K: Keeper>(
+    alloc: Global,
+    setup: &Setup,
+    keeper: &mut K,
+    known: &mut KnownFacts,
+    covers: &[u32],
+) -> Result<(), StoreFault>
+    requires within { (s : ℕ) → s < length setup.now.senders → slice_index known.old.taken.items s ≤ slice_index covers.now s }
+    ensures stand { K.is_trusted keeper.new → OnOk result ((t : Suite) → let kept = (K.content keeper.old).kept in let n = length setup.now.senders in
+        StandsFor known.old.facts (said_within setup.now kept (slice_index known.old.taken.items) n) t → StandsFor known.new.facts (said_within setup.now kept (slice_index covers.now) n) t) }
+    ensures looks { ReadsStore K.Keeper keeper.old keeper.new result }
+{
+    'senders: for sender in 0..setup.senders().len() {
+        let cover = cover_at(covers, sender);
+        take_on(alloc, setup, keeper, known, sender as u32, cover)?;
+    }
+    Ok(())
+}
+
+/// What the store keeps of the finished runs, of which these are the orders, up to these covers, which aren't below theirs.
 pub fn facts_within<K: Keeper>(
     alloc: Global,
     setup: &Setup,
@@ -130,10 +151,7 @@ pub fn facts_within<K: Keeper>(
     ensures looks { ReadsStore K.Keeper keeper.old keeper.new result }
 {
     let mut known = finished_facts(alloc, setup, keeper, orders)?;
-    'senders: for sender in 0..setup.senders().len() {
-        let cover = cover_at(covers, sender);
-        take_on(alloc, setup, keeper, &mut known, sender as u32, cover)?;
-    }
+    take_to(alloc, setup, keeper, &mut known, covers)?;
     Ok(known)
 }
 
@@ -223,4 +241,34 @@ pub fn recall<K: Keeper>(
     let rows = stored::facts(keeper)?;
     let facts = put_back(alloc, setup, keeper, rows.as_slice())?;
     recalled(alloc, setup, keeper, orders, rows.as_slice(), facts)
+}
+
+/// Whether these are the orders of so many runs.
+fn are_all(orders: &[RunOrder], run: u32) -> bool
+    ensures { IsTrue result → length orders.now ≡ run }
+{
+    orders.len() == run as usize
+}
+
+/// Recalls what is known of the finished runs, of which these are the orders, where nothing is known yet.
+pub fn remember<K: Keeper>(
+    alloc: Global,
+    setup: &Setup,
+    keeper: &mut K,
+    known: &mut Option<KnownFacts>,
+    orders: &[RunOrder],
+    run: u32,
+) -> Result<(), StoreFault>
+    ensures known { K.is_trusted keeper.new → FirstOrders setup.now (K.content keeper.old).kept orders.now → run ≡ length (K.content keeper.old).reports
+        → IfSome known.old (λ known. AreKnown setup.now (K.content keeper.old) known) → IfSome known.new (λ known. AreKnown setup.now (K.content keeper.old) known) }
+    ensures looks { ReadsStore K.Keeper keeper.old keeper.new result }
+{
+    if known.is_some() {
+        return Ok(());
+    }
+    if !are_all(orders, run) {
+        return Ok(());
+    }
+    *known = recall(alloc, setup, keeper, orders)?;
+    Ok(())
 }

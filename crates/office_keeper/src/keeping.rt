@@ -245,4 +245,20 @@ pub trait Keeper {
     {
         self.testing()
     }
+
+    /// Takes a testing back that `next_testing` handed out and that no run changed: a store that keeps what speeds the next
+    /// run has it again. It changes nothing else.
+    fn give_back(&mut self, testing: Testing)
+        requires same { is_trusted self.old → testing ≡ (content self.old).testing }
+        ensures same { is_trusted self.new → content self.new ≡ content self.old }
+        ensures setup { setup self.new ≡ setup self.old }
+        ensures clean { is_clean self.new → is_clean self.old }
+        ensures faults { disk_faults self.new ≡ disk_faults self.old }
+        ensures before { is_trusted self.new → is_trusted self.old }
+        ensures stays { is_trusted self.old → is_trusted self.new }
+        ensures legible { is_trusted self.new → is_legible self.old → is_legible self.new }
+        ensures counted { refusals self.new ≡ refusals self.old }
+    {
+        drop(testing);
+    }
 }

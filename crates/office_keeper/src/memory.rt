@@ -221,4 +221,8 @@ impl Keeper for Plain {
     fn next_testing(&mut self) -> Result<Testing, KeepFault> {
         Ok(self.testing.share()?)
     }
+
+    fn give_back(&mut self, testing: Testing) {
+        self.testing = testing;
+    }
 }

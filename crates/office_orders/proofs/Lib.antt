@@ -5,3 +5,4 @@ pub mod LookFacts
 pub mod OrderFacts
 pub mod ReadyCount
 pub mod WaitingFacts
+pub mod GivingBack

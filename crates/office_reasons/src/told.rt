@@ -84,11 +84,12 @@ fn refusal_of(
     alloc: Global,
     archs: &Archs,
     facts: &Facts,
-    testing: &Testing,
+    testing: &mut Testing,
     excuses: &[Excuse],
     excuse: &Excuse,
 ) -> Result<Text, NoMemory>
-    ensures { IfOk result (λ text. IsRefused archs.now (unstable_of archs.now facts.now) testing.now excuses.now (Some excuse.now) text) }
+    ensures told { IfOk result (λ text. IsRefused archs.now (unstable_of archs.now facts.now) testing.old excuses.now (Some excuse.now) text) }
+    ensures same { testing.new ≡ testing.old }
 {
     match why_waits(alloc, archs, facts, excuses, excuse, testing)? {
         Some(text) => Ok(text),
@@ -101,11 +102,12 @@ fn refusal_in(
     alloc: Global,
     archs: &Archs,
     facts: &Facts,
-    testing: &Testing,
+    testing: &mut Testing,
     excuses: &[Excuse],
     source: &str,
 ) -> Result<Text, NoMemory>
-    ensures { IfOk result (λ text. IsRefused archs.now (unstable_of archs.now facts.now) testing.now excuses.now (states.excuse_of excuses.now source.now) text) }
+    ensures told { IfOk result (λ text. IsRefused archs.now (unstable_of archs.now facts.now) testing.old excuses.now (states.excuse_of excuses.now source.now) text) }
+    ensures same { testing.new ≡ testing.old }
 {
     match excuse_of(excuses, source) {
         Some(excuse) => refusal_of(alloc, archs, facts, testing, excuses, excuse),
@@ -118,12 +120,13 @@ fn refusal_by(
     alloc: Global,
     archs: &Archs,
     facts: &Facts,
-    testing: &Testing,
+    testing: &mut Testing,
     excuses: &[Excuse],
     update: &str,
     source: &str,
 ) -> Result<Text, NoMemory>
-    ensures { IfOk result (λ text. IsRefusedWhere (lines.waits_in source.now update.now) archs.now (unstable_of archs.now facts.now) testing.now excuses.now (states.excuse_of excuses.now source.now) text) }
+    ensures told { IfOk result (λ text. IsRefusedWhere (lines.waits_in source.now update.now) archs.now (unstable_of archs.now facts.now) testing.old excuses.now (states.excuse_of excuses.now source.now) text) }
+    ensures same { testing.new ≡ testing.old }
 {
     let waits = waits_in(alloc, source, update)?;
     if waits {
@@ -157,17 +160,18 @@ fn told_by(
     senders: &[Text],
     archs: &Archs,
     facts: &Facts,
-    testing: &Testing,
+    testing: &mut Testing,
     excuses: &[Excuse],
     run: u32,
     reports: &Reports,
     source: &str,
 ) -> Result<Text, NoMemory>
-    ensures { IfOk result (λ text. IsToldBy senders.now archs.now (unstable_of archs.now facts.now) testing.now excuses.now run reports.now source.now text) }
+    ensures told { IfOk result (λ text. IsToldBy senders.now archs.now (unstable_of archs.now facts.now) testing.old excuses.now run reports.now source.now text) }
+    ensures same { testing.new ≡ testing.old }
 {
     let update = reports.updates.as_str();
-    let refusal = refusal_by(alloc, archs, facts, testing, excuses, update, source)?;
     let origins = origins_in(alloc, senders, archs, facts, testing, excuses, source)?;
+    let refusal = refusal_by(alloc, archs, facts, testing, excuses, update, source)?;
     with_reasons(alloc, run, reports, source, &origins, &refusal)
 }
 
@@ -178,13 +182,14 @@ fn told_of(
     senders: &[Text],
     archs: &Archs,
     facts: &Facts,
-    testing: &Testing,
+    testing: &mut Testing,
     run: u32,
     date: Date,
     reports: &Reports,
     source: &str,
 ) -> Result<Text, NoMemory>
-    ensures { IfOk result (λ text. (s : Covered) → StandsFor facts.now s testing.now → IsToldOf senders.now archs.now s testing.now run date reports.now source.now text) }
+    ensures told { IfOk result (λ text. (s : Covered) → StandsFor facts.now s testing.old → IsToldOf senders.now archs.now s testing.old run date reports.now source.now text) }
+    ensures same { testing.new ≡ testing.old }
 {
     let excuses = excuses(alloc, archs, facts, testing, date)?;
     told_by(
@@ -206,13 +211,14 @@ pub(crate) fn told_after(
     alloc: Global,
     setup: &Setup,
     facts: &Facts,
-    testing: &Testing,
+    testing: &mut Testing,
     run: u32,
     date: Date,
     reports: &Reports,
     source: &str,
 ) -> Result<Text, NoMemory>
-    ensures { IfOk result (λ text. (s : Covered) → StandsFor facts.now s testing.now → IsTold setup.now s testing.now run date reports.now source.now text) }
+    ensures told { IfOk result (λ text. (s : Covered) → StandsFor facts.now s testing.old → IsTold setup.now s testing.old run date reports.now source.now text) }
+    ensures same { testing.new ≡ testing.old }
 {
     let senders = sender_names(alloc, setup)?;
     let archs = setup.archs();

@@ -1,7 +1,7 @@
 //! Why a source stands where the last finished run of an office left it.
 #![tactic(auto, using(office_orders::proofs::LastFacts::lasting))]
 
-ghost use Rattle.std.specs.Prelude.{is_ok, ◌≡◌, Some, IsTrue, IfOk, IfErr, IfSome, length};
+ghost use Rattle.std.specs.Prelude.{is_ok, ◌≡◌, Some, IfOk, IfErr, IfSome, length};
 ghost use Rattle.testing_model.specs.Covered.{Covered};
 ghost use Rattle.testing_model.specs.StandsFor.{StandsFor};
 ghost use Rattle.office_keeper.specs.Content.{item_from_one};
@@ -19,7 +19,7 @@ use crate::told::told_after;
 use deb_control::Text;
 use jiff::civil::Date;
 use office_facts::covered::{KnownFacts, covers};
-use office_facts::finished::{facts_within, finished_orders, recall};
+use office_facts::finished::{facts_within, finished_orders, remember};
 use office_keeper::{Keeper, Reports};
 use office_mail::{RunOrder, Setup, latest_day};
 use office_orders::stored;
@@ -34,21 +34,21 @@ fn told_beside(
     alloc: Global,
     setup: &Setup,
     facts: &Facts,
-    testing: Testing,
+    testing: &mut Testing,
     run: u32,
     date: Date,
     reports: &Reports,
     source: &str,
 ) -> Result<Option<Text>, StoreFault>
-    ensures told { IfOk result (λ found. (s : Covered) → StandsFor facts.now s testing → IsToldWith setup.now s testing run date (Some reports.now) source.now found) }
+    ensures told { IfOk result (λ found. (s : Covered) → StandsFor facts.now s testing.old → IsToldWith setup.now s testing.old run date (Some reports.now) source.now found) }
+    ensures same { testing.new ≡ testing.old }
     ensures no_store { IfErr result (λ fault. fault ≡ StoreFault.NoMemory) }
 {
-    let text = told_after(alloc, setup, facts, &testing, run, date, reports, source);
-    drop(testing);
-    Ok(Some(text?))
+    let text = told_after(alloc, setup, facts, testing, run, date, reports, source)?;
+    Ok(Some(text))
 }
 
-/// The same over the testing that is kept.
+/// The same over the testing that is kept, which is given back with what speeds the next run.
 fn tell_by<K: Keeper>(
     alloc: Global,
     setup: &Setup,
@@ -63,8 +63,19 @@ fn tell_by<K: Keeper>(
         → IsToldWith setup.now s (K.content keeper.old).testing run date (Some reports.now) source.now found) }
     ensures looks { ReadsStore K.Keeper keeper.old keeper.new result }
 {
-    let testing = stored::testing(keeper)?;
-    told_beside(alloc, setup, facts, testing, run, date, reports, source)
+    let mut testing = stored::next_testing(keeper)?;
+    let told = told_beside(
+        alloc,
+        setup,
+        facts,
+        &mut testing,
+        run,
+        date,
+        reports,
+        source,
+    );
+    keeper.give_back(testing);
+    told
 }
 
 /// The same by the reports that the store keeps of the run. Nothing is told where it keeps none.
@@ -129,36 +140,6 @@ fn tell_known<K: Keeper>(
         Some(known) => tell(alloc, setup, keeper, &known.facts, run, date, source),
         None => tell_unknown(alloc, setup, keeper, orders, run, date, source),
     }
-}
-
-/// Whether these are the orders of so many runs.
-fn are_all(orders: &[RunOrder], run: u32) -> bool
-    ensures { IsTrue result → length orders.now ≡ run }
-{
-    orders.len() == run as usize
-}
-
-/// Recalls what is known of the finished runs, of which these are the orders, where nothing is known yet.
-fn remember<K: Keeper>(
-    alloc: Global,
-    setup: &Setup,
-    keeper: &mut K,
-    known: &mut Option<KnownFacts>,
-    orders: &[RunOrder],
-    run: u32,
-) -> Result<(), StoreFault>
-    ensures known { K.is_trusted keeper.new → FirstOrders setup.now (K.content keeper.old).kept orders.now → run ≡ length (K.content keeper.old).reports
-        → IfSome known.old (λ known. AreKnown setup.now (K.content keeper.old) known) → IfSome known.new (λ known. AreKnown setup.now (K.content keeper.old) known) }
-    ensures looks { ReadsStore K.Keeper keeper.old keeper.new result }
-{
-    if known.is_some() {
-        return Ok(());
-    }
-    if !are_all(orders, run) {
-        return Ok(());
-    }
-    *known = recall(alloc, setup, keeper, orders)?;
-    Ok(())
 }
 
 /// Why a source stands where the last finished run left it, which was on this day; these are the orders of the finished

@@ -258,7 +258,14 @@ impl<K: Keeper> Office<K> {
         ensures lasts { StaysTrusted K.Keeper self.old self.new (is_ok result) }
         ensures counted { Counted (K.refusals self.old) (K.refusals self.new) result }
     {
-        try_hints(self.alloc, &self.setup, &mut self.keeper, hints, terms)
+        try_hints(
+            self.alloc,
+            &self.setup,
+            &mut self.keeper,
+            &mut self.known,
+            hints,
+            terms,
+        )
     }
 
     /// The text of testing, as the last finished run left it. It fails for want of memory or of the store alone.

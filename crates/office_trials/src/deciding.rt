@@ -54,6 +54,17 @@ fn decided(alloc: Global, setup: &Setup, run: u32, left: RunOutcome) -> Result<D
     }
 }
 
+/// The testing before a run keeps the suites that the run left: its own rows stand in them again.
+fn set_back(before: &mut Testing, left: &mut RunOutcome) -> Result<(), NoMemory>
+    ensures before { before.new ≡ before.old }
+    ensures left { outcome_left left.new ≡ outcome_left left.old }
+{
+    match left.testing.take_kept() {
+        Some(suites) => before.keep_suites(suites),
+        None => Ok(()),
+    }
+}
+
 /// What a run decides over the messages that the facts stand for, and with it a copy of the testing before.
 fn decide(
     alloc: Global,
@@ -66,7 +77,12 @@ fn decide(
     ensures before { IfOk result (λ o. o.0 ≡ testing) }
     ensures ok { IfOk result (λ o. (s : Covered) → StandsFor facts.now s testing → o.1 ≡ decided setup.now run (outcome setup.now run date s testing)) }
 {
-    let (before, left) = run_beside(alloc, setup, run, date, facts, testing)?;
+    let (mut before, mut left) = run_beside(alloc, setup, run, date, facts, testing)?;
+    if let Err(fault) = set_back(&mut before, &mut left) {
+        drop(before);
+        drop(left);
+        return Err(fault);
+    }
     match decided(alloc, setup, run, left) {
         Ok(told) => Ok((before, told)),
         Err(fault) => {
@@ -89,7 +105,8 @@ fn take_all(
     take_letters(alloc, setup, facts, release_place(setup), letters)
 }
 
-/// What a run decides once the facts have taken what messages of the release team say. It fails for want of memory alone.
+/// What a run decides once the facts have taken what messages of the release team say, and with it a copy of the testing
+/// before. It fails for want of memory alone.
 fn decide_with(
     alloc: Global,
     setup: &Setup,
@@ -98,17 +115,18 @@ fn decide_with(
     facts: &mut Facts,
     letters: &[Letter],
     testing: Testing,
-) -> Result<Decided, StoreFault>
-    ensures ok { IfOk result (λ d. (s : Covered) → StandsFor facts.old s testing → d ≡ decided setup.now run (outcome setup.now run date (with_letters setup.now (release setup.now) letters.now s) testing)) }
+) -> Result<(Testing, Decided), StoreFault>
+    ensures before { IfOk result (λ o. o.0 ≡ testing) }
+    ensures ok { IfOk result (λ o. (s : Covered) → StandsFor facts.old s testing → o.1 ≡ decided setup.now run (outcome setup.now run date (with_letters setup.now (release setup.now) letters.now s) testing)) }
     ensures no_store { IfErr result (λ fault. fault ≡ StoreFault.NoMemory) }
 {
     take_all(alloc, setup, facts, letters)?;
     let (before, told) = decide(alloc, setup, run, date, facts, testing)?;
-    drop(before);
-    Ok(told)
+    Ok((before, told))
 }
 
-/// What a run decides without these messages of the release team, and with them. It fails for want of memory alone.
+/// What a run decides without these messages of the release team, and with them; and with it a copy of the testing before. It
+/// fails for want of memory alone.
 pub(crate) fn decide_both(
     alloc: Global,
     setup: &Setup,
@@ -117,14 +135,15 @@ pub(crate) fn decide_both(
     facts: &mut Facts,
     letters: &[Letter],
     testing: Testing,
-) -> Result<(Decided, Decided), StoreFault>
-    ensures without { IfOk result (λ o. (s : Covered) → StandsFor facts.old s testing → o.0 ≡ decided setup.now run (outcome setup.now run date s testing)) }
-    ensures with_them { IfOk result (λ o. (s : Covered) → StandsFor facts.old s testing → o.1 ≡ decided setup.now run (outcome setup.now run date (with_letters setup.now (release setup.now) letters.now s) testing)) }
+) -> Result<(Testing, Decided, Decided), StoreFault>
+    ensures before { IfOk result (λ o. o.0 ≡ testing) }
+    ensures without { IfOk result (λ o. (s : Covered) → StandsFor facts.old s testing → o.1 ≡ decided setup.now run (outcome setup.now run date s testing)) }
+    ensures with_them { IfOk result (λ o. (s : Covered) → StandsFor facts.old s testing → o.2 ≡ decided setup.now run (outcome setup.now run date (with_letters setup.now (release setup.now) letters.now s) testing)) }
     ensures no_store { IfErr result (λ fault. fault ≡ StoreFault.NoMemory) }
 {
     let (before, without) = decide(alloc, setup, run, date, facts, testing)?;
     match decide_with(alloc, setup, run, date, facts, letters, before) {
-        Ok(with) => Ok((without, with)),
+        Ok((after, with)) => Ok((after, without, with)),
         Err(fault) => {
             drop(without);
             Err(fault)

@@ -1,7 +1,7 @@
 //! The program's command as clap sees it, with its help texts.
 
-ghost use Rattle.std.specs.Prelude.{◌≡◌, IfOk, false};
-ghost use Rattle.clap.specs.Words.{app_of, rule_of};
+ghost use Rattle.std.specs.Prelude.{◌≡◌, IfOk, false, true};
+ghost use Rattle.clap.specs.Words.{App, Rule, app_of, new_app, rule_of, with_rule, with_subcommand};
 ghost use Rattle.office_words.specs.Program as program;
 
 use clap::builder::ValueParser;
@@ -103,16 +103,15 @@ Prints one line: whole F runs, or the first difference: mail SENDER NUMBER, a ke
 sender and number; run K mail, where not all that the run covers is kept; run K excuses or run K update, a report
 that differs; testing; facts. Nothing is changed. Status 1: a difference.";
 
-const WHY: &str =
-    "Tells why a source stands where the last run left it, or what an earlier run said of it";
+const WHY: &str = "Tells why a source stands where the last run left it, or an earlier one";
 
 const AFTER_WHY: &str = "Examples: office why libgreet --conf examples/setup.conf --db store.db
           office why libgreet greeter --run 2 --conf examples/setup.conf < examples/archive.bag
 
-For each source a line why RUN SOURCE, then its excuse, and each line of the run's update that names it: that it
-moves, that it waits and for what, or that another one waits for a package of its name. Of the last finished run also
-where each reason comes from, and of a source that waits, what shows that it can't move alone. Status 1: the run isn't
-finished, or nothing is told of one of the sources.";
+For each source a line why RUN SOURCE, then its excuse, where each reason comes from, and each line of the run's update
+that names it: that it moves, that it waits and for what, or that another one waits for a package of its name; and of a
+source that waits, what shows that it can't move alone. An earlier run is made anew, in memory, from the same mail.
+Status 1: the run isn't finished, or nothing is told of one of the sources.";
 
 const SOURCE: &str = "The name of a source";
 
@@ -267,64 +266,116 @@ fn told_place<'a>(alloc: Global) -> Arg<'a>
     Arg::new(alloc, "REPORT").help(TOLD)
 }
 
+/// A command with one argument more. If the command couldn't be made, that is passed on.
+fn with_arg<'a>(
+    command: Result<Command<'a>, AllocError>,
+    arg: Arg<'a>,
+) -> Result<Command<'a>, AllocError>
+    requires { arg.global ≡ false }
+    ensures { (app : App) → (added : Rule) → rule_of arg.entry ≡ added → IfOk command.entry (λ c. app_of c ≡ app) → IfOk result (λ c. app_of c ≡ with_rule app added) }
+{
+    match command {
+        Ok(command) => command.arg(arg),
+        Err(fault) => {
+            drop(arg);
+            Err(fault)
+        }
+    }
+}
+
+/// A command with one subcommand more. If the subcommand couldn't be made, that is passed on.
+#[tactic(auto, using(crate::proofs::Plain::adds_part))]
+fn with_part<'a>(
+    whole: Command<'a>,
+    part: Result<Command<'a>, AllocError>,
+) -> Result<Command<'a>, AllocError>
+    ensures { (added : App) → added.top.is_plain ≡ true → IfOk part.entry (λ c. app_of c ≡ added) → IfOk result (λ c. app_of c ≡ with_subcommand (app_of whole.entry) added.top) }
+{
+    match part {
+        Ok(part) => whole.subcommand(part),
+        Err(fault) => {
+            drop(whole);
+            Err(fault)
+        }
+    }
+}
+
+/// The same of a command that perhaps couldn't be made itself.
+fn with_command<'a>(
+    whole: Result<Command<'a>, AllocError>,
+    part: Result<Command<'a>, AllocError>,
+) -> Result<Command<'a>, AllocError>
+    ensures { (app : App) → (added : App) → added.top.is_plain ≡ true → IfOk whole.entry (λ c. app_of c ≡ app) → IfOk part.entry (λ c. app_of c ≡ added) → IfOk result (λ c. app_of c ≡ with_subcommand app added.top) }
+{
+    match whole {
+        Ok(whole) => with_part(whole, part),
+        Err(fault) => {
+            drop(part);
+            Err(fault)
+        }
+    }
+}
+
+/// A command without arguments.
+fn named<'a>(
+    alloc: Global,
+    name: &'a str,
+    about: &'a str,
+    after: &'a str,
+) -> Result<Command<'a>, AllocError>
+    ensures { IfOk result (λ c. app_of c ≡ new_app name.entry.now) }
+{
+    Ok(Command::new(alloc, name).about(about).after_help(after))
+}
+
 /// `compare V1 OP V2`.
 fn compare_command<'a>(alloc: Global) -> Result<Command<'a>, AllocError>
     ensures { IfOk result (λ c. app_of c ≡ program.compare) }
 {
-    Command::new(alloc, "compare")
-        .about(COMPARE)
-        .after_help(AFTER_COMPARE)
-        .arg(place(alloc, "V1", "A version"))?
-        .arg(place(alloc, "OP", OPERATOR))?
-        .arg(place(alloc, "V2", "Another version"))
+    let bare = named(alloc, "compare", COMPARE, AFTER_COMPARE);
+    let one = with_arg(bare, place(alloc, "V1", "A version"));
+    let two = with_arg(one, place(alloc, "OP", OPERATOR));
+    with_arg(two, place(alloc, "V2", "Another version"))
 }
 
 /// `replay --conf SETUP [--db FILE]`.
 fn replay_command<'a>(alloc: Global) -> Result<Command<'a>, AllocError>
     ensures { IfOk result (λ c. app_of c ≡ program.replay) }
 {
-    Command::new(alloc, "replay")
-        .about(REPLAY)
-        .after_help(AFTER_REPLAY)
-        .arg(conf_option(alloc))?
-        .arg(db_option(alloc, STORE))
+    let bare = named(alloc, "replay", REPLAY, AFTER_REPLAY);
+    let one = with_arg(bare, conf_option(alloc));
+    with_arg(one, db_option(alloc, STORE))
 }
 
 /// `serve --conf SETUP --port PORT [--db FILE] [--connections COUNT]`.
 fn serve_command<'a>(alloc: Global) -> Result<Command<'a>, AllocError>
     ensures { IfOk result (λ c. app_of c ≡ program.serve) }
 {
-    Command::new(alloc, "serve")
-        .about(SERVE)
-        .after_help(AFTER_SERVE)
-        .arg(conf_option(alloc))?
-        .arg(port_option(alloc))?
-        .arg(db_option(alloc, STORE))?
-        .arg(connections_option(alloc))
+    let bare = named(alloc, "serve", SERVE, AFTER_SERVE);
+    let one = with_arg(bare, conf_option(alloc));
+    let two = with_arg(one, port_option(alloc));
+    let three = with_arg(two, db_option(alloc, STORE));
+    with_arg(three, connections_option(alloc))
 }
 
 /// `waiting --conf SETUP [--db FILE]`.
 fn waiting_command<'a>(alloc: Global) -> Result<Command<'a>, AllocError>
     ensures { IfOk result (λ c. app_of c ≡ program.waiting) }
 {
-    Command::new(alloc, "waiting")
-        .about(WAITING)
-        .after_help(AFTER_WAITING)
-        .arg(conf_option(alloc))?
-        .arg(db_option(alloc, LOOKED_AT))
+    let bare = named(alloc, "waiting", WAITING, AFTER_WAITING);
+    let one = with_arg(bare, conf_option(alloc));
+    with_arg(one, db_option(alloc, LOOKED_AT))
 }
 
 /// `report RUN [REPORT] --conf SETUP --db FILE`.
 fn report_command<'a>(alloc: Global) -> Result<Command<'a>, AllocError>
     ensures { IfOk result (λ c. app_of c ≡ program.report) }
 {
-    Command::new(alloc, "report")
-        .about(REPORT)
-        .after_help(AFTER_REPORT)
-        .arg(place(alloc, "RUN", RUN))?
-        .arg(told_place(alloc))?
-        .arg(conf_option(alloc))?
-        .arg(stored_option(alloc))
+    let bare = named(alloc, "report", REPORT, AFTER_REPORT);
+    let one = with_arg(bare, place(alloc, "RUN", RUN));
+    let two = with_arg(one, told_place(alloc));
+    let three = with_arg(two, conf_option(alloc));
+    with_arg(three, stored_option(alloc))
 }
 
 /// `NAME --conf SETUP --db FILE`.
@@ -336,45 +387,40 @@ fn looking_command<'a>(
 ) -> Result<Command<'a>, AllocError>
     ensures { IfOk result (λ c. app_of c ≡ program.looking name.entry.now) }
 {
-    Command::new(alloc, name)
-        .about(about)
-        .after_help(after)
-        .arg(conf_option(alloc))?
-        .arg(stored_option(alloc))
+    let bare = named(alloc, name, about, after);
+    let one = with_arg(bare, conf_option(alloc));
+    with_arg(one, stored_option(alloc))
 }
 
 /// `mail --conf SETUP --db FILE [--list]`.
 fn mail_command<'a>(alloc: Global) -> Result<Command<'a>, AllocError>
     ensures { IfOk result (λ c. app_of c ≡ program.mail) }
 {
-    looking_command(alloc, "mail", MAIL, AFTER_MAIL)?.arg(list_option(alloc))
+    let looking = looking_command(alloc, "mail", MAIL, AFTER_MAIL);
+    with_arg(looking, list_option(alloc))
 }
 
 /// `why SOURCE.. --conf SETUP [--db FILE] [--run RUN]`.
 fn why_command<'a>(alloc: Global) -> Result<Command<'a>, AllocError>
     ensures { IfOk result (λ c. app_of c ≡ program.why) }
 {
-    Command::new(alloc, "why")
-        .about(WHY)
-        .after_help(AFTER_WHY)
-        .arg(places(alloc, "SOURCE", SOURCE))?
-        .arg(conf_option(alloc))?
-        .arg(db_option(alloc, LOOKED_AT))?
-        .arg(run_option(alloc))
+    let bare = named(alloc, "why", WHY, AFTER_WHY);
+    let one = with_arg(bare, places(alloc, "SOURCE", SOURCE));
+    let two = with_arg(one, conf_option(alloc));
+    let three = with_arg(two, db_option(alloc, LOOKED_AT));
+    with_arg(three, run_option(alloc))
 }
 
 /// `try HINT.. --conf SETUP [--db FILE] [--day DAY] [--all]`.
 fn try_command<'a>(alloc: Global) -> Result<Command<'a>, AllocError>
     ensures { IfOk result (λ c. app_of c ≡ program.tries) }
 {
-    Command::new(alloc, "try")
-        .about(TRY)
-        .after_help(AFTER_TRY)
-        .arg(places(alloc, "HINT", HINT))?
-        .arg(conf_option(alloc))?
-        .arg(db_option(alloc, LOOKED_AT))?
-        .arg(day_option(alloc))?
-        .arg(all_option(alloc))
+    let bare = named(alloc, "try", TRY, AFTER_TRY);
+    let one = with_arg(bare, places(alloc, "HINT", HINT));
+    let two = with_arg(one, conf_option(alloc));
+    let three = with_arg(two, db_option(alloc, LOOKED_AT));
+    let four = with_arg(three, day_option(alloc));
+    with_arg(four, all_option(alloc))
 }
 
 /// The command without its subcommands.
@@ -393,41 +439,36 @@ fn bare_command<'a>(alloc: Global) -> Command<'a>
 fn command_of_three<'a>(alloc: Global) -> Result<Command<'a>, AllocError>
     ensures { IfOk result (λ c. app_of c ≡ program.of_three) }
 {
-    let whole = bare_command(alloc)
-        .subcommand(compare_command(alloc)?)?
-        .subcommand(replay_command(alloc)?)?
-        .subcommand(serve_command(alloc)?)?;
-    Ok(whole)
+    let one = with_command(Ok(bare_command(alloc)), compare_command(alloc));
+    let two = with_command(one, replay_command(alloc));
+    with_command(two, serve_command(alloc))
 }
 
 /// The command that tells, besides, what a run waits for and each report.
 fn command_of_five<'a>(alloc: Global) -> Result<Command<'a>, AllocError>
     ensures { IfOk result (λ c. app_of c ≡ program.of_five) }
 {
-    let whole = command_of_three(alloc)?
-        .subcommand(waiting_command(alloc)?)?
-        .subcommand(report_command(alloc)?)?;
-    Ok(whole)
+    let four = with_command(command_of_three(alloc), waiting_command(alloc));
+    with_command(four, report_command(alloc))
 }
 
 /// The command that also tells runs and mail, exports mail, and checks a store.
 fn command_of_nine<'a>(alloc: Global) -> Result<Command<'a>, AllocError>
     ensures { IfOk result (λ c. app_of c ≡ program.of_nine) }
 {
-    let whole = command_of_five(alloc)?
-        .subcommand(looking_command(alloc, "runs", RUNS, AFTER_RUNS)?)?
-        .subcommand(mail_command(alloc)?)?
-        .subcommand(looking_command(alloc, "export", EXPORT, AFTER_EXPORT)?)?
-        .subcommand(looking_command(alloc, "check", CHECK, AFTER_CHECK)?)?;
-    Ok(whole)
+    let runs = looking_command(alloc, "runs", RUNS, AFTER_RUNS);
+    let six = with_command(command_of_five(alloc), runs);
+    let seven = with_command(six, mail_command(alloc));
+    let export = looking_command(alloc, "export", EXPORT, AFTER_EXPORT);
+    let eight = with_command(seven, export);
+    let check = looking_command(alloc, "check", CHECK, AFTER_CHECK);
+    with_command(eight, check)
 }
 
 /// The program's command.
 pub(crate) fn office_command<'a>(alloc: Global) -> Result<Command<'a>, AllocError>
     ensures { IfOk result (λ c. app_of c ≡ program.office) }
 {
-    let whole = command_of_nine(alloc)?
-        .subcommand(why_command(alloc)?)?
-        .subcommand(try_command(alloc)?)?;
-    Ok(whole)
+    let ten = with_command(command_of_nine(alloc), why_command(alloc));
+    with_command(ten, try_command(alloc))
 }

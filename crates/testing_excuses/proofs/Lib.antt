@@ -1,4 +1,6 @@
 pub mod Grounds
+pub mod HintGroups
 pub mod NewsGroups
+pub mod OwnHints
 pub mod OwnPart
 pub mod Wanting

@@ -24,18 +24,18 @@ among-more news i d h q =
 
 module _ {A : Type 0} where
   -- one more source has a group
-  pub opened : (among own : Bool) (old new : Option (List A)) → old ≡ cond among (Some []) None → new ≡ cond own (Some (unwrap_or old [])) old
-      → new ≡ cond (among || own) (Some []) None
-  opened true true old new e f = f ∙ ap (λ o. Some (unwrap_or o [])) e
-  opened true false old new e f = f ∙ e
-  opened false true old new e f = f ∙ ap (λ o. Some (unwrap_or o [])) e
-  opened false false old new e f = f ∙ e
+  pub opened : (first : List A) (among own : Bool) (old new : Option (List A)) → old ≡ cond among (Some first) None → new ≡ cond own (Some (unwrap_or old first)) old
+      → new ≡ cond (among || own) (Some first) None
+  opened first true true old new e f = f ∙ ap (λ o. Some (unwrap_or o first)) e
+  opened first true false old new e f = f ∙ e
+  opened first false true old new e f = f ∙ ap (λ o. Some (unwrap_or o first)) e
+  opened first false false old new e f = f ∙ e
 
-  joined_to : (own : Bool) (x : A) (done : List A) → joined_by own x (Some done) ≡ Some (cond own (done ++ x ∷ []) done)
+  pub joined_to : (own : Bool) (x : A) (done : List A) → joined_by own x (Some done) ≡ Some (cond own (done ++ x ∷ []) done)
   joined_to true x done = refl
   joined_to false x done = refl
 
-  joined_none : (own : Bool) (x : A) → joined_by own x None ≡ None
+  pub joined_none : (own : Bool) (x : A) → joined_by own x None ≡ None
   joined_none true x = refl
   joined_none false x = refl
 

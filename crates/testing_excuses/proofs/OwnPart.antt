@@ -1,5 +1,5 @@
 -- Of a ground only what is about a source tells on its excuse.
-use Rattle.std.specs.Prelude.{ℕ, ◌+◌, ◌<◌, ◌==◌, Bool, true, false, cond, not, ◌&&◌, ◌||◌, nat_lt, List, [], ◌∷◌, ◌++◌, length, take, get_or, map, filter, fold, Option, unwrap_or, IsTrue}
+use Rattle.std.specs.Prelude.{ℕ, ◌+◌, ◌<◌, ◌==◌, Bool, true, false, cond, not, ◌&&◌, ◌||◌, nat_lt, List, [], ◌∷◌, ◌++◌, length, take, get_or, map, filter, fold, Option, Some, None, unwrap_or, IsTrue}
 use Rattle.std.proofs.Common.{◌≡◌, refl, sym, ap, ◌∙◌, append_assoc, append-nil}
 use Rattle.std.specs.List.{list_any}
 use Rattle.std.specs.Str.{bytes_eq}
@@ -20,8 +20,10 @@ use Rattle.testing_items.specs.declared.item.Urgency.TheVariants.{Low}
 use Rattle.testing_items.specs.Words.{Text, only_if}
 use Rattle.testing_model.specs.Suite.{Suite}
 use Rattle.testing_model.specs.Unstable.{is_of_source, is_current}
-use Rattle.testing_model.specs.Excuses.{Ground, more_urgent, days_of, counts, hinted_days, days_needed, age_of, is_new_bug, has_row_on, has_current_on, is_missing_on, has_current, is_blocked, is_removal_asked, reasons_of, excuse_on, excuses_on, testing_version, is_news}
+use Rattle.testing_model.specs.Excuses.{Ground, more_urgent, days_of, counts, most_urgent, hinted_days, days_needed, age_of, is_new_bug, has_row_on, has_current_on, is_missing_on, has_current, asks_block, lifts_block, is_blocked, asks_removal, is_removal_asked, reasons_of, excuse_on, excuses_on, testing_version, is_news}
 use Rattle.testing_excuses.specs.BySource.{part_of, told_of, news_of, is_among, excuses_by}
+use Rattle.testing_excuses.specs.OwnHints.{own_hints}
+use Rattle.testing_excuses.proofs.OwnHints.{apart, own-block, own-lift, own-removal, own-days}
 use Rattle.testing_model.proofs.MoreMail.{filter-same}
 
 -- The steps of loops that group.
@@ -68,13 +70,6 @@ module _ {A : Type 0} (p t : A → Bool) (within : (x : A) → t x ≡ false →
   any-own [] = refl
   any-own (x ∷ xs) = any_at _ x xs refl (any-own xs)
 
-apart_at : (r : Bool) (a b : Text) → bytes_eq b a ≡ r → bytes_eq a b ≡ false → bytes_eq b a ≡ false
-apart_at true a b e h = absurd (false≢true (sym h ∙ (bytes_eq-Decides a b).1 (sym ((bytes_eq-Decides b a).0 e))))
-apart_at false a b e h = e
-
-apart : (a b : Text) → bytes_eq a b ≡ false → bytes_eq b a ≡ false
-apart a b h = apart_at _ a b refl h
-
 and_false : (a b : Bool) → b ≡ false → (a && b) ≡ false
 and_false true b h = h
 and_false false b h = refl
@@ -114,27 +109,45 @@ module _ (places : List ℕ) (g : Ground) (testing : Option Text) (u : UploadIn)
   same_missing : (arch : ℕ) → is_missing_on part.rows u arch ≡ is_missing_on g.rows u arch
   same_missing arch = ap (λ a. a && not (has_current_on part.rows u arch)) (same_row_on arch) ∙ ap (λ b. has_row_on g.rows u arch && not b) (same_current_on arch)
 
-  same_days : days_needed g.delays g.hints part.uploads testing u ≡ days_needed g.delays g.hints g.uploads testing u
+  same_days : days_needed g.delays part.hints part.uploads testing u ≡ days_needed g.delays g.hints g.uploads testing u
   same_days =
-      ap (λ us. unwrap_or (hinted_days g.hints u) (days_of g.delays (fold more_urgent Low (map (λ v. v.urgency) us))))
+      ap (λ o. unwrap_or o (days_of g.delays (most_urgent part.uploads testing u.source))) (own-days u.source u.version g.hints)
+      ∙ ap (λ us. unwrap_or (hinted_days g.hints u) (days_of g.delays (fold more_urgent Low (map (λ v. v.urgency) us))))
       (filter-own (counts testing u.source) (λ v. bytes_eq u.source v.source) upload_within g.uploads)
 
-  -- the reasons, by what they ask of rows and bugs
-  abbrev reasons_by : Bool → List BugIn → Bool → List ℕ → List Reason
-  reasons_by is_young bugs current missing =
+  same_blocked : is_blocked part.hints u ≡ is_blocked g.hints u
+  same_blocked =
+      ap (λ b. b && not (lifts_block part.hints u.source u.version)) (own-block u.source g.hints)
+      ∙ ap (λ b. asks_block g.hints u.source && not b) (own-lift u.source u.version g.hints)
+
+  removal_at : (there : Option Text) → is_removal_asked part.hints there u ≡ is_removal_asked g.hints there u
+  removal_at None = ap (λ b. b || false) (own-removal u.source u.version g.hints)
+  removal_at (Some v) =
+      ap (λ b. b || asks_removal part.hints u.source v) (own-removal u.source u.version g.hints)
+      ∙ ap (λ b. asks_removal g.hints u.source u.version || b) (own-removal u.source v g.hints)
+
+  -- the reasons, by what they ask of rows, bugs and hints
+  abbrev reasons_by : Bool → List BugIn → Bool → List ℕ → Bool → Bool → List Reason
+  reasons_by is_young bugs current missing blocked removal =
       only_if is_young TooYoung
       ++ map (λ b. NewBug b.bug) bugs
       ++ only_if (not current) NoBinaries
       ++ map (λ a. MissingOn a) missing
-      ++ only_if (is_blocked g.hints u) Blocked
-      ++ only_if (is_removal_asked g.hints testing u) RemovalAsked
+      ++ only_if blocked Blocked
+      ++ only_if removal RemovalAsked
 
-  same_reasons : (is_young : Bool) → reasons_of places part.rows part.bugs g.hints testing is_young u ≡ reasons_of places g.rows g.bugs g.hints testing is_young u
+  same_reasons : (is_young : Bool) → reasons_of places part.rows part.bugs part.hints testing is_young u ≡ reasons_of places g.rows g.bugs g.hints testing is_young u
   same_reasons is_young =
-      ap (λ bs. reasons_by is_young bs (has_current part.rows u) (filter (is_missing_on part.rows u) places)) same_bugs
-      ∙ ap (λ c. reasons_by is_young (filter (is_new_bug testing u) g.bugs) c (filter (is_missing_on part.rows u) places)) same_current
-      ∙ ap (λ ms. reasons_by is_young (filter (is_new_bug testing u) g.bugs) (has_current g.rows u) ms)
+      let bugs = filter (is_new_bug testing u) g.bugs in
+      let missing = filter (is_missing_on part.rows u) places in
+      let blocked = is_blocked part.hints u in
+      let removal = is_removal_asked part.hints testing u in
+      ap (λ bs. reasons_by is_young bs (has_current part.rows u) missing blocked removal) same_bugs
+      ∙ ap (λ c. reasons_by is_young bugs c missing blocked removal) same_current
+      ∙ ap (λ ms. reasons_by is_young bugs (has_current g.rows u) ms blocked removal)
       (filter-same (is_missing_on part.rows u) (is_missing_on g.rows u) same_missing places)
+      ∙ ap (λ b. reasons_by is_young bugs (has_current g.rows u) (filter (is_missing_on g.rows u) places) b removal) same_blocked
+      ∙ ap (λ b. reasons_by is_young bugs (has_current g.rows u) (filter (is_missing_on g.rows u) places) (is_blocked g.hints u) b) (removal_at testing)
 
   -- an excuse by the days needed and the reasons
   abbrev told : ℕ → List Reason → Excuse
@@ -143,7 +156,7 @@ module _ (places : List ℕ) (g : Ground) (testing : Option Text) (u : UploadIn)
   -- what is about the source is enough
   pub own-part : excuse_on places part testing u ≡ excuse_on places g testing u
   own-part =
-      ap (λ n. told n (reasons_of places part.rows part.bugs g.hints testing (nat_lt (age_of g.date u) n) u)) same_days
+      ap (λ n. told n (reasons_of places part.rows part.bugs part.hints testing (nat_lt (age_of g.date u) n) u)) same_days
       ∙ ap (told (days_needed g.delays g.hints g.uploads testing u)) (same_reasons (nat_lt (age_of g.date u) (days_needed g.delays g.hints g.uploads testing u)))
 
 named_first : (b : Bool) (name : Text) (rest : Bool) → b ≡ true → IsTrue (b || rest)
@@ -181,7 +194,7 @@ module _ (places : List ℕ) (g : Ground) (by : Text → Ground) where
 
 -- a ground of its parts
 pub part-is : (g : Ground) (name : Text) {rows : List RowIn} {bugs : List BugIn} {hints : List HintIn} {uploads : List UploadIn} {delays : Delays}
-    → rows ≡ filter (λ r. bytes_eq name r.binary.source) g.rows → bugs ≡ filter (λ b. bytes_eq name b.source) g.bugs → hints ≡ g.hints
+    → rows ≡ filter (λ r. bytes_eq name r.binary.source) g.rows → bugs ≡ filter (λ b. bytes_eq name b.source) g.bugs → hints ≡ own_hints name g.hints
     → uploads ≡ filter (λ u. bytes_eq name u.source) g.uploads → delays ≡ g.delays
     → part_of g name ≡ record { rows = rows; bugs = bugs; hints = hints; uploads = uploads; delays = delays; date = g.date }
 part-is g name er eb eh eu ed = rw (er, eb, eh, eu, ed) refl

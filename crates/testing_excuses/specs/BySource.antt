@@ -14,6 +14,7 @@ use Rattle.testing_model.specs.declared.excuse.Excuse.{Excuse}
 use Rattle.testing_excuses.specs.declared.by_source.Grouped.{Grouped}
 use Rattle.testing_excuses.specs.declared.by_source.News.{News}
 use Rattle.testing_items.specs.Words.{Text}
+use Rattle.testing_excuses.specs.OwnHints.{own_hints}
 use Rattle.testing_model.specs.Suite.{Suite}
 use Rattle.testing_model.specs.FactLists.{FactLists}
 use Rattle.testing_model.specs.JudgedRows.{lent}
@@ -41,7 +42,7 @@ abbrev pub ground_at : Grouped → Text → Ground
 ground_at g name = record {
   rows = lent (group_at g.rows name);
   bugs = group_at g.bugs name;
-  hints = g.hints.items;
+  hints = group_at g.hints name;
   uploads = group_at g.uploads name;
   delays = g.delays;
   date = g.date;
@@ -52,7 +53,7 @@ abbrev pub part_of : Ground → Text → Ground
 part_of g name = record {
   rows = filter (λ r. bytes_eq name r.binary.source) g.rows;
   bugs = filter (λ b. bytes_eq name b.source) g.bugs;
-  hints = g.hints;
+  hints = own_hints name g.hints;
   uploads = filter (λ u. bytes_eq name u.source) g.uploads;
   delays = g.delays;
   date = g.date;

@@ -1,2 +1,3 @@
 pub mod BySource
+pub mod OwnHints
 pub mod SourceFilter

@@ -3,6 +3,7 @@
 ghost use Rattle.std.specs.Prelude.{◌≡◌, [], Some, None, if◌then◌else◌, filter, OnOk, IfOk, IsTrue};
 ghost use Rattle.std.specs.Str.{bytes_eq};
 ghost use Rattle.testing_excuses.specs.BySource.{slot_at, joined_by, group_at, ground_at, is_among};
+ghost use Rattle.testing_model.specs.Boxed.{unboxed};
 ghost use Rattle.testing_model.specs.JudgedRows.{lent};
 ghost use Rattle.testing_items.specs.Words.{Text};
 
@@ -47,13 +48,13 @@ pub struct News<'a> {
     pub testing: Option<&'a Version>,
 }
 
-/// What the excuses of a run are made from, beside testing: the rows, the bugs and the uploads of
-/// each source that is news.
+/// What the excuses of a run are made from, beside testing: the rows, the bugs, the hints and the uploads of each source
+/// that is news.
 #[derive(Drop)]
 pub struct Grouped<'a> {
     pub rows: HashMap<&'a str, Vec<LentRow<'a>>>,
     pub bugs: HashMap<&'a str, Vec<BugIn>>,
-    pub hints: Vec<HintIn>,
+    pub hints: HashMap<&'a str, Vec<HintIn>>,
     pub uploads: HashMap<&'a str, Vec<UploadIn>>,
     pub delays: Delays,
     pub date: Date,
@@ -141,9 +142,9 @@ pub fn rows_by_source<'a>(
 pub fn bugs_by_source<'a>(
     alloc: Global,
     news: &[News<'a>],
-    bugs: &[BugIn],
+    bugs: &[Box<BugIn>],
 ) -> Result<HashMap<&'a str, Vec<BugIn>>, NoMemory>
-    ensures { IfOk result (λ groups. (q : Text) → IsTrue (is_among news.now q) → group_at groups q ≡ filter (λ b. bytes_eq q b.source) bugs.now) }
+    ensures { IfOk result (λ groups. (q : Text) → IsTrue (is_among news.now q) → group_at groups q ≡ filter (λ b. bytes_eq q b.source) (unboxed bugs.now)) }
 {
     let mut groups = groups_for(alloc, news)?;
     for bug in bugs {
@@ -184,7 +185,7 @@ pub fn found_of<'g, 'a>(grouped: &'g Grouped<'a>, name: &str) -> Found<'g, 'a>
     Found {
         rows: group(&grouped.rows, name),
         bugs: group(&grouped.bugs, name),
-        hints: grouped.hints.as_slice(),
+        hints: group(&grouped.hints, name),
         uploads: group(&grouped.uploads, name),
         delays: grouped.delays,
         date: grouped.date,

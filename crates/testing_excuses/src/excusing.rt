@@ -15,22 +15,19 @@ use crate::by_source::{
 };
 use crate::days::{age_of, days_needed, delays_in_force, is_news};
 use crate::near::testing_version_near;
+use crate::own_hints::hints_by_source;
 use crate::reasons::{Known, reasons_of};
 use crate::source_filter::sources_of_news;
 use deb_version::{NoMemory, Version};
 use jiff::civil::Date;
 use std::alloc::Global;
-use testing_facts::{Facts, is_in_force, rows_passing};
+use testing_facts::{Facts, Unhints, is_in_force, rows_passing};
 use testing_items::{Archs, copy_version};
 use testing_model::{Excuse, Excuses, HintIn, UnhintIn, UploadIn};
 use testing_suites::Testing;
 
-/// Those of the hints that are in force.
-pub fn in_force(
-    alloc: Global,
-    hints: &[HintIn],
-    unhints: &[UnhintIn],
-) -> Result<Vec<HintIn>, NoMemory>
+/// Those of the hints that the unhints leave in force.
+fn hints_left(alloc: Global, hints: &[HintIn], unhints: &Unhints) -> Result<Vec<HintIn>, NoMemory>
     ensures { IfOk result (λ in_force. in_force.items ≡ filter (unstable.is_in_force unhints.now) hints.now) }
 {
     let mut in_force = Vec::new(alloc);
@@ -40,6 +37,18 @@ pub fn in_force(
         }
     }
     Ok(in_force)
+}
+
+/// Those of the hints that are in force.
+pub fn in_force(
+    alloc: Global,
+    hints: &[HintIn],
+    unhints: &[UnhintIn],
+) -> Result<Vec<HintIn>, NoMemory>
+    ensures { IfOk result (λ in_force. in_force.items ≡ filter (unstable.is_in_force unhints.now) hints.now) }
+{
+    let unhints = Unhints::of(alloc, unhints)?;
+    hints_left(alloc, hints, &unhints)
 }
 
 /// The excuse of an unstable source.
@@ -138,10 +147,11 @@ fn group_facts<'a>(
 {
     let passing = sources_of_news(alloc, news)?;
     let rows = rows_passing(alloc, archs, facts.rows(), &passing)?;
+    let hints = in_force(alloc, facts.hints(), facts.unhints())?;
     Ok(Grouped {
         rows: rows_by_source(alloc, news, &rows)?,
         bugs: bugs_by_source(alloc, news, facts.bugs())?,
-        hints: in_force(alloc, facts.hints(), facts.unhints())?,
+        hints: hints_by_source(alloc, news, &hints)?,
         uploads: uploads_by_source(alloc, news, facts.uploads())?,
         delays: delays_in_force(facts.delays()),
         date,

@@ -5,6 +5,7 @@ mod by_source;
 mod days;
 mod excusing;
 mod near;
+mod own_hints;
 mod reasons;
 mod source_filter;
 

@@ -1,3 +1,4 @@
+pub mod Cancelling
 pub mod Joins
 pub mod Saying
 pub mod Shifting

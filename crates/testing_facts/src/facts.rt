@@ -20,6 +20,7 @@ ghost use Rattle.testing_model.specs.Tells.{Tells};
 ghost use Rattle.testing_model.specs.WithMessage.{with_upload, with_build, with_builds, with_greatest, with_bug, with_hint, with_unhint, stands_beside};
 ghost use Rattle.testing_model.specs.declared.facts.UploadIn.{UploadIn as AnUpload};
 
+use crate::copying::{copy_log, copy_said, copy_sources, copy_uploads};
 use deb_version::NoMemory;
 use std::alloc::Global;
 use std::marker::Model;
@@ -44,8 +45,8 @@ pub struct Facts {
     sources: Vec<Box<UploadIn>>,
     uploads: Vec<UploadIn>,
     rows: BuildBlocks,
-    drops: Vec<DropIn>,
-    bugs: Vec<BugIn>,
+    drops: Vec<Box<DropIn>>,
+    bugs: Vec<Box<BugIn>>,
     hints: Vec<HintIn>,
     unhints: Vec<UnhintIn>,
     delays: Option<DelaysIn>,
@@ -65,8 +66,8 @@ impl Model for Facts {
       sources = unboxed a.sources.items;
       uploads = a.uploads.items;
       rows = a.rows;
-      drops = a.drops.items;
-      bugs = a.bugs.items;
+      drops = unboxed a.drops.items;
+      bugs = unboxed a.bugs.items;
       hints = a.hints.items;
       unhints = a.unhints.items;
       delays = a.delays;
@@ -74,7 +75,7 @@ impl Model for Facts {
       left = a.log.left.items;
     } };
 
-    ghost invariant = { λ a. IsFactOrder (unboxed a.sources.items) a.rows a.drops.items a.bugs.items
+    ghost invariant = { λ a. IsFactOrder (unboxed a.sources.items) a.rows (unboxed a.drops.items) (unboxed a.bugs.items)
         × (vec_len a.log.left + vec_len a.uploads ≤ vec_capacity a.log.left)
         × AreByMessage a.uploads.items };
 }
@@ -136,6 +137,35 @@ impl Facts {
         }
     }
 
+    /// Equal facts, which share their binaries with these. NoMemory where memory runs out.
+    pub fn copy(&self) -> Result<Facts, NoMemory>
+        ensures { IfOk result (λ f. f ≡ self.now) }
+    {
+        let log = copy_log(self.alloc, &self.log, self.uploads.len())?;
+        let sources = copy_sources(self.alloc, &self.sources)?;
+        let uploads = copy_uploads(self.alloc, &self.uploads)?;
+        let rows = self.rows.copy(self.alloc)?;
+        let said = copy_said(
+            self.alloc,
+            &self.drops,
+            &self.bugs,
+            &self.hints,
+            &self.unhints,
+        )?;
+        Ok(Facts {
+            alloc: self.alloc,
+            sources,
+            uploads,
+            rows,
+            drops: said.drops,
+            bugs: said.bugs,
+            hints: said.hints,
+            unhints: said.unhints,
+            delays: self.delays,
+            log,
+        })
+    }
+
     /// Unstable's sources, by name.
     pub fn sources(&self) -> &[Box<UploadIn>]
         ensures sources { unboxed result.now ≡ self.now.sources }
@@ -161,8 +191,8 @@ impl Facts {
     }
 
     /// The states of the bugs, by bug number.
-    pub fn bugs(&self) -> &[BugIn]
-        ensures { result.now ≡ self.now.bugs }
+    pub fn bugs(&self) -> &[Box<BugIn>]
+        ensures { unboxed result.now ≡ self.now.bugs }
     {
         self.bugs.as_slice()
     }
@@ -284,8 +314,9 @@ impl Facts {
         };
         self.log
             .reserve_with(&mut self.drops, self.uploads.len(), 2)?;
-        self.rows.take(&drop);
-        put_drop(&mut self.drops, drop);
+        let boxed = Box::new(self.alloc, drop)?;
+        self.rows.take(&boxed);
+        put_drop(&mut self.drops, boxed);
         self.log.note(taken);
         self.log.note(shifted);
         Ok(())
@@ -299,7 +330,8 @@ impl Facts {
         let shifted = bug_shift(&self.bugs, &bug);
         self.log
             .reserve_with(&mut self.bugs, self.uploads.len(), 1)?;
-        put_bug(&mut self.bugs, bug);
+        let boxed = Box::new(self.alloc, bug)?;
+        put_bug(&mut self.bugs, boxed);
         self.log.note(shifted);
         Ok(())
     }
@@ -438,7 +470,8 @@ impl Facts {
     {
         self.drops.reserve(1)?;
         if let Some(drop) = said_drop(sent, item)? {
-            put_drop(&mut self.drops, drop);
+            let boxed = Box::new(self.alloc, drop)?;
+            put_drop(&mut self.drops, boxed);
         }
         Ok(())
     }
@@ -450,7 +483,8 @@ impl Facts {
     {
         self.bugs.reserve(1)?;
         if let Some(bug) = said_bug(sent, item)? {
-            put_bug(&mut self.bugs, bug);
+            let boxed = Box::new(self.alloc, bug)?;
+            put_bug(&mut self.bugs, boxed);
         }
         Ok(())
     }

@@ -80,6 +80,14 @@ impl Block {
         begin_above(&self.rows, arch, name)
     }
 
+    /// An equal block, which shares the binaries.
+    fn copy(&self, alloc: Global) -> Result<Block, NoMemory>
+        ensures { IfOk result (λ block. block ≡ self.now) }
+    {
+        let rows = copy_rows(alloc, &self.rows)?;
+        Ok(Block { rows })
+    }
+
     /// A build joins the rows. Where it fills the block, the spare one takes the upper half.
     fn put(&mut self, build: Box<BuildIn>, spare: Block) -> Option<Block>
         requires order { AreByPair self.old }
@@ -156,6 +164,42 @@ fn count_rows(held: &[Block]) -> u128
         count += block.len() as u128;
     }
     count
+}
+
+/// A build in a box of its own, which shares the binary.
+fn copy_build(alloc: Global, build: &BuildIn) -> Result<Box<BuildIn>, NoMemory>
+    ensures { IfOk result (λ copy. copy.value ≡ build.now) }
+{
+    let copy = BuildIn {
+        binary: build.binary.share()?,
+        sender: build.sender,
+        number: build.number,
+        place: build.place,
+    };
+    Ok(Box::new(alloc, copy)?)
+}
+
+/// Equal rows, with memory for as many as fill a block.
+fn copy_rows(alloc: Global, rows: &[Box<BuildIn>]) -> Result<Vec<Box<BuildIn>>, NoMemory>
+    ensures rows { IfOk result (λ copies. unboxed copies.items ≡ unboxed rows.now) }
+    ensures room { IfOk result (λ copies. 256 ≤ vec_capacity copies) }
+{
+    let mut copies = Vec::with_capacity(alloc, FULL)?;
+    for build in rows {
+        copies.push(copy_build(alloc, build)?)?;
+    }
+    Ok(copies)
+}
+
+/// Equal blocks.
+fn copy_blocks(alloc: Global, blocks: &[Block]) -> Result<Vec<Block>, NoMemory>
+    ensures { IfOk result (λ copies. copies.items ≡ blocks.now) }
+{
+    let mut copies = Vec::with_capacity(alloc, blocks.len())?;
+    for block in blocks {
+        copies.push(block.copy(alloc)?)?;
+    }
+    Ok(copies)
 }
 
 /// A build that joins, with a block to spare.
@@ -254,19 +298,19 @@ fn taken_in(blocks: &[Block], drop: &DropIn) -> Option<FactRow>
 
 /// The builds of one message join the rows, each where it stands, and what that does to the rows is noted. There is room
 /// for them.
-fn put_builds(held: &mut Vec<Block>, drops: &[DropIn], coming: Vec<Coming>, log: &mut Log)
+fn put_builds(held: &mut Vec<Block>, drops: &[Box<DropIn>], coming: Vec<Coming>, log: &mut Log)
     requires order { AreByPair (joined held.old.items) }
     requires filled { AreBlocks held.old.items }
     requires some { 0 < vec_len held.old }
     requires room { vec_len held.old + vec_len coming ≤ vec_capacity held.old }
     requires spares { All (λ c. c.spare ≡ []) coming.items }
-    requires drops { AreDropsByPair drops.now }
+    requires drops { AreDropsByPair (unboxed drops.now) }
     requires room_came { vec_len log.old.came + vec_len coming ≤ vec_capacity log.old.came }
     requires room_left { vec_len log.old.left + vec_len coming ≤ vec_capacity log.old.left }
-    ensures rows { joined held.new.items ≡ taken.with_builds (taken.stands_beside drops.now) (map (λ c. c.build.value) coming.items) (joined held.old.items) }
+    ensures rows { joined held.new.items ≡ taken.with_builds (taken.stands_beside (unboxed drops.now)) (map (λ c. c.build.value) coming.items) (joined held.old.items) }
     ensures filled { AreBlocks held.new.items }
-    ensures came { log.new.came.items ≡ log.old.came.items ++ (shift_builds (taken.stands_beside drops.now) (map (λ c. c.build.value) coming.items) (joined held.old.items)).came }
-    ensures left { log.new.left.items ≡ log.old.left.items ++ (shift_builds (taken.stands_beside drops.now) (map (λ c. c.build.value) coming.items) (joined held.old.items)).left }
+    ensures came { log.new.came.items ≡ log.old.came.items ++ (shift_builds (taken.stands_beside (unboxed drops.now)) (map (λ c. c.build.value) coming.items) (joined held.old.items)).came }
+    ensures left { log.new.left.items ≡ log.old.left.items ++ (shift_builds (taken.stands_beside (unboxed drops.now)) (map (λ c. c.build.value) coming.items) (joined held.old.items)).left }
     ensures len { vec_len log.new.left ≤ vec_len log.old.left + vec_len coming }
     ensures capacity { vec_capacity log.old.left ≤ vec_capacity log.new.left }
 {
@@ -341,25 +385,33 @@ impl BuildBlocks {
         count_rows(&self.blocks)
     }
 
+    /// Equal rows, which share the binaries with these. NoMemory where memory runs out.
+    pub fn copy(&self, alloc: Global) -> Result<BuildBlocks, NoMemory>
+        ensures { IfOk result (λ copies. copies ≡ self.now) }
+    {
+        let blocks = copy_blocks(alloc, &self.blocks)?;
+        Ok(BuildBlocks { blocks })
+    }
+
     /// The builds of one message join the rows, each where it stands beside the drops, and what that does to the rows is
     /// noted. There is room for them in the log.
     pub fn put(
         &mut self,
         alloc: Global,
-        drops: &[DropIn],
+        drops: &[Box<DropIn>],
         builds: Vec<BuildIn>,
         log: &mut Log,
     ) -> Result<(), NoMemory>
         requires order { AreByPair self.old }
-        requires drops { AreDropsByPair drops.now }
+        requires drops { AreDropsByPair (unboxed drops.now) }
         requires room_came { vec_len log.old.came + vec_len builds ≤ vec_capacity log.old.came }
         requires room_left { vec_len log.old.left + vec_len builds ≤ vec_capacity log.old.left }
-        ensures came { OnOk result (log.new.came.items ≡ log.old.came.items ++ (shift_builds (taken.stands_beside drops.now) builds.items self.old).came) }
-        ensures left { OnOk result (log.new.left.items ≡ log.old.left.items ++ (shift_builds (taken.stands_beside drops.now) builds.items self.old).left) }
+        ensures came { OnOk result (log.new.came.items ≡ log.old.came.items ++ (shift_builds (taken.stands_beside (unboxed drops.now)) builds.items self.old).came) }
+        ensures left { OnOk result (log.new.left.items ≡ log.old.left.items ++ (shift_builds (taken.stands_beside (unboxed drops.now)) builds.items self.old).left) }
         ensures len { OnOk result (vec_len log.new.left ≤ vec_len log.old.left + vec_len builds) }
         ensures capacity { OnOk result (vec_capacity log.old.left ≤ vec_capacity log.new.left) }
         ensures log { OnErr result (log.new ≡ log.old) }
-        ensures ok { OnOk result (self.new ≡ taken.with_builds (taken.stands_beside drops.now) builds.items self.old) }
+        ensures ok { OnOk result (self.new ≡ taken.with_builds (taken.stands_beside (unboxed drops.now)) builds.items self.old) }
         ensures err { OnErr result (self.new ≡ self.old) }
     {
         let coming = coming_builds(alloc, builds)?;

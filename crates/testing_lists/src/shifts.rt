@@ -45,15 +45,15 @@ pub fn source_shift(sources: &[Box<UploadIn>], upload: &UploadIn) -> Shifted
 }
 
 /// What a drop does to the rows of the greatest drops.
-pub fn drop_shift(drops: &[DropIn], drop: &DropIn) -> Shifted
-    requires { AreDropsByPair drops.now }
-    ensures { IsShift rows.drop_row (way_given unstable.drop_pair unstable.pair_order unstable.drop_order drop.now drops.now)
-        (come_in unstable.drop_pair unstable.pair_order unstable.drop_order drop.now drops.now) result }
+pub fn drop_shift(drops: &[Box<DropIn>], drop: &DropIn) -> Shifted
+    requires { AreDropsByPair (unboxed drops.now) }
+    ensures { IsShift rows.drop_row (way_given unstable.drop_pair unstable.pair_order unstable.drop_order drop.now (unboxed drops.now))
+        (come_in unstable.drop_pair unstable.pair_order unstable.drop_order drop.now (unboxed drops.now)) result }
 {
     let came = Some(drop_row(drop));
     match place_of_drop(drops, drop.arch.as_str(), drop.name.as_str()) {
         Ok(i) => {
-            let other = &drops[i];
+            let other: &DropIn = &drops[i];
             if drop_order(other, drop).is_lt() {
                 return Shifted {
                     left: None,
@@ -70,15 +70,15 @@ pub fn drop_shift(drops: &[DropIn], drop: &DropIn) -> Shifted
 }
 
 /// What a message on a bug does to the rows of the bugs.
-pub fn bug_shift(bugs: &[BugIn], bug: &BugIn) -> Shifted
-    requires { AreByNumber bugs.now }
-    ensures { IsShift rows.bug_row (way_given (λ b. b.bug) nat_cmp unstable.bug_order bug.now bugs.now)
-        (come_in (λ b. b.bug) nat_cmp unstable.bug_order bug.now bugs.now) result }
+pub fn bug_shift(bugs: &[Box<BugIn>], bug: &BugIn) -> Shifted
+    requires { AreByNumber (unboxed bugs.now) }
+    ensures { IsShift rows.bug_row (way_given (λ b. b.bug) nat_cmp unstable.bug_order bug.now (unboxed bugs.now))
+        (come_in (λ b. b.bug) nat_cmp unstable.bug_order bug.now (unboxed bugs.now)) result }
 {
     let came = Some(bug_row(bug));
     match place_of_bug(bugs, bug.bug) {
         Ok(i) => {
-            let other = &bugs[i];
+            let other: &BugIn = &bugs[i];
             if bug_order(other, bug).is_lt() {
                 return Shifted {
                     left: None,

@@ -112,21 +112,21 @@ fn order_drop(drop: &DropIn, arch: &str, name: &str) -> Ordering
 }
 
 /// Where the drops have the architecture and the name, or else where these belong.
-pub fn place_of_drop(drops: &[DropIn], arch: &str, name: &str) -> Result<usize, usize>
-    ensures bound { IsSearchInRange result (length drops.now) }
-    ensures found { IsBinarySearchResult (λ d. pair_order (drop_pair d) (arch.now, name.now)) drops.now result }
+pub fn place_of_drop(drops: &[Box<DropIn>], arch: &str, name: &str) -> Result<usize, usize>
+    ensures bound { IsSearchInRange result (length (unboxed drops.now)) }
+    ensures found { IsBinarySearchResult (λ d. pair_order (drop_pair d) (arch.now, name.now)) (unboxed drops.now) result }
 {
     drops.binary_search_by(
-        |drop: &DropIn| -> Ordering
-            ensures { result ≡ pair_order (drop_pair drop.now) (arch.entry.now, name.entry.now) }
+        |drop: &Box<DropIn>| -> Ordering
+            ensures { result ≡ pair_order (drop_pair drop.now.value) (arch.entry.now, name.entry.now) }
         { order_drop(drop, arch, name) },
     )
 }
 
 /// Where the list takes the drop.
-fn slot_of_drop(drops: &[DropIn], drop: &DropIn) -> Slot
-    requires { AreDropsByPair drops.now }
-    ensures { IsSlotFor drops.now drop.now (taken.with_greatest drop.now drops.now) result }
+fn slot_of_drop(drops: &[Box<DropIn>], drop: &DropIn) -> Slot
+    requires { AreDropsByPair (unboxed drops.now) }
+    ensures { IsSlotFor (unboxed drops.now) drop.now (taken.with_greatest drop.now (unboxed drops.now)) result }
 {
     match place_of_drop(drops, drop.arch.as_str(), drop.name.as_str()) {
         Ok(i) => {
@@ -141,31 +141,31 @@ fn slot_of_drop(drops: &[DropIn], drop: &DropIn) -> Slot
 }
 
 /// A drop joins the greatest ones, where its architecture and name have none before it. There is room for it.
-pub fn put_drop(drops: &mut Vec<DropIn>, drop: DropIn)
-    requires order { AreDropsByPair drops.old.items }
+pub fn put_drop(drops: &mut Vec<Box<DropIn>>, drop: Box<DropIn>)
+    requires order { AreDropsByPair (unboxed drops.old.items) }
     requires room { vec_len drops.old < vec_capacity drops.old }
-    ensures { drops.new.items ≡ taken.with_greatest drop drops.old.items }
+    ensures { unboxed drops.new.items ≡ taken.with_greatest drop.value (unboxed drops.old.items) }
 {
     let slot = slot_of_drop(drops, &drop);
     put_at(drops, slot, drop);
 }
 
 /// Where the bugs have the number, or else where it belongs.
-pub fn place_of_bug(bugs: &[BugIn], bug: u32) -> Result<usize, usize>
-    ensures bound { IsSearchInRange result (length bugs.now) }
-    ensures found { IsBinarySearchResult (λ b. nat_cmp b.bug bug) bugs.now result }
+pub fn place_of_bug(bugs: &[Box<BugIn>], bug: u32) -> Result<usize, usize>
+    ensures bound { IsSearchInRange result (length (unboxed bugs.now)) }
+    ensures found { IsBinarySearchResult (λ b. nat_cmp b.bug bug) (unboxed bugs.now) result }
 {
     bugs.binary_search_by(
-        |other: &BugIn| -> Ordering
-            ensures { result ≡ nat_cmp other.now.bug bug }
+        |other: &Box<BugIn>| -> Ordering
+            ensures { result ≡ nat_cmp other.now.value.bug bug }
         { other.bug.cmp(&bug) },
     )
 }
 
 /// Where the list takes the bug.
-fn slot_of_bug(bugs: &[BugIn], bug: &BugIn) -> Slot
-    requires { AreByNumber bugs.now }
-    ensures { IsSlotFor bugs.now bug.now (taken.with_bug bug.now bugs.now) result }
+fn slot_of_bug(bugs: &[Box<BugIn>], bug: &BugIn) -> Slot
+    requires { AreByNumber (unboxed bugs.now) }
+    ensures { IsSlotFor (unboxed bugs.now) bug.now (taken.with_bug bug.now (unboxed bugs.now)) result }
 {
     match place_of_bug(bugs, bug.bug) {
         Ok(i) => {
@@ -180,10 +180,10 @@ fn slot_of_bug(bugs: &[BugIn], bug: &BugIn) -> Slot
 }
 
 /// A message on a bug joins the states, where the bug has none after it. There is room for it.
-pub fn put_bug(bugs: &mut Vec<BugIn>, bug: BugIn)
-    requires order { AreByNumber bugs.old.items }
+pub fn put_bug(bugs: &mut Vec<Box<BugIn>>, bug: Box<BugIn>)
+    requires order { AreByNumber (unboxed bugs.old.items) }
     requires room { vec_len bugs.old < vec_capacity bugs.old }
-    ensures { bugs.new.items ≡ taken.with_bug bug bugs.old.items }
+    ensures { unboxed bugs.new.items ≡ taken.with_bug bug.value (unboxed bugs.old.items) }
 {
     let slot = slot_of_bug(bugs, &bug);
     put_at(bugs, slot, bug);
@@ -240,9 +240,9 @@ pub fn put_build(rows: &mut Vec<Box<BuildIn>>, build: Box<BuildIn>)
 }
 
 /// The build stands beside all of the drops.
-pub fn stands_beside(drops: &[DropIn], build: &BuildIn) -> bool
-    requires { AreDropsByPair drops.now }
-    ensures { result ≡ taken.stands_beside drops.now build.now }
+pub fn stands_beside(drops: &[Box<DropIn>], build: &BuildIn) -> bool
+    requires { AreDropsByPair (unboxed drops.now) }
+    ensures { result ≡ taken.stands_beside (unboxed drops.now) build.now }
 {
     let binary: &Binary = &build.binary;
     match place_of_drop(drops, binary.architecture.as_str(), binary.name.as_str()) {

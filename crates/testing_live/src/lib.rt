@@ -1,11 +1,13 @@
 //! Testing's rows and sources while a run changes them, and the first row that a change breaks, judged anew.
 #![tactic(auto)]
 
+mod lack;
 mod lent_rows;
 mod live_rows;
 mod live_sources;
 mod offender;
 mod pool_suites;
+mod provisions;
 
 pub use lent_rows::{moved_rows, rows_without};
 pub use live_rows::LiveRows;

@@ -1,37 +1,43 @@
 //! Which rows of a pool stand in testing during a run, and the suite of each architecture.
 
-ghost use Rattle.std.specs.Prelude.{◌≡◌, ℕ, ◌++◌, true, false, length, replicate, [], IfOk, Option};
-ghost use Rattle.std.specs.List.{list_all};
+ghost use Rattle.std.specs.Prelude.{◌≡◌, ℕ, ◌<◌, ◌++◌, true, false, length, replicate, [], IfOk, IfSome, Some, Option};
+ghost use Rattle.std.specs.List.{list_all, slice_get};
 ghost use Rattle.testing_install.specs.Among.{after_change};
 ghost use Rattle.testing_install.specs.Closed.{marked};
 ghost use Rattle.testing_model.specs.Boxed.{unboxed};
 ghost use Rattle.testing_suites.specs.Changes.{has, IsMoveOf};
 ghost use Rattle.testing_model.specs.FactOrder.{AreBySource};
-ghost use Rattle.testing_model.specs.JudgedRows.{lent};
+ghost use Rattle.testing_live.specs.Lacks.{IsLackOfMove};
+ghost use Rattle.testing_model.specs.JudgedRows.{lent, row_of};
 ghost use Rattle.testing_suites.specs.PresentSteps.{present_rows};
 ghost use Rattle.testing_suites.specs.Tried.{first_told, Tells, IsWithin, IsRemovalOf};
 ghost use Rattle.testing_model.specs.SourceFilter.{hash_passes, passing_rows};
 ghost use Rattle.testing_items.specs.Words.{Text as Word};
 
-use deb_control::Text;
+use crate::lack::lack_among;
+use crate::provisions::provisions_of;
+use deb_control::{Clause, Text};
 use deb_version::NoMemory;
 use std::alloc::Global;
 use std::marker::Model;
 use testing_changes::{change_by_move, change_by_removal};
 use testing_facts::{Hashes, hashes_pass, passing_rows};
+use testing_install::NameIndex;
 use testing_model::{LentRow, Offender, UploadIn};
 use testing_suites::{CarriedSuites, Change};
 
-/// The suites over the rows that may stand in testing during a run. Unstable's rows, which begin at the first place, are
-/// there where their source is a candidate.
+/// The suites over the rows that may stand in testing during a run, and which of the rows provide a name. Unstable's
+/// rows, which begin at the first place, are there where their source is a candidate.
 #[derive(Drop)]
 pub struct PoolSuites {
     kept: CarriedSuites,
     candidates: Hashes,
     first: usize,
+    provided: NameIndex,
 }
 
 impl Model for PoolSuites {
+    ghost use Rattle.testing_live.specs.Lacks.{IsProvisionIndex};
     ghost use Rattle.testing_suites.specs.PresentSteps.{PoolState};
 
     ghost Value = { PoolState };
@@ -43,6 +49,8 @@ impl Model for PoolSuites {
       stands = s.kept.stands;
       archs = s.kept.archs;
     } };
+
+    ghost invariant = { λ s. IsProvisionIndex s.kept.rows s.provided };
 }
 
 impl PoolSuites {
@@ -64,10 +72,12 @@ impl PoolSuites {
         let first = kept.len();
         let wanted = passing_rows(alloc, &candidates, unstable)?;
         let kept = kept.with_rows(alloc, &wanted)?;
+        let provided = provisions_of(alloc, kept.pool())?;
         Ok(PoolSuites {
             kept,
             candidates,
             first,
+            provided,
         })
     }
 
@@ -83,6 +93,14 @@ impl PoolSuites {
         ensures { IfOk result (λ rows. lent rows.items ≡ present_rows self.now) }
     {
         self.kept.rows(alloc)
+    }
+
+    /// The row at the place, whether it stands or not.
+    pub fn row(&self, place: usize) -> LentRow<'_>
+        requires { place < length self.now.rows }
+        ensures { slice_get self.now.rows place ≡ Some (row_of result) }
+    {
+        self.kept.pool().row(place)
     }
 
     /// The rows of each source of the group may come: each is a candidate.
@@ -114,6 +132,21 @@ impl PoolSuites {
         ensures none { IfOk result (λ change. change.coming.items ≡ []) }
     {
         change_by_removal(alloc, self.kept.pool(), self.kept.stands(), name)
+    }
+
+    /// A clause of a row that would come by a move of the group, which no row on its architecture meets that stands or
+    /// would come. Where there is none, the move may break something nevertheless.
+    pub fn lack_by_move(
+        &self,
+        alloc: Global,
+        sources: &[Box<UploadIn>],
+        group: &[Text],
+    ) -> Result<Option<&Clause>, NoMemory>
+        requires { AreBySource (unboxed sources.now) }
+        ensures { IfOk result (λ found. IfSome found (λ clause. IsLackOfMove self.now (unboxed sources.now) group.now clause.now)) }
+    {
+        let change = self.change_by_move(alloc, sources, group)?;
+        Ok(lack_among(&self.kept, &self.provided, &change.coming))
     }
 
     /// None of the rows that come stands already.
@@ -153,12 +186,14 @@ impl PoolSuites {
             kept,
             candidates,
             first,
+            provided,
         } = self;
         let kept = kept.after(alloc, change)?;
         Ok(PoolSuites {
             kept,
             candidates,
             first,
+            provided,
         })
     }
 }

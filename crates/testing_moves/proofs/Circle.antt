@@ -1,10 +1,9 @@
 -- Single moves: the next candidate of the circle that may move, and the candidates that wait.
-use Rattle.std.specs.Prelude.{ℕ, zero, suc, ◌+◌, ◌<◌, ◌≤◌, Bool, true, false, List, [], ◌∷◌, ◌++◌, Option, Some, None, map, find, length, take, drop, get_or, option_map}
-use Rattle.std.specs.Borrow.{Bor}
+use Rattle.std.specs.Prelude.{ℕ, zero, suc, ◌+◌, ◌<◌, ◌≤◌, Bool, true, false, List, [], ◌∷◌, ◌++◌, Option, Some, None, find, length, take, drop, get_or, option_map}
 use Rattle.std.specs.List.{filter_map, cons_option, position_or_len, before_first, after_first, slice_get}
 use Rattle.std.specs.Option.{option_to_list}
 use Rattle.std.proofs.Common.{◌≡◌, refl, sym, ap, ◌∙◌, arith, add-one}
-use Rattle.std.proofs.lemmas.List.{drop_all, get_or-map, length-append, length-drop, length-take-le, take-map, drop-map, map-append}
+use Rattle.std.proofs.lemmas.List.{drop_all, length-append, length-drop, length-take-le}
 use Rattle.std.proofs.lemmas.List.Folds.{find_at}
 use Rattle.std.proofs.lemmas.Option.{slice_get-get_or, slice_get_past}
 use Rattle.std.proofs.Math.Seq.{drop-cons}
@@ -14,20 +13,8 @@ use Rattle.testing_model.specs.declared.excuse.Excuse.{Excuse}
 use Rattle.testing_model.specs.declared.update.Offender.{Offender}
 use Rattle.testing_model.specs.Suite.{Suite}
 use Rattle.testing_items.specs.Words.{Text}
-use Rattle.testing_moves.specs.LentItems.{lent_excuses}
 use Rattle.testing_model.specs.Updates.{Outcome, then_do, decide, nothing, in_turn, accepted, waiting, offender_alone, moved_alone, is_allowed_alone, single_moves, move_circle, wait_for, wait}
 use Rattle.testing_moves.proofs.InTurn.{then-then, then-nothing}
-
--- a lent excuse among those that are lent
-pub lent-at : (items : List (Bor Excuse)) (i : ℕ) (b : Bor Excuse) → i < length items → b ≡ get_or items i b → get_or (lent_excuses items) i b.now ≡ b.now
-lent-at items i b below is = get_or-map (λ (e : Bor Excuse). e.now) items i b b.now below ∙ ap (λ (e : Bor Excuse). e.now) (sym is)
-
--- the circle behind one of its candidates
-pub lent-behind : (items : List (Bor Excuse)) (i : ℕ) → lent_excuses (drop (i + 1) items ++ take i items) ≡ drop (i + 1) (lent_excuses items) ++ take i (lent_excuses items)
-lent-behind items i =
-    map-append (λ (e : Bor Excuse). e.now) (drop (i + 1) items) (take i items)
-    ∙ ap (λ es. es ++ map (λ (e : Bor Excuse). e.now) (take i items)) (sym (drop-map (λ (e : Bor Excuse). e.now) (i + 1) items))
-    ∙ ap (λ es. drop (i + 1) (lent_excuses items) ++ es) (sym (take-map (λ (e : Bor Excuse). e.now) i items))
 
 -- a list turned round to one of its elements, which then goes
 turned-first : {A : Type 0} (xs ys : List A) (i : ℕ) → i < length xs → drop 1 (drop i xs ++ ys) ≡ drop (suc i) xs ++ ys

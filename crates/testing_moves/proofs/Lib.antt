@@ -1,3 +1,6 @@
 pub mod Circle
 pub mod InTurn
+pub mod Lacking
+pub mod Remembering
 pub mod Runs
+pub mod Trying

@@ -1,2 +1,3 @@
 pub mod LentItems
+pub mod Refusals
 pub mod Runs

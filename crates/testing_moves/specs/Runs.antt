@@ -2,6 +2,8 @@
 -- What a run goes by, and how far it has come.
 use Rattle.std.specs.Prelude.{List, [], Option, filter}
 use Rattle.std.specs.List.{flat_map}
+use Rattle.deb_control.specs.declared.relation.Clause.{Clause}
+use Rattle.testing_live.specs.Lacks.{Lacks}
 use Rattle.testing_model.specs.declared.excuse.Excuse.{Excuse}
 use Rattle.testing_model.specs.declared.facts.HintIn.{HintIn}
 use Rattle.testing_model.specs.declared.facts.UnhintIn.{UnhintIn}
@@ -33,6 +35,10 @@ after_move group m = record { basis = m.basis; suite = move_group m.basis.source
 -- what moving the group would break
 abbrev pub broken_by_move : List Text → Moment → Option Offender
 broken_by_move group m = offender_of m.basis.archs m.suite.rows (move_group m.basis.sources m.basis.rows group m.suite).rows group
+
+-- a row that comes by a move of the group has the clause, which no row on its architecture meets that stands or comes
+abbrev pub IsLacking : List Text → Moment → Clause → Type 0
+IsLacking group m clause = Lacks m.basis.archs m.basis.sources m.basis.rows group m.suite.rows clause
 
 -- testing after the source has left
 abbrev pub after_removal : Text → Moment → Moment

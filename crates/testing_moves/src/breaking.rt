@@ -1,18 +1,23 @@
 //! What a change of testing during a run would break, told by the suites of the architectures.
 
-ghost use Rattle.std.specs.Prelude.{◌≡◌, [], IfOk, length};
+ghost use Rattle.std.specs.Prelude.{◌≡◌, [], ◌<◌, IfOk, IfSome, OnOk, List, length};
+ghost use Rattle.std.specs.List.{All};
 ghost use Rattle.testing_install.specs.Closed.{marked};
 ghost use Rattle.testing_model.specs.Boxed.{unboxed};
-ghost use Rattle.testing_suites.specs.AfterMoves.{moved_rows, rows_without};
+ghost use Rattle.testing_suites.specs.AfterMoves.{moved_rows, rows_at, rows_without};
 ghost use Rattle.testing_model.specs.FactOrder.{AreBySource, IsUnstableOrder};
+ghost use Rattle.testing_items.specs.Words.{Text as Word};
 ghost use Rattle.testing_live.specs.Held.{held, AreLive};
+ghost use Rattle.testing_live.specs.Lacks.{arriving, Lacks};
 ghost use Rattle.testing_model.specs.InOrder.{AreByKey};
 ghost use Rattle.testing_model.specs.JudgedRows.{lent};
 ghost use Rattle.testing_model.specs.Moves as rules;
+ghost use Rattle.testing_moves.specs.Refusals.{AreWoken};
 ghost use Rattle.testing_suites.specs.Present.{IsShown};
 ghost use Rattle.testing_suites.specs.PresentSteps.{IsLive, present_rows};
 
-use deb_control::Text;
+use crate::refusals::Refusals;
+use deb_control::{Clause, Text};
 use deb_version::NoMemory;
 use std::alloc::Global;
 use testing_facts::Unstable;
@@ -143,6 +148,95 @@ pub fn broken_by_move(
         return told_by_move(alloc, suites, archs, unstable, group);
     }
     broken_by_move_of_held(alloc, rows, archs, unstable, group)
+}
+
+/// A clause of a row that would come by the move of a group, which no row on its architecture meets that stands or would
+/// come. The suites can't tell where they leave out the rows of one of its sources.
+fn lack_told<'r>(
+    alloc: Global,
+    suites: &'r PoolSuites,
+    unstable: Unstable<'_, '_>,
+    group: &[Text],
+) -> Result<Option<&'r Clause>, NoMemory>
+    requires { AreBySource (unboxed unstable.sources.now) }
+    ensures { IfOk result (λ found. IfSome found (λ clause. (archs : List Word) → IsLive suites.now archs (lent unstable.entry.rows.now) (present_rows suites.now)
+        → Lacks archs (unboxed unstable.entry.sources.now) (lent unstable.entry.rows.now) group.now (present_rows suites.now) clause.now)) }
+{
+    if suites.offers(group) {
+        suites.lack_by_move(alloc, unstable.sources, group)
+    } else {
+        Ok(None)
+    }
+}
+
+/// A clause of a row that would come by the move of a group, which no row on its architecture meets that stands or would
+/// come: then the move is refused. It is looked for where there are suites, and found without a trial.
+pub fn lack_by_move<'r>(
+    alloc: Global,
+    rows: &'r LiveRows,
+    unstable: Unstable<'_, '_>,
+    group: &[Text],
+) -> Result<Option<&'r Clause>, NoMemory>
+    requires { AreBySource (unboxed unstable.sources.now) }
+    ensures { IfOk result (λ found. IfSome found (λ clause. (archs : List Word) → AreLive rows.now archs (lent unstable.entry.rows.now)
+        → Lacks archs (unboxed unstable.entry.sources.now) (lent unstable.entry.rows.now) group.now (held rows.now) clause.now)) }
+{
+    if let LiveRows::Pooled(suites) = rows {
+        return lack_told(alloc, suites, unstable, group);
+    }
+    Ok(None)
+}
+
+/// The rows at the places came in: who was refused for want of one of them is to be tried again.
+fn wake_among(suites: &PoolSuites, coming: &[usize], refusals: &mut Refusals)
+    requires { All (λ k. k < length suites.now.rows) coming.now }
+    ensures { AreWoken (rows_at suites.now.rows coming.now) refusals.old refusals.new }
+{
+    for place in coming {
+        refusals.wake(suites.row(*place).binary);
+    }
+}
+
+/// The group moved: who was refused for want of one of its rows is to be tried again. That is everyone where the suites
+/// leave out the rows of one of its sources.
+fn wake_told(
+    alloc: Global,
+    suites: &PoolSuites,
+    unstable: Unstable<'_, '_>,
+    group: &[Text],
+    refusals: &mut Refusals,
+) -> Result<(), NoMemory>
+    requires { AreBySource (unboxed unstable.sources.now) }
+    ensures { OnOk result ((archs : List Word) → IsLive suites.now archs (lent unstable.entry.rows.now) (present_rows suites.now)
+        → AreWoken (arriving (unboxed unstable.entry.sources.now) (lent unstable.entry.rows.now) group.now) refusals.old refusals.new) }
+{
+    if suites.offers(group) {
+        let change = suites.change_by_move(alloc, unstable.sources, group)?;
+        wake_among(suites, &change.coming, refusals);
+        return Ok(());
+    }
+    refusals.forget();
+    Ok(())
+}
+
+/// The group moved: who was refused for want of one of its rows is to be tried again. That is everyone where there are no
+/// suites.
+pub fn wake_by_move(
+    alloc: Global,
+    rows: &LiveRows,
+    unstable: Unstable<'_, '_>,
+    group: &[Text],
+    refusals: &mut Refusals,
+) -> Result<(), NoMemory>
+    requires { AreBySource (unboxed unstable.sources.now) }
+    ensures { OnOk result ((archs : List Word) → AreLive rows.now archs (lent unstable.entry.rows.now)
+        → AreWoken (arriving (unboxed unstable.entry.sources.now) (lent unstable.entry.rows.now) group.now) refusals.old refusals.new) }
+{
+    if let LiveRows::Pooled(suites) = rows {
+        return wake_told(alloc, suites, unstable, group, refusals);
+    }
+    refusals.forget();
+    Ok(())
 }
 
 /// What the removal of a source would break: told by the suites where there are any, and else judged anew.

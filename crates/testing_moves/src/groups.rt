@@ -21,9 +21,9 @@ use deb_control::Text;
 use deb_version::{NoMemory, Version};
 use std::alloc::Global;
 use std::cmp::Ordering;
-use testing_facts::{is_in_force, is_same_version, source_in};
+use testing_facts::{Unhints, is_in_force, is_same_version, source_in};
 use testing_items::{Hint, HintItem};
-use testing_model::{Decision, Excuse, HintIn, Moved, MovedItems, UnhintIn, UploadIn};
+use testing_model::{Decision, Excuse, HintIn, Moved, MovedItems, UploadIn};
 
 /// No reason keeps the source out.
 pub fn has_no_reason(excuse: &Excuse) -> bool
@@ -235,7 +235,7 @@ impl<'u, 'a> Turns<'u, 'a> {
         alloc: Global,
         excuses: &[Excuse],
         hints: &[HintIn],
-        unhints: &[UnhintIn],
+        unhints: &Unhints,
     ) -> Result<(), NoMemory>
         ensures { OnOk result (self.new ≡ go_on self.old (λ b. in_turn (rules.move_easy b.archs b.sources b.rows excuses.now) (filter (unstable_words.is_in_force unhints.now) hints.now))) }
     {

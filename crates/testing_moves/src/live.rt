@@ -1,16 +1,20 @@
 //! Testing while a run moves sources.
 
-ghost use Rattle.std.specs.Prelude.{◌≡◌, IfOk, OnOk, option_copied};
+ghost use Rattle.std.specs.Prelude.{◌≡◌, false, List, IfOk, IfSome, OnOk, is_none, option_copied};
 ghost use Rattle.testing_model.specs.Excuses as excuses;
 ghost use Rattle.testing_model.specs.Boxed.{unboxed};
 ghost use Rattle.testing_model.specs.FactOrder.{AreBySource};
 ghost use Rattle.testing_model.specs.InOrder.{AreByKey};
 ghost use Rattle.testing_model.specs.JudgedRows.{lent};
 ghost use Rattle.testing_suites.specs.CarriedOver.{AreCarriedOver};
-ghost use Rattle.testing_moves.specs.Runs.{after_move, broken_by_move, after_removal, broken_by_removal};
+ghost use Rattle.testing_live.specs.Lacks.{arriving};
+ghost use Rattle.testing_model.specs.declared.excuse.Excuse.{Excuse as AnExcuse};
+ghost use Rattle.testing_moves.specs.Refusals.{AreRefused, AreWoken};
+ghost use Rattle.testing_moves.specs.Runs.{after_move, broken_by_move, after_removal, broken_by_removal, IsLacking};
 
 use crate::breaking;
-use deb_control::Text;
+use crate::refusals::{Refusals, no_refusals};
+use deb_control::{Clause, Text};
 use deb_version::{NoMemory, Version};
 use std::alloc::Global;
 use std::marker::Model;
@@ -107,6 +111,36 @@ impl<'u, 'a> LiveTesting<'u, 'a> {
         ensures offender { IfOk result (λ o. o ≡ broken_by_move group.now self.old) }
     {
         breaking::broken_by_move(alloc, &mut self.rows, self.archs, self.unstable, group)
+    }
+
+    /// A clause for which the move of a group is refused: a row that would come has it, and no row on its architecture
+    /// meets it that stands or would come. Where there is none, the move may be refused nevertheless.
+    pub fn lack_by_move(&self, alloc: Global, group: &[Text]) -> Result<Option<&Clause>, NoMemory>
+        ensures lacks { IfOk result (λ found. IfSome found (λ clause. IsLacking group.now self.now clause.now)) }
+        ensures refused { IfOk result (λ found. IfSome found (λ clause. is_none (broken_by_move group.now self.now) ≡ false)) }
+    {
+        breaking::lack_by_move(alloc, &self.rows, self.unstable, group)
+    }
+
+    /// Of so many candidates none was refused so far.
+    pub fn no_refusals(&self, alloc: Global, count: usize) -> Result<Refusals, NoMemory>
+        ensures { IfOk result (λ refusals. (excuses : List AnExcuse) → AreRefused self.now excuses refusals) }
+    {
+        // That the rows are in order is known of what is read of `self`.
+        let _rows = &self.rows;
+        no_refusals(alloc, count)
+    }
+
+    /// The group moved, or is about to: who was refused for want of one of its rows is to be tried again.
+    pub fn wake_by_move(
+        &self,
+        alloc: Global,
+        group: &[Text],
+        refusals: &mut Refusals,
+    ) -> Result<(), NoMemory>
+        ensures { OnOk result (AreWoken (arriving self.now.basis.sources self.now.basis.rows group.now) refusals.old refusals.new) }
+    {
+        breaking::wake_by_move(alloc, &self.rows, self.unstable, group, refusals)
     }
 
     /// Moves a group.

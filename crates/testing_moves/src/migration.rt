@@ -17,7 +17,7 @@ use crate::turns::Turns;
 use deb_version::NoMemory;
 use jiff::civil::Date;
 use std::alloc::Global;
-use testing_facts::{Facts, Unstable, built_rows, candidates};
+use testing_facts::{Facts, Unhints, Unstable, built_rows, candidates};
 use testing_items::Archs;
 use testing_model::{Decision, Excuse, Excuses, HintIn, LentRow, UnhintIn, Update};
 use testing_suites::{CarriedSuites, Testing};
@@ -32,8 +32,9 @@ fn take_turns(
 ) -> Result<(), NoMemory>
     ensures { OnOk result (turns.new ≡ after_turns excuses.now hints.now unhints.now turns.old) }
 {
-    turns.removals(alloc, hints, unhints)?;
-    turns.groups(alloc, excuses, hints, unhints)?;
+    let unhints = Unhints::of(alloc, unhints)?;
+    turns.removals(alloc, hints, &unhints)?;
+    turns.groups(alloc, excuses, hints, &unhints)?;
     turns.move_singles(alloc, excuses)?;
     turns.waits(alloc, excuses)?;
     Ok(())

@@ -1,13 +1,16 @@
 //! Single moves: candidates that move alone, one after the other, and those that wait.
 
-ghost use Rattle.std.specs.Prelude.{◌≡◌, ◌++◌, ◌+◌, ◌<◌, IfOk, OnOk, true, false, if◌then◌else◌, take, drop};
+ghost use Rattle.std.specs.Prelude.{◌≡◌, ◌++◌, ◌+◌, ◌<◌, List, IfOk, OnOk, true, false, take, drop};
 ghost use Rattle.std.specs.VecDeque.{deque_len};
 ghost use Rattle.testing_moves.specs.LentItems.{lent_excuses};
-ghost use Rattle.testing_moves.specs.Runs.{go_on};
+ghost use Rattle.testing_model.specs.declared.excuse.Excuse.{Excuse as AnExcuse};
+ghost use Rattle.testing_moves.specs.Refusals.{IsNumbered, AreNumbered, AreRefused, IsTried, IsNext};
+ghost use Rattle.testing_moves.specs.Runs.{go_on, moment_of};
 ghost use Rattle.testing_model.specs.Updates as rules;
 
 use crate::groups::{has_no_reason, is_in_testing};
 use crate::live::LiveTesting;
+use crate::refusals::{Numbered, Refusals, with_numbers};
 use crate::turns::Turns;
 use deb_version::NoMemory;
 use std::alloc::Global;
@@ -41,10 +44,10 @@ fn remaining<'a>(
 
 /// The candidate at a place leaves the circle, and the next one is looked for behind it. It takes time by the place
 /// alone.
-fn go_on_behind(circle: &mut VecDeque<&Excuse>, place: usize)
+fn go_on_behind(circle: &mut VecDeque<Numbered>, place: usize)
     requires { place < deque_len circle.old }
     ensures fewer { deque_len circle.new + 1 ≡ deque_len circle.old }
-    ensures behind { lent_excuses circle.new.items ≡ drop (place + 1) (lent_excuses circle.old.items) ++ take place (lent_excuses circle.old.items) }
+    ensures behind { circle.new.items ≡ drop (place + 1) circle.old.items ++ take place circle.old.items }
 {
     circle.rotate_left(place);
     circle.pop_front();
@@ -88,14 +91,45 @@ impl<'u, 'a> Turns<'u, 'a> {
         Ok(true)
     }
 
+    /// Tries the candidate, and says whether it moved. If its rows lack something, that is seen without a trial, and
+    /// remembered: then it isn't tried again before a row has come in that may meet what it lacks.
+    fn try_alone(
+        &mut self,
+        alloc: Global,
+        candidate: Numbered,
+        refusals: &mut Refusals,
+    ) -> Result<bool, NoMemory>
+        ensures { IfOk result (λ moved. (excuses : List AnExcuse) → IsNumbered excuses candidate.entry → AreRefused (moment_of self.old) excuses refusals.old
+            → IsTried self.old self.new excuses candidate.entry.excuse.now refusals.new moved) }
+    {
+        if refusals.has(candidate.number) {
+            return Ok(false);
+        }
+        let group = slice::from_ref(&candidate.excuse.source);
+        if let Some(clause) = self.lack_by_move(alloc, group)? {
+            refusals.remember(alloc, candidate.number, clause)?;
+            return Ok(false);
+        }
+        if !self.move_alone(alloc, candidate.excuse)? {
+            return Ok(false);
+        }
+        self.wake_by_move(alloc, group, refusals)?;
+        Ok(true)
+    }
+
     /// Moves the first candidate of the circle that may move alone, and says whether there was one.
-    fn move_next(&mut self, alloc: Global, circle: &mut VecDeque<&Excuse>) -> Result<bool, NoMemory>
+    fn move_next(
+        &mut self,
+        alloc: Global,
+        circle: &mut VecDeque<Numbered>,
+        refusals: &mut Refusals,
+    ) -> Result<bool, NoMemory>
         ensures fewer { result ≡ Ok true → deque_len circle.new < deque_len circle.old }
-        ensures moves { IfOk result (λ moved. go_on self.old (λ b. rules.move_circle b.archs b.sources b.rows (lent_excuses circle.old.items))
-            ≡ (if moved then go_on self.new (λ b. rules.move_circle b.archs b.sources b.rows (lent_excuses circle.new.items)) else self.new)) }
+        ensures next { IfOk result (λ moved. (excuses : List AnExcuse) → AreNumbered excuses circle.old.items → AreRefused (moment_of self.old) excuses refusals.old
+            → IsNext self.old self.new excuses circle.old.items circle.new.items refusals.new moved) }
     {
         for place in 0..circle.len() {
-            if self.move_alone(alloc, circle[place])? {
+            if self.try_alone(alloc, circle[place], refusals)? {
                 go_on_behind(circle, place);
                 return Ok(true);
             }
@@ -103,13 +137,22 @@ impl<'u, 'a> Turns<'u, 'a> {
         Ok(false)
     }
 
+    /// The single moves of these candidates, until none may move alone.
+    fn move_all(&mut self, alloc: Global, candidates: &[&Excuse]) -> Result<(), NoMemory>
+        ensures { OnOk result (self.new ≡ go_on self.old (λ b. rules.move_circle b.archs b.sources b.rows (lent_excuses candidates.now))) }
+    {
+        let mut circle = VecDeque::from(with_numbers(alloc, candidates)?);
+        let mut refusals = self.no_refusals(alloc, candidates.len())?;
+        'moves: while self.move_next(alloc, &mut circle, &mut refusals)? {}
+        Ok(())
+    }
+
     /// The single moves, until no candidate may move alone.
     pub fn move_singles(&mut self, alloc: Global, excuses: &[Excuse]) -> Result<(), NoMemory>
         ensures { OnOk result (self.new ≡ go_on self.old (λ b. rules.move_singles b.archs b.sources b.rows excuses.now)) }
     {
-        let mut circle = VecDeque::from(remaining(alloc, self.testing(), excuses)?);
-        'moves: while self.move_next(alloc, &mut circle)? {}
-        Ok(())
+        let candidates = remaining(alloc, self.testing(), excuses)?;
+        self.move_all(alloc, &candidates)
     }
 
     /// A candidate waits, where its move would break something.

@@ -1,21 +1,25 @@
 //! Decisions at their turns, each against testing as it then is.
 
-ghost use Rattle.std.specs.Prelude.{◌≡◌, [], OnOk, IfOk, map, filter};
+ghost use Rattle.std.specs.Prelude.{◌≡◌, [], false, List, OnOk, IfOk, IfSome, is_none, map, filter};
 ghost use Rattle.std.specs.List.{flat_map};
-ghost use Rattle.testing_moves.specs.Runs.{go_on, moment_of, decide_move, broken_by_move};
+ghost use Rattle.testing_live.specs.Lacks.{arriving};
+ghost use Rattle.testing_model.specs.declared.excuse.Excuse.{Excuse as AnExcuse};
+ghost use Rattle.testing_moves.specs.Refusals.{AreRefused, AreWoken};
+ghost use Rattle.testing_moves.specs.Runs.{go_on, moment_of, decide_move, broken_by_move, IsLacking};
 ghost use Rattle.testing_model.specs.Moves.{remove_source};
 ghost use Rattle.testing_model.specs.Unstable as unstable;
 ghost use Rattle.testing_model.specs.Updates as rules;
 ghost use Rattle.testing_model.specs.Updates.{decide, in_turn};
 
 use crate::live::LiveTesting;
-use deb_control::Text;
+use crate::refusals::Refusals;
+use deb_control::{Clause, Text};
 use deb_version::{NoMemory, Version};
 use std::alloc::Global;
 use std::marker::Model;
-use testing_facts::{is_in_force, is_same_version};
+use testing_facts::{Unhints, is_in_force, is_same_version};
 use testing_items::{Hint, HintItem};
-use testing_model::{Decision, HintIn, Offender, UnhintIn};
+use testing_model::{Decision, HintIn, Offender};
 use testing_suites::Testing;
 
 /// The decisions so far, and the testing that they leave.
@@ -72,6 +76,34 @@ impl<'u, 'a> Turns<'u, 'a> {
         ensures offender { IfOk result (λ o. o ≡ broken_by_move group.now (moment_of self.old)) }
     {
         self.testing.broken_by_move(alloc, group)
+    }
+
+    /// A clause for which the move of a group is refused, without a trial. Where there is none, it may be refused
+    /// nevertheless.
+    pub fn lack_by_move(&self, alloc: Global, group: &[Text]) -> Result<Option<&Clause>, NoMemory>
+        ensures lacks { IfOk result (λ found. IfSome found (λ clause. IsLacking group.now (moment_of self.now) clause.now)) }
+        ensures refused { IfOk result (λ found. IfSome found (λ clause. is_none (broken_by_move group.now (moment_of self.now)) ≡ false)) }
+    {
+        self.testing.lack_by_move(alloc, group)
+    }
+
+    /// Of so many candidates none was refused so far.
+    pub fn no_refusals(&self, alloc: Global, count: usize) -> Result<Refusals, NoMemory>
+        ensures { IfOk result (λ refusals. (excuses : List AnExcuse) → AreRefused (moment_of self.now) excuses refusals) }
+    {
+        self.testing.no_refusals(alloc, count)
+    }
+
+    /// The group moved, or is about to: who was refused for want of one of its rows is to be tried again.
+    pub fn wake_by_move(
+        &self,
+        alloc: Global,
+        group: &[Text],
+        refusals: &mut Refusals,
+    ) -> Result<(), NoMemory>
+        ensures { OnOk result (AreWoken (arriving self.now.basis.sources self.now.basis.rows group.now) refusals.old refusals.new) }
+    {
+        self.testing.wake_by_move(alloc, group, refusals)
     }
 
     /// One decision that leaves testing as it is.
@@ -178,7 +210,7 @@ impl<'u, 'a> Turns<'u, 'a> {
         &mut self,
         alloc: Global,
         hints: &[HintIn],
-        unhints: &[UnhintIn],
+        unhints: &Unhints,
     ) -> Result<(), NoMemory>
         ensures { OnOk result (self.new ≡ go_on self.old (λ b. in_turn (rules.remove_item b.archs) (flat_map rules.removals_of (filter (unstable.is_in_force unhints.now) hints.now)))) }
     {

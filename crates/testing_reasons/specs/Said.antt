@@ -5,6 +5,7 @@ use Rattle.testing_model.specs.declared.facts.BugIn.{BugIn}
 use Rattle.testing_model.specs.declared.facts.HintIn.{HintIn}
 use Rattle.testing_model.specs.declared.facts.UploadIn.{UploadIn}
 use Rattle.testing_model.specs.declared.suite.RowIn.{RowIn}
+use Rattle.testing_model.specs.Boxed.{unboxed}
 use Rattle.testing_model.specs.Excuses.{testing_version}
 use Rattle.testing_model.specs.FactLists.{FactLists}
 use Rattle.testing_model.specs.JudgedRows.{lent}
@@ -21,7 +22,7 @@ pub record SaidLists : Type 0 where
 
 -- as the code has them
 abbrev pub said_lists : Said → SaidLists
-said_lists s = record { rows = lent s.rows.items; bugs = s.bugs.now; hints = s.hints.items; testing = option_copied s.testing }
+said_lists s = record { rows = lent s.rows.items; bugs = unboxed s.bugs.now; hints = s.hints.items; testing = option_copied s.testing }
 
 -- what facts and testing say of a source: unstable's rows that name it, the states of all bugs, the hints that no unhint names, and its
 -- version in testing

@@ -1,6 +1,7 @@
 //! Which messages gave a reason that keeps a source out.
 
 ghost use Rattle.std.specs.Prelude.{◌≡◌, ◌==◌, ◌&&◌, ◌++◌, IfOk, OnOk, map, option_copied};
+ghost use Rattle.testing_model.specs.Boxed.{unboxed};
 ghost use Rattle.testing_model.specs.JudgedRows.{lent, row_of};
 ghost use Rattle.testing_reasons.specs.Origins as rules;
 ghost use Rattle.testing_reasons.specs.Origins.{origin_of};
@@ -31,12 +32,13 @@ pub enum Origin<'g, 'a> {
 
 fn push_bugs<'a>(
     origins: &mut Vec<Origin<'_, 'a>>,
-    bugs: &'a [BugIn],
+    bugs: &'a [Box<BugIn>],
     number: u32,
 ) -> Result<(), AllocError>
-    ensures { OnOk result (map origin_of origins.new.items ≡ map origin_of origins.old.items ++ rules.from_bugs number bugs.now) }
+    ensures { OnOk result (map origin_of origins.new.items ≡ map origin_of origins.old.items ++ rules.from_bugs number (unboxed bugs.now)) }
 {
-    for bug in bugs {
+    for boxed in bugs {
+        let bug: &BugIn = boxed;
         if bug.bug == number {
             origins.push(Origin::Bug(bug))?;
         }

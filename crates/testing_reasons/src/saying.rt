@@ -20,7 +20,7 @@ use testing_suites::Testing;
 #[derive(Drop)]
 pub struct Said<'a> {
     pub rows: Vec<LentRow<'a>>,
-    pub bugs: &'a [BugIn],
+    pub bugs: &'a [Box<BugIn>],
     pub hints: Vec<HintIn>,
     pub testing: Option<&'a Version>,
 }

@@ -5,3 +5,4 @@ pub mod Refusing
 pub mod Helping
 pub mod Pushing
 pub mod Moving
+pub mod Sole

@@ -5,6 +5,7 @@ use Rattle.testing_items.specs.Words.{Text}
 use Rattle.testing_model.specs.declared.excuse.Excuse.{Excuse}
 use Rattle.testing_model.specs.declared.facts.UploadIn.{UploadIn}
 use Rattle.testing_model.specs.declared.suite.RowIn.{RowIn}
+use Rattle.testing_model.specs.declared.update.Offender.{Offender}
 use Rattle.testing_model.specs.Moves.{offender_of}
 use Rattle.testing_model.specs.Suite.{Suite}
 use Rattle.testing_model.specs.Updates.{offender_alone, wait_for, waiting}
@@ -30,6 +31,10 @@ module _ (archs : List Text) (sources : List UploadIn) (unstable : List RowIn) (
   -- and so is what they break, if they break nothing
   pub allowed_alone : offender_of archs old (moved_rows sources unstable (e.source ∷ []) old) (e.source ∷ []) ≡ None → offender_alone archs sources unstable t e ≡ None
   allowed_alone h = ap (λ rows. offender_of archs rows (moved_rows sources unstable (e.source ∷ []) rows) (e.source ∷ [])) (sym same) ∙ h
+
+  -- and so is what they break
+  pub broken_alone : (o : Offender) → offender_alone archs sources unstable t e ≡ Some o → offender_of archs old (moved_rows sources unstable (e.source ∷ []) old) (e.source ∷ []) ≡ Some o
+  broken_alone o h = ap (λ rows. offender_of archs rows (moved_rows sources unstable (e.source ∷ []) rows) (e.source ∷ [])) same ∙ h
 
 -- the line of a source that waits has this offender
 pub waits_so : (archs : List Text) (sources : List UploadIn) (unstable : List RowIn) (excuses : List Excuse) (t : Suite) (e : Excuse) (text : Text)

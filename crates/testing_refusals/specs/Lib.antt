@@ -5,3 +5,4 @@ pub mod Told
 pub mod Texts
 pub mod Alone
 pub mod ToldChange
+pub mod Shown

@@ -1,6 +1,6 @@
 //! Why a source can't move alone.
 
-ghost use Rattle.std.specs.Prelude.{◌≡◌, ◌∷◌, [], None, IfOk, IfSome, IfNone};
+ghost use Rattle.std.specs.Prelude.{◌≡◌, ◌∷◌, [], Some, None, IfOk, IfSome, IfNone};
 ghost use Rattle.testing_model.specs.Boxed.{unboxed};
 ghost use Rattle.testing_model.specs.FactOrder.{AreBySource};
 ghost use Rattle.testing_model.specs.InOrder.{AreByKey};
@@ -15,6 +15,7 @@ ghost use Rattle.testing_refusals.specs.ToldChange.{IsToldChange};
 ghost use Rattle.testing_suites.specs.AfterMoves.{moved_rows};
 
 use crate::refusal::{Refusal, refused};
+use crate::shown::shown_of;
 use crate::telling::{LoneMove, refusal_text};
 use crate::told::told_lines;
 use deb_control::Text;
@@ -23,7 +24,8 @@ use std::alloc::Global;
 use testing_facts::{Facts, Unstable, built_rows};
 use testing_items::Archs;
 use testing_live::moved_rows;
-use testing_model::{Excuse, LentRow};
+use testing_model::{Excuse, LentRow, Offender};
+use testing_moves::broken_alone;
 use testing_suites::{Testing, lend_rows};
 
 /// The text of a refusal, where these were testing's rows before the change.
@@ -95,7 +97,84 @@ pub fn told_alone<'a>(
     told_move(alloc, lone, &old)
 }
 
-/// Why the source of an excuse can't move alone over testing, where unstable has the facts' sources and these rows.
+/// Why the source can't come in alone, where that breaks the offender's row and changes testing's rows from the old ones to
+/// the new ones; nothing where no steps are found without a judgement of the rows.
+fn shown_change<'a>(
+    alloc: Global,
+    lone: &LoneMove<'_, 'a>,
+    old: &[LentRow<'a>],
+    new: &[LentRow<'a>],
+    offender: Offender,
+) -> Result<Option<Text>, NoMemory>
+    requires sources { AreBySource (unboxed lone.now.unstable.sources.now) }
+    requires breaks { moves.offender_of lone.now.archs.now (lent old.now) (lent new.now) (lone.now.excuse.now.source ∷ []) ≡ Some offender }
+    ensures { IfOk result (λ told. IfSome told (λ text. IsToldChange lone.now.archs.now (unboxed lone.now.unstable.sources.now) (lent lone.now.unstable.rows.now) lone.now.excuses.now
+        (lent old.now) (lent new.now) lone.now.excuse.now.source text)) }
+{
+    let Some(refusal) = shown_of(alloc, new, offender)? else {
+        return Ok(None);
+    };
+    let text = text_of(alloc, lone, old, &refusal)?;
+    Ok(Some(text))
+}
+
+/// The same, where testing has these rows.
+fn shown_move<'a>(
+    alloc: Global,
+    lone: &LoneMove<'_, 'a>,
+    old: &[LentRow<'a>],
+    offender: Offender,
+) -> Result<Option<Text>, NoMemory>
+    requires sources { AreBySource (unboxed lone.now.unstable.sources.now) }
+    requires order { AreByKey (lent old.now) }
+    requires breaks { moves.offender_of lone.now.archs.now (lent old.now)
+        (moved_rows (unboxed lone.now.unstable.sources.now) (lent lone.now.unstable.rows.now) (lone.now.excuse.now.source ∷ []) (lent old.now)) (lone.now.excuse.now.source ∷ []) ≡ Some offender }
+    ensures { IfOk result (λ told. IfSome told (λ text. IsToldChange lone.now.archs.now (unboxed lone.now.unstable.sources.now) (lent lone.now.unstable.rows.now) lone.now.excuses.now
+        (lent old.now) (moved_rows (unboxed lone.now.unstable.sources.now) (lent lone.now.unstable.rows.now) (lone.now.excuse.now.source ∷ []) (lent old.now)) lone.now.excuse.now.source text)) }
+{
+    let new = moved_rows(alloc, old, lone.unstable, lone.group())?;
+    shown_change(alloc, lone, old, &new, offender)
+}
+
+/// Why the source of an excuse can't move alone over testing, where that breaks the offender's row; nothing where no steps
+/// are found without a judgement of the rows.
+fn shown_alone<'a>(
+    alloc: Global,
+    lone: &LoneMove<'_, 'a>,
+    testing: &'a Testing,
+    offender: Offender,
+) -> Result<Option<Text>, NoMemory>
+    requires sources { AreBySource (unboxed lone.now.unstable.sources.now) }
+    requires breaks { offender_alone lone.now.archs.now (unboxed lone.now.unstable.sources.now) (lent lone.now.unstable.rows.now) testing.now lone.now.excuse.now ≡ Some offender }
+    ensures { IfOk result (λ told. IfSome told (λ text. IsToldAlone lone.now.archs.now (unboxed lone.now.unstable.sources.now) (lent lone.now.unstable.rows.now) lone.now.excuses.now
+        testing.now lone.now.excuse.now text)) }
+{
+    let old = lend_rows(alloc, testing.rows())?;
+    shown_move(alloc, lone, &old, offender)
+}
+
+/// Why the source of an excuse can't move alone over testing, where that breaks the offender's row. The rows are judged
+/// anew only where no steps are found without that.
+fn told_of_offender<'a>(
+    alloc: Global,
+    lone: &LoneMove<'_, 'a>,
+    testing: &'a Testing,
+    offender: Offender,
+) -> Result<Option<Text>, NoMemory>
+    requires sources { AreBySource (unboxed lone.now.unstable.sources.now) }
+    requires breaks { offender_alone lone.now.archs.now (unboxed lone.now.unstable.sources.now) (lent lone.now.unstable.rows.now) testing.now lone.now.excuse.now ≡ Some offender }
+    ensures some { IfOk result (λ told. IfSome told (λ text. IsToldAlone lone.now.archs.now (unboxed lone.now.unstable.sources.now) (lent lone.now.unstable.rows.now) lone.now.excuses.now
+        testing.now lone.now.excuse.now text)) }
+    ensures none { IfOk result (λ told. IfNone told (offender_alone lone.now.archs.now (unboxed lone.now.unstable.sources.now) (lent lone.now.unstable.rows.now) testing.now lone.now.excuse.now ≡ None)) }
+{
+    if let Some(text) = shown_alone(alloc, lone, testing, offender)? {
+        return Ok(Some(text));
+    }
+    told_alone(alloc, lone, testing)
+}
+
+/// Why the source of an excuse can't move alone over testing, where that breaks the offender's row and unstable has the
+/// facts' sources and these rows.
 fn told_over<'a>(
     alloc: Global,
     archs: &Archs,
@@ -104,7 +183,9 @@ fn told_over<'a>(
     excuses: &[Excuse],
     excuse: &Excuse,
     testing: &'a Testing,
+    offender: Offender,
 ) -> Result<Option<Text>, NoMemory>
+    requires { offender_alone archs.now facts.now.sources (lent rows.now) testing.now excuse.now ≡ Some offender }
     ensures some { IfOk result (λ told. IfSome told (λ text. IsToldAlone archs.now facts.now.sources (lent rows.now) excuses.now testing.now excuse.now text)) }
     ensures none { IfOk result (λ told. IfNone told (offender_alone archs.now facts.now.sources (lent rows.now) testing.now excuse.now ≡ None)) }
 {
@@ -118,23 +199,92 @@ fn told_over<'a>(
         excuses,
         excuse,
     };
-    told_alone(alloc, &lone, testing)
+    told_of_offender(alloc, &lone, testing, offender)
+}
+
+/// What moving the source of an excuse alone over testing would break, where unstable has the facts' sources and these
+/// rows.
+fn broken_over(
+    alloc: Global,
+    archs: &Archs,
+    facts: &Facts,
+    rows: &[LentRow<'_>],
+    excuse: &Excuse,
+    testing: &mut Testing,
+) -> Result<Option<Offender>, NoMemory>
+    requires { AreByKey (lent rows.now) }
+    ensures same { testing.new ≡ testing.old }
+    ensures offender { IfOk result (λ o. o ≡ offender_alone archs.now facts.now.sources (lent rows.now) testing.old excuse.now) }
+{
+    let unstable = Unstable {
+        sources: facts.sources(),
+        rows,
+    };
+    broken_alone(alloc, archs, unstable, excuse, testing)
+}
+
+/// Why the source of an excuse can't move alone over testing, where that breaks the offender's row and the rows are built
+/// of the facts.
+fn told_beside<'f>(
+    alloc: Global,
+    archs: &Archs,
+    facts: &'f Facts,
+    rows: &[LentRow<'f>],
+    excuses: &[Excuse],
+    excuse: &Excuse,
+    testing: &Testing,
+    offender: Offender,
+) -> Result<Option<Text>, NoMemory>
+    requires { offender_alone archs.now facts.now.sources (lent rows.now) testing.now excuse.now ≡ Some offender }
+    ensures some { IfOk result (λ told. IfSome told (λ text. IsToldAlone archs.now facts.now.sources (lent rows.now) excuses.now testing.now excuse.now text)) }
+    ensures none { IfOk result (λ told. IfNone told (offender_alone archs.now facts.now.sources (lent rows.now) testing.now excuse.now ≡ None)) }
+{
+    told_over(
+        alloc, archs, facts, rows, excuses, excuse, testing, offender,
+    )
+}
+
+/// Why the source of an excuse can't move alone over testing, where unstable has the facts' sources and these rows.
+fn told_by_suites<'f>(
+    alloc: Global,
+    archs: &Archs,
+    facts: &'f Facts,
+    rows: &[LentRow<'f>],
+    excuses: &[Excuse],
+    excuse: &Excuse,
+    testing: &mut Testing,
+) -> Result<Option<Text>, NoMemory>
+    requires { AreByKey (lent rows.now) }
+    ensures same { testing.new ≡ testing.old }
+    ensures some { IfOk result (λ told. IfSome told (λ text. IsToldAlone archs.now facts.now.sources (lent rows.now) excuses.now testing.old excuse.now text)) }
+    ensures none { IfOk result (λ told. IfNone told (offender_alone archs.now facts.now.sources (lent rows.now) testing.old excuse.now ≡ None)) }
+{
+    let Some(offender) = broken_over(alloc, archs, facts, rows, excuse, testing)? else {
+        return Ok(None);
+    };
+    told_beside(
+        alloc, archs, facts, rows, excuses, excuse, testing, offender,
+    )
 }
 
 /// Why the source of an excuse waits, in lines: what moving it alone over testing would break, by the facts and the excuses
 /// of a run. There is nothing exactly where that breaks nothing. Over the testing that the run left, the offender is that
-/// of the run's line on a source that waits. The one error is want of memory.
+/// of the run's line on a source that waits. Testing stays as it is, and keeps the suites for the next call or run. Where
+/// it has them, and the excuse makes its source a candidate, it costs a few looks at each row of testing and of unstable, and
+/// what the move and the offender's clauses touch; else one judgement of all rows more. Where two rows of the offender's
+/// name stand on its architecture, that is judged anew, as `told_alone` does. The one error is want of memory.
 pub fn why_waits(
     alloc: Global,
     archs: &Archs,
     facts: &Facts,
     excuses: &[Excuse],
     excuse: &Excuse,
-    testing: &Testing,
+    testing: &mut Testing,
 ) -> Result<Option<Text>, NoMemory>
-    ensures some { IfOk result (λ told. IfSome told (λ text. IsToldAlone archs.now facts.now.sources (built_rows archs.now facts.now.rows) excuses.now testing.now excuse.now text)) }
-    ensures none { IfOk result (λ told. IfNone told (offender_alone archs.now facts.now.sources (built_rows archs.now facts.now.rows) testing.now excuse.now ≡ None)) }
+    ensures same { testing.new ≡ testing.old }
+    ensures some { IfOk result (λ told. IfSome told (λ text. IsToldAlone archs.now facts.now.sources (built_rows archs.now facts.now.rows) excuses.now testing.old excuse.now text)) }
+    ensures none { IfOk result (λ told. IfNone told (offender_alone archs.now facts.now.sources (built_rows archs.now facts.now.rows) testing.old excuse.now ≡ None)) }
 {
     let rows = built_rows(alloc, archs, facts.rows())?;
-    told_over(alloc, archs, facts, &rows, excuses, excuse, testing)
+    told_by_suites(alloc, archs, facts, &rows, excuses, excuse, testing)
 }

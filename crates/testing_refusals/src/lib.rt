@@ -8,7 +8,9 @@ mod judged;
 pub mod laws;
 mod lines;
 mod needs;
+mod reach;
 mod refusal;
+mod shown;
 mod telling;
 mod told;
 

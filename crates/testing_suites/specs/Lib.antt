@@ -1,4 +1,5 @@
 pub mod CarriedOver
+pub mod Standing
 pub use Rattle.testing_pool.specs.AfterMoves
 pub use Rattle.testing_pool.specs.ArchRows
 pub use Rattle.testing_pool.specs.Changes

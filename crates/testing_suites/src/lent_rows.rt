@@ -16,7 +16,7 @@ use testing_model::{LentRow, RowIn};
 use testing_pool::Pool;
 
 /// The order of rows, by architecture and name.
-fn order_rows(row: &LentRow, other: &LentRow) -> Ordering
+pub fn order_rows(row: &LentRow, other: &LentRow) -> Ordering
     ensures { result ≡ rules.row_cmp (rules.row_key (row_of row.now)) (rules.row_key (row_of other.now)) }
 {
     let names = row.binary.name.as_str().cmp(other.binary.name.as_str());

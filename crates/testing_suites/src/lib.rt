@@ -3,6 +3,7 @@
 
 mod carried_suites;
 mod lent_rows;
+mod standing;
 mod suite;
 
 pub use carried_suites::CarriedSuites;

@@ -9,6 +9,7 @@ ghost use Rattle.testing_model.specs.Places.{IsPlaceFor};
 ghost use Rattle.testing_items.specs.Words.{byte_cmp};
 
 use crate::carried_suites::CarriedSuites;
+use crate::standing::over_rows;
 use deb_version::NoMemory;
 use std::alloc::{AllocError, Global};
 use std::cmp::Ordering;
@@ -284,6 +285,16 @@ impl Testing {
         ensures kept { AreCarriedOver result self.old.rows }
     {
         self.kept.take()
+    }
+
+    /// Keeps suites of its rows, made of these, of which other rows may stand: those that it had before a run, of the ones
+    /// that the run left. NoMemory where memory runs out.
+    pub fn keep_suites(&mut self, suites: CarriedSuites) -> Result<(), NoMemory>
+        ensures { self.new ≡ self.old }
+    {
+        let kept = over_rows(self.alloc, suites, self.rows())?;
+        self.kept = Some(kept);
+        Ok(())
     }
 
     /// The empty suite.

@@ -7,3 +7,4 @@ pub mod Picking
 pub mod Naming
 pub mod Reaching
 pub mod Showing
+pub mod Checked

@@ -1,5 +1,5 @@
 -- What an order shows of one row.
-use Rattle.std.specs.Prelude.{◌≡◌, ℕ, Bool, List, [], ◌∷◌, ◌++◌}
+use Rattle.std.specs.Prelude.{◌≡◌, ℕ, Bool, true, List, [], ◌∷◌, ◌++◌}
 use Rattle.deb_control.specs.declared.binary.Binary.{Binary}
 use Rattle.testing_why.specs.declared.Step.{Step}
 use Rattle.testing_why.specs.Order.{IsGroundless}
@@ -17,3 +17,7 @@ pub record IsShownBy (rows : List Binary) (there : ℕ → Bool) (place : ℕ) (
   pub ends : steps ≡ front ++ last ∷ []
   pub same : last.place ≡ place
   pub groundless : IsGroundless rows there steps
+
+-- each row is there
+abbrev pub everywhere : ℕ → Bool
+everywhere place = true

@@ -6,3 +6,4 @@ pub mod Bearers
 pub mod Certificate
 pub mod Needed
 pub mod Reaching
+pub mod Checking

@@ -6,6 +6,7 @@
 #![tactic(auto)]
 
 mod chain;
+mod checking;
 pub mod laws;
 mod needed;
 mod order;
@@ -13,6 +14,7 @@ mod reached;
 mod shown;
 
 pub use chain::{chain_from, clause_of, row_of};
+pub use checking::is_shown;
 pub use needed::certificate_of;
 pub use order::order_over;
 pub use shown::certificate;

@@ -1,23 +1,35 @@
-//! A reader and a writer that take a byte a call, and fail at one of the calls.
+//! A reader and a writer that give or take a few bytes a call, and fail at one of the calls, if it comes to that.
 
+use std::alloc::Global;
 use std::io;
 use std::io::{Read, Write};
 
-/// Gives a byte a call, and fails at one of the calls.
+/// Gives so many bytes a call at most, and fails at one of the calls.
 #[derive(Drop)]
 pub struct Broken<'a> {
     pub bytes: &'a [u8],
+    pub most: usize,
     pub calls: u32,
     pub fails_at: u32,
 }
 
-impl<'a> Read for Broken<'a> {
+/// A reader that doesn't fail.
+pub fn whole_reader(bytes: &[u8]) -> Broken<'_> {
+    Broken {
+        bytes,
+        most: usize::MAX,
+        calls: 0,
+        fails_at: 0,
+    }
+}
+
+impl Read for Broken<'_> {
     fn read(&mut self, buf: &mut [u8]) -> io::Result<usize> {
         self.calls = self.calls.saturating_add(1);
         if self.calls == self.fails_at {
             return Err(io::ErrorKind::Other.into());
         }
-        let count = self.bytes.len().min(1).min(buf.len());
+        let count = self.bytes.len().min(self.most).min(buf.len());
         let (given, later) = self.bytes.split_at(count);
         buf[..count].copy_from_slice(given);
         self.bytes = later;
@@ -25,12 +37,23 @@ impl<'a> Read for Broken<'a> {
     }
 }
 
-/// Takes a byte a call, and fails at one of the calls.
+/// Takes so many bytes a call at most, and fails at one of the calls.
 #[derive(Drop)]
 pub struct Halting {
     pub taken: Vec<u8>,
+    pub most: usize,
     pub calls: u32,
     pub fails_at: u32,
+}
+
+/// A writer that doesn't fail.
+pub fn whole_writer(alloc: Global) -> Halting {
+    Halting {
+        taken: Vec::new(alloc),
+        most: usize::MAX,
+        calls: 0,
+        fails_at: 0,
+    }
 }
 
 impl Write for Halting {
@@ -39,7 +62,7 @@ impl Write for Halting {
         if self.calls == self.fails_at {
             return Err(io::ErrorKind::Other.into());
         }
-        let count = bytes.len().min(1);
+        let count = bytes.len().min(self.most);
         if self.taken.extend_from_slice(&bytes[..count]).is_err() {
             return Err(io::ErrorKind::OutOfMemory.into());
         }

@@ -4,11 +4,10 @@ ghost use Rattle.office_keeper.specs.MemoryState.{content_of};
 
 use crate::office_over::REOPEN;
 use crate::sitting::{setup_in, sit};
-use deb_version::NoMemory;
 use office_http::Office;
 use office_mail::Setup;
 use office_store::{Finished, KeepFault, Keeper, Letter, MailText, Plain, Reports};
-use std::alloc::Global;
+use std::alloc::{AllocError, Global};
 use testing_model::FactRows;
 use testing_suites::Testing;
 
@@ -110,41 +109,87 @@ impl Keeper for Noting {
     }
 }
 
-/// What comes of a row in an office in memory, which is made anew over its store where the row says so; and then, of each
-/// sender that was asked for on the way to the end of the last run, the least number.
-pub fn in_noting(alloc: Global, row: &str) -> Result<Vec<u8>, NoMemory> {
-    let mut came = Vec::new(alloc);
-    let Ok(setup) = Setup::parse(alloc, setup_in(row).as_bytes()) else {
-        return Err(NoMemory);
-    };
-    let noting = Noting {
-        plain: Plain::new(alloc, &setup)?,
-        now: NOTHING,
-        before: NOTHING,
-    };
-    let mut office = Office::new(alloc, setup, noting);
-    for sitting in row.split(REOPEN) {
-        office = made_anew(alloc, office)?;
-        sit(alloc, &mut office, sitting, &mut came)?;
+/// Adds what comes of a row in an office in memory, which is made anew over its store where the row says so; and then,
+/// of each sender that was asked for on the way to the end of the last run, the least number.
+pub fn put_in_noting(alloc: Global, row: &str, came: &mut String) -> Result<(), AllocError> {
+    match Setup::parse(alloc, setup_in(row).as_bytes()) {
+        Ok(setup) => put_over_noting(alloc, setup, row, came),
+        Err(_) => Err(AllocError),
     }
-    let notes = office.into_keeper().before;
-    put_least(alloc, "counted", &notes.counted, &mut came)?;
-    put_least(alloc, "asked", &notes.asked, &mut came)?;
-    Ok(came)
 }
 
-/// An office that knows nothing yet, over the store of another.
-fn made_anew(alloc: Global, office: Office<Noting>) -> Result<Office<Noting>, NoMemory> {
-    let setup = office.setup().copy(alloc)?;
-    Ok(Office::new(alloc, setup, office.into_keeper()))
+/// The same with a setup.
+fn put_over_noting(
+    alloc: Global,
+    setup: Setup,
+    row: &str,
+    came: &mut String,
+) -> Result<(), AllocError> {
+    match Plain::new(alloc, &setup) {
+        Ok(plain) => {
+            let noting = Noting {
+                plain,
+                now: NOTHING,
+                before: NOTHING,
+            };
+            let (noting, sat) = sit_in_turn(alloc, Office::new(alloc, setup, noting), row, came);
+            let told = put_notes(&noting.before, came);
+            drop(noting);
+            sat.and(told)
+        }
+        Err(_) => {
+            drop(setup);
+            Err(AllocError)
+        }
+    }
+}
+
+/// Takes the steps of each sitting in an office that knows nothing yet, each over the store of the one before. The last
+/// one's store is given back.
+fn sit_in_turn<K: Keeper>(
+    alloc: Global,
+    office: Office<K>,
+    row: &str,
+    came: &mut String,
+) -> (K, Result<(), AllocError>) {
+    let mut office = office;
+    let mut all = Ok(());
+    for sitting in row.split(REOPEN) {
+        let (anew, sat) = sit_anew(alloc, office, sitting, came);
+        office = anew;
+        all = all.and(sat);
+    }
+    (office.into_keeper(), all)
+}
+
+/// Takes a sitting's steps in an office that knows nothing yet, over the store of another.
+fn sit_anew<K: Keeper>(
+    alloc: Global,
+    office: Office<K>,
+    sitting: &str,
+    came: &mut String,
+) -> (Office<K>, Result<(), AllocError>) {
+    match office.setup().copy(alloc) {
+        Ok(setup) => {
+            let mut anew = Office::new(alloc, setup, office.into_keeper());
+            let sat = sit(alloc, &mut anew, sitting, came);
+            (anew, sat)
+        }
+        Err(_) => (office, Err(AllocError)),
+    }
+}
+
+/// Adds the least number of each sender that was asked for.
+fn put_notes(notes: &Notes, came: &mut String) -> Result<(), AllocError> {
+    put_least("counted", &notes.counted, came)?;
+    put_least("asked", &notes.asked, came)
 }
 
 /// Adds the least number of each sender, by its place, behind a word.
-fn put_least(alloc: Global, word: &str, least: &Least, came: &mut Vec<u8>) -> Result<(), NoMemory> {
+fn put_least(word: &str, least: &Least, came: &mut String) -> Result<(), AllocError> {
     for (sender, number) in least.iter().enumerate() {
         if *number < u32::MAX {
-            let line = format!(in alloc; "{word} sender {sender} from {number}\n")?;
-            came.extend_from_slice(line.as_bytes())?;
+            write!(came, "{word} sender {sender} from {number}\n")?;
         }
     }
     Ok(())

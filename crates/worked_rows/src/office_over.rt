@@ -4,12 +4,11 @@ ghost use Rattle.std.specs.Prelude.{◌≡◌};
 use crate::checking::check_in;
 use crate::sitting::{setup_in, sit, tells_check, tells_facts};
 use crate::steps::facts_in;
-use deb_version::NoMemory;
 use office_http::Office;
 use office_mail::{Setup, SetupFault};
-use office_store::{Keeper, Plain, Tables};
-use sqlite::{Alter, Connection};
-use std::alloc::Global;
+use office_store::{Keeper, OpenFault, Plain, Tables};
+use sqlite::{Alter, Connection, Error};
+use std::alloc::{AllocError, Global};
 
 /// What parts the sittings of a row.
 pub const REOPEN: &str = "\n> reopen";
@@ -17,89 +16,146 @@ pub const REOPEN: &str = "\n> reopen";
 /// What begins a statement of SQL, by which tables are changed before they are opened.
 const STATEMENT: &str = "\n> sql ";
 
-/// What comes of a row in one office in memory, which stands from its first step to its last.
-pub fn in_memory(alloc: Global, row: &str) -> Result<Vec<u8>, NoMemory> {
-    let mut came = Vec::new(alloc);
+/// Adds what comes of a row in one office in memory, which stands from its first step to its last.
+pub fn put_in_memory(alloc: Global, row: &str, came: &mut String) -> Result<(), AllocError> {
     let first = row.split(REOPEN).next().unwrap_or(row);
-    let setup = match Setup::parse(alloc, setup_in(first).as_bytes()) {
-        Ok(setup) => setup,
-        Err(fault) => {
-            put_refused(alloc, fault, &mut came)?;
-            return Ok(came);
+    match Setup::parse(alloc, setup_in(first).as_bytes()) {
+        Ok(setup) => put_over_plain(alloc, setup, row, came),
+        Err(fault) => put_refused(fault, came),
+    }
+}
+
+/// The same with a setup.
+fn put_over_plain(
+    alloc: Global,
+    setup: Setup,
+    row: &str,
+    came: &mut String,
+) -> Result<(), AllocError> {
+    match Plain::new(alloc, &setup) {
+        Ok(plain) => {
+            let (plain, sat) = sit_in(alloc, setup, plain, row, came);
+            drop(plain);
+            sat
         }
-    };
-    let plain = Plain::new(alloc, &setup)?;
-    let mut office = Office::new(alloc, setup, plain);
-    for sitting in row.split(REOPEN) {
-        sit(alloc, &mut office, sitting, &mut came)?;
+        Err(_) => {
+            drop(setup);
+            Err(AllocError)
+        }
     }
-    let (_plain, told) = told_over(alloc, office, row, &mut came);
-    told?;
-    Ok(came)
 }
 
-/// What comes of a row over tables, which each sitting opens again.
-pub fn in_tables(alloc: Global, row: &str) -> Result<Vec<u8>, NoMemory> {
-    let mut came = Vec::new(alloc);
-    let Ok(mut conn) = Connection::open_in_memory(alloc) else {
-        return Err(NoMemory);
-    };
-    for sitting in row.split(REOPEN) {
-        conn = changed_in(alloc, conn, sitting, &mut came)?;
-        conn = sit_over(alloc, conn, sitting, &mut came)?;
-    }
-    drop(conn);
-    Ok(came)
+/// Takes the steps of each sitting in an office over a store, which is given back.
+fn sit_in<K: Keeper>(
+    alloc: Global,
+    setup: Setup,
+    keeper: K,
+    sittings: &str,
+    came: &mut String,
+) -> (K, Result<(), AllocError>)
+    requires { K.setup keeper ≡ setup }
+{
+    let mut office = Office::new(alloc, setup, keeper);
+    let sat = sit_each(alloc, &mut office, sittings, came);
+    let (keeper, told) = told_over(alloc, office, sittings, came);
+    (keeper, sat.and(told))
 }
 
-/// The connection after a sitting's statements. One that fails is told.
-fn changed_in<S: Alter + Drop>(
+/// Takes the steps of each sitting in an office.
+fn sit_each<K: Keeper>(
+    alloc: Global,
+    office: &mut Office<K>,
+    sittings: &str,
+    came: &mut String,
+) -> Result<(), AllocError> {
+    for sitting in sittings.split(REOPEN) {
+        sit(alloc, office, sitting, came)?;
+    }
+    Ok(())
+}
+
+/// Adds what comes of a row over tables, which each sitting opens again.
+pub fn put_in_tables(alloc: Global, row: &str, came: &mut String) -> Result<(), AllocError> {
+    match Connection::open_in_memory(alloc) {
+        Ok(conn) => put_over_tables(alloc, conn, row, came),
+        Err(_) => Err(AllocError),
+    }
+}
+
+/// The same over a connection.
+fn put_over_tables<S: Alter + Drop>(
     alloc: Global,
     conn: Connection<S>,
-    sitting: &str,
-    came: &mut Vec<u8>,
-) -> Result<Connection<S>, NoMemory> {
+    row: &str,
+    came: &mut String,
+) -> Result<(), AllocError> {
     let mut conn = conn;
+    let mut all = Ok(());
+    for sitting in row.split(REOPEN) {
+        let changed = change_all(&mut conn, sitting, came);
+        let (left, sat) = sit_over(alloc, conn, sitting, came);
+        conn = left;
+        all = all.and(changed).and(sat);
+    }
+    drop(conn);
+    all
+}
+
+/// Takes a sitting's statements.
+fn change_all<S: Alter>(
+    conn: &mut Connection<S>,
+    sitting: &str,
+    came: &mut String,
+) -> Result<(), AllocError> {
     let mut parts = sitting.split(STATEMENT);
     let _before = parts.next();
     for part in parts {
-        let statement = part.lines().next().unwrap_or("");
-        if let Err(error) = conn.execute(statement, &[]) {
-            let line = format!(in alloc; "statement failed: {error:?}\n")?;
-            came.extend_from_slice(line.as_bytes())?;
-        }
+        change(conn, part.lines().next().unwrap_or(""), came)?;
     }
-    Ok(conn)
+    Ok(())
 }
 
-/// A sitting over tables, which are closed behind it.
+/// Takes a statement. One that fails is told.
+fn change<S: Alter>(
+    conn: &mut Connection<S>,
+    statement: &str,
+    came: &mut String,
+) -> Result<(), AllocError> {
+    match conn.execute(statement, &[]) {
+        Ok(_) => Ok(()),
+        Err(error) => put_failed(error, came),
+    }
+}
+
+/// Takes a sitting's steps over tables, which are closed behind it.
 fn sit_over<S: Alter + Drop>(
     alloc: Global,
     conn: Connection<S>,
     sitting: &str,
-    came: &mut Vec<u8>,
-) -> Result<Connection<S>, NoMemory> {
-    let setup = match Setup::parse(alloc, setup_in(sitting).as_bytes()) {
-        Ok(setup) => setup,
-        Err(fault) => {
-            put_refused(alloc, fault, came)?;
-            return Ok(conn);
-        }
-    };
+    came: &mut String,
+) -> (Connection<S>, Result<(), AllocError>) {
+    match Setup::parse(alloc, setup_in(sitting).as_bytes()) {
+        Ok(setup) => sit_with(alloc, setup, conn, sitting, came),
+        Err(fault) => (conn, put_refused(fault, came)),
+    }
+}
+
+/// The same with a setup.
+fn sit_with<S: Alter + Drop>(
+    alloc: Global,
+    setup: Setup,
+    conn: Connection<S>,
+    sitting: &str,
+    came: &mut String,
+) -> (Connection<S>, Result<(), AllocError>) {
     match Tables::open(alloc, conn, &setup) {
         Ok(tables) => {
-            let mut office = Office::new(alloc, setup, tables);
-            let sat = sit(alloc, &mut office, sitting, came);
-            let (tables, told) = told_over(alloc, office, sitting, came);
-            let conn = tables.into_connection();
-            sat?;
-            told?;
-            Ok(conn)
+            let (tables, sat) = sit_in(alloc, setup, tables, sitting, came);
+            (tables.into_connection(), sat)
         }
         Err((fault, conn)) => {
-            let line = format!(in alloc; "store refused: {fault:?}\n")?;
-            came.extend_from_slice(line.as_bytes())?;
-            Ok(conn)
+            drop(setup);
+            (conn, put_unopened(fault, came))
         }
     }
 }
@@ -109,13 +165,13 @@ fn told_over<K: Keeper>(
     alloc: Global,
     office: Office<K>,
     steps: &str,
-    came: &mut Vec<u8>,
-) -> (K, Result<(), NoMemory>) {
+    came: &mut String,
+) -> (K, Result<(), AllocError>) {
     let copied = office.setup().copy(alloc);
     let mut keeper = office.into_keeper();
     let told = match copied {
         Ok(setup) => told_in(alloc, &setup, &mut keeper, steps, came),
-        Err(fault) => Err(fault),
+        Err(_) => Err(AllocError),
     };
     (keeper, told)
 }
@@ -126,22 +182,30 @@ fn told_in<K: Keeper>(
     setup: &Setup,
     keeper: &mut K,
     steps: &str,
-    came: &mut Vec<u8>,
-) -> Result<(), NoMemory>
+    came: &mut String,
+) -> Result<(), AllocError>
     requires { K.setup keeper.old ≡ setup.now }
 {
     if tells_check(steps) {
         check_in(alloc, setup, keeper, came)
     } else if tells_facts(steps) {
-        facts_in(alloc, keeper, came)
+        facts_in(keeper, came)
     } else {
         Ok(())
     }
 }
 
+/// Adds why a statement failed.
+fn put_failed(error: Error, came: &mut String) -> Result<(), AllocError> {
+    write!(came, "statement failed: {error:?}\n")
+}
+
 /// Adds why a setup is refused.
-fn put_refused(alloc: Global, fault: SetupFault, came: &mut Vec<u8>) -> Result<(), NoMemory> {
-    let line = format!(in alloc; "setup refused: {fault:?}\n")?;
-    came.extend_from_slice(line.as_bytes())?;
-    Ok(())
+fn put_refused(fault: SetupFault, came: &mut String) -> Result<(), AllocError> {
+    write!(came, "setup refused: {fault:?}\n")
+}
+
+/// Adds why tables aren't opened.
+fn put_unopened(fault: OpenFault, came: &mut String) -> Result<(), AllocError> {
+    write!(came, "store refused: {fault:?}\n")
 }

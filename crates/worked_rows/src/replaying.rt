@@ -1,25 +1,44 @@
 //! Replays: of a bag, and where a read or a write fails.
 
-use crate::failing::{Broken, Halting};
-use deb_version::NoMemory;
-use office_http::{Office, Replayed, WriteFault, replay, replay_status};
+use crate::bytes::text_in;
+use crate::failing::{Broken, Halting, whole_reader, whole_writer};
+use office_http::{Office, replay, replay_status};
 use office_mail::{Bag, FromRead, ToWrite};
 use office_store::Keeper;
-use std::alloc::Global;
+use std::alloc::{AllocError, Global};
+
+/// Replays the bag that a reader gives, to a writer. What is returned is the exit status.
+fn replay_by<K: Keeper>(
+    alloc: Global,
+    office: &mut Office<K>,
+    reader: &mut Broken,
+    writer: &mut Halting,
+) -> u8 {
+    let mut bag = Bag::new(alloc, FromRead::new(reader));
+    let replayed = replay(office, &mut bag, &mut ToWrite::new(writer));
+    replay_status(&replayed)
+}
+
+/// Replays the bag that a reader gives, and adds all that is printed, and the exit status.
+fn replay_from<K: Keeper>(
+    alloc: Global,
+    office: &mut Office<K>,
+    reader: &mut Broken,
+    came: &mut String,
+) -> Result<(), AllocError> {
+    let mut writer = whole_writer(alloc);
+    let status = replay_by(alloc, office, reader, &mut writer);
+    put_output(&writer.taken, status, came)
+}
 
 /// Replays a bag, and adds all that is printed, and the exit status.
 pub fn replay_in<K: Keeper>(
     alloc: Global,
     office: &mut Office<K>,
     bytes: &[u8],
-    came: &mut Vec<u8>,
-) -> Result<(), NoMemory> {
-    let mut output = Vec::new(alloc);
-    let mut writer = ToWrite::new(&mut output);
-    let mut bag = Bag::new(alloc, FromRead::new(bytes));
-    let replayed = replay(office, &mut bag, &mut writer);
-    came.extend_from_slice(&output)?;
-    put_status(alloc, came, &replayed)
+    came: &mut String,
+) -> Result<(), AllocError> {
+    replay_from(alloc, office, &mut whole_reader(bytes), came)
 }
 
 /// The same from a reader that gives a byte a call, and fails at one of the calls.
@@ -28,19 +47,15 @@ pub fn replay_broken<K: Keeper>(
     office: &mut Office<K>,
     fails_at: u32,
     bytes: &[u8],
-    came: &mut Vec<u8>,
-) -> Result<(), NoMemory> {
-    let reader = Broken {
+    came: &mut String,
+) -> Result<(), AllocError> {
+    let mut reader = Broken {
         bytes,
+        most: 1,
         calls: 0,
         fails_at,
     };
-    let mut output = Vec::new(alloc);
-    let mut writer = ToWrite::new(&mut output);
-    let mut bag = Bag::new(alloc, FromRead::new(reader));
-    let replayed = replay(office, &mut bag, &mut writer);
-    came.extend_from_slice(&output)?;
-    put_status(alloc, came, &replayed)
+    replay_from(alloc, office, &mut reader, came)
 }
 
 /// The same to a writer that takes a byte a call, and fails at one of the calls. Before what is printed it adds how
@@ -50,31 +65,29 @@ pub fn replay_halting<K: Keeper>(
     office: &mut Office<K>,
     fails_at: u32,
     bytes: &[u8],
-    came: &mut Vec<u8>,
-) -> Result<(), NoMemory> {
+    came: &mut String,
+) -> Result<(), AllocError> {
     let mut writer = Halting {
         taken: Vec::new(alloc),
+        most: 1,
         calls: 0,
         fails_at,
     };
-    let mut sink = ToWrite::new(&mut writer);
-    let mut bag = Bag::new(alloc, FromRead::new(bytes));
-    let replayed = replay(office, &mut bag, &mut sink);
-    drop(sink);
-    let line = format!(in alloc; "output of {} bytes\n", writer.taken.len())?;
-    came.extend_from_slice(line.as_bytes())?;
-    came.extend_from_slice(&writer.taken)?;
-    came.push(b'\n')?;
-    put_status(alloc, came, &replayed)
+    let status = replay_by(alloc, office, &mut whole_reader(bytes), &mut writer);
+    put_halted(&writer.taken, status, came)
 }
 
-/// Adds the exit status of a replay.
-fn put_status(
-    alloc: Global,
-    came: &mut Vec<u8>,
-    replayed: &Result<Replayed, WriteFault>,
-) -> Result<(), NoMemory> {
-    let line = format!(in alloc; "status {}\n", replay_status(replayed))?;
-    came.extend_from_slice(line.as_bytes())?;
-    Ok(())
+/// Adds what is printed, and the exit status.
+fn put_output(taken: &[u8], status: u8, came: &mut String) -> Result<(), AllocError> {
+    write!(came, "{}status {status}\n", text_in(taken))
+}
+
+/// Adds how many bytes are printed, these, and the exit status.
+fn put_halted(taken: &[u8], status: u8, came: &mut String) -> Result<(), AllocError> {
+    write!(
+        came,
+        "output of {} bytes\n{}\nstatus {status}\n",
+        taken.len(),
+        text_in(taken)
+    )
 }

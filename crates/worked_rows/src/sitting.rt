@@ -1,14 +1,12 @@
 //! What an office does between two openings of its store.
 
 use crate::asking::{export_in, list_in};
-use crate::bytes::{bag_of, plain_bytes, request_of, text_of};
-use crate::chains::chain_of;
+use crate::bytes::{plain_bytes, put_text};
 use crate::replaying::{replay_broken, replay_halting, replay_in};
 use crate::steps::{deliver_in, serve_in, settle_in, status_in};
-use deb_version::NoMemory;
 use office_http::Office;
 use office_store::Keeper;
-use std::alloc::Global;
+use std::alloc::{AllocError, Global};
 
 /// The setup of a row that gives none.
 const SETUP: &str = "Architectures: amd64 arm64
@@ -45,47 +43,78 @@ pub fn sit<K: Keeper>(
     alloc: Global,
     office: &mut Office<K>,
     sitting: &str,
-    came: &mut Vec<u8>,
-) -> Result<(), NoMemory> {
+    came: &mut String,
+) -> Result<(), AllocError> {
     let mut steps = sitting.split("\n> ");
     let _about = steps.next();
     for step in steps {
-        let (what, text) = step.split_once('\n').unwrap_or((step, ""));
-        take(alloc, office, what, text, came)?;
+        let (head, lines) = step.split_once('\n').unwrap_or((step, ""));
+        let (what, more) = head.split_once(' ').unwrap_or((head, ""));
+        take(alloc, office, what, more, lines, came)?;
     }
     Ok(())
 }
 
-/// Takes one step: mail or a request. What is told before an opening or behind the last step is none.
+/// Takes one step, by its first word, what stands behind that, and the lines below.
 fn take<K: Keeper>(
     alloc: Global,
     office: &mut Office<K>,
     what: &str,
-    text: &str,
-    came: &mut Vec<u8>,
-) -> Result<(), NoMemory> {
-    if what == "bag" {
-        replay_in(alloc, office, &bag_of(alloc, text)?, came)
-    } else if what == "bytes" {
-        replay_in(alloc, office, &plain_bytes(alloc, text)?, came)
-    } else if what == "request" {
-        serve_in(alloc, office, &plain_bytes(alloc, text)?, came)
-    } else if let Some(what) = what.strip_prefix("http ") {
-        serve_in(alloc, office, &request_of(alloc, what, text)?, came)
-    } else if is_told(what) {
-        Ok(())
-    } else {
-        take_call(alloc, office, what, text, came)
+    more: &str,
+    lines: &str,
+    came: &mut String,
+) -> Result<(), AllocError> {
+    if what == "bytes" || what == "request" {
+        let bytes = plain_bytes(alloc, lines)?;
+        return take_with(alloc, office, what, more, &bytes, came);
+    }
+    let mut text = String::new(alloc);
+    put_text(alloc, what, more, lines, &mut text)?;
+    take_with(alloc, office, what, more, text.as_bytes(), came)
+}
+
+/// Takes one step, by the bytes that it stands for: mail or a request.
+fn take_with<K: Keeper>(
+    alloc: Global,
+    office: &mut Office<K>,
+    what: &str,
+    more: &str,
+    bytes: &[u8],
+    came: &mut String,
+) -> Result<(), AllocError> {
+    match what {
+        "bag" | "bytes" | "chain" => replay_in(alloc, office, bytes, came),
+        "request" | "http" => serve_in(alloc, office, bytes, came),
+        "fail-read" => replay_broken(alloc, office, more.parse().unwrap_or(0), bytes, came),
+        "fail-write" => replay_halting(alloc, office, more.parse().unwrap_or(0), bytes, came),
+        _ => take_call(alloc, office, what, bytes, came),
     }
 }
 
-/// Whether a step is a setup or a statement, which come before an opening, or what is told behind the last step.
-fn is_told(what: &str) -> bool {
-    what == "setup"
-        || what == "facts"
-        || what == "check"
-        || what == "asked"
-        || what.starts_with("sql ")
+/// Takes one step: a call of the office by itself.
+fn take_call<K: Keeper>(
+    alloc: Global,
+    office: &mut Office<K>,
+    what: &str,
+    bytes: &[u8],
+    came: &mut String,
+) -> Result<(), AllocError> {
+    match what {
+        "deliver" => deliver_in(office, bytes, came),
+        "status" => status_in(office, came),
+        "settle" => settle_in(office, came),
+        "list" => list_in(alloc, office, came),
+        "export" => export_in(alloc, office, came),
+        _ => put_other(what, came),
+    }
+}
+
+/// A setup and a statement come before an opening, and what is told behind the last step is none here.
+fn put_other(what: &str, came: &mut String) -> Result<(), AllocError> {
+    match what {
+        "setup" | "sql" | "facts" | "check" | "asked" => Ok(()),
+        _ => came.push_str("unknown step\n"),
+    }
 }
 
 /// Whether the facts that are kept are told behind these steps.
@@ -101,48 +130,4 @@ pub fn tells_check(steps: &str) -> bool {
 /// Whether it is told which mail these steps ask a store for.
 pub fn tells_asked(steps: &str) -> bool {
     steps.lines().last() == Some("> asked")
-}
-
-/// Takes one step: the bag of a chain, one of which a read or a write fails, or a call of the office by itself.
-fn take_call<K: Keeper>(
-    alloc: Global,
-    office: &mut Office<K>,
-    what: &str,
-    text: &str,
-    came: &mut Vec<u8>,
-) -> Result<(), NoMemory> {
-    if let Some(what) = what.strip_prefix("chain ") {
-        replay_in(alloc, office, &chain_of(alloc, what)?, came)
-    } else if let Some(number) = what.strip_prefix("fail-read ") {
-        let fails_at = number.parse().unwrap_or(0);
-        replay_broken(alloc, office, fails_at, &bag_of(alloc, text)?, came)
-    } else if let Some(number) = what.strip_prefix("fail-write ") {
-        let fails_at = number.parse().unwrap_or(0);
-        replay_halting(alloc, office, fails_at, &bag_of(alloc, text)?, came)
-    } else if what == "deliver" {
-        deliver_in(alloc, office, &text_of(alloc, text)?, came)
-    } else if what == "status" {
-        status_in(alloc, office, came)
-    } else if what == "settle" {
-        settle_in(alloc, office, came)
-    } else {
-        take_question(alloc, office, what, came)
-    }
-}
-
-/// Takes one step that asks an office for its mail.
-fn take_question<K: Keeper>(
-    alloc: Global,
-    office: &mut Office<K>,
-    what: &str,
-    came: &mut Vec<u8>,
-) -> Result<(), NoMemory> {
-    if what == "list" {
-        list_in(alloc, office, came)
-    } else if what == "export" {
-        export_in(alloc, office, came)
-    } else {
-        came.extend_from_slice(b"unknown step\n")?;
-        Ok(())
-    }
 }

@@ -1,4 +1,4 @@
-use Rattle.std.proofs.Common.{subst}
+use Rattle.std.proofs.Common.{◌≤◌, length, subst, arith}
 use Rattle.office_mail.specs.Kept.{Kept}
 use Rattle.office_keeper.specs.MemoryState.{content_of}
 use Rattle.office_checks.specs.Comparing.{IsMade}
@@ -10,4 +10,5 @@ returns-in-Some-clause-found g c = λ trusted office made size are.
     let setup = c.args.made.now.plain.setup in
     let here = g.K.Keeper.content c.args.keeper.now in
     let front : Kept = (content_of c.args.made.now.plain).kept in
-    unmade_differs setup here c.args.runs c.in-Some.difference size (subst (IsMade setup here.kept c.args.runs front) c.in-Some.is made) are
+    let low : c.args.runs ≤ length here.reports = omega (arith, size) in
+    unmade_differs setup here c.args.runs c.in-Some.difference low (subst (IsMade setup here.kept c.args.runs front) c.in-Some.is made) are

@@ -1,65 +1,19 @@
-use Rattle.std.proofs.Common.{⊎_elim, ◌≡◌, ◌<◌, ◌≤◌, ℕ, length, slice_index, sym, ap, subst, ◌∙◌, arith}
-use Rattle.std.proofs.lemmas.Bool.{cases_eq}
-use Rattle.std.proofs.lemmas.Result.{err_from_is_err_and}
-use Rattle.testing_model.specs.Covered.{Covered}
+use Rattle.std.proofs.Common.{length, slice_index, subst, arith}
 use Rattle.testing_model.specs.StandsFor.{StandsFor}
 use Rattle.office_keeper.specs.Content.{Content}
 use Rattle.office_facts.specs.Walk.{said_within}
-use Rattle.office_orders.proofs.LookFacts.{looked_fails, looked_none, looked_then}
-use Rattle.office_facts.proofs.TakenFacts.{said_within-same}
 use Rattle.office_facts.proofs.finished.facts_within.Goals as goal
 
-pub senders-init : goal.senders-init
-senders-init g c =
-    let known = c.in_ok-known.ensures in
-    record {
-      stand = known.stand;
-      done = λ s low. absurd (omega (arith, low));
-      ahead = λ s low. omega (arith, known.within s, c.requires.ahead s low);
-      looks = looked_then g.K.Keeper c.args.keeper.now c.args.keeper.now c.finished_facts.new.keeper (looked_none g.K.Keeper c.args.keeper.now) known.looks;
-    }
-
-pub senders-preserved : goal.senders-preserved
-senders-preserved g c =
-    let so = c.senders.invariant in
-    let next = c.in_ok-take_on.ensures in
-    let setup = c.args.setup.now in
-    let n = c.senders.sender in
-    let covers : ℕ → ℕ = slice_index c.args.covers.now in
-    let taken : ℕ → ℕ = slice_index c.take_on.new.known.taken.items in
-    let was : ℕ → ℕ = slice_index c.senders.known.taken.items in
-    let count = length setup.senders in
-    let low : n < count = omega (arith, c.senders-test.true, c.senders.auto.sender-end, ap length c.senders-sender-end.ensures.same) in
-    let own : taken n ≡ covers n = next.taken ∙ c.cover_at-cover.ensures in
-    record {
-      stand = λ trusted office are.
-          let earlier = next.looks.before trusted in
-          let content : Content = g.K.Keeper.content c.args.keeper.now in
-          subst (λ (m : Content). StandsFor c.senders.known.facts (said_within setup m.kept was count) content.testing → StandsFor c.take_on.new.known.facts (said_within setup m.kept taken count) content.testing) (so.looks.same earlier)
-          (next.stand trusted content.testing low) (so.stand earlier office are);
-      done = λ s below. ⊎_elim
-          (λ same. subst (λ (k : ℕ). taken k ≡ covers k) (sym same) own)
-          (λ other. next.others s other ∙ so.done s (omega (arith, below, other)))
-          (cases_eq s n);
-      ahead = λ s within. ⊎_elim
-          (λ same. subst (λ (k : ℕ). taken k ≤ covers k) (sym same) (omega (arith, own)))
-          (λ other. omega (arith, next.others s other, so.ahead s within))
-          (cases_eq s n);
-      looks = looked_then g.K.Keeper c.args.keeper.now c.senders.keeper c.take_on.new.keeper so.looks next.looks;
-    }
+pub take_to-requires : goal.take_to-requires
+take_to-requires g c = record { within = λ s low. omega (arith, c.in_ok-known.ensures.within s, c.requires.ahead s low) }
 
 pub returns-clause-stand : goal.returns-clause-stand
 returns-clause-stand g c = λ trusted office are.
     let setup = c.args.setup.now in
     let content : Content = g.K.Keeper.content c.args.keeper.now in
-    let so = c.senders.invariant in
-    let all : length setup.senders ≤ c.senders.sender = omega (arith, c.senders-test.false, c.senders.auto.sender-end, ap length c.senders-sender-end.ensures.same) in
-    subst (λ (l : Covered). StandsFor c.senders.known.facts l content.testing)
-    (said_within-same setup content.kept (slice_index c.senders.known.taken.items) (slice_index c.args.covers.now) (length setup.senders) (λ s low. so.done s (omega (arith, low, all))))
-    (so.stand trusted office are)
-
-pub returns-in_err-take_on-clause-looks : goal.returns-in_err-take_on-clause-looks
-returns-in_err-take_on-clause-looks g c =
-    let keeper = g.K.Keeper in
-    let p = err_from_is_err_and c.from_residual-in_err-take_on.result c.from_residual-in_err-take_on.ensures.1 in
-    looked_fails keeper c.args.keeper.now c.senders.keeper c.take_on.new.keeper c.in_err-take_on.field-0.0 p.0 c.from_residual-in_err-take_on.result p.1 (cc (p.2)) c.senders.invariant.looks c.in_err-take_on.ensures.looks
+    let n = length setup.senders in
+    let known = c.in_ok-known.known in
+    let earlier = c.in_ok-take_to.ensures.looks.before trusted in
+    subst (λ (m : Content). StandsFor known.facts (said_within setup m.kept (slice_index known.taken.items) n) content.testing
+    → StandsFor c.take_to.new.known.facts (said_within setup m.kept (slice_index c.args.covers.now) n) content.testing)
+    (c.in_ok-known.ensures.looks.same earlier) (c.in_ok-take_to.ensures.stand trusted content.testing) (c.in_ok-known.ensures.stand earlier office are)

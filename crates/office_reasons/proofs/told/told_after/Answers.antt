@@ -6,8 +6,8 @@ use Rattle.testing_model.specs.StandsFor.{StandsFor}
 use Rattle.office_reasons.specs.Why.{IsTold, IsToldOf, sender_names}
 use Rattle.office_reasons.proofs.told.told_after.Goals as goal
 
-pub returns : goal.returns
-returns c =
+pub returns-clause-told : goal.returns-clause-told
+returns-clause-told c =
     let a = c.args in
     let setup = a.setup.now in
     let f = a.facts.now in
@@ -20,4 +20,4 @@ returns c =
     (λ text told s stands.
     subst (λ (x : List Text). IsToldOf (sender_names setup) x s t a.run a.date a.reports.now a.source.now text) c.archs-archs.ensures.same
     (subst (λ (x : List Text). IsToldOf x archs s t a.run a.date a.reports.now a.source.now text) (c.deref.ensures.value ∙ c.in_ok-senders.ensures) (told s stands)))
-    c.told_of.ensures
+    c.told_of.ensures.told

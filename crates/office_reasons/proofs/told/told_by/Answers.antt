@@ -7,8 +7,8 @@ use Rattle.office_reasons.specs.Telling.{unstable_of}
 use Rattle.office_reasons.specs.Why.{IsRefusedWhere, IsToldBy}
 use Rattle.office_reasons.proofs.told.told_by.Goals as goal
 
-pub returns : goal.returns
-returns c =
+pub returns-clause-told : goal.returns-clause-told
+returns-clause-told c =
     let a = c.args in
     let reports = a.reports.now in
     let origins : Text = c.in_ok-origins.origins in
@@ -20,7 +20,7 @@ returns c =
       origins = origins;
       refusal = refusal;
       come = c.in_ok-origins.ensures;
-      refused = subst (λ (update : Text). IsRefusedWhere (waits_in a.source.now update) a.archs.now (unstable_of a.archs.now a.facts.now) a.testing.now a.excuses.now (excuse_of a.excuses.now a.source.now) refusal) c.as_str-update.ensures c.in_ok-refusal.ensures;
+      refused = subst (λ (update : Text). IsRefusedWhere (waits_in a.source.now update) a.archs.now (unstable_of a.archs.now a.facts.now) a.testing.now a.excuses.now (excuse_of a.excuses.now a.source.now) refusal) c.as_str-update.ensures c.in_ok-refusal.ensures.told;
       is = is;
     })
     c.with_reasons.ensures

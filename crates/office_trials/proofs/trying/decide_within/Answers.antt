@@ -10,32 +10,32 @@ use Rattle.office_trials.proofs.CoveredFacts.{stands_within}
 use Rattle.office_trials.proofs.trying.decide_within.Goals as goal
 
 pub returns-clause-without : goal.returns-clause-without
-returns-clause-without g c = λ trusted office are.
+returns-clause-without g c = λ trusted office are is.
     let setup = c.args.setup.now in
     let content : Content = g.K.Keeper.content c.args.keeper.now in
     let covers : ℕ → ℕ = slice_index c.args.covers.now in
     let earlier = c.decide_kept-told.ensures.looks.before trusted in
-    let facts = c.in_ok-known.known.facts in
-    let stand = stands_within setup content.kept covers facts content.testing office.places (c.in_ok-known.ensures.stand earlier office are) in
+    let facts = c.in_ok-taken.taken.facts in
+    let stand = stands_within setup content.kept covers facts content.testing office.places (c.in_ok-taken.ensures.stand earlier office are is) in
     IfOk-weaker c.decide_kept-told.result
     (λ o. (s : Covered) → StandsFor facts s content.testing → o.0 ≡ decided setup c.args.run (outcome setup c.args.run c.args.date s content.testing))
     (λ o. o.0 ≡ decided setup c.args.run (outcome setup c.args.run c.args.date (items_within setup content.kept covers) content.testing))
     (λ o told. told (items_within setup content.kept covers) stand)
     (subst (λ (m : Content). IfOk c.decide_kept-told.result (λ o. (s : Covered) → StandsFor facts s m.testing → o.0 ≡ decided setup c.args.run (outcome setup c.args.run c.args.date s m.testing)))
-    (c.in_ok-known.ensures.looks.same earlier) (c.decide_kept-told.ensures.without trusted))
+    (c.in_ok-taken.ensures.looks.same earlier) (c.decide_kept-told.ensures.without trusted))
 
 pub returns-clause-with_them : goal.returns-clause-with_them
-returns-clause-with_them g c = λ trusted office are.
+returns-clause-with_them g c = λ trusted office are is.
     let setup = c.args.setup.now in
     let content : Content = g.K.Keeper.content c.args.keeper.now in
     let covers : ℕ → ℕ = slice_index c.args.covers.now in
     let letters = c.args.letters.now in
     let earlier = c.decide_kept-told.ensures.looks.before trusted in
-    let facts = c.in_ok-known.known.facts in
-    let stand = stands_within setup content.kept covers facts content.testing office.places (c.in_ok-known.ensures.stand earlier office are) in
+    let facts = c.in_ok-taken.taken.facts in
+    let stand = stands_within setup content.kept covers facts content.testing office.places (c.in_ok-taken.ensures.stand earlier office are is) in
     IfOk-weaker c.decide_kept-told.result
     (λ o. (s : Covered) → StandsFor facts s content.testing → o.1 ≡ decided setup c.args.run (outcome setup c.args.run c.args.date (with_letters setup (release setup) letters s) content.testing))
     (λ o. o.1 ≡ decided setup c.args.run (outcome setup c.args.run c.args.date (with_letters setup (release setup) letters (items_within setup content.kept covers)) content.testing))
     (λ o told. told (items_within setup content.kept covers) stand)
     (subst (λ (m : Content). IfOk c.decide_kept-told.result (λ o. (s : Covered) → StandsFor facts s m.testing → o.1 ≡ decided setup c.args.run (outcome setup c.args.run c.args.date (with_letters setup (release setup) letters s) m.testing)))
-    (c.in_ok-known.ensures.looks.same earlier) (c.decide_kept-told.ensures.with_them trusted))
+    (c.in_ok-taken.ensures.looks.same earlier) (c.decide_kept-told.ensures.with_them trusted))

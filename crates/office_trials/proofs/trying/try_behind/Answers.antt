@@ -1,9 +1,11 @@
-use Rattle.std.proofs.Common.{◌≡◌, ◌≤◌, ℕ, List, Option, None, Some, Result, IfOk, slice_index, length, refl, sym, ap, subst, ◌∙◌}
+use Rattle.std.proofs.Common.{◌≡◌, ◌≤◌, ℕ, List, Option, None, Some, Result, IfOk, IfSome, slice_index, length, refl, sym, ap, subst, ◌∙◌}
 use Rattle.std.proofs.lemmas.Result.{IfOk-weaker}
 use Rattle.jiff.specs.declared.civil.dates.Date.{Date}
 use Rattle.office_mail.specs.declared.message.RunOrder.{RunOrder}
 use Rattle.office_mail.specs.Runs.{cover_of, latest_day, orders_to}
 use Rattle.office_keeper.specs.Content.{Content}
+use Rattle.office_facts.specs.declared.covered.KnownFacts.{KnownFacts}
+use Rattle.office_facts.specs.Known.{AreKnown}
 use Rattle.office_facts.specs.State.{IsOffice}
 use Rattle.office_trials.specs.Hints.{release}
 use Rattle.office_trials.specs.Trial.{IsTrial, told_on, trial_date}
@@ -18,7 +20,7 @@ try_on-requires g c = record {
 }
 
 pub returns-in-Some-clause-tried : goal.returns-in-Some-clause-tried
-returns-in-Some-clause-tried g c = λ trusted office are is.
+returns-in-Some-clause-tried g c = λ trusted office are is was.
     let setup = c.args.setup.now in
     let content : Content = g.K.Keeper.content c.args.keeper.now in
     let covers : List ℕ = c.in_ok-covers.covers.items in
@@ -35,11 +37,11 @@ returns-in-Some-clause-tried g c = λ trusted office are is.
     (λ trial told. is_trial setup content.kept (length content.reports) c.args.terms hints (slice_index covers) (Some date) trial (c.in_ok-covers.ensures.covers earlier office are)
     (told ∙ ap (λ (l : List ℕ). told_on setup content.kept (length content.reports) (Some date) (slice_index l) hints) c.deref.ensures.value) day)
     (subst (λ (m : Content). IsOffice setup m → c.args.orders.now ≡ orders_to setup m.kept (length m.reports) → c.args.finished ≡ length m.reports → slice_index c.deref.result.now (release setup) ≤ 999_999_999
-    → IfOk c.try_on.result (λ (trial : Trial). trial ≡ told_on setup m.kept (length m.reports) (Some date) (slice_index c.deref.result.now) hints))
-    (c.in_ok-covers.ensures.looks.same earlier) (c.try_on.ensures.told trusted) office are is few)
+    → IfSome c.args.known.now (λ (k : KnownFacts). AreKnown setup m k) → IfOk c.try_on.result (λ (trial : Trial). trial ≡ told_on setup m.kept (length m.reports) (Some date) (slice_index c.deref.result.now) hints))
+    (c.in_ok-covers.ensures.looks.same earlier) (c.try_on.ensures.told trusted) office are is few was)
 
 pub returns-clause-tried : goal.returns-clause-tried
-returns-clause-tried g c = λ trusted office are is.
+returns-clause-tried g c = λ trusted office are is was.
     let setup = c.args.setup.now in
     let content : Content = g.K.Keeper.content c.args.keeper.now in
     is_trial setup content.kept (length content.reports) c.args.terms c.args.hints.now (slice_index c.in_ok-covers.covers.items) None NoDate (c.in_ok-covers.ensures.covers trusted office are) refl

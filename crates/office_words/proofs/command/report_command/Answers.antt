@@ -1,14 +1,4 @@
-use Rattle.std.proofs.Common.{ap₂, rules, ◌∙◌, ◌≡◌}
-use Rattle.std.proofs.lemmas.Result.{IfOk-weaker}
-use Rattle.clap.specs.Words.{app_of, new_app, with_rule}
-use Rattle.std.specs.Prelude.{codes}
 use Rattle.office_words.proofs.command.report_command.Goals as goal
 
 pub returns : goal.returns
-returns c =
-    let bare : app_of c.after_help.result ≡ new_app (codes "report") = search rules in
-    IfOk-weaker c.arg-4.result _ _ (λ r added. added.shape c.stored_option.ensures.local
-    ∙ ap₂ with_rule (c.in_ok-arg-3.ensures.shape c.conf_option.ensures.local
-    ∙ ap₂ with_rule (c.in_ok-arg-2.ensures.shape c.told_place.ensures.local
-    ∙ ap₂ with_rule (c.in_ok-arg.ensures.shape c.place.ensures.local
-    ∙ ap₂ with_rule bare c.place.ensures.rule) c.told_place.ensures.rule) c.conf_option.ensures.rule) c.stored_option.ensures.rule) c.arg-4.ensures
+returns c = c.with_arg.ensures _ _ c.stored_option.ensures.rule (c.with_arg-three.ensures _ _ c.conf_option.ensures.rule (c.with_arg-two.ensures _ _ c.told_place.ensures.rule (c.with_arg-one.ensures _ _ c.place.ensures.rule c.named-bare.ensures)))

@@ -1,14 +1,4 @@
-use Rattle.std.proofs.Common.{ap₂, rules, ◌∙◌, ◌≡◌}
-use Rattle.std.proofs.lemmas.Result.{IfOk-weaker}
-use Rattle.clap.specs.Words.{app_of, new_app, with_rule}
-use Rattle.std.specs.Prelude.{codes}
 use Rattle.office_words.proofs.command.serve_command.Goals as goal
 
 pub returns : goal.returns
-returns c =
-    let bare : app_of c.after_help.result ≡ new_app (codes "serve") = search rules in
-    IfOk-weaker c.arg-4.result _ _ (λ r added. added.shape c.connections_option.ensures.local
-    ∙ ap₂ with_rule (c.in_ok-arg-3.ensures.shape c.db_option.ensures.local
-    ∙ ap₂ with_rule (c.in_ok-arg-2.ensures.shape c.port_option.ensures.local
-    ∙ ap₂ with_rule (c.in_ok-arg.ensures.shape c.conf_option.ensures.local
-    ∙ ap₂ with_rule bare c.conf_option.ensures.rule) c.port_option.ensures.rule) c.db_option.ensures.rule) c.connections_option.ensures.rule) c.arg-4.ensures
+returns c = c.with_arg.ensures _ _ c.connections_option.ensures.rule (c.with_arg-three.ensures _ _ c.db_option.ensures.rule (c.with_arg-two.ensures _ _ c.port_option.ensures.rule (c.with_arg-one.ensures _ _ c.conf_option.ensures.rule c.named-bare.ensures)))

@@ -12,6 +12,6 @@ loop-source-preserved g c = λ q.
     let d = c.source-item.result in
     let old = slot_at c.loop-source.groups q in
     let named = c.as_str.ensures ∙ ap (λ (n : News). n.upload.now.source) c.source-item.is in
-    opened (is_among (take i news) q) (bytes_eq q c.as_str.result.now) old (slot_at c.open.new.groups q) (c.loop-source.invariant q) (c.in_ok-open.ensures q)
+    opened [] (is_among (take i news) q) (bytes_eq q c.as_str.result.now) old (slot_at c.open.new.groups q) (c.loop-source.invariant q) (c.in_ok-open.ensures q)
     ∙ ap (λ s. cond (is_among (take i news) q || bytes_eq q s) (Some []) None) named
     ∙ ap (λ b. cond b (Some []) None) (sym (among-more news i d (omega arith) q))

@@ -1,6 +1,7 @@
 use Rattle.std.proofs.Common.{◌≡◌, sym, ap, subst, ◌∙◌, arith, cond, [], ◌∷◌, ◌++◌, List, map, Some}
 use Rattle.std.proofs.lemmas.List.{map-append, append_assoc}
 use Rattle.std.proofs.lemmas.List.Elements.{All-pop}
+use Rattle.testing_model.specs.Boxed.{unboxed}
 use Rattle.testing_lists.specs.Blocks.{joined}
 use Rattle.testing_lists.specs.Shifts.{shift_build, shift_builds}
 use Rattle.testing_model.specs.FactOrder.{AreByPair}
@@ -14,7 +15,7 @@ use Rattle.testing_lists.proofs.build_blocks.put_builds.Goals as goal
 
 pub builds-preserved-then-stands_beside : goal.builds-preserved-then-stands_beside
 builds-preserved-then-stands_beside c =
-    let p = stands_beside c.args.drops.now in
+    let p = stands_beside (unboxed c.args.drops.now) in
     let next = c.in-Some.next in
     let b = next.build.value in
     let left = map (λ (n : Coming). n.build.value) c.pop.new.self.items in
@@ -49,7 +50,7 @@ builds-preserved-then-stands_beside c =
 
 pub builds-preserved : goal.builds-preserved
 builds-preserved c =
-    let p = stands_beside c.args.drops.now in
+    let p = stands_beside (unboxed c.args.drops.now) in
     let next = c.in-Some.next in
     let b = next.build.value in
     let left = map (λ (n : Coming). n.build.value) c.pop.new.self.items in

@@ -6,6 +6,8 @@ use Rattle.testing_model.specs.FactRows.{drop_row}
 use Rattle.testing_model.specs.Unstable.{pair_order, drop_pair, drop_order}
 use Rattle.testing_model.specs.declared.facts.DropIn.{DropIn}
 use Rattle.testing_model.proofs.MoreMail.{pair_total}
+use Rattle.testing_model.specs.Boxed.{unboxed}
+use Rattle.testing_model.proofs.Unboxed.{unboxed-at, unboxed-length}
 use Rattle.testing_model.proofs.KeyOrder.{searchable}
 use Rattle.testing_lists.proofs.KeyShifts.{way-at, come-at, none-at}
 use Rattle.testing_lists.proofs.shifts.drop_shift.Goals as goal
@@ -13,10 +15,13 @@ use Rattle.testing_lists.proofs.shifts.drop_shift.Goals as goal
 pub returns-then-is_lt : goal.returns-then-is_lt
 returns-then-is_lt c =
     let x = c.args.drop.now in
-    let xs = c.args.drops.now in
+    let bs = c.args.drops.now in
+    let xs = unboxed bs in
     let i = c.in-Ok.i in
-    let e = c.index-drops-i.result in
-    let read : get_or xs i e ≡ e = sym c.index-drops-i.is in
+    let box = c.index-drops-i.result in
+    let e = box.value in
+    let below : i < length bs = omega (arith, unboxed-length bs, c.in-Ok.ensures.bound) in
+    let read : get_or xs i e ≡ c.deref-other.result.now = unboxed-at bs i box e below c.index-drops-i.is ∙ sym c.deref-other.ensures in
     let pair = ap (λ n. (x.arch, n)) (sym c.as_str-2.ensures) ∙ ap (λ a. (a, c.as_str-2.result.now)) (sym c.as_str.ensures) in
     let level : pair_order (drop_pair (get_or xs i e)) (drop_pair x) ≡ Equal = ap (pair_order (drop_pair (get_or xs i e))) pair ∙ c.in-Ok.ensures.found e in
     let ranked : is_lt (drop_order (get_or xs i e) x) ≡ true = ap (λ (y : DropIn). is_lt (drop_order y x)) read ∙ sym (ap is_lt c.drop_order.ensures) ∙ sym c.is_lt.ensures ∙ c.if-is_lt.true in
@@ -27,10 +32,13 @@ returns-then-is_lt c =
 pub returns-else-is_lt : goal.returns-else-is_lt
 returns-else-is_lt c =
     let x = c.args.drop.now in
-    let xs = c.args.drops.now in
+    let bs = c.args.drops.now in
+    let xs = unboxed bs in
     let i = c.in-Ok.i in
-    let e = c.index-drops-i.result in
-    let read : get_or xs i e ≡ e = sym c.index-drops-i.is in
+    let box = c.index-drops-i.result in
+    let e = box.value in
+    let below : i < length bs = omega (arith, unboxed-length bs, c.in-Ok.ensures.bound) in
+    let read : get_or xs i e ≡ c.deref-other.result.now = unboxed-at bs i box e below c.index-drops-i.is ∙ sym c.deref-other.ensures in
     let pair = ap (λ n. (x.arch, n)) (sym c.as_str-2.ensures) ∙ ap (λ a. (a, c.as_str-2.result.now)) (sym c.as_str.ensures) in
     let level : pair_order (drop_pair (get_or xs i e)) (drop_pair x) ≡ Equal = ap (pair_order (drop_pair (get_or xs i e))) pair ∙ c.in-Ok.ensures.found e in
     let ranked : is_lt (drop_order (get_or xs i e) x) ≡ false = ap (λ (y : DropIn). is_lt (drop_order y x)) read ∙ sym (ap is_lt c.drop_order.ensures) ∙ sym c.is_lt.ensures ∙ c.if-is_lt.false in
@@ -44,7 +52,7 @@ returns-else-is_lt c =
 pub returns-in-Err : goal.returns-in-Err
 returns-in-Err c =
     let x = c.args.drop.now in
-    let xs = c.args.drops.now in
+    let xs = unboxed c.args.drops.now in
     let i = c.in-Err.field-0 in
     let pair = ap (λ n. (x.arch, n)) (sym c.as_str-2.ensures) ∙ ap (λ a. (a, c.as_str-2.result.now)) (sym c.as_str.ensures) in
     let by_pair = λ (p : _). IsPartitionPoint (λ (y : DropIn). pair_order (drop_pair y) p ≡ Less) (λ (y : DropIn). pair_order (drop_pair y) p ≡ Greater) xs i in

@@ -1,7 +1,6 @@
 use Rattle.std.proofs.Common.{arith, ◌∙◌, ap, ◌<◌, length, drop}
 use Rattle.std.proofs.lemmas.Grind.{common_steps}
-use Rattle.testing_moves.specs.LentItems.{lent_excuses}
-use Rattle.testing_moves.proofs.Circle.{turned, lent-behind}
+use Rattle.testing_moves.proofs.Circle.{turned}
 use Rattle.testing_moves.proofs.singles.go_on_behind.Goals as goal
 
 pub returns-clause-behind : goal.returns-clause-behind
@@ -9,9 +8,7 @@ returns-clause-behind c =
     let items = c.args.circle.now.items in
     let i = c.args.place in
     let below : i < length items = omega arith in
-    ap lent_excuses
-    (c.pop_front.ensures.rest ∙ ap (drop 1) c.rotate_left.ensures.items ∙ turned items i below)
-    ∙ lent-behind items i
+    c.pop_front.ensures.rest ∙ ap (drop 1) c.rotate_left.ensures.items ∙ turned items i below
 
 pub returns-clause-fewer : goal.returns-clause-fewer
 returns-clause-fewer c = grind (arith, common_steps)

@@ -4,5 +4,5 @@ use Rattle.testing_reasons.proofs.messages.push_bugs.Goals as goal
 
 pub returns : goal.returns
 returns c =
-    let over : length c.args.bugs.now ≤ c.loop-bug.bug-index = omega arith in
-    rw (take_all c.loop-bug.bug-index c.args.bugs.now over) at c.loop-bug.invariant
+    let over : length c.args.bugs.now ≤ c.loop-boxed.boxed-index = omega arith in
+    rw (take_all c.loop-boxed.boxed-index c.args.bugs.now over) at c.loop-boxed.invariant

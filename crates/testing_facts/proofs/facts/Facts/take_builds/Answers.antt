@@ -1,4 +1,5 @@
 use Rattle.std.proofs.Common.{arith, sym, subst}
+use Rattle.testing_model.specs.Boxed.{unboxed}
 use Rattle.testing_model.specs.FactOrder.{AreByPair}
 use Rattle.testing_model.specs.WithMessage.{stands_beside}
 use Rattle.testing_lists.proofs.KeySlots.{by_pair-builds}
@@ -8,7 +9,7 @@ pub invariant_of-self-2 : goal.invariant_of-self-2
 invariant_of-self-2 c = (
   record {
     by_source = c.self.invariant.0.by_source;
-    by_pair = subst AreByPair (sym c.in_ok-put.ensures.ok) (by_pair-builds (stands_beside c.deref.result.now) c.args.builds.items c.self.inside.rows c.self.invariant.0.by_pair);
+    by_pair = subst AreByPair (sym c.in_ok-put.ensures.ok) (by_pair-builds (stands_beside (unboxed c.deref.result.now)) c.args.builds.items c.self.inside.rows c.self.invariant.0.by_pair);
     drops_by_pair = c.self.invariant.0.drops_by_pair;
     by_number = c.self.invariant.0.by_number;
   },

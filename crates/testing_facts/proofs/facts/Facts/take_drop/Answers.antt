@@ -1,4 +1,4 @@
-use Rattle.std.proofs.Common.{refl, ◌++◌, [], ◌∙◌, ap, arith, map, option_to_list, sym, subst}
+use Rattle.std.proofs.Common.{◌++◌, [], ◌∙◌, ap, arith, map, option_to_list, sym, subst}
 use Rattle.testing_model.specs.Boxed.{unboxed}
 use Rattle.testing_model.specs.FactLists.{FactLists}
 use Rattle.testing_facts.specs.Entries.{with_entry}
@@ -6,7 +6,8 @@ use Rattle.testing_entries.specs.declared.entry.Entry.TheVariants.{Dropped}
 use Rattle.testing_facts.proofs.Shifting.{dropped}
 use Rattle.testing_model.specs.FactOrder.{AreByPair, AreDropsByPair}
 use Rattle.testing_model.specs.FactRows.{drop_row}
-use Rattle.testing_model.specs.WithMessage.{with_greatest}
+use Rattle.testing_model.specs.WithMessage.{with_drop, with_greatest}
+use Rattle.testing_model.specs.declared.facts.DropIn.{DropIn}
 use Rattle.testing_model.specs.Unstable.{drop_pair, drop_order, pair_order}
 use Rattle.testing_lists.specs.Shifts.{way_given, come_in}
 use Rattle.testing_lists.proofs.KeySlots.{by_pair-drop, drops_by_pair-drop}
@@ -16,8 +17,8 @@ pub invariant_of-self-2 : goal.invariant_of-self-2
 invariant_of-self-2 c = (
   record {
     by_source = c.self.invariant.0.by_source;
-    by_pair = subst AreByPair (sym c.take.ensures) (by_pair-drop c.args.drop c.self.inside.rows c.self.invariant.0.by_pair);
-    drops_by_pair = subst AreDropsByPair (sym (c.put_drop.ensures ∙ ap (with_greatest c.args.drop) c.in_ok-reserve_with.ensures.items)) (drops_by_pair-drop c.args.drop c.self.inside.drops.items c.self.invariant.0.drops_by_pair);
+    by_pair = subst AreByPair (sym c.take.ensures) (by_pair-drop c.deref-2.result.now c.self.inside.rows c.self.invariant.0.by_pair);
+    drops_by_pair = subst AreDropsByPair (sym (c.put_drop.ensures ∙ ap (λ ds. with_greatest c.in_ok-boxed.boxed.value (unboxed ds)) c.in_ok-reserve_with.ensures.items)) (drops_by_pair-drop c.in_ok-boxed.boxed.value (unboxed c.self.inside.drops.items) c.self.invariant.0.drops_by_pair);
     by_number = c.self.invariant.0.by_number;
   },
   omega (arith, c.note.ensures.len_left, c.note.ensures.capacity_left, c.note-2.ensures.len_left, c.note-2.ensures.capacity_left, c.in_ok-reserve_with.ensures.room_left, c.len.ensures),
@@ -30,8 +31,8 @@ returns-clause-ok c =
       sources = unboxed c.self.inside.sources.items;
       uploads = c.self.inside.uploads.items;
       rows = c.self.inside.rows;
-      drops = c.self.inside.drops.items;
-      bugs = c.self.inside.bugs.items;
+      drops = unboxed c.self.inside.drops.items;
+      bugs = unboxed c.self.inside.bugs.items;
       hints = c.self.inside.hints.items;
       unhints = c.self.inside.unhints.items;
       delays = c.self.inside.delays;
@@ -41,13 +42,13 @@ returns-clause-ok c =
     let way = option_to_list c.drop_shift-shifted.result.left in
     let own = option_to_list c.drop_shift-shifted.result.came in
     let taken = option_to_list c.taken.result in
-    dropped lists c.args.drop c.args.drop c.take.new.self c.put_drop.new.drops.items c.note-2.new.self.came.items c.note-2.new.self.left.items taken way own
-    refl
-    c.take.ensures
-    (c.put_drop.ensures ∙ ap (with_greatest c.args.drop) c.in_ok-reserve_with.ensures.items)
+    dropped lists c.args.drop c.in_ok-boxed.boxed.value c.take.new.self (unboxed c.put_drop.new.drops.items) c.note-2.new.self.came.items c.note-2.new.self.left.items taken way own
+    c.in_ok-boxed.ensures.ok
+    (c.take.ensures ∙ ap (λ (d : DropIn). with_drop d lists.rows) (c.deref-2.ensures ∙ c.in_ok-boxed.ensures.ok))
+    (c.put_drop.ensures ∙ ap (λ ds. with_greatest c.in_ok-boxed.boxed.value (unboxed ds)) c.in_ok-reserve_with.ensures.items)
     (c.note-2.ensures.came ∙ ap (λ l. l ++ own) (c.note.ensures.came ∙ ap (λ l. l ++ []) c.in_ok-reserve_with.ensures.came))
     (c.note-2.ensures.left ∙ ap (λ l. l ++ way) (c.note.ensures.left ∙ ap (λ l. l ++ taken) c.in_ok-reserve_with.ensures.left))
     c.taken.ensures
-    (c.drop_shift-shifted.ensures.left ∙ ap (λ ds. map drop_row (way_given drop_pair pair_order drop_order c.args.drop ds)) c.deref.ensures.value)
-    (c.drop_shift-shifted.ensures.came ∙ ap (λ ds. map drop_row (come_in drop_pair pair_order drop_order c.args.drop ds)) c.deref.ensures.value)
+    (c.drop_shift-shifted.ensures.left ∙ ap (λ ds. map drop_row (way_given drop_pair pair_order drop_order c.args.drop (unboxed ds))) c.deref.ensures.value)
+    (c.drop_shift-shifted.ensures.came ∙ ap (λ ds. map drop_row (come_in drop_pair pair_order drop_order c.args.drop (unboxed ds))) c.deref.ensures.value)
     ∙ ap (with_entry (Dropped c.args.drop)) c.self.view_is

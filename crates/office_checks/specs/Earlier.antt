@@ -1,0 +1,28 @@
+-- The office in memory that is as an earlier run of a store left it. That there is one is this office's own.
+use Rattle.std.specs.Prelude.{◌≡◌, ℕ, List, length, Option, Some, None}
+use Rattle.office_mail.specs.Kept.{Kept}
+use Rattle.office_mail.specs.Lists.{Lists}
+use Rattle.office_keeper.specs.Content.{Content}
+use Rattle.office_keeper.specs.MemoryState.{content_of}
+use Rattle.office_facts.specs.State.{IsOffice}
+use Rattle.office_reasons.specs.Why.{IsWhyAfter}
+use Rattle.office_checks.specs.Whole.{IsFinished}
+use Rattle.office_checks.specs.declared.memory.Bounded.{Bounded}
+
+-- an office holds what one of this setup leaves that took this mail and finished exactly the runs up to run k
+pub record HoldsAfter (setup : Lists) (kept : Kept) (k : ℕ) (office : Bounded) : Type 0 where
+  pub setup_is : office.plain.setup ≡ setup
+  pub kept_is : (content_of office.plain).kept ≡ kept
+  pub finished : length (content_of office.plain).reports ≡ k
+  pub sound : IsOffice office.plain.setup (content_of office.plain)
+
+-- The office as a run of a store left it, over all mail that the store keeps. There is none of a run that isn't finished. Of a finished one
+-- there is none only if the store isn't what an office leaves.
+abbrev pub IsAfter : Lists → Content → ℕ → Option Bounded → Type 0
+IsAfter setup content run None = IsFinished content run → IsOffice setup content → ⊥
+IsAfter setup content run (Some office) = IsFinished content run × HoldsAfter setup content.kept run office
+
+-- why a source stands where a run left it
+abbrev pub IsToldAfter : Lists → Kept → ℕ → List ℕ → Option (List ℕ) → Type 0
+IsToldAfter setup kept run source None = ⊥
+IsToldAfter setup kept run source (Some text) = IsWhyAfter setup kept run source text

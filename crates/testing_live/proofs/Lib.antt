@@ -1,0 +1,2 @@
+pub mod Provided
+pub mod Unmet

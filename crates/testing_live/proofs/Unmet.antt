@@ -1,0 +1,71 @@
+-- A clause that no row meets.
+use Rattle.std.specs.Prelude.{ℕ, ◌≤◌, Bool, true, false, ◌&&◌, List, [], Contains, Option, Some, None, IfSome, length, get_or}
+use Rattle.std.specs.List.{AllWithin, slice_get, list_any}
+use Rattle.std.specs.Str.{bytes_eq}
+use Rattle.std.proofs.Common.{◌≡◌, refl, sym, ◌∙◌, subst, arith, inl, inr}
+use Rattle.std.proofs.lemmas.Bool.{false≢true, or_cases}
+use Rattle.std.proofs.lemmas.Slice.Eq.{bytes_eq-Decides}
+use Rattle.deb_control.specs.declared.relation.Alternative.{Alternative}
+use Rattle.deb_control.specs.declared.relation.Clause.{Clause}
+use Rattle.testing_install.specs.Closed.{marked}
+use Rattle.testing_install.specs.Index.{PlacesByName, places_at, bears}
+use Rattle.testing_install.specs.Satisfies.{satisfies, meets}
+use Rattle.testing_install.proofs.Finding.{any_at, satisfies_bears}
+use Rattle.testing_items.specs.Words.{Text}
+use Rattle.testing_live.specs.Lacks.{provides, meets_on, stands_for_it, IsProvisionIndex}
+use Rattle.testing_model.specs.declared.suite.RowIn.{RowIn}
+use Rattle.testing_model.specs.Moves.{is_row_on}
+use Rattle.testing_pool.proofs.Arranging.{at_some_of}
+use Rattle.testing_pool.proofs.Lost.{any_of}
+
+-- of what is there both, and what follows from both
+pub if_some_both : {A : Type 0} (P Q R : A → Type 0) (o : Option A) → ((x : A) → P x → Q x → R x) → IfSome o P → IfSome o Q → IfSome o R
+if_some_both P Q R None f p q = q
+if_some_both P Q R (Some x) f p q = f x p q
+
+-- of what is there what follows
+pub if_some_weaker : {A : Type 0} (P Q : A → Type 0) (o : Option A) → ((x : A) → P x → Q x) → IfSome o P → IfSome o Q
+if_some_weaker P Q None f p = p
+if_some_weaker P Q (Some x) f p = f x p
+
+not_so : (b : Bool) → (b ≡ true → ⊥) → b ≡ false
+not_so true h = absurd (h refl)
+not_so false h = refl
+
+second_of_both : (a b : Bool) → (a && b) ≡ true → b ≡ true
+second_of_both true b h = h
+second_of_both false b h = absurd (false≢true h)
+
+-- none of some elements passes where not any does
+pub none_of : {A : Type 0} (test : A → Bool) (xs : List A) (x : A) → list_any test xs ≡ false → Contains xs x → test x ≡ false
+none_of test xs x h c = not_so (test x) (λ on. false≢true (sym h ∙ any_of test xs x c on))
+
+module _ (arch : ℕ) (pool : List RowIn) (stands : List Bool) (clause : Clause) where
+  abbrev test : ℕ → Bool
+  test = stands_for_it arch pool stands clause
+
+  -- no row that bears the alternative's name stands for the clause
+  pub record IsMissed (a : Alternative) : Type 0 where
+    pub each : (k : ℕ) (r : RowIn) → slice_get pool k ≡ Some r → bears r.binary a.name ≡ true → stands_for_it arch pool stands clause k ≡ false
+
+  -- the places of a name, and those at which it is provided, have all rows that bear it
+  pub missed_under : (name : Text) (index : PlacesByName) (named provided : List ℕ) → ((k : ℕ) (r : RowIn) → slice_get pool k ≡ Some r → r.binary.name ≡ name → Contains named k)
+      → IsProvisionIndex pool index → provided ≡ places_at index name → list_any test named ≡ false → list_any test provided ≡ false
+      → (k : ℕ) (r : RowIn) → slice_get pool k ≡ Some r → bears r.binary name ≡ true → test k ≡ false
+  missed_under name index named provided complete is_index e out off k r at b = elim (or_cases (bytes_eq r.binary.name name) (provides r.binary name) b) [
+    | inl own ↦ none_of test named k out (complete k r at ((bytes_eq-Decides r.binary.name name).0 own))
+    | inr given ↦ none_of test provided k off (subst (λ ks. Contains ks k) (sym e) (is_index.complete name k r at given))
+  ]
+
+  stands_not : (n : ℕ) → AllWithin IsMissed clause 0 n → length clause ≤ n → (k : ℕ) → test k ≡ true → ⊥
+  stands_not n missed h k on =
+      let row = at_some_of (λ (r : RowIn). is_row_on arch r && meets r.binary clause) (slice_get pool k) (second_of_both (marked stands k) (meets_on arch pool clause k) on) in
+      let does : meets row.0.binary clause ≡ true = second_of_both (is_row_on arch row.0) (meets row.0.binary clause) row.2 in
+      let f = any_at (satisfies row.0.binary) clause does in
+      let d : Alternative = record { name = []; relation = None } in
+      let bears_it = satisfies_bears row.0.binary (get_or clause f.0 d) (f.2 d) in
+      false≢true (sym ((missed f.0 d (omega arith) (omega (arith, f.1, h))).each k row.0 row.1 bears_it) ∙ on)
+
+  -- nothing stands for the clause where each of its alternatives is missed
+  pub none_stands : (n : ℕ) → AllWithin IsMissed clause 0 n → length clause ≤ n → (k : ℕ) → test k ≡ false
+  none_stands n missed h k = not_so (test k) (stands_not n missed h k)

@@ -1,0 +1,60 @@
+use Rattle.std.proofs.Common.{◌≡◌, ◌∙◌, ◌∷◌, refl, sym, ap, subst, IfSome, Ok, [], true, false}
+use Rattle.std.specs.Option.{is_none}
+use Rattle.std.proofs.lemmas.Bool.{false≢true}
+use Rattle.testing_live.specs.Lacks.{arriving}
+use Rattle.testing_moves.specs.Refusals.{AreRefused, AreWoken}
+use Rattle.testing_moves.specs.Runs.{Run, moment_of, broken_by_move, IsLacking}
+use Rattle.testing_moves.proofs.Remembering.{refused_known, refused_more, refused_moved}
+use Rattle.testing_moves.proofs.turns.Turns.try_alone.Goals as goal
+
+pub returns-then-has : goal.returns-then-has
+returns-then-has c = λ excuses number known. record {
+  allowed = refused_known (moment_of c.args.self.now) excuses c.args.refusals.now c.args.candidate.number c.args.candidate.excuse.now number (sym c.has.ensures ∙ c.if-has.true) known;
+  after = λ e. absurd (false≢true e);
+  same = λ e. refl;
+  known = known;
+}
+
+pub returns-in-Some : goal.returns-in-Some
+returns-in-Some c = λ excuses number known.
+    let m = moment_of c.args.self.now in
+    let e = c.args.candidate.excuse.now in
+    let clause = c.in-Some.clause.now in
+    let group = c.from_ref-group.ensures.value in
+    let lacks = subst (λ o. IfSome o (λ x. IsLacking c.from_ref-group.result.now m x.now)) c.in-Some.is c.in_ok-clause.ensures.lacks in
+    let refused = subst (λ o. IfSome o (λ x. is_none (broken_by_move c.from_ref-group.result.now m) ≡ false)) c.in-Some.is c.in_ok-clause.ensures.refused in
+    record {
+      allowed = subst (λ g. is_none (broken_by_move g m) ≡ false) group refused;
+      after = λ no. absurd (false≢true no);
+      same = λ yes. refl;
+      known = refused_more m excuses c.args.refusals.now c.remember.new.self c.args.candidate.number e clause number
+          (subst (λ g. IsLacking g m clause) group lacks) c.in_ok-remember.ensures.flags c.in_ok-remember.ensures.noted known;
+    }
+
+pub returns-then-not-branch : goal.returns-then-not-branch
+returns-then-not-branch c = λ excuses number known.
+    let stayed = ap Ok c.if-not-branch.true in
+    record {
+      allowed = c.in_ok-move_alone.ensures.stays stayed;
+      after = λ e. absurd (false≢true e);
+      same = λ e. c.in_ok-move_alone.ensures.same stayed;
+      known = subst (λ (r : Run). AreRefused (moment_of r) excuses c.args.refusals.now) (sym (c.in_ok-move_alone.ensures.same stayed)) known;
+    }
+
+pub returns : goal.returns
+returns c = λ excuses number known.
+    let moved = ap Ok c.if-not-branch.false in
+    let m = moment_of c.args.self.now in
+    let mid = c.move_alone.new.self in
+    let group = c.args.candidate.excuse.now.source ∷ [] in
+    let old = c.args.refusals.now in
+    let new = c.wake_by_move.new.refusals in
+    let after = c.in_ok-move_alone.ensures.after moved in
+    let at_mid = subst (λ g. AreWoken (arriving mid.basis.sources mid.basis.rows g) old new) c.from_ref-group.ensures.value c.in_ok-wake_by_move.ensures in
+    let woken = subst (λ (r : Run). AreWoken (arriving r.basis.sources r.basis.rows group) old new) after at_mid in
+    record {
+      allowed = c.in_ok-move_alone.ensures.moved moved;
+      after = λ yes. after;
+      same = λ no. absurd (false≢true (sym no));
+      known = subst (λ (r : Run). AreRefused (moment_of r) excuses new) (sym after) (refused_moved m excuses group old new woken known);
+    }
