@@ -175,7 +175,8 @@ def killed(folder, name, texts=MESSAGES):
 
 
 def small_disks(folder):
-    """A disk of a few pages: what is held is there, and the bag goes through where there is room again."""
+    """A disk of a few pages: what is held is there, and the bag goes through where there is room again. The largest disk
+    may have room for all."""
     for size in (4, 40, 120, 200, 300, 340, 420, 600)[::min(step, 3)]:
         disk = os.path.join(folder, "disk")
         os.makedirs(disk, exist_ok=True)
@@ -187,7 +188,8 @@ def small_disks(folder):
             db = os.path.join(disk, "store")
             output, status, told = replay(db, LARGE)
             held = held_in(output)
-            want(what + ", status", (4, True), (status, told.startswith("office: ")))
+            within(what + ", status", [(4, True)] + [(0, False)] * (len(held) == len(LARGE)),
+                   (status, told.startswith("office: ")))
             within(what + ", other replies", [set(), {b"refused Store"}],
                    set(line for line in output.splitlines()[:len(LARGE)] if line.startswith(b"refused ")))
             want(what + ", mounted with more room", 0,
@@ -203,7 +205,8 @@ def small_disks(folder):
 
 
 def limits_of_files(folder):
-    """A limit on the size of files ends the program by its signal or is told, and what was held is there."""
+    """A limit on the size of files ends the program by its signal or is told, and what was held is there. A file may stay
+    within the limit: then all is held."""
     by_signal = 0
     for kib in (0, 1, 4, 40, 120, 300, 340, 420)[::min(step, 3)]:
         what = "files of at most %d KB" % kib
@@ -212,7 +215,7 @@ def limits_of_files(folder):
         output, status, told = replay(db, LARGE, preexec_fn=with_limit)
         held = len(held_in(output))
         by_signal += status == -signal.SIGXFSZ
-        within(what, [-signal.SIGXFSZ, 4], status)
+        within(what, [-signal.SIGXFSZ, 4] + [0] * (held == len(LARGE)), status)
         if status == 4:
             want(what + ", told", True, told.startswith("office: "))
         want(what + ", opened again", 0, replay(db, [])[1])
