@@ -44,7 +44,7 @@ pub fn opened<S: Alter>(
     conn: Connection<S>,
     setup: &Setup,
 ) -> Result<Tables<S>, (Met, Connection<S>)>
-    ensures { IfOk result (λ tables. tables.1.0 ≡ setup.now) }
+    ensures { IfOk result (λ tables. tables.setup ≡ setup.now) }
 {
     match Tables::open(alloc, conn, setup) {
         Ok(tables) => Ok(tables),

@@ -22,6 +22,12 @@ abbrev pub IsAfter : Lists → Content → ℕ → Option Bounded → Type 0
 IsAfter setup content run None = IsFinished content run → IsOffice setup content → ⊥
 IsAfter setup content run (Some office) = IsFinished content run × HoldsAfter setup content.kept run office
 
+-- What an office with so many finished runs tells of a source for a run: why the source stands where that run left it.
+-- Nothing is told of another run than the last finished one, nor where no run is finished.
+abbrev pub IsToldOfRun : Lists → Kept → ℕ → ℕ → List ℕ → Option (List ℕ) → Type 0
+IsToldOfRun setup kept finished run source None = run ≡ finished → run ≡ 0
+IsToldOfRun setup kept finished run source (Some text) = (run ≡ finished) × IsWhyAfter setup kept run source text
+
 -- why a source stands where a run left it
 abbrev pub IsToldAfter : Lists → Kept → ℕ → List ℕ → Option (List ℕ) → Type 0
 IsToldAfter setup kept run source None = ⊥

@@ -1,4 +1,4 @@
-//! An office in memory as an earlier run of a store left it.
+//! An office in memory as an earlier run of a store left it, and what offices tell of a run.
 #![tactic(auto, using(office_orders::proofs::LastFacts::lasting))]
 
 ghost use Rattle.std.specs.Prelude.{◌≡◌, ◌↔◌, ◌≤◌, ℕ, List, Option, Some, IsTrue, is_ok, IfOk, IfErr, OnOk, length};
@@ -9,15 +9,16 @@ ghost use Rattle.office_replies.specs.Counted.{Counted};
 ghost use Rattle.office_replies.specs.declared.faults.StoreFault.TheVariants as fault;
 ghost use Rattle.office_orders.specs.ReadsStore.{ReadsStore};
 ghost use Rattle.office_orders.specs.StaysTrusted.{StaysTrusted};
-ghost use Rattle.office_reasons.specs.Why.{IsWhy};
+ghost use Rattle.office_facts.specs.State.{IsSound, state_of};
 ghost use Rattle.office_checks.specs.Comparing.{IsAnew, IsMadeAfter};
-ghost use Rattle.office_checks.specs.Earlier.{IsAfter, IsToldAfter};
+ghost use Rattle.office_checks.specs.Earlier.{IsAfter, IsToldAfter, IsToldOfRun};
 ghost use Rattle.office_checks.specs.Reading.{IsFront};
 ghost use Rattle.office_checks.specs.Whole.{AreOfSenders, IsFinished};
 ghost use Rattle.office_checks.specs.declared.memory.Bounded.{Bounded};
 
 use crate::delivering::{make_anew, new_office};
 use crate::memory::Bounded;
+use deb_control::Text;
 use office_keeper::Keeper;
 use office_mail::Setup;
 use office_replies::StoreFault;
@@ -111,8 +112,35 @@ pub fn office_after<K: Keeper>(
     }
 }
 
-/// What an office that is as a run left it tells of a source is why the source stands where that run left it.
+/// Why a source stands where a run left it, by an office of which that is the last finished run. Nothing is told by any
+/// other office, nor where no run is finished: so the last run of a store is told over the store, and an earlier one
+/// over what `office_after` gives.
+///
+/// It fails for want of memory or of the store alone.
+pub fn why_of_run<K: Keeper>(
+    office: &mut Office<K>,
+    run: u32,
+    source: &str,
+) -> Result<Option<Text>, StoreFault>
+    ensures why { K.is_trusted office.new → IsSound K.Keeper office.old → IfOk result (IsToldOfRun (K.setup office.old) (K.content office.old).kept (state_of K.Keeper office.old).finished run source.now) }
+    ensures same { K.is_trusted office.new → K.content office.new ≡ K.content office.old }
+    ensures setup { K.setup office.new ≡ K.setup office.old }
+    ensures sound { K.is_trusted office.new → IsSound K.Keeper office.old → IsSound K.Keeper office.new }
+    ensures before { K.is_trusted office.new → K.is_trusted office.old }
+    ensures lasts { StaysTrusted K.Keeper office.old office.new (is_ok result) }
+    ensures counted { Counted (K.refusals office.old) (K.refusals office.new) result }
+{
+    let finished = office.finished()?;
+    if finished == run {
+        office.why_text(source)
+    } else {
+        Ok(None)
+    }
+}
+
+/// What an office that is as a run left it tells of a source for that run is why the source stands where that run left
+/// it.
 pub fn told_after_run()
     ensures { (setup : Lists) (content : Content) (run : ℕ) (office : Bounded) (source : List ℕ) (text : Option (List ℕ)) → IsAfter setup content run (Some office) →
-        IsWhy office.plain.setup (content_of office.plain).kept (length (content_of office.plain).reports) source text → IsToldAfter setup content.kept run source text }
+        IsToldOfRun office.plain.setup (content_of office.plain).kept (length (content_of office.plain).reports) run source text → IsToldAfter setup content.kept run source text }
 {}

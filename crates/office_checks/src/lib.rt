@@ -1,5 +1,6 @@
-//! Whether a store holds what an office leaves: all its runs are made anew from the mail that it keeps, and what it holds of
-//! them is compared. And an office in memory as an earlier run of a store left it, which is made of the same mail.
+//! Whether a store holds what an office leaves: all its runs are made anew from the mail that it keeps, and what it
+//! holds of them is compared. And an office in memory as an earlier run of a store left it, which is made of the same
+//! mail; and what an office tells of a source for a run.
 #![tactic(auto)]
 
 mod checking;
@@ -11,7 +12,7 @@ mod memory;
 mod telling;
 
 pub use checking::check;
-pub use earlier::{office_after, told_after_run};
+pub use earlier::{office_after, told_after_run, why_of_run};
 pub use memory::Bounded;
 pub use telling::{check_status, checked_text};
 

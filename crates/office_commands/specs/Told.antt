@@ -30,9 +30,9 @@ pub record TellsMail (state : OfficeState) (text : List ℕ) : Type 0 where
   pub counted : AreMailCounts state.kept (length state.setup.senders) counts
   pub text_is : text ≡ mail_text state.setup counts
 
--- The run that is asked about, where so many are finished: the last finished one, where it or none is named; an earlier one; or one that isn't
--- finished.
+-- The run that is asked about, where so many are finished: the last finished one, where it or none is named; an earlier one;
+-- or one that isn't finished.
 abbrev pub IsAsked : ℕ → Option ℕ → Asked → Type 0
-IsAsked finished run Last = (run ≡ None) ⊎ (run ≡ Some finished)
+IsAsked finished run (Last k) = (k ≡ finished) × ((run ≡ None) ⊎ (run ≡ Some k))
 IsAsked finished run (Earlier k) = (run ≡ Some k) × (k < finished)
 IsAsked finished run Unfinished = (k : ℕ) × (run ≡ Some k) × (finished < k)

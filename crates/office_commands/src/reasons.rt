@@ -9,7 +9,7 @@ use crate::tasks::{
 };
 use crate::telling::{print_text, refuse};
 use deb_control::Text;
-use office_checks::office_after;
+use office_checks::{office_after, why_of_run};
 use office_files::{open_store, read_setup};
 use office_http::{Office, StoreFault};
 use office_mail::Setup;
@@ -24,7 +24,7 @@ const SILENT: u8 = 1;
 #[derive(Drop)]
 pub enum Asked {
     /// The last finished one, which is asked about where none is named.
-    Last,
+    Last { run: u32 },
     /// An earlier one.
     Earlier { run: u32 },
     /// One that isn't finished.
@@ -132,7 +132,7 @@ fn asked_of(finished: u32, run: Option<u32>) -> Asked
     match run {
         Some(run) if run < finished => Asked::Earlier { run },
         Some(run) if run > finished => Asked::Unfinished,
-        _ => Asked::Last,
+        _ => Asked::Last { run: finished },
     }
 }
 
@@ -145,7 +145,7 @@ fn tell_last<K: Keeper>(
     sources: &[&str],
 ) -> u8 {
     match asked {
-        Ok(Asked::Last) => tell_sources(rt, office, sources),
+        Ok(Asked::Last { run }) => tell_sources(rt, office, run, sources),
         Ok(_) => SILENT,
         Err(fault) => refuse(rt, fault),
     }
@@ -163,7 +163,7 @@ fn tell_earlier<K: Keeper>(
     match office_after(rt.alloc(), setup, keeper, run) {
         Ok(Some(office)) => {
             let mut office = office;
-            tell_sources(rt, &mut office, sources)
+            tell_sources(rt, &mut office, run, sources)
         }
         Ok(None) => {
             let _ = eprintln!(rt;
@@ -175,11 +175,17 @@ fn tell_earlier<K: Keeper>(
     }
 }
 
-/// Prints what is told of each source for the last finished run of an office, and gives the exit status.
-fn tell_sources<K: Keeper>(rt: &HostRuntime, office: &mut Office<K>, sources: &[&str]) -> u8 {
+/// Prints why each source stands where a run left it, by an office of which that is the last finished run, and gives
+/// the exit status.
+fn tell_sources<K: Keeper>(
+    rt: &HostRuntime,
+    office: &mut Office<K>,
+    run: u32,
+    sources: &[&str],
+) -> u8 {
     let mut status = 0;
     for source in sources {
-        match tell_source(rt, office, source) {
+        match tell_source(rt, office, run, source) {
             0 => {}
             SILENT => status = SILENT,
             failed => return failed,
@@ -188,10 +194,10 @@ fn tell_sources<K: Keeper>(rt: &HostRuntime, office: &mut Office<K>, sources: &[
     status
 }
 
-/// Prints what is told of a source for the last finished run of an office, and gives the exit status. Nothing is printed
-/// where no run is finished.
-fn tell_source<K: Keeper>(rt: &HostRuntime, office: &mut Office<K>, source: &str) -> u8 {
-    match office.why_text(source) {
+/// Prints why a source stands where a run left it, by an office of which that is the last finished run, and gives the
+/// exit status. Nothing is printed where no run is finished.
+fn tell_source<K: Keeper>(rt: &HostRuntime, office: &mut Office<K>, run: u32, source: &str) -> u8 {
+    match why_of_run(office, run, source) {
         Ok(Some(text)) => print_text(rt, &text, status_of(&text)),
         Ok(None) => SILENT,
         Err(fault) => refuse(rt, fault),

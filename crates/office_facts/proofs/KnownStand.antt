@@ -31,7 +31,6 @@ use Rattle.office_facts.specs.Outcome.{covered_items}
 use Rattle.office_orders.specs.Ready.{FirstOrders}
 use Rattle.office_facts.specs.State.{IsOffice}
 use Rattle.office_facts.specs.Walk.{said_within}
-use Rattle.office_facts.proofs.RestoringFacts.{IsWhole}
 use Rattle.office_facts.proofs.SaidFacts.{one_of_all, said_at_place}
 use Rattle.office_facts.proofs.TakenFacts.{said_within-same}
 use Rattle.office_facts.proofs.WalkFacts.{of_text, one_of_each, same_messages, within_place}
@@ -160,10 +159,3 @@ pushed_covers taken more cover n covers size same are is = (
       ap (λ (l : List ℕ). slice_index l s) are ∙ get_or_push taken cover 0 s (size ∙ sym at) ∙ is ∙ ap covers (sym at))
       (cases_lt s n),
 )
-
--- facts that were put back whole are known of the finished runs
-pub whole_stand : (setup : Lists) (content : Content) (orders : List RunOrder) (f : FactLists) (taken : List ℕ) → IsWhole setup content f → ((s : ℕ) → s < length setup.senders → slice_index taken s ≡ cover_of (take (length orders - 1) orders) s)
-    → IsOffice setup content → FirstOrders setup content.kept orders → length orders ≡ length content.reports + 1 → StandsFor f (said_within setup content.kept (slice_index taken) (length setup.senders)) content.testing
-whole_stand setup content orders f taken whole covers office first size =
-    rows_stand setup content f (slice_index taken) office whole.way.tells whole.rows
-    (λ s low. covers s low ∙ ap (λ (os : List RunOrder). cover_of os s) (finished_orders setup content.kept orders (length content.reports) first size))

@@ -1,7 +1,7 @@
 //! The facts of a run's covered messages: taken from the store, on from those of the run before.
 #![tactic(auto, using(office_orders::proofs::LastFacts::lasting))]
 
-ghost use Rattle.std.specs.Prelude.{◌≡◌, ◌≢◌, ℕ, ◌+◌, ◌<◌, ◌≤◌, ◌++◌, ◌-◌, [], Contains, Some, take, IsTrue, IfOk, IfErr, IfSome, OnOk, length, option_to_list, slice_index};
+ghost use Rattle.std.specs.Prelude.{◌≡◌, ◌≢◌, ℕ, ◌+◌, ◌<◌, ◌≤◌, ◌++◌, [], Contains, Some, IsTrue, IfOk, IfErr, IfSome, OnOk, length, option_to_list, slice_index};
 ghost use Rattle.std.specs.FinMap.{get};
 ghost use Rattle.testing_model.specs.FactLists.{no_facts};
 ghost use Rattle.testing_model.specs.FactRows.{rows_of};
@@ -10,7 +10,7 @@ ghost use Rattle.testing_model.specs.Covered.{Covered, CoveredItem, upload_of};
 ghost use Rattle.testing_model.specs.StandsFor.{StandsFor, StandsForNone};
 ghost use Rattle.testing_facts.specs.Uploads.{AreByMessage};
 ghost use Rattle.testing_model.specs.Suite.{Suite};
-ghost use Rattle.office_mail.specs.Runs.{cover_of};
+ghost use Rattle.office_mail.specs.Runs.{cover_of, orders_to};
 ghost use Rattle.office_keeper.specs.Content.{Content};
 ghost use Rattle.office_keeper.specs.FactSet.{rows_in};
 ghost use Rattle.office_facts.specs.Known.{AreKnown, AreUnderWay, said_all};
@@ -115,6 +115,28 @@ fn begin<K: Keeper>(
         → IfOk result (λ known. StandsFor known.facts (said_within setup.now (K.content keeper.old).kept (slice_index known.taken.items) (length setup.now.senders)) (K.content keeper.old).testing) }
     ensures looks { ReadsStore K.Keeper keeper.old keeper.new result }
 {
+    finished_facts(
+        alloc,
+        setup,
+        keeper,
+        &orders[..orders.len().saturating_sub(1)],
+    )
+}
+
+/// What is known of the finished runs, of which these are the orders: the facts whose rows the store keeps. Where these
+/// aren't what kept mail says, nothing is known.
+pub(crate) fn finished_facts<K: Keeper>(
+    alloc: Global,
+    setup: &Setup,
+    keeper: &mut K,
+    orders: &[RunOrder],
+) -> Result<KnownFacts, StoreFault>
+    ensures within { IfOk result (λ known. (s : ℕ) → slice_index known.taken.items s ≤ cover_of orders.now s) }
+    ensures way { K.is_trusted keeper.new → IfOk result (λ known. AreUnderWay setup.now (K.content keeper.old) known.facts) }
+    ensures stand { K.is_trusted keeper.new → IsOffice setup.now (K.content keeper.old) → orders.now ≡ orders_to setup.now (K.content keeper.old).kept (length (K.content keeper.old).reports)
+        → IfOk result (λ known. StandsFor known.facts (said_within setup.now (K.content keeper.old).kept (slice_index known.taken.items) (length setup.now.senders)) (K.content keeper.old).testing) }
+    ensures looks { ReadsStore K.Keeper keeper.old keeper.new result }
+{
     let rows = stored::facts(keeper)?;
     let facts = put_back(alloc, setup, keeper, rows.as_slice())?;
     Ok(known_by(alloc, setup, orders, rows.as_slice(), facts)?)
@@ -133,7 +155,7 @@ fn known_by(
     ensures way { IfOk result (λ known. (content : Content) → rows.now ≡ rows_in content.facts → HavePutBack (said_all setup.now content.kept) rows.now no_facts facts
         → AreUnderWay setup.now content known.facts) }
     ensures stand { IfOk result (λ known. (content : Content) → rows.now ≡ rows_in content.facts → HavePutBack (said_all setup.now content.kept) rows.now no_facts facts
-        → IsOffice setup.now content → FirstOrders setup.now content.kept orders.now → length orders.now ≡ length content.reports + 1
+        → IsOffice setup.now content → orders.now ≡ orders_to setup.now content.kept (length content.reports)
         → StandsFor known.facts (said_within setup.now content.kept (slice_index known.taken.items) (length setup.now.senders)) content.testing) }
     ensures no_store { IfErr result (λ fault. fault ≡ StoreFault.NoMemory) }
 {
@@ -145,15 +167,8 @@ fn known_by(
     }
 }
 
-/// Whether the facts have as many rows as these.
-pub fn has_all(facts: &Facts, rows: &[FactRow]) -> bool
-    ensures { IsTrue result → length (rows_of facts.now) ≡ length rows.now }
-{
-    facts.count() == rows.len() as u128
-}
-
-/// Facts that are known of the runs of all but the last of these orders. It fails for want of memory alone.
-fn known_at(
+/// Facts that are known of the runs of these orders. It fails for want of memory alone.
+pub(crate) fn known_at(
     alloc: Global,
     setup: &Setup,
     orders: &[RunOrder],
@@ -161,18 +176,25 @@ fn known_at(
 ) -> Result<KnownFacts, StoreFault>
     ensures same { IfOk result (λ known. known.facts ≡ facts) }
     ensures by_message { IfOk result (λ known. AreByMessage known.facts.uploads) }
-    ensures taken { IfOk result (λ known. (s : ℕ) → s < length setup.now.senders → slice_index known.taken.items s ≡ cover_of (take (length orders.now - 1) orders.now) s) }
+    ensures taken { IfOk result (λ known. (s : ℕ) → s < length setup.now.senders → slice_index known.taken.items s ≡ cover_of orders.now s) }
     ensures within { IfOk result (λ known. (s : ℕ) → slice_index known.taken.items s ≤ cover_of orders.now s) }
     ensures no_store { IfErr result (λ fault. fault ≡ StoreFault.NoMemory) }
 {
     let _ = facts.uploads();
-    match covers(alloc, setup, &orders[..orders.len().saturating_sub(1)]) {
+    match covers(alloc, setup, orders) {
         Ok(taken) => Ok(KnownFacts { facts, taken }),
         Err(fault) => {
             drop(facts);
             Err(fault)
         }
     }
+}
+
+/// Whether the facts have as many rows as these.
+pub fn has_all(facts: &Facts, rows: &[FactRow]) -> bool
+    ensures { IsTrue result → length (rows_of facts.now) ≡ length rows.now }
+{
+    facts.count() == rows.len() as u128
 }
 
 /// The covers of these orders, sender by sender. It fails for want of memory alone.

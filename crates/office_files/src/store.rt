@@ -1,6 +1,6 @@
 //! The store in a file: its tables are opened, and closed.
 
-ghost use Rattle.std.specs.Prelude.{◌≡◌, IfOk, OnOk};
+ghost use Rattle.std.specs.Prelude.{◌≡◌, None, IfOk, OnOk};
 ghost use Rattle.sqlite.specs.Files as files;
 ghost use Rattle.sqlite.specs.Files.{file_state};
 ghost use Rattle.sqlite.specs.Held.{state, IsNew};
@@ -91,12 +91,13 @@ pub fn open_tables<S: Alter + Drop>(
     conn: Connection<S>,
     setup: &Setup,
 ) -> Result<Tables<S>, StoreFault>
-    ensures opened { IfOk result (λ tables. IsTrusted (state S.Store tables.0) → IsOpened setup.now (state S.Store conn).now (state S.Store tables.0).now) }
-    ensures before { IfOk result (λ tables. IsTrusted (state S.Store tables.0) → IsTrusted (state S.Store conn)) }
-    ensures stays { IfOk result (λ tables. HasCleanDisk (state S.Store tables.0) → IsTrusted (state S.Store conn) → IsAlone (state S.Store conn).now → IsTrusted (state S.Store tables.0)) }
-    ensures lasts { IfOk result (λ tables. Endures (state S.Store conn) (state S.Store tables.0)) }
+    ensures opened { IfOk result (λ tables. IsTrusted (state S.Store tables.conn) → IsOpened setup.now (state S.Store conn).now (state S.Store tables.conn).now) }
+    ensures before { IfOk result (λ tables. IsTrusted (state S.Store tables.conn) → IsTrusted (state S.Store conn)) }
+    ensures stays { IfOk result (λ tables. HasCleanDisk (state S.Store tables.conn) → IsTrusted (state S.Store conn) → IsAlone (state S.Store conn).now → IsTrusted (state S.Store tables.conn)) }
+    ensures lasts { IfOk result (λ tables. Endures (state S.Store conn) (state S.Store tables.conn)) }
     ensures takes { OnOk result (IsTakeable (state S.Store conn).now.schema) }
-    ensures setup { IfOk result (λ tables. tables.1.0 ≡ setup.now) }
+    ensures setup { IfOk result (λ tables. tables.setup ≡ setup.now) }
+    ensures memory { IfOk result (λ tables. tables.in_memory ≡ None) }
 {
     match Tables::open(alloc, conn, setup) {
         Ok(tables) => Ok(tables),
@@ -127,9 +128,10 @@ pub fn open_store<S: Start>(
     start: S,
     setup: &Setup,
 ) -> Result<Tables<FileStore<FileFrom<S>>>, StoreFault>
-    ensures opens { IfOk result (λ tables. HasCleanDisk (file_state tables.0) → OpensStore (image_at S.Start) tables.0) }
-    ensures finds { IfOk result (λ tables. IsTrusted (file_state tables.0) → FindsStore (image_at S.Start) setup.now tables.0) }
-    ensures setup { IfOk result (λ tables. tables.1.0 ≡ setup.now) }
+    ensures opens { IfOk result (λ tables. HasCleanDisk (file_state tables.conn) → OpensStore (image_at S.Start) tables.conn) }
+    ensures finds { IfOk result (λ tables. IsTrusted (file_state tables.conn) → FindsStore (image_at S.Start) setup.now tables.conn) }
+    ensures setup { IfOk result (λ tables. tables.setup ≡ setup.now) }
+    ensures memory { IfOk result (λ tables. tables.in_memory ≡ None) }
 {
     let conn = open_database(rt, path, start)?;
     let tables = open_tables(rt.alloc(), conn, setup)?;

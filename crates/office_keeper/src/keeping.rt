@@ -230,7 +230,7 @@ pub trait Keeper {
 
     /// The testing suite for the next run, as `testing`: a store that has what speeds that run hands it out along with it.
     fn next_testing(&mut self) -> Result<Testing, KeepFault>
-        ensures value { is_trusted self.new → IfOk result (λ testing. testing ≡ (content self.old).testing) }
+        ensures value { is_trusted self.new → is_legible self.new → IfOk result (λ testing. testing ≡ (content self.old).testing) }
         ensures archs { IfOk result (λ testing. KnowsArchs (setup self.new).archs testing.rows) }
         ensures same { is_trusted self.new → content self.new ≡ content self.old }
         ensures setup { setup self.new ≡ setup self.old }
@@ -249,7 +249,7 @@ pub trait Keeper {
     /// Takes a testing back that `next_testing` handed out and that no run changed: a store that keeps what speeds the next
     /// run has it again. It changes nothing else.
     fn give_back(&mut self, testing: Testing)
-        requires same { is_trusted self.old → testing ≡ (content self.old).testing }
+        requires same { is_trusted self.old → is_legible self.old → testing ≡ (content self.old).testing }
         ensures same { is_trusted self.new → content self.new ≡ content self.old }
         ensures setup { setup self.new ≡ setup self.old }
         ensures clean { is_clean self.new → is_clean self.old }

@@ -129,18 +129,9 @@ pub fn reports<K: Keeper>(keeper: &mut K, run: u32) -> Result<Option<Reports>, S
     Ok(keeper.reports(run)?)
 }
 
-/// Testing, as the last finished run left it.
-pub fn testing<K: Keeper>(keeper: &mut K) -> Result<Testing, StoreFault>
-    ensures value { K.is_trusted keeper.new → IfOk result (λ testing. testing ≡ (K.content keeper.old).testing) }
-    ensures archs { IfOk result (λ testing. KnowsArchs (K.setup keeper.new).archs testing.rows) }
-    ensures looks { ReadsStore K.Keeper keeper.old keeper.new result }
-{
-    Ok(keeper.testing()?)
-}
-
-/// Testing for the next run, as the last finished one left it.
+/// Testing as the last finished run left it, with what speeds the next run.
 pub fn next_testing<K: Keeper>(keeper: &mut K) -> Result<Testing, StoreFault>
-    ensures value { K.is_trusted keeper.new → IfOk result (λ testing. testing ≡ (K.content keeper.old).testing) }
+    ensures value { K.is_trusted keeper.new → K.is_legible keeper.new → IfOk result (λ testing. testing ≡ (K.content keeper.old).testing) }
     ensures archs { IfOk result (λ testing. KnowsArchs (K.setup keeper.new).archs testing.rows) }
     ensures looks { ReadsStore K.Keeper keeper.old keeper.new result }
 {

@@ -59,7 +59,7 @@ fn tell_by<K: Keeper>(
     reports: &Reports,
     source: &str,
 ) -> Result<Option<Text>, StoreFault>
-    ensures told { K.is_trusted keeper.new → IfOk result (λ found. (s : Covered) → StandsFor facts.now s (K.content keeper.old).testing
+    ensures told { K.is_trusted keeper.new → K.is_legible keeper.old → IfOk result (λ found. (s : Covered) → StandsFor facts.now s (K.content keeper.old).testing
         → IsToldWith setup.now s (K.content keeper.old).testing run date (Some reports.now) source.now found) }
     ensures looks { ReadsStore K.Keeper keeper.old keeper.new result }
 {
@@ -88,7 +88,7 @@ fn tell<K: Keeper>(
     date: Date,
     source: &str,
 ) -> Result<Option<Text>, StoreFault>
-    ensures told { K.is_trusted keeper.new → IfOk result (λ found. (s : Covered) → StandsFor facts.now s (K.content keeper.old).testing
+    ensures told { K.is_trusted keeper.new → K.is_legible keeper.old → IfOk result (λ found. (s : Covered) → StandsFor facts.now s (K.content keeper.old).testing
         → IsToldWith setup.now s (K.content keeper.old).testing run date (item_from_one run (K.content keeper.old).reports) source.now found) }
     ensures looks { ReadsStore K.Keeper keeper.old keeper.new result }
 {
@@ -109,7 +109,7 @@ fn tell_unknown<K: Keeper>(
     date: Date,
     source: &str,
 ) -> Result<Option<Text>, StoreFault>
-    ensures told { K.is_trusted keeper.new → IsOffice setup.now (K.content keeper.old) → FirstOrders setup.now (K.content keeper.old).kept orders.now → length orders.now ≡ length (K.content keeper.old).reports
+    ensures told { K.is_trusted keeper.new → K.is_legible keeper.old → IsOffice setup.now (K.content keeper.old) → FirstOrders setup.now (K.content keeper.old).kept orders.now → length orders.now ≡ length (K.content keeper.old).reports
         → IfOk result (IsToldWith setup.now (covered_items setup.now (K.content keeper.old).kept (length (K.content keeper.old).reports)) (K.content keeper.old).testing run date (item_from_one run (K.content keeper.old).reports) source.now) }
     ensures looks { ReadsStore K.Keeper keeper.old keeper.new result }
 {
@@ -131,7 +131,7 @@ fn tell_known<K: Keeper>(
     date: Date,
     source: &str,
 ) -> Result<Option<Text>, StoreFault>
-    ensures told { K.is_trusted keeper.new → IsOffice setup.now (K.content keeper.old) → FirstOrders setup.now (K.content keeper.old).kept orders.now → length orders.now ≡ length (K.content keeper.old).reports
+    ensures told { K.is_trusted keeper.new → K.is_legible keeper.old → IsOffice setup.now (K.content keeper.old) → FirstOrders setup.now (K.content keeper.old).kept orders.now → length orders.now ≡ length (K.content keeper.old).reports
         → IfSome known.now (λ known. AreKnown setup.now (K.content keeper.old) known)
         → IfOk result (IsToldWith setup.now (covered_items setup.now (K.content keeper.old).kept (length (K.content keeper.old).reports)) (K.content keeper.old).testing run date (item_from_one run (K.content keeper.old).reports) source.now) }
     ensures looks { ReadsStore K.Keeper keeper.old keeper.new result }
@@ -156,7 +156,7 @@ fn why_on<K: Keeper>(
 ) -> Result<Option<Text>, StoreFault>
     ensures known { K.is_trusted keeper.new → FirstOrders setup.now (K.content keeper.old).kept orders.now → run ≡ length (K.content keeper.old).reports
         → IfSome known.old (λ known. AreKnown setup.now (K.content keeper.old) known) → IfSome known.new (λ known. AreKnown setup.now (K.content keeper.old) known) }
-    ensures told { K.is_trusted keeper.new → IsOffice setup.now (K.content keeper.old) → FirstOrders setup.now (K.content keeper.old).kept orders.now → length orders.now ≡ length (K.content keeper.old).reports → run ≡ length (K.content keeper.old).reports
+    ensures told { K.is_trusted keeper.new → K.is_legible keeper.old → IsOffice setup.now (K.content keeper.old) → FirstOrders setup.now (K.content keeper.old).kept orders.now → length orders.now ≡ length (K.content keeper.old).reports → run ≡ length (K.content keeper.old).reports
         → IfSome known.old (λ known. AreKnown setup.now (K.content keeper.old) known)
         → IfOk result (IsToldWith setup.now (covered_items setup.now (K.content keeper.old).kept (length (K.content keeper.old).reports)) (K.content keeper.old).testing run date (item_from_one run (K.content keeper.old).reports) source.now) }
     ensures looks { ReadsStore K.Keeper keeper.old keeper.new result }
@@ -177,7 +177,7 @@ fn why_after<K: Keeper>(
 ) -> Result<Option<Text>, StoreFault>
     ensures known { K.is_trusted keeper.new → FirstOrders setup.now (K.content keeper.old).kept orders.now → run ≡ length (K.content keeper.old).reports
         → IfSome known.old (λ known. AreKnown setup.now (K.content keeper.old) known) → IfSome known.new (λ known. AreKnown setup.now (K.content keeper.old) known) }
-    ensures why { K.is_trusted keeper.new → IsOffice setup.now (K.content keeper.old) → FirstOrders setup.now (K.content keeper.old).kept orders.now → length orders.now ≡ length (K.content keeper.old).reports → run ≡ length (K.content keeper.old).reports
+    ensures why { K.is_trusted keeper.new → K.is_legible keeper.old → IsOffice setup.now (K.content keeper.old) → FirstOrders setup.now (K.content keeper.old).kept orders.now → length orders.now ≡ length (K.content keeper.old).reports → run ≡ length (K.content keeper.old).reports
         → IfSome known.old (λ known. AreKnown setup.now (K.content keeper.old) known)
         → IfOk result (IsWhy setup.now (K.content keeper.old).kept (length (K.content keeper.old).reports) source.now) }
     ensures looks { ReadsStore K.Keeper keeper.old keeper.new result }
@@ -202,7 +202,7 @@ pub fn why_text<K: Keeper>(
     source: &str,
 ) -> Result<Option<Text>, StoreFault>
     requires known { K.is_trusted keeper.old → IfSome known.old (λ known. AreKnown setup.now (K.content keeper.old) known) }
-    ensures why { K.is_trusted keeper.new → IsOffice setup.now (K.content keeper.old) → IfOk result (IsWhy setup.now (K.content keeper.old).kept (length (K.content keeper.old).reports) source.now) }
+    ensures why { K.is_trusted keeper.new → K.is_legible keeper.old → IsOffice setup.now (K.content keeper.old) → IfOk result (IsWhy setup.now (K.content keeper.old).kept (length (K.content keeper.old).reports) source.now) }
     ensures known { K.is_trusted keeper.new → IfSome known.new (λ known. AreKnown setup.now (K.content keeper.new) known) }
     ensures same { K.is_trusted keeper.new → K.content keeper.new ≡ K.content keeper.old }
     ensures setup { K.setup keeper.new ≡ K.setup keeper.old }

@@ -39,13 +39,13 @@ pub fn next_outcome<K: Keeper>(
     requires known { K.is_trusted keeper.old → IfSome before (λ known. AreKnown setup.now (K.content keeper.old) known) }
     requires some { 0 < length orders.now }
     requires lists { K.setup keeper.old ≡ setup.now }
-    ensures outcome { K.is_trusted keeper.new → IsOffice setup.now (K.content keeper.old) → FirstOrders setup.now (K.content keeper.old).kept orders.now → length orders.now ≡ length (K.content keeper.old).reports + 1 → run ≡ length (K.content keeper.old).reports + 1
+    ensures outcome { K.is_trusted keeper.new → K.is_legible keeper.old → IsOffice setup.now (K.content keeper.old) → FirstOrders setup.now (K.content keeper.old).kept orders.now → length orders.now ≡ length (K.content keeper.old).reports + 1 → run ≡ length (K.content keeper.old).reports + 1
         → IfOk result (λ left. outcome_in left.0 ≡ outcome_of setup.now (K.content keeper.old).kept run) }
-    ensures watched { K.is_trusted keeper.new → AllWatchedWork setup.now.archs (K.content keeper.old).testing.rows → IfOk result (λ left. AllWatchedWork setup.now.archs left.0.testing.rows) }
+    ensures watched { K.is_trusted keeper.new → K.is_legible keeper.old → AllWatchedWork setup.now.archs (K.content keeper.old).testing.rows → IfOk result (λ left. AllWatchedWork setup.now.archs left.0.testing.rows) }
     ensures known { K.is_trusted keeper.new → IfOk result (λ left. KnowsArchs setup.now.archs left.0.testing.rows) }
-    ensures given { K.is_trusted keeper.new → AreOwnTexts setup.now (K.content keeper.old).kept → IfOk result (λ left. IsGiven setup.now (K.content keeper.old) left.0.testing) }
+    ensures given { K.is_trusted keeper.new → K.is_legible keeper.old → AreOwnTexts setup.now (K.content keeper.old).kept → IfOk result (λ left. IsGiven setup.now (K.content keeper.old) left.0.testing) }
     // The facts that go with the testing that is left: known by trust alone are their rows, and how these changed.
-    ensures kept { K.is_trusted keeper.new → IsOffice setup.now (K.content keeper.old) → FirstOrders setup.now (K.content keeper.old).kept orders.now → length orders.now ≡ length (K.content keeper.old).reports + 1
+    ensures kept { K.is_trusted keeper.new → K.is_legible keeper.old → IsOffice setup.now (K.content keeper.old) → FirstOrders setup.now (K.content keeper.old).kept orders.now → length orders.now ≡ length (K.content keeper.old).reports + 1
         → IfOk result (λ left. KeptFacts left.1.facts (said_within setup.now (K.content keeper.old).kept (cover_of orders.now) (length setup.now.senders)) left.0.testing) }
     ensures way { K.is_trusted keeper.new → IfOk result (λ left. AreUnderWay setup.now (K.content keeper.old) left.1.facts) }
     ensures held { K.is_trusted keeper.new → AreOwnTexts setup.now (K.content keeper.old).kept → IfOk result (λ left. AreHoldable setup.now (facts_after left.0.facts (K.content keeper.old).facts)) }
@@ -76,11 +76,11 @@ fn leave<K: Keeper>(
     date: Date,
 ) -> Result<Finished, StoreFault>
     requires lists { K.setup keeper.old ≡ setup.now }
-    ensures outcome { K.is_trusted keeper.new → IfOk result (λ done. (s : Covered) → StandsFor known.old.facts s (K.content keeper.old).testing → outcome_in done ≡ outcome setup.now run date s (K.content keeper.old).testing) }
-    ensures watched { K.is_trusted keeper.new → AllWatchedWork setup.now.archs (K.content keeper.old).testing.rows → IfOk result (λ done. AllWatchedWork setup.now.archs done.testing.rows) }
+    ensures outcome { K.is_trusted keeper.new → K.is_legible keeper.old → IfOk result (λ done. (s : Covered) → StandsFor known.old.facts s (K.content keeper.old).testing → outcome_in done ≡ outcome setup.now run date s (K.content keeper.old).testing) }
+    ensures watched { K.is_trusted keeper.new → K.is_legible keeper.old → AllWatchedWork setup.now.archs (K.content keeper.old).testing.rows → IfOk result (λ done. AllWatchedWork setup.now.archs done.testing.rows) }
     ensures known { K.is_trusted keeper.new → AreUnderWay setup.now (K.content keeper.old) known.old.facts → IfOk result (λ done. KnowsArchs setup.now.archs done.testing.rows) }
-    ensures given { K.is_trusted keeper.new → AreUnderWay setup.now (K.content keeper.old) known.old.facts → AreOwnTexts setup.now (K.content keeper.old).kept → IfOk result (λ done. IsGiven setup.now (K.content keeper.old) done.testing) }
-    ensures kept { K.is_trusted keeper.new → StandsFor known.old.facts (said_within setup.now (K.content keeper.old).kept (slice_index known.old.taken.items) (length setup.now.senders)) (K.content keeper.old).testing
+    ensures given { K.is_trusted keeper.new → K.is_legible keeper.old → AreUnderWay setup.now (K.content keeper.old) known.old.facts → AreOwnTexts setup.now (K.content keeper.old).kept → IfOk result (λ done. IsGiven setup.now (K.content keeper.old) done.testing) }
+    ensures kept { K.is_trusted keeper.new → K.is_legible keeper.old → StandsFor known.old.facts (said_within setup.now (K.content keeper.old).kept (slice_index known.old.taken.items) (length setup.now.senders)) (K.content keeper.old).testing
         → IfOk result (λ done. KeptFacts known.new.facts (said_within setup.now (K.content keeper.old).kept (slice_index known.old.taken.items) (length setup.now.senders)) done.testing) }
     ensures way { K.is_trusted keeper.new → AreUnderWay setup.now (K.content keeper.old) known.old.facts → OnOk result (AreUnderWay setup.now (K.content keeper.old) known.new.facts) }
     ensures held { K.is_trusted keeper.new → AreUnderWay setup.now (K.content keeper.old) known.old.facts → AreOwnTexts setup.now (K.content keeper.old).kept → IfOk result (λ done. AreHoldable setup.now (facts_after done.facts (K.content keeper.old).facts)) }

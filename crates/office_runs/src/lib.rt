@@ -8,6 +8,7 @@ mod leaving;
 mod office;
 mod posting;
 pub mod runs;
+mod texts;
 
 pub use gathering::Reply;
 pub use office::Office;

@@ -21,7 +21,8 @@ ghost use Rattle.office_trials.specs.Trial.{IsTrial};
 use crate::gathering::{Reply, keep_texts};
 use crate::posting::deliver;
 use crate::runs::settle;
-use deb_control::{NoMemory, Text};
+use crate::texts::kept_testing_text;
+use deb_control::Text;
 use office_facts::covered::KnownFacts;
 use office_keeper::{Keeper, MailText, Reports};
 use office_mail::{RunOrder, Setup};
@@ -33,7 +34,6 @@ use office_replies::{DeliverFault, Held, Progress, StoreFault, Waiting};
 use office_trials::{Terms, Trial, try_hints};
 use std::alloc::Global;
 use std::marker::Model;
-use testing_rules::Testing;
 
 /// An office over a store, of which its contracts speak. Beside it stand for each sender how many numbers are known to be
 /// kept, the run orders that were read, and the facts of the mail that the last run covered.
@@ -279,10 +279,7 @@ impl<K: Keeper> Office<K> {
         ensures counted { Counted (K.refusals self.old) (K.refusals self.new) result }
     {
         let finished = stored::finished(&mut self.keeper)?;
-        let testing = stored::testing(&mut self.keeper)?;
-        let text = testing_text(self.alloc, &self.setup, finished, &testing);
-        drop(testing);
-        Ok(text?)
+        kept_testing_text(self.alloc, &self.setup, &mut self.keeper, finished)
     }
 
     /// The excuses of a run, none of a run that isn't finished. It fails for want of memory or of the store alone.
@@ -380,18 +377,4 @@ fn update_in(reports: Option<Reports>) -> Option<Text>
         Some(reports) => Some(reports.updates),
         None => None,
     }
-}
-
-/// The text of testing after a number of runs.
-#[tactic(auto, unfolding(office_facts::specs::Outcome::testing_text))]
-fn testing_text(
-    alloc: Global,
-    setup: &Setup,
-    finished: u32,
-    testing: &Testing,
-) -> Result<Text, NoMemory>
-    ensures { IfOk result (λ text. text ≡ testing_text setup.now finished testing.now) }
-{
-    let text = testing_rules::testing_text(alloc, setup.archs(), finished, testing)?;
-    Ok(Text::from_string(text))
 }

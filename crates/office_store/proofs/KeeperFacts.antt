@@ -1,8 +1,9 @@
 -- What the calls of a keeper over tables leave of what it holds.
-use Rattle.std.proofs.Common.{◌≡◌, ◌≢◌, length, Result, Err, IfOk, sym, subst, ◌∙◌}
+use Rattle.std.proofs.Common.{◌≡◌, ◌≢◌, ◌⊎◌, inl, inr, length, Option, Some, IfSome, Result, Ok, Err, IfOk, sym, ap, subst, ◌∙◌}
 use Rattle.sqlite.specs.Effect.{Database}
 use Rattle.sqlite.specs.State.{State}
 use Rattle.sqlite.specs.Tree.{Trees}
+use Rattle.testing_model.specs.Suite.{Suite}
 use Rattle.office_mail.specs.Lists.{Lists}
 use Rattle.office_keeper.specs.declared.faults.KeepFault.{KeepFault}
 use Rattle.office_keeper.specs.declared.faults.KeepFault.TheVariants.{Store}
@@ -12,10 +13,33 @@ use Rattle.office_tables.specs.Legible.{IsLegible}
 use Rattle.office_tables.specs.Tables.{run_map, said_in}
 use Rattle.office_tables.specs.TableSteps.{Same}
 use Rattle.office_tables.proofs.ReportFacts.{length_reports}
+use Rattle.office_store.specs.TablesState.{IsLegibleStore}
 
 -- tables that a call left as they were stay legible
 pub legible_same : (setup : Lists) (old new : State) → Same old new → IsLegible setup old.now.trees → IsLegible setup new.now.trees
 legible_same setup old new same was = subst (λ (d : Database). IsLegible setup d.trees) (sym same.now) was
+
+-- so does the store with its testing in memory
+pub store_same : (setup : Lists) (old new : State) (in_memory : Option Suite) → Same old new → IsLegibleStore setup old.now.trees in_memory → IsLegibleStore setup new.now.trees in_memory
+store_same setup old new in_memory same was = subst (λ (d : Database). IsLegibleStore setup d.trees in_memory) (sym same.now) was
+
+-- and it was so before the call
+pub store_before : (setup : Lists) (old new : State) (in_memory : Option Suite) → Same old new → IsLegibleStore setup new.now.trees in_memory → IsLegibleStore setup old.now.trees in_memory
+store_before setup old new in_memory same is = subst (λ (d : Database). IsLegibleStore setup d.trees in_memory) same.now is
+
+-- testing in memory is what the tables hold, where they hold the same testing as before
+pub still_held : (in_memory : Option Suite) (old new : Suite) → new ≡ old → IfSome in_memory (λ testing. testing ≡ old) → IfSome in_memory (λ testing. testing ≡ new)
+still_held in_memory old new same was = subst (λ (s : Suite). IfSome in_memory (λ testing. testing ≡ s)) (sym same) was
+
+-- testing for the next run is what the tables hold, where it was read there and where it was in memory
+pub next_is : {E : Type 0} (result given : Result Suite E) (setup : Lists) (old new : State) (in_memory : Option Suite) → result ≡ given → Same old new → IfSome in_memory (λ testing. testing ≡ (content_in setup old.now.trees).testing)
+    → IfOk given (λ testing. (in_memory ≡ Some testing) ⊎ (testing ≡ (content_in setup new.now.trees).testing)) → IfOk result (λ testing. testing ≡ (content_in setup old.now.trees).testing)
+next_is {E} result given setup old new in_memory is same held ok = subst (λ r. IfOk r (λ testing. testing ≡ (content_in setup old.now.trees).testing)) (sym is) (go given ok)
+  where
+    go : (r : Result Suite E) → IfOk r (λ testing. (in_memory ≡ Some testing) ⊎ (testing ≡ (content_in setup new.now.trees).testing)) → IfOk r (λ testing. testing ≡ (content_in setup old.now.trees).testing)
+    go (Ok t) (inl had) = subst (λ (m : Option Suite). IfSome m (λ testing. testing ≡ (content_in setup old.now.trees).testing)) had held
+    go (Ok t) (inr read) = read ∙ ap (λ (d : Database). (content_in setup d.trees).testing) same.now
+    go (Err e) ok = tt
 
 -- what is read in the tables afterwards stood there before
 pub value_before : {T E : Type 0} (result given : Result T E) (P : Database → T → Type 0) (old new : State) → result ≡ given → Same old new → IfOk given (P new.now) → IfOk result (P old.now)

@@ -1,5 +1,5 @@
 -- A finished run leaves the tables legible.
-use Rattle.std.proofs.Common.{◌≡◌, ◌≤◌, ◌<◌, ◌+◌, inl, inr, ℕ, List, [], ◌∷◌, map, length, Bool, true, false, cond, nat_eq, Some, IsSome, IsUtf8, Result, Ok, Err, OnOk, OnErr, is_some, refl, sym, ap, subst, ◌∙◌, arith}
+use Rattle.std.proofs.Common.{◌≡◌, ◌≤◌, ◌<◌, ◌+◌, inl, inr, ℕ, List, [], ◌∷◌, map, length, Bool, true, false, cond, nat_eq, Option, Some, None, IsSome, IfSome, IsUtf8, Result, Ok, Err, OnOk, OnErr, is_some, refl, sym, ap, subst, ◌∙◌, arith}
 use Rattle.std.proofs.lemmas.Bool.Decides.{nat_tests}
 use Rattle.std.proofs.lemmas.Cmp.{nat_cmp_total}
 use Rattle.std.specs.List.{AllByRecursion}
@@ -8,6 +8,8 @@ use Rattle.std.specs.FinMap.{get, get-insert, get-from_entries}
 use Rattle.sqlite.specs.Tree.{Trees}
 use Rattle.sqlite.specs.Effect.{Database}
 use Rattle.sqlite_rules.specs.Lists.{Has}
+use Rattle.testing_model.specs.InOrder.{IsInOrder}
+use Rattle.testing_model.specs.Suite.{Suite}
 use Rattle.testing_model.specs.declared.suite.SourceIn.{SourceIn}
 use Rattle.testing_model.specs.declared.suite.RowIn.{RowIn}
 use Rattle.testing_model.proofs.Orders.{text_order}
@@ -30,7 +32,8 @@ use Rattle.office_tables.proofs.SettingLemmas.{text_exact, row_order, row_exact}
 use Rattle.office_tables.proofs.EntryMaps.{from_first}
 use Rattle.office_tables.proofs.EntryValues.{has_map}
 use Rattle.office_tables.proofs.ReportFacts.{length_reports}
-use Rattle.office_store.proofs.ContentFacts.{sources_named, rows_named}
+use Rattle.office_store.specs.TablesState.{IsLegibleStore}
+use Rattle.office_store.proofs.ContentFacts.{sources_named, rows_named, testing_after}
 use Rattle.office_tables.proofs.FactMoves.{holdable_stands}
 
 each_has : {X : Type 0} (P : X → Type 0) (xs : List X) (x : X) → AllByRecursion P xs → Has xs x → P x
@@ -131,3 +134,16 @@ pub finish_legible_on : {T E : Type 0} (given : Result T E) (setup : Lists) (old
     → run < 4_294_967_296 → run ≡ length (content_in setup old.trees).reports + 1 → IsGiven setup (content_in setup old.trees) done.testing → AreHoldable setup (facts_after done.facts (content_in setup old.trees).facts) → IsLegible setup old.trees → IsLegible setup new.trees
 finish_legible_on (Ok v) setup old new run done it err texts fits is gives holdable was = finish_legible setup old.trees new.trees run done it fits texts.0 texts.1 is gives holdable was
 finish_legible_on (Err e) setup old new run done it err texts fits is gives holdable was = subst (λ (d : Database). IsLegible setup d.trees) (sym err) was
+
+-- the same of a store, which then has in memory the testing that the run left, or none where the call failed
+pub finish_store_on : {T E : Type 0} (given : Result T E) (setup : Lists) (old new : Database) (run : ℕ) (done : Finished) (in_memory : Option Suite) → OnOk given (FinishesRun (release_place setup) old.trees new.trees run done) → OnErr given (new ≡ old)
+    → OnOk given (IsUtf8 done.excuses × IsUtf8 done.updates) → OnOk given (IsInOrder done.testing.sources done.testing.rows) → OnOk given (in_memory ≡ Some done.testing) → OnErr given (in_memory ≡ None) → run < 4_294_967_296 → run ≡ length (content_in setup old.trees).reports + 1
+    → IsGiven setup (content_in setup old.trees) done.testing → AreHoldable setup (facts_after done.facts (content_in setup old.trees).facts) → IsLegible setup old.trees → IsLegibleStore setup new.trees in_memory
+finish_store_on (Ok v) setup old new run done in_memory it err texts order left none fits is gives holdable was = record {
+  tables = finish_legible setup old.trees new.trees run done it fits texts.0 texts.1 is gives holdable was;
+  testing = subst (λ (m : Option Suite). IfSome m (λ testing. testing ≡ (content_in setup new.trees).testing)) (sym left) (sym (testing_after setup old.trees new.trees run done it order.by_name order.by_key gives));
+}
+finish_store_on (Err e) setup old new run done in_memory it err texts order left none fits is gives holdable was = record {
+  tables = subst (λ (d : Database). IsLegible setup d.trees) (sym err) was;
+  testing = subst (λ (m : Option Suite). IfSome m (λ testing. testing ≡ (content_in setup new.trees).testing)) (sym none) tt;
+}

@@ -193,6 +193,13 @@ module _ {T E : Type 0} (given : Result T E) (setup : Lists) (old new : Database
       go (Ok v) it err = keep_legible setup old.trees new.trees sender number text it free was
       go (Err e) it err = subst (λ (d : Database). IsLegible setup d.trees) (sym err) was
 
+  pub keep_testing_on : OnErr given (new ≡ old) → (content_in setup new.trees).testing ≡ (content_in setup old.trees).testing
+  keep_testing_on = go given adds
+    where
+      go : (r : Result T E) → OnOk r (AddsLetter old.trees new.trees sender number text) → OnErr r (new ≡ old) → (content_in setup new.trees).testing ≡ (content_in setup old.trees).testing
+      go (Ok v) it err = testing_stays setup old.trees new.trees sender number text it free was
+      go (Err e) it err = ap (λ (d : Database). (content_in setup d.trees).testing) err
+
   pub keep_content_on : (result : Result T E) → result ≡ given → OnOk result (content_in setup new.trees ≡ with_text (content_in setup old.trees) sender number text)
   keep_content_on result same = subst (λ r. OnOk r (content_in setup new.trees ≡ with_text (content_in setup old.trees) sender number text)) (sym same) (go given adds)
     where

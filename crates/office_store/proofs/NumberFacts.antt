@@ -1,5 +1,5 @@
 -- A kept number has 32 bits, since a message's number has nine digits at most.
-use Rattle.std.proofs.Common.{◌≡◌, ◌≤◌, ◌<◌, ℕ, List, length, nat_le, is_some, true, Option, Some, None, Result, Ok, Err, refl, sym, ap, subst, ◌∙◌, arith}
+use Rattle.std.proofs.Common.{◌≡◌, ◌≤◌, ◌<◌, ℕ, List, length, nat_le, is_some, true, Option, Some, None, Result, Ok, Err, refl, sym, ap, subst, arith}
 use Rattle.std.specs.FinMap.{get}
 use Rattle.deb_control.specs.Paragraphs.{reading}
 use Rattle.deb_control.specs.Relations.{◌>>=◌}

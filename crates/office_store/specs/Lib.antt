@@ -1,3 +1,4 @@
+pub mod TablesState
 pub use Rattle.office_keeper.specs.FactSet
 pub use Rattle.office_keeper.specs.LastDelays
 pub use Rattle.office_keeper.specs.Content

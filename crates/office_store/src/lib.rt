@@ -1,6 +1,7 @@
 //! The office's store in tables of sqlite: its kept mail, the reports of its finished runs and its testing suite.
 #![tactic(auto)]
 
+mod in_memory;
 mod on_sqlite;
 mod opening;
 

@@ -1,12 +1,13 @@
 //! A keeper over sqlite's tables.
-ghost use Rattle.std.specs.Prelude.{◌≡◌};
+ghost use Rattle.std.specs.Prelude.{◌≡◌, None};
 ghost use Rattle.sqlite.specs.Held.{state};
 ghost use Rattle.sqlite.specs.State.{HasCleanDisk};
 ghost use Rattle.office_tables.specs.TableContent.{content_in};
-ghost use Rattle.office_tables.specs.Legible.{IsLegible};
 ghost use Rattle.office_tables.specs.Tables.{IsTrusted, IsOurs};
 ghost use Rattle.office_keeper.specs.Keeping.{Counted};
+ghost use Rattle.office_store.specs.TablesState.{IsLegibleStore};
 
+use crate::in_memory;
 use office_keeper::{Finished, KeepFault, Keeper, Letter, MailText, NewLetter, Reports};
 use office_mail::Setup;
 use office_tables::{entries, fact_rows, finishing, mail, runs};
@@ -16,27 +17,28 @@ use std::marker::Model;
 use testing_model::FactRows;
 use testing_suites::Testing;
 
-/// The office's tables over a connection.
+/// The office's tables over a connection. The testing that a run leaves stays in memory for the next run, with the suites
+/// that speed it; a store that was just opened has none there, and reads its tables.
 pub struct Tables<S: Alter> {
     alloc: Global,
     conn: Connection<S>,
     setup: Setup,
     refusals: u64,
+    in_memory: Option<Testing>,
 }
 
 impl<S: Alter> Model for Tables<S> {
-    ghost use Rattle.std.specs.Prelude.{ℕ};
-    ghost use Rattle.std.specs.Coded.{coded×, coded_ℕ};
     ghost use Rattle.sqlite.specs.Held.{Held, held_code, state};
     ghost use Rattle.office_tables.specs.Tables.{IsTrusted, IsOurs};
-    ghost use Rattle.office_mail.specs.Lists.{Lists};
+    ghost use Rattle.office_store.specs.TablesState.{TablesState, coded_state};
     ghost use Rattle.office_setup.specs.contracts.setup.Setup as setup_of;
+    ghost use Rattle.testing_suites.specs.contracts.suite.Testing as testing_of;
 
-    ghost Value = { Held S × (Lists × ℕ) };
+    ghost Value = { TablesState (Held S) };
 
-    ghost coded = { coded× (held_code S.code) (coded× setup_of.the_row.coded coded_ℕ) };
+    ghost coded = { coded_state (held_code S.code) setup_of.the_row.coded testing_of.the_row.coded };
 
-    ghost view = { λ t. (t.conn, (t.setup, t.refusals)) };
+    ghost view = { λ t. record { conn = t.conn; setup = t.setup; refusals = t.refusals; in_memory = t.in_memory } };
 
     ghost invariant = { λ t. IsTrusted (state S.Store t.conn) → IsOurs (state S.Store t.conn) };
 }
@@ -53,22 +55,23 @@ fn count<T>(refusals: &mut u64, answer: Result<T, KeepFault>) -> Result<T, KeepF
 }
 
 impl<S: Alter> Tables<S> {
-    /// The office's tables over a connection that has them, and no others.
+    /// The office's tables over a connection that has them, and no others. There is no testing in memory.
     pub(crate) fn over(alloc: Global, conn: Connection<S>, setup: Setup) -> Tables<S>
         requires { IsTrusted (state S.Store conn) → IsOurs (state S.Store conn) }
-        ensures { result ≡ (conn, (setup, 0)) }
+        ensures { result ≡ record { conn = conn; setup = setup; refusals = 0; in_memory = None } }
     {
         Tables {
             alloc,
             conn,
             setup,
             refusals: 0,
+            in_memory: None,
         }
     }
 
     /// The connection, with nothing changed.
     pub fn into_connection(self) -> Connection<S>
-        ensures same { result ≡ self.0 }
+        ensures same { result ≡ self.conn }
         ensures ours { IsTrusted (state S.Store result) → IsOurs (state S.Store result) }
     {
         let Tables {
@@ -76,25 +79,27 @@ impl<S: Alter> Tables<S> {
             conn,
             setup: _,
             refusals: _,
+            in_memory: _,
         } = self;
         conn
     }
 }
 
 impl<S: Alter> Keeper for Tables<S> {
-    ghost is_clean = { λ t. HasCleanDisk (state S.Store t.0) };
+    ghost is_clean = { λ t. HasCleanDisk (state S.Store t.conn) };
 
-    ghost is_trusted = { λ t. IsTrusted (state S.Store t.0) };
+    ghost is_trusted = { λ t. IsTrusted (state S.Store t.conn) };
 
-    ghost setup = { λ t. t.1.0 };
+    ghost setup = { λ t. t.setup };
 
-    ghost content = { λ t. content_in t.1.0 (state S.Store t.0).now.trees };
+    // What is in memory is no part of it.
+    ghost content = { λ t. content_in t.setup (state S.Store t.conn).now.trees };
 
-    ghost is_legible = { λ t. IsLegible t.1.0 (state S.Store t.0).now.trees };
+    ghost is_legible = { λ t. IsLegibleStore t.setup (state S.Store t.conn).now.trees t.in_memory };
 
-    ghost refusals = { λ t. t.1.1 };
+    ghost refusals = { λ t. t.refusals };
 
-    ghost disk_faults = { λ t. (state S.Store t.0).faults };
+    ghost disk_faults = { λ t. (state S.Store t.conn).faults };
 
     fn find(&mut self, sender: u32, number: u32) -> Result<Option<MailText>, KeepFault> {
         count(
@@ -139,6 +144,7 @@ impl<S: Alter> Keeper for Tables<S> {
     }
 
     fn finish(&mut self, run: u32, done: &Finished) -> Result<(), KeepFault> {
+        self.in_memory = None;
         count(
             &mut self.refusals,
             finishing::finish(&mut self.conn, &self.setup, run, done),
@@ -161,5 +167,23 @@ impl<S: Alter> Keeper for Tables<S> {
             &mut self.refusals,
             fact_rows::facts(self.alloc, &mut self.conn, &self.setup),
         )
+    }
+
+    fn take_finished(&mut self, run: u32, done: Finished) -> Result<(), KeepFault> {
+        count(
+            &mut self.refusals,
+            in_memory::finish(&mut self.conn, &self.setup, &mut self.in_memory, run, done),
+        )
+    }
+
+    fn next_testing(&mut self) -> Result<Testing, KeepFault> {
+        count(
+            &mut self.refusals,
+            in_memory::next_testing(self.alloc, &mut self.conn, &self.setup, &mut self.in_memory),
+        )
+    }
+
+    fn give_back(&mut self, testing: Testing) {
+        self.in_memory = Some(testing);
     }
 }

@@ -1,5 +1,5 @@
 //! The keeper over an office's tables in a database, fresh or kept.
-ghost use Rattle.std.specs.Prelude.{◌≡◌, IfOk, IfErr, OnOk};
+ghost use Rattle.std.specs.Prelude.{◌≡◌, None, IfOk, IfErr, OnOk};
 ghost use Rattle.sqlite.specs.Held.{state};
 ghost use Rattle.sqlite.specs.State.{HasCleanDisk};
 ghost use Rattle.office_tables.specs.Layout.{HasEachBefore};
@@ -34,14 +34,15 @@ impl<S: Alter> Tables<S> {
         conn: Connection<S>,
         setup: &Setup,
     ) -> Result<Tables<S>, (OpenFault, Connection<S>)>
-        ensures opened { IfOk result (λ tables. IsTrusted (state S.Store tables.0) → IsOpened setup.now (state S.Store conn).now (state S.Store tables.0).now) }
-        ensures before { IfOk result (λ tables. IsTrusted (state S.Store tables.0) → IsTrusted (state S.Store conn)) }
-        ensures stays { IfOk result (λ tables. HasCleanDisk (state S.Store tables.0) → IsTrusted (state S.Store conn) → IsAlone (state S.Store conn).now → IsTrusted (state S.Store tables.0)) }
-        ensures lasts { IfOk result (λ tables. Endures (state S.Store conn) (state S.Store tables.0)) }
+        ensures opened { IfOk result (λ tables. IsTrusted (state S.Store tables.conn) → IsOpened setup.now (state S.Store conn).now (state S.Store tables.conn).now) }
+        ensures before { IfOk result (λ tables. IsTrusted (state S.Store tables.conn) → IsTrusted (state S.Store conn)) }
+        ensures stays { IfOk result (λ tables. HasCleanDisk (state S.Store tables.conn) → IsTrusted (state S.Store conn) → IsAlone (state S.Store conn).now → IsTrusted (state S.Store tables.conn)) }
+        ensures lasts { IfOk result (λ tables. Endures (state S.Store conn) (state S.Store tables.conn)) }
         ensures shut { IfErr result (λ refused. Endures (state S.Store conn) (state S.Store refused.1)) }
         ensures takes { OnOk result (IsTakeable (state S.Store conn).now.schema) }
-        ensures setup { IfOk result (λ tables. tables.1.0 ≡ setup.now) }
-        ensures count { IfOk result (λ tables. tables.1.1 ≡ 0) }
+        ensures setup { IfOk result (λ tables. tables.setup ≡ setup.now) }
+        ensures count { IfOk result (λ tables. tables.refusals ≡ 0) }
+        ensures memory { IfOk result (λ tables. tables.in_memory ≡ None) }
         ensures err { IfErr result (λ refused. IsTrusted (state S.Store refused.1) → IsAsItWas (state S.Store conn) (state S.Store refused.1)) }
         ensures other { IfErr result (λ refused. IsTrusted (state S.Store refused.1) → refused.0 ≡ OpenFault.OtherSetup → IsKeptForOther setup.now (state S.Store conn).now) }
         ensures unknown { IfErr result (λ refused. IsTrusted (state S.Store refused.1) → refused.0 ≡ OpenFault.UnknownSchema → IsUnknown (state S.Store conn).now) }

@@ -62,8 +62,8 @@ fn decide_kept<K: Keeper>(
     facts: &mut Facts,
     letters: &[Letter],
 ) -> Result<(Decided, Decided), StoreFault>
-    ensures without { K.is_trusted keeper.new → IfOk result (λ o. (s : Covered) → StandsFor facts.old s (K.content keeper.old).testing → o.0 ≡ decided setup.now run (outcome setup.now run date s (K.content keeper.old).testing)) }
-    ensures with_them { K.is_trusted keeper.new → IfOk result (λ o. (s : Covered) → StandsFor facts.old s (K.content keeper.old).testing
+    ensures without { K.is_trusted keeper.new → K.is_legible keeper.old → IfOk result (λ o. (s : Covered) → StandsFor facts.old s (K.content keeper.old).testing → o.0 ≡ decided setup.now run (outcome setup.now run date s (K.content keeper.old).testing)) }
+    ensures with_them { K.is_trusted keeper.new → K.is_legible keeper.old → IfOk result (λ o. (s : Covered) → StandsFor facts.old s (K.content keeper.old).testing
         → o.1 ≡ decided setup.now run (outcome setup.now run date (with_letters setup.now (release setup.now) letters.now s) (K.content keeper.old).testing)) }
     ensures looks { ReadsStore K.Keeper keeper.old keeper.new result }
 {
@@ -86,10 +86,10 @@ fn decide_within<K: Keeper>(
     letters: &[Letter],
 ) -> Result<(Decided, Decided), StoreFault>
     requires ahead { (s : ℕ) → s < length setup.now.senders → cover_of orders.now s ≤ slice_index covers.now s }
-    ensures without { K.is_trusted keeper.new → IsOffice setup.now (K.content keeper.old) → orders.now ≡ orders_to setup.now (K.content keeper.old).kept (length (K.content keeper.old).reports)
+    ensures without { K.is_trusted keeper.new → K.is_legible keeper.old → IsOffice setup.now (K.content keeper.old) → orders.now ≡ orders_to setup.now (K.content keeper.old).kept (length (K.content keeper.old).reports)
         → IfSome known.now (λ known. AreKnown setup.now (K.content keeper.old) known)
         → IfOk result (λ o. o.0 ≡ decided setup.now run (outcome setup.now run date (items_within setup.now (K.content keeper.old).kept (slice_index covers.now)) (K.content keeper.old).testing)) }
-    ensures with_them { K.is_trusted keeper.new → IsOffice setup.now (K.content keeper.old) → orders.now ≡ orders_to setup.now (K.content keeper.old).kept (length (K.content keeper.old).reports)
+    ensures with_them { K.is_trusted keeper.new → K.is_legible keeper.old → IsOffice setup.now (K.content keeper.old) → orders.now ≡ orders_to setup.now (K.content keeper.old).kept (length (K.content keeper.old).reports)
         → IfSome known.now (λ known. AreKnown setup.now (K.content keeper.old) known)
         → IfOk result (λ o. o.1 ≡ decided setup.now run (outcome setup.now run date (with_letters setup.now (release setup.now) letters.now (items_within setup.now (K.content keeper.old).kept (slice_index covers.now))) (K.content keeper.old).testing)) }
     ensures looks { ReadsStore K.Keeper keeper.old keeper.new result }
@@ -113,7 +113,7 @@ fn try_letters<K: Keeper>(
     letters: &[Letter],
 ) -> Result<Tried, StoreFault>
     requires ahead { (s : ℕ) → s < length setup.now.senders → cover_of orders.now s ≤ slice_index covers.now s }
-    ensures tried { K.is_trusted keeper.new → IsOffice setup.now (K.content keeper.old) → orders.now ≡ orders_to setup.now (K.content keeper.old).kept (length (K.content keeper.old).reports) → finished ≡ length (K.content keeper.old).reports
+    ensures tried { K.is_trusted keeper.new → K.is_legible keeper.old → IsOffice setup.now (K.content keeper.old) → orders.now ≡ orders_to setup.now (K.content keeper.old).kept (length (K.content keeper.old).reports) → finished ≡ length (K.content keeper.old).reports
         → IfSome known.now (λ known. AreKnown setup.now (K.content keeper.old) known)
         → IfOk result (λ t. (hints : List (List ℕ)) → letters.now ≡ hint_letters setup.now (slice_index covers.now (release setup.now)) hints
         → slice_index covers.now (release setup.now) ≤ 999_999_999 → t ≡ tried setup.now (K.content keeper.old).kept (length (K.content keeper.old).reports) date (slice_index covers.now) hints) }
@@ -146,7 +146,7 @@ fn try_on<K: Keeper>(
     hints: &[Text],
 ) -> Result<Trial, StoreFault>
     requires ahead { (s : ℕ) → s < length setup.now.senders → cover_of orders.now s ≤ slice_index covers.now s }
-    ensures told { K.is_trusted keeper.new → IsOffice setup.now (K.content keeper.old) → orders.now ≡ orders_to setup.now (K.content keeper.old).kept (length (K.content keeper.old).reports) → finished ≡ length (K.content keeper.old).reports
+    ensures told { K.is_trusted keeper.new → K.is_legible keeper.old → IsOffice setup.now (K.content keeper.old) → orders.now ≡ orders_to setup.now (K.content keeper.old).kept (length (K.content keeper.old).reports) → finished ≡ length (K.content keeper.old).reports
         → slice_index covers.now (release setup.now) ≤ 999_999_999
         → IfSome known.now (λ known. AreKnown setup.now (K.content keeper.old) known)
         → IfOk result (λ trial. trial ≡ told_on setup.now (K.content keeper.old).kept (length (K.content keeper.old).reports) (Some date) (slice_index covers.now) hints.now) }
@@ -175,7 +175,7 @@ fn try_behind<K: Keeper>(
     hints: &[Text],
     terms: Terms,
 ) -> Result<Trial, StoreFault>
-    ensures tried { K.is_trusted keeper.new → IsOffice setup.now (K.content keeper.old) → orders.now ≡ orders_to setup.now (K.content keeper.old).kept (length (K.content keeper.old).reports) → finished ≡ length (K.content keeper.old).reports
+    ensures tried { K.is_trusted keeper.new → K.is_legible keeper.old → IsOffice setup.now (K.content keeper.old) → orders.now ≡ orders_to setup.now (K.content keeper.old).kept (length (K.content keeper.old).reports) → finished ≡ length (K.content keeper.old).reports
         → IfSome known.now (λ known. AreKnown setup.now (K.content keeper.old) known)
         → IfOk result (IsTrial setup.now (K.content keeper.old).kept (length (K.content keeper.old).reports) terms hints.now) }
     ensures looks { ReadsStore K.Keeper keeper.old keeper.new result }
@@ -202,7 +202,7 @@ fn try_after<K: Keeper>(
 ) -> Result<Trial, StoreFault>
     ensures known { K.is_trusted keeper.new → FirstOrders setup.now (K.content keeper.old).kept orders.now → finished ≡ length (K.content keeper.old).reports
         → IfSome known.old (λ known. AreKnown setup.now (K.content keeper.old) known) → IfSome known.new (λ known. AreKnown setup.now (K.content keeper.old) known) }
-    ensures tried { K.is_trusted keeper.new → IsOffice setup.now (K.content keeper.old) → FirstOrders setup.now (K.content keeper.old).kept orders.now
+    ensures tried { K.is_trusted keeper.new → K.is_legible keeper.old → IsOffice setup.now (K.content keeper.old) → FirstOrders setup.now (K.content keeper.old).kept orders.now
         → orders.now ≡ orders_to setup.now (K.content keeper.old).kept (length (K.content keeper.old).reports) → finished ≡ length (K.content keeper.old).reports
         → IfSome known.old (λ known. AreKnown setup.now (K.content keeper.old) known)
         → IfOk result (IsTrial setup.now (K.content keeper.old).kept (length (K.content keeper.old).reports) terms hints.now) }
@@ -227,7 +227,7 @@ pub fn try_hints<K: Keeper>(
     terms: Terms,
 ) -> Result<Trial, StoreFault>
     requires known { K.is_trusted keeper.old → IfSome known.old (λ known. AreKnown setup.now (K.content keeper.old) known) }
-    ensures tried { K.is_trusted keeper.new → IsOffice setup.now (K.content keeper.old) → IfOk result (IsTrial setup.now (K.content keeper.old).kept (length (K.content keeper.old).reports) terms hints.now) }
+    ensures tried { K.is_trusted keeper.new → K.is_legible keeper.old → IsOffice setup.now (K.content keeper.old) → IfOk result (IsTrial setup.now (K.content keeper.old).kept (length (K.content keeper.old).reports) terms hints.now) }
     ensures known { K.is_trusted keeper.new → IfSome known.new (λ known. AreKnown setup.now (K.content keeper.new) known) }
     ensures same { K.is_trusted keeper.new → K.content keeper.new ≡ K.content keeper.old }
     ensures setup { K.setup keeper.new ≡ K.setup keeper.old }

@@ -55,6 +55,7 @@ pub struct Facts {
 
 impl Model for Facts {
     ghost use Rattle.testing_order.specs.Uploads.{AreByMessage};
+    ghost use Rattle.testing_lists.specs.HintOrder.{AreHintsByNumber, AreUnhintsByNumber};
     ghost use Rattle.testing_model.specs.Boxed.{unboxed};
     ghost use Rattle.testing_model.specs.FactLists.{FactLists};
     ghost use Rattle.testing_model.specs.FactOrder.{IsFactOrder};
@@ -77,7 +78,9 @@ impl Model for Facts {
 
     ghost invariant = { λ a. IsFactOrder (unboxed a.sources.items) a.rows (unboxed a.drops.items) (unboxed a.bugs.items)
         × (vec_len a.log.left + vec_len a.uploads ≤ vec_capacity a.log.left)
-        × AreByMessage a.uploads.items };
+        × AreByMessage a.uploads.items
+        × AreHintsByNumber a.hints.items
+        × AreUnhintsByNumber a.unhints.items };
 }
 
 /// An upload for the sources, and the same for the uploads.

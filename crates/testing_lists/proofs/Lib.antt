@@ -5,5 +5,6 @@ pub mod KeptUploads
 pub mod KeyMembers
 pub mod KeySlots
 pub mod KeyShifts
+pub mod PutSlots
 pub mod ShiftLists
 pub mod Slotting

@@ -1,4 +1,5 @@
 pub mod Blocks
+pub mod HintOrder
 pub mod Shifts
 pub mod Slots
 pub mod SourceFilter

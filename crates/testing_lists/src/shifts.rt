@@ -2,6 +2,7 @@
 
 ghost use Rattle.std.specs.Prelude.{◌≡◌, ◌∷◌, [], filter, map, not, option_to_list};
 ghost use Rattle.std.specs.Ordering.{nat_cmp};
+ghost use Rattle.testing_lists.specs.HintOrder.{AreHintsByNumber, AreUnhintsByNumber};
 ghost use Rattle.testing_lists.specs.Shifts.{way_given, come_in, put_over, IsShift};
 ghost use Rattle.testing_items.specs.Words.{byte_cmp};
 ghost use Rattle.testing_model.specs.Boxed.{unboxed};
@@ -10,13 +11,14 @@ ghost use Rattle.testing_model.specs.FactRows as rows;
 ghost use Rattle.testing_model.specs.Unstable as unstable;
 ghost use Rattle.testing_model.specs.WithMessage as taken;
 
-use crate::taken::{place_of_bug, place_of_drop, place_of_pair, place_of_upload};
+use crate::taken::{
+    place_of_bug, place_of_drop, place_of_hint, place_of_pair, place_of_unhint, place_of_upload,
+};
 use deb_control::Binary;
-use std::cmp::Ordering;
 use testing_model::{BugIn, BuildIn, DelaysIn, DropIn, FactRow, HintIn, UnhintIn, UploadIn};
 use testing_order::{
     Shifted, bug_order, bug_row, build_order, build_row, delays_row, drop_order, drop_row,
-    hint_order, hint_row, outlives, source_row, unhint_order, unhint_row, upload_order,
+    hint_row, outlives, source_row, unhint_row, upload_order,
 };
 
 /// What an upload does to the rows of unstable's sources.
@@ -139,30 +141,24 @@ pub fn taken_row(builds: &[Box<BuildIn>], drop: &DropIn) -> Option<FactRow>
 
 /// The row of the hint that gives way to another.
 pub fn hint_left(hints: &[HintIn], hint: &HintIn) -> Option<FactRow>
+    requires { AreHintsByNumber hints.now }
     ensures { option_to_list result ≡ map rows.hint_row (put_over (λ h. h) unstable.hint_order hint.now hints.now) }
 {
-    for other in hints {
-        match hint_order(hint, other) {
-            Ordering::Less => return None,
-            Ordering::Equal => return Some(hint_row(other)),
-            Ordering::Greater => {}
-        }
+    match place_of_hint(hints, hint) {
+        Ok(i) => Some(hint_row(&hints[i])),
+        Err(_) => None,
     }
-    None
 }
 
 /// The row of the unhint that gives way to another.
 pub fn unhint_left(unhints: &[UnhintIn], unhint: &UnhintIn) -> Option<FactRow>
+    requires { AreUnhintsByNumber unhints.now }
     ensures { option_to_list result ≡ map rows.unhint_row (put_over (λ c. c) unstable.unhint_order unhint.now unhints.now) }
 {
-    for other in unhints {
-        match unhint_order(unhint, other) {
-            Ordering::Less => return None,
-            Ordering::Equal => return Some(unhint_row(other)),
-            Ordering::Greater => {}
-        }
+    match place_of_unhint(unhints, unhint) {
+        Ok(i) => Some(unhint_row(&unhints[i])),
+        Err(_) => None,
     }
-    None
 }
 
 /// The row of the last delays, if there are any.

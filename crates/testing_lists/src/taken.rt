@@ -5,7 +5,8 @@ ghost use Rattle.std.specs.Ordering.{nat_cmp};
 ghost use Rattle.std.specs.List.Sorted.{IsBinarySearchResult, IsSearchInRange};
 ghost use Rattle.testing_model.specs.Boxed.{unboxed};
 ghost use Rattle.testing_model.specs.FactOrder.{AreBySource, AreByPair, AreDropsByPair, AreByNumber};
-ghost use Rattle.testing_model.specs.Unstable.{pair_order, pair_of, drop_pair};
+ghost use Rattle.testing_model.specs.Unstable.{pair_order, pair_of, drop_pair, hint_order, unhint_order};
+ghost use Rattle.testing_lists.specs.HintOrder.{AreHintsByNumber, AreUnhintsByNumber};
 ghost use Rattle.testing_lists.specs.Shifts.{come_in};
 ghost use Rattle.testing_lists.specs.Slots.{IsSlotFor, IsSlotIn, slotted};
 ghost use Rattle.testing_order.specs.Uploads.{message_order, AreByMessage, first_stays, with_kept};
@@ -265,22 +266,32 @@ pub fn take_row(rows: &mut Vec<Box<BuildIn>>, drop: &DropIn)
     }
 }
 
+/// Where the hints have one of this number and sender, or else where it belongs.
+pub fn place_of_hint(hints: &[HintIn], hint: &HintIn) -> Result<usize, usize>
+    ensures bound { IsSearchInRange result (length hints.now) }
+    ensures found { IsBinarySearchResult (λ h. hint_order h hint.now) hints.now result }
+{
+    hints.binary_search_by(
+        |other: &HintIn| -> Ordering
+            ensures { result ≡ hint_order other.now hint.entry.now }
+        { hint_order(other, hint) },
+    )
+}
+
 /// Where the list takes the hint.
 fn slot_of_hint(hints: &[HintIn], hint: &HintIn) -> Slot
+    requires { AreHintsByNumber hints.now }
     ensures { IsSlotFor hints.now hint.now (taken.with_hint hint.now hints.now) result }
 {
-    for (i, other) in hints.iter().enumerate() {
-        match hint_order(hint, other) {
-            Ordering::Less => return Slot::Before(i),
-            Ordering::Equal => return Slot::Over(i),
-            Ordering::Greater => {}
-        }
+    match place_of_hint(hints, hint) {
+        Ok(i) => Slot::Over(i),
+        Err(i) => Slot::Before(i),
     }
-    Slot::Before(hints.len())
 }
 
 /// A hint joins the hints. There is room for it.
 pub fn put_hint(hints: &mut Vec<HintIn>, hint: HintIn)
+    requires order { AreHintsByNumber hints.old.items }
     requires room { vec_len hints.old < vec_capacity hints.old }
     ensures { hints.new.items ≡ taken.with_hint hint hints.old.items }
 {
@@ -288,22 +299,32 @@ pub fn put_hint(hints: &mut Vec<HintIn>, hint: HintIn)
     put_at(hints, slot, hint);
 }
 
+/// Where the unhints have one of this number and sender, or else where it belongs.
+pub fn place_of_unhint(unhints: &[UnhintIn], unhint: &UnhintIn) -> Result<usize, usize>
+    ensures bound { IsSearchInRange result (length unhints.now) }
+    ensures found { IsBinarySearchResult (λ c. unhint_order c unhint.now) unhints.now result }
+{
+    unhints.binary_search_by(
+        |other: &UnhintIn| -> Ordering
+            ensures { result ≡ unhint_order other.now unhint.entry.now }
+        { unhint_order(other, unhint) },
+    )
+}
+
 /// Where the list takes the unhint.
 fn slot_of_unhint(unhints: &[UnhintIn], unhint: &UnhintIn) -> Slot
+    requires { AreUnhintsByNumber unhints.now }
     ensures { IsSlotFor unhints.now unhint.now (taken.with_unhint unhint.now unhints.now) result }
 {
-    for (i, other) in unhints.iter().enumerate() {
-        match unhint_order(unhint, other) {
-            Ordering::Less => return Slot::Before(i),
-            Ordering::Equal => return Slot::Over(i),
-            Ordering::Greater => {}
-        }
+    match place_of_unhint(unhints, unhint) {
+        Ok(i) => Slot::Over(i),
+        Err(i) => Slot::Before(i),
     }
-    Slot::Before(unhints.len())
 }
 
 /// An unhint joins the unhints. There is room for it.
 pub fn put_unhint(unhints: &mut Vec<UnhintIn>, unhint: UnhintIn)
+    requires order { AreUnhintsByNumber unhints.old.items }
     requires room { vec_len unhints.old < vec_capacity unhints.old }
     ensures { unhints.new.items ≡ taken.with_unhint unhint unhints.old.items }
 {

@@ -9,6 +9,7 @@ ghost use Rattle.testing_model.specs.Moves as moves;
 ghost use Rattle.testing_model.specs.Unstable.{built_rows};
 ghost use Rattle.testing_model.specs.Updates.{offender_alone};
 ghost use Rattle.testing_refusals.specs.Alone.{IsToldAlone};
+ghost use Rattle.testing_refusals.specs.Refusals.{IsRefusal};
 ghost use Rattle.testing_refusals.specs.Texts as texts;
 ghost use Rattle.testing_refusals.specs.Told.{lines_of};
 ghost use Rattle.testing_refusals.specs.ToldChange.{IsToldChange};
@@ -44,40 +45,84 @@ fn text_of<'a>(
     refusal_text(alloc, lone, &told)
 }
 
-/// Why the source can't come in alone, where that changes testing's rows from the old ones to the new ones.
+/// Why coming in alone is refused to the source, where that changes testing's rows from the old ones to the new ones. If
+/// it is known what that breaks, the rows are judged only where no steps are found without that.
+fn refusal_of<'a>(
+    alloc: Global,
+    lone: &LoneMove<'_, 'a>,
+    old: &[LentRow<'a>],
+    new: &[LentRow<'a>],
+    known: Option<Offender>,
+) -> Result<Option<Refusal<'a>>, NoMemory>
+    requires { IfSome known (λ offender. moves.offender_of lone.now.archs.now (lent old.now) (lent new.now) (lone.now.excuse.now.source ∷ []) ≡ Some offender) }
+    ensures some { IfOk result (λ found. IfSome found (λ r. IsRefusal lone.now.archs.now (lent old.now) (lent new.now) (lone.now.excuse.now.source ∷ []) r.offender (lent r.rows.items) r.steps.items)) }
+    ensures none { IfOk result (λ found. IfNone found (moves.offender_of lone.now.archs.now (lent old.now) (lent new.now) (lone.now.excuse.now.source ∷ []) ≡ None)) }
+{
+    if let Some(offender) = known {
+        if let Some(refusal) = shown_of(alloc, new, offender)? {
+            return Ok(Some(refusal));
+        }
+    }
+    refused(alloc, lone.archs, old, new, lone.group())
+}
+
+/// Why the source can't come in alone, where that changes testing's rows from the old ones to the new ones, and it may
+/// be known what that breaks.
 fn told_change<'a>(
     alloc: Global,
     lone: &LoneMove<'_, 'a>,
     old: &[LentRow<'a>],
     new: &[LentRow<'a>],
+    known: Option<Offender>,
 ) -> Result<Option<Text>, NoMemory>
-    requires { AreBySource (unboxed lone.now.unstable.sources.now) }
+    requires sources { AreBySource (unboxed lone.now.unstable.sources.now) }
+    requires breaks { IfSome known (λ offender. moves.offender_of lone.now.archs.now (lent old.now) (lent new.now) (lone.now.excuse.now.source ∷ []) ≡ Some offender) }
     ensures some { IfOk result (λ told. IfSome told (λ text. IsToldChange lone.now.archs.now (unboxed lone.now.unstable.sources.now) (lent lone.now.unstable.rows.now) lone.now.excuses.now
         (lent old.now) (lent new.now) lone.now.excuse.now.source text)) }
     ensures none { IfOk result (λ told. IfNone told (moves.offender_of lone.now.archs.now (lent old.now) (lent new.now) (lone.now.excuse.now.source ∷ []) ≡ None)) }
 {
-    let Some(refusal) = refused(alloc, lone.archs, old, new, lone.group())? else {
+    let Some(refusal) = refusal_of(alloc, lone, old, new, known)? else {
         return Ok(None);
     };
     let text = text_of(alloc, lone, old, &refusal)?;
     Ok(Some(text))
 }
 
-/// Why the source can't move alone, where testing has these rows.
+/// Why the source can't move alone, where testing has these rows, and it may be known what that breaks.
 fn told_move<'a>(
     alloc: Global,
     lone: &LoneMove<'_, 'a>,
     old: &[LentRow<'a>],
+    known: Option<Offender>,
 ) -> Result<Option<Text>, NoMemory>
     requires sources { AreBySource (unboxed lone.now.unstable.sources.now) }
     requires order { AreByKey (lent old.now) }
+    requires breaks { IfSome known (λ offender. moves.offender_of lone.now.archs.now (lent old.now)
+        (moved_rows (unboxed lone.now.unstable.sources.now) (lent lone.now.unstable.rows.now) (lone.now.excuse.now.source ∷ []) (lent old.now)) (lone.now.excuse.now.source ∷ []) ≡ Some offender) }
     ensures some { IfOk result (λ told. IfSome told (λ text. IsToldChange lone.now.archs.now (unboxed lone.now.unstable.sources.now) (lent lone.now.unstable.rows.now) lone.now.excuses.now
         (lent old.now) (moved_rows (unboxed lone.now.unstable.sources.now) (lent lone.now.unstable.rows.now) (lone.now.excuse.now.source ∷ []) (lent old.now)) lone.now.excuse.now.source text)) }
     ensures none { IfOk result (λ told. IfNone told (moves.offender_of lone.now.archs.now (lent old.now)
         (moved_rows (unboxed lone.now.unstable.sources.now) (lent lone.now.unstable.rows.now) (lone.now.excuse.now.source ∷ []) (lent old.now)) (lone.now.excuse.now.source ∷ []) ≡ None)) }
 {
     let new = moved_rows(alloc, old, lone.unstable, lone.group())?;
-    told_change(alloc, lone, old, &new)
+    told_change(alloc, lone, old, &new, known)
+}
+
+/// Why the source of an excuse can't move alone over testing, where it may be known what that breaks.
+fn told_knowing<'a>(
+    alloc: Global,
+    lone: &LoneMove<'_, 'a>,
+    testing: &'a Testing,
+    known: Option<Offender>,
+) -> Result<Option<Text>, NoMemory>
+    requires sources { AreBySource (unboxed lone.now.unstable.sources.now) }
+    requires breaks { IfSome known (λ offender. offender_alone lone.now.archs.now (unboxed lone.now.unstable.sources.now) (lent lone.now.unstable.rows.now) testing.now lone.now.excuse.now ≡ Some offender) }
+    ensures some { IfOk result (λ told. IfSome told (λ text. IsToldAlone lone.now.archs.now (unboxed lone.now.unstable.sources.now) (lent lone.now.unstable.rows.now) lone.now.excuses.now
+        testing.now lone.now.excuse.now text)) }
+    ensures none { IfOk result (λ told. IfNone told (offender_alone lone.now.archs.now (unboxed lone.now.unstable.sources.now) (lent lone.now.unstable.rows.now) testing.now lone.now.excuse.now ≡ None)) }
+{
+    let old = lend_rows(alloc, testing.rows())?;
+    told_move(alloc, lone, &old, known)
 }
 
 /// Why the source of an excuse can't move alone over testing, in lines: the offender is that of the run's line on a source
@@ -93,84 +138,7 @@ pub fn told_alone<'a>(
         testing.now lone.now.excuse.now text)) }
     ensures none { IfOk result (λ told. IfNone told (offender_alone lone.now.archs.now (unboxed lone.now.unstable.sources.now) (lent lone.now.unstable.rows.now) testing.now lone.now.excuse.now ≡ None)) }
 {
-    let old = lend_rows(alloc, testing.rows())?;
-    told_move(alloc, lone, &old)
-}
-
-/// Why the source can't come in alone, where that breaks the offender's row and changes testing's rows from the old ones to
-/// the new ones; nothing where no steps are found without a judgement of the rows.
-fn shown_change<'a>(
-    alloc: Global,
-    lone: &LoneMove<'_, 'a>,
-    old: &[LentRow<'a>],
-    new: &[LentRow<'a>],
-    offender: Offender,
-) -> Result<Option<Text>, NoMemory>
-    requires sources { AreBySource (unboxed lone.now.unstable.sources.now) }
-    requires breaks { moves.offender_of lone.now.archs.now (lent old.now) (lent new.now) (lone.now.excuse.now.source ∷ []) ≡ Some offender }
-    ensures { IfOk result (λ told. IfSome told (λ text. IsToldChange lone.now.archs.now (unboxed lone.now.unstable.sources.now) (lent lone.now.unstable.rows.now) lone.now.excuses.now
-        (lent old.now) (lent new.now) lone.now.excuse.now.source text)) }
-{
-    let Some(refusal) = shown_of(alloc, new, offender)? else {
-        return Ok(None);
-    };
-    let text = text_of(alloc, lone, old, &refusal)?;
-    Ok(Some(text))
-}
-
-/// The same, where testing has these rows.
-fn shown_move<'a>(
-    alloc: Global,
-    lone: &LoneMove<'_, 'a>,
-    old: &[LentRow<'a>],
-    offender: Offender,
-) -> Result<Option<Text>, NoMemory>
-    requires sources { AreBySource (unboxed lone.now.unstable.sources.now) }
-    requires order { AreByKey (lent old.now) }
-    requires breaks { moves.offender_of lone.now.archs.now (lent old.now)
-        (moved_rows (unboxed lone.now.unstable.sources.now) (lent lone.now.unstable.rows.now) (lone.now.excuse.now.source ∷ []) (lent old.now)) (lone.now.excuse.now.source ∷ []) ≡ Some offender }
-    ensures { IfOk result (λ told. IfSome told (λ text. IsToldChange lone.now.archs.now (unboxed lone.now.unstable.sources.now) (lent lone.now.unstable.rows.now) lone.now.excuses.now
-        (lent old.now) (moved_rows (unboxed lone.now.unstable.sources.now) (lent lone.now.unstable.rows.now) (lone.now.excuse.now.source ∷ []) (lent old.now)) lone.now.excuse.now.source text)) }
-{
-    let new = moved_rows(alloc, old, lone.unstable, lone.group())?;
-    shown_change(alloc, lone, old, &new, offender)
-}
-
-/// Why the source of an excuse can't move alone over testing, where that breaks the offender's row; nothing where no steps
-/// are found without a judgement of the rows.
-fn shown_alone<'a>(
-    alloc: Global,
-    lone: &LoneMove<'_, 'a>,
-    testing: &'a Testing,
-    offender: Offender,
-) -> Result<Option<Text>, NoMemory>
-    requires sources { AreBySource (unboxed lone.now.unstable.sources.now) }
-    requires breaks { offender_alone lone.now.archs.now (unboxed lone.now.unstable.sources.now) (lent lone.now.unstable.rows.now) testing.now lone.now.excuse.now ≡ Some offender }
-    ensures { IfOk result (λ told. IfSome told (λ text. IsToldAlone lone.now.archs.now (unboxed lone.now.unstable.sources.now) (lent lone.now.unstable.rows.now) lone.now.excuses.now
-        testing.now lone.now.excuse.now text)) }
-{
-    let old = lend_rows(alloc, testing.rows())?;
-    shown_move(alloc, lone, &old, offender)
-}
-
-/// Why the source of an excuse can't move alone over testing, where that breaks the offender's row. The rows are judged
-/// anew only where no steps are found without that.
-fn told_of_offender<'a>(
-    alloc: Global,
-    lone: &LoneMove<'_, 'a>,
-    testing: &'a Testing,
-    offender: Offender,
-) -> Result<Option<Text>, NoMemory>
-    requires sources { AreBySource (unboxed lone.now.unstable.sources.now) }
-    requires breaks { offender_alone lone.now.archs.now (unboxed lone.now.unstable.sources.now) (lent lone.now.unstable.rows.now) testing.now lone.now.excuse.now ≡ Some offender }
-    ensures some { IfOk result (λ told. IfSome told (λ text. IsToldAlone lone.now.archs.now (unboxed lone.now.unstable.sources.now) (lent lone.now.unstable.rows.now) lone.now.excuses.now
-        testing.now lone.now.excuse.now text)) }
-    ensures none { IfOk result (λ told. IfNone told (offender_alone lone.now.archs.now (unboxed lone.now.unstable.sources.now) (lent lone.now.unstable.rows.now) testing.now lone.now.excuse.now ≡ None)) }
-{
-    if let Some(text) = shown_alone(alloc, lone, testing, offender)? {
-        return Ok(Some(text));
-    }
-    told_alone(alloc, lone, testing)
+    told_knowing(alloc, lone, testing, None)
 }
 
 /// Why the source of an excuse can't move alone over testing, where that breaks the offender's row and unstable has the
@@ -199,7 +167,7 @@ fn told_over<'a>(
         excuses,
         excuse,
     };
-    told_of_offender(alloc, &lone, testing, offender)
+    told_knowing(alloc, &lone, testing, Some(offender))
 }
 
 /// What moving the source of an excuse alone over testing would break, where unstable has the facts' sources and these

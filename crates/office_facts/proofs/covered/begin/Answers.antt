@@ -1,28 +1,26 @@
-use Rattle.std.proofs.Common.{List, sym, subst, ◌∙◌}
-use Rattle.testing_model.specs.declared.fact_row.FactRow.{FactRow}
-use Rattle.testing_model.specs.FactLists.{no_facts}
+use Rattle.std.proofs.Common.{◌≡◌, ◌-◌, ◌≤◌, ℕ, List, length, slice_index, take, ap, ◌∙◌, arith, rules}
+use Rattle.std.proofs.lemmas.Result.{IfOk-weaker}
+use Rattle.office_mail.specs.declared.message.RunOrder.{RunOrder}
+use Rattle.office_mail.specs.Runs.{cover_of}
 use Rattle.office_keeper.specs.Content.{Content}
-use Rattle.office_facts.specs.Known.{said_all}
-use Rattle.office_facts.specs.Taking.{HavePutBack}
+use Rattle.office_facts.specs.declared.covered.KnownFacts.{KnownFacts}
+use Rattle.office_facts.proofs.KnownStand.{cover_of-take, finished_orders}
 use Rattle.office_facts.proofs.covered.begin.Goals as goal
 
-pub returns-clause-way : goal.returns-clause-way
-returns-clause-way g c = λ trusted.
-    let setup = c.args.setup.now in
-    let content : Content = g.K.Keeper.content c.args.keeper.now in
-    let facts = c.in_ok-facts.facts in
-    let earlier = c.in_ok-facts.ensures.looks.before trusted in
-    c.in_ok-known_by.ensures.way content (c.as_slice-2.ensures ∙ c.in_ok-rows.ensures.value earlier)
-    (subst (λ (rows : List FactRow). HavePutBack (said_all setup content.kept) rows no_facts facts) (c.as_slice.ensures ∙ sym c.as_slice-2.ensures)
-    (subst (λ (m : Content). HavePutBack (said_all setup m.kept) c.as_slice.result.now no_facts facts) (c.in_ok-rows.ensures.looks.same earlier) (c.in_ok-facts.ensures.back trusted)))
+pub returns-clause-within : goal.returns-clause-within
+returns-clause-within g c =
+    let orders : List RunOrder = c.args.orders.now in
+    let n = c.saturating_sub.result in
+    IfOk-weaker c.finished_facts.result
+    (λ (known : KnownFacts). (s : ℕ) → slice_index known.taken.items s ≤ cover_of (take n orders) s)
+    (λ (known : KnownFacts). (s : ℕ) → slice_index known.taken.items s ≤ cover_of orders s)
+    (λ known within s. omega (arith, within s, cover_of-take n orders s))
+    c.finished_facts.ensures.within
 
 pub returns-clause-stand : goal.returns-clause-stand
 returns-clause-stand g c = λ trusted office first size.
-    let setup = c.args.setup.now in
     let content : Content = g.K.Keeper.content c.args.keeper.now in
-    let facts = c.in_ok-facts.facts in
-    let earlier = c.in_ok-facts.ensures.looks.before trusted in
-    c.in_ok-known_by.ensures.stand content (c.as_slice-2.ensures ∙ c.in_ok-rows.ensures.value earlier)
-    (subst (λ (rows : List FactRow). HavePutBack (said_all setup content.kept) rows no_facts facts) (c.as_slice.ensures ∙ sym c.as_slice-2.ensures)
-    (subst (λ (m : Content). HavePutBack (said_all setup m.kept) c.as_slice.result.now no_facts facts) (c.in_ok-rows.ensures.looks.same earlier) (c.in_ok-facts.ensures.back trusted)))
-    office first size
+    let orders : List RunOrder = c.args.orders.now in
+    let less : c.saturating_sub.result ≡ length orders - 1 = search rules in
+    c.finished_facts.ensures.stand trusted office
+    (ap (λ n. take n orders) less ∙ finished_orders c.args.setup.now content.kept orders (length content.reports) first size)

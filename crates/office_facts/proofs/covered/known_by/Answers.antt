@@ -1,6 +1,8 @@
-use Rattle.std.proofs.Common.{◌≡◌, length}
+use Rattle.std.proofs.Common.{◌≡◌, List, length, slice_index, ap, ◌∙◌}
 use Rattle.testing_model.specs.FactRows.{rows_of}
-use Rattle.office_facts.proofs.KnownStand.{whole_stand}
+use Rattle.office_mail.specs.declared.message.RunOrder.{RunOrder}
+use Rattle.office_mail.specs.Runs.{cover_of}
+use Rattle.office_facts.proofs.KnownStand.{rows_stand}
 use Rattle.office_facts.proofs.RestoringFacts.{known_whole, way_without}
 use Rattle.office_facts.proofs.TakenFacts.{stand_none}
 use Rattle.office_facts.proofs.covered.known_by.Goals as goal
@@ -12,11 +14,13 @@ returns-in_ok-known_at-clause-way c = λ content are back.
     (known_whole c.args.setup.now content c.args.rows.now c.args.facts c.in_ok-known_at.field-0.facts known.same known.by_message size are back).way
 
 pub returns-in_ok-known_at-clause-stand : goal.returns-in_ok-known_at-clause-stand
-returns-in_ok-known_at-clause-stand c = λ content are back office first more.
+returns-in_ok-known_at-clause-stand c = λ content are back office orders.
     let known = c.in_ok-known_at.ensures in
     let left = c.in_ok-known_at.field-0 in
     let size : length (rows_of c.args.facts) ≡ length c.args.rows.now = c.has_all.ensures c.if-has_all.true in
-    whole_stand c.args.setup.now content c.args.orders.now left.facts left.taken.items (known_whole c.args.setup.now content c.args.rows.now c.args.facts left.facts known.same known.by_message size are back) known.taken office first more
+    let whole = known_whole c.args.setup.now content c.args.rows.now c.args.facts left.facts known.same known.by_message size are back in
+    rows_stand c.args.setup.now content left.facts (slice_index left.taken.items) office whole.way.tells whole.rows
+    (λ s low. known.taken s low ∙ ap (λ (os : List RunOrder). cover_of os s) orders)
 
 pub returns-in_ok-known_without-clause-way : goal.returns-in_ok-known_without-clause-way
 returns-in_ok-known_without-clause-way c = λ content are back.
@@ -24,7 +28,7 @@ returns-in_ok-known_without-clause-way c = λ content are back.
     way_without c.args.setup.now content c.args.rows.now c.in_ok-known_without.field-0.facts are known.facts known.by_message
 
 pub returns-in_ok-known_without-clause-stand : goal.returns-in_ok-known_without-clause-stand
-returns-in_ok-known_without-clause-stand c = λ content are back office first more.
+returns-in_ok-known_without-clause-stand c = λ content are back office orders.
     let known = c.in_ok-known_without.ensures in
     let left = c.in_ok-known_without.field-0 in
     stand_none c.args.setup.now content.kept left.facts left.taken.items content.testing known.taken (known.none content.testing)

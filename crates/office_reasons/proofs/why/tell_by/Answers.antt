@@ -9,14 +9,15 @@ use Rattle.office_reasons.proofs.why.tell_by.Goals as goal
 
 pub give_back-requires : goal.give_back-requires
 give_back-requires g c = record {
-  same = λ trusted. c.told_beside-told.ensures.same ∙ c.in_ok-testing.ensures.value trusted ∙ sym (ap (λ (m : Content). m.testing) (c.in_ok-testing.ensures.looks.same trusted));
+  same = λ trusted legible. c.told_beside-told.ensures.same ∙ c.in_ok-testing.ensures.value trusted legible ∙ sym (ap (λ (m : Content). m.testing) (c.in_ok-testing.ensures.looks.same trusted));
 }
 
 pub returns-clause-told : goal.returns-clause-told
-returns-clause-told g c = λ trusted.
+returns-clause-told g c = λ trusted legible.
     let a = c.args in
+    let earlier = c.give_back.ensures.before trusted in
     subst (λ (t : Suite). IfOk c.told_beside-told.result (λ found. (s : Covered) → StandsFor a.facts.now s t → IsToldWith a.setup.now s t a.run a.date (Some a.reports.now) a.source.now found))
-    (c.in_ok-testing.ensures.value (c.give_back.ensures.before trusted)) c.told_beside-told.ensures.told
+    (c.in_ok-testing.ensures.value earlier (c.in_ok-testing.ensures.looks.legible earlier legible)) c.told_beside-told.ensures.told
 
 pub returns-clause-looks : goal.returns-clause-looks
 returns-clause-looks g c =

@@ -12,7 +12,7 @@ use Rattle.office_reasons.proofs.WhyFacts.{stands_covered}
 use Rattle.office_reasons.proofs.why.tell_known.Goals as goal
 
 pub returns-in-Some-clause-told : goal.returns-in-Some-clause-told
-returns-in-Some-clause-told g c = λ trusted office first all was.
+returns-in-Some-clause-told g c = λ trusted legible office first all was.
     let a = c.args in
     let setup = a.setup.now in
     let content : Content = g.K.Keeper.content a.keeper.now in
@@ -24,4 +24,4 @@ returns-in-Some-clause-told g c = λ trusted office first all was.
     (λ found. (s : Covered) → StandsFor known.facts s content.testing → IsToldWith setup s content.testing a.run a.date (item_from_one a.run content.reports) a.source.now found)
     (IsToldWith setup mail content.testing a.run a.date (item_from_one a.run content.reports) a.source.now)
     (λ found told. told mail stands)
-    (c.tell.ensures.told trusted)
+    (c.tell.ensures.told trusted legible)

@@ -16,7 +16,7 @@ facts_within-requires g c = record {
 }
 
 pub returns-clause-told : goal.returns-clause-told
-returns-clause-told g c = λ trusted office first all.
+returns-clause-told g c = λ trusted legible office first all.
     let a = c.args in
     let setup = a.setup.now in
     let content : Content = g.K.Keeper.content a.keeper.now in
@@ -33,4 +33,4 @@ returns-clause-told g c = λ trusted office first all.
     (IsToldWith setup mail content.testing a.run a.date (item_from_one a.run content.reports) a.source.now)
     (λ found told. told mail stands)
     (subst (λ (m : Content). IfOk c.tell-told.result (λ found. (s : Covered) → StandsFor facts s m.testing → IsToldWith setup s m.testing a.run a.date (item_from_one a.run m.reports) a.source.now found))
-    (c.in_ok-known.ensures.looks.same earlier) (c.tell-told.ensures.told trusted))
+    (c.in_ok-known.ensures.looks.same earlier) (c.tell-told.ensures.told trusted (c.in_ok-known.ensures.looks.legible earlier legible)))

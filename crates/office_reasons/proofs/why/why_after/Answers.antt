@@ -10,7 +10,7 @@ use Rattle.office_reasons.proofs.WhyFacts.{why_none, why_told}
 use Rattle.office_reasons.proofs.why.why_after.Goals as goal
 
 pub returns-in-Some-clause-why : goal.returns-in-Some-clause-why
-returns-in-Some-clause-why g c = λ trusted office first all is was.
+returns-in-Some-clause-why g c = λ trusted legible office first all is was.
     let a = c.args in
     let setup = a.setup.now in
     let content : Content = g.K.Keeper.content a.keeper.now in
@@ -20,10 +20,10 @@ returns-in-Some-clause-why g c = λ trusted office first all is was.
     (IsToldWith setup (covered_items setup content.kept (length content.reports)) content.testing a.run date (item_from_one a.run content.reports) a.source.now)
     (IsWhy setup content.kept (length content.reports) a.source.now)
     (λ found told. why_told setup content a.orders.now a.run a.source.now found date office first all is dated told)
-    (c.why_on.ensures.told trusted office first all is was)
+    (c.why_on.ensures.told trusted legible office first all is was)
 
 pub returns-in-None-clause-why : goal.returns-in-None-clause-why
-returns-in-None-clause-why g c = λ trusted office first all is was.
+returns-in-None-clause-why g c = λ trusted legible office first all is was.
     let a = c.args in
     let content : Content = g.K.Keeper.content a.keeper.now in
     let none : latest_day a.orders.now ≡ None = sym c.latest_day.ensures ∙ c.in-None.is in

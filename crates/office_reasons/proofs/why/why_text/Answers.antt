@@ -9,7 +9,7 @@ use Rattle.office_reasons.specs.Why.{IsWhy}
 use Rattle.office_reasons.proofs.why.why_text.Goals as goal
 
 pub returns-clause-why : goal.returns-clause-why
-returns-clause-why g c = λ trusted office.
+returns-clause-why g c = λ trusted legible office.
     let a = c.args in
     let setup = a.setup.now in
     let content : Content = g.K.Keeper.content a.keeper.now in
@@ -22,11 +22,12 @@ returns-clause-why g c = λ trusted office.
     let earlier = c.in_ok-orders.ensures.looks.before later in
     let at = c.in_ok-finished.ensures.looks.same earlier in
     let is = c.in_ok-finished.ensures.value earlier in
+    let readable = c.in_ok-orders.ensures.looks.legible later (c.in_ok-finished.ensures.looks.legible earlier legible) in
     let first : FirstOrders setup content.kept orders = subst (λ (m : Content). FirstOrders setup m.kept orders) at (c.in_ok-orders.ensures.first later) in
     let all : length orders ≡ length content.reports = subst (λ (m : Content). IsOffice setup m → run ≡ length m.reports → length orders ≡ length m.reports) at (c.in_ok-orders.ensures.all later) office is in
     subst (λ (m : Content). IsOffice setup m → FirstOrders setup m.kept given → length given ≡ length m.reports → run ≡ length m.reports → IfSome known (λ (k : KnownFacts). AreKnown setup m k)
     → IfOk c.why_after.result (IsWhy setup m.kept (length m.reports) a.source.now))
-    (c.in_ok-orders.ensures.looks.same later ∙ at) (c.why_after.ensures.why trusted) office (subst (FirstOrders setup content.kept) (sym lent) first) (ap length lent ∙ all) is
+    (c.in_ok-orders.ensures.looks.same later ∙ at) (c.why_after.ensures.why trusted readable) office (subst (FirstOrders setup content.kept) (sym lent) first) (ap length lent ∙ all) is
     (c.requires.known (c.in_ok-finished.ensures.looks.before earlier))
 
 pub returns-clause-known : goal.returns-clause-known

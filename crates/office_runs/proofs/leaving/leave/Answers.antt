@@ -15,17 +15,17 @@ use Rattle.office_orders.proofs.LookFacts.{looked_fails, looked_none, looked_the
 use Rattle.office_runs.proofs.leaving.leave.Goals as goal
 
 pub returns-in-Ok-clause-outcome : goal.returns-in-Ok-clause-outcome
-returns-in-Ok-clause-outcome g c = λ trusted s stands.
+returns-in-Ok-clause-outcome g c = λ trusted legible s stands.
     let content : Content = g.K.Keeper.content c.args.keeper.now in
     let t2 = c.in-Ok.ensures.looks.before trusted in
-    let testing : c.in_ok-testing.testing ≡ content.testing = c.in_ok-testing.ensures.value t2 in
+    let testing : c.in_ok-testing.testing ≡ content.testing = c.in_ok-testing.ensures.value t2 (c.in_ok-testing.ensures.looks.legible t2 legible) in
     c.in_ok-earlier.ensures.ok s (subst (StandsFor c.args.known.now.facts s) (sym testing) stands) ∙ ap (λ (t : Suite). outcome c.args.setup.now c.args.run c.args.date s t) testing
 
 pub returns-in-Ok-clause-watched : goal.returns-in-Ok-clause-watched
-returns-in-Ok-clause-watched g c = λ trusted works.
+returns-in-Ok-clause-watched g c = λ trusted legible works.
     let content : Content = g.K.Keeper.content c.args.keeper.now in
     let t2 = c.in-Ok.ensures.looks.before trusted in
-    let testing : c.in_ok-testing.testing ≡ content.testing = c.in_ok-testing.ensures.value t2 in
+    let testing : c.in_ok-testing.testing ≡ content.testing = c.in_ok-testing.ensures.value t2 (c.in_ok-testing.ensures.looks.legible t2 legible) in
     c.in_ok-earlier.ensures.watched (subst (λ (t : Suite). AllWatchedWork c.args.setup.now.archs t.rows) (sym testing) works)
 
 pub returns-in-Ok-clause-known : goal.returns-in-Ok-clause-known
@@ -37,23 +37,23 @@ returns-in-Ok-clause-known g c = λ trusted way.
     (c.in_ok-earlier.ensures.given _ way.tells.said)
 
 pub returns-in-Ok-clause-given : goal.returns-in-Ok-clause-given
-returns-in-Ok-clause-given g c = λ trusted way own.
+returns-in-Ok-clause-given g c = λ trusted legible way own.
     let setup = c.args.setup.now in
     let content : Content = g.K.Keeper.content c.args.keeper.now in
     let t2 = c.in-Ok.ensures.looks.before trusted in
     let t : Suite = c.in_ok-testing.testing in
-    let testing : t ≡ content.testing = c.in_ok-testing.ensures.value t2 in
+    let testing : t ≡ content.testing = c.in_ok-testing.ensures.value t2 (c.in_ok-testing.ensures.looks.legible t2 legible) in
     given_by_mail setup content t c.in_ok-earlier.left.testing own testing (c.in_ok-earlier.ensures.given _ way.tells.said)
 
 pub returns-in-Ok-clause-kept : goal.returns-in-Ok-clause-kept
-returns-in-Ok-clause-kept g c = λ trusted stands.
+returns-in-Ok-clause-kept g c = λ trusted legible stands.
     let setup = c.args.setup.now in
     let content : Content = g.K.Keeper.content c.args.keeper.now in
     let f = c.args.known.now.facts in
     let n : ℕ = length setup.senders in
     let t2 = c.in-Ok.ensures.looks.before trusted in
     let same : g.K.Keeper.content c.next_testing.new.keeper ≡ content = c.in_ok-testing.ensures.looks.same t2 in
-    let testing : c.in_ok-earlier.earlier ≡ content.testing = c.in_ok-earlier.ensures.before ∙ c.in_ok-testing.ensures.value t2 in
+    let testing : c.in_ok-earlier.earlier ≡ content.testing = c.in_ok-earlier.ensures.before ∙ c.in_ok-testing.ensures.value t2 (c.in_ok-testing.ensures.looks.legible t2 legible) in
     let stood : StandsFor f (said_within setup content.kept (slice_index c.deref.result.now) n) c.in_ok-earlier.earlier =
     subst (λ (t : Suite). StandsFor f (said_within setup content.kept (slice_index c.deref.result.now) n) t) (sym testing)
     (subst (λ (xs : List ℕ). StandsFor f (said_within setup content.kept (slice_index xs) n) content.testing) (sym c.deref.ensures.value) stands) in

@@ -52,10 +52,11 @@ returns-in-Ok-clause-office g c = λ trusted legible office.
     let size : length orders ≡ n + 1 = omega (arith, known.next, at1.there c.if-not-branch.false, finished) in
     let ready : IsReady setup old.kept (n + 1) = subst (λ k. IsReady setup old.kept (k + 1)) finished ((at1.ready t1 office.places office.ready).0 c.if-not-branch.false) in
     let there : IsOffice setup mid = subst (IsOffice setup) (sym same1) office in
-    let legible2 = at2.looks.legible t2 (at1.looks.legible t1 legible) in
+    let legible1 = at1.looks.legible t1 legible in
+    let legible2 = at2.looks.legible t2 legible1 in
     let lists : g.K.Keeper.setup c.next_outcome.new.keeper ≡ setup = at2.looks.setup ∙ at1.looks.setup ∙ c.requires.lists in
     let own : AreOwnTexts setup mid.kept = subst (λ (m : Content). AreOwnTexts setup m.kept) (sym same1) office.texts in
-    let gives = given_by_same (g.K.Keeper.setup c.next_outcome.new.keeper) setup late mid c.in_ok-done.done.testing lists (at2.looks.same t2) (at2.given t2 own) in
+    let gives = given_by_same (g.K.Keeper.setup c.next_outcome.new.keeper) setup late mid c.in_ok-done.done.testing lists (at2.looks.same t2) (at2.given t2 legible1 own) in
     let changes : FactChanges = c.in_ok-done.done.facts in
     let held : AreHoldable (g.K.Keeper.setup c.next_outcome.new.keeper) (facts_after changes late.facts) =
     held_by_same (g.K.Keeper.setup c.next_outcome.new.keeper) setup late mid changes lists (at2.looks.same t2) (at2.held t2 own) in
@@ -65,8 +66,8 @@ returns-in-Ok-clause-office g c = λ trusted legible office.
     let whole : length given ≡ length mid.reports + 1 = ap length c.deref.ensures.value ∙ size ∙ ap (λ (m : Content). length m.reports + 1) (sym same1) in
     let run : c.args.finished + 1 ≡ length mid.reports + 1 = ap (λ k. k + 1) finished ∙ ap (λ (m : Content). length m.reports + 1) (sym same1) in
     let is : outcome_in c.in_ok-done.done ≡ outcome_of setup old.kept (n + 1) =
-    at2.outcome t2 there first whole run ∙ ap (λ (m : Content). outcome_of setup m.kept (c.args.finished + 1)) same1 ∙ ap (λ k. outcome_of setup old.kept (k + 1)) finished in
-    let works = at2.watched t2 there.watched in
+    at2.outcome t2 legible1 there first whole run ∙ ap (λ (m : Content). outcome_of setup m.kept (c.args.finished + 1)) same1 ∙ ap (λ k. outcome_of setup old.kept (k + 1)) finished in
+    let works = at2.watched t2 legible1 there.watched in
     let f : FactLists = c.in_ok-done.left.facts in
     let whole_orders : FirstOrders setup old.kept orders = known.first in
     let leaves : Leaves setup old new given f changes =
@@ -74,7 +75,7 @@ returns-in-Ok-clause-office g c = λ trusted legible office.
     (at3.mail trusted) (ap length (at3.reports trusted) ∙ length_push late.reports _) (at3.facts trusted) in
     let stand : KeptFacts f (said_within setup old.kept (cover_of given) (length setup.senders)) new.testing =
     subst (λ (t : Suite). KeptFacts f (said_within setup old.kept (cover_of given) (length setup.senders)) t) (sym (ap (λ (m : Content). m.testing) next))
-    (subst (λ (m : Content). KeptFacts f (said_within setup m.kept (cover_of given) (length setup.senders)) c.in_ok-done.done.testing) same1 (at2.kept t2 there first whole)) in
+    (subst (λ (m : Content). KeptFacts f (said_within setup m.kept (cover_of given) (length setup.senders)) c.in_ok-done.done.testing) same1 (at2.kept t2 legible1 there first whole)) in
     let keeps : KeepsFacts setup new = keeps_facts setup old new given f changes leaves office.places (ap (λ (m : Content). m.facts) next) stand in
     IsOffice-finished setup old new c.in_ok-done.done office ready next is works keeps
 
@@ -92,9 +93,10 @@ returns-in-Ok-clause-legible g c = λ trusted legible office.
     let at1 = c.in_ok-next_is_ready.ensures in
     let lists : g.K.Keeper.setup c.next_outcome.new.keeper ≡ setup = at2.looks.setup ∙ at1.looks.setup ∙ c.requires.lists in
     let own : AreOwnTexts setup mid.kept = subst (λ (m : Content). AreOwnTexts setup m.kept) (sym (at1.looks.same t1)) office.texts in
-    let gives = given_by_same (g.K.Keeper.setup c.next_outcome.new.keeper) setup late mid c.in_ok-done.done.testing lists (at2.looks.same t2) (at2.given t2 own) in
+    let legible1 = at1.looks.legible t1 legible in
+    let gives = given_by_same (g.K.Keeper.setup c.next_outcome.new.keeper) setup late mid c.in_ok-done.done.testing lists (at2.looks.same t2) (at2.given t2 legible1 own) in
     let held = held_by_same (g.K.Keeper.setup c.next_outcome.new.keeper) setup late mid c.in_ok-done.done.facts lists (at2.looks.same t2) (at2.held t2 own) in
-    at3.legible trusted (at2.looks.legible t2 (at1.looks.legible t1 legible)) gives held
+    at3.legible trusted (at2.looks.legible t2 legible1) gives held
 
 pub next_outcome-requires-clause-known : goal.next_outcome-requires-clause-known
 next_outcome-requires-clause-known g c = λ trusted.

@@ -10,7 +10,7 @@ use Rattle.office_trials.proofs.CoveredFacts.{stands_within}
 use Rattle.office_trials.proofs.trying.decide_within.Goals as goal
 
 pub returns-clause-without : goal.returns-clause-without
-returns-clause-without g c = λ trusted office are is.
+returns-clause-without g c = λ trusted legible office are is.
     let setup = c.args.setup.now in
     let content : Content = g.K.Keeper.content c.args.keeper.now in
     let covers : ℕ → ℕ = slice_index c.args.covers.now in
@@ -22,10 +22,10 @@ returns-clause-without g c = λ trusted office are is.
     (λ o. o.0 ≡ decided setup c.args.run (outcome setup c.args.run c.args.date (items_within setup content.kept covers) content.testing))
     (λ o told. told (items_within setup content.kept covers) stand)
     (subst (λ (m : Content). IfOk c.decide_kept-told.result (λ o. (s : Covered) → StandsFor facts s m.testing → o.0 ≡ decided setup c.args.run (outcome setup c.args.run c.args.date s m.testing)))
-    (c.in_ok-taken.ensures.looks.same earlier) (c.decide_kept-told.ensures.without trusted))
+    (c.in_ok-taken.ensures.looks.same earlier) (c.decide_kept-told.ensures.without trusted (c.in_ok-taken.ensures.looks.legible earlier legible)))
 
 pub returns-clause-with_them : goal.returns-clause-with_them
-returns-clause-with_them g c = λ trusted office are is.
+returns-clause-with_them g c = λ trusted legible office are is.
     let setup = c.args.setup.now in
     let content : Content = g.K.Keeper.content c.args.keeper.now in
     let covers : ℕ → ℕ = slice_index c.args.covers.now in
@@ -38,4 +38,4 @@ returns-clause-with_them g c = λ trusted office are is.
     (λ o. o.1 ≡ decided setup c.args.run (outcome setup c.args.run c.args.date (with_letters setup (release setup) letters (items_within setup content.kept covers)) content.testing))
     (λ o told. told (items_within setup content.kept covers) stand)
     (subst (λ (m : Content). IfOk c.decide_kept-told.result (λ o. (s : Covered) → StandsFor facts s m.testing → o.1 ≡ decided setup c.args.run (outcome setup c.args.run c.args.date (with_letters setup (release setup) letters s) m.testing)))
-    (c.in_ok-taken.ensures.looks.same earlier) (c.decide_kept-told.ensures.with_them trusted))
+    (c.in_ok-taken.ensures.looks.same earlier) (c.decide_kept-told.ensures.with_them trusted (c.in_ok-taken.ensures.looks.legible earlier legible)))

@@ -20,7 +20,7 @@ try_on-requires g c = record {
 }
 
 pub returns-in-Some-clause-tried : goal.returns-in-Some-clause-tried
-returns-in-Some-clause-tried g c = λ trusted office are is was.
+returns-in-Some-clause-tried g c = λ trusted legible office are is was.
     let setup = c.args.setup.now in
     let content : Content = g.K.Keeper.content c.args.keeper.now in
     let covers : List ℕ = c.in_ok-covers.covers.items in
@@ -38,10 +38,10 @@ returns-in-Some-clause-tried g c = λ trusted office are is was.
     (told ∙ ap (λ (l : List ℕ). told_on setup content.kept (length content.reports) (Some date) (slice_index l) hints) c.deref.ensures.value) day)
     (subst (λ (m : Content). IsOffice setup m → c.args.orders.now ≡ orders_to setup m.kept (length m.reports) → c.args.finished ≡ length m.reports → slice_index c.deref.result.now (release setup) ≤ 999_999_999
     → IfSome c.args.known.now (λ (k : KnownFacts). AreKnown setup m k) → IfOk c.try_on.result (λ (trial : Trial). trial ≡ told_on setup m.kept (length m.reports) (Some date) (slice_index c.deref.result.now) hints))
-    (c.in_ok-covers.ensures.looks.same earlier) (c.try_on.ensures.told trusted) office are is few was)
+    (c.in_ok-covers.ensures.looks.same earlier) (c.try_on.ensures.told trusted (c.in_ok-covers.ensures.looks.legible earlier legible)) office are is few was)
 
 pub returns-clause-tried : goal.returns-clause-tried
-returns-clause-tried g c = λ trusted office are is was.
+returns-clause-tried g c = λ trusted legible office are is was.
     let setup = c.args.setup.now in
     let content : Content = g.K.Keeper.content c.args.keeper.now in
     is_trial setup content.kept (length content.reports) c.args.terms c.args.hints.now (slice_index c.in_ok-covers.covers.items) None NoDate (c.in_ok-covers.ensures.covers trusted office are) refl

@@ -10,7 +10,7 @@ use Rattle.office_trials.specs.Trial.{IsTrial}
 use Rattle.office_trials.proofs.trying.try_hints.Goals as goal
 
 pub returns-clause-tried : goal.returns-clause-tried
-returns-clause-tried g c = λ trusted office.
+returns-clause-tried g c = λ trusted legible office.
     let a = c.args in
     let setup = a.setup.now in
     let content : Content = g.K.Keeper.content a.keeper.now in
@@ -23,11 +23,12 @@ returns-clause-tried g c = λ trusted office.
     let earlier = c.in_ok-orders.ensures.looks.before later in
     let at = c.in_ok-finished.ensures.looks.same earlier in
     let is = c.in_ok-finished.ensures.value earlier in
+    let readable = c.in_ok-orders.ensures.looks.legible later (c.in_ok-finished.ensures.looks.legible earlier legible) in
     let first : FirstOrders setup content.kept orders = subst (λ (m : Content). FirstOrders setup m.kept orders) at (c.in_ok-orders.ensures.first later) in
     let are : orders ≡ orders_to setup content.kept (length content.reports) = subst (λ (m : Content). IsOffice setup m → finished ≡ length m.reports → orders ≡ orders_to setup m.kept (length m.reports)) at (c.in_ok-orders.ensures.orders later) office is in
     subst (λ (m : Content). IsOffice setup m → FirstOrders setup m.kept given → given ≡ orders_to setup m.kept (length m.reports) → finished ≡ length m.reports → IfSome known (λ (k : KnownFacts). AreKnown setup m k)
     → IfOk c.try_after.result (IsTrial setup m.kept (length m.reports) a.terms a.hints.now))
-    (c.in_ok-orders.ensures.looks.same later ∙ at) (c.try_after.ensures.tried trusted) office (subst (FirstOrders setup content.kept) (sym lent) first) (lent ∙ are) is
+    (c.in_ok-orders.ensures.looks.same later ∙ at) (c.try_after.ensures.tried trusted readable) office (subst (FirstOrders setup content.kept) (sym lent) first) (lent ∙ are) is
     (c.requires.known (c.in_ok-finished.ensures.looks.before earlier))
 
 pub returns-clause-known : goal.returns-clause-known

@@ -6,7 +6,7 @@ use Rattle.office_trials.proofs.TryFacts.{told_refused, told_tried}
 use Rattle.office_trials.proofs.trying.try_on.Goals as goal
 
 pub returns-in-Some-clause-told : goal.returns-in-Some-clause-told
-returns-in-Some-clause-told g c = λ trusted office are finished few is.
+returns-in-Some-clause-told g c = λ trusted legible office are finished few is.
     let setup = c.args.setup.now in
     let content : Content = g.K.Keeper.content c.args.keeper.now in
     let covers : ℕ → ℕ = slice_index c.args.covers.now in
@@ -16,7 +16,7 @@ returns-in-Some-clause-told g c = λ trusted office are finished few is.
     (sym c.in-Some.is ∙ c.in_ok-refused.ensures.refused ∙ ap (λ (n : ℕ). first_refused setup n 0 hints) at)
 
 pub returns-clause-told : goal.returns-clause-told
-returns-clause-told g c = λ trusted office are finished few is.
+returns-clause-told g c = λ trusted legible office are finished few is.
     let setup = c.args.setup.now in
     let content : Content = g.K.Keeper.content c.args.keeper.now in
     let covers : ℕ → ℕ = slice_index c.args.covers.now in
@@ -28,4 +28,4 @@ returns-clause-told g c = λ trusted office are finished few is.
     c.deref.ensures.value ∙ taken.letters c.in_default.is ∙ ap (λ (ls : List Letter). ls ++ hint_letters setup number hints) c.new-letters.ensures.items ∙ ap (λ (n : ℕ). hint_letters setup n hints) at in
     told_tried setup content.kept (length content.reports) c.args.date covers hints c.in_ok-told.told
     (sym c.in_default.is ∙ taken.refused ∙ ap (λ (n : ℕ). first_refused setup n 0 hints) at)
-    (c.in_ok-told.ensures.tried trusted office are finished is hints lettered few)
+    (c.in_ok-told.ensures.tried trusted legible office are finished is hints lettered few)

@@ -1,15 +1,14 @@
-use Rattle.std.proofs.Common.{arith, ◌∙◌, sym, ap, ◌<◌, length}
-use Rattle.testing_model.specs.Unstable.{hint_order}
-use Rattle.testing_model.specs.declared.facts.HintIn.{HintIn}
-use Rattle.testing_items.proofs.Puts.{put-over}
+use Rattle.testing_model.proofs.Orders.{hint_total}
+use Rattle.testing_lists.proofs.PutSlots.{put-tied, put-untied}
 use Rattle.testing_lists.proofs.taken.slot_of_hint.Goals as goal
 
-pub returns-in-Equal : goal.returns-in-Equal
-returns-in-Equal c =
+pub returns-in-Ok : goal.returns-in-Ok
+returns-in-Ok c =
     let x = c.args.hint.now in
-    let xs = c.args.hints.now in
-    let i = c.loop-i.i in
-    let d = c.index-hints-i.result in
-    let below : i < length xs = omega arith in
-    let tied = ap (λ (y : HintIn). hint_order x y) (sym c.index-hints-i.is) ∙ sym c.hint_order.ensures ∙ c.in-Equal.is in
-    (below, put-over (λ (y : HintIn). y) hint_order x xs i d below c.loop-i.invariant tied)
+    let place = c.in-Ok.ensures in
+    (place.bound, (put-tied hint_total x c.args.hints.now c.in-Ok.i c.requires x place.bound (place.found x)).0)
+
+pub returns-in-Err : goal.returns-in-Err
+returns-in-Err c =
+    let place = c.in-Err.ensures in
+    (place.bound, (put-untied hint_total c.args.hint.now c.args.hints.now c.in-Err.i c.requires place.bound place.found).0)

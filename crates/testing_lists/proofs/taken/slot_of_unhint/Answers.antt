@@ -1,13 +1,14 @@
-use Rattle.std.proofs.Common.{arith, ◌∙◌, sym, ◌<◌, length}
-use Rattle.testing_model.specs.Unstable.{unhint_order}
-use Rattle.testing_model.specs.declared.facts.UnhintIn.{UnhintIn}
-use Rattle.testing_items.proofs.Puts.{put-over}
+use Rattle.testing_model.proofs.Orders.{unhint_total}
+use Rattle.testing_lists.proofs.PutSlots.{put-tied, put-untied}
 use Rattle.testing_lists.proofs.taken.slot_of_unhint.Goals as goal
 
-pub returns-in-Equal : goal.returns-in-Equal
-returns-in-Equal c =
+pub returns-in-Ok : goal.returns-in-Ok
+returns-in-Ok c =
     let x = c.args.unhint.now in
-    let xs = c.args.unhints.now in
-    let i = c.loop-i.i in
-    let below : i < length xs = omega arith in
-    (below, put-over (λ (y : UnhintIn). y) unhint_order x xs i _ below c.loop-i.invariant (sym c.unhint_order.ensures ∙ c.in-Equal.is))
+    let place = c.in-Ok.ensures in
+    (place.bound, (put-tied unhint_total x c.args.unhints.now c.in-Ok.i c.requires x place.bound (place.found x)).0)
+
+pub returns-in-Err : goal.returns-in-Err
+returns-in-Err c =
+    let place = c.in-Err.ensures in
+    (place.bound, (put-untied unhint_total c.args.unhint.now c.args.unhints.now c.in-Err.i c.requires place.bound place.found).0)

@@ -9,16 +9,16 @@ use Rattle.testing_refusals.proofs.alone.told_over.Goals as goal
 pub returns-clause-some : goal.returns-clause-some
 returns-clause-some c =
     let a = c.args in
-    subst (λ (us : List UploadIn). IfOk c.told_of_offender.result (λ told. IfSome told (λ text. IsToldAlone a.archs.now us (lent a.rows.now) a.excuses.now a.testing.now a.excuse.now text)))
-    c.sources.ensures.sources c.told_of_offender.ensures.some
+    subst (λ (us : List UploadIn). IfOk c.told_knowing.result (λ told. IfSome told (λ text. IsToldAlone a.archs.now us (lent a.rows.now) a.excuses.now a.testing.now a.excuse.now text)))
+    c.sources.ensures.sources c.told_knowing.ensures.some
 
 pub returns-clause-none : goal.returns-clause-none
 returns-clause-none c =
     let a = c.args in
-    subst (λ (us : List UploadIn). IfOk c.told_of_offender.result (λ told. IfNone told (offender_alone a.archs.now us (lent a.rows.now) a.testing.now a.excuse.now ≡ None)))
-    c.sources.ensures.sources c.told_of_offender.ensures.none
+    subst (λ (us : List UploadIn). IfOk c.told_knowing.result (λ told. IfNone told (offender_alone a.archs.now us (lent a.rows.now) a.testing.now a.excuse.now ≡ None)))
+    c.sources.ensures.sources c.told_knowing.ensures.none
 
-pub told_of_offender-requires-clause-breaks : goal.told_of_offender-requires-clause-breaks
-told_of_offender-requires-clause-breaks c =
+pub told_knowing-requires-clause-breaks : goal.told_knowing-requires-clause-breaks
+told_knowing-requires-clause-breaks c =
     let a = c.args in
     subst (λ (us : List UploadIn). offender_alone a.archs.now us (lent a.rows.now) a.testing.now a.excuse.now ≡ Some a.offender) (sym c.sources.ensures.sources) c.requires

@@ -7,6 +7,7 @@ use Rattle.testing_model.specs.Boxed.{unboxed}
 use Rattle.testing_model.specs.FactLists.{FactLists}
 use Rattle.testing_model.specs.FactOrder.{IsFactOrder}
 use Rattle.testing_order.specs.Uploads.{AreByMessage}
+use Rattle.testing_lists.specs.HintOrder.{AreHintsByNumber, AreUnhintsByNumber}
 use Rattle.testing_facts.proofs.facts.Facts.copy.Goals as goal
 
 same_order : (ss ss' : List UploadIn) (bs bs' : List BuildIn) (ds ds' : List DropIn) (gs gs' : List BugIn) → ss' ≡ ss → bs' ≡ bs → ds' ≡ ds → gs' ≡ gs → IsFactOrder ss bs ds gs → IsFactOrder ss' bs' ds' gs'
@@ -24,6 +25,8 @@ invariant_of-result c =
           sources c.in_ok-rows.ensures drops bugs c.self.invariant.0,
       omega (arith, c.in_ok-log.ensures.room, c.len.ensures, ap length uploads),
       subst AreByMessage (sym uploads) c.self.invariant.2,
+      subst AreHintsByNumber (sym (said.hints ∙ c.deref-5.ensures.value)) c.self.invariant.3,
+      subst AreUnhintsByNumber (sym (said.unhints ∙ c.deref-6.ensures.value)) c.self.invariant.4,
     )
 
 pub returns : goal.returns

@@ -10,4 +10,6 @@ invariant_of-self-in-Some c =
       c.self.invariant.0,
       omega (arith, c.in_ok-reserve_with.ensures.room_left, c.put_kept.ensures.len, c.len-count.ensures, ap length c.in_ok-reserve_with.ensures.items),
       subst AreByMessage (sym became) (by_message-kept u c.self.inside.uploads.items c.self.invariant.2),
+      c.self.invariant.3,
+      c.self.invariant.4,
     )

@@ -15,4 +15,6 @@ invariant_of-self-2 c = (
   },
   omega (arith, c.in_ok-put.ensures.len, c.in_ok-put.ensures.capacity, c.in_ok-reserve.ensures.room_left, c.len.ensures, c.len-2.ensures),
   c.self.invariant.2,
+  c.self.invariant.3,
+  c.self.invariant.4,
 )

@@ -6,4 +6,6 @@ invariant_of-self-2 c = (
   c.self.invariant.0,
   omega (arith, c.note.ensures.len_left, c.note.ensures.capacity_left, c.in_ok-reserve.ensures.room_left, c.len.ensures),
   c.self.invariant.2,
+  c.self.invariant.3,
+  c.self.invariant.4,
 )

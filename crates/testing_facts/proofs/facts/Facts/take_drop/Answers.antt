@@ -23,6 +23,8 @@ invariant_of-self-2 c = (
   },
   omega (arith, c.note.ensures.len_left, c.note.ensures.capacity_left, c.note-2.ensures.len_left, c.note-2.ensures.capacity_left, c.in_ok-reserve_with.ensures.room_left, c.len.ensures),
   c.self.invariant.2,
+  c.self.invariant.3,
+  c.self.invariant.4,
 )
 
 pub returns-clause-ok : goal.returns-clause-ok

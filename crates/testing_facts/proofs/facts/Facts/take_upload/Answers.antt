@@ -17,4 +17,6 @@ invariant_of-self-2 c = (
   },
   omega (arith, c.note.ensures.len_left, c.note.ensures.capacity_left, c.note-2.ensures.len_left, c.note-2.ensures.capacity_left, c.in_ok-reserve_with.ensures.room_left, c.put_kept-came.ensures.len, c.len.ensures),
   subst AreByMessage (sym (c.put_kept-came.ensures.items ∙ ap (with_kept c.in_ok-source.field-0.kept) c.in_ok-reserve.ensures.items)) (by_message-kept c.in_ok-source.field-0.kept c.self.inside.uploads.items c.self.invariant.2),
+  c.self.invariant.3,
+  c.self.invariant.4,
 )

@@ -30,6 +30,8 @@ invariant_of-self g c =
         length-filter_both counts (λ u. not (counts u)) (λ u. refl) uploads,
       ),
       subst AreByMessage (sym c.trim_uploads.ensures.uploads) (by_message-filter counts uploads c.self.invariant.2),
+      c.self.invariant.3,
+      c.self.invariant.4,
     )
 
 -- a testing is asked for its sources alone

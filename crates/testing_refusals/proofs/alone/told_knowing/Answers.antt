@@ -10,13 +10,21 @@ use Rattle.testing_model.specs.Updates.{offender_alone}
 use Rattle.testing_refusals.specs.Alone.{IsToldAlone}
 use Rattle.testing_refusals.specs.ToldChange.{IsToldChange}
 use Rattle.testing_refusals.proofs.Failings.{none_then}
-use Rattle.testing_refusals.proofs.Moving.{told_alone, allowed_alone}
+use Rattle.testing_refusals.proofs.Moving.{told_alone, allowed_alone, broken_alone}
 use Rattle.testing_suites.specs.AfterMoves.{moved_rows}
-use Rattle.testing_refusals.proofs.alone.told_alone.Goals as goal
+use Rattle.testing_refusals.proofs.alone.told_knowing.Goals as goal
 
 pub told_move-requires-clause-order : goal.told_move-requires-clause-order
 told_move-requires-clause-order c =
     subst AreByKey (sym (ap lent c.deref.ensures.value ∙ c.in_ok-old.ensures)) c.rows.ensures.ordered
+
+pub told_move-requires-clause-breaks : goal.told_move-requires-clause-breaks
+told_move-requires-clause-breaks c =
+    let l = c.args.lone.now in
+    let t = c.args.testing.now in
+    let old = lent c.deref.result.now in
+    let same : old ≡ t.rows = ap lent c.deref.ensures.value ∙ c.in_ok-old.ensures ∙ c.rows.ensures.entries in
+    IfSome_then c.args.known c.requires.breaks (broken_alone l.archs.now (unboxed l.unstable.sources.now) (lent l.unstable.rows.now) old t l.excuse.now same)
 
 pub returns-clause-some : goal.returns-clause-some
 returns-clause-some c =

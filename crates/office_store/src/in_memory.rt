@@ -1,0 +1,139 @@
+//! The testing that a keeper over tables has in memory for the next run, beside what the tables hold.
+ghost use Rattle.std.specs.Prelude.{◌≡◌, ◌≢◌, ◌⊎◌, Err, Some, None, IfOk, IfSome, OnOk, OnErr};
+ghost use Rattle.std.specs.List.{list_all};
+ghost use Rattle.std.specs.Str.{IsUtf8};
+ghost use Rattle.sqlite.specs.Held.{state};
+ghost use Rattle.sqlite.specs.State.{HasCleanDisk};
+ghost use Rattle.testing_model.specs.InOrder.{IsInOrder};
+ghost use Rattle.office_keeper.specs.Provenance.{KnowsArchs};
+ghost use Rattle.office_tables.specs.Entries.{source_map, entry_map};
+ghost use Rattle.office_tables.specs.Finishing.{FinishesRun};
+ghost use Rattle.office_tables.specs.Legible.{IsWhole, AreNamed, SaysOnce};
+ghost use Rattle.office_tables.specs.TableContent.{is_arch_place, release_place, suite_in};
+ghost use Rattle.office_tables.specs.TableSteps.{Same};
+ghost use Rattle.office_tables.specs.Tables.{IsTrusted, IsOurs, Lasts, kept_rows};
+
+use deb_control::NoMemory;
+use office_keeper::{Cause, Finished, KeepFault};
+use office_mail::Setup;
+use office_tables::{entries, finishing};
+use sqlite::{Alter, Connection};
+use std::alloc::Global;
+use testing_items::{ALL, Archs};
+use testing_model::RowIn;
+use testing_suites::Testing;
+
+/// Whether a row is of a listed architecture or of `all`.
+fn is_listed(archs: &Archs, row: &RowIn) -> bool
+    ensures { result ≡ is_arch_place archs.now row.now.arch }
+{
+    row.arch < archs.len() || row.arch == ALL
+}
+
+/// Whether each row is of a listed architecture or of `all`.
+fn are_listed(archs: &Archs, rows: &[RowIn]) -> bool
+    ensures { result ≡ list_all (λ row. is_arch_place archs.now row.arch) rows.now }
+{
+    for row in rows {
+        if !is_listed(archs, row) {
+            return false;
+        }
+    }
+    true
+}
+
+/// Equal testing with the suites that go with it; none where a row is of another architecture than those of the list and
+/// `all`.
+fn share_listed(archs: &Archs, testing: &mut Testing) -> Result<Option<Testing>, NoMemory>
+    ensures same { testing.new ≡ testing.old }
+    ensures shared { IfOk result (λ given. IfSome given (λ t. t ≡ testing.old)) }
+    ensures known { IfOk result (λ given. IfSome given (λ t. KnowsArchs archs.now t.rows)) }
+{
+    if !are_listed(archs, testing.rows()) {
+        return Ok(None);
+    }
+    Ok(Some(testing.share()?))
+}
+
+/// The same of the testing in memory, where there is one.
+fn share(setup: &Setup, in_memory: &mut Option<Testing>) -> Result<Option<Testing>, NoMemory>
+    ensures same { in_memory.new ≡ in_memory.old }
+    ensures shared { IfOk result (λ given. IfSome given (λ t. in_memory.old ≡ Some t)) }
+    ensures known { IfOk result (λ given. IfSome given (λ t. KnowsArchs setup.now.archs t.rows)) }
+{
+    match in_memory {
+        Some(testing) => share_listed(setup.archs(), testing),
+        None => Ok(None),
+    }
+}
+
+/// Testing for the next run: the one in memory, with the suites that go with it, or else as the tables have it.
+pub(crate) fn next_testing<S: Alter>(
+    alloc: Global,
+    conn: &mut Connection<S>,
+    setup: &Setup,
+    in_memory: &mut Option<Testing>,
+) -> Result<Testing, KeepFault>
+    requires ours { IsTrusted (state S.Store conn.old) → IsOurs (state S.Store conn.old) }
+    ensures before { IsTrusted (state S.Store conn.new) → IsTrusted (state S.Store conn.old) }
+    ensures lasts { Lasts (state S.Store conn.old) (state S.Store conn.new) }
+    ensures open { HasCleanDisk (state S.Store conn.new) → IsTrusted (state S.Store conn.old) → OnOk result (IsTrusted (state S.Store conn.new)) }
+    ensures same { IsTrusted (state S.Store conn.new) → Same (state S.Store conn.old) (state S.Store conn.new) }
+    ensures stays { in_memory.new ≡ in_memory.old }
+    ensures bad { IsTrusted (state S.Store conn.new) → IsWhole (kept_rows ((state S.Store conn.new).now.trees 1)) ((state S.Store conn.new).now.trees 1) → AreNamed setup.now (state S.Store conn.new).now.trees → result ≢ Err (KeepFault.Store Cause.BadRow) }
+    ensures known { IfOk result (λ testing. KnowsArchs setup.now.archs testing.rows) }
+    ensures value { IsTrusted (state S.Store conn.new) → IfOk result (λ testing. (in_memory.old ≡ Some testing) ⊎ (testing ≡ suite_in setup.now (kept_rows ((state S.Store conn.new).now.trees 1)) (source_map ((state S.Store conn.new).now.trees 4)) (entry_map ((state S.Store conn.new).now.trees 6)))) }
+{
+    match share(setup, in_memory)? {
+        Some(testing) => Ok(testing),
+        None => entries::testing(alloc, conn, setup),
+    }
+}
+
+/// The testing that a run left, without the rest. It takes no memory.
+fn testing_left(done: Finished) -> Testing
+    ensures { result ≡ done.testing }
+{
+    let Finished {
+        testing,
+        excuses: _,
+        updates: _,
+        facts: _,
+    } = done;
+    testing
+}
+
+/// Makes a run finished in the tables, all of them or none, and then has the testing that it left in memory. Where the
+/// tables refuse it, there is none in memory.
+pub(crate) fn finish<S: Alter>(
+    conn: &mut Connection<S>,
+    setup: &Setup,
+    in_memory: &mut Option<Testing>,
+    run: u32,
+    done: Finished,
+) -> Result<(), KeepFault>
+    requires ours { IsTrusted (state S.Store conn.old) → IsOurs (state S.Store conn.old) }
+    ensures before { IsTrusted (state S.Store conn.new) → IsTrusted (state S.Store conn.old) }
+    ensures lasts { Lasts (state S.Store conn.old) (state S.Store conn.new) }
+    ensures open { HasCleanDisk (state S.Store conn.new) → IsTrusted (state S.Store conn.old) → OnOk result (IsTrusted (state S.Store conn.new)) }
+    ensures ours { IsTrusted (state S.Store conn.new) → IsOurs (state S.Store conn.new) }
+    ensures bad { IsTrusted (state S.Store conn.new) → SaysOnce ((state S.Store conn.old).now.trees 0) → result ≢ Err (KeepFault.Store Cause.BadRow) }
+    ensures ordered { OnOk result (IsInOrder done.testing.sources done.testing.rows) }
+    ensures texts { OnOk result (IsUtf8 done.excuses × IsUtf8 done.updates) }
+    ensures done { IsTrusted (state S.Store conn.new) → OnOk result (FinishesRun (release_place setup.now) (state S.Store conn.old).now.trees (state S.Store conn.new).now.trees run done) }
+    ensures err { IsTrusted (state S.Store conn.new) → OnErr result ((state S.Store conn.new).now ≡ (state S.Store conn.old).now) }
+    ensures left { OnOk result (in_memory.new ≡ Some done.testing) }
+    ensures none { OnErr result (in_memory.new ≡ None) }
+{
+    *in_memory = None;
+    match finishing::finish(conn, setup, run, &done) {
+        Ok(()) => {
+            *in_memory = Some(testing_left(done));
+            Ok(())
+        }
+        Err(fault) => {
+            drop(done);
+            Err(fault)
+        }
+    }
+}
