@@ -111,10 +111,12 @@ def ask_by_turns(servers, plain, path, requests, rounds):
     length = len(servers["memory"].ask(get(path)).partition(b"\r\n\r\n")[2])
     asked = {**servers, "plain": Server([plain, "{port}", str(length)])}
     took = {name: [] for name in asked}
-    for _ in range(rounds):
-        for name, server in asked.items():
-            took[name].append(server.time(get(path), requests))
-    asked["plain"].end()
+    try:
+        for _ in range(rounds):
+            for name, server in asked.items():
+                took[name].append(server.time(get(path), requests))
+    finally:
+        asked["plain"].end()
     memory, file, least = (statistics.median(took[name]) for name in ("memory", "file", "plain"))
     print(f"GET {path}, {length} bytes: memory {memory:.0f} us, file {file:.0f} us, plain {least:.0f} us; "
           f"memory / plain {memory / least:.2f}, file / memory {file / memory:.2f}", flush=True)
