@@ -1,0 +1,187 @@
+"""Must-fail edits, tried on the functions that they change. See gate.py."""
+import json
+import os
+import re
+import shutil
+import subprocess
+import tempfile
+from typing import NamedTuple
+
+# The prover keeps a module of a longer name elsewhere, and makes it again.
+LONGEST = 240
+FUNCTION = re.compile(r"(?m)^( *)(?:pub(?:\([a-z]+\))? )?fn (\w+)")
+BLOCK = re.compile(r"(?m)^impl(?:<[^>]*>)? (?:(\w+)(?:<[^>]*>)? for )?(\w+)")
+# The line that ends with the brace of a body, behind the function's name.
+BODY = re.compile(r"(?m)^ *\{$| \{$")
+NOT_PROVED = re.compile(r"only=(\d+) proved=(\d+)")
+
+
+class Change(NamedTuple):
+    """What an edit changes of a file: the text from one place to another, in one function."""
+
+    path: str
+    function: str
+    lines: range
+    is_in_body: bool
+    start: int
+    end: int
+    new: str
+
+
+def unpack(library, folder):
+    """Writes the checked modules of a library below the folder, as its build of the prover keeps them."""
+    with open(f"{library}/format", encoding="utf-8") as lines:
+        build = next(line.split()[1] for line in lines if line.startswith("rattle-build "))
+    to = os.path.join(folder, build.replace("/", "_"))
+    os.mkdir(to)
+    with open(f"{library}/toolchain/checked.json", encoding="utf-8") as lines:
+        modules = [json.loads(line) for line in lines]
+    with open(f"{library}/toolchain/checked.a", "rb") as archive:
+        for name, start, length in modules:
+            if "/" not in name and len(os.fsencode(name)) <= LONGEST:
+                archive.seek(start)
+                with open(os.path.join(to, f"{name}.oantt"), "wb") as module:
+                    module.write(archive.read(length))
+
+
+def text_of(crate, path):
+    with open(f"{crate.folder}/{path}", encoding="utf-8") as file:
+        return file.read()
+
+
+def path_of(file, text, function):
+    """The path of a function below the crate, by its file and the block in which it stands."""
+    modules = [it for it in file.removesuffix(".rt").split("/")[1:] if it not in ("lib", "main", "mod")]
+    blocks = BLOCK.findall(text[: function.start()])
+    of_trait, of_type = blocks[-1] if function[1] and blocks else ("", "")
+    return "::".join([*modules, *([of_type + of_trait] if of_type else []), function[2]])
+
+
+def lines_of(text, function, behind):
+    """The lines of a function, with its comment and attributes, up to those of the function behind it."""
+    start = text.rfind("\n\n", 0, function.start()) + 2
+    end = text.rfind("\n\n", 0, behind.start()) if behind else len(text)
+    return range(text.count("\n", 0, start) + 1, text.count("\n", 0, end) + 2)
+
+
+def change_of(crate, texts):
+    """What an edit with these texts changes, if it changes one function of one file alone."""
+    if not texts or len(texts) > 1 or not next(iter(texts)).startswith("src/"):
+        return None
+    path, text = next(iter(texts.items()))
+    old = text_of(crate, path)
+    start = len(os.path.commonprefix([old, text]))
+    behind = min(len(os.path.commonprefix([old[::-1], text[::-1]])), len(old) - start, len(text) - start)
+    functions = [*FUNCTION.finditer(old)]
+    before = [it for it in functions if it.start() <= start]
+    if not before or any(start < it.start() < len(old) - behind for it in functions):
+        return None
+    function = before[-1]
+    body = BODY.search(old, function.end())
+    return Change(
+        path=path,
+        function=path_of(path, old, function),
+        lines=lines_of(old, function, next((it for it in functions if it.start() > start), None)),
+        is_in_body=bool(body) and body.end() <= start,
+        start=start,
+        end=len(old) - behind,
+        new=text[start : len(text) - behind],
+    )
+
+
+def with_changes(crate, changes):
+    """The crate's files that the changes change, with all of them."""
+    texts = {}
+    for change in sorted(changes, key=lambda it: it.start, reverse=True):
+        text = texts.get(change.path) or text_of(crate, change.path)
+        texts[change.path] = text[: change.start] + change.new + text[change.end :]
+    return texts
+
+
+def complaints(ran, change):
+    """The lines in which the prover complains of the changed function."""
+    proofs = "./proofs/" + change.function.replace("::", "/") + "/"
+    for line in ran.stdout.split("\n"):
+        place = re.match(r"(?:note: )?([^\s:]+):(\d+):\d+: ", line)
+        if place and (place[1] == change.path and int(place[2]) in change.lines or place[1].startswith(proofs) and ": error" in line):
+            yield line
+
+
+def only(changes):
+    return [word for function in sorted({change.function for change in changes}) for word in ("--only", function)]
+
+
+class Trials:
+    """The kit's functions `seeded` and `checked`, for a run of it. Both take what the kit's own take."""
+
+    def __init__(self, kit, checked, seeded):
+        self.kit, self.checked_by_kit, self.seeded_by_kit = kit, checked, seeded
+        # What a crate's functions as they stand came to, by the folder of the work that they were checked over.
+        self.stands = {}
+        # The folders over which a whole crate was checked with an edit.
+        self.whole = set()
+        # What the prover said of edits that it refused together with others, by crate and change.
+        self.refused = {}
+
+    def changes_of(self, crate):
+        """What the crate's edits change, as far as they change one function each."""
+        texts = [self.kit.read_edit(edit, crate.folder)[0] for edit in self.kit.edits_of(crate)[0]]
+        return [change for change in (change_of(crate, it) for it in texts) if change]
+
+    def try_together(self, crate, changes, flags, room):
+        """Tries changes of the bodies of different functions in one check, and notes those that are refused."""
+        over = f"{room}/together"
+        self.kit.linked(f"{room}/seed", over)
+        ran = self.checked_by_kit(crate, with_changes(crate, changes), [*flags, *only(changes)], over)
+        shutil.rmtree(over, ignore_errors=True)
+        said_before = self.stands[f"{room}/seed"].stdout.split("\n")
+        for change in changes:
+            told = [line for line in complaints(ran, change) if line not in said_before]
+            is_proved = f"fn {crate.name}::{change.function}: proved" in ran.stdout.split("\n")
+            if ran.returncode == 1 and told and not is_proved:
+                said = "\n".join([*told, "logic=not-proved"])
+                self.refused[crate.name, change] = subprocess.CompletedProcess(ran.args, 1, said)
+
+    def seeded(self, crate, flags, start=None):
+        """The work that a crate's edits are tried over: the modules of its library. Over it the functions that they change
+        are checked as they stand, and then with those edits that can be tried together."""
+        room = tempfile.mkdtemp(prefix=f"rt-edits-{os.getpid()}-")
+        self.kit.SEEDS.append(room)
+        seed = f"{room}/seed"
+        try:
+            os.mkdir(seed)
+            unpack(crate.rlib, seed)
+            changes = self.changes_of(crate)
+            self.stands[seed] = self.checked_by_kit(crate, {}, [*flags, *only(changes)], seed)
+            if not self.stands[seed].returncode:
+                left = [change for change in changes if change.is_in_body]
+                while left:
+                    first = {change.function: change for change in reversed(left)}
+                    self.try_together(crate, [*first.values()], flags, room)
+                    left = [change for change in left if first[change.function] is not change]
+                return room
+            self.kit.say(f"{crate.name}: what the edits change isn't proved as it stands: {self.stands[seed].stdout[-200:]}")
+        except (OSError, ValueError, StopIteration, shutil.Error) as fault:
+            self.kit.say(f"{crate.name}: its library wasn't read: {fault}")
+        shutil.rmtree(room, ignore_errors=True)
+        return self.seeded_by_kit(crate, flags, start)
+
+    def checked(self, crate, texts, flags, kept):
+        """A check over the work of a crate's edits. Of the crate as it stands it was made before them, if no edit was tried
+        on the whole crate: the kit asks for it only if no file of that work has changed."""
+        if not texts:
+            if kept in self.stands and os.path.dirname(kept) not in self.whole:
+                return self.stands[kept]
+            return self.checked_by_kit(crate, texts, flags, kept)
+        change = change_of(crate, texts)
+        if change and (crate.name, change) in self.refused:
+            return self.refused[crate.name, change]
+        if change and kept:
+            ran = self.checked_by_kit(crate, texts, [*flags, *only([change])], kept)
+            said, _, counts = ran.stdout.rstrip("\n").rpartition("\n")
+            found = NOT_PROVED.fullmatch(counts)
+            if ran.returncode == 1 and found and int(found[2]) < int(found[1]):
+                ran.stdout = f"{said}\nlogic=not-proved\n"
+                return ran
+        self.whole.add(os.path.dirname(kept or ""))
+        return self.checked_by_kit(crate, texts, flags, kept)
