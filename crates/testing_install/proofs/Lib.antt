@@ -17,3 +17,4 @@ pub mod Reviving
 pub mod Needing
 pub mod SuiteStates
 pub mod Sharing
+pub mod Trying

@@ -12,3 +12,4 @@ pub mod Tracked
 pub mod Needers
 pub mod Settling
 pub mod Suite
+pub mod Trials

@@ -176,6 +176,7 @@ pub fn lost_by(
     requires coming { All (λ k. k < length graph.now.rows.items) coming.now }
     ensures there_kept { there.new.kept ≡ there.old.kept }
     ensures marks_kept { marks.new.kept ≡ marks.old.kept }
+    ensures right { OnOk result (IsRight (shared graph.now.rows.items) (after_change leaving.now coming.now there.old.current) marks.new.current) }
     ensures lost { IfOk result (λ lost. (k : ℕ) → Contains lost.items k
         ↔ IsLost (shared graph.now.rows.items) (marked there.old.current) (marked (after_change leaving.now coming.now there.old.current)) k) }
 {

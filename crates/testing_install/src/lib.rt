@@ -20,6 +20,7 @@ mod satisfies;
 mod settle;
 mod state;
 mod suite;
+mod trials;
 mod work;
 
 pub use counted::{Counted, installable, installable_counted};

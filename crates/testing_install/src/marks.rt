@@ -1,7 +1,8 @@
-ghost use Rattle.std.specs.Prelude.{◌≡◌, ℕ, ◌<◌, ◌≤◌, false, [], length, OnOk, OnErr, IfOk, slice_set, slice_index_or};
+ghost use Rattle.std.specs.Prelude.{◌≡◌, ℕ, ◌<◌, ◌≤◌, ◌&&◌, not, filter, false, [], length, OnOk, OnErr, IfOk, slice_set, slice_index_or};
 ghost use Rattle.testing_install.specs.Among.{with_all};
 ghost use Rattle.testing_install.specs.Closed.{marked};
 ghost use Rattle.testing_install.specs.Tracked.{Tracked, undone, confirmed, longer};
+ghost use Rattle.testing_install.specs.Trials.{IsDifference};
 ghost use Rattle.std.specs.List.{All};
 
 use deb_version::NoMemory;
@@ -69,20 +70,14 @@ impl Marks {
     pub fn is_marked(&self, place: usize) -> bool
         ensures { result ≡ marked self.now.current place }
     {
-        match self.current.get(place) {
-            Some(mark) => *mark,
-            None => false,
-        }
+        has_mark(&self.current, place)
     }
 
     /// Whether the row at the place was marked when the marks were last kept.
     pub fn was_marked(&self, place: usize) -> bool
         ensures { result ≡ marked self.now.kept place }
     {
-        match self.kept.get(place) {
-            Some(mark) => *mark,
-            None => false,
-        }
+        has_mark(&self.kept, place)
     }
 
     /// Marks the row at the place, or takes its mark.
@@ -94,6 +89,22 @@ impl Marks {
         self.touched.push(place)?;
         self.current[place] = mark;
         Ok(())
+    }
+
+    /// The places that have lost their mark since the marks were last kept.
+    pub fn falling(&self, alloc: Global) -> Result<Vec<usize>, NoMemory>
+        ensures { IfOk result (λ list. IsDifference self.now.kept self.now.current list.items) }
+    {
+        let list = difference(alloc, &self.kept, &self.current, &self.touched)?;
+        Ok(list)
+    }
+
+    /// The places that have got a mark since the marks were last kept.
+    pub fn rising(&self, alloc: Global) -> Result<Vec<usize>, NoMemory>
+        ensures { IfOk result (λ list. IsDifference self.now.current self.now.kept list.items) }
+    {
+        let list = difference(alloc, &self.current, &self.kept, &self.touched)?;
+        Ok(list)
     }
 
     /// Goes back to the marks that were last kept.
@@ -113,6 +124,41 @@ impl Marks {
             self.kept[place] = self.current[place];
         }
     }
+}
+
+// Whether the place has a mark.
+fn has_mark(marks: &[bool], place: usize) -> bool
+    ensures { result ≡ marked marks.now place }
+{
+    match marks.get(place) {
+        Some(mark) => *mark,
+        None => false,
+    }
+}
+
+// Whether the place has a mark in the first list, and none in the second.
+fn is_in_difference(first: &[bool], second: &[bool], place: usize) -> bool
+    ensures { result ≡ (marked first.now place && not (marked second.now place)) }
+{
+    has_mark(first, place) && !has_mark(second, place)
+}
+
+// Those of the places that have a mark in the first list, and none in the second.
+fn difference(
+    alloc: Global,
+    first: &[bool],
+    second: &[bool],
+    places: &[usize],
+) -> Result<Vec<usize>, NoMemory>
+    ensures { IfOk result (λ list. list.items ≡ filter (λ k. marked first.now k && not (marked second.now k)) places.now) }
+{
+    let mut list = Vec::new(alloc);
+    for place in places {
+        if is_in_difference(first, second, *place) {
+            list.push(*place)?;
+        }
+    }
+    Ok(list)
 }
 
 /// Marks the rows at the places, or takes their marks.

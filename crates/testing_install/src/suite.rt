@@ -6,9 +6,9 @@ ghost use Rattle.testing_install.specs.Closed.{marked};
 ghost use Rattle.testing_install.specs.Index.{bears};
 ghost use Rattle.testing_install.specs.Rows.{shared};
 
-use crate::change::{change, lost_by};
 use crate::graph::{Graph, empty_graph, with_rows};
 use crate::marks::Marks;
+use crate::trials::{Tried, make_change, nothing_tried, try_change};
 use deb_control::Binary;
 use deb_version::NoMemory;
 use std::alloc::Global;
@@ -26,17 +26,19 @@ pub struct Suite {
     graph: Graph,
     there: Marks,
     installable: Marks,
+    tried: Tried,
 }
 
 impl Model for Suite {
     ghost use Rattle.testing_install.specs.Rows.{shared};
-    ghost use Rattle.testing_install.specs.Suite.{SuiteState, IsSuite};
+    ghost use Rattle.testing_install.specs.Suite.{SuiteState};
+    ghost use Rattle.testing_install.specs.Trials.{IsReady};
 
     ghost Value = { SuiteState };
 
     ghost view = { λ s. record { rows = shared s.graph.rows.items; there = s.there.current } };
 
-    ghost invariant = { λ s. IsSuite (shared s.graph.rows.items) s.graph.bearers s.graph.needers s.there s.installable };
+    ghost invariant = { λ s. IsReady (shared s.graph.rows.items) s.graph.bearers s.graph.needers s.there s.installable s.tried };
 }
 
 impl Suite {
@@ -48,6 +50,7 @@ impl Suite {
             graph: empty_graph(alloc),
             there: Marks::empty(alloc),
             installable: Marks::empty(alloc),
+            tried: nothing_tried(alloc),
         }
     }
 
@@ -61,7 +64,9 @@ impl Suite {
             graph,
             there,
             installable,
+            tried,
         } = self;
+        drop(tried);
         let graph = with_rows(alloc, graph, rows)?;
         let there = there.longer(graph.rows.len())?;
         let installable = installable.longer(graph.rows.len())?;
@@ -69,6 +74,7 @@ impl Suite {
             graph,
             there,
             installable,
+            tried: nothing_tried(alloc),
         })
     }
 
@@ -133,11 +139,12 @@ impl Suite {
         ensures lost { IfOk result (λ lost. (k : ℕ) → Contains lost.items k
             ↔ IsLost self.old.rows (marked self.old.there) (marked (after_change leaving.now coming.now self.old.there)) k) }
     {
-        let lost = lost_by(
+        let lost = try_change(
             alloc,
             &self.graph,
             &mut self.there,
             &mut self.installable,
+            &mut self.tried,
             leaving,
             coming,
         );
@@ -147,6 +154,8 @@ impl Suite {
     }
 
     /// Some rows leave, and then some come. On an error, which is want of memory, the suite stays as it is.
+    ///
+    /// If this is the change that was tried last of those that lose nothing, it costs only the marks that it changes.
     pub fn change(
         &mut self,
         alloc: Global,
@@ -159,18 +168,19 @@ impl Suite {
         ensures there { OnOk result (self.new.there ≡ after_change leaving.now coming.now self.old.there) }
         ensures err { OnErr result (self.new ≡ self.old) }
     {
-        match change(
+        match make_change(
             alloc,
             &self.graph,
             &mut self.there,
             &mut self.installable,
+            &self.tried,
             leaving,
             coming,
         ) {
-            Ok(lost) => {
-                drop(lost);
+            Ok(()) => {
                 self.there.keep();
                 self.installable.keep();
+                self.tried = nothing_tried(alloc);
                 Ok(())
             }
             Err(fault) => {

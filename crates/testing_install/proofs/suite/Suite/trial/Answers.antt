@@ -6,4 +6,4 @@ use Rattle.testing_install.specs.Suite.{SuiteState}
 use Rattle.testing_install.proofs.suite.Suite.trial.Goals as goal
 
 pub returns-clause-lost : goal.returns-clause-lost
-returns-clause-lost c = subst (λ (s : SuiteState). IfOk c.lost_by-lost.result (λ lost. (k : ℕ) → Contains lost.items k ↔ IsLost s.rows (marked s.there) (marked (after_change c.args.leaving.now c.args.coming.now s.there)) k)) c.self.view_is c.lost_by-lost.ensures.lost
+returns-clause-lost c = subst (λ (s : SuiteState). IfOk c.try_change-lost.result (λ lost. (k : ℕ) → Contains lost.items k ↔ IsLost s.rows (marked s.there) (marked (after_change c.args.leaving.now c.args.coming.now s.there)) k)) c.self.view_is c.try_change-lost.ensures.lost

@@ -1,0 +1,8 @@
+use Rattle.std.proofs.Common.{subst}
+use Rattle.testing_install.proofs.Trying.{falling_exact}
+use Rattle.testing_install.specs.Tracked.{Tracked}
+use Rattle.testing_install.specs.Trials.{IsDifference}
+use Rattle.testing_install.proofs.marks.Marks.falling.Goals as goal
+
+pub returns : goal.returns
+returns c = subst (λ (t : Tracked). IsDifference t.kept t.current c.in_ok-list.list.items) c.self.view_is (falling_exact c.self.inside.current.items c.self.inside.kept.items c.self.inside.touched.items _ _ _ _ c.self.invariant c.deref.ensures.value c.deref-2.ensures.value c.deref-3.ensures.value c.in_ok-list.ensures)

@@ -1,0 +1,156 @@
+//! What a trial came to, so that a change of the same rows needn't find it again.
+
+ghost use Rattle.std.specs.Prelude.{◌≡◌, ℕ, ◌<◌, Bool, true, List, [], length, OnOk, IfOk, Contains, ◌↔◌};
+ghost use Rattle.std.specs.List.{All};
+ghost use Rattle.deb_control.specs.declared.binary.Binary.{Binary as TheBinary};
+ghost use Rattle.testing_install.specs.Among.{IsLost, after_change};
+ghost use Rattle.testing_install.specs.Closed.{marked};
+ghost use Rattle.testing_install.specs.Needers.{IsGraph};
+ghost use Rattle.testing_install.specs.Rows.{shared};
+ghost use Rattle.testing_install.specs.Suite.{IsRight};
+ghost use Rattle.testing_install.specs.Trials.{IsDifference, IsTried};
+
+use crate::change::{change, lost_by};
+use crate::graph::Graph;
+use crate::marks::{Marks, set_all};
+use deb_version::NoMemory;
+use std::alloc::Global;
+
+/// A change that was tried: which rows leave and come, which lose their mark by it, and which get one.
+#[derive(Drop)]
+pub struct Tried {
+    pub leaving: Vec<usize>,
+    pub coming: Vec<usize>,
+    pub falling: Vec<usize>,
+    pub rising: Vec<usize>,
+}
+
+/// The change of no rows, which needs no trial.
+pub fn nothing_tried(alloc: Global) -> Tried
+    ensures leaving { result.leaving.items ≡ [] }
+    ensures coming { result.coming.items ≡ [] }
+    ensures falling { result.falling.items ≡ [] }
+    ensures rising { result.rising.items ≡ [] }
+{
+    Tried {
+        leaving: Vec::new(alloc),
+        coming: Vec::new(alloc),
+        falling: Vec::new(alloc),
+        rising: Vec::new(alloc),
+    }
+}
+
+// What the marks have come to by the change that is being tried, where they are still to be undone.
+fn noted(
+    alloc: Global,
+    marks: &Marks,
+    leaving: &[usize],
+    coming: &[usize],
+) -> Result<Tried, NoMemory>
+    ensures leaving { IfOk result (λ t. t.leaving.items ≡ leaving.now) }
+    ensures coming { IfOk result (λ t. t.coming.items ≡ coming.now) }
+    ensures falling { IfOk result (λ t. IsDifference marks.now.kept marks.now.current t.falling.items) }
+    ensures rising { IfOk result (λ t. IsDifference marks.now.current marks.now.kept t.rising.items) }
+{
+    let leaving = leaving.to_vec(alloc)?;
+    let coming = coming.to_vec(alloc)?;
+    let falling = marks.falling(alloc)?;
+    let rising = marks.rising(alloc)?;
+    Ok(Tried {
+        leaving,
+        coming,
+        falling,
+        rising,
+    })
+}
+
+// Remembers the change that is being tried, if there is memory for it.
+fn remember(alloc: Global, marks: &Marks, tried: &mut Tried, leaving: &[usize], coming: &[usize])
+    ensures { (rows : List TheBinary) (there : List Bool) → length marks.now.kept ≡ length rows
+        → IsRight rows (after_change leaving.now coming.now there) marks.now.current
+        → IsTried rows there marks.now.kept tried.old → IsTried rows there marks.now.kept tried.new }
+{
+    if let Ok(next) = noted(alloc, marks, leaving, coming) {
+        *tried = next;
+    }
+}
+
+/// The rows that a change loses, where the marks before it are kept. If it loses none, it is remembered.
+pub fn try_change(
+    alloc: Global,
+    graph: &Graph,
+    there: &mut Marks,
+    marks: &mut Marks,
+    tried: &mut Tried,
+    leaving: &[usize],
+    coming: &[usize],
+) -> Result<Vec<usize>, NoMemory>
+    requires graph { IsGraph (shared graph.now.rows.items) graph.now.bearers graph.now.needers }
+    requires right { IsRight (shared graph.now.rows.items) there.old.current marks.old.current }
+    requires there { there.old.kept ≡ there.old.current }
+    requires marks { marks.old.kept ≡ marks.old.current }
+    requires tried { IsTried (shared graph.now.rows.items) there.old.current marks.old.current tried.old }
+    requires leaving { All (λ k. k < length graph.now.rows.items) leaving.now }
+    requires coming { All (λ k. k < length graph.now.rows.items) coming.now }
+    ensures there_kept { there.new.kept ≡ there.old.kept }
+    ensures marks_kept { marks.new.kept ≡ marks.old.kept }
+    ensures tried { IsTried (shared graph.now.rows.items) there.old.current marks.old.current tried.new }
+    ensures lost { IfOk result (λ lost. (k : ℕ) → Contains lost.items k
+        ↔ IsLost (shared graph.now.rows.items) (marked there.old.current) (marked (after_change leaving.now coming.now there.old.current)) k) }
+{
+    let lost = lost_by(alloc, graph, there, marks, leaving, coming)?;
+    if lost.is_empty() {
+        remember(alloc, marks, tried, leaving, coming);
+    }
+    Ok(lost)
+}
+
+// Takes the marks of some rows, and then marks some.
+fn set_both(marks: &mut Marks, leaving: &[usize], coming: &[usize]) -> Result<(), NoMemory>
+    requires leaving { All (λ k. k < length marks.old.current) leaving.now }
+    requires coming { All (λ k. k < length marks.old.current) coming.now }
+    ensures kept { marks.new.kept ≡ marks.old.kept }
+    ensures set { OnOk result (marks.new.current ≡ after_change leaving.now coming.now marks.old.current) }
+{
+    set_all(marks, leaving, false)?;
+    set_all(marks, coming, true)?;
+    Ok(())
+}
+
+// Whether these rows left and came in the change that was tried.
+fn is_of(tried: &Tried, leaving: &[usize], coming: &[usize]) -> bool
+    ensures leaving { result ≡ true → tried.now.leaving.items ≡ leaving.now }
+    ensures coming { result ≡ true → tried.now.coming.items ≡ coming.now }
+{
+    tried.leaving.as_slice() == leaving && tried.coming.as_slice() == coming
+}
+
+/// Some rows leave, and then some come. If this is the change that was tried, what it came to is put in place.
+pub fn make_change(
+    alloc: Global,
+    graph: &Graph,
+    there: &mut Marks,
+    marks: &mut Marks,
+    tried: &Tried,
+    leaving: &[usize],
+    coming: &[usize],
+) -> Result<(), NoMemory>
+    requires graph { IsGraph (shared graph.now.rows.items) graph.now.bearers graph.now.needers }
+    requires right { IsRight (shared graph.now.rows.items) there.old.current marks.old.current }
+    requires tried { IsTried (shared graph.now.rows.items) there.old.current marks.old.current tried.now }
+    requires leaving { All (λ k. k < length graph.now.rows.items) leaving.now }
+    requires coming { All (λ k. k < length graph.now.rows.items) coming.now }
+    ensures there_kept { there.new.kept ≡ there.old.kept }
+    ensures marks_kept { marks.new.kept ≡ marks.old.kept }
+    ensures there { OnOk result (there.new.current ≡ after_change leaving.now coming.now there.old.current) }
+    ensures right { OnOk result (IsRight (shared graph.now.rows.items) there.new.current marks.new.current) }
+{
+    if is_of(tried, leaving, coming) {
+        set_both(there, leaving, coming)?;
+        set_both(marks, &tried.falling, &tried.rising)?;
+        return Ok(());
+    }
+    let lost = change(alloc, graph, there, marks, leaving, coming)?;
+    drop(lost);
+    Ok(())
+}
