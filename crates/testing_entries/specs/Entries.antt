@@ -1,3 +1,4 @@
+-- Steps: no contract of a call that users make rests on this file.
 -- What one message gives, and what a row of a build names.
 use Rattle.std.specs.Prelude.{ℕ}
 use Rattle.deb_control.specs.declared.binary.Binary.{Binary}

@@ -6,6 +6,5 @@ pub mod Last
 pub mod Mapped
 pub mod Members
 pub mod Missing
-pub mod Puts
 pub mod Tests
 pub mod Weaker

@@ -1,3 +1,4 @@
+-- Steps: no contract of a call that users make rests on this file.
 -- Steps of a list, by their numbers.
 use Rattle.std.specs.Prelude.{◌≡◌, ℕ, List, Some}
 use Rattle.std.specs.List.{slice_get}
