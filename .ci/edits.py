@@ -14,6 +14,8 @@ BLOCK = re.compile(r"(?m)^impl(?:<[^>]*>)? (?:(\w+)(?:<[^>]*>)? for )?(\w+)")
 # The line that ends with the brace of a body, behind the function's name.
 BODY = re.compile(r"(?m)^ *\{$| \{$")
 NOT_PROVED = re.compile(r"only=(\d+) proved=(\d+)")
+# A line of the prover on a goal that is open, at its place in the function or in its proof file.
+COMPLAINT = re.compile(r"(?m)^(?:note: )?([^\s:]+):(\d+):\d+: (?:it is not proved|error).*$")
 
 
 class Change(NamedTuple):
@@ -99,12 +101,11 @@ def with_changes(crate, changes):
 
 
 def complaints(ran, change):
-    """The lines in which the prover complains of the changed function."""
+    """The lines in which the prover says that something of the changed function isn't proved."""
     proofs = "./proofs/" + change.function.replace("::", "/") + "/"
-    for line in ran.stdout.split("\n"):
-        place = re.match(r"(?:note: )?([^\s:]+):(\d+):\d+: ", line)
-        if place and (place[1] == change.path and int(place[2]) in change.lines or place[1].startswith(proofs) and ": error" in line):
-            yield line
+    for found in COMPLAINT.finditer(ran.stdout):
+        if found[1] == change.path and int(found[2]) in change.lines or found[1].startswith(proofs):
+            yield found[0]
 
 
 def only(changes):
@@ -134,9 +135,8 @@ class Trials:
         self.kit.linked(f"{room}/seed", over)
         ran = self.checked_by_kit(crate, with_changes(crate, changes), [*flags, *only(changes)], over)
         shutil.rmtree(over, ignore_errors=True)
-        said_before = self.stands[f"{room}/seed"].stdout.split("\n")
         for change in changes:
-            told = [line for line in complaints(ran, change) if line not in said_before]
+            told = [*complaints(ran, change)]
             is_proved = f"fn {crate.name}::{change.function}: proved" in ran.stdout.split("\n")
             if ran.returncode == 1 and told and not is_proved:
                 said = "\n".join([*told, "logic=not-proved"])
