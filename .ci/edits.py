@@ -51,12 +51,22 @@ def text_of(crate, path):
         return file.read()
 
 
-def path_of(file, text, function):
-    """The path of a function below the crate, by its file and the block in which it stands."""
+def functions_in(library, crate):
+    """The paths below the crate of the functions that the library has proofs of."""
+    begin, end = f"Rattle-{crate}-proofs.", ".Met"
+    with open(f"{library}/toolchain/checked.json", encoding="utf-8") as lines:
+        names = [json.loads(line)[0] for line in lines]
+    return {it[len(begin) : -len(end)].replace(".", "::") for it in names if it.startswith(begin) and it.endswith(end)}
+
+
+def end_of_path(file, text, function):
+    """How the path of a function ends: a method's by its type, and another's by all of its modules."""
     modules = [it for it in file.removesuffix(".rt").split("/")[1:] if it not in ("lib", "main", "mod")]
     blocks = BLOCK.findall(text[: function.start()])
-    of_trait, of_type = blocks[-1] if function[1] and blocks else ("", "")
-    return "::".join([*modules, *([of_type + of_trait] if of_type else []), function[2]])
+    if not function[1] or not blocks:
+        return "::".join([*modules, function[2]])
+    of_trait, of_type = blocks[-1]
+    return f"{of_type}{of_trait}::{function[2]}"
 
 
 def lines_of(text, function, behind):
@@ -66,8 +76,8 @@ def lines_of(text, function, behind):
     return range(text.count("\n", 0, start) + 1, text.count("\n", 0, end) + 2)
 
 
-def change_of(crate, texts):
-    """What an edit with these texts changes, if it changes one function of one file alone."""
+def change_of(crate, proved, texts):
+    """What an edit with these texts changes, if it changes one of these functions alone, which are the proved ones."""
     if not texts or len(texts) > 1 or not next(iter(texts)).startswith("src/"):
         return None
     path, text = next(iter(texts.items()))
@@ -79,10 +89,14 @@ def change_of(crate, texts):
     if not before or any(start < it.start() < len(old) - behind for it in functions):
         return None
     function = before[-1]
+    end = end_of_path(path, old, function)
+    paths = [it for it in proved if f"::{it}".endswith(f"::{end}")]
+    if len(paths) != 1:
+        return None
     body = BODY.search(old, function.end())
     return Change(
         path=path,
-        function=path_of(path, old, function),
+        function=paths[0],
         lines=lines_of(old, function, next((it for it in functions if it.start() > start), None)),
         is_in_body=bool(body) and body.end() <= start,
         start=start,
@@ -117,6 +131,8 @@ class Trials:
 
     def __init__(self, kit, checked, seeded):
         self.kit, self.checked_by_kit, self.seeded_by_kit = kit, checked, seeded
+        # The functions of a crate that is proved, by its name.
+        self.functions = {}
         # What a crate's functions as they stand came to, by the folder of the work that they were checked over.
         self.stands = {}
         # The folders over which a whole crate was checked with an edit.
@@ -124,10 +140,13 @@ class Trials:
         # What the prover said of edits that it refused together with others, by crate and change.
         self.refused = {}
 
+    def change_of(self, crate, texts):
+        return change_of(crate, self.functions.get(crate.name, ()), texts)
+
     def changes_of(self, crate):
         """What the crate's edits change, as far as they change one function each."""
         texts = [self.kit.read_edit(edit, crate.folder)[0] for edit in self.kit.edits_of(crate)[0]]
-        return [change for change in (change_of(crate, it) for it in texts) if change]
+        return [change for change in (self.change_of(crate, it) for it in texts) if change]
 
     def try_together(self, crate, changes, flags, room):
         """Tries changes of the bodies of different functions in one check, and notes those that are refused."""
@@ -151,6 +170,7 @@ class Trials:
         try:
             os.mkdir(seed)
             unpack(crate.rlib, seed)
+            self.functions[crate.name] = functions_in(crate.rlib, crate.name)
             changes = self.changes_of(crate)
             self.stands[seed] = self.checked_by_kit(crate, {}, [*flags, *only(changes)], seed)
             if not self.stands[seed].returncode:
@@ -173,7 +193,7 @@ class Trials:
             if kept in self.stands and os.path.dirname(kept) not in self.whole:
                 return self.stands[kept]
             return self.checked_by_kit(crate, texts, flags, kept)
-        change = change_of(crate, texts)
+        change = self.change_of(crate, texts)
         if change and (crate.name, change) in self.refused:
             return self.refused[crate.name, change]
         if change and kept:

@@ -35,6 +35,8 @@ import edits
 prove, add_edits, seeded, checked = rt.Crate.ci, rt.add_edits, rt.seeded, rt.checked
 # The kit walks each path down to a library anew, which took a minute at the start.
 below = functools.cache(rt.Crate.below)
+# The kit plans on twice the memory that these checks take.
+need = rt.need
 
 
 def prove_for_edits(crate, flags, tests):
@@ -55,4 +57,5 @@ def add_edits_behind(tasks, crate, edits, first, *given, **named):
 trials = edits.Trials(rt, checked, seeded)
 rt.Crate.ci, rt.add_edits, rt.seeded, rt.checked = prove_for_edits, add_edits_behind, trials.seeded, trials.checked
 rt.Crate.below = lambda crate: [*below(crate)]
+rt.need = lambda crate: need(crate) // 2
 sys.exit(rt.main(["ci", *sys.argv[1:]]))
