@@ -94,11 +94,12 @@ def change_of(crate, proved, texts):
     if len(paths) != 1:
         return None
     body = BODY.search(old, function.end())
+    end_of_body = old.find(f"\n{function[1]}}}\n", body.end()) if body else -1
     return Change(
         path=path,
         function=paths[0],
         lines=lines_of(old, function, next((it for it in functions if it.start() > start), None)),
-        is_in_body=bool(body) and body.end() <= start,
+        is_in_body=bool(body) and body.end() <= start and len(old) - behind <= end_of_body,
         start=start,
         end=len(old) - behind,
         new=text[start : len(text) - behind],
