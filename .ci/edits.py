@@ -13,7 +13,9 @@ FUNCTION = re.compile(r"(?m)^( *)(?:pub(?:\([a-z]+\))? )?fn (\w+)")
 BLOCK = re.compile(r"(?m)^impl(?:<[^>]*>)? (?:(\w+)(?:<[^>]*>)? for )?(\w+)")
 # The line that ends with the brace of a body, behind the function's name.
 BODY = re.compile(r"(?m)^ *\{$| \{$")
-NOT_PROVED = re.compile(r"only=(\d+) proved=(\d+)")
+# The prover's verdict on a function: proved, or proved where its callers give what it asks, as a closure is, or another.
+VERDICT = re.compile(r"(?m)^fn (\S+): (.*)$")
+PROVED, CALLS_UNPROVED = "proved", "no proof: it calls "
 # A line of the prover on a goal that is open, at its place in the function or in its proof file.
 COMPLAINT = re.compile(r"(?m)^(?:note: )?([^\s:]+):(\d+):\d+: (?:it is not proved|error).*$")
 
@@ -127,6 +129,25 @@ def only(changes):
     return [word for function in sorted({change.function for change in changes}) for word in ("--only", function)]
 
 
+def is_of(function, changed):
+    """Whether a function is changed, or is a closure of one that is: the prover writes `M::fn::F::call` for one of `M::F`."""
+    return re.sub(r"::fn::(\w+)::.*", r"::\1", function) in changed
+
+
+def is_refused(crate, ran, changes):
+    """Whether a check with these changes says that a changed function isn't proved, and speaks of no other function so: of
+    those that the check was of beside, each is proved, or calls one that isn't."""
+    changed = {f"{crate.name}::{change.function}" for change in changes}
+    verdicts = VERDICT.findall(ran.stdout)
+    others = [verdict for function, verdict in verdicts if not is_of(function, changed)]
+    return (
+        ran.returncode == 1
+        and any(function in changed and not verdict.startswith(PROVED) for function, verdict in verdicts)
+        and any(verdict.startswith(PROVED) for verdict in others)
+        and all(verdict.startswith((PROVED, CALLS_UNPROVED)) for verdict in others)
+    )
+
+
 class Trials:
     """The kit's functions `seeded` and `checked`, for a run of it. Both take what the kit's own take."""
 
@@ -134,10 +155,8 @@ class Trials:
         self.kit, self.checked_by_kit, self.seeded_by_kit = kit, checked, seeded
         # The functions of a crate that is proved, by its name.
         self.functions = {}
-        # What a crate's functions as they stand came to, by the folder of the work that they were checked over.
-        self.stands = {}
-        # The folders over which a whole crate was checked with an edit.
-        self.whole = set()
+        # The folders over which the functions that edits change were checked, and those over which a whole crate was.
+        self.seeds, self.whole = set(), set()
         # What the prover said of edits that it refused together with others, by crate and change.
         self.refused = {}
 
@@ -155,16 +174,18 @@ class Trials:
         self.kit.linked(f"{room}/seed", over)
         ran = self.checked_by_kit(crate, with_changes(crate, changes), [*flags, *only(changes)], over)
         shutil.rmtree(over, ignore_errors=True)
+        if not is_refused(crate, ran, changes):
+            return
         for change in changes:
             told = [*complaints(ran, change)]
-            is_proved = f"fn {crate.name}::{change.function}: proved" in ran.stdout.split("\n")
-            if ran.returncode == 1 and told and not is_proved:
+            is_proved = f"\nfn {crate.name}::{change.function}: {PROVED}" in ran.stdout
+            if told and not is_proved:
                 said = "\n".join([*told, "logic=not-proved"])
                 self.refused[crate.name, change] = subprocess.CompletedProcess(ran.args, 1, said)
 
     def seeded(self, crate, flags, start=None):
-        """The work that a crate's edits are tried over: the modules of its library. Over it the functions that they change
-        are checked as they stand, and then with those edits that can be tried together."""
+        """The work that a crate's edits are tried over: the modules of its library. Those edits that can be tried together
+        are tried here. If the library can't be read, it is what the kit would take with no start."""
         room = tempfile.mkdtemp(prefix=f"rt-edits-{os.getpid()}-")
         self.kit.SEEDS.append(room)
         seed = f"{room}/seed"
@@ -172,37 +193,33 @@ class Trials:
             os.mkdir(seed)
             unpack(crate.rlib, seed)
             self.functions[crate.name] = functions_in(crate.rlib, crate.name)
-            changes = self.changes_of(crate)
-            self.stands[seed] = self.checked_by_kit(crate, {}, [*flags, *only(changes)], seed)
-            if not self.stands[seed].returncode:
-                left = [change for change in changes if change.is_in_body]
-                while left:
-                    first = {change.function: change for change in reversed(left)}
-                    self.try_together(crate, [*first.values()], flags, room)
-                    left = [change for change in left if first[change.function] is not change]
-                return room
-            self.kit.say(f"{crate.name}: what the edits change isn't proved as it stands: {self.stands[seed].stdout[-200:]}")
+            left = [change for change in self.changes_of(crate) if change.is_in_body]
+            while left:
+                first = {change.function: change for change in reversed(left)}
+                self.try_together(crate, [*first.values()], flags, room)
+                left = [change for change in left if first[change.function] is not change]
+            self.seeds.add(seed)
+            return room
         except (OSError, ValueError, StopIteration, shutil.Error) as fault:
             self.kit.say(f"{crate.name}: its library wasn't read: {fault}")
         shutil.rmtree(room, ignore_errors=True)
-        return self.seeded_by_kit(crate, flags, start)
+        return self.seeded_by_kit(crate, flags)
 
     def checked(self, crate, texts, flags, kept):
-        """A check over the work of a crate's edits. Of the crate as it stands it was made before them, if no edit was tried
-        on the whole crate: the kit asks for it only if no file of that work has changed."""
+        """A check over the work of a crate's edits. The crate as it stands was proved when its library was made. So a check
+        of it is made only if an edit was tried on the whole crate."""
         if not texts:
-            if kept in self.stands and os.path.dirname(kept) not in self.whole:
-                return self.stands[kept]
+            if kept in self.seeds and os.path.dirname(kept) not in self.whole:
+                return subprocess.CompletedProcess([], 0, "")
             return self.checked_by_kit(crate, texts, flags, kept)
         change = self.change_of(crate, texts)
         if change and (crate.name, change) in self.refused:
             return self.refused[crate.name, change]
         if change and kept:
             ran = self.checked_by_kit(crate, texts, [*flags, *only([change])], kept)
-            said, _, counts = ran.stdout.rstrip("\n").rpartition("\n")
-            found = NOT_PROVED.fullmatch(counts)
-            if ran.returncode == 1 and found and int(found[2]) < int(found[1]):
-                ran.stdout = f"{said}\nlogic=not-proved\n"
+            if is_refused(crate, ran, [change]):
+                # (in the place of the last line, which counts what was checked)
+                ran.stdout = ran.stdout.rstrip("\n").rpartition("\n")[0] + "\nlogic=not-proved\n"
                 return ran
         self.whole.add(os.path.dirname(kept or ""))
         return self.checked_by_kit(crate, texts, flags, kept)

@@ -1,6 +1,6 @@
 #!/usr/bin/env python3
 """The kit's `rt ci`, but that a crate's must-fail edits are tried over what its proof in the same run has checked, and on
-the functions that they change.
+the functions that they change, and that the proofs that others wait for go first (lanes.py).
 
   gate.py [--anew] [NAME..]
 
@@ -8,10 +8,11 @@ the functions that they change.
 Here the library carries the modules that its proof checked, and the edits are tried over these. All else is as the kit
 has it. Each proof begins from nothing, and the crates above are proved over the same statements.
 
-An edit is refused if the function that it changes is no longer proved. So the functions that the edits change are checked
-alone, first as they stand, and then with the edits: those in the bodies of different functions in one check, since a
-proof rests on the contracts of what the function calls, and not on their bodies. Such an edit is refused if the prover
-complains of the function that it changes. Each other edit is tried alone, on its function, or else on the whole crate.
+An edit is refused if the function that it changes is no longer proved. So a check with edits is of the functions that they
+change, and of what these call. The edits in the bodies of different functions are tried in one check, since a proof rests
+on the contracts of what the function calls, and not on their bodies. Such an edit is refused if the prover complains of the
+function that it changes, and says of each unchanged one that it is proved, or calls one that isn't. Each other edit is tried
+alone, on its function, or else on the whole crate. The crate as it stands is proved before.
 """
 import contextlib
 import functools
@@ -31,6 +32,7 @@ rt = importlib.util.module_from_spec(importlib.util.spec_from_loader("rt", loade
 loader.exec_module(rt)
 sys.path.insert(0, os.path.dirname(os.path.realpath(__file__)))
 import edits
+import lanes
 
 prove, add_edits, seeded, checked = rt.Crate.ci, rt.add_edits, rt.seeded, rt.checked
 # The kit walks each path down to a library anew, which took a minute at the start.
@@ -49,13 +51,14 @@ def prove_for_edits(crate, flags, tests):
     return status
 
 
-def add_edits_behind(tasks, crate, edits, first, *given, **named):
-    """Adds the tasks of a crate's edits, which wait for its proof."""
-    return add_edits(tasks, crate, edits, [*first, (crate.name, "proof")], *given, **named)
+def add_edits_behind(tasks, crate, edits, first, waits, is_well, kept):
+    """Adds the tasks of a crate's edits, which wait for its proof and begin with its library, also if there is only one."""
+    return add_edits(tasks, crate, edits, [*first, (crate.name, "proof")], waits, is_well, kept, start=crate.rlib)
 
 
 trials = edits.Trials(rt, checked, seeded)
 rt.Crate.ci, rt.add_edits, rt.seeded, rt.checked = prove_for_edits, add_edits_behind, trials.seeded, trials.checked
 rt.Crate.below = lambda crate: [*below(crate)]
 rt.need = lambda crate: need(crate) // 2
+rt.in_lanes = lambda tasks: lanes.Lanes(rt).run(tasks)
 sys.exit(rt.main(["ci", *sys.argv[1:]]))
