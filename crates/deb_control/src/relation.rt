@@ -127,9 +127,14 @@ impl Provision {
 }
 
 /// Alternatives, of which one is to be met (Debian Policy 7.1). Contracts see the list of them.
-#[derive(Drop)]
 pub struct Clause {
     alternatives: Vec<Alternative>,
+}
+
+impl Drop for Clause {
+    fn drop(self) {
+        let Clause { alternatives: _ } = self;
+    }
 }
 
 impl Model for Clause {
@@ -162,7 +167,8 @@ impl Clause {
     pub fn into_vec(self) -> Vec<Alternative>
         ensures { result.items ≡ self }
     {
-        self.alternatives
+        let Clause { alternatives } = self;
+        alternatives
     }
 
     /// An equal clause.
@@ -188,9 +194,14 @@ fn copy_alternatives(
 }
 
 /// Clauses, each of which is to be met (Debian Policy 7.1, 7.2). Contracts see the list of them. Copies share them.
-#[derive(Drop)]
 pub struct Clauses {
     clauses: Rc<Vec<Clause>>,
+}
+
+impl Drop for Clauses {
+    fn drop(self) {
+        let Clauses { clauses: _ } = self;
+    }
 }
 
 impl Model for Clauses {
@@ -230,9 +241,14 @@ impl Clauses {
 }
 
 /// What a package provides (Debian Policy 7.5). Contracts see the list of provisions.
-#[derive(Drop)]
 pub struct Provisions {
     provisions: Vec<Provision>,
+}
+
+impl Drop for Provisions {
+    fn drop(self) {
+        let Provisions { provisions: _ } = self;
+    }
 }
 
 impl Model for Provisions {
@@ -263,7 +279,8 @@ impl Provisions {
     pub fn into_vec(self) -> Vec<Provision>
         ensures { result.items ≡ self }
     {
-        self.provisions
+        let Provisions { provisions } = self;
+        provisions
     }
 
     /// Equal provisions.

@@ -21,10 +21,15 @@ use std::cmp::Ordering;
 use std::marker::Model;
 
 /// A version, `[epoch:]upstream[-revision]` (Debian Policy 5.6.12). Contracts see its text, a list of bytes.
-#[derive(Drop)]
 pub struct Version {
     text: String,
     split: Split,
+}
+
+impl Drop for Version {
+    fn drop(self) {
+        let Version { text: _, split: _ } = self;
+    }
 }
 
 impl Model for Version {

@@ -4,9 +4,14 @@ ghost use Rattle.std.specs.Prelude.{◌≡◌};
 use std::marker::Model;
 
 /// Numbers, seen as a list.
-#[derive(Drop)]
 pub struct Numbers {
     numbers: Vec<u32>,
+}
+
+impl Drop for Numbers {
+    fn drop(self) {
+        let Numbers { numbers: _ } = self;
+    }
 }
 
 impl Model for Numbers {

@@ -123,10 +123,18 @@ impl<T: Drop> From<AllocFailed<T>> for SetupFault {
 }
 
 /// The architectures and the senders, each in order.
-#[derive(Drop)]
 pub struct Setup {
     archs: Archs,
     senders: Vec<Sender>,
+}
+
+impl Drop for Setup {
+    fn drop(self) {
+        let Setup {
+            archs: _,
+            senders: _,
+        } = self;
+    }
 }
 
 impl Model for Setup {

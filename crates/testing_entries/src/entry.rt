@@ -15,9 +15,14 @@ use testing_model::{
 };
 
 /// The builds of one message, in order.
-#[derive(Drop)]
 pub struct Builds {
     builds: Vec<BuildIn>,
+}
+
+impl Drop for Builds {
+    fn drop(self) {
+        let Builds { builds: _ } = self;
+    }
 }
 
 impl Model for Builds {
@@ -34,7 +39,8 @@ impl Builds {
     pub fn into_vec(self) -> Vec<BuildIn>
         ensures { result.items ≡ self }
     {
-        self.builds
+        let Builds { builds } = self;
+        builds
     }
 }
 

@@ -21,12 +21,22 @@ use std::rc::Rc;
 /// The rows are named by their places, which stay when more rows are added behind them; a change says which leave and
 /// which come. It costs what it touches: the rows that leave or come, those with a clause that names one of these, and so
 /// on from each row whose answer changes; not the size of the suite.
-#[derive(Drop)]
 pub struct Suite {
     graph: Graph,
     there: Marks,
     installable: Marks,
     tried: Tried,
+}
+
+impl Drop for Suite {
+    fn drop(self) {
+        let Suite {
+            graph: _,
+            there: _,
+            installable: _,
+            tried: _,
+        } = self;
+    }
 }
 
 impl Model for Suite {

@@ -343,9 +343,14 @@ fn take_from(blocks: &mut Vec<Block>, drop: &DropIn)
 }
 
 /// Unstable's rows, by architecture and name.
-#[derive(Drop)]
 pub struct BuildBlocks {
     blocks: Vec<Block>,
+}
+
+impl Drop for BuildBlocks {
+    fn drop(self) {
+        let BuildBlocks { blocks: _ } = self;
+    }
 }
 
 impl Model for BuildBlocks {

@@ -28,12 +28,22 @@ use testing_suites::{CarriedSuites, Change};
 
 /// The suites over the rows that may stand in testing during a run, and which of the rows provide a name. Unstable's
 /// rows, which begin at the first place, are there where their source is a candidate.
-#[derive(Drop)]
 pub struct PoolSuites {
     kept: CarriedSuites,
     candidates: Hashes,
     first: usize,
     provided: NameIndex,
+}
+
+impl Drop for PoolSuites {
+    fn drop(self) {
+        let PoolSuites {
+            kept: _,
+            candidates: _,
+            first: _,
+            provided: _,
+        } = self;
+    }
 }
 
 impl Model for PoolSuites {
@@ -85,7 +95,13 @@ impl PoolSuites {
     pub fn into_kept(self) -> CarriedSuites
         ensures { result ≡ record { rows = self.rows; stands = self.stands; archs = self.archs } }
     {
-        self.kept
+        let PoolSuites {
+            kept,
+            candidates: _,
+            first: _,
+            provided: _,
+        } = self;
+        kept
     }
 
     /// The rows that stand, by architecture and name.

@@ -18,9 +18,14 @@ pub enum Reason {
 }
 
 /// What keeps a source out, in the order in which the report tells it; none where it may move.
-#[derive(Drop)]
 pub struct Reasons {
     reasons: Vec<Reason>,
+}
+
+impl Drop for Reasons {
+    fn drop(self) {
+        let Reasons { reasons: _ } = self;
+    }
 }
 
 impl Model for Reasons {
@@ -44,9 +49,14 @@ pub struct Excuse {
 }
 
 /// The excuses of a run, by name.
-#[derive(Drop)]
 pub struct Excuses {
     excuses: Vec<Excuse>,
+}
+
+impl Drop for Excuses {
+    fn drop(self) {
+        let Excuses { excuses: _ } = self;
+    }
 }
 
 impl Model for Excuses {

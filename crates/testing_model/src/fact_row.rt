@@ -16,9 +16,14 @@ pub struct FactRow {
 }
 
 /// Rows of facts, one behind another.
-#[derive(Drop)]
 pub struct FactRows {
     rows: Vec<FactRow>,
+}
+
+impl Drop for FactRows {
+    fn drop(self) {
+        let FactRows { rows: _ } = self;
+    }
 }
 
 impl Model for FactRows {

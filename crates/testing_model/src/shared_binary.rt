@@ -14,10 +14,18 @@ use testing_install::hash_of;
 /// A binary package, of which a build of unstable, the rows of testing and a suite have one value together: a row that
 /// moves or stays costs no copy of its texts. The hash of its source's name stands beside it, so that the rows of a few
 /// sources are found among all without reading the texts of each.
-#[derive(Drop)]
 pub struct SharedBinary {
     shared: Rc<Binary>,
     source_hash: u64,
+}
+
+impl Drop for SharedBinary {
+    fn drop(self) {
+        let SharedBinary {
+            shared: _,
+            source_hash: _,
+        } = self;
+    }
 }
 
 impl Model for SharedBinary {

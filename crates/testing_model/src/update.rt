@@ -21,9 +21,14 @@ pub struct Moved {
 }
 
 /// The sources that moved together, in the order of the hint.
-#[derive(Drop)]
 pub struct MovedItems {
     items: Vec<Moved>,
+}
+
+impl Drop for MovedItems {
+    fn drop(self) {
+        let MovedItems { items: _ } = self;
+    }
 }
 
 impl Model for MovedItems {
@@ -74,9 +79,14 @@ pub enum Decision {
 }
 
 /// The decisions of a run, in their order.
-#[derive(Drop)]
 pub struct Update {
     decisions: Vec<Decision>,
+}
+
+impl Drop for Update {
+    fn drop(self) {
+        let Update { decisions: _ } = self;
+    }
 }
 
 impl Model for Update {

@@ -86,10 +86,18 @@ fn places_of(alloc: Global, own: &[usize], numbers: &[usize]) -> Result<Vec<usiz
 
 /// A suite of the pool's rows that are on one architecture, and their places in the pool, by which it is asked. So it
 /// costs what these rows cost, and not what the pool costs.
-#[derive(Drop)]
 pub struct ArchSuite {
     places: Vec<usize>,
     suite: Suite,
+}
+
+impl Drop for ArchSuite {
+    fn drop(self) {
+        let ArchSuite {
+            places: _,
+            suite: _,
+        } = self;
+    }
 }
 
 impl Model for ArchSuite {

@@ -16,12 +16,22 @@ use testing_install::NameIndex;
 use testing_model::{LentRow, RowIn};
 
 /// The rows, and their places by the source that they name, by the package's name, and in the order of their keys.
-#[derive(Drop)]
 pub struct Pool {
     rows: Vec<RowIn>,
     by_source: NameIndex,
     by_name: NameIndex,
     order: Vec<usize>,
+}
+
+impl Drop for Pool {
+    fn drop(self) {
+        let Pool {
+            rows: _,
+            by_source: _,
+            by_name: _,
+            order: _,
+        } = self;
+    }
 }
 
 impl Model for Pool {

@@ -142,12 +142,22 @@ fn changed(
 
 /// Rows that may stand in testing, which of them stand, and the suite of each architecture. A change is tried, and made,
 /// in time about what it touches.
-#[derive(Drop)]
 pub struct CarriedSuites {
     pool: Pool,
     archs: u32,
     stands: Vec<bool>,
     suites: Vec<ArchSuite>,
+}
+
+impl Drop for CarriedSuites {
+    fn drop(self) {
+        let CarriedSuites {
+            pool: _,
+            archs: _,
+            stands: _,
+            suites: _,
+        } = self;
+    }
 }
 
 impl Model for CarriedSuites {

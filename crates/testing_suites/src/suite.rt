@@ -39,11 +39,20 @@ impl Model for SuiteEntries {
 /// The sources by name, and the rows by architecture and name. Copies share them; one that is changed while it shares
 /// them gets its own first. The empty suite holds none. Beside them stand the suites that a run left for the next one:
 /// they cost time and no word of a contract, copies don't have them, and a change of testing drops them.
-#[derive(Drop)]
 pub struct Testing {
     alloc: Global,
     entries: Option<Rc<SuiteEntries>>,
     kept: Option<CarriedSuites>,
+}
+
+impl Drop for Testing {
+    fn drop(self) {
+        let Testing {
+            alloc: _,
+            entries: _,
+            kept: _,
+        } = self;
+    }
 }
 
 impl Model for Testing {
