@@ -7,9 +7,8 @@ ghost use Rattle.std.specs.FinMap.{get};
 ghost use Rattle.testing_model.specs.Covered.{Covered, CoveredItem, upload_of};
 ghost use Rattle.testing_model.specs.FactDifference.{IsDifference};
 ghost use Rattle.testing_model.specs.FactLists.{FactLists};
-ghost use Rattle.testing_model.specs.KeptFacts.{AreFallen, KeptFacts};
+ghost use Rattle.testing_model.specs.KeptFacts.{KeptFacts};
 ghost use Rattle.testing_model.specs.StandsFor.{StandsFor};
-ghost use Rattle.testing_model.specs.Suite.{Suite};
 ghost use Rattle.testing_model.specs.declared.facts.UploadIn.{UploadIn};
 ghost use Rattle.office_setup.specs.declared.setup.Role.TheVariants.{Release as TheRelease};
 ghost use Rattle.office_mail.specs.Kept.{Place};
@@ -59,8 +58,7 @@ pub fn go_with<K: Keeper>(
     ensures looks { ReadsStore K.Keeper keeper.old keeper.new result }
 {
     has_release(setup);
-    let names = fallen(alloc, before, after)?;
-    retake(alloc, setup, keeper, facts, taken, &names)?;
+    retake(alloc, setup, keeper, facts, taken, before, after)?;
     facts.trim(after);
     let changes = facts.changes()?;
     Ok(changes)
@@ -73,21 +71,24 @@ fn has_release(setup: &Setup)
     let _ = setup.archs();
 }
 
-/// The facts take the uploads of these names again, of what each sender says up to its number. So they stand beside a
-/// testing that lost these sources, or has them in a lower version. Where there is no name nothing is read.
+/// The facts take the uploads of the sources that fell again, of what each sender says up to its number. So they stand
+/// beside the testing after, which lost these sources, or has them in a lower version. Where none fell nothing is read.
 fn retake<K: Keeper>(
     alloc: Global,
     setup: &Setup,
     keeper: &mut K,
     facts: &mut Facts,
     taken: &[u32],
-    names: &[Text],
+    before: &Testing,
+    after: &Testing,
 ) -> Result<(), StoreFault>
     ensures way { K.is_trusted keeper.new → OnOk result (AreUnderWay setup.now (K.content keeper.old) facts.old → AreUnderWay setup.now (K.content keeper.old) facts.new) }
-    ensures stands { K.is_trusted keeper.new → OnOk result ((before after : Suite) → let s : Covered = said_within setup.now (K.content keeper.old).kept (slice_index taken.now) (length setup.now.senders) in
-        AreFallen names.now before after → StandsFor facts.old s before → StandsFor facts.new s after) }
+    ensures stands { K.is_trusted keeper.new → OnOk result (let s : Covered = said_within setup.now (K.content keeper.old).kept (slice_index taken.now) (length setup.now.senders) in
+        StandsFor facts.old s before.now → StandsFor facts.new s after.now) }
     ensures looks { ReadsStore K.Keeper keeper.old keeper.new result }
 {
+    let sources = fallen(alloc, before, after)?;
+    let names = sources.as_slice();
     if names.is_empty() {
         return Ok(());
     }

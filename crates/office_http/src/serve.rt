@@ -200,15 +200,24 @@ fn tell<K: Keeper>(office: &mut Office<K>, page: Page) -> Answer
     }
 }
 
-/// Delivers a text, and settles where it is held. A fault of that settle doesn't change the answer.
+/// Delivers a text, and settles where it is held. A fault of that settle doesn't change the reply.
+fn deliver_and_settle<K: Keeper>(office: &mut Office<K>, text: &[u8]) -> Result<Held, DeliverFault>
+    ensures carries { Preserves K.Keeper office.old office.new }
+    ensures place { HasPlace (K.setup office.old) (delivery_answer result) }
+    ensures runs { Holds K.Keeper office.old office.new → Runs (state_of K.Keeper office.old) (state_of K.Keeper office.new) Action.Deliver text.now (delivery_answer result) (StoreRefused K.Keeper office.old office.new) }
+{
+    let reply = office.deliver(text);
+    settle_behind(office, &reply);
+    reply
+}
+
+/// Delivers a text, settles where it is held, and answers.
 fn deliver<K: Keeper>(office: &mut Office<K>, text: &[u8]) -> Answer
     ensures carries { Preserves K.Keeper office.old office.new }
     ensures place { HasPlace (K.setup office.old) result }
     ensures runs { Holds K.Keeper office.old office.new → Runs (state_of K.Keeper office.old) (state_of K.Keeper office.new) Action.Deliver text.now result (StoreRefused K.Keeper office.old office.new) }
 {
-    let reply = office.deliver(text);
-    settle_behind(office, &reply);
-    delivery_answer(reply)
+    delivery_answer(deliver_and_settle(office, text))
 }
 
 fn settle<K: Keeper>(office: &mut Office<K>, text: &[u8]) -> Answer

@@ -1,20 +1,17 @@
 -- The store in memory.
-use Rattle.std.proofs.Common.{◌≡◌, ◌≤◌, ◌+◌, ℕ, Bool, cond, Option, Some, List, [], ◌∷◌, ◌++◌, length, refl, sym, ap, ◌∙◌, arith}
+use Rattle.std.proofs.Common.{◌≡◌, ℕ, Bool, cond, Option, Some, List, [], ◌∷◌, refl, sym, ap, ◌∙◌}
 use Rattle.std.specs.FinMap.{get, find, insert, get-from_entries, get-insert}
 use Rattle.std.specs.Map.{lookup}
 use Rattle.std.specs.BTreeMap.{is_at}
 use Rattle.std.specs.Ordering.{eq_by_cmp}
 use Rattle.std.proofs.lemmas.Cmp.{eq_by_cmp_equiv}
-use Rattle.std.proofs.lemmas.List.{length-append}
 use Rattle.testing_model.specs.Suite.{Suite}
-use Rattle.office_mail.specs.Lists.{Lists}
 use Rattle.office_mail.specs.Kept.{Kept, Place, place_cmp}
 use Rattle.office_mail.proofs.KeptFacts.{places_total, same_kept}
 use Rattle.office_keeper.specs.Content.{Content}
 use Rattle.office_keeper.specs.FactSet.{FactSet}
-use Rattle.office_keeper.specs.Provenance.{KnowsArchs}
 use Rattle.office_keeper.specs.declared.values.Reports.{Reports}
-use Rattle.office_keeper.specs.MemoryState.{IsMemoryState, kept_in}
+use Rattle.office_keeper.specs.MemoryState.{kept_in}
 
 find-lookup : (mail : List (Place × List ℕ)) (p : Place) → find place_cmp p mail ≡ lookup (is_at (place_cmp p)) mail
 find-lookup [] p = refl
@@ -31,14 +28,6 @@ kept_in-insert old new p text is = same_kept (kept_in new) (insert (kept_in old)
     ∙ ap (λ (b : Bool). cond b (Some text) (lookup (is_at (place_cmp q)) old)) ((eq_by_cmp_equiv places_total).symm p q)
     ∙ ap (λ (o : Option (List ℕ)). cond (eq_by_cmp place_cmp q p) (Some text) o) (sym (get-kept_in old q))
     ∙ sym (get-insert places_total (kept_in old) p text q))
-
--- one run more in memory
-pub memory_finished : (setup : Lists) (runs more : List Reports) (reports : Reports) (new : Suite) (run : ℕ) → length runs ≤ 4_294_967_295 → more ≡ runs ++ reports ∷ [] → run ≡ length runs + 1 → run ≤ 4_294_967_295
-    → KnowsArchs setup.archs new.rows → IsMemoryState setup more new
-memory_finished setup runs more reports new run few pushed next fits known = record {
-  few = omega (arith, ap length pushed, length-append runs (reports ∷ []), next, fits);
-  known = known;
-}
 
 -- a content with this mail
 abbrev pub with_kept : Kept → List Reports → Suite → FactSet → Content

@@ -225,7 +225,9 @@ pub trait Keeper {
         ensures bad { is_trusted self.new → is_legible self.old → AreOwnTexts (setup self.old) (content self.old).kept → result ≢ Err (KeepFault.Store Cause.BadRow) }
         ensures counted { Counted (refusals self.old) (refusals self.new) result }
     {
-        self.finish(run, &done)
+        let finished = self.finish(run, &done);
+        drop(done);
+        finished
     }
 
     /// The testing suite for the next run, as `testing`: a store that has what speeds that run hands it out along with it.

@@ -1,12 +1,13 @@
 //! A keeper in memory.
-ghost use Rattle.std.specs.Prelude.{◌≡◌, ◌≤◌, [], ⊤, map, IfOk, IfErr};
+ghost use Rattle.std.specs.Prelude.{◌≡◌, ◌≤◌, ◌++◌, ◌∷◌, [], ⊤, map, IfOk, IfErr, OnOk, OnErr};
 ghost use Rattle.std.specs.BTreeMap.{IsOrdered};
 ghost use Rattle.std.specs.BTreeMap.Range.{entries_between};
 ghost use Rattle.std.specs.declared.ops.Bound.TheVariants.{Included};
 ghost use Rattle.office_mail.specs.Kept.{place_cmp};
 ghost use Rattle.std.specs.FinMap.{get};
 ghost use Rattle.std.specs.Option.{option_copied};
-ghost use Rattle.office_keeper.specs.Content.{letters_within, item_from_one, IsNextNumber};
+ghost use Rattle.office_keeper.specs.Content.{letters_within, item_from_one, reports_in, IsNextNumber};
+ghost use Rattle.office_keeper.specs.FactSet.{facts_after, set_of_rows};
 ghost use Rattle.office_keeper.specs.MemoryState.{kept_in, letter_of, content_of};
 
 use crate::fact_rows::{rows_after, rows_in_order};
@@ -18,12 +19,12 @@ use office_mail::Setup;
 use std::alloc::Global;
 use std::collections::BTreeMap;
 use std::marker::Model;
+use std::mem;
 use testing_model::{FactRow, FactRows};
 use testing_suites::Testing;
 
 /// Kept mail by sender and number, with reports, testing and the rows of facts in any order. It fails for want of memory
 /// alone.
-#[derive(Drop)]
 pub struct Plain {
     alloc: Global,
     setup: Setup,
@@ -31,6 +32,19 @@ pub struct Plain {
     runs: Vec<Reports>,
     testing: Testing,
     facts: Vec<FactRow>,
+}
+
+impl Drop for Plain {
+    fn drop(self) {
+        let Plain {
+            alloc: _,
+            setup: _,
+            mail: _,
+            runs: _,
+            testing: _,
+            facts: _,
+        } = self;
+    }
 }
 
 impl Model for Plain {
@@ -141,6 +155,130 @@ fn reports_of(runs: &[Reports], run: u32) -> Option<&Reports>
     runs.get(run as usize - 1)
 }
 
+/// Puts the reports of one run more behind those of the runs before.
+fn put_reports(runs: &mut Vec<Reports>, reports: Reports) -> Result<(), KeepFault>
+    ensures done { OnOk result (runs.new.items ≡ runs.old.items ++ reports ∷ []) }
+    ensures err { OnErr result (runs.new.items ≡ runs.old.items) }
+    ensures no_store { IfErr result (λ fault. fault ≡ KeepFault.NoMemory) }
+{
+    runs.push(reports)?;
+    Ok(())
+}
+
+/// Puts a value in the place of the one before.
+fn put<T: Drop>(place: &mut T, value: T)
+    ensures { place.new ≡ value }
+{
+    drop(mem::replace(place, value));
+}
+
+/// Keeps what one run more leaves, with the rows of facts as they are then, or nothing.
+fn put_run(
+    runs: &mut Vec<Reports>,
+    testing: &mut Testing,
+    facts: &mut Vec<FactRow>,
+    reports: Reports,
+    left: Testing,
+    rows: Vec<FactRow>,
+) -> Result<(), KeepFault>
+    ensures runs { OnOk result (runs.new.items ≡ runs.old.items ++ reports ∷ []) }
+    ensures testing { OnOk result (testing.new ≡ left) }
+    ensures facts { OnOk result (facts.new.items ≡ rows.items) }
+    ensures err { OnErr result ((runs.new.items ≡ runs.old.items) × (testing.new ≡ testing.old) × (facts.new.items ≡ facts.old.items)) }
+    ensures no_store { IfErr result (λ fault. fault ≡ KeepFault.NoMemory) }
+{
+    match put_reports(runs, reports) {
+        Ok(()) => {
+            put(testing, left);
+            put(facts, rows);
+            Ok(())
+        }
+        Err(fault) => {
+            drop(left);
+            drop(rows);
+            Err(fault)
+        }
+    }
+}
+
+/// Keeps what one run more leaves, or nothing.
+fn keep_run(
+    alloc: Global,
+    runs: &mut Vec<Reports>,
+    testing: &mut Testing,
+    facts: &mut Vec<FactRow>,
+    done: Finished,
+) -> Result<(), KeepFault>
+    ensures runs { OnOk result (runs.new.items ≡ runs.old.items ++ reports_in done ∷ []) }
+    ensures testing { OnOk result (testing.new ≡ done.testing) }
+    ensures facts { OnOk result (set_of_rows facts.new.items ≡ facts_after done.facts (set_of_rows facts.old.items)) }
+    ensures err { OnErr result ((runs.new.items ≡ runs.old.items) × (testing.new ≡ testing.old) × (facts.new.items ≡ facts.old.items)) }
+    ensures no_store { IfErr result (λ fault. fault ≡ KeepFault.NoMemory) }
+{
+    match rows_after(alloc, facts, &done.facts) {
+        Ok(rows) => {
+            let Finished {
+                testing: left,
+                excuses,
+                updates,
+                facts: changes,
+            } = done;
+            drop(changes);
+            put_run(
+                runs,
+                testing,
+                facts,
+                Reports { excuses, updates },
+                left,
+                rows,
+            )
+        }
+        Err(_) => {
+            drop(done);
+            Err(KeepFault::NoMemory)
+        }
+    }
+}
+
+/// Copies of the reports and of the testing that a run leaves.
+fn copies_of(alloc: Global, done: &Finished) -> Result<(Reports, Testing), NoMemory>
+    ensures { IfOk result (λ copies. (copies.0 ≡ reports_in done.now) × (copies.1 ≡ done.now.testing)) }
+{
+    let reports = done.reports(alloc)?;
+    match done.testing.copy() {
+        Ok(testing) => Ok((reports, testing)),
+        Err(fault) => {
+            drop(reports);
+            Err(fault)
+        }
+    }
+}
+
+/// Keeps a copy of what one run more leaves, or nothing.
+fn keep_copy(
+    alloc: Global,
+    runs: &mut Vec<Reports>,
+    testing: &mut Testing,
+    facts: &mut Vec<FactRow>,
+    done: &Finished,
+) -> Result<(), KeepFault>
+    ensures runs { OnOk result (runs.new.items ≡ runs.old.items ++ reports_in done.now ∷ []) }
+    ensures testing { OnOk result (testing.new ≡ done.now.testing) }
+    ensures facts { OnOk result (set_of_rows facts.new.items ≡ facts_after done.now.facts (set_of_rows facts.old.items)) }
+    ensures err { OnErr result ((runs.new.items ≡ runs.old.items) × (testing.new ≡ testing.old) × (facts.new.items ≡ facts.old.items)) }
+    ensures no_store { IfErr result (λ fault. fault ≡ KeepFault.NoMemory) }
+{
+    let (reports, left) = copies_of(alloc, done)?;
+    match rows_after(alloc, facts, &done.facts) {
+        Ok(rows) => put_run(runs, testing, facts, reports, left, rows),
+        Err(_) => {
+            drop(reports);
+            drop(left);
+            Err(KeepFault::NoMemory)
+        }
+    }
+}
+
 impl Keeper for Plain {
     ghost is_clean = { λ _. ⊤ };
 
@@ -180,13 +318,13 @@ impl Keeper for Plain {
     }
 
     fn finish(&mut self, _run: u32, done: &Finished) -> Result<(), KeepFault> {
-        let reports = done.reports(self.alloc)?;
-        let testing = done.testing.copy()?;
-        let facts = rows_after(self.alloc, &self.facts, &done.facts)?;
-        self.runs.push(reports)?;
-        self.testing = testing;
-        self.facts = facts;
-        Ok(())
+        keep_copy(
+            self.alloc,
+            &mut self.runs,
+            &mut self.testing,
+            &mut self.facts,
+            done,
+        )
     }
 
     fn reports(&mut self, run: u32) -> Result<Option<Reports>, KeepFault> {
@@ -205,17 +343,13 @@ impl Keeper for Plain {
     }
 
     fn take_finished(&mut self, _run: u32, done: Finished) -> Result<(), KeepFault> {
-        let Finished {
-            testing,
-            excuses,
-            updates,
-            facts,
-        } = done;
-        let facts = rows_after(self.alloc, &self.facts, &facts)?;
-        self.runs.push(Reports { excuses, updates })?;
-        self.testing = testing;
-        self.facts = facts;
-        Ok(())
+        keep_run(
+            self.alloc,
+            &mut self.runs,
+            &mut self.testing,
+            &mut self.facts,
+            done,
+        )
     }
 
     fn next_testing(&mut self) -> Result<Testing, KeepFault> {
@@ -223,6 +357,6 @@ impl Keeper for Plain {
     }
 
     fn give_back(&mut self, testing: Testing) {
-        self.testing = testing;
+        put(&mut self.testing, testing);
     }
 }

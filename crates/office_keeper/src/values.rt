@@ -9,9 +9,14 @@ use testing_model::FactChanges;
 use testing_suites::Testing;
 
 /// The bytes of a text that came by mail. Contracts see their list.
-#[derive(Drop)]
 pub struct MailText {
     bytes: Vec<u8>,
+}
+
+impl Drop for MailText {
+    fn drop(self) {
+        let MailText { bytes: _ } = self;
+    }
 }
 
 impl Model for MailText {

@@ -12,7 +12,7 @@ ghost use Rattle.office_keeper.specs.LastDelays.{delays_in_body, IsLastTold};
 ghost use Rattle.office_keeper.specs.declared.faults.Cause.TheVariants.{BadRow};
 ghost use Rattle.office_tables.specs.Layout.{schema_before};
 ghost use Rattle.office_tables.specs.Tables.{IsTrusted, IsOurs, IsWhole, Lasts, number_in, kept_rows};
-ghost use Rattle.office_tables.specs.TableSteps.{IsInside, WentOn, IsCrowded, is_between, letter_columns, office_columns};
+ghost use Rattle.office_tables.specs.TableSteps.{IsInside, WentOn, IsCrowded, SaysMore, is_between, letter_columns, office_columns};
 ghost use Rattle.office_tables.specs.TableContent.{release_place};
 ghost use Rattle.office_layout.specs.CreatingSteps.{IsBuilding};
 ghost use Rattle.office_layout.specs.SetupText.{setup_text as text_of};
@@ -189,8 +189,15 @@ fn stated_in(message: Message, release: u32) -> Result<u32, KeepFault>
     ensures bad { result ≡ Err (KeepFault.Store BadRow) → stated_by release (order_in_body message.body) ≡ None }
 {
     match message.body {
-        Body::Run(order) => Ok(stated_by(&order, release)),
-        Body::Item(_) => Err(KeepFault::Store(Cause::BadRow)),
+        Body::Run(order) => {
+            let stated = stated_by(&order, release);
+            drop(order);
+            Ok(stated)
+        }
+        Body::Item(item) => {
+            drop(item);
+            Err(KeepFault::Store(Cause::BadRow))
+        }
     }
 }
 
@@ -266,7 +273,9 @@ fn next_told(
 {
     let release = release_place(setup);
     let message = own_message(alloc, setup, letter.text.as_slice(), release, letter.number)?;
-    if tells_delays(&message, release, letter.number) {
+    let tells = tells_delays(&message, release, letter.number);
+    drop(message);
+    if tells {
         Ok(Some(letter.number))
     } else {
         Ok(last)
@@ -372,6 +381,24 @@ fn put_last<S: Alter>(tx: &mut Transaction<'_, S>, last: Option<u32>) -> Result<
     }
 }
 
+/// Puts in what the office says of itself, with the number of schema 2.
+fn add_migrated<S: Alter>(
+    tx: &mut Transaction<'_, S>,
+    setup: &str,
+    finished: u32,
+) -> Result<usize, Error>
+    requires inside { IsTrusted (state S.Store tx.old.conn.now) → IsInside (state S.Store tx.old.conn.now) }
+    ensures same_reference { tx.new.conn.ghost_name ≡ tx.old.conn.ghost_name }
+    ensures before { IsTrusted (state S.Store tx.new.conn.now) → IsTrusted (state S.Store tx.old.conn.now) }
+    ensures lasts { Lasts (state S.Store tx.old.conn.now) (state S.Store tx.new.conn.now) }
+    ensures open { HasCleanDisk (state S.Store tx.new.conn.now) → IsTrusted (state S.Store tx.old.conn.now) → OnOk result (IsTrusted (state S.Store tx.new.conn.now)) }
+    ensures on { IsTrusted (state S.Store tx.new.conn.now) → OnOk result (WentOn (state S.Store tx.old.conn.now) (state S.Store tx.new.conn.now)) }
+    ensures added { IsTrusted (state S.Store tx.new.conn.now) → OnOk result (SaysMore (state S.Store tx.old.conn.now).now.trees (state S.Store tx.new.conn.now).now.trees (record { schema = 2; setup = setup.now; finished = finished })) }
+    ensures err { IsTrusted (state S.Store tx.new.conn.now) → OnErr result ((state S.Store tx.new.conn.now).committed ≡ (state S.Store tx.old.conn.now).committed) }
+{
+    add_office(tx, 2, setup, finished)
+}
+
 /// Writes what schema 2 has beside: the number of the last delays, and the schema's number in what the office says.
 fn write_anew<S: Alter>(
     tx: &mut Transaction<'_, S>,
@@ -390,7 +417,7 @@ fn write_anew<S: Alter>(
 {
     put_last(tx, last)?;
     let _old = clear_office(tx)?;
-    let added = add_office(tx, 2, setup, finished)?;
+    let added = add_migrated(tx, setup, finished)?;
     Ok(added)
 }
 

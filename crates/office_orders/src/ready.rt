@@ -1,7 +1,7 @@
 //! Which runs are ready.
 #![tactic(auto, using(crate::proofs::LastFacts::lasting))]
 
-ghost use Rattle.std.specs.Prelude.{◌≡◌, ◌+◌, ◌<◌, ◌↔◌, IsTrue, IfOk, length};
+ghost use Rattle.std.specs.Prelude.{false, ◌≡◌, ◌+◌, ◌<◌, ◌≤◌, ◌↔◌, IsTrue, IfOk, length};
 ghost use Rattle.office_mail.specs.Runs.{IsReady, IsReadyCount};
 ghost use Rattle.office_orders.specs.ReadsStore.{ReadsStore};
 ghost use Rattle.office_orders.specs.Ready.{HasEach, HasPlaces, IsCounted};
@@ -14,6 +14,14 @@ use std::alloc::Global;
 
 /// The greatest number of a message, and so of a run.
 const GREATEST: u32 = 999_999_999;
+
+/// Whether a run is of the greatest number, so that none can come behind it.
+fn is_last(run: u32) -> bool
+    ensures last { IsTrue result → 999_999_999 ≤ run }
+    ensures more { result ≡ false → run < 999_999_999 }
+{
+    run >= GREATEST
+}
 
 /// Whether the run behind a ready one is ready too.
 fn follows<K: Keeper>(
@@ -29,7 +37,7 @@ fn follows<K: Keeper>(
     ensures below { IfOk result (λ ready. IsTrue ready → run < 999_999_999) }
     ensures looks { ReadsStore K.Keeper keeper.old keeper.new result }
 {
-    if run >= GREATEST {
+    if is_last(run) {
         return Ok(false);
     }
     match order(alloc, setup, keeper, run + 1)? {
@@ -75,7 +83,7 @@ pub fn next_is_ready<K: Keeper>(
     ensures there { IfOk result (λ ready. IsTrue ready → finished < length orders.new.items) }
     ensures looks { ReadsStore K.Keeper keeper.old keeper.new result }
 {
-    if finished >= GREATEST {
+    if is_last(finished) {
         return Ok(false);
     }
     read_orders(alloc, setup, keeper, orders, finished + 1)?;

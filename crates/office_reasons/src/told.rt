@@ -136,8 +136,21 @@ fn refusal_by(
     }
 }
 
-/// What the reports of a run say of a source, with the lines on where the reasons come from, and those on why it can't move
-/// alone.
+/// What the reports of a run say of a source, with the lines on where the reasons come from.
+fn with_origins(
+    alloc: Global,
+    run: u32,
+    reports: &Reports,
+    source: &str,
+    origins: &Text,
+) -> Result<Text, NoMemory>
+    ensures { IfOk result (λ text. text ≡ lines.source_text run source.now reports.now.excuses reports.now.updates origins.now) }
+{
+    let (excuses, update) = (reports.excuses.as_str(), reports.updates.as_str());
+    source_text(alloc, run, source, excuses, update, origins.as_str())
+}
+
+/// The same, with the lines on why the source can't move alone.
 fn with_reasons(
     alloc: Global,
     run: u32,
@@ -148,8 +161,7 @@ fn with_reasons(
 ) -> Result<Text, NoMemory>
     ensures { IfOk result (λ text. text ≡ lines.source_text run source.now reports.now.excuses reports.now.updates origins.now ++ refusal.now) }
 {
-    let (excuses, update) = (reports.excuses.as_str(), reports.updates.as_str());
-    let said = source_text(alloc, run, source, excuses, update, origins.as_str())?;
+    let said = with_origins(alloc, run, reports, source, origins)?;
     let text = format!(in alloc; "{}{}", said.as_str(), refusal.as_str())?;
     Ok(Text::from_string(text))
 }

@@ -257,7 +257,7 @@ pub(crate) fn plain_number(text: &[u8]) -> u32
 }
 
 /// What stands behind the front of a path.
-fn behind(path: &str, front: usize) -> &[u8]
+pub(crate) fn behind(path: &str, front: usize) -> &[u8]
     ensures { result.now ≡ drop front path.now }
 {
     let bytes = path.as_bytes();
@@ -341,6 +341,34 @@ pub(crate) fn tell_asked(page: Page, method: &[u8]) -> Asked
     Asked::Refused(Refusal::OnlyGet)
 }
 
+/// What is asked for on a route. It fails for want of memory alone.
+fn asked_at(
+    alloc: Global,
+    setup: &Setup,
+    route: Route,
+    method: &[u8],
+    path: &str,
+    minor: u8,
+    framing: Framing,
+) -> Result<Asked, AllocError>
+    ensures { IfOk result (λ asked. asked ≡ asked_at setup.now (Some route) method.now path.now minor framing) }
+{
+    match route {
+        Route::Mail => Ok(post_asked(Action::Deliver, method, minor, framing)),
+        Route::Settle => Ok(post_asked(Action::Settle, method, minor, framing)),
+        Route::Status => Ok(tell_asked(Page::Status, method)),
+        Route::Testing => Ok(tell_asked(Page::Testing, method)),
+        Route::Excuses => Ok(tell_asked(Page::Excuses(run_in(path, 9)), method)),
+        Route::Update => Ok(tell_asked(Page::Update(run_in(path, 8)), method)),
+        Route::Waiting => Ok(tell_asked(Page::Waiting, method)),
+        Route::Runs => Ok(tell_asked(Page::Runs, method)),
+        Route::Kept => Ok(tell_asked(Page::Kept, method)),
+        Route::Letter => Ok(letter_asked(setup, behind(path, 6), method)),
+        Route::Why => why_asked(alloc, path, method),
+        Route::Try => Ok(post_asked(Action::Try, method, minor, framing)),
+    }
+}
+
 /// What is asked for, by the parts of the head. It fails for want of memory alone.
 #[tactic(auto, unfolding(crate::specs::Asked::asked_by))]
 fn asked_by(
@@ -357,19 +385,8 @@ fn asked_by(
 {
     let path = path_of(target);
     match find_route(router, path) {
+        Some(route) => asked_at(alloc, setup, route, method, path, minor, framing),
         None => Ok(Asked::Refused(Refusal::NoRoute)),
-        Some(Route::Mail) => Ok(post_asked(Action::Deliver, method, minor, framing)),
-        Some(Route::Settle) => Ok(post_asked(Action::Settle, method, minor, framing)),
-        Some(Route::Status) => Ok(tell_asked(Page::Status, method)),
-        Some(Route::Testing) => Ok(tell_asked(Page::Testing, method)),
-        Some(Route::Excuses) => Ok(tell_asked(Page::Excuses(run_in(path, 9)), method)),
-        Some(Route::Update) => Ok(tell_asked(Page::Update(run_in(path, 8)), method)),
-        Some(Route::Waiting) => Ok(tell_asked(Page::Waiting, method)),
-        Some(Route::Runs) => Ok(tell_asked(Page::Runs, method)),
-        Some(Route::Kept) => Ok(tell_asked(Page::Kept, method)),
-        Some(Route::Letter) => Ok(letter_asked(setup, behind(path, 6), method)),
-        Some(Route::Why) => why_asked(alloc, behind(path, 5), method),
-        Some(Route::Try) => Ok(post_asked(Action::Try, method, minor, framing)),
     }
 }
 

@@ -4,13 +4,32 @@ ghost use Rattle.sqlite.specs.Held.{state};
 ghost use Rattle.sqlite.specs.State.{HasCleanDisk};
 ghost use Rattle.table_entries.specs.Tables.{IsTrusted, Lasts};
 ghost use Rattle.table_entries.specs.TableSteps.{IsInside, WentOn};
-ghost use Rattle.table_entries.specs.FactSteps.{ChangesFacts};
+ghost use Rattle.table_entries.specs.FactSteps.{ChangesFacts, DropsEach};
 
 use office_keeper::{Cause, KeepFault};
 use sqlite::{Alter, Transaction};
 use testing_model::FactChanges;
 pub use testing_tables::fact_changes::add_delays;
 use testing_tables::fact_changes::{add_each, drop_each};
+
+/// Takes out the facts that are gone.
+fn drop_gone<S: Alter>(
+    tx: &mut Transaction<'_, S>,
+    release: u32,
+    changes: &FactChanges,
+) -> Result<(), KeepFault>
+    requires inside { IsTrusted (state S.Store tx.old.conn.now) → IsInside (state S.Store tx.old.conn.now) }
+    ensures same_reference { tx.new.conn.ghost_name ≡ tx.old.conn.ghost_name }
+    ensures before { IsTrusted (state S.Store tx.new.conn.now) → IsTrusted (state S.Store tx.old.conn.now) }
+    ensures lasts { Lasts (state S.Store tx.old.conn.now) (state S.Store tx.new.conn.now) }
+    ensures open { HasCleanDisk (state S.Store tx.new.conn.now) → IsTrusted (state S.Store tx.old.conn.now) → OnOk result (IsTrusted (state S.Store tx.new.conn.now)) }
+    ensures on { IsTrusted (state S.Store tx.new.conn.now) → OnOk result (WentOn (state S.Store tx.old.conn.now) (state S.Store tx.new.conn.now)) }
+    ensures dropped { IsTrusted (state S.Store tx.new.conn.now) → OnOk result (DropsEach release (state S.Store tx.old.conn.now).now.trees (state S.Store tx.new.conn.now).now.trees changes.now.gone) }
+    ensures err { IsTrusted (state S.Store tx.new.conn.now) → OnErr result ((state S.Store tx.new.conn.now).committed ≡ (state S.Store tx.old.conn.now).committed) }
+    ensures bad { result ≢ Err (KeepFault.Store Cause.BadRow) }
+{
+    drop_each(tx, release, changes.gone.as_slice())
+}
 
 /// Takes out the facts that are gone, then puts in the new ones.
 pub(crate) fn change_facts<S: Alter>(
@@ -28,7 +47,7 @@ pub(crate) fn change_facts<S: Alter>(
     ensures err { IsTrusted (state S.Store tx.new.conn.now) → OnErr result ((state S.Store tx.new.conn.now).committed ≡ (state S.Store tx.old.conn.now).committed) }
     ensures bad { result ≢ Err (KeepFault.Store Cause.BadRow) }
 {
-    drop_each(tx, release, changes.gone.as_slice())?;
+    drop_gone(tx, release, changes)?;
     add_each(tx, release, changes.put.as_slice())?;
     Ok(())
 }

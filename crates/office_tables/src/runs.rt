@@ -20,19 +20,20 @@ use office_keeper::{Cause, KeepFault, Reports};
 use sqlite::{Alter, Connection, Error, Row, Transaction, params};
 use table_entries::faults::unread;
 use table_entries::said::Said;
+use table_entries::shown::number_in;
 
 /// What a row of the office says, whose id is 1.
 fn said_in(row: &Row) -> Result<Said, KeepFault>
     ensures bad { result ≡ Err (KeepFault.Store Cause.BadRow) → (said : SaidNow) → said.schema < 4_294_967_296 → said.finished < 4_294_967_296 → IsUtf8 said.setup → row.now ≢ Int (pos 1) ∷ Int (pos said.schema) ∷ Words said.setup ∷ Int (pos said.finished) ∷ [] }
     ensures ok { IfOk result (λ said. (column row.now 0 ≡ Int (pos 1)) × (column row.now 1 ≡ Int (pos said.schema)) × (column row.now 2 ≡ Words said.setup) × (column row.now 3 ≡ Int (pos said.finished))) }
 {
-    let id: u32 = row.get(0).map_err(unread)?;
+    let id = number_in(row, 0)?;
     if id != 1 {
         return Err(KeepFault::Store(Cause::BadRow));
     }
-    let schema: u32 = row.get(1).map_err(unread)?;
+    let schema = number_in(row, 1)?;
+    let finished = number_in(row, 3)?;
     let setup: String = row.get(2).map_err(unread)?;
-    let finished: u32 = row.get(3).map_err(unread)?;
     Ok(Said {
         schema,
         setup: Text::from_string(setup),
@@ -96,7 +97,7 @@ fn reports_in(row: &Row, run: u32) -> Result<Reports, KeepFault>
     ensures bad { result ≡ Err (KeepFault.Store Cause.BadRow) → (reports : ReportsNow) → IsUtf8 reports.excuses → IsUtf8 reports.updates → row.now ≢ Int (pos run) ∷ Words reports.excuses ∷ Words reports.updates ∷ [] }
     ensures ok { IfOk result (λ r. (column row.now 0 ≡ Int (pos run)) × (column row.now 1 ≡ Words r.excuses) × (column row.now 2 ≡ Words r.updates)) }
 {
-    let number: u32 = row.get(0).map_err(unread)?;
+    let number = number_in(row, 0)?;
     if number != run {
         return Err(KeepFault::Store(Cause::BadRow));
     }
@@ -163,8 +164,8 @@ pub fn reports<S: Alter>(conn: &mut Connection<S>, run: u32) -> Result<Option<Re
     if run == 0 {
         return Ok(None);
     }
-    let said = said(conn)?;
-    if said.finished < run {
+    let finished = finished(conn)?;
+    if finished < run {
         return Ok(None);
     }
     match recorded(conn, run)? {

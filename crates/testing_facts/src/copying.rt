@@ -17,63 +17,56 @@ pub struct Said {
     pub unhints: Vec<UnhintIn>,
 }
 
-/// Equal uploads in boxes of their own.
-pub fn copy_sources(
-    alloc: Global,
-    sources: &[Box<UploadIn>],
-) -> Result<Vec<Box<UploadIn>>, NoMemory>
-    ensures { IfOk result (λ copies. unboxed copies.items ≡ unboxed sources.now) }
+/// A value that can be copied, in memory of its own.
+pub trait Copied: Drop {
+    /// An equal value. NoMemory where memory runs out.
+    fn copied(&self, alloc: Global) -> Result<Self, NoMemory>
+        ensures { IfOk result (λ copy. copy ≡ self.now) };
+}
+
+impl Copied for UploadIn {
+    fn copied(&self, alloc: Global) -> Result<UploadIn, NoMemory> {
+        self.copy(alloc)
+    }
+}
+
+impl Copied for DropIn {
+    fn copied(&self, alloc: Global) -> Result<DropIn, NoMemory> {
+        self.copy(alloc)
+    }
+}
+
+impl Copied for BugIn {
+    fn copied(&self, alloc: Global) -> Result<BugIn, NoMemory> {
+        self.copy(alloc)
+    }
+}
+
+impl Copied for HintIn {
+    fn copied(&self, alloc: Global) -> Result<HintIn, NoMemory> {
+        self.copy(alloc)
+    }
+}
+
+/// Equal values.
+pub fn copy_all<T: Copied>(alloc: Global, values: &[T]) -> Result<Vec<T>, NoMemory>
+    ensures { IfOk result (λ copies. copies.items ≡ values.now) }
 {
-    let mut copies = Vec::with_capacity(alloc, sources.len())?;
-    for upload in sources {
-        let copy = upload.copy(alloc)?;
+    let mut copies = Vec::with_capacity(alloc, values.len())?;
+    for value in values {
+        copies.push(value.copied(alloc)?)?;
+    }
+    Ok(copies)
+}
+
+/// Equal values in boxes of their own.
+pub fn copy_boxed<T: Copied>(alloc: Global, values: &[Box<T>]) -> Result<Vec<Box<T>>, NoMemory>
+    ensures { IfOk result (λ copies. unboxed copies.items ≡ unboxed values.now) }
+{
+    let mut copies = Vec::with_capacity(alloc, values.len())?;
+    for value in values {
+        let copy = value.copied(alloc)?;
         copies.push(Box::new(alloc, copy)?)?;
-    }
-    Ok(copies)
-}
-
-/// Equal uploads.
-pub fn copy_uploads(alloc: Global, uploads: &[UploadIn]) -> Result<Vec<UploadIn>, NoMemory>
-    ensures { IfOk result (λ copies. copies.items ≡ uploads.now) }
-{
-    let mut copies = Vec::with_capacity(alloc, uploads.len())?;
-    for upload in uploads {
-        copies.push(upload.copy(alloc)?)?;
-    }
-    Ok(copies)
-}
-
-/// Equal drops in boxes of their own.
-fn copy_drops(alloc: Global, drops: &[Box<DropIn>]) -> Result<Vec<Box<DropIn>>, NoMemory>
-    ensures { IfOk result (λ copies. unboxed copies.items ≡ unboxed drops.now) }
-{
-    let mut copies = Vec::with_capacity(alloc, drops.len())?;
-    for dropped in drops {
-        let copy = dropped.copy(alloc)?;
-        copies.push(Box::new(alloc, copy)?)?;
-    }
-    Ok(copies)
-}
-
-/// Equal messages on bugs in boxes of their own.
-fn copy_bugs(alloc: Global, bugs: &[Box<BugIn>]) -> Result<Vec<Box<BugIn>>, NoMemory>
-    ensures { IfOk result (λ copies. unboxed copies.items ≡ unboxed bugs.now) }
-{
-    let mut copies = Vec::with_capacity(alloc, bugs.len())?;
-    for bug in bugs {
-        let copy = bug.copy(alloc)?;
-        copies.push(Box::new(alloc, copy)?)?;
-    }
-    Ok(copies)
-}
-
-/// Equal hints.
-fn copy_hints(alloc: Global, hints: &[HintIn]) -> Result<Vec<HintIn>, NoMemory>
-    ensures { IfOk result (λ copies. copies.items ≡ hints.now) }
-{
-    let mut copies = Vec::with_capacity(alloc, hints.len())?;
-    for hint in hints {
-        copies.push(hint.copy(alloc)?)?;
     }
     Ok(copies)
 }
@@ -93,9 +86,9 @@ pub fn copy_said(
 {
     let mut copies = Vec::new(alloc);
     copies.extend_from_slice(unhints)?;
-    let drops = copy_drops(alloc, drops)?;
-    let bugs = copy_bugs(alloc, bugs)?;
-    let hints = copy_hints(alloc, hints)?;
+    let drops = copy_boxed(alloc, drops)?;
+    let bugs = copy_boxed(alloc, bugs)?;
+    let hints = copy_all(alloc, hints)?;
     Ok(Said {
         drops,
         bugs,

@@ -20,7 +20,7 @@ ghost use Rattle.testing_model.specs.Tells.{Tells};
 ghost use Rattle.testing_model.specs.WithMessage.{with_upload, with_build, with_builds, with_greatest, with_bug, with_hint, with_unhint, stands_beside};
 ghost use Rattle.testing_model.specs.declared.facts.UploadIn.{UploadIn as AnUpload};
 
-use crate::copying::{copy_log, copy_said, copy_sources, copy_uploads};
+use crate::copying::{copy_all, copy_boxed, copy_log, copy_said};
 use deb_version::NoMemory;
 use std::alloc::Global;
 use std::marker::Model;
@@ -39,7 +39,6 @@ use testing_model::{
 use testing_order::{Log, Shifted, hint_row, later_delays, trim_uploads, unhint_row};
 
 /// The facts of a set of messages.
-#[derive(Drop)]
 pub struct Facts {
     alloc: Global,
     sources: Vec<Box<UploadIn>>,
@@ -51,6 +50,23 @@ pub struct Facts {
     unhints: Vec<UnhintIn>,
     delays: Option<DelaysIn>,
     log: Log,
+}
+
+impl Drop for Facts {
+    fn drop(self) {
+        let Facts {
+            alloc: _,
+            sources: _,
+            uploads: _,
+            rows: _,
+            drops: _,
+            bugs: _,
+            hints: _,
+            unhints: _,
+            delays: _,
+            log: _,
+        } = self;
+    }
 }
 
 impl Model for Facts {
@@ -144,10 +160,10 @@ impl Facts {
     pub fn copy(&self) -> Result<Facts, NoMemory>
         ensures { IfOk result (λ f. f ≡ self.now) }
     {
-        let log = copy_log(self.alloc, &self.log, self.uploads.len())?;
-        let sources = copy_sources(self.alloc, &self.sources)?;
-        let uploads = copy_uploads(self.alloc, &self.uploads)?;
+        let sources = copy_boxed(self.alloc, &self.sources)?;
+        let uploads = copy_all(self.alloc, &self.uploads)?;
         let rows = self.rows.copy(self.alloc)?;
+        let log = copy_log(self.alloc, &self.log, self.uploads.len())?;
         let said = copy_said(
             self.alloc,
             &self.drops,
@@ -315,9 +331,9 @@ impl Facts {
             left: self.rows.taken(&drop),
             came: None,
         };
+        let boxed = Box::new(self.alloc, drop)?;
         self.log
             .reserve_with(&mut self.drops, self.uploads.len(), 2)?;
-        let boxed = Box::new(self.alloc, drop)?;
         self.rows.take(&boxed);
         put_drop(&mut self.drops, boxed);
         self.log.note(taken);
@@ -331,9 +347,9 @@ impl Facts {
         ensures err { OnErr result (self.new ≡ self.old) }
     {
         let shifted = bug_shift(&self.bugs, &bug);
+        let boxed = Box::new(self.alloc, bug)?;
         self.log
             .reserve_with(&mut self.bugs, self.uploads.len(), 1)?;
-        let boxed = Box::new(self.alloc, bug)?;
         put_bug(&mut self.bugs, boxed);
         self.log.note(shifted);
         Ok(())

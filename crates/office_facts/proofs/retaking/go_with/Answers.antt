@@ -1,12 +1,10 @@
-use Rattle.std.proofs.Common.{◌≡◌, List, length, slice_index, sym, ap, subst, ◌∙◌}
-use Rattle.testing_items.specs.Words.{Text}
+use Rattle.std.proofs.Common.{length, slice_index, sym, subst}
 use Rattle.testing_model.specs.Covered.{Covered}
 use Rattle.testing_model.specs.FactLists.{FactLists}
-use Rattle.testing_model.specs.KeptFacts.{AreFallen, KeptFacts, trimmed}
+use Rattle.testing_model.specs.KeptFacts.{KeptFacts, trimmed}
 use Rattle.testing_model.specs.StandsFor.{StandsFor}
 use Rattle.testing_model.specs.Suite.{Suite}
 use Rattle.testing_kept.proofs.BesideTesting.{trim_keeps}
-use Rattle.testing_kept.proofs.FallenNames.{names_are_fallen}
 use Rattle.office_keeper.specs.Content.{Content}
 use Rattle.office_facts.specs.Known.{AreUnderWay, said_all}
 use Rattle.office_facts.specs.Walk.{said_within}
@@ -36,9 +34,6 @@ returns-clause-kept g c = λ trusted stood.
     let setup = c.args.setup.now in
     let content : Content = g.K.Keeper.content c.args.keeper.now in
     let s : Covered = said_within setup content.kept (slice_index c.args.taken.now) (length setup.senders) in
-    let before : Suite = c.args.before.now in
     let after : Suite = c.args.after.now in
-    let names : AreFallen c.deref.result.now before after =
-    subst (λ (ns : List Text). AreFallen ns before after) (sym (c.deref.ensures.value ∙ c.in_ok-names.ensures)) (names_are_fallen before after) in
-    let stands : StandsFor c.retake.new.facts s after = c.in_ok-retake.ensures.stands trusted before after names stood in
+    let stands : StandsFor c.retake.new.facts s after = c.in_ok-retake.ensures.stands trusted stood in
     subst (λ (f : FactLists). KeptFacts f s after) (sym c.trim.ensures) (trim_keeps c.retake.new.facts s after stands)

@@ -4,9 +4,9 @@ use Rattle.office_mail.specs.Runs.{order_at}
 use Rattle.office_orders.proofs.ReadyCount.{none_behind, ready_after}
 use Rattle.office_orders.proofs.ready.follows.Goals as goal
 
-pub returns-then-run-ge-GREATEST-clause-ready : goal.returns-then-run-ge-GREATEST-clause-ready
-returns-then-run-ge-GREATEST-clause-ready g c = λ trusted places ready.
-    none_behind c.args.setup.now (g.K.Keeper.content c.args.keeper.now).kept c.args.run places (omega (arith, c.if-run-ge-GREATEST.true))
+pub returns-then-is_last-clause-ready : goal.returns-then-is_last-clause-ready
+returns-then-is_last-clause-ready g c = λ trusted places ready.
+    none_behind c.args.setup.now (g.K.Keeper.content c.args.keeper.now).kept c.args.run places (c.is_last.ensures.last c.if-is_last.true)
 
 pub returns-in-Some-clause-ready : goal.returns-in-Some-clause-ready
 returns-in-Some-clause-ready g c = λ trusted places ready.

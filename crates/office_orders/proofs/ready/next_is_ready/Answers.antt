@@ -6,9 +6,9 @@ use Rattle.office_orders.specs.Ready.{HasEach, HasPlaces}
 use Rattle.office_orders.proofs.ReadyCount.{none_behind, ready_after_last}
 use Rattle.office_orders.proofs.ready.next_is_ready.Goals as goal
 
-pub returns-then-finished-ge-GREATEST-clause-ready : goal.returns-then-finished-ge-GREATEST-clause-ready
-returns-then-finished-ge-GREATEST-clause-ready g c = λ trusted places last.
-    none_behind c.args.setup.now (g.K.Keeper.content c.args.keeper.now).kept c.args.finished places (omega (arith, c.if-finished-ge-GREATEST.true))
+pub returns-then-is_last-clause-ready : goal.returns-then-is_last-clause-ready
+returns-then-is_last-clause-ready g c = λ trusted places last.
+    none_behind c.args.setup.now (g.K.Keeper.content c.args.keeper.now).kept c.args.finished places (c.is_last.ensures.last c.if-is_last.true)
 
 pub returns-in-Some-clause-ready : goal.returns-in-Some-clause-ready
 returns-in-Some-clause-ready g c = λ trusted places last.
