@@ -130,8 +130,9 @@ def only(changes):
 
 
 def is_of(function, changed):
-    """Whether a function is changed, or is a closure of one that is: the prover writes `M::fn::F::call` for one of `M::F`."""
-    return re.sub(r"::fn::(\w+)::.*", r"::\1", function) in changed
+    """Whether a function is changed, or is a closure of one that is: the prover writes `M::fn::F::all` for one of `M::F`."""
+    path = function.replace("::fn::", "::")
+    return any(path == it or path.startswith(f"{it}::") for it in changed)
 
 
 def is_refused(crate, ran, changes):

@@ -58,7 +58,7 @@ class Lanes:
 
     def __init__(self, kit):
         jobs = os.environ.get("RT_JOBS", "")
-        self.kit, self.processors = kit, int(jobs) if jobs.isdigit() else kit.processors()
+        self.kit, self.processors = kit, int(jobs) if jobs.isdigit() and int(jobs) else kit.processors()
         # (some checks take a fifth more than is planned)
         self.memory = 0.85 * kit.free()
         self.running, self.given = {}, {}
