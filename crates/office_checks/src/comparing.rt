@@ -14,7 +14,7 @@ use crate::Difference;
 use crate::memory::Bounded;
 use office_keeper::{KeepFault, Keeper, Reports};
 use office_replies::StoreFault;
-use testing_same::{Same, are_same};
+use testing_model::{Same, are_same};
 use testing_suites::Testing;
 
 /// What a store in memory answers, whose faults are want of memory.

@@ -16,7 +16,7 @@ mod telling;
 mod timed;
 mod trials;
 
-pub use office_files::{
+pub use office_store::{
     ConfFault, StoreFault, close_store, conf_status, open_store, open_tables, read_setup,
     setup_status, store_status,
 };

@@ -10,10 +10,9 @@ use crate::tasks::{
 use crate::telling::{print_text, refuse};
 use deb_control::Text;
 use office_checks::{office_after, why_of_run};
-use office_files::{open_store, read_setup};
 use office_http::{Office, StoreFault};
 use office_mail::Setup;
-use office_store::{Keeper, Plain};
+use office_store::{Keeper, Plain, open_store, read_setup};
 use sqlite::Unknown;
 use std::io;
 

@@ -9,12 +9,12 @@ use crate::service::{serve, service_status};
 use crate::teller::Teller;
 use crate::telling::{tell_report, tell_version, tell_waiting};
 use crate::trials::try_for;
-use office_files::{
-    ConfFault, StoreFault, close_store, conf_status, open_store, read_setup, store_status,
-};
 use office_http::{Office, Replayed, WriteFault, replay_status, replay_watched};
 use office_mail::{Bag, BagFault, FromRead, Setup, ToWrite};
-use office_store::{Keeper, Plain, Tables};
+use office_store::{
+    ConfFault, Keeper, Plain, StoreFault, Tables, close_store, conf_status, open_store, read_setup,
+    store_status,
+};
 use office_words::{Report, Words, compare, refuse_report};
 use sqlite::{File, FileStore, Unknown};
 use std::io::{BufWriter, Write};

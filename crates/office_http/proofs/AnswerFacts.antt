@@ -19,7 +19,7 @@ use Rattle.office_requests.specs.declared.request.Asked.TheVariants as asks
 use Rattle.office_requests.specs.declared.request.Page.{Page}
 use Rattle.office_requests.specs.declared.request.Page.TheVariants as page
 use Rattle.office_requests.specs.declared.request.Posted.{Posted}
-use Rattle.office_trials.specs.declared.Trial.{Trial}
+use Rattle.office_rules.specs.declared.Trial.{Trial}
 use Rattle.office_facts.specs.OfficeState.{OfficeState}
 use Rattle.office_orders.specs.Waiting.{Awaits, AwaitsBy}
 use Rattle.office_orders.proofs.WaitingFacts.{one_list}

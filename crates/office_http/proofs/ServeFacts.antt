@@ -51,9 +51,9 @@ use Rattle.office_requests.specs.RequestSteps.{Came, IsHeadAt}
 use Rattle.office_facts.specs.OfficeState.{OfficeState}
 use Rattle.office_facts.specs.State.{answer_to, reports_at}
 use Rattle.office_replies.specs.Written.{AppendsFront}
-use Rattle.office_trials.specs.declared.Trial.TheVariants.{NoDate}
+use Rattle.office_rules.specs.declared.Trial.TheVariants.{NoDate}
 use Rattle.office_http.specs.Serve.{mail_counts, page_answer, refusal_for, report_answer, letter_answer, delivery_answer, by_fault, posted_body, post_answer, answer_of, waits_of, continued, kept_by, settles, Does, Exchange, Found, IsFoundByPost, IsFoundFor, IsUnread, IsServed, Moves, Replied, RepliedFront, Serves, IsAwaited, StopsBefore, StopsServe}
-use Rattle.office_reasons.specs.Why.{IsWhy}
+use Rattle.office_rules.specs.Why.{IsWhy}
 use Rattle.office_http.specs.Trials.{hints_in, trial_answer}
 use Rattle.office_http.specs.ServeSteps.{answer_or, status_answer, text_answer, Tells, TellsAwaited, TellsTrial, Runs, Answers, ServesHead, ServesFront, StopsRequest}
 use Rattle.office_replays.proofs.ReplayFacts.{Leaves, reply_by-mark, delivery_counted, kept_after}

@@ -31,8 +31,8 @@ use Rattle.office_requests.specs.declared.request.Asked.{Asked}
 use Rattle.office_requests.specs.declared.request.Asked.TheVariants as asks
 use Rattle.office_http.specs.declared.serve.ServeFault.{ServeFault}
 use Rattle.office_http.specs.declared.serve.ServeFault.TheVariants.{Read, Write}
-use Rattle.office_trials.specs.declared.Trial.{Trial}
-use Rattle.office_trials.specs.Trial.{IsTrial}
+use Rattle.office_rules.specs.declared.Trial.{Trial}
+use Rattle.office_rules.specs.Trial.{IsTrial}
 use Rattle.office_requests.specs.Asked.{asked_of, body_size, is_head_method}
 use Rattle.office_replays.specs.Losses.{TextCounted}
 use Rattle.office_questions.specs.declared.mail.MailCount.{MailCount}
@@ -46,7 +46,7 @@ use Rattle.office_facts.specs.State.{answer_to, reports_at}
 use Rattle.office_orders.specs.Waiting.{Awaits}
 use Rattle.office_replies.specs.Written.{AppendsFront}
 use Rattle.office_http.specs.Trials.{hints_in, request_terms, tried_answer}
-use Rattle.office_reasons.specs.Why.{IsWhy}
+use Rattle.office_rules.specs.Why.{IsWhy}
 
 -- how a fault of memory or of the store is told
 abbrev pub refusal_for : StoreFault → Refusal

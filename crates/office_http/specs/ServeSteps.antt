@@ -21,8 +21,8 @@ use Rattle.office_requests.specs.Request.{body_room}
 use Rattle.office_facts.specs.OfficeState.{OfficeState}
 use Rattle.office_orders.specs.Waiting.{Awaits}
 use Rattle.office_replies.specs.Written.{AppendsFront}
-use Rattle.office_trials.specs.declared.Trial.{Trial}
-use Rattle.office_trials.specs.Trial.{IsTrial}
+use Rattle.office_rules.specs.declared.Trial.{Trial}
+use Rattle.office_rules.specs.Trial.{IsTrial}
 use Rattle.office_http.specs.Serve.{refusal_for, by_fault, page_answer, action_answer, posted_body, answer_of, waits_of, continued, Found, IsFound, IsFoundBy, IsFoundFor, Moves, Does, IsWhole, IsAwaited, StopsBefore, Exchange}
 use Rattle.office_http.specs.Trials.{request_terms, trial_answer}
 

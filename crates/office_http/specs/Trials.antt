@@ -9,12 +9,12 @@ use Rattle.office_replies.specs.Replies.{fault_words, name_at}
 use Rattle.office_requests.specs.declared.reply.Refusal.TheVariants as refusal
 use Rattle.office_requests.specs.declared.reply.Answer.{Answer}
 use Rattle.office_requests.specs.declared.reply.Answer.TheVariants.{Refused, Delivered, Told, BadHint}
-use Rattle.office_trials.specs.declared.RefusedHint.{RefusedHint}
-use Rattle.office_trials.specs.declared.Terms.{Terms}
-use Rattle.office_trials.specs.declared.Trial.{Trial}
-use Rattle.office_trials.specs.declared.Trial.TheVariants as trial
-use Rattle.office_trials.specs.Hints.{release}
-use Rattle.report_lines.specs.Tried.{tried_text}
+use Rattle.office_rules.specs.declared.RefusedHint.{RefusedHint}
+use Rattle.office_rules.specs.declared.Terms.{Terms}
+use Rattle.office_rules.specs.declared.Trial.{Trial}
+use Rattle.office_rules.specs.declared.Trial.TheVariants as trial
+use Rattle.office_rules.specs.Hints.{release}
+use Rattle.testing_reports.specs.Tried.{tried_text}
 
 -- a trial that a request asks for covers the mail of the release team alone, and has no day of its own
 abbrev pub request_terms : Terms

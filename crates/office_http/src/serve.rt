@@ -13,7 +13,7 @@ ghost use Rattle.office_requests.specs.Reply.{continue_bytes, refused, reply_byt
 ghost use Rattle.office_requests.specs.Request.{body_room, head_room};
 ghost use Rattle.office_requests.specs.RequestSteps.{IsHeadAt};
 ghost use Rattle.office_http.specs.Serve.{mail_counts, refusal_for, report_answer, letter_answer, delivery_answer, waits_of, Does, StopsBefore, Serves, StopsServe};
-ghost use Rattle.office_reasons.specs.Why.{IsWhy};
+ghost use Rattle.office_rules.specs.Why.{IsWhy};
 ghost use Rattle.office_http.specs.ServeSteps.{answer_or, status_answer, text_answer, Tells, TellsAwaited, Runs, Answers, StopsRequest, ServesHead};
 ghost use Rattle.office_facts.specs.State.{state_of};
 ghost use Rattle.office_replies.specs.Counted.{Counted};

@@ -7,20 +7,19 @@ ghost use Rattle.office_replies.specs.Counted.{Counted};
 ghost use Rattle.office_replies.specs.Replies.{name_at};
 ghost use Rattle.office_requests.specs.Reply.{HasPlace};
 ghost use Rattle.office_runs.specs.Preserves.{Asks, Holds};
-ghost use Rattle.office_trials.specs.Hints.{release};
-ghost use Rattle.report_lines.specs.LentLines.{lent_lines};
-ghost use Rattle.report_lines.specs.Tried.{tried_text};
+ghost use Rattle.office_rules.specs.Hints.{release};
+ghost use Rattle.testing_reports.specs.LentLines.{lent_lines};
+ghost use Rattle.testing_reports.specs.Tried.{tried_text};
 
 use deb_control::{NoMemory, Text};
 use office_keeper::Keeper;
 use office_mail::Setup;
 use office_replies::{DeliverFault, StoreFault, fault_words, name_at};
 use office_requests::{Answer, Refusal};
-use office_rules::release_place;
+use office_rules::{RefusedHint, Terms, Trial, Tried, release_place, tried_text};
 use office_runs::Office;
-use office_trials::{RefusedHint, Terms, Trial, Tried, tried_text};
-use report_lines::lines_of;
 use std::alloc::{AllocError, Global};
+use testing_reports::lines_of;
 
 /// Copies of texts.
 fn copies(alloc: Global, texts: &[&str]) -> Result<Vec<Text>, AllocError>

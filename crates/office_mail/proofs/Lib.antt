@@ -10,3 +10,6 @@ pub mod HintFacts
 pub mod CoverFacts
 pub mod ReadFacts
 pub mod SaidFacts
+pub mod HeaderFacts
+pub mod BagFacts
+pub mod BagLaw

@@ -1,8 +1,3 @@
-pub use Rattle.office_bags.specs.Bag
-pub use Rattle.office_bags.specs.BagReads
-pub use Rattle.office_bags.specs.BagSteps
-pub use Rattle.office_bags.specs.Counts
-pub use Rattle.office_bags.specs.Reading
 pub use Rattle.office_setup.specs.Calendar
 pub use Rattle.office_setup.specs.Kinds
 pub use Rattle.office_setup.specs.Lists
@@ -19,3 +14,10 @@ pub mod Laws
 pub mod Read
 pub mod Runs
 pub mod Said
+pub mod Bag
+pub mod BagReads
+pub mod BagSteps
+pub mod Counts
+pub mod Line
+pub mod Reading
+pub mod Step

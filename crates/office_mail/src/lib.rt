@@ -1,8 +1,10 @@
 //! Mail of a migration office: its bags, its setup, its messages and when a run is ready.
 #![tactic(auto)]
 
+mod bag;
 mod bodies;
 mod covers;
+mod feed;
 mod fields;
 mod hints;
 pub mod laws;
@@ -11,10 +13,9 @@ mod read;
 mod readiness;
 mod texts;
 
+pub use bag::{Bag, BagFault, reads_one_way};
+pub use feed::{Feed, FromRead, ReadFailed, Sink, ToWrite, WriteFailed};
 pub use message::{Body, MailFault, Message, RunOrder};
-pub use office_bags::{
-    Bag, BagFault, Feed, FromRead, ReadFailed, Sink, ToWrite, WriteFailed, reads_one_way,
-};
 pub use office_setup::{Field, Kind, Role, Sender, Setup, SetupFault, SetupField};
 pub use read::read_message;
 pub use readiness::{latest_day, ready};

@@ -23,8 +23,8 @@ use Rattle.office_tables.specs.Tables.{number_in, text_in, office_by, office_in,
 use Rattle.office_tables.specs.TableContent.{release_place}
 use Rattle.office_tables.specs.TableSteps.{Rows, rows_in, SaysAlone, Silences, SaysMore, office_columns}
 use Rattle.office_tables.specs.FactSteps.{AddsDelays}
-use Rattle.office_layout.specs.CreatingSteps.{Makes, schema_of_six}
-use Rattle.office_layout.specs.SetupText.{setup_text}
+use Rattle.office_tables.specs.CreatingSteps.{Makes, schema_of_six}
+use Rattle.office_tables.specs.SetupText.{setup_text}
 use Rattle.office_opening.specs.Opening.{text_by, shown_office, text_of_one, text_before, kept_text, lists_by, open_fault, IsKeptFor, IsKeptBefore, IsKeptForOther, IsMigrated, IsUnreadable}
 use Rattle.office_keeper.specs.LastDelays.{IsLastTold}
 use Rattle.office_opening.specs.Migrating.{AreMessages, KeepsDelays, Migrates}
@@ -32,7 +32,7 @@ use Rattle.office_opening.specs.MigratingSteps.{count_by, count_shown, IsJudged,
 use Rattle.office_tables.proofs.MailLemmas.{as_many, only_shown}
 use Rattle.office_opening.proofs.OpenLemmas.{shown_text}
 use Rattle.office_tables.proofs.RunLemmas.{said_one}
-use Rattle.office_layout.proofs.SetupRoundTrip.{read_back}
+use Rattle.office_tables.proofs.SetupRoundTrip.{read_back}
 
 pub widens : (a b : State) → Makes schema_of_six fact_delays a b → Widens a b
 widens a b made = record {

@@ -17,13 +17,13 @@ use Rattle.office_tables.specs.Entries.{source_map, entry_map}
 use Rattle.office_tables.specs.FactTables.{delays_in, facts_in}
 use Rattle.office_tables.specs.Legible.{IsLegible, SaysOnce, AreReported, AreNamed, AreRead}
 use Rattle.office_opening.specs.Migrating.{KeepsDelays, Migrates, IsLegibleBefore, content_before}
-use Rattle.office_layout.specs.SetupText.{setup_text}
+use Rattle.office_tables.specs.SetupText.{setup_text}
 use Rattle.office_tables.specs.TableContent.{content_in, count_said, release_place, reports_to, suite_in, source_at, row_at}
 use Rattle.office_tables.specs.Tables.{IsWhole, kept_rows, run_map, said_in}
 use Rattle.office_tables.proofs.FactSets.{same_set, same_entry, of_inserted, inserted_has, said, says}
 use Rattle.office_tables.proofs.ReportFacts.{length_reports}
 use Rattle.office_tables.proofs.RunLemmas.{said_one}
-use Rattle.office_layout.proofs.SetupRoundTrip.{text_utf8}
+use Rattle.office_tables.proofs.SetupRoundTrip.{text_utf8}
 
 -- the facts that the tables say, with those of the last delays
 facts_with : (setup : Lists) (facts delays : List Row) (last : Option ℕ) → KeepsDelays last delays → facts_in (release_place setup) facts delays ≡ with_last setup last (facts_in (release_place setup) facts [])

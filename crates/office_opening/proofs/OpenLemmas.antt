@@ -9,11 +9,11 @@ use Rattle.office_mail.specs.Setup.{IsSetup}
 use Rattle.office_tables.specs.Layout.{office_schema}
 use Rattle.office_tables.specs.Tables.{office_in}
 use Rattle.office_tables.specs.TableSteps.{office_columns}
-use Rattle.office_layout.specs.Creating.{IsBlank}
-use Rattle.office_layout.specs.SetupText.{setup_text}
+use Rattle.office_tables.specs.Creating.{IsBlank}
+use Rattle.office_tables.specs.SetupText.{setup_text}
 use Rattle.office_opening.specs.Opening.{text_by, shown_office, text_of_one, kept_text, lists_by, IsKeptFor}
 use Rattle.office_tables.proofs.MailLemmas.{as_many, only_shown}
-use Rattle.office_layout.proofs.SetupRoundTrip.{read_back}
+use Rattle.office_tables.proofs.SetupRoundTrip.{read_back}
 
 shown_as : (row : Row) → shown_office (office_columns row) ≡ office_in row
 unfolding office_in

@@ -16,7 +16,7 @@ use Rattle.office_tables.specs.Tables.{IsWhole, kept_rows, office_in, said_in}
 use Rattle.office_tables.specs.TableContent.{message_at, release_place, content_in}
 use Rattle.office_tables.specs.FactTables.{fact_entry, fact_in, delays_of, delays_in, facts_in}
 use Rattle.office_tables.specs.Legible.{SaysOnce, AreReported, AreNamed}
-use Rattle.office_layout.specs.SetupText.{setup_text}
+use Rattle.office_tables.specs.SetupText.{setup_text}
 
 -- the run order that a message is
 abbrev pub order_of : Option Message → Option RunOrder

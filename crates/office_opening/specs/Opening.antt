@@ -14,9 +14,9 @@ use Rattle.office_opening.specs.declared.opening.OpenFault.TheVariants as openin
 use Rattle.office_tables.specs.declared.said.Said.{Said}
 use Rattle.office_tables.specs.Layout.{no_schema, schema_before, office_schema, has_none, HasEach, HasEachBefore}
 use Rattle.office_tables.specs.Tables.{IsWhole, number_in, text_in, kept_rows, office_by, office_in, said_in}
-use Rattle.office_layout.specs.Creating.{IsBlank}
-use Rattle.office_layout.specs.SetupText.{setup_text}
-use Rattle.office_layout.specs.Fresh.{IsEmptyFor}
+use Rattle.office_tables.specs.Creating.{IsBlank}
+use Rattle.office_tables.specs.SetupText.{setup_text}
+use Rattle.office_tables.specs.Fresh.{IsEmptyFor}
 use Rattle.office_opening.specs.Migrating.{AreMessages, Migrates}
 
 -- what a fault of the store is told as

@@ -2,7 +2,7 @@
 ghost use Rattle.std.specs.Prelude.{◌↔◌, codes, IsTrue, IfOk};
 ghost use Rattle.office_tables.specs.Layout.{fact, fact_delays, is_free, table_by, IsFound, HasEach, HasEachBefore};
 
-use office_layout::layout::{
+use office_tables::layout::{
     has_fact, has_fact_delays, has_mail, has_office, has_run, has_testing_row, has_testing_source,
     is_free,
 };

@@ -8,22 +8,22 @@ ghost use Rattle.office_mail.specs.Lists.{Lists};
 ghost use Rattle.office_tables.specs.Tables.{IsTrusted, IsOurs, number_in, text_in, Endures, Lasts};
 ghost use Rattle.office_tables.specs.TableSteps.{Same};
 ghost use Rattle.office_opening.specs.Opening.{open_fault, text_by, shown_office, text_of_one, kept_text, lists_by, IsKeptFor, IsOpened, IsKeptForOther, IsUnknown, IsUnreadable, IsAlone, IsTakeable};
-ghost use Rattle.office_layout.specs.Creating.{IsBlank};
+ghost use Rattle.office_tables.specs.Creating.{IsBlank};
 ghost use Rattle.office_tables.specs.Layout.{no_schema, has_none, HasEachBefore};
-ghost use Rattle.office_layout.specs.Fresh.{IsEmptyFor};
-ghost use Rattle.office_layout.specs.SetupText.{setup_text as text_of};
-ghost use Rattle.office_layout.specs.Unchanged.{IsAsItWas};
+ghost use Rattle.office_tables.specs.Fresh.{IsEmptyFor};
+ghost use Rattle.office_tables.specs.SetupText.{setup_text as text_of};
+ghost use Rattle.office_tables.specs.Unchanged.{IsAsItWas};
 ghost use Rattle.office_opening.specs.declared.opening.OpenFault.TheVariants as fault;
 ghost use Rattle.office_keeper.specs.declared.faults.Cause.TheVariants.{BadRow};
 
 use crate::among::{has_each, has_each_before};
 use crate::migrating::migrate;
 use office_keeper::{Cause, KeepFault};
-use office_layout::layout::{has_none, has_tables, has_tables_before, is_fresh};
-use office_layout::schema;
-use office_layout::setup_text::{same_setup, setup_text};
 use office_mail::{Setup, SetupFault};
+use office_tables::layout::{has_none, has_tables, has_tables_before, is_fresh};
 use office_tables::runs::office_rows;
+use office_tables::schema;
+use office_tables::setup_text::{same_setup, setup_text};
 use sqlite::types::ValueRef;
 use sqlite::{Alter, Connection, Error, Row};
 use std::alloc::{AllocError, Global};
@@ -236,7 +236,7 @@ fn prepare_among<S: Alter>(
 }
 
 /// Makes, finds or migrates the office's tables.
-#[tactic(auto, using(office_layout::proofs::SchemaLemmas::each, office_layout::proofs::SchemaLemmas::each_before))]
+#[tactic(auto, using(office_tables::proofs::SchemaLemmas::each, office_tables::proofs::SchemaLemmas::each_before))]
 pub fn prepare<S: Alter>(
     alloc: Global,
     conn: &mut Connection<S>,

@@ -1,7 +1,7 @@
 -- What a replay comes to behind its last delivery. P, Q and R say that the store refused: in a first part, in what follows, and in both.
 use Rattle.std.proofs.Common.{◌≡◌, ℕ, ◌≤◌, ◌-◌, Bool, false, not, ◌||◌, is_ok, IsTrue, List, Option, Some, None, Result, IfOk, sym, ap, subst, ◌∙◌, refl, arith}
 use Rattle.std.specs.Io.KnownBytes.{Appends}
-use Rattle.office_bags.specs.declared.bag.BagFault.{BagFault}
+use Rattle.office_mail.specs.declared.bag.BagFault.{BagFault}
 use Rattle.office_mail.specs.Kept.{Kept}
 use Rattle.office_mail.specs.Lists.{Lists}
 use Rattle.office_mail.specs.Reading.{Reading}

@@ -4,8 +4,8 @@ use Rattle.std.specs.Io.KnownBytes.{Appends, Consumes}
 use Rattle.std.proofs.KnownBytes.{Appends-nil, Appends-trans, Consumes-nil, Consumes-trans}
 use Rattle.std.proofs.lemmas.List.{append_assoc, append-nil, map-append}
 use Rattle.std.proofs.lemmas.List.Concat.{flat_map-append}
-use Rattle.office_bags.specs.declared.bag.BagFault.{BagFault}
-use Rattle.office_bags.specs.declared.bag.BagFault.TheVariants.{ReadFault}
+use Rattle.office_mail.specs.declared.bag.BagFault.{BagFault}
+use Rattle.office_mail.specs.declared.bag.BagFault.TheVariants.{ReadFault}
 use Rattle.office_mail.specs.Bag.{framed, handed, HasHeader}
 use Rattle.office_mail.specs.Lists.{Lists}
 use Rattle.office_mail.specs.Reading.{Reading}

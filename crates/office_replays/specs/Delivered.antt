@@ -2,7 +2,7 @@
 use Rattle.std.specs.Prelude.{◌≡◌, ℕ, ◌≤◌, List, map, flat_map, Option}
 use Rattle.std.specs.List.{AllByRecursion}
 use Rattle.std.specs.Io.KnownBytes.{Consumes}
-use Rattle.office_bags.specs.declared.bag.BagFault.{BagFault}
+use Rattle.office_mail.specs.declared.bag.BagFault.{BagFault}
 use Rattle.office_mail.specs.Bag.{IsBag, framed, handed, HasHeader}
 use Rattle.office_mail.specs.Reading.{Reading}
 use Rattle.office_mail.specs.BagSteps.{MeetsEnd}

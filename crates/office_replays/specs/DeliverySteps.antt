@@ -2,7 +2,7 @@
 -- The parts of delivering a bag: one message after another, and the settle that follows each.
 use Rattle.std.specs.Prelude.{◌≡◌, ℕ, ◌≤◌, Bool, true, false, List, [], Option, None, is_ok}
 use Rattle.std.specs.Io.KnownBytes.{Appends}
-use Rattle.office_bags.specs.declared.bag.BagFault.{BagFault}
+use Rattle.office_mail.specs.declared.bag.BagFault.{BagFault}
 use Rattle.office_mail.specs.Reading.{Reading}
 use Rattle.office_mail.specs.Kept.{kept_from}
 use Rattle.office_mail.specs.Runs.{IsReady, IsReadyCount}

@@ -1,8 +1,8 @@
 -- What a replay lost for want of memory or by the store.
 use Rattle.std.specs.Prelude.{◌≡◌, ⊤, ℕ, ◌+◌, List, [], ◌∷◌, length, Option, Some, None, Bool, true, false, ◌||◌}
 use Rattle.std.specs.List.{AllByRecursion}
-use Rattle.office_bags.specs.declared.bag.BagFault.{BagFault}
-use Rattle.office_bags.specs.declared.bag.BagFault.TheVariants as bag
+use Rattle.office_mail.specs.declared.bag.BagFault.{BagFault}
+use Rattle.office_mail.specs.declared.bag.BagFault.TheVariants as bag
 use Rattle.office_mail.specs.Runs.{IsReadyCount}
 use Rattle.office_replies.specs.declared.faults.StoreFault.{StoreFault}
 use Rattle.office_replies.specs.declared.faults.StoreFault.TheVariants.{NoMemory, Store}

@@ -1,7 +1,7 @@
 -- What a replay of a bag does and writes.
 use Rattle.std.specs.Prelude.{◌≡◌, ℕ, ◌⊎◌, List, [], Option, Some, None, Bool, true, not, ◌||◌, if◌then◌else◌, is_some, IsTrue, Result, Ok, Err}
 use Rattle.std.specs.Io.KnownBytes.{Appends}
-use Rattle.office_bags.specs.declared.bag.BagFault.{BagFault}
+use Rattle.office_mail.specs.declared.bag.BagFault.{BagFault}
 use Rattle.office_mail.specs.Reading.{Reading}
 use Rattle.office_mail.specs.Runs.{IsReady, IsReadyCount}
 use Rattle.office_replies.specs.declared.faults.StoreFault.{StoreFault}

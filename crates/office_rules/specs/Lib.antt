@@ -1,1 +1,7 @@
 pub mod RuleSteps
+pub mod Counting
+pub mod Hints
+pub mod NextRun
+pub mod Trial
+pub mod Telling
+pub mod Why

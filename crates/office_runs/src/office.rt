@@ -15,8 +15,8 @@ ghost use Rattle.office_orders.specs.StaysTrusted.{StaysTrusted};
 ghost use Rattle.office_facts.specs.Outcome.{testing_after, testing_text};
 ghost use Rattle.office_facts.specs.State.{IsSound, KeepsFacts, state_of, answer_to, AnswersDelivery, reports_at};
 ghost use Rattle.office_orders.specs.Waiting.{Awaits, AwaitsSome};
-ghost use Rattle.office_reasons.specs.Why.{IsWhy};
-ghost use Rattle.office_trials.specs.Trial.{IsTrial};
+ghost use Rattle.office_rules.specs.Why.{IsWhy};
+ghost use Rattle.office_rules.specs.Trial.{IsTrial};
 
 use crate::gathering::{Reply, keep_texts};
 use crate::posting::deliver;
@@ -29,9 +29,8 @@ use office_mail::{RunOrder, Setup};
 use office_orders::ready::ready_count;
 use office_orders::stored;
 use office_orders::waiting::waiting;
-use office_reasons::why_text;
 use office_replies::{DeliverFault, Held, Progress, StoreFault, Waiting};
-use office_trials::{Terms, Trial, try_hints};
+use office_rules::{Terms, Trial, try_hints, why_text};
 use std::alloc::Global;
 use std::marker::Model;
 

@@ -4,3 +4,4 @@ pub mod LegibleKeepAll
 pub mod LegibleFinish
 pub mod KeeperFacts
 pub mod NumberFacts
+mod Front

@@ -11,9 +11,11 @@ pub use Rattle.office_tables.specs.Entries
 pub use Rattle.office_tables.specs.FactTables
 pub use Rattle.office_tables.specs.TableContent
 pub use Rattle.office_tables.specs.Legible
-pub use Rattle.office_layout.specs.Creating
-pub use Rattle.office_layout.specs.SetupText
-pub use Rattle.office_layout.specs.Fresh
-pub use Rattle.office_layout.specs.Unchanged
+pub use Rattle.office_tables.specs.Creating
+pub use Rattle.office_tables.specs.SetupText
+pub use Rattle.office_tables.specs.Fresh
+pub use Rattle.office_tables.specs.Unchanged
 pub use Rattle.office_opening.specs.Migrating
 pub use Rattle.office_opening.specs.Opening
+pub mod Conf
+pub mod Store

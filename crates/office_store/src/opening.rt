@@ -4,7 +4,7 @@ ghost use Rattle.sqlite.specs.Held.{state};
 ghost use Rattle.sqlite.specs.State.{HasCleanDisk};
 ghost use Rattle.office_tables.specs.Layout.{HasEachBefore};
 ghost use Rattle.office_tables.specs.Tables.{IsTrusted, Endures};
-ghost use Rattle.office_layout.specs.Unchanged.{IsAsItWas};
+ghost use Rattle.office_tables.specs.Unchanged.{IsAsItWas};
 ghost use Rattle.office_opening.specs.Opening.{IsOpened, IsKeptForOther, IsUnknown, IsUnreadable, IsAlone, IsTakeable};
 ghost use Rattle.office_keeper.specs.declared.faults.Cause.TheVariants.{BadRow};
 

@@ -4,15 +4,15 @@ use Rattle.std.specs.FinMap.{get, insert}
 use Rattle.sqlite.specs.Order.{Row}
 use Rattle.sqlite.specs.Tree.{Trees}
 use Rattle.office_keeper.specs.declared.values.Finished.{Finished}
-use Rattle.table_entries.specs.declared.said.Said.{Said}
-use Rattle.table_entries.specs.Tables.{IsWhole, run_map}
-use Rattle.table_entries.specs.TableSteps.{Rows, SaysAlone, RecordsRun}
-use Rattle.table_entries.specs.Entries.{source_map, entry_map}
-use Rattle.table_entries.specs.EntrySteps.{SetsSources, SetsRows}
+use Rattle.testing_tables.specs.declared.said.Said.{Said}
+use Rattle.testing_tables.specs.Tables.{IsWhole, run_map}
+use Rattle.testing_tables.specs.TableSteps.{Rows, SaysAlone, RecordsRun}
+use Rattle.testing_tables.specs.Entries.{source_map, entry_map}
+use Rattle.testing_tables.specs.EntrySteps.{SetsSources, SetsRows}
 use Rattle.office_keeper.specs.FactSet.{FactSet, facts_after}
-use Rattle.table_entries.specs.Legible.{AreRead}
-use Rattle.table_entries.specs.FactTables.{facts_in}
-use Rattle.table_entries.specs.FactSteps.{MovesFacts, ChangesFacts}
+use Rattle.testing_tables.specs.Legible.{AreRead}
+use Rattle.testing_tables.specs.FactTables.{facts_in}
+use Rattle.testing_tables.specs.FactSteps.{MovesFacts, ChangesFacts}
 use Rattle.office_tables.specs.Finishing.{WritesRun, with_count}
 
 -- the same between tables that have the same facts

@@ -5,8 +5,8 @@ use Rattle.sqlite.specs.Tree.{Trees}
 use Rattle.office_mail.specs.Kept.{Kept}
 use Rattle.office_keeper.specs.declared.values.NewLetter.{NewLetter}
 use Rattle.office_keeper.specs.NewMail.{AreFree, with_letters}
-use Rattle.table_entries.specs.Tables.{kept_rows}
-use Rattle.table_entries.specs.TableSteps.{AddsLetter, AddsLetters}
+use Rattle.testing_tables.specs.Tables.{kept_rows}
+use Rattle.testing_tables.specs.TableSteps.{AddsLetter, AddsLetters}
 use Rattle.testing_tables.proofs.KeepLemmas.{inserted}
 
 -- one letter more

@@ -23,3 +23,9 @@ pub use Rattle.testing_tables.proofs.LoadLemmas
 pub use Rattle.testing_tables.proofs.FactSets
 pub use Rattle.testing_tables.proofs.InsideLemmas
 pub use Rattle.testing_tables.proofs.FactMoves
+pub mod CreateLemmas
+pub mod SchemaLemmas
+pub mod WrittenWords
+pub mod WrittenSetup
+pub mod SetupRoundTrip
+pub mod BlankFacts

@@ -35,10 +35,10 @@ use Rattle.sqlite_rules.proofs.ListLemmas.{has_filtered, has_kept, contains_had}
 use Rattle.office_mail.specs.Kept.{Place}
 use Rattle.office_mail.proofs.KeptFacts.{places_total, exact_places}
 use Rattle.office_keeper.specs.Content.{IsNextNumber}
-use Rattle.table_entries.specs.Layout.{office_schema}
+use Rattle.testing_tables.specs.Layout.{office_schema}
 use Rattle.testing_tables.specs.Texts.{next_text}
-use Rattle.table_entries.specs.Tables.{letter_in, kept_rows}
-use Rattle.table_entries.specs.TableSteps.{AreSmall, IsCrowded, IsLeast, IsOnlyNumber, ShowsLeast, is_from, letter_columns}
+use Rattle.testing_tables.specs.Tables.{letter_in, kept_rows}
+use Rattle.testing_tables.specs.TableSteps.{AreSmall, IsCrowded, IsLeast, IsOnlyNumber, ShowsLeast, is_from, letter_columns}
 use Rattle.testing_tables.proofs.Compiled.{plain_query, equals}
 use Rattle.testing_tables.proofs.Answered.{passes, shown_of, picked, fused}
 use Rattle.testing_tables.proofs.LetterFacts.{letter_parts, letter_of_parts, int_is}

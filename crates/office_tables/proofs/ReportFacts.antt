@@ -8,7 +8,7 @@ use Rattle.std.specs.Ordering.{nat_cmp, eq_by_cmp}
 use Rattle.std.specs.FinMap.{FinMap, get, insert, get-insert}
 use Rattle.office_keeper.specs.declared.values.Reports.{Reports}
 use Rattle.office_keeper.specs.Content.{item_from_one}
-use Rattle.table_entries.specs.TableContent.{no_reports, reports_to}
+use Rattle.testing_tables.specs.TableContent.{no_reports, reports_to}
 use Rattle.testing_tables.proofs.LetterFacts.{nat_is}
 
 front : {X : Type 0} (xs ys : List X) (i : ℕ) → i < length xs → slice_get (xs ++ ys) i ≡ slice_get xs i

@@ -10,9 +10,9 @@ use Rattle.sqlite.specs.Order.{Row, column}
 use Rattle.sqlite_rules.specs.Lists.{Has}
 use Rattle.sqlite_rules.proofs.ListLemmas.{has_filtered}
 use Rattle.office_keeper.specs.declared.values.Reports.{Reports}
-use Rattle.table_entries.specs.Tables.{number_in, text_in, run_by, run_in, run_map}
-use Rattle.table_entries.specs.TableSteps.{is_run, run_columns}
-use Rattle.table_entries.specs.Legible.{AreReported}
+use Rattle.testing_tables.specs.Tables.{number_in, text_in, run_by, run_in, run_map}
+use Rattle.testing_tables.specs.TableSteps.{is_run, run_columns}
+use Rattle.testing_tables.specs.Legible.{AreReported}
 use Rattle.testing_tables.proofs.KeyedFacts.{tied}
 use Rattle.testing_tables.proofs.LetterFacts.{number_is}
 use Rattle.testing_tables.proofs.EntryReads.{text_is}

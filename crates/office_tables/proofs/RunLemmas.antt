@@ -17,11 +17,11 @@ use Rattle.sqlite.specs.Effect.{Answers}
 use Rattle.sqlite.specs.Listing.{understood, reads_listing}
 use Rattle.sqlite.proofs.Callers.{IsPlain, command_of, reads_as}
 use Rattle.office_keeper.specs.declared.values.Reports.{Reports}
-use Rattle.table_entries.specs.declared.said.Said.{Said}
-use Rattle.table_entries.specs.Layout.{office_schema}
+use Rattle.testing_tables.specs.declared.said.Said.{Said}
+use Rattle.testing_tables.specs.Layout.{office_schema}
 use Rattle.testing_tables.specs.Texts.{office_text, reports_text}
-use Rattle.table_entries.specs.Tables.{number_in, text_in, office_in, said_in, run_by, run_in, run_map}
-use Rattle.table_entries.specs.TableSteps.{office_columns, IsOnlyOffice, is_run, run_columns, IsOnlyRun}
+use Rattle.testing_tables.specs.Tables.{number_in, text_in, office_in, said_in, run_by, run_in, run_map}
+use Rattle.testing_tables.specs.TableSteps.{office_columns, IsOnlyOffice, is_run, run_columns, IsOnlyRun}
 use Rattle.testing_tables.proofs.Compiled.{plain_query, equals}
 use Rattle.testing_tables.proofs.Answered.{passes, plain_answer}
 use Rattle.testing_tables.proofs.KeyedFacts.{get_at, found_one}

@@ -6,10 +6,10 @@ use Rattle.std.specs.Ordering.{nat_cmp, eq_by_cmp}
 use Rattle.std.specs.FinMap.{find, nat_cmp-IsAntisymmetric}
 use Rattle.sqlite.specs.declared.types.Value.TheVariants.{Int, Text}
 use Rattle.sqlite.specs.Order.{Row, column}
-use Rattle.table_entries.specs.declared.said.Said.{Said}
-use Rattle.table_entries.specs.Tables.{number_in, text_in, office_by, office_in, said_in}
-use Rattle.table_entries.specs.TableSteps.{office_columns}
-use Rattle.table_entries.specs.Legible.{SaysOnce}
+use Rattle.testing_tables.specs.declared.said.Said.{Said}
+use Rattle.testing_tables.specs.Tables.{number_in, text_in, office_by, office_in, said_in}
+use Rattle.testing_tables.specs.TableSteps.{office_columns}
+use Rattle.testing_tables.specs.Legible.{SaysOnce}
 use Rattle.testing_tables.proofs.KeyedFacts.{tied}
 use Rattle.testing_tables.proofs.LetterFacts.{number_is}
 use Rattle.testing_tables.proofs.EntryReads.{text_is, four}

@@ -4,14 +4,14 @@ use Rattle.std.specs.Prelude.{◌≡◌, ℕ, length, map, Some, None}
 use Rattle.std.specs.FinMap.{get, insert, from_entries}
 use Rattle.sqlite.specs.Tree.{Trees}
 use Rattle.office_keeper.specs.declared.values.Finished.{Finished}
-use Rattle.table_entries.specs.declared.said.Said.{Said}
+use Rattle.testing_tables.specs.declared.said.Said.{Said}
 use Rattle.office_keeper.specs.Content.{reports_in}
-use Rattle.table_entries.specs.Tables.{IsWhole, said_in, run_map}
-use Rattle.table_entries.specs.TableSteps.{SaysAlone}
-use Rattle.table_entries.specs.Entries.{source_map, entry_map}
-use Rattle.table_entries.specs.EntrySteps.{source_entry, row_entry}
+use Rattle.testing_tables.specs.Tables.{IsWhole, said_in, run_map}
+use Rattle.testing_tables.specs.TableSteps.{SaysAlone}
+use Rattle.testing_tables.specs.Entries.{source_map, entry_map}
+use Rattle.testing_tables.specs.EntrySteps.{source_entry, row_entry}
 use Rattle.office_keeper.specs.FactSet.{facts_after}
-use Rattle.table_entries.specs.FactSteps.{CanStandEach, MovesFacts}
+use Rattle.testing_tables.specs.FactSteps.{CanStandEach, MovesFacts}
 
 -- the office says so many runs instead, and else the same
 abbrev pub with_count : ℕ → Said → Said

@@ -2,9 +2,9 @@
 ghost use Rattle.std.specs.Prelude.{◌≡◌, ◌≢◌, Err, OnOk, OnErr};
 ghost use Rattle.sqlite.specs.Held.{state};
 ghost use Rattle.sqlite.specs.State.{HasCleanDisk};
-ghost use Rattle.table_entries.specs.Tables.{IsTrusted, Lasts};
-ghost use Rattle.table_entries.specs.TableSteps.{IsInside, WentOn};
-ghost use Rattle.table_entries.specs.FactSteps.{ChangesFacts, DropsEach};
+ghost use Rattle.testing_tables.specs.Tables.{IsTrusted, Lasts};
+ghost use Rattle.testing_tables.specs.TableSteps.{IsInside, WentOn};
+ghost use Rattle.testing_tables.specs.FactSteps.{ChangesFacts, DropsEach};
 
 use office_keeper::{Cause, KeepFault};
 use sqlite::{Alter, Transaction};

@@ -3,11 +3,11 @@ ghost use Rattle.std.specs.Prelude.{◌≡◌, ◌≢◌, Err, Some, OnOk, OnErr
 ghost use Rattle.std.specs.Str.{IsUtf8};
 ghost use Rattle.sqlite.specs.Held.{state};
 ghost use Rattle.sqlite.specs.State.{HasCleanDisk};
-ghost use Rattle.table_entries.specs.Tables.{IsTrusted, IsOurs, said_in, Lasts};
-ghost use Rattle.table_entries.specs.TableSteps.{IsInside, WentOn};
-ghost use Rattle.table_entries.specs.Legible.{SaysOnce};
+ghost use Rattle.testing_tables.specs.Tables.{IsTrusted, IsOurs, said_in, Lasts};
+ghost use Rattle.testing_tables.specs.TableSteps.{IsInside, WentOn};
+ghost use Rattle.testing_tables.specs.Legible.{SaysOnce};
 ghost use Rattle.testing_model.specs.InOrder.{IsInOrder};
-ghost use Rattle.table_entries.specs.TableContent.{release_place};
+ghost use Rattle.testing_tables.specs.TableContent.{release_place};
 ghost use Rattle.office_tables.specs.Finishing.{WritesRun, FinishesRun, with_count};
 
 use crate::fact_changes::change_facts;
@@ -15,8 +15,8 @@ use crate::runs::{record_run, said};
 use office_keeper::{Cause, Finished, KeepFault};
 use office_mail::Setup;
 use sqlite::{Alter, Connection, Error, Transaction};
-use table_entries::said::Said;
 use testing_tables::fact_rows::release_place;
+use testing_tables::said::Said;
 use testing_tables::testing::{set_rows, set_sources};
 
 /// The steps of a finished run, a table at a time.

@@ -4,8 +4,8 @@ ghost use Rattle.office_keeper.specs.Content.{IsNextNumber};
 ghost use Rattle.sqlite.specs.declared.types.Value.TheVariants.{Int, Blob};
 ghost use Rattle.sqlite.specs.Held.{state};
 ghost use Rattle.sqlite.specs.State.{HasCleanDisk};
-ghost use Rattle.table_entries.specs.Tables.{IsTrusted, IsOurs, kept_rows, Lasts};
-ghost use Rattle.table_entries.specs.TableSteps.{IsInside, WentOn, Same, AddsLetter, AddsLetters, AreSmall, IsCrowded, IsOnlyNumber, ShowsLeast};
+ghost use Rattle.testing_tables.specs.Tables.{IsTrusted, IsOurs, kept_rows, Lasts};
+ghost use Rattle.testing_tables.specs.TableSteps.{IsInside, WentOn, Same, AddsLetter, AddsLetters, AreSmall, IsCrowded, IsOnlyNumber, ShowsLeast};
 
 use office_keeper::{Cause, KeepFault, NewLetter};
 use sqlite::{Alter, Connection, Error, Row, Transaction, params};

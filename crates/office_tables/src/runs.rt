@@ -3,24 +3,24 @@ ghost use Rattle.std.specs.Prelude.{◌≡◌, ◌≢◌, ◌<◌, ℕ, Err, ◌
 ghost use Rattle.std.specs.List.Sorted.{IsPermutation};
 ghost use Rattle.std.specs.FinMap.{get};
 ghost use Rattle.std.specs.Str.{IsUtf8};
-ghost use Rattle.table_entries.specs.Legible.{SaysOnce, AreReported};
+ghost use Rattle.testing_tables.specs.Legible.{SaysOnce, AreReported};
 ghost use Rattle.office_keeper.specs.Content.{item_from_one};
-ghost use Rattle.table_entries.specs.TableContent.{reports_to, count_said};
-ghost use Rattle.table_entries.specs.declared.said.Said.{Said as SaidNow};
+ghost use Rattle.testing_tables.specs.TableContent.{reports_to, count_said};
+ghost use Rattle.testing_tables.specs.declared.said.Said.{Said as SaidNow};
 ghost use Rattle.office_keeper.specs.declared.values.Reports.{Reports as ReportsNow};
 ghost use Rattle.sqlite.specs.Order.{column};
 ghost use Rattle.sqlite.specs.declared.types.Value.TheVariants.{Int, Text as Words};
 ghost use Rattle.sqlite.specs.Held.{state};
 ghost use Rattle.sqlite.specs.State.{HasCleanDisk};
-ghost use Rattle.table_entries.specs.Tables.{IsTrusted, IsOurs, said_in as said_rows, run_map, Lasts};
-ghost use Rattle.table_entries.specs.TableSteps.{Same, IsInside, WentOn, IsOnlyOffice, IsOnlyRun, AddsRun, Silences, SaysMore, RecordsRun, office_columns, is_run, run_columns};
+ghost use Rattle.testing_tables.specs.Tables.{IsTrusted, IsOurs, said_in as said_rows, run_map, Lasts};
+ghost use Rattle.testing_tables.specs.TableSteps.{Same, IsInside, WentOn, IsOnlyOffice, IsOnlyRun, AddsRun, Silences, SaysMore, RecordsRun, office_columns, is_run, run_columns};
 
 use deb_control::Text;
 use office_keeper::{Cause, KeepFault, Reports};
 use sqlite::{Alter, Connection, Error, Row, Transaction, params};
-use table_entries::faults::unread;
-use table_entries::said::Said;
-use table_entries::shown::number_in;
+use testing_tables::faults::unread;
+use testing_tables::said::Said;
+use testing_tables::shown::number_in;
 
 /// What a row of the office says, whose id is 1.
 fn said_in(row: &Row) -> Result<Said, KeepFault>

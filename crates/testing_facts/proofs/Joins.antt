@@ -8,8 +8,8 @@ use Rattle.testing_model.specs.Covered.{Covered, uploads_in, builds_in, drops_in
 use Rattle.testing_model.specs.Unstable.{is_above_drops}
 use Rattle.testing_items.specs.declared.item.Item.{Item}
 use Rattle.testing_items.specs.declared.item.Item.TheVariants as item
-use Rattle.testing_entries.specs.declared.entry.Entry.{Entry}
-use Rattle.testing_entries.specs.declared.entry.Entry.TheVariants as entry
+use Rattle.testing_order.specs.declared.entry.Entry.{Entry}
+use Rattle.testing_order.specs.declared.entry.Entry.TheVariants as entry
 use Rattle.testing_model.specs.declared.facts.UploadIn.{UploadIn}
 use Rattle.testing_model.specs.declared.facts.BuildIn.{BuildIn}
 use Rattle.testing_model.specs.declared.facts.DropIn.{DropIn}

@@ -7,8 +7,8 @@ use Rattle.std.specs.declared.cmp.Ordering.TheVariants.{Less, Equal, Greater}
 use Rattle.std.specs.Ordering.{nat_cmp, is_lt}
 use Rattle.std.proofs.lemmas.List.{append_assoc, append-nil}
 use Rattle.std.proofs.lemmas.List.Sums.{sum_by-cons, sum_by-append}
-use Rattle.testing_entries.specs.declared.entry.Entry.{Entry}
-use Rattle.testing_entries.specs.declared.entry.Entry.TheVariants as entry
+use Rattle.testing_order.specs.declared.entry.Entry.{Entry}
+use Rattle.testing_order.specs.declared.entry.Entry.TheVariants as entry
 use Rattle.testing_model.specs.declared.facts.BuildIn.{BuildIn}
 use Rattle.testing_model.specs.declared.facts.DropIn.{DropIn}
 use Rattle.testing_model.specs.FactLists.{FactLists}

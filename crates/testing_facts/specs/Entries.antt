@@ -2,9 +2,9 @@
 use Rattle.std.specs.Prelude.{◌++◌}
 use Rattle.testing_facts.specs.Shifts.{Shift, shift_of}
 use Rattle.testing_order.specs.Uploads.{with_kept}
-use Rattle.testing_entries.specs.declared.entry.Entry.{Entry}
-use Rattle.testing_entries.specs.declared.entry.Entry.TheVariants.{Upload, Dropped, Build, Bug, Hint, Unhint, Delays, Nothing}
-pub use Rattle.testing_entries.specs.Entries.{entry_of}
+use Rattle.testing_order.specs.declared.entry.Entry.{Entry}
+use Rattle.testing_order.specs.declared.entry.Entry.TheVariants.{Upload, Dropped, Build, Bug, Hint, Unhint, Delays, Nothing}
+pub use Rattle.testing_order.specs.Entries.{entry_of}
 use Rattle.testing_model.specs.FactLists.{FactLists}
 use Rattle.testing_model.specs.WithMessage.{with_upload, with_builds, with_drop, with_greatest, with_bug, with_hint, with_unhint, with_delays, stands_beside}
 

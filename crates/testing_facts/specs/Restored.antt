@@ -1,6 +1,6 @@
 -- Facts put back, row by row, each with the item of the message that it names. That facts are kept as rows is this office's own.
 use Rattle.std.specs.Prelude.{ℕ, ◌==◌, ◌&&◌, if◌then◌else◌, List, find, Option, Some, None}
-pub use Rattle.testing_entries.specs.Entries.{placed_at}
+pub use Rattle.testing_order.specs.Entries.{placed_at}
 use Rattle.testing_items.specs.declared.item.Item.{Item}
 use Rattle.testing_model.specs.declared.facts.BuildIn.{BuildIn}
 use Rattle.testing_model.specs.declared.facts.DelaysIn.{DelaysIn}

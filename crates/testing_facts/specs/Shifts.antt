@@ -1,8 +1,8 @@
 -- Which rows leave the facts, and which come, with one more message. That facts are kept as rows is this office's own.
 use Rattle.std.specs.Prelude.{◌≡◌, ◌+◌, not, List, [], ◌∷◌, ◌++◌, map, filter, option_to_list}
 use Rattle.std.specs.Ordering.{nat_cmp}
-use Rattle.testing_entries.specs.declared.entry.Entry.{Entry}
-use Rattle.testing_entries.specs.declared.entry.Entry.TheVariants.{Upload, Dropped, Build, Bug, Hint, Unhint, Delays, Nothing}
+use Rattle.testing_order.specs.declared.entry.Entry.{Entry}
+use Rattle.testing_order.specs.declared.entry.Entry.TheVariants.{Upload, Dropped, Build, Bug, Hint, Unhint, Delays, Nothing}
 use Rattle.testing_items.specs.Words.{byte_cmp, lesser}
 pub use Rattle.testing_lists.specs.Shifts.{way_given, come_in, put_over, Shift, no_shift, then_shift, shift_build, shift_builds, IsShift}
 use Rattle.testing_model.specs.FactLists.{FactLists}

@@ -7,7 +7,7 @@ ghost use Rattle.testing_facts.specs.Entries.{with_entry, noted};
 ghost use Rattle.testing_facts.specs.Restored.{said, put_given, last_given, restored};
 ghost use Rattle.testing_lists.specs.Shifts.{shift_builds};
 ghost use Rattle.testing_order.specs.Uploads.{AreByMessage, with_kept};
-ghost use Rattle.testing_entries.specs.declared.entry.Entry.TheVariants.{Upload, Dropped, Bug, Hint as AHint, Unhint, Delays};
+ghost use Rattle.testing_order.specs.declared.entry.Entry.TheVariants.{Upload, Dropped, Bug, Hint as AHint, Unhint, Delays};
 ghost use Rattle.testing_model.specs.FactDifference.{IsChangedFrom, IsDifference};
 ghost use Rattle.testing_model.specs.KeptFacts.{trimmed};
 ghost use Rattle.testing_model.specs.declared.fact_row.FactRow.{FactRow as ARow};
@@ -24,10 +24,6 @@ use crate::copying::{copy_all, copy_boxed, copy_log, copy_said};
 use deb_version::NoMemory;
 use std::alloc::Global;
 use std::marker::Model;
-use testing_entries::{
-    Entry, Sent, changes, entry_of, said_bug, said_build, said_delays, said_drop, said_hint,
-    said_unhint, said_upload,
-};
 use testing_items::{Hint, Item};
 use testing_lists::{
     BuildBlocks, bug_shift, drop_shift, hint_left, last_row, put_bug, put_drop, put_hint, put_kept,
@@ -36,7 +32,10 @@ use testing_lists::{
 use testing_model::{
     BugIn, BuildIn, DelaysIn, DropIn, FactChanges, FactRow, HasSources, HintIn, UnhintIn, UploadIn,
 };
-use testing_order::{Log, Shifted, hint_row, later_delays, trim_uploads, unhint_row};
+use testing_order::{
+    Entry, Log, Sent, Shifted, changes, entry_of, hint_row, later_delays, said_bug, said_build,
+    said_delays, said_drop, said_hint, said_unhint, said_upload, trim_uploads, unhint_row,
+};
 
 /// The facts of a set of messages.
 pub struct Facts {

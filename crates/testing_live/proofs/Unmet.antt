@@ -15,8 +15,8 @@ use Rattle.testing_items.specs.Words.{Text}
 use Rattle.testing_live.specs.Lacks.{provides, meets_on, stands_for_it, IsProvisionIndex}
 use Rattle.testing_model.specs.declared.suite.RowIn.{RowIn}
 use Rattle.testing_model.specs.Moves.{is_row_on}
-use Rattle.testing_pool.proofs.Arranging.{at_some_of}
-use Rattle.testing_pool.proofs.Lost.{any_of}
+use Rattle.testing_suites.proofs.Arranging.{at_some_of}
+use Rattle.testing_suites.proofs.Lost.{any_of}
 
 -- of what is there both, and what follows from both
 pub if_some_both : {A : Type 0} (P Q R : A → Type 0) (o : Option A) → ((x : A) → P x → Q x → R x) → IfSome o P → IfSome o Q → IfSome o R

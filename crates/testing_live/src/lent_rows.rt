@@ -9,11 +9,11 @@ ghost use Rattle.testing_model.specs.JudgedRows.{lent};
 ghost use Rattle.testing_model.specs.Moves as rules;
 ghost use Rattle.testing_model.specs.Unstable as unstable_words;
 
+use crate::is_row_of;
 use deb_control::Text;
 use deb_version::NoMemory;
 use std::alloc::Global;
 use std::slice;
-use testing_changes::is_row_of;
 use testing_facts::{Unstable, is_current, source_in};
 use testing_model::{LentRow, RowIn, UploadIn};
 use testing_suites::put_row;

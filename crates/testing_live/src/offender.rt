@@ -9,10 +9,10 @@ ghost use Rattle.testing_items.specs.Words.{first_of_two};
 ghost use Rattle.testing_install.specs.Rows.{binaries};
 ghost use Rattle.std.specs.Option.{option_copied};
 
+use crate::{is_row_of, is_same_key};
 use deb_control::Text;
 use deb_version::NoMemory;
 use std::alloc::{AllocError, Global};
-use testing_changes::{is_row_of, is_same_key};
 use testing_install::{Row, installable};
 use testing_items::Archs;
 use testing_model::{LentRow, Offender};

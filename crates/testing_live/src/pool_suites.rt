@@ -16,11 +16,11 @@ ghost use Rattle.testing_items.specs.Words.{Text as Word};
 
 use crate::lack::lack_among;
 use crate::provisions::provisions_of;
+use crate::{change_by_move, change_by_removal};
 use deb_control::{Clause, Text};
 use deb_version::NoMemory;
 use std::alloc::Global;
 use std::marker::Model;
-use testing_changes::{change_by_move, change_by_removal};
 use testing_facts::{Hashes, hashes_pass, passing_rows};
 use testing_install::NameIndex;
 use testing_model::{LentRow, Offender, UploadIn};

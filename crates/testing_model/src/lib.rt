@@ -1,4 +1,4 @@
-//! The promotion rules as definitions, and the records that they speak of.
+//! The promotion rules as definitions, the records that they speak of, and whether two of these are the same.
 #![tactic(auto)]
 
 mod excuse;
@@ -8,6 +8,7 @@ mod has_sources;
 mod shared_binary;
 mod suite;
 mod update;
+mod values;
 
 pub use excuse::{Excuse, Excuses, Reason, Reasons};
 pub use fact_row::{FactChanges, FactRow, FactRows};
@@ -16,3 +17,4 @@ pub use has_sources::HasSources;
 pub use shared_binary::SharedBinary;
 pub use suite::{LentRow, RowIn, SourceIn};
 pub use update::{Decision, Moved, MovedItems, Offender, Update};
+pub use values::{Same, are_same, is_row};

@@ -30,15 +30,15 @@ use Rattle.testing_model.specs.Unstable.{is_current}
 use Rattle.testing_model.proofs.Least.{from_filter, to_filter}
 use Rattle.testing_model.proofs.Ordered.{by_key-put_all, by_key-kept}
 use Rattle.testing_model.proofs.Sets.{first_or_rest, gives, spread_from, spreads, maps}
-use Rattle.testing_pool.specs.AfterMoves.{rows_at}
-use Rattle.testing_pool.specs.Changes.{has, IsMoveOf}
-use Rattle.testing_pool.specs.Present.{IsShown}
-use Rattle.testing_pool.specs.PresentSteps.{IsOn, IsLive, PoolState}
-use Rattle.testing_pool.specs.Trials.{is_place_on}
-use Rattle.testing_pool.proofs.Arranging.{move_of_places, from_has, to_has}
-use Rattle.testing_pool.proofs.Lost.{any_of, contains_at, at_place, get_map, of_map, judged_at}
-use Rattle.testing_pool.proofs.Moving.{IsMove, AreOthers, puts_from, puts_have, source_of_group}
-use Rattle.testing_pool.proofs.Shown.{itself_or_other}
+use Rattle.testing_suites.specs.AfterMoves.{rows_at}
+use Rattle.testing_suites.specs.Changes.{has, IsMoveOf}
+use Rattle.testing_suites.specs.Present.{IsShown}
+use Rattle.testing_suites.specs.PresentSteps.{IsOn, IsLive, PoolState}
+use Rattle.testing_suites.specs.Trials.{is_place_on}
+use Rattle.testing_suites.proofs.Arranging.{move_of_places, from_has, to_has}
+use Rattle.testing_suites.proofs.Lost.{any_of, contains_at, at_place, get_map, of_map, judged_at}
+use Rattle.testing_suites.proofs.Moving.{IsMove, AreOthers, puts_from, puts_have, source_of_group}
+use Rattle.testing_suites.proofs.Shown.{itself_or_other}
 
 -- Something is given.
 

@@ -1,2 +1,4 @@
 pub mod Trimming
 pub mod Uploads
+pub mod Entries
+pub mod Net

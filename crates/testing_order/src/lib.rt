@@ -1,15 +1,24 @@
-//! Which of two facts counts, the orders in which they are kept, and their rows as they come and go.
+//! Which of two facts counts, the orders in which they are kept, what one message gives to them, and their rows as they
+//! come and go.
 #![tactic(auto)]
 
+mod entry;
 mod halves;
 mod log;
+mod restoring;
+mod row_changes;
 mod rows;
 mod select;
 mod trimming;
 mod uploads;
 
+pub use entry::{Builds, Entry, Sent, entry_of};
 pub use halves::move_upper_half;
 pub use log::{Log, Shifted};
+pub use restoring::{
+    said_bug, said_build, said_delays, said_drop, said_hint, said_unhint, said_upload,
+};
+pub use row_changes::changes;
 pub use rows::{
     bug_row, build_row, delays_row, drop_row, hint_row, source_row, unhint_row, upload_row,
 };

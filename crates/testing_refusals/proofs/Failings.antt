@@ -11,7 +11,7 @@ use Rattle.testing_model.specs.Moves.{RowAnswer, fails_on, first_failing}
 use Rattle.testing_model.proofs.Least.{from_filter, least_from}
 use Rattle.testing_model.proofs.Orders.{text_order}
 use Rattle.testing_model.proofs.Sets.{mapped_from}
-use Rattle.testing_pool.specs.declared.offender.RowAnswer.{RowAnswer as Judged}
+use Rattle.testing_suites.specs.declared.offender.RowAnswer.{RowAnswer as Judged}
 use Rattle.testing_suites.specs.JudgedRows.{answer, answers}
 use Rattle.testing_refusals.specs.Refusals.{IsFailing, HasFailing, is_failing}
 

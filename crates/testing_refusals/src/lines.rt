@@ -9,7 +9,7 @@ ghost use Rattle.testing_refusals.specs.Needs.{need_of};
 use crate::needs::Need;
 use deb_control::{Alternative, Clause, Op, Text};
 use std::alloc::AllocError;
-use testing_changes::is_row_of;
+use testing_live::is_row_of;
 use testing_model::LentRow;
 
 fn sign(op: Op) -> &'static str

@@ -1,3 +1,4 @@
 pub mod Given
 pub mod Rows
 pub mod Rulings
+pub mod LineFacts

@@ -1,7 +1,21 @@
-pub use Rattle.testing_pool.proofs.Alive
-pub use Rattle.testing_pool.proofs.Changing
-pub use Rattle.testing_pool.proofs.Failing
-pub use Rattle.testing_pool.proofs.Lost
-pub use Rattle.testing_pool.proofs.Showing
-pub use Rattle.testing_pool.proofs.Suites
 mod StandingFacts
+pub mod Alive
+pub mod Arranging
+pub mod Carried
+pub mod Changing
+pub mod Extending
+pub mod Failing
+pub mod Flags
+pub mod Judging
+pub mod Lost
+pub mod Merging
+pub mod MorePlaces
+pub mod Moving
+pub mod Numbers
+pub mod OneSort
+pub mod Parts
+pub mod Pooling
+pub mod Showing
+pub mod Shown
+pub mod Suites
+pub mod Trying

@@ -13,14 +13,14 @@ use Rattle.testing_items.proofs.Members.{none_among}
 use Rattle.testing_model.proofs.Least.{from_filter, to_filter}
 use Rattle.testing_model.specs.declared.suite.RowIn.{RowIn}
 use Rattle.testing_model.specs.InOrder.{AreByKey}
-use Rattle.testing_pool.proofs.Arranging.{from_has, to_has}
-use Rattle.testing_pool.proofs.Flags.{bounded_members, flags_after, marked_within}
-use Rattle.testing_pool.proofs.Lost.{at_place, contains_at}
-use Rattle.testing_pool.proofs.Showing.{range_has}
-use Rattle.testing_pool.proofs.Suites.{length-after}
-use Rattle.testing_pool.specs.Changes.{has}
-use Rattle.testing_pool.specs.Present.{IsShown}
-use Rattle.testing_pool.specs.Tried.{IsWithin}
+use Rattle.testing_suites.proofs.Arranging.{from_has, to_has}
+use Rattle.testing_suites.proofs.Flags.{bounded_members, flags_after, marked_within}
+use Rattle.testing_suites.proofs.Lost.{at_place, contains_at}
+use Rattle.testing_suites.proofs.Showing.{range_has}
+use Rattle.testing_suites.proofs.Suites.{length-after}
+use Rattle.testing_suites.specs.Changes.{has}
+use Rattle.testing_suites.specs.Present.{IsShown}
+use Rattle.testing_suites.specs.Tried.{IsWithin}
 use Rattle.testing_suites.specs.Standing.{AreWanted, IsSetFor, is_alone}
 
 -- a flag more

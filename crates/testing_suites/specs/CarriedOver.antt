@@ -2,7 +2,7 @@
 use Rattle.std.specs.Prelude.{List, Option, Some, None}
 use Rattle.testing_install.specs.Closed.{marked}
 use Rattle.testing_model.specs.declared.suite.RowIn.{RowIn}
-use Rattle.testing_pool.specs.Present.{CarriedState, IsShown}
+use Rattle.testing_suites.specs.Present.{CarriedState, IsShown}
 
 -- of their rows those stand that testing has, where there are any
 abbrev pub AreCarriedOver : Option CarriedState → List RowIn → Type 0

@@ -5,24 +5,23 @@ ghost use Rattle.std.specs.Prelude.{◌≡◌, ℕ, ◌++◌, ◌-◌, ◌^◌, 
 ghost use Rattle.std.specs.List.{All, range_with_len};
 ghost use Rattle.testing_install.specs.Among.{with_all, after_change};
 ghost use Rattle.testing_install.specs.Closed.{marked};
-ghost use Rattle.testing_pool.specs.AfterMoves.{with_rows, rows_at};
-ghost use Rattle.testing_pool.specs.Changes.{has};
+ghost use Rattle.testing_suites.specs.AfterMoves.{with_rows, rows_at};
+ghost use Rattle.testing_suites.specs.Changes.{has};
 ghost use Rattle.testing_model.specs.InOrder.{AreByKey};
 ghost use Rattle.testing_model.specs.JudgedRows.{lent};
 ghost use Rattle.testing_model.specs.SameMessages.{SameElements};
-ghost use Rattle.testing_pool.specs.Present.{IsShown};
-ghost use Rattle.testing_pool.specs.PresentSteps.{AreOver, AreSuites, set_places};
-ghost use Rattle.testing_pool.specs.Tried.{first_told, Tells, IsWithin};
+ghost use Rattle.testing_suites.specs.Present.{IsShown};
+ghost use Rattle.testing_suites.specs.PresentSteps.{AreOver, AreSuites, set_places};
+ghost use Rattle.testing_suites.specs.Tried.{first_told, Tells, IsWithin};
 ghost use Rattle.testing_items.specs.Words.{Text as Word};
 ghost use Rattle.testing_model.specs.declared.suite.RowIn.{RowIn as ARow};
 
 use crate::lent_rows::{are_by_key, lend_rows, rows_at, rows_in_order};
+use crate::{ArchSuite, Change, Pool, lost_anywhere};
 use deb_version::NoMemory;
 use std::alloc::Global;
 use std::marker::Model;
 use testing_model::{LentRow, Offender, RowIn};
-use testing_pool::{ArchSuite, Change, Pool};
-use testing_trials::lost_anywhere;
 
 /// Sets the flags at the places.
 fn set_flags(flags: &mut Vec<bool>, places: &[usize], flag: bool)
@@ -161,8 +160,8 @@ impl Drop for CarriedSuites {
 }
 
 impl Model for CarriedSuites {
-    ghost use Rattle.testing_pool.specs.Present.{CarriedState};
-    ghost use Rattle.testing_pool.specs.PresentSteps.{IsCarriedState};
+    ghost use Rattle.testing_suites.specs.Present.{CarriedState};
+    ghost use Rattle.testing_suites.specs.PresentSteps.{IsCarriedState};
 
     ghost Value = { CarriedState };
 

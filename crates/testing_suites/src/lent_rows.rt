@@ -3,17 +3,17 @@
 ghost use Rattle.std.specs.Prelude.{◌≡◌, ◌<◌, true, length, [], Err, OnOk, OnErr, IfOk};
 ghost use Rattle.std.specs.List.{All};
 ghost use Rattle.std.specs.List.Sorted.{IsBinarySearchResult, IsSearchInRange};
-ghost use Rattle.testing_pool.specs.AfterMoves.{with_rows, rows_at};
+ghost use Rattle.testing_suites.specs.AfterMoves.{with_rows, rows_at};
 ghost use Rattle.testing_model.specs.InOrder.{AreByKey};
 ghost use Rattle.testing_model.specs.JudgedRows.{lent, row_of};
 ghost use Rattle.testing_model.specs.Moves as rules;
 ghost use Rattle.testing_model.specs.SameMessages.{SameElements};
 
+use crate::Pool;
 use deb_version::NoMemory;
 use std::alloc::Global;
 use std::cmp::Ordering;
 use testing_model::{LentRow, RowIn};
-use testing_pool::Pool;
 
 /// The order of rows, by architecture and name.
 pub fn order_rows(row: &LentRow, other: &LentRow) -> Ordering

@@ -1,13 +1,26 @@
-//! Testing, and the suites of the architectures over the pool of rows that may stand in it.
+//! Testing, the pool of rows that may stand in it, and the suites of the architectures over that pool, on which changes
+//! are tried.
 #![tactic(auto)]
 
+mod arch_suite;
 mod carried_suites;
+mod change;
 mod lent_rows;
+mod offender;
+mod pool;
+mod row_order;
 mod standing;
 mod suite;
+mod trial;
+mod watched;
 
+pub use arch_suite::ArchSuite;
 pub use carried_suites::CarriedSuites;
+pub use change::Change;
 pub use lent_rows::{lend_rows, put_row};
+pub use offender::{RowAnswer, is_row_on};
+pub use pool::Pool;
+pub use row_order::order_rows;
 pub use suite::{Testing, place_of_name};
-pub use testing_pool::{Change, Pool, RowAnswer, is_row_on};
-pub use testing_trials::{first_of_two, is_watched_on};
+pub use trial::lost_anywhere;
+pub use watched::{first_of_two, is_watched_on};

@@ -6,16 +6,15 @@ ghost use Rattle.testing_install.specs.Closed.{marked};
 ghost use Rattle.testing_model.specs.InOrder.{AreByKey};
 ghost use Rattle.testing_model.specs.JudgedRows.{lent};
 ghost use Rattle.testing_model.specs.declared.suite.RowIn.{RowIn as ARow};
-ghost use Rattle.testing_pool.specs.Present.{IsShown};
+ghost use Rattle.testing_suites.specs.Present.{IsShown};
 ghost use Rattle.testing_suites.specs.Standing.{AreWanted, is_alone};
 
 use crate::carried_suites::CarriedSuites;
 use crate::lent_rows::order_rows;
+use crate::{Change, Pool};
 use deb_version::NoMemory;
 use std::alloc::Global;
-use testing_model::{LentRow, RowIn};
-use testing_pool::{Change, Pool};
-use testing_same::is_row;
+use testing_model::{LentRow, RowIn, is_row};
 
 /// Where a row was found in a pool, if it was, and at which of the places the search for the next row begins.
 #[derive(Clone, Copy)]

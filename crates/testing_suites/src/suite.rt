@@ -9,6 +9,7 @@ ghost use Rattle.testing_model.specs.Places.{IsPlaceFor};
 ghost use Rattle.testing_items.specs.Words.{byte_cmp};
 
 use crate::carried_suites::CarriedSuites;
+use crate::order_rows;
 use crate::standing::over_rows;
 use deb_version::NoMemory;
 use std::alloc::{AllocError, Global};
@@ -16,7 +17,6 @@ use std::cmp::Ordering;
 use std::marker::Model;
 use std::rc::Rc;
 use testing_model::{HasSources, RowIn, SourceIn};
-use testing_pool::order_rows;
 
 /// The sources by name, and the rows by architecture and name.
 #[derive(Drop)]

@@ -27,7 +27,7 @@ use Rattle.sqlite_value.proofs.OrderLemmas.{value_cmp_total}
 use Rattle.std.proofs.lemmas.Cmp.{tied_itself}
 use Rattle.sqlite.proofs.Callers.{one_step}
 use Rattle.sqlite_schema.specs.declared.schema.Keys.TheVariants.{Enforced}
-use Rattle.table_entries.specs.Layout.{office_schema}
+use Rattle.testing_tables.specs.Layout.{office_schema}
 use Rattle.testing_tables.proofs.Compiled.{plain_query}
 use Rattle.testing_tables.proofs.Answered.{passes, plain_answer}
 use Rattle.testing_tables.proofs.WriteLemmas.{went, same_value, task, concluded}

@@ -24,11 +24,11 @@ use Rattle.testing_items.specs.Words.{byte_cmp}
 use Rattle.testing_model.specs.Moves.{row_cmp, row_key}
 use Rattle.testing_model.specs.InOrder.{AreByName, AreByKey}
 use Rattle.testing_model.proofs.Orders.{text_order}
-use Rattle.table_entries.specs.TableSteps.{Rows, rows_in}
-use Rattle.table_entries.specs.Entries.{source_in, entry_in}
-use Rattle.table_entries.specs.FactSteps.{TakesOut}
-use Rattle.table_entries.specs.EntrySteps.{source_columns, source_entry, TakesSource, AddsSource, SetsSources, entry_columns, row_entry, TakesRow, AddsRow, SetsRows}
-use Rattle.table_entries.specs.Differences.{AreCompared, SourcesCompared, RowsCompared}
+use Rattle.testing_tables.specs.TableSteps.{Rows, rows_in}
+use Rattle.testing_tables.specs.Entries.{source_in, entry_in}
+use Rattle.testing_tables.specs.FactSteps.{TakesOut}
+use Rattle.testing_tables.specs.EntrySteps.{source_columns, source_entry, TakesSource, AddsSource, SetsSources, entry_columns, row_entry, TakesRow, AddsRow, SetsRows}
+use Rattle.testing_tables.specs.Differences.{AreCompared, SourcesCompared, RowsCompared}
 use Rattle.testing_tables.proofs.MailLemmas.{filter_same, has_permuted, empty_of, as_many, only_shown}
 use Rattle.testing_tables.proofs.DeleteLemmas.{itself}
 use Rattle.testing_tables.proofs.EntryReads.{source_shown, row_shown}

@@ -10,14 +10,14 @@ use Rattle.office_mail.specs.declared.message.Message.{Message}
 use Rattle.testing_model.specs.declared.suite.RowIn.{RowIn}
 use Rattle.office_keeper.specs.Provenance.{IsArchPlace}
 use Rattle.deb_control.specs.declared.binary.Binary.{Binary}
-use Rattle.table_entries.specs.Tables.{number_in, small_of, small_in, text_in}
-use Rattle.table_entries.specs.Entries.{integer_in, source_by, source_in, row_by, entry_in}
-use Rattle.table_entries.specs.EntrySteps.{source_columns, entry_columns}
+use Rattle.testing_tables.specs.Tables.{number_in, small_of, small_in, text_in}
+use Rattle.testing_tables.specs.Entries.{integer_in, source_by, source_in, row_by, entry_in}
+use Rattle.testing_tables.specs.EntrySteps.{source_columns, entry_columns}
 use Rattle.testing_tables.specs.declared.entries.KeptAt.{KeptAt}
 use Rattle.testing_tables.specs.Nearby.{IsKeptAt, read_binary}
-use Rattle.table_entries.specs.TableContent.{message_at, source_by_message, source_at, source_by_entry, source_of, row_as, row_by_message, row_at, row_by_entry, row_of}
+use Rattle.testing_tables.specs.TableContent.{message_at, source_by_message, source_at, source_by_entry, source_of, row_as, row_by_message, row_at, row_by_entry, row_of}
 use Rattle.testing_tables.proofs.LetterFacts.{number_is}
-use Rattle.table_entries.proofs.EntrySays.{Fits32, integer_is}
+use Rattle.testing_tables.proofs.EntrySays.{Fits32, integer_is}
 
 -- ---- values
 

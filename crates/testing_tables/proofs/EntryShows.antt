@@ -12,9 +12,9 @@ use Rattle.sqlite.specs.State.{State, Shown}
 use Rattle.sqlite.specs.Effect.{Answers}
 use Rattle.sqlite.specs.Listing.{understood, reads_listing}
 use Rattle.sqlite.proofs.Callers.{IsPlain, command_of, reads_as}
-use Rattle.table_entries.specs.Layout.{office_schema}
+use Rattle.testing_tables.specs.Layout.{office_schema}
 use Rattle.testing_tables.specs.Texts.{sources_text, rows_text}
-use Rattle.table_entries.specs.EntrySteps.{source_columns, entry_columns}
+use Rattle.testing_tables.specs.EntrySteps.{source_columns, entry_columns}
 use Rattle.testing_tables.proofs.Compiled.{plain_query}
 use Rattle.testing_tables.proofs.Answered.{plain_answer}
 use Rattle.testing_tables.proofs.MailLemmas.{filter_all}

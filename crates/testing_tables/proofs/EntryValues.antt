@@ -24,9 +24,9 @@ use Rattle.office_mail.specs.Lists.{Lists}
 use Rattle.office_mail.specs.Kept.{Kept, Place}
 use Rattle.office_mail.specs.declared.message.Message.{Message}
 use Rattle.office_keeper.specs.Provenance.{upload_in, binary_in, IsArchPlace, KnowsArchs}
-use Rattle.table_entries.specs.Entries.{source_in, source_map, entry_in, entry_map}
-use Rattle.table_entries.specs.EntrySteps.{source_columns, source_entry, entry_columns, row_entry}
-use Rattle.table_entries.specs.TableContent.{message_at, source_as, source_by_message, source_at, source_by_entry, source_of, is_arch_place, row_as, row_by_message, row_at, row_by_entry, row_of, put_all_sources, put_all_rows, IsGathered, suite_in}
+use Rattle.testing_tables.specs.Entries.{source_in, source_map, entry_in, entry_map}
+use Rattle.testing_tables.specs.EntrySteps.{source_columns, source_entry, entry_columns, row_entry}
+use Rattle.testing_tables.specs.TableContent.{message_at, source_as, source_by_message, source_at, source_by_entry, source_of, is_arch_place, row_as, row_by_message, row_at, row_by_entry, row_of, put_all_sources, put_all_rows, IsGathered, suite_in}
 use Rattle.testing_tables.proofs.MailLemmas.{has_permuted, empty_of}
 use Rattle.testing_tables.proofs.SettingLemmas.{text_exact, row_order, row_exact}
 use Rattle.testing_tables.proofs.EntryReads.{source_shown, row_shown}

@@ -16,11 +16,11 @@ use Rattle.sqlite.specs.Listing.{understood}
 use Rattle.sqlite.specs.State.{State, Executes, Writes, mode_of}
 use Rattle.sqlite.proofs.Callers.{IsPlain, command_of, runs_as, statement_of}
 use Rattle.sqlite_tied.specs.Compute.{everything}
-use Rattle.table_entries.specs.Layout.{office_schema, testing_source, testing_row}
+use Rattle.testing_tables.specs.Layout.{office_schema, testing_source, testing_row}
 use Rattle.testing_tables.specs.Texts.{take_source_text, add_source_text, take_row_text, add_row_text}
-use Rattle.table_entries.specs.Entries.{source_in, entry_in}
-use Rattle.table_entries.proofs.EntrySays.{Fits32, source_says, entry_says}
-use Rattle.table_entries.specs.EntrySteps.{TakesSource, AddsSource, TakesRow, AddsRow}
+use Rattle.testing_tables.specs.Entries.{source_in, entry_in}
+use Rattle.testing_tables.proofs.EntrySays.{Fits32, source_says, entry_says}
+use Rattle.testing_tables.specs.EntrySteps.{TakesSource, AddsSource, TakesRow, AddsRow}
 use Rattle.testing_tables.proofs.Compiled.{plain_query}
 use Rattle.testing_tables.proofs.WriteLemmas.{Inserted, inserts_one, cast_null, cast_int}
 use Rattle.testing_tables.proofs.TakeLemmas.{Taken, id_terms, takes_by_id}

@@ -18,11 +18,11 @@ use Rattle.testing_model.specs.declared.fact_row.FactRow.{FactRow}
 use Rattle.testing_model.specs.declared.fact_row.FactChanges.{FactChanges}
 use Rattle.office_mail.specs.Lists.{Lists}
 use Rattle.office_keeper.specs.FactSet.{FactSet, HasRow, without_rows, with_rows, facts_after, IsFactRow, AreHoldable}
-use Rattle.table_entries.specs.TableSteps.{Rows, rows_in}
-use Rattle.table_entries.specs.Legible.{AreRead}
-use Rattle.table_entries.specs.TableContent.{release_place}
-use Rattle.table_entries.specs.FactTables.{fact_entry, may_stand, fact_in, delays_of, delays_in, facts_in}
-use Rattle.table_entries.specs.FactSteps.{is_fact, is_delays, id_columns, IsOnlyId, IsFound, TakesOut, TakesFact, TakesDelays, AddsFact, AddsDelays, CanStand, CanStandEach, MovesFacts, KeepsOthers, Leaves, DropsFact, DropsDelays, DropsOne, AddsOne, DropsEach, AddsEach, ChangesFacts}
+use Rattle.testing_tables.specs.TableSteps.{Rows, rows_in}
+use Rattle.testing_tables.specs.Legible.{AreRead}
+use Rattle.testing_tables.specs.TableContent.{release_place}
+use Rattle.testing_tables.specs.FactTables.{fact_entry, may_stand, fact_in, delays_of, delays_in, facts_in}
+use Rattle.testing_tables.specs.FactSteps.{is_fact, is_delays, id_columns, IsOnlyId, IsFound, TakesOut, TakesFact, TakesDelays, AddsFact, AddsDelays, CanStand, CanStandEach, MovesFacts, KeepsOthers, Leaves, DropsFact, DropsDelays, DropsOne, AddsOne, DropsEach, AddsEach, ChangesFacts}
 use Rattle.testing_tables.proofs.DeleteLemmas.{itself}
 use Rattle.testing_tables.proofs.MailLemmas.{empty_of, as_many, only_shown}
 use Rattle.testing_tables.proofs.KeepLemmas.{seven}

@@ -13,13 +13,13 @@ use Rattle.sqlite_rules.specs.Lists.{Has}
 use Rattle.sqlite_rules.proofs.ListLemmas.{has_contained}
 use Rattle.testing_model.specs.declared.fact_row.FactRow.{FactRow}
 use Rattle.office_keeper.specs.FactSet.{set_of_rows}
-use Rattle.table_entries.specs.Tables.{number_in, small_of, small_in}
-use Rattle.table_entries.specs.TableContent.{ReadsEach}
-use Rattle.table_entries.specs.Legible.{AreRead}
-use Rattle.table_entries.specs.Entries.{integer_in}
-use Rattle.table_entries.specs.FactTables.{fact_entry, may_stand, fact_of, fact_by, fact_in, delays_of, delays_by, delays_in, facts_in}
-use Rattle.table_entries.specs.FactSteps.{fact_columns, delays_columns, shown_delays, IsOnlyDelays, is_fact, is_delays}
-use Rattle.table_entries.proofs.EntrySays.{Fits32, small_is, integer_is}
+use Rattle.testing_tables.specs.Tables.{number_in, small_of, small_in}
+use Rattle.testing_tables.specs.TableContent.{ReadsEach}
+use Rattle.testing_tables.specs.Legible.{AreRead}
+use Rattle.testing_tables.specs.Entries.{integer_in}
+use Rattle.testing_tables.specs.FactTables.{fact_entry, may_stand, fact_of, fact_by, fact_in, delays_of, delays_by, delays_in, facts_in}
+use Rattle.testing_tables.specs.FactSteps.{fact_columns, delays_columns, shown_delays, IsOnlyDelays, is_fact, is_delays}
+use Rattle.testing_tables.proofs.EntrySays.{Fits32, small_is, integer_is}
 use Rattle.testing_tables.proofs.EntryReads.{small_value}
 use Rattle.testing_tables.proofs.EntryValues.{read_has, has_read, has_map, map_has}
 use Rattle.testing_tables.proofs.LetterFacts.{number_is, int_is}

@@ -14,7 +14,7 @@ use Rattle.sqlite_rules.specs.Lists.{Has}
 use Rattle.testing_model.specs.declared.fact_row.FactRow.{FactRow}
 use Rattle.testing_model.specs.FactRows.{row_order}
 use Rattle.office_keeper.specs.FactSet.{FactSet, set_of_rows}
-use Rattle.table_entries.specs.FactTables.{fact_entry, may_stand, fact_in, delays_in, facts_in}
+use Rattle.testing_tables.specs.FactTables.{fact_entry, may_stand, fact_in, delays_in, facts_in}
 use Rattle.testing_tables.proofs.EntryMaps.{from_first, has_first}
 use Rattle.testing_tables.proofs.EntryValues.{read_has, has_read, has_map, map_has}
 use Rattle.testing_tables.proofs.KeyedFacts.{tied}

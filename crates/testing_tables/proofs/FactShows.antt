@@ -15,9 +15,9 @@ use Rattle.sqlite.specs.Effect.{Answers}
 use Rattle.sqlite.specs.Listing.{understood, reads_listing}
 use Rattle.sqlite.proofs.Callers.{IsPlain, command_of, reads_as}
 use Rattle.testing_model.specs.declared.fact_row.FactRow.{FactRow}
-use Rattle.table_entries.specs.Layout.{office_schema}
+use Rattle.testing_tables.specs.Layout.{office_schema}
 use Rattle.testing_tables.specs.Texts.{facts_text, delays_text, fact_ids_text, delays_ids_text}
-use Rattle.table_entries.specs.FactSteps.{fact_columns, delays_columns, id_columns, is_fact, is_delays}
+use Rattle.testing_tables.specs.FactSteps.{fact_columns, delays_columns, id_columns, is_fact, is_delays}
 use Rattle.testing_tables.proofs.Compiled.{plain_query, equals}
 use Rattle.testing_tables.proofs.Answered.{passes, plain_answer}
 use Rattle.testing_tables.proofs.MailLemmas.{equal_is, filter_same, filter_all}

@@ -17,14 +17,14 @@ use Rattle.sqlite.specs.State.{State, Executes, Writes, mode_of}
 use Rattle.sqlite.proofs.Callers.{IsPlain, command_of, runs_as, statement_of}
 use Rattle.sqlite_tied.specs.Compute.{everything}
 use Rattle.testing_model.specs.declared.fact_row.FactRow.{FactRow}
-use Rattle.table_entries.specs.Layout.{office_schema, fact, fact_delays}
+use Rattle.testing_tables.specs.Layout.{office_schema, fact, fact_delays}
 use Rattle.testing_tables.specs.Texts.{add_fact_text, add_delays_text, take_fact_text, take_delays_text}
-use Rattle.table_entries.specs.FactTables.{fact_of, fact_in}
-use Rattle.table_entries.specs.FactSteps.{TakesFact, TakesDelays, AddsFact, AddsDelays}
+use Rattle.testing_tables.specs.FactTables.{fact_of, fact_in}
+use Rattle.testing_tables.specs.FactSteps.{TakesFact, TakesDelays, AddsFact, AddsDelays}
 use Rattle.testing_tables.proofs.Compiled.{plain_query}
 use Rattle.testing_tables.proofs.WriteLemmas.{Inserted, inserts_one, cast_null, cast_int}
 use Rattle.testing_tables.proofs.KeepLemmas.{with_facts, with_delays}
-use Rattle.table_entries.proofs.EntrySays.{Fits32}
+use Rattle.testing_tables.proofs.EntrySays.{Fits32}
 use Rattle.testing_tables.proofs.FactReads.{fact_says, delays_say}
 use Rattle.testing_tables.proofs.FactShows.{fact_params}
 use Rattle.testing_tables.proofs.TakeLemmas.{Taken, id_terms, takes_by_id}

@@ -7,9 +7,9 @@ use Rattle.sqlite.specs.Effect.{Database}
 use Rattle.sqlite.specs.Listing.{understood}
 use Rattle.sqlite.specs.State.{State, HasCleanDisk, FailsToQuery, IsTooLate, Shown}
 use Rattle.sqlite.proofs.Callers.{IsPlain}
-use Rattle.table_entries.specs.Layout.{office_schema}
-use Rattle.table_entries.specs.Tables.{IsTrusted}
-use Rattle.table_entries.specs.TableSteps.{IsInside, WentOn}
+use Rattle.testing_tables.specs.Layout.{office_schema}
+use Rattle.testing_tables.specs.Tables.{IsTrusted}
+use Rattle.testing_tables.specs.TableSteps.{IsInside, WentOn}
 use Rattle.testing_tables.proofs.StateLemmas.{Stays, query_stays, stays_open, shown_was_open, shown_is_open, shown_unchanged}
 
 -- what `query_all` of a transaction says of a call

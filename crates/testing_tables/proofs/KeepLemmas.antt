@@ -16,10 +16,10 @@ use Rattle.sqlite.specs.Listing.{understood}
 use Rattle.sqlite.specs.State.{State, Executes, Writes, mode_of}
 use Rattle.sqlite.proofs.Callers.{runs_as, statement_of}
 use Rattle.sqlite.specs.Table.{Table}
-use Rattle.table_entries.specs.Layout.{office_schema, mail}
+use Rattle.testing_tables.specs.Layout.{office_schema, mail}
 use Rattle.testing_tables.specs.Texts.{keep_text}
-use Rattle.table_entries.specs.Tables.{letter_in, kept_rows}
-use Rattle.table_entries.specs.TableSteps.{Rows, rows_in, AddsLetter}
+use Rattle.testing_tables.specs.Tables.{letter_in, kept_rows}
+use Rattle.testing_tables.specs.TableSteps.{Rows, rows_in, AddsLetter}
 use Rattle.testing_tables.proofs.Compiled.{keep_is, keep_plain}
 use Rattle.testing_tables.proofs.WriteLemmas.{Inserted, inserts_one, cast_null, cast_int}
 use Rattle.testing_tables.proofs.LetterFacts.{letter_of_parts, kept_put}

@@ -14,8 +14,8 @@ use Rattle.sqlite_value.proofs.OrderLemmas.{value_cmp-Int}
 use Rattle.office_mail.specs.Kept.{Place, place_cmp}
 use Rattle.office_mail.proofs.KeptFacts.{places_total, exact_places}
 use Rattle.testing_tables.proofs.KeyedFacts.{get_at, found_one, map_put}
-use Rattle.table_entries.specs.Tables.{number_in, bytes_in, letter_by, letter_in, kept_rows}
-use Rattle.table_entries.specs.TableSteps.{is_at}
+use Rattle.testing_tables.specs.Tables.{number_in, bytes_in, letter_by, letter_in, kept_rows}
+use Rattle.testing_tables.specs.TableSteps.{is_at}
 
 -- ---- values and what they say
 

@@ -29,3 +29,4 @@ pub mod FactWrites
 pub mod InsideLemmas
 pub mod FactMoves
 pub mod DifferenceLemmas
+pub mod EntrySays

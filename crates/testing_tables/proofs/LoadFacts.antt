@@ -15,8 +15,8 @@ use Rattle.office_mail.specs.Kept.{Kept, Place}
 use Rattle.office_mail.proofs.KeptFacts.{places_total, exact_places}
 use Rattle.office_keeper.specs.declared.values.Letter.{Letter}
 use Rattle.office_keeper.specs.Content.{letter_at, letters_within}
-use Rattle.table_entries.specs.Tables.{letter_in, kept_rows}
-use Rattle.table_entries.specs.TableSteps.{letter_columns, is_between, shown_letter, letter_entry, rises_from}
+use Rattle.testing_tables.specs.Tables.{letter_in, kept_rows}
+use Rattle.testing_tables.specs.TableSteps.{letter_columns, is_between, shown_letter, letter_entry, rises_from}
 use Rattle.testing_tables.proofs.LetterFacts.{letter_parts, int_is}
 use Rattle.testing_tables.proofs.MailLemmas.{has_permuted}
 use Rattle.testing_tables.proofs.EntryMaps.{from_first, has_first}

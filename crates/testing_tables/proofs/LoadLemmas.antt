@@ -25,10 +25,10 @@ use Rattle.sqlite_rules.specs.Lists.{Has}
 use Rattle.sqlite_rules.proofs.ListLemmas.{has_filtered, has_kept, has_contained, contains_had}
 use Rattle.sqlite_trees.proofs.ListLemmas.{filter-map, IsPermutation-filter}
 use Rattle.office_keeper.specs.declared.values.Letter.{Letter}
-use Rattle.table_entries.specs.Layout.{office_schema}
+use Rattle.testing_tables.specs.Layout.{office_schema}
 use Rattle.testing_tables.specs.Texts.{load_text}
-use Rattle.table_entries.specs.Tables.{number_in, bytes_in}
-use Rattle.table_entries.specs.TableSteps.{AreLetters, AreApart, is_at, letter_columns, ShowsLetters, is_between, shown_letter, letter_entry, rises_from}
+use Rattle.testing_tables.specs.Tables.{number_in, bytes_in}
+use Rattle.testing_tables.specs.TableSteps.{AreLetters, AreApart, is_at, letter_columns, ShowsLetters, is_between, shown_letter, letter_entry, rises_from}
 use Rattle.testing_tables.proofs.Compiled.{plain_query, equals}
 use Rattle.testing_tables.proofs.Answered.{passes, plain_answer}
 use Rattle.testing_tables.proofs.LetterFacts.{letter_parts, parts_by, number_is, int_is}

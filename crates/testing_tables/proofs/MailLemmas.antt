@@ -23,10 +23,10 @@ use Rattle.sqlite.proofs.Callers.{reads_as}
 use Rattle.office_mail.specs.Kept.{place_cmp}
 use Rattle.office_mail.proofs.KeptFacts.{exact_places}
 use Rattle.testing_tables.proofs.KeyedFacts.{tied}
-use Rattle.table_entries.specs.Layout.{office_schema}
+use Rattle.testing_tables.specs.Layout.{office_schema}
 use Rattle.testing_tables.specs.Texts.{find_text}
-use Rattle.table_entries.specs.Tables.{letter_in, kept_rows}
-use Rattle.table_entries.specs.TableSteps.{is_at, letter_columns, IsOnly, IsCrowded}
+use Rattle.testing_tables.specs.Tables.{letter_in, kept_rows}
+use Rattle.testing_tables.specs.TableSteps.{is_at, letter_columns, IsOnly, IsCrowded}
 use Rattle.testing_tables.proofs.Compiled.{find_query, find_is, find_plain}
 use Rattle.testing_tables.proofs.Answered.{passes, plain_answer}
 use Rattle.testing_tables.proofs.LetterFacts.{kept_at, letter_found, letter_of_parts, letter_parts, at_place}

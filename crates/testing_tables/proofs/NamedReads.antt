@@ -15,10 +15,10 @@ use Rattle.testing_model.specs.declared.suite.RowIn.{RowIn}
 use Rattle.testing_model.proofs.Orders.{text_order}
 use Rattle.office_mail.specs.Lists.{Lists}
 use Rattle.office_mail.specs.Kept.{Kept, Place}
-use Rattle.table_entries.specs.Entries.{source_in, source_map, entry_in, entry_map}
-use Rattle.table_entries.specs.EntrySteps.{source_columns, entry_columns}
-use Rattle.table_entries.specs.TableContent.{source_at, source_by_entry, source_of, row_at, row_by_entry, row_of, ReadsEach, put_all_sources, put_all_rows}
-use Rattle.table_entries.specs.Legible.{IsWhole}
+use Rattle.testing_tables.specs.Entries.{source_in, source_map, entry_in, entry_map}
+use Rattle.testing_tables.specs.EntrySteps.{source_columns, entry_columns}
+use Rattle.testing_tables.specs.TableContent.{source_at, source_by_entry, source_of, row_at, row_by_entry, row_of, ReadsEach, put_all_sources, put_all_rows}
+use Rattle.testing_tables.specs.Legible.{IsWhole}
 use Rattle.testing_tables.proofs.MailLemmas.{has_permuted, as_many}
 use Rattle.testing_tables.proofs.SettingLemmas.{text_exact, row_order, row_exact}
 use Rattle.testing_tables.proofs.EntryReads.{source_shown, row_shown}

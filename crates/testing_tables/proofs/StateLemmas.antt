@@ -10,9 +10,9 @@ use Rattle.sqlite_resolve.specs.declared.compiled.Compiled.{Compiled}
 use Rattle.sqlite.specs.State.{State, HasCleanDisk, IsUnchanged, IsRolledBack, IsNotRun, RunsCommand, FailsToShow, FailsToQuery, ShowsRows, Shown, Survives}
 use Rattle.sqlite.specs.Clock.{timed}
 use Rattle.sqlite.proofs.Callers.{IsPlain}
-use Rattle.table_entries.specs.Layout.{office_schema}
-use Rattle.table_entries.specs.Tables.{IsTrusted, IsOurs, Endures, Lasts}
-use Rattle.table_entries.specs.TableSteps.{Same}
+use Rattle.testing_tables.specs.Layout.{office_schema}
+use Rattle.testing_tables.specs.Tables.{IsTrusted, IsOurs, Endures, Lasts}
+use Rattle.testing_tables.specs.TableSteps.{Same}
 use Rattle.office_mail.specs.Counts.{HasRisen}
 use Rattle.sqlite_trees.specs.Tree.{Trees}
 

@@ -5,9 +5,9 @@ use Rattle.sqlite_trees.specs.View.{doubt}
 use Rattle.sqlite.specs.Order.{Row}
 use Rattle.sqlite.specs.declared.error.Error.{Error}
 use Rattle.sqlite.specs.State.{State, HasCleanDisk, Executes, ExecutesInside}
-use Rattle.table_entries.specs.Layout.{office_schema}
-use Rattle.table_entries.specs.Tables.{IsTrusted}
-use Rattle.table_entries.specs.TableSteps.{IsInside, WentOn}
+use Rattle.testing_tables.specs.Layout.{office_schema}
+use Rattle.testing_tables.specs.Tables.{IsTrusted}
+use Rattle.testing_tables.specs.TableSteps.{IsInside, WentOn}
 use Rattle.sqlite.specs.Tree.{Trees}
 
 -- what `execute` of a transaction says of a call

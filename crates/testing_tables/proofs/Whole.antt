@@ -9,9 +9,9 @@ use Rattle.std.specs.FinMap.{FinMap, IsAntisymmetric, get, insert, len, from_ent
 use Rattle.sqlite.specs.Order.{Row, value_cmp}
 use Rattle.sqlite_rules.specs.Lists.{Has}
 use Rattle.office_mail.proofs.KeptFacts.{places_total, exact_places}
-use Rattle.table_entries.specs.Tables.{letter_in, kept_rows}
-use Rattle.table_entries.specs.TableSteps.{AreLetters, AreApart, IsCrowded}
-use Rattle.table_entries.specs.Legible.{IsWhole}
+use Rattle.testing_tables.specs.Tables.{letter_in, kept_rows}
+use Rattle.testing_tables.specs.TableSteps.{AreLetters, AreApart, IsCrowded}
+use Rattle.testing_tables.specs.Legible.{IsWhole}
 use Rattle.testing_tables.proofs.LetterFacts.{at_place}
 use Rattle.testing_tables.proofs.KeyedFacts.{tied, map_put}
 use Rattle.std.proofs.lemmas.Bool.{or_parts}

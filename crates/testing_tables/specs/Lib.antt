@@ -1,2 +1,13 @@
 pub mod Texts
 pub mod Nearby
+pub mod Layout
+pub mod Tables
+pub mod TableSteps
+pub mod Entries
+pub mod EntrySteps
+pub mod FactTables
+pub mod TableContent
+pub mod Legible
+pub mod FactSteps
+pub mod Differences
+pub mod Loaded

@@ -11,25 +11,25 @@ ghost use Rattle.std.specs.FinMap.{get};
 ghost use Rattle.office_mail.specs.Kept.{Kept};
 ghost use Rattle.office_mail.specs.Read.{read};
 ghost use Rattle.office_keeper.specs.Provenance.{IsArchPlace, KnowsArchs, upload_in, binary_in};
-ghost use Rattle.table_entries.specs.Tables.{IsTrusted, IsOurs, kept_rows, Lasts};
-ghost use Rattle.table_entries.specs.TableSteps.{IsCrowded, Same};
-ghost use Rattle.table_entries.specs.Legible.{IsWhole, AreNamed};
-ghost use Rattle.table_entries.specs.Entries.{source_map, entry_map};
-ghost use Rattle.table_entries.specs.EntrySteps.{source_columns, entry_columns};
-ghost use Rattle.table_entries.specs.Loaded.{AreLettersOf};
+ghost use Rattle.testing_tables.specs.Tables.{IsTrusted, IsOurs, kept_rows, Lasts};
+ghost use Rattle.testing_tables.specs.TableSteps.{IsCrowded, Same};
+ghost use Rattle.testing_tables.specs.Legible.{IsWhole, AreNamed};
+ghost use Rattle.testing_tables.specs.Entries.{source_map, entry_map};
+ghost use Rattle.testing_tables.specs.EntrySteps.{source_columns, entry_columns};
+ghost use Rattle.testing_tables.specs.Loaded.{AreLettersOf};
 ghost use Rattle.testing_tables.specs.Nearby.{IsKeptAt, read_binary, brought};
-ghost use Rattle.table_entries.specs.TableContent.{own_by, message_at as kept_message, source_as, source_of, row_as, row_of, is_arch_place, ReadsEach, put_all_sources, put_all_rows, IsGathered, suite_in};
+ghost use Rattle.testing_tables.specs.TableContent.{own_by, message_at as kept_message, source_as, source_of, row_as, row_of, is_arch_place, ReadsEach, put_all_sources, put_all_rows, IsGathered, suite_in};
 
+use crate::loaded::{Block, loaded_text, no_block};
 use crate::mail;
 use crate::nearby::{Columns, Listed, bring, message_place};
+use crate::shown::{RowEntry, row_entry, source_entry};
 use deb_control::{Binary, NoMemory};
 use office_keeper::{Cause, KeepFault};
 use office_mail::{Body, MailFault, Message, Setup, read_message};
 use sqlite::{Alter, Connection, Error, Row};
 use std::alloc::Global;
 use std::cmp::Ordering;
-use table_entries::loaded::{Block, loaded_text, no_block};
-use table_entries::shown::{RowEntry, row_entry, source_entry};
 use testing_items::{ALL, Archs, Item};
 use testing_model::{RowIn, SharedBinary, SourceIn};
 use testing_suites::Testing;
@@ -85,7 +85,7 @@ pub fn own_message(
 }
 
 /// The message that is kept at a place.
-#[tactic(auto, unfolding(table_entries::specs::TableContent::message_at))]
+#[tactic(auto, unfolding(crate::specs::TableContent::message_at))]
 fn message_at<S: Alter>(
     alloc: Global,
     conn: &mut Connection<S>,
@@ -108,7 +108,7 @@ fn message_at<S: Alter>(
 }
 
 /// What a text that is kept at a place says.
-#[tactic(auto, unfolding(table_entries::specs::TableContent::message_at))]
+#[tactic(auto, unfolding(crate::specs::TableContent::message_at))]
 fn said_there(
     alloc: Global,
     setup: &Setup,

@@ -3,13 +3,13 @@ ghost use Rattle.std.specs.Prelude.{◌≡◌, ◌≢◌, Err, map, filter, IfOk
 ghost use Rattle.std.specs.List.Sorted.{IsPermutation};
 ghost use Rattle.sqlite.specs.Held.{state};
 ghost use Rattle.sqlite.specs.State.{HasCleanDisk};
-ghost use Rattle.table_entries.specs.Tables.{IsTrusted, Lasts};
-ghost use Rattle.table_entries.specs.TableSteps.{IsInside, WentOn};
-ghost use Rattle.table_entries.specs.FactSteps.{is_fact, is_delays, id_columns, IsFound, TakesFact, TakesDelays, AddsFact, AddsDelays, DropsFact, DropsDelays, DropsOne, AddsOne, DropsEach, AddsEach};
+ghost use Rattle.testing_tables.specs.Tables.{IsTrusted, Lasts};
+ghost use Rattle.testing_tables.specs.TableSteps.{IsInside, WentOn};
+ghost use Rattle.testing_tables.specs.FactSteps.{is_fact, is_delays, id_columns, IsFound, TakesFact, TakesDelays, AddsFact, AddsDelays, DropsFact, DropsDelays, DropsOne, AddsOne, DropsEach, AddsEach};
 
+use crate::rowids::{alone, only_id};
 use office_keeper::{Cause, KeepFault};
 use sqlite::{Alter, Error, Row, Transaction, params};
-use table_entries::rowids::{alone, only_id};
 use testing_model::FactRow;
 
 /// The rowids of a fact, in any order.

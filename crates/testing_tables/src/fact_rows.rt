@@ -6,19 +6,19 @@ ghost use Rattle.sqlite.specs.declared.types.Value.TheVariants.{Int};
 ghost use Rattle.sqlite.specs.Held.{state};
 ghost use Rattle.sqlite.specs.State.{HasCleanDisk};
 ghost use Rattle.office_keeper.specs.FactSet.{rows_in as rows_in_set, set_of_rows};
-ghost use Rattle.table_entries.specs.Tables.{IsTrusted, IsOurs, Lasts};
-ghost use Rattle.table_entries.specs.TableSteps.{Same};
-ghost use Rattle.table_entries.specs.TableContent.{ReadsEach, release_place};
-ghost use Rattle.table_entries.specs.Legible.{AreRead};
-ghost use Rattle.table_entries.specs.FactTables.{fact_entry, may_stand, fact_in, delays_of, facts_in};
-ghost use Rattle.table_entries.specs.FactSteps.{fact_columns, delays_columns, shown_delays, IsOnlyDelays};
+ghost use Rattle.testing_tables.specs.Tables.{IsTrusted, IsOurs, Lasts};
+ghost use Rattle.testing_tables.specs.TableSteps.{Same};
+ghost use Rattle.testing_tables.specs.TableContent.{ReadsEach, release_place};
+ghost use Rattle.testing_tables.specs.Legible.{AreRead};
+ghost use Rattle.testing_tables.specs.FactTables.{fact_entry, may_stand, fact_in, delays_of, facts_in};
+ghost use Rattle.testing_tables.specs.FactSteps.{fact_columns, delays_columns, shown_delays, IsOnlyDelays};
 
+use crate::shown::{number_in, rowid_in};
 use deb_control::NoMemory;
 use office_keeper::{Cause, KeepFault, rows_in_order};
 use office_mail::{Role, Setup};
 use sqlite::{Alter, Connection, Error, Row};
 use std::alloc::Global;
-use table_entries::shown::{number_in, rowid_in};
 use testing_model::{FactRow, FactRows};
 
 /// The place of the release team.

@@ -7,13 +7,13 @@ ghost use Rattle.sqlite.specs.Order.{column};
 ghost use Rattle.sqlite.specs.declared.types.Value.TheVariants.{Int, Blob};
 ghost use Rattle.sqlite.specs.Held.{state};
 ghost use Rattle.sqlite.specs.State.{HasCleanDisk};
-ghost use Rattle.table_entries.specs.Tables.{IsTrusted, IsOurs, kept_rows, Lasts};
-ghost use Rattle.table_entries.specs.TableSteps.{Same, IsCrowded, IsOnly, is_at, is_between, letter_columns, shown_letter, letter_entry, ShowsLetters, rises_from};
+ghost use Rattle.testing_tables.specs.Tables.{IsTrusted, IsOurs, kept_rows, Lasts};
+ghost use Rattle.testing_tables.specs.TableSteps.{Same, IsCrowded, IsOnly, is_at, is_between, letter_columns, shown_letter, letter_entry, ShowsLetters, rises_from};
 
+use crate::faults::unread;
 use office_keeper::{Cause, KeepFault, Letter, MailText};
 use sqlite::{Alter, Connection, Error, Row, params};
 use std::alloc::Global;
-use table_entries::faults::unread;
 
 /// The text in a row that was asked for by its place and number.
 fn text_in(row: &Row, sender: u32, number: u32) -> Result<MailText, KeepFault>

@@ -3,16 +3,16 @@
 ghost use Rattle.std.specs.Prelude.{◌≡◌, Err, Some, OnOk};
 ghost use Rattle.sqlite.specs.Held.{state};
 ghost use Rattle.sqlite.specs.State.{HasCleanDisk};
-ghost use Rattle.table_entries.specs.Tables.{IsTrusted, IsOurs, kept_rows, Lasts};
-ghost use Rattle.table_entries.specs.TableSteps.{IsCrowded, Same};
-ghost use Rattle.table_entries.specs.Loaded.{AreLettersOf};
+ghost use Rattle.testing_tables.specs.Tables.{IsTrusted, IsOurs, kept_rows, Lasts};
+ghost use Rattle.testing_tables.specs.TableSteps.{IsCrowded, Same};
+ghost use Rattle.testing_tables.specs.Loaded.{AreLettersOf};
 
+use crate::loaded::{Block, loaded_text};
 use crate::mail;
+use crate::shown::number_in;
 use office_keeper::{Cause, KeepFault};
 use sqlite::{Alter, Connection, Row};
 use std::alloc::Global;
-use table_entries::loaded::{Block, loaded_text};
-use table_entries::shown::number_in;
 
 /// So many numbers of a sender are loaded at once, at most.
 const BLOCK: u32 = 256;

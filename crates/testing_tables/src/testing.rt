@@ -5,17 +5,17 @@ ghost use Rattle.sqlite.specs.Held.{state};
 ghost use Rattle.sqlite.specs.Tree.{Trees};
 ghost use Rattle.sqlite.specs.State.{HasCleanDisk};
 ghost use Rattle.testing_model.specs.InOrder.{AreByName, AreByKey};
-ghost use Rattle.table_entries.specs.Tables.{IsTrusted, Lasts};
-ghost use Rattle.table_entries.specs.TableSteps.{IsInside, WentOn};
-ghost use Rattle.table_entries.specs.EntrySteps.{source_columns, entry_columns, TakesSource, AddsSource, SetsSources, TakesRow, AddsRow, SetsRows};
-ghost use Rattle.table_entries.specs.Differences.{GoesOn, SourcesCompared, RowsCompared};
+ghost use Rattle.testing_tables.specs.Tables.{IsTrusted, Lasts};
+ghost use Rattle.testing_tables.specs.TableSteps.{IsInside, WentOn};
+ghost use Rattle.testing_tables.specs.EntrySteps.{source_columns, entry_columns, TakesSource, AddsSource, SetsSources, TakesRow, AddsRow, SetsRows};
+ghost use Rattle.testing_tables.specs.Differences.{GoesOn, SourcesCompared, RowsCompared};
 
-use office_keeper::{Cause, KeepFault};
-use sqlite::{Alter, Error, Row, Transaction, params};
-use table_entries::differences::{
+use crate::differences::{
     Change, Compared, name_or_none, number_or_none, row_change, source_change,
 };
-use table_entries::rowids::alone;
+use crate::rowids::alone;
+use office_keeper::{Cause, KeepFault};
+use sqlite::{Alter, Error, Row, Transaction, params};
 use testing_model::{RowIn, SourceIn};
 
 /// The rows of testing's sources, in any order.

@@ -1,10 +1,10 @@
 use Rattle.std.proofs.Common.{◌∙◌, subst, List, ℕ}
 use Rattle.sqlite.specs.Held.{state}
-use Rattle.office_layout.specs.Creating.{IsBlank}
+use Rattle.office_tables.specs.Creating.{IsBlank}
 use Rattle.office_tables.specs.Tables.{IsTrusted}
-use Rattle.office_layout.specs.SetupText.{setup_text}
+use Rattle.office_tables.specs.SetupText.{setup_text}
 use Rattle.office_opening.proofs.OpenLemmas.{new_kept}
-use Rattle.office_layout.proofs.BlankFacts.{new_empty}
+use Rattle.office_tables.proofs.BlankFacts.{new_empty}
 use Rattle.office_opening.proofs.opening.begin.Goals as goal
 
 own : (g : _) (c : goal.After-drop-text-2 g) → IsTrusted (state g.S.Store c.create.new.conn) → IsBlank (state g.S.Store c.create.new.conn).now.trees (record { schema = 2; setup = setup_text c.args.setup.now; finished = 0 })

@@ -1,5 +1,5 @@
 use Rattle.std.proofs.Common.{sym, ◌∙◌}
-use Rattle.office_layout.proofs.SchemaLemmas.{each_before}
+use Rattle.office_tables.proofs.SchemaLemmas.{each_before}
 use Rattle.office_opening.proofs.opening.prepare.Goals as goal
 
 pub returns-then-branch-2-clause-six : goal.returns-then-branch-2-clause-six

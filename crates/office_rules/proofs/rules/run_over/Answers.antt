@@ -7,8 +7,8 @@ use Rattle.testing_rules.specs.Excuses.{excuses_of}
 use Rattle.testing_rules.specs.Updates.{IsUpdate}
 use Rattle.testing_rules.specs.Reports.{excuses_text, update_text}
 use Rattle.testing_rules.specs.Provenance.{IsGivenBy}
-use Rattle.testing_kept.proofs.Giving.{facts_give_update}
-use Rattle.testing_kept.specs.GivenUpdate.{suite_by}
+use Rattle.testing_rules.proofs.Giving.{facts_give_update}
+use Rattle.testing_rules.specs.GivenUpdate.{suite_by}
 use Rattle.testing_model.specs.Updates.{Outcome as Update}
 use Rattle.office_keeper.specs.declared.values.Reports.{Reports}
 use Rattle.office_facts.specs.Outcome.{Outcome, outcome}

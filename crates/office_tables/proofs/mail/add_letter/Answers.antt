@@ -2,7 +2,7 @@ use Rattle.std.proofs.Common.{◌∷◌, [], pos}
 use Rattle.sqlite.specs.declared.types.Value.TheVariants.{Int, Blob}
 use Rattle.sqlite.specs.Held.{state}
 use Rattle.testing_tables.specs.Texts.{keep_text}
-use Rattle.table_entries.specs.TableSteps.{AddsLetter}
+use Rattle.testing_tables.specs.TableSteps.{AddsLetter}
 use Rattle.testing_tables.proofs.StepLemmas.{Stepped, step_went, step_gives, step_open}
 use Rattle.testing_tables.proofs.KeepLemmas.{keeps}
 use Rattle.office_tables.proofs.mail.add_letter.Goals as goal

@@ -5,7 +5,7 @@ use Rattle.sqlite.specs.Effect.{Database}
 use Rattle.sqlite.specs.declared.types.Value.TheVariants.{Int}
 use Rattle.sqlite.specs.Held.{state}
 use Rattle.testing_tables.specs.Texts.{next_text}
-use Rattle.table_entries.specs.TableSteps.{ShowsLeast}
+use Rattle.testing_tables.specs.TableSteps.{ShowsLeast}
 use Rattle.testing_tables.proofs.StateLemmas.{Asked, asked_before, asked_same, asked_rows, asked_open}
 use Rattle.office_tables.proofs.NextFacts.{next_plain, shows_least}
 use Rattle.office_tables.proofs.mail.least_from.Goals as goal

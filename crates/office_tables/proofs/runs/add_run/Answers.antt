@@ -2,7 +2,7 @@ use Rattle.std.proofs.Common.{◌∷◌, [], pos}
 use Rattle.sqlite.specs.declared.types.Value.TheVariants.{Int, Text}
 use Rattle.sqlite.specs.Held.{state}
 use Rattle.testing_tables.specs.Texts.{add_run_text}
-use Rattle.table_entries.specs.TableSteps.{AddsRun}
+use Rattle.testing_tables.specs.TableSteps.{AddsRun}
 use Rattle.testing_tables.proofs.StepLemmas.{Stepped, step_went, step_gives, step_open}
 use Rattle.office_tables.proofs.RunWrites.{adds_run}
 use Rattle.office_tables.proofs.runs.add_run.Goals as goal

@@ -1,7 +1,7 @@
 use Rattle.std.proofs.Common.{[]}
 use Rattle.sqlite.specs.Held.{state}
 use Rattle.testing_tables.specs.Texts.{clear_office_text}
-use Rattle.table_entries.specs.TableSteps.{Silences}
+use Rattle.testing_tables.specs.TableSteps.{Silences}
 use Rattle.testing_tables.proofs.StepLemmas.{Stepped, step_went, step_gives, step_open}
 use Rattle.office_tables.proofs.RunWrites.{silences}
 use Rattle.office_tables.proofs.runs.clear_office.Goals as goal

@@ -5,7 +5,7 @@ use Rattle.sqlite.specs.Tree.{Trees}
 use Rattle.sqlite.specs.Effect.{Database}
 use Rattle.sqlite.specs.Held.{state}
 use Rattle.testing_tables.specs.Texts.{office_text}
-use Rattle.table_entries.specs.TableSteps.{office_columns}
+use Rattle.testing_tables.specs.TableSteps.{office_columns}
 use Rattle.testing_tables.proofs.StateLemmas.{Asked, asked_before, asked_same, asked_rows, asked_open}
 use Rattle.office_tables.proofs.RunLemmas.{shows_office, office_plain}
 use Rattle.office_tables.proofs.runs.office_rows.Goals as goal

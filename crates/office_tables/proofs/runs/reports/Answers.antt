@@ -3,9 +3,9 @@ use Rattle.std.proofs.lemmas.Result.{IfOk-from_err}
 use Rattle.std.specs.FinMap.{get}
 use Rattle.sqlite.specs.Effect.{Database}
 use Rattle.sqlite.specs.Held.{state}
-use Rattle.table_entries.specs.Tables.{said_in, run_map}
+use Rattle.testing_tables.specs.Tables.{said_in, run_map}
 use Rattle.office_keeper.specs.Content.{item_from_one}
-use Rattle.table_entries.specs.TableContent.{reports_to, count_said, no_reports}
+use Rattle.testing_tables.specs.TableContent.{reports_to, count_said, no_reports}
 use Rattle.testing_tables.proofs.Passed.{passed, no_none}
 use Rattle.office_tables.proofs.ReportFacts.{item_past, item_is}
 use Rattle.office_tables.proofs.runs.reports.Goals as goal

@@ -6,7 +6,7 @@ use Rattle.sqlite.specs.Effect.{Database}
 use Rattle.sqlite.specs.declared.types.Value.TheVariants.{Int}
 use Rattle.sqlite.specs.Held.{state}
 use Rattle.testing_tables.specs.Texts.{reports_text}
-use Rattle.table_entries.specs.TableSteps.{is_run, run_columns}
+use Rattle.testing_tables.specs.TableSteps.{is_run, run_columns}
 use Rattle.testing_tables.proofs.StateLemmas.{Asked, asked_before, asked_same, asked_rows, asked_open}
 use Rattle.office_tables.proofs.RunLemmas.{shows_runs, reports_plain}
 use Rattle.office_tables.proofs.runs.run_rows.Goals as goal

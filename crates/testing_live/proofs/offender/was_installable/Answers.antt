@@ -3,7 +3,7 @@ use Rattle.std.proofs.lemmas.List.Folds.{list_any_at}
 use Rattle.testing_model.specs.Moves.{is_same_key, RowAnswer as Answer}
 use Rattle.testing_suites.specs.JudgedRows.{answer}
 use Rattle.testing_model.specs.JudgedRows.{row_of}
-use Rattle.testing_pool.specs.declared.offender.RowAnswer.{RowAnswer}
+use Rattle.testing_suites.specs.declared.offender.RowAnswer.{RowAnswer}
 use Rattle.testing_items.proofs.Tests.{list_any-map, both_true}
 use Rattle.testing_live.proofs.offender.was_installable.Goals as goal
 

@@ -1,8 +1,8 @@
 use Rattle.std.proofs.Common.{arith, ◌≡◌, ◌∙◌, sym, ap, subst, Some, ◌<◌, length}
 use Rattle.std.specs.List.{slice_get}
 use Rattle.std.proofs.lemmas.Option.{slice_get-get_or}
-use Rattle.testing_pool.specs.ArchRows.{IsAfter}
-use Rattle.testing_pool.proofs.Suites.{changed_none, changed_more, changed_all, suite_after}
+use Rattle.testing_suites.specs.ArchRows.{IsAfter}
+use Rattle.testing_suites.proofs.Suites.{changed_none, changed_more, changed_all, suite_after}
 use Rattle.testing_suites.proofs.carried_suites.changed.Goals as goal
 
 pub loop-arch-init : goal.loop-arch-init

@@ -1,4 +1,4 @@
-use Rattle.testing_pool.proofs.Suites.{AreChangedTo}
+use Rattle.testing_suites.proofs.Suites.{AreChangedTo}
 use Rattle.testing_suites.proofs.carried_suites.changed.Given as goal
 
 -- the suites of the first architectures are changed

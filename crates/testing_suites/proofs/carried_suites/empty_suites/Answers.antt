@@ -1,8 +1,8 @@
 use Rattle.std.proofs.Common.{◌∙◌, sym, ap, subst, ◌+◌, length, []}
 use Rattle.std.proofs.lemmas.List.{length_push}
-use Rattle.testing_pool.specs.PresentSteps.{AreSuites, IsSuiteOn}
-use Rattle.testing_pool.proofs.Extending.{suite_of_none}
-use Rattle.testing_pool.proofs.Suites.{are_none, are_more}
+use Rattle.testing_suites.specs.PresentSteps.{AreSuites, IsSuiteOn}
+use Rattle.testing_suites.proofs.Extending.{suite_of_none}
+use Rattle.testing_suites.proofs.Suites.{are_none, are_more}
 use Rattle.testing_suites.proofs.carried_suites.empty_suites.Goals as goal
 
 pub loop-arch-init : goal.loop-arch-init

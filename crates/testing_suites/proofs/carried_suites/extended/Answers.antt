@@ -1,7 +1,7 @@
 use Rattle.std.proofs.Common.{arith, sym, subst, ◌∙◌, ◌+◌, []}
 use Rattle.std.specs.Vec.Iter.{into_iter_items}
 use Rattle.std.proofs.lemmas.List.{nil_from_length}
-use Rattle.testing_pool.proofs.Extending.{AreExtendedTo, left_first, extended_none, extended_more, extended_all}
+use Rattle.testing_suites.proofs.Extending.{AreExtendedTo, left_first, extended_none, extended_more, extended_all}
 use Rattle.testing_suites.proofs.carried_suites.extended.Goals as goal
 
 pub loop-suite-init : goal.loop-suite-init

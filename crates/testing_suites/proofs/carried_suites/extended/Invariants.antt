@@ -1,5 +1,5 @@
 use Rattle.std.specs.Vec.Iter.{into_iter_items}
-use Rattle.testing_pool.proofs.Extending.{AreExtendedTo}
+use Rattle.testing_suites.proofs.Extending.{AreExtendedTo}
 use Rattle.testing_suites.proofs.carried_suites.extended.Given as goal
 
 -- the suites of the first architectures are extended

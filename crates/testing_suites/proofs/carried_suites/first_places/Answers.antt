@@ -1,5 +1,5 @@
 use Rattle.std.proofs.Common.{◌∙◌, ap, ◌++◌, ◌∷◌, []}
-use Rattle.testing_pool.proofs.Parts.{range_more}
+use Rattle.testing_suites.proofs.Parts.{range_more}
 use Rattle.testing_suites.proofs.carried_suites.first_places.Goals as goal
 
 pub loop-place-preserved : goal.loop-place-preserved

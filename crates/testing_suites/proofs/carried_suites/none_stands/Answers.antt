@@ -2,7 +2,7 @@ use Rattle.std.proofs.Common.{arith, ◌∙◌, sym, ap, length, ◌≤◌}
 use Rattle.std.specs.List.{list_any}
 use Rattle.std.proofs.lemmas.List.{take_all}
 use Rattle.testing_install.specs.Closed.{marked}
-use Rattle.testing_pool.proofs.Suites.{none_of}
+use Rattle.testing_suites.proofs.Suites.{none_of}
 use Rattle.testing_suites.proofs.carried_suites.none_stands.Goals as goal
 
 pub returns : goal.returns

@@ -2,7 +2,7 @@ use Rattle.std.proofs.Common.{◌≡◌, ◌∙◌, sym, ap, ◌+◌, ◌++◌, 
 use Rattle.std.specs.List.{range_with_len}
 use Rattle.std.proofs.lemmas.List.Elements.{filter-append}
 use Rattle.testing_install.specs.Closed.{marked}
-use Rattle.testing_pool.proofs.Parts.{range_more}
+use Rattle.testing_suites.proofs.Parts.{range_more}
 use Rattle.testing_suites.proofs.carried_suites.set_places.Goals as goal
 use Rattle.testing_suites.proofs.carried_suites.set_places.Goals.{then-flags-place+in_ok-push, else-flags-place}
 

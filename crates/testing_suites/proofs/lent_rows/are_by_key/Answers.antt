@@ -2,8 +2,8 @@ use Rattle.std.proofs.Common.{arith, ◌≡◌, ◌∙◌, sym, ap, subst, ◌+�
 use Rattle.std.proofs.lemmas.List.{map-append, take_more}
 use Rattle.testing_model.specs.InOrder.{AreByKey}
 use Rattle.testing_model.specs.JudgedRows.{lent, row_of}
-use Rattle.testing_pool.proofs.OneSort.{by_key-behind}
-use Rattle.testing_pool.proofs.Showing.{by_key-none}
+use Rattle.testing_suites.proofs.OneSort.{by_key-behind}
+use Rattle.testing_suites.proofs.Showing.{by_key-none}
 use Rattle.testing_suites.proofs.lent_rows.are_by_key.Goals as goal
 
 pub loop-place-init : goal.loop-place-init

@@ -5,7 +5,7 @@ use Rattle.testing_model.specs.InOrder.{AreByKey}
 use Rattle.testing_model.specs.JudgedRows.{lent, row_of}
 use Rattle.testing_model.specs.Moves.{row_key}
 use Rattle.testing_model.proofs.KeyPlaces.{place-for}
-use Rattle.testing_pool.proofs.Lost.{row_order}
+use Rattle.testing_suites.proofs.Lost.{row_order}
 use Rattle.testing_items.proofs.Mapped.{mapped-insert}
 use Rattle.testing_model.proofs.Ordered.{by_key-put}
 use Rattle.testing_suites.proofs.lent_rows.put_row.Goals as goal

@@ -1,5 +1,5 @@
 use Rattle.std.proofs.Common.{◌≡◌, take}
-use Rattle.testing_pool.specs.AfterMoves.{rows_at}
+use Rattle.testing_suites.specs.AfterMoves.{rows_at}
 use Rattle.testing_model.specs.JudgedRows.{lent}
 use Rattle.testing_suites.proofs.lent_rows.rows_at.Given as goal
 

@@ -1,10 +1,10 @@
 use Rattle.std.proofs.Common.{sym, subst}
-use Rattle.testing_pool.specs.AfterMoves.{rows_at}
+use Rattle.testing_suites.specs.AfterMoves.{rows_at}
 use Rattle.testing_model.specs.InOrder.{AreByKey}
 use Rattle.testing_model.specs.JudgedRows.{lent}
 use Rattle.testing_model.specs.SameMessages.{SameElements}
-use Rattle.testing_pool.proofs.OneSort.{puts-in_order}
-use Rattle.testing_pool.proofs.Showing.{by_key-none}
+use Rattle.testing_suites.proofs.OneSort.{puts-in_order}
+use Rattle.testing_suites.proofs.Showing.{by_key-none}
 use Rattle.testing_suites.proofs.lent_rows.rows_in_order.Goals as goal
 
 pub returns-then-are_by_key : goal.returns-then-are_by_key

@@ -1,4 +1,4 @@
-use Rattle.testing_pool.proofs.OneSort.{same-permuted}
+use Rattle.testing_suites.proofs.OneSort.{same-permuted}
 use Rattle.testing_suites.proofs.lent_rows.sort_rows.Goals as goal
 
 pub returns : goal.returns

@@ -4,7 +4,7 @@ use Rattle.testing_install.specs.Closed.{marked}
 use Rattle.testing_items.proofs.Weaker.{if_ok_weaker}
 use Rattle.testing_model.specs.JudgedRows.{lent}
 use Rattle.testing_model.specs.declared.suite.RowIn.{RowIn}
-use Rattle.testing_pool.specs.Present.{CarriedState, IsShown}
+use Rattle.testing_suites.specs.Present.{CarriedState, IsShown}
 use Rattle.testing_suites.specs.Standing.{AreWanted}
 use Rattle.testing_suites.proofs.StandingFacts.{no_flag_set, shown_as, wanted_none, wanted_shown}
 use Rattle.testing_suites.proofs.standing.over_rows.Goals as goal

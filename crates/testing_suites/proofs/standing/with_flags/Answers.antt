@@ -3,7 +3,7 @@ use Rattle.std.specs.List.{range_with_len}
 use Rattle.testing_install.specs.Among.{after_change}
 use Rattle.testing_install.specs.Closed.{marked}
 use Rattle.testing_items.proofs.Weaker.{if_ok_weaker}
-use Rattle.testing_pool.specs.Present.{CarriedState}
+use Rattle.testing_suites.specs.Present.{CarriedState}
 use Rattle.testing_suites.specs.Standing.{is_alone}
 use Rattle.testing_suites.proofs.StandingFacts.{alone_change, alone_flags}
 use Rattle.testing_suites.proofs.standing.with_flags.Goals as goal

@@ -1,6 +1,6 @@
 use Rattle.testing_model.specs.Moves.{row_key}
 use Rattle.testing_model.proofs.KeyPlaces.{place-for}
-use Rattle.testing_pool.proofs.Lost.{row_order}
+use Rattle.testing_suites.proofs.Lost.{row_order}
 use Rattle.testing_suites.proofs.suite.place_of_row.Goals as goal
 
 pub returns : goal.returns

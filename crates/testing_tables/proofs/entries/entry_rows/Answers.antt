@@ -5,7 +5,7 @@ use Rattle.sqlite.specs.Tree.{Trees}
 use Rattle.sqlite.specs.Effect.{Database}
 use Rattle.sqlite.specs.Held.{state}
 use Rattle.testing_tables.specs.Texts.{rows_text}
-use Rattle.table_entries.specs.EntrySteps.{entry_columns}
+use Rattle.testing_tables.specs.EntrySteps.{entry_columns}
 use Rattle.testing_tables.proofs.StateLemmas.{Asked, asked_before, asked_same, asked_rows, asked_open}
 use Rattle.testing_tables.proofs.EntryShows.{shows_rows, rows_plain}
 use Rattle.testing_tables.proofs.entries.entry_rows.Goals as goal

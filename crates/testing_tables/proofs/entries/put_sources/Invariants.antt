@@ -1,6 +1,6 @@
 use Rattle.std.proofs.Common.{◌≡◌}
 use Rattle.std.specs.Vec.Iter.{into_iter_items}
-use Rattle.table_entries.specs.TableContent.{put_all_sources}
+use Rattle.testing_tables.specs.TableContent.{put_all_sources}
 use Rattle.testing_tables.proofs.entries.put_sources.Given as goal
 
 -- with those that are left, all are put in

@@ -1,12 +1,12 @@
 use Rattle.std.proofs.Common.{◌≡◌, map, take, Some, IfSome}
 use Rattle.sqlite.specs.Held.{state}
 use Rattle.sqlite.specs.State.{HasCleanDisk}
-use Rattle.table_entries.specs.Tables.{IsTrusted, kept_rows, Lasts}
-use Rattle.table_entries.specs.TableSteps.{Same}
+use Rattle.testing_tables.specs.Tables.{IsTrusted, kept_rows, Lasts}
+use Rattle.testing_tables.specs.TableSteps.{Same}
 use Rattle.std.specs.List.{AllByRecursion}
 use Rattle.office_keeper.specs.Provenance.{IsArchPlace}
-use Rattle.table_entries.specs.Loaded.{AreLettersOf}
-use Rattle.table_entries.specs.TableContent.{row_of, message_at}
+use Rattle.testing_tables.specs.Loaded.{AreLettersOf}
+use Rattle.testing_tables.specs.TableContent.{row_of, message_at}
 use Rattle.testing_tables.proofs.entries.read_rows.Given as goal
 
 -- nothing changed, and the rows so far name the rows of testing so far

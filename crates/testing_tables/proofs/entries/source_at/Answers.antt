@@ -1,8 +1,8 @@
 use Rattle.std.proofs.Common.{Some, inr, sym, ◌∙◌}
 use Rattle.std.proofs.lemmas.Result.{IfOk-from_err}
 use Rattle.sqlite.specs.Held.{state}
-use Rattle.table_entries.specs.Tables.{kept_rows}
-use Rattle.table_entries.specs.TableSteps.{IsCrowded}
+use Rattle.testing_tables.specs.Tables.{kept_rows}
+use Rattle.testing_tables.specs.TableSteps.{IsCrowded}
 use Rattle.testing_tables.proofs.EntryReads.{source_none, source_by_parts, source_missing}
 use Rattle.testing_tables.proofs.Passed.{passed}
 use Rattle.testing_tables.proofs.entries.source_at.Goals as goal

@@ -5,7 +5,7 @@ use Rattle.sqlite.specs.Tree.{Trees}
 use Rattle.sqlite.specs.Effect.{Database}
 use Rattle.sqlite.specs.Held.{state}
 use Rattle.testing_tables.specs.Texts.{sources_text}
-use Rattle.table_entries.specs.EntrySteps.{source_columns}
+use Rattle.testing_tables.specs.EntrySteps.{source_columns}
 use Rattle.testing_tables.proofs.StateLemmas.{Asked, asked_before, asked_same, asked_rows, asked_open}
 use Rattle.testing_tables.proofs.EntryShows.{shows_sources, sources_plain}
 use Rattle.testing_tables.proofs.entries.source_rows.Goals as goal

@@ -2,8 +2,8 @@ use Rattle.std.proofs.Common.{◌≡◌, map, take, Some, sym, subst, ◌∙◌}
 use Rattle.std.proofs.lemmas.Result.{IfOk-from_err}
 use Rattle.sqlite.specs.Effect.{Database}
 use Rattle.sqlite.specs.Held.{state}
-use Rattle.table_entries.specs.Tables.{kept_rows}
-use Rattle.table_entries.specs.TableContent.{source_of}
+use Rattle.testing_tables.specs.Tables.{kept_rows}
+use Rattle.testing_tables.specs.TableContent.{source_of}
 use Rattle.testing_tables.proofs.StateLemmas.{lasts_then, clean_before}
 use Rattle.testing_tables.proofs.Passed.{passed, no_none}
 use Rattle.testing_tables.proofs.EntryLists.{read_more}

@@ -1,10 +1,10 @@
 use Rattle.std.proofs.Common.{◌≡◌, map, take, Some}
 use Rattle.sqlite.specs.Held.{state}
 use Rattle.sqlite.specs.State.{HasCleanDisk}
-use Rattle.table_entries.specs.Tables.{IsTrusted, kept_rows, Lasts}
-use Rattle.table_entries.specs.TableSteps.{Same}
-use Rattle.table_entries.specs.Loaded.{AreLettersOf}
-use Rattle.table_entries.specs.TableContent.{source_of}
+use Rattle.testing_tables.specs.Tables.{IsTrusted, kept_rows, Lasts}
+use Rattle.testing_tables.specs.TableSteps.{Same}
+use Rattle.testing_tables.specs.Loaded.{AreLettersOf}
+use Rattle.testing_tables.specs.TableContent.{source_of}
 use Rattle.testing_tables.proofs.entries.sources_at.Given as goal
 
 -- nothing changed, and the rows so far name the sources so far

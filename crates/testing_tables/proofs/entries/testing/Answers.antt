@@ -6,9 +6,9 @@ use Rattle.std.proofs.lemmas.Result.{IfOk-from_err}
 use Rattle.sqlite.specs.Order.{Row}
 use Rattle.sqlite.specs.Effect.{Database}
 use Rattle.sqlite.specs.Held.{state}
-use Rattle.table_entries.specs.Tables.{kept_rows}
-use Rattle.table_entries.specs.EntrySteps.{source_columns, entry_columns}
-use Rattle.table_entries.specs.TableContent.{source_of, row_of, ReadsEach}
+use Rattle.testing_tables.specs.Tables.{kept_rows}
+use Rattle.testing_tables.specs.EntrySteps.{source_columns, entry_columns}
+use Rattle.testing_tables.specs.TableContent.{source_of, row_of, ReadsEach}
 use Rattle.testing_model.specs.declared.suite.RowIn.{RowIn}
 use Rattle.office_keeper.specs.Provenance.{IsArchPlace}
 use Rattle.testing_tables.proofs.StateLemmas.{lasts_then}

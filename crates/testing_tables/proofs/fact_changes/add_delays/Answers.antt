@@ -2,7 +2,7 @@ use Rattle.std.proofs.Common.{arith, ◌∷◌, [], pos}
 use Rattle.sqlite.specs.declared.types.Value.TheVariants.{Int}
 use Rattle.sqlite.specs.Held.{state}
 use Rattle.testing_tables.specs.Texts.{add_delays_text}
-use Rattle.table_entries.specs.FactSteps.{AddsDelays}
+use Rattle.testing_tables.specs.FactSteps.{AddsDelays}
 use Rattle.testing_tables.proofs.StepLemmas.{Stepped, step_went, step_gives, step_open}
 use Rattle.testing_tables.proofs.FactWrites.{adds_delays}
 use Rattle.testing_tables.proofs.fact_changes.add_delays.Goals as goal

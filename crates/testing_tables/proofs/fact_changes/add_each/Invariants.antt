@@ -1,8 +1,8 @@
 use Rattle.std.proofs.Common.{◌≡◌, take}
 use Rattle.sqlite.specs.Held.{state}
-use Rattle.table_entries.specs.Tables.{IsTrusted, Lasts}
+use Rattle.testing_tables.specs.Tables.{IsTrusted, Lasts}
 use Rattle.sqlite.specs.State.{HasCleanDisk}
-use Rattle.table_entries.specs.FactSteps.{AddsEach}
+use Rattle.testing_tables.specs.FactSteps.{AddsEach}
 use Rattle.testing_tables.proofs.StepLemmas.{IsUnderWay}
 use Rattle.testing_tables.proofs.fact_changes.add_each.Given as goal
 

@@ -1,7 +1,7 @@
 use Rattle.std.proofs.Common.{arith}
 use Rattle.sqlite.specs.Held.{state}
 use Rattle.testing_tables.specs.Texts.{add_fact_text}
-use Rattle.table_entries.specs.FactSteps.{AddsFact}
+use Rattle.testing_tables.specs.FactSteps.{AddsFact}
 use Rattle.testing_tables.proofs.StepLemmas.{Stepped, step_went, step_gives, step_open}
 use Rattle.testing_tables.proofs.FactWrites.{adds_fact}
 use Rattle.testing_tables.proofs.FactShows.{fact_params}

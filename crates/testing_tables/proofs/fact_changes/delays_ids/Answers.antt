@@ -4,7 +4,7 @@ use Rattle.sqlite.specs.Order.{Row}
 use Rattle.sqlite.specs.declared.types.Value.TheVariants.{Int}
 use Rattle.sqlite.specs.Held.{state}
 use Rattle.testing_tables.specs.Texts.{delays_ids_text}
-use Rattle.table_entries.specs.FactSteps.{id_columns, is_delays}
+use Rattle.testing_tables.specs.FactSteps.{id_columns, is_delays}
 use Rattle.testing_tables.proofs.FactShows.{delays_ids_plain, shows_delays_ids}
 use Rattle.testing_tables.proofs.InsideLemmas.{AskedInside, inside_before, inside_same, inside_on, inside_rows, inside_err, inside_open}
 use Rattle.testing_tables.proofs.fact_changes.delays_ids.Goals as goal

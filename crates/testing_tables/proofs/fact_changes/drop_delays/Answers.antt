@@ -3,7 +3,7 @@ use Rattle.std.proofs.lemmas.Result.{IfOk-from_err}
 use Rattle.sqlite.specs.Effect.{Database}
 use Rattle.sqlite.specs.Held.{state}
 use Rattle.testing_tables.proofs.StateLemmas.{lasts_then, clean_before}
-use Rattle.table_entries.specs.FactSteps.{is_delays, IsFound}
+use Rattle.testing_tables.specs.FactSteps.{is_delays, IsFound}
 use Rattle.testing_tables.proofs.FactMoves.{drops_no_delays, drops_delays}
 use Rattle.testing_tables.proofs.fact_changes.drop_delays.Goals as goal
 

@@ -3,7 +3,7 @@ use Rattle.std.proofs.lemmas.Result.{IfOk-from_err}
 use Rattle.sqlite.specs.Effect.{Database}
 use Rattle.sqlite.specs.Held.{state}
 use Rattle.testing_tables.proofs.StateLemmas.{lasts_then, clean_before}
-use Rattle.table_entries.specs.FactSteps.{is_fact, IsFound}
+use Rattle.testing_tables.specs.FactSteps.{is_fact, IsFound}
 use Rattle.testing_tables.proofs.FactMoves.{drops_no_fact, drops_a_fact}
 use Rattle.testing_tables.proofs.fact_changes.drop_fact.Goals as goal
 

@@ -3,7 +3,7 @@ use Rattle.std.specs.List.Sorted.{IsPermutation}
 use Rattle.sqlite.specs.Order.{Row}
 use Rattle.sqlite.specs.Held.{state}
 use Rattle.testing_tables.specs.Texts.{fact_ids_text}
-use Rattle.table_entries.specs.FactSteps.{id_columns, is_fact}
+use Rattle.testing_tables.specs.FactSteps.{id_columns, is_fact}
 use Rattle.testing_tables.proofs.FactShows.{fact_ids_plain, shows_fact_ids, fact_params}
 use Rattle.testing_tables.proofs.InsideLemmas.{AskedInside, inside_before, inside_same, inside_on, inside_rows, inside_err, inside_open}
 use Rattle.testing_tables.proofs.fact_changes.fact_ids.Goals as goal

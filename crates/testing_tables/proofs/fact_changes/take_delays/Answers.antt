@@ -2,7 +2,7 @@ use Rattle.std.proofs.Common.{◌∷◌, [], SFits, w64, rules, to_z-of_z}
 use Rattle.sqlite.specs.declared.types.Value.TheVariants.{Int}
 use Rattle.sqlite.specs.Held.{state}
 use Rattle.testing_tables.specs.Texts.{take_delays_text}
-use Rattle.table_entries.specs.FactSteps.{TakesDelays}
+use Rattle.testing_tables.specs.FactSteps.{TakesDelays}
 use Rattle.testing_tables.proofs.StepLemmas.{Stepped, step_counts_on, step_counts, step_open}
 use Rattle.testing_tables.proofs.FactWrites.{takes_delays}
 use Rattle.testing_tables.proofs.fact_changes.take_delays.Goals as goal

@@ -5,7 +5,7 @@ use Rattle.sqlite.specs.Tree.{Trees}
 use Rattle.sqlite.specs.Effect.{Database}
 use Rattle.sqlite.specs.Held.{state}
 use Rattle.testing_tables.specs.Texts.{facts_text}
-use Rattle.table_entries.specs.FactSteps.{fact_columns}
+use Rattle.testing_tables.specs.FactSteps.{fact_columns}
 use Rattle.testing_tables.proofs.StateLemmas.{Asked, asked_before, asked_same, asked_rows, asked_open}
 use Rattle.testing_tables.proofs.FactShows.{shows_facts, facts_plain}
 use Rattle.testing_tables.proofs.fact_rows.fact_rows.Goals as goal

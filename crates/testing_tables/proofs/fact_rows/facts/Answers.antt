@@ -6,9 +6,9 @@ use Rattle.sqlite.specs.Effect.{Database}
 use Rattle.sqlite.specs.Held.{state}
 use Rattle.testing_tables.proofs.StateLemmas.{lasts_then, clean_before}
 use Rattle.office_keeper.specs.FactSet.{rows_in}
-use Rattle.table_entries.specs.TableContent.{ReadsEach, release_place}
-use Rattle.table_entries.specs.FactTables.{fact_in}
-use Rattle.table_entries.specs.FactSteps.{fact_columns, IsOnlyDelays}
+use Rattle.testing_tables.specs.TableContent.{ReadsEach, release_place}
+use Rattle.testing_tables.specs.FactTables.{fact_in}
+use Rattle.testing_tables.specs.FactSteps.{fact_columns, IsOnlyDelays}
 use Rattle.testing_tables.proofs.FactReads.{facts_read, facts_are, delays_shown_one}
 use Rattle.testing_tables.proofs.Passed.{passed}
 use Rattle.testing_tables.proofs.fact_rows.facts.Goals as goal

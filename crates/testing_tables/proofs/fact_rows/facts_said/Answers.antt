@@ -1,6 +1,6 @@
 use Rattle.std.proofs.Common.{inr, [], ◌∷◌, map, sym, ap, ◌∙◌}
 use Rattle.std.proofs.lemmas.List.{map-append}
-use Rattle.table_entries.specs.FactTables.{fact_entry, fact_in}
+use Rattle.testing_tables.specs.FactTables.{fact_entry, fact_in}
 use Rattle.testing_tables.proofs.EntryLists.{read_more}
 use Rattle.testing_tables.proofs.Passed.{passed, no_none}
 use Rattle.testing_tables.proofs.fact_rows.facts_said.Goals as goal

@@ -1,5 +1,5 @@
 use Rattle.std.proofs.Common.{◌≡◌, map, take, Some}
-use Rattle.table_entries.specs.FactTables.{fact_entry, fact_in}
+use Rattle.testing_tables.specs.FactTables.{fact_entry, fact_in}
 use Rattle.testing_tables.proofs.fact_rows.facts_said.Given as goal
 
 -- the rows so far say the facts so far

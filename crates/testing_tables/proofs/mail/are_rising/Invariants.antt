@@ -1,5 +1,5 @@
 use Rattle.std.proofs.Common.{◌≡◌, drop}
-use Rattle.table_entries.specs.TableSteps.{rises_from}
+use Rattle.testing_tables.specs.TableSteps.{rises_from}
 use Rattle.testing_tables.proofs.mail.are_rising.Given as goal
 
 -- whether the letters that are left rise from there on, is whether all do

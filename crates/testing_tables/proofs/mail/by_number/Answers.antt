@@ -1,7 +1,7 @@
 use Rattle.std.proofs.Common.{◌≡◌, true, false, sym, ap, ◌∙◌, rules}
 use Rattle.std.proofs.lemmas.List.Sorted.{IsNonDecreasingBy-from_sort, answers_always}
 use Rattle.office_keeper.specs.declared.values.Letter.{Letter}
-use Rattle.table_entries.specs.TableSteps.{rises_from}
+use Rattle.testing_tables.specs.TableSteps.{rises_from}
 use Rattle.testing_tables.proofs.LoadLemmas.{sorted_rises}
 use Rattle.testing_tables.proofs.mail.by_number.Goals as goal
 

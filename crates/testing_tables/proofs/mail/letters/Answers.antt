@@ -6,7 +6,7 @@ use Rattle.sqlite.specs.Effect.{Database}
 use Rattle.sqlite.specs.declared.types.Value.TheVariants.{Int}
 use Rattle.sqlite.specs.Held.{state}
 use Rattle.testing_tables.specs.Texts.{find_text}
-use Rattle.table_entries.specs.TableSteps.{is_at, letter_columns}
+use Rattle.testing_tables.specs.TableSteps.{is_at, letter_columns}
 use Rattle.testing_tables.proofs.Compiled.{find_plain}
 use Rattle.testing_tables.proofs.StateLemmas.{Asked, asked_before, asked_same, asked_rows, asked_open}
 use Rattle.testing_tables.proofs.MailLemmas.{finds_rows}

@@ -1,6 +1,6 @@
 use Rattle.std.proofs.Common.{[], ◌∷◌, map, sym, ap, ◌∙◌}
 use Rattle.std.proofs.lemmas.List.{map-append}
-use Rattle.table_entries.specs.TableSteps.{shown_letter, letter_entry}
+use Rattle.testing_tables.specs.TableSteps.{shown_letter, letter_entry}
 use Rattle.testing_tables.proofs.EntryLists.{read_more}
 use Rattle.testing_tables.proofs.LoadFacts.{letter_says}
 use Rattle.testing_tables.proofs.Passed.{passed}

@@ -1,6 +1,6 @@
 use Rattle.std.proofs.Common.{sym, subst, arith}
 use Rattle.sqlite.specs.Held.{state}
-use Rattle.table_entries.specs.TableSteps.{ShowsLetters}
+use Rattle.testing_tables.specs.TableSteps.{ShowsLetters}
 use Rattle.testing_tables.proofs.LoadFacts.{loaded_on}
 use Rattle.testing_tables.proofs.LoadLemmas.{shows_letters, few_letters}
 use Rattle.testing_tables.proofs.Passed.{passed}

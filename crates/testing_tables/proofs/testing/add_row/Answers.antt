@@ -2,7 +2,7 @@ use Rattle.std.proofs.Common.{arith, ◌∷◌, [], pos}
 use Rattle.sqlite.specs.declared.types.Value.TheVariants.{Int, Text}
 use Rattle.sqlite.specs.Held.{state}
 use Rattle.testing_tables.specs.Texts.{add_row_text}
-use Rattle.table_entries.specs.EntrySteps.{AddsRow}
+use Rattle.testing_tables.specs.EntrySteps.{AddsRow}
 use Rattle.testing_tables.proofs.StepLemmas.{Stepped, step_went, step_gives, step_open}
 use Rattle.testing_tables.proofs.EntryWrites.{adds_row}
 use Rattle.testing_tables.proofs.testing.add_row.Goals as goal

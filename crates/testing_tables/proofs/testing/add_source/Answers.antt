@@ -2,7 +2,7 @@ use Rattle.std.proofs.Common.{arith, ◌∷◌, [], pos}
 use Rattle.sqlite.specs.declared.types.Value.TheVariants.{Int, Text}
 use Rattle.sqlite.specs.Held.{state}
 use Rattle.testing_tables.specs.Texts.{add_source_text}
-use Rattle.table_entries.specs.EntrySteps.{AddsSource}
+use Rattle.testing_tables.specs.EntrySteps.{AddsSource}
 use Rattle.testing_tables.proofs.StepLemmas.{Stepped, step_went, step_gives, step_open}
 use Rattle.testing_tables.proofs.EntryWrites.{adds_source}
 use Rattle.testing_tables.proofs.testing.add_source.Goals as goal

@@ -3,9 +3,9 @@ use Rattle.std.proofs.lemmas.Result.{IfOk-from_err}
 use Rattle.std.proofs.lemmas.Option.{slice_get_read, slice_get_within}
 use Rattle.deb_control.specs.declared.binary.Binary.{Binary}
 use Rattle.sqlite.specs.Held.{state}
-use Rattle.table_entries.specs.Entries.{entry_in}
-use Rattle.table_entries.specs.EntrySteps.{row_entry}
-use Rattle.table_entries.specs.Differences.{Agrees}
+use Rattle.testing_tables.specs.Entries.{entry_in}
+use Rattle.testing_tables.specs.EntrySteps.{row_entry}
+use Rattle.testing_tables.specs.Differences.{Agrees}
 use Rattle.testing_tables.proofs.StateLemmas.{lasts_same}
 use Rattle.testing_tables.proofs.DifferenceLemmas.{rows_stay, row_leaves, row_comes}
 use Rattle.testing_tables.proofs.testing.change_row.Goals as goal

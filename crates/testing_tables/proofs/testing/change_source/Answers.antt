@@ -2,9 +2,9 @@ use Rattle.std.proofs.Common.{◌<◌, length, refl, subst, arith, SFits, w64, r
 use Rattle.std.proofs.lemmas.Result.{IfOk-from_err}
 use Rattle.std.proofs.lemmas.Option.{slice_get_read, slice_get_within}
 use Rattle.sqlite.specs.Held.{state}
-use Rattle.table_entries.specs.Entries.{source_in}
-use Rattle.table_entries.specs.EntrySteps.{source_entry}
-use Rattle.table_entries.specs.Differences.{Agrees}
+use Rattle.testing_tables.specs.Entries.{source_in}
+use Rattle.testing_tables.specs.EntrySteps.{source_entry}
+use Rattle.testing_tables.specs.Differences.{Agrees}
 use Rattle.testing_tables.proofs.StateLemmas.{lasts_same}
 use Rattle.testing_tables.proofs.DifferenceLemmas.{sources_stay, source_leaves, source_comes}
 use Rattle.testing_tables.proofs.testing.change_source.Goals as goal

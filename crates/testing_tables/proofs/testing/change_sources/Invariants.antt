@@ -1,8 +1,8 @@
 use Rattle.std.proofs.Common.{◌≡◌, ◌≤◌, ◌+◌, ◌-◌, length}
 use Rattle.sqlite.specs.Held.{state}
 use Rattle.sqlite.specs.State.{HasCleanDisk}
-use Rattle.table_entries.specs.Tables.{IsTrusted, Lasts}
-use Rattle.table_entries.specs.Differences.{SourcesCompared}
+use Rattle.testing_tables.specs.Tables.{IsTrusted, Lasts}
+use Rattle.testing_tables.specs.Differences.{SourcesCompared}
 use Rattle.testing_tables.proofs.StepLemmas.{IsUnderWay}
 use Rattle.testing_tables.proofs.testing.change_sources.Given as goal
 

@@ -3,7 +3,7 @@ use Rattle.std.specs.List.Sorted.{IsPermutation}
 use Rattle.sqlite.specs.Order.{Row}
 use Rattle.sqlite.specs.Held.{state}
 use Rattle.testing_tables.specs.Texts.{rows_text}
-use Rattle.table_entries.specs.EntrySteps.{entry_columns}
+use Rattle.testing_tables.specs.EntrySteps.{entry_columns}
 use Rattle.testing_tables.proofs.EntryShows.{rows_plain, shows_rows}
 use Rattle.testing_tables.proofs.InsideLemmas.{AskedInside, inside_before, inside_same, inside_on, inside_rows, inside_err, inside_open}
 use Rattle.testing_tables.proofs.testing.listed_rows.Goals as goal

@@ -3,7 +3,7 @@ use Rattle.std.specs.List.Sorted.{IsPermutation}
 use Rattle.sqlite.specs.Order.{Row}
 use Rattle.sqlite.specs.Held.{state}
 use Rattle.testing_tables.specs.Texts.{sources_text}
-use Rattle.table_entries.specs.EntrySteps.{source_columns}
+use Rattle.testing_tables.specs.EntrySteps.{source_columns}
 use Rattle.testing_tables.proofs.EntryShows.{sources_plain, shows_sources}
 use Rattle.testing_tables.proofs.InsideLemmas.{AskedInside, inside_before, inside_same, inside_on, inside_rows, inside_err, inside_open}
 use Rattle.testing_tables.proofs.testing.listed_sources.Goals as goal

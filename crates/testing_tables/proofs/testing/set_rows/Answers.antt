@@ -6,7 +6,7 @@ use Rattle.sqlite.specs.Effect.{Database}
 use Rattle.sqlite.specs.Tree.{Trees}
 use Rattle.sqlite.specs.Held.{state}
 use Rattle.testing_tables.proofs.StateLemmas.{lasts_then, clean_before}
-use Rattle.table_entries.specs.EntrySteps.{entry_columns}
+use Rattle.testing_tables.specs.EntrySteps.{entry_columns}
 use Rattle.testing_tables.proofs.testing.set_rows.Goals as goal
 
 pub change_rows-requires-clause-shown : goal.change_rows-requires-clause-shown

@@ -6,7 +6,7 @@ use Rattle.sqlite.specs.Effect.{Database}
 use Rattle.sqlite.specs.Tree.{Trees}
 use Rattle.sqlite.specs.Held.{state}
 use Rattle.testing_tables.proofs.StateLemmas.{lasts_then, clean_before}
-use Rattle.table_entries.specs.EntrySteps.{source_columns}
+use Rattle.testing_tables.specs.EntrySteps.{source_columns}
 use Rattle.testing_tables.proofs.testing.set_sources.Goals as goal
 
 pub change_sources-requires-clause-shown : goal.change_sources-requires-clause-shown

@@ -2,7 +2,7 @@ use Rattle.std.proofs.Common.{◌∷◌, [], SFits, w64, rules, to_z-of_z}
 use Rattle.sqlite.specs.declared.types.Value.TheVariants.{Int}
 use Rattle.sqlite.specs.Held.{state}
 use Rattle.testing_tables.specs.Texts.{take_row_text}
-use Rattle.table_entries.specs.EntrySteps.{TakesRow}
+use Rattle.testing_tables.specs.EntrySteps.{TakesRow}
 use Rattle.testing_tables.proofs.StepLemmas.{Stepped, step_counts_on, step_counts, step_open}
 use Rattle.testing_tables.proofs.EntryWrites.{takes_row}
 use Rattle.testing_tables.proofs.testing.take_row.Goals as goal

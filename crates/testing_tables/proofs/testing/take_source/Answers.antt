@@ -2,7 +2,7 @@ use Rattle.std.proofs.Common.{◌∷◌, [], SFits, w64, rules, to_z-of_z}
 use Rattle.sqlite.specs.declared.types.Value.TheVariants.{Int}
 use Rattle.sqlite.specs.Held.{state}
 use Rattle.testing_tables.specs.Texts.{take_source_text}
-use Rattle.table_entries.specs.EntrySteps.{TakesSource}
+use Rattle.testing_tables.specs.EntrySteps.{TakesSource}
 use Rattle.testing_tables.proofs.StepLemmas.{Stepped, step_counts_on, step_counts, step_open}
 use Rattle.testing_tables.proofs.EntryWrites.{takes_source}
 use Rattle.testing_tables.proofs.testing.take_source.Goals as goal

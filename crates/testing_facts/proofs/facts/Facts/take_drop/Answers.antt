@@ -2,7 +2,7 @@ use Rattle.std.proofs.Common.{◌++◌, [], ◌∙◌, ap, arith, map, option_to
 use Rattle.testing_model.specs.Boxed.{unboxed}
 use Rattle.testing_model.specs.FactLists.{FactLists}
 use Rattle.testing_facts.specs.Entries.{with_entry}
-use Rattle.testing_entries.specs.declared.entry.Entry.TheVariants.{Dropped}
+use Rattle.testing_order.specs.declared.entry.Entry.TheVariants.{Dropped}
 use Rattle.testing_facts.proofs.Shifting.{dropped}
 use Rattle.testing_model.specs.FactOrder.{AreByPair, AreDropsByPair}
 use Rattle.testing_model.specs.FactRows.{drop_row}

@@ -1,9 +1,9 @@
 use Rattle.std.proofs.Common.{◌≡◌, ◌∙◌, sym, ap, subst, ◌<◌, length, false}
 use Rattle.std.specs.List.{All}
 use Rattle.testing_install.proofs.Marking.{length-with_all}
-use Rattle.testing_pool.specs.Present.{CarriedState}
-use Rattle.testing_pool.specs.PresentSteps.{AreSuites}
-use Rattle.testing_pool.proofs.Suites.{length-after, flags_are}
+use Rattle.testing_suites.specs.Present.{CarriedState}
+use Rattle.testing_suites.specs.PresentSteps.{AreSuites}
+use Rattle.testing_suites.proofs.Suites.{length-after, flags_are}
 use Rattle.testing_suites.proofs.carried_suites.CarriedSuites.after.Goals as goal
 
 pub set_flags-requires-2 : goal.set_flags-requires-2

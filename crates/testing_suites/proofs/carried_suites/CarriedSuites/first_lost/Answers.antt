@@ -1,4 +1,4 @@
-use Rattle.testing_pool.proofs.Suites.{over_of}
+use Rattle.testing_suites.proofs.Suites.{over_of}
 use Rattle.testing_suites.proofs.carried_suites.CarriedSuites.first_lost.Goals as goal
 
 pub lost_anywhere-requires-clause-over : goal.lost_anywhere-requires-clause-over

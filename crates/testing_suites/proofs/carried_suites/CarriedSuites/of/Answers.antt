@@ -3,10 +3,10 @@ use Rattle.std.specs.List.{range_with_len}
 use Rattle.testing_install.specs.Among.{after_change}
 use Rattle.testing_install.specs.Closed.{marked}
 use Rattle.testing_model.specs.JudgedRows.{lent}
-use Rattle.testing_pool.specs.Present.{CarriedState, IsShown}
+use Rattle.testing_suites.specs.Present.{CarriedState, IsShown}
 use Rattle.testing_model.specs.declared.suite.RowIn.{RowIn}
-use Rattle.testing_pool.proofs.Extending.{all_shown}
-use Rattle.testing_pool.proofs.Suites.{firsts_within}
+use Rattle.testing_suites.proofs.Extending.{all_shown}
+use Rattle.testing_suites.proofs.Suites.{firsts_within}
 use Rattle.testing_items.proofs.Weaker.{if_ok_weaker}
 use Rattle.testing_suites.proofs.carried_suites.CarriedSuites.of.Goals as goal
 

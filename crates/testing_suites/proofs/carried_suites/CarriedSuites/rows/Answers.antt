@@ -1,9 +1,9 @@
 use Rattle.std.proofs.Common.{subst}
-use Rattle.testing_pool.specs.AfterMoves.{rows_at}
+use Rattle.testing_suites.specs.AfterMoves.{rows_at}
 use Rattle.testing_model.specs.InOrder.{AreByKey}
 use Rattle.testing_model.specs.JudgedRows.{lent}
-use Rattle.testing_pool.specs.PresentSteps.{set_places}
-use Rattle.testing_pool.proofs.OneSort.{puts-in_order}
+use Rattle.testing_suites.specs.PresentSteps.{set_places}
+use Rattle.testing_suites.proofs.OneSort.{puts-in_order}
 use Rattle.testing_suites.proofs.carried_suites.CarriedSuites.rows.Goals as goal
 
 pub returns-then-are_by_key : goal.returns-then-are_by_key

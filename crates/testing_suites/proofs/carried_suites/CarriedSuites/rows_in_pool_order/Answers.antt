@@ -1,14 +1,14 @@
 use Rattle.std.proofs.Common.{◌≡◌, ◌∙◌, sym, ap, subst, ◌<◌, length, filter}
 use Rattle.std.specs.List.{All, slice_get}
 use Rattle.testing_install.specs.Closed.{marked}
-use Rattle.testing_pool.specs.AfterMoves.{rows_at}
+use Rattle.testing_suites.specs.AfterMoves.{rows_at}
 use Rattle.testing_model.specs.JudgedRows.{lent}
-use Rattle.testing_pool.specs.Pools.{HasPlaces}
+use Rattle.testing_suites.specs.Pools.{HasPlaces}
 use Rattle.testing_model.specs.SameMessages.{SameElements}
-use Rattle.testing_pool.specs.Present.{CarriedState}
-use Rattle.testing_pool.specs.PresentSteps.{set_places}
-use Rattle.testing_pool.proofs.Flags.{bounded_filter}
-use Rattle.testing_pool.proofs.Merging.{same_places}
+use Rattle.testing_suites.specs.Present.{CarriedState}
+use Rattle.testing_suites.specs.PresentSteps.{set_places}
+use Rattle.testing_suites.proofs.Flags.{bounded_filter}
+use Rattle.testing_suites.proofs.Merging.{same_places}
 use Rattle.testing_model.proofs.Sets.{same-given}
 use Rattle.testing_items.proofs.Weaker.{if_ok_weaker}
 use Rattle.testing_suites.proofs.carried_suites.CarriedSuites.rows_in_pool_order.Goals as goal

@@ -1,11 +1,11 @@
 use Rattle.std.proofs.Common.{◌≡◌, ◌∙◌, sym, ap, subst, ◌<◌, List, length, []}
 use Rattle.std.specs.List.{All}
-use Rattle.testing_pool.specs.AfterMoves.{with_rows, rows_at}
+use Rattle.testing_suites.specs.AfterMoves.{with_rows, rows_at}
 use Rattle.testing_model.specs.JudgedRows.{lent}
-use Rattle.testing_pool.specs.Present.{CarriedState}
-use Rattle.testing_pool.specs.PresentSteps.{set_places}
+use Rattle.testing_suites.specs.Present.{CarriedState}
+use Rattle.testing_suites.specs.PresentSteps.{set_places}
 use Rattle.testing_model.specs.declared.suite.RowIn.{RowIn}
-use Rattle.testing_pool.proofs.Showing.{set_places-within}
+use Rattle.testing_suites.proofs.Showing.{set_places-within}
 use Rattle.testing_items.proofs.Weaker.{if_ok_weaker}
 use Rattle.testing_suites.proofs.carried_suites.CarriedSuites.sorted_rows.Goals as goal
 

@@ -1,10 +1,10 @@
 use Rattle.std.proofs.Common.{arith, ◌≡◌, ◌∙◌, sym, ap, ap₂, subst, ◌-◌, ◌++◌, length, take, replicate, false, List, Bool}
 use Rattle.testing_install.proofs.Marking.{grown_to}
 use Rattle.testing_model.specs.JudgedRows.{lent}
-use Rattle.testing_pool.specs.Present.{CarriedState}
-use Rattle.testing_pool.specs.PresentSteps.{AreOver, AreSuites}
+use Rattle.testing_suites.specs.Present.{CarriedState}
+use Rattle.testing_suites.specs.PresentSteps.{AreOver, AreSuites}
 use Rattle.testing_model.specs.declared.suite.RowIn.{RowIn}
-use Rattle.testing_pool.proofs.Extending.{longer_from, longer_over, longer_flags, longer_kept}
+use Rattle.testing_suites.proofs.Extending.{longer_from, longer_over, longer_flags, longer_kept}
 use Rattle.testing_suites.proofs.carried_suites.CarriedSuites.with_rows.Goals as goal
 
 pub extended-requires-clause-over : goal.extended-requires-clause-over

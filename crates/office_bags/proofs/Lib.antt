@@ -1,3 +1,0 @@
-pub mod HeaderFacts
-pub mod BagFacts
-pub mod BagLaw

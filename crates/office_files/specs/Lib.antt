@@ -1,2 +1,0 @@
-pub mod Conf
-pub mod Store

@@ -1,0 +1,25 @@
+-- Setups read from a file, and exit statuses.
+use Rattle.std.specs.Prelude.{ℕ, Option, List, take, Result, Ok, Err}
+use Rattle.office_store.specs.declared.conf.ConfFault.{ConfFault}
+use Rattle.office_store.specs.declared.conf.ConfFault.TheVariants.{Refused, Unreadable}
+use Rattle.office_setup.specs.declared.setup.SetupFault.{SetupFault}
+use Rattle.office_setup.specs.declared.setup.SetupFault.TheVariants.{BadParagraph, MissingField, BadArchitecture, BadSender, BadRoles, TooMany, NoMemory}
+
+-- of a file no more is read than one byte beyond the longest setup
+unfoldable pub front : List ℕ → List ℕ
+front bytes = take 65_537 bytes
+
+-- the exit status for a setup that is refused: 4 for want of memory, else 3
+abbrev pub status_of_fault : SetupFault → ℕ
+status_of_fault NoMemory = 4
+status_of_fault BadParagraph = 3
+status_of_fault (MissingField field) = 3
+status_of_fault BadArchitecture = 3
+status_of_fault BadSender = 3
+status_of_fault BadRoles = 3
+status_of_fault TooMany = 3
+
+-- the exit status where there is no setup: 4 where its file can't be read
+abbrev pub status_of_conf : ConfFault → ℕ
+status_of_conf (Unreadable fault) = 4
+status_of_conf (Refused fault) = status_of_fault fault

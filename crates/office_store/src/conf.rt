@@ -1,0 +1,61 @@
+//! The setup's file.
+
+ghost use Rattle.std.specs.Prelude.{◌≡◌, IfOk, IfSome};
+ghost use Rattle.office_store.specs.Conf.{front, status_of_conf, status_of_fault};
+
+use office_mail::{Setup, SetupFault};
+use std::alloc::Global;
+use std::io::Read;
+use std::{fs, io};
+use thiserror::Error;
+
+/// One byte more than the longest setup has.
+const ENOUGH: u64 = 65_537;
+
+/// Why there is no setup in a file.
+#[derive(Clone, Copy, Debug, Error)]
+pub enum ConfFault {
+    #[error("the file can't be read: {0}")]
+    Unreadable(io::Error),
+    #[error("the setup is refused: {0}")]
+    Refused(SetupFault),
+}
+
+/// The setup in a file. Of a file that is too long for a setup no more is read than shows it.
+pub fn read_setup(rt: &HostRuntime, path: &str) -> Result<Setup, ConfFault> {
+    let file = fs::open(rt, path).map_err(ConfFault::Unreadable)?;
+    let text = read_front(rt.alloc(), file).map_err(ConfFault::Unreadable)?;
+    match Setup::parse(rt.alloc(), &text) {
+        Ok(setup) => Ok(setup),
+        Err(fault) => Err(ConfFault::Refused(fault)),
+    }
+}
+
+/// What a reader gives, but for what stands beyond the longest setup and one byte more.
+fn read_front<R: Read + Drop>(alloc: Global, reader: R) -> io::Result<Vec<u8>>
+    ensures { IfOk result (λ bytes. IfSome (R.remaining reader) (λ all. bytes.items ≡ front all)) }
+{
+    let mut bytes = Vec::new(alloc);
+    reader.take(ENOUGH).read_to_end(&mut bytes)?;
+    Ok(bytes)
+}
+
+/// The exit status for a setup's fault: 4 for want of memory, 3 for any other.
+pub fn setup_status(fault: &SetupFault) -> u8
+    ensures { result ≡ status_of_fault fault.now }
+{
+    match fault {
+        SetupFault::NoMemory => 4,
+        _ => 3,
+    }
+}
+
+/// The exit status where there is no setup: 4 where the file can't be read.
+pub fn conf_status(fault: &ConfFault) -> u8
+    ensures { result ≡ status_of_conf fault.now }
+{
+    match fault {
+        ConfFault::Unreadable(_) => 4,
+        ConfFault::Refused(fault) => setup_status(fault),
+    }
+}

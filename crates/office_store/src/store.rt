@@ -1,0 +1,147 @@
+//! The store in a file: its tables are opened, and closed.
+
+ghost use Rattle.std.specs.Prelude.{◌≡◌, None, IfOk, OnOk};
+ghost use Rattle.sqlite.specs.Files as files;
+ghost use Rattle.sqlite.specs.Files.{file_state};
+ghost use Rattle.sqlite.specs.Held.{state, IsNew};
+ghost use Rattle.sqlite.specs.Start.{FindsIn};
+ghost use Rattle.sqlite.specs.State.{HasCleanDisk};
+ghost use Rattle.sqlite.specs.WalFiles.{image_at};
+ghost use Rattle.office_store.specs.Opening.{IsOpened, IsAlone, IsTakeable};
+ghost use Rattle.office_store.specs.Tables.{IsTrusted, Endures};
+ghost use Rattle.office_store.specs.Store.{FindsStore, OpensStore, status_of_store, told};
+
+use crate::{Cause, OpenFault, Tables};
+use office_mail::Setup;
+use sqlite::{Alter, Connection, ErrorCode, FileFrom, FileStore, Start};
+use sqlite_disk::Disk;
+use std::alloc::Global;
+use thiserror::Error;
+
+/// Why there is no store in a file, or why one wasn't closed.
+#[derive(Clone, Copy, Debug, PartialEq, Eq, Error)]
+pub enum StoreFault {
+    #[error("the store can't be opened: out of memory: give the program more memory")]
+    NoMemory,
+    /// The file isn't there and can't be made, is in use, or is no sound database.
+    #[error("the store can't be opened: {0}: {remedy}", remedy = remedy(.0))]
+    Unopened(sqlite::Error),
+    #[error("the store was made for another setup: name that setup, or another file")]
+    OtherSetup,
+    #[error("the file has other tables than a store that this program reads: name another file")]
+    UnknownSchema,
+    /// A store of an earlier version, which can't be migrated.
+    #[error("the store is of an earlier version, and lacks an order, or has a text among its orders and its release mail that is no message of its own: put a copy in its place")]
+    Unreadable,
+    /// The database was opened, and then refused to make or to read the tables.
+    #[error("the store failed: {0}: {remedy}", remedy = remedy(.0))]
+    Failed(sqlite::Error),
+    /// What was kept stands in the log beside the file.
+    #[error("the store's log wasn't copied into its file: {0}: {remedy}: what was kept stands, so leave the log beside it", remedy = remedy(.0))]
+    Unclosed(sqlite::Error),
+}
+
+/// What to do about a refusal of sqlite.
+fn remedy(error: &sqlite::Error) -> &'static str {
+    let sqlite::Error::SqliteFailure(code) = error else {
+        return "name another file, or put a copy in its place";
+    };
+    match code {
+        ErrorCode::CannotOpen =>
+            "see that it is a plain file, and that the program may read and write it and its folder",
+        ErrorCode::DatabaseBusy => "end the program that has it open",
+        ErrorCode::DiskFull => "make room on the disk, and start again",
+        ErrorCode::SystemIoFailure | ErrorCode::Closed => "see to the disk, and start again",
+        ErrorCode::OutOfMemory => "give the program more memory",
+        _ => "name another file, or put a copy in its place",
+    }
+}
+
+/// The exit status for a fault of the store: 4.
+pub fn store_status(fault: &StoreFault) -> u8
+    ensures { result ≡ status_of_store fault.now }
+{
+    match fault {
+        StoreFault::NoMemory
+        | StoreFault::Unopened(_)
+        | StoreFault::OtherSetup
+        | StoreFault::UnknownSchema
+        | StoreFault::Unreadable
+        | StoreFault::Failed(_)
+        | StoreFault::Unclosed(_) => 4,
+    }
+}
+
+/// What a fault of opening the tables is told as.
+fn told(fault: OpenFault) -> StoreFault
+    ensures { result ≡ told fault }
+{
+    match fault {
+        OpenFault::NoMemory => StoreFault::NoMemory,
+        OpenFault::OtherSetup => StoreFault::OtherSetup,
+        OpenFault::UnknownSchema => StoreFault::UnknownSchema,
+        OpenFault::Store(Cause::BadRow) => StoreFault::Unreadable,
+        OpenFault::Store(Cause::Sqlite(error)) => StoreFault::Failed(error),
+    }
+}
+
+/// The office's tables over a connection. One that is refused is dropped, with its database as it was.
+pub fn open_tables<S: Alter + Drop>(
+    alloc: Global,
+    conn: Connection<S>,
+    setup: &Setup,
+) -> Result<Tables<S>, StoreFault>
+    ensures opened { IfOk result (λ tables. IsTrusted (state S.Store tables.conn) → IsOpened setup.now (state S.Store conn).now (state S.Store tables.conn).now) }
+    ensures before { IfOk result (λ tables. IsTrusted (state S.Store tables.conn) → IsTrusted (state S.Store conn)) }
+    ensures stays { IfOk result (λ tables. HasCleanDisk (state S.Store tables.conn) → IsTrusted (state S.Store conn) → IsAlone (state S.Store conn).now → IsTrusted (state S.Store tables.conn)) }
+    ensures lasts { IfOk result (λ tables. Endures (state S.Store conn) (state S.Store tables.conn)) }
+    ensures takes { OnOk result (IsTakeable (state S.Store conn).now.schema) }
+    ensures setup { IfOk result (λ tables. tables.setup ≡ setup.now) }
+    ensures memory { IfOk result (λ tables. tables.in_memory ≡ None) }
+{
+    match Tables::open(alloc, conn, setup) {
+        Ok(tables) => Ok(tables),
+        Err((fault, _conn)) => Err(told(fault)),
+    }
+}
+
+/// The database in a file, which is made where there is none. `S` says what the file and its log hold.
+fn open_database<S: Start>(
+    rt: &HostRuntime,
+    path: &str,
+    start: S,
+) -> Result<Connection<FileStore<FileFrom<S>>>, StoreFault>
+    ensures opened { IfOk result (λ conn. HasCleanDisk (file_state conn) → files.IsOpened conn) }
+    ensures found { IfOk result (λ conn. HasCleanDisk (file_state conn) → FindsIn (image_at S.Start) (file_state conn)) }
+    ensures fresh { IfOk result IsNew }
+{
+    match Connection::open_from(rt, path, false, start) {
+        Ok(conn) => Ok(conn),
+        Err((error, _left)) => Err(StoreFault::Unopened(error)),
+    }
+}
+
+/// The store in a file, which is made where there is none. `S` says what the file and its log hold.
+pub fn open_store<S: Start>(
+    rt: &HostRuntime,
+    path: &str,
+    start: S,
+    setup: &Setup,
+) -> Result<Tables<FileStore<FileFrom<S>>>, StoreFault>
+    ensures opens { IfOk result (λ tables. HasCleanDisk (file_state tables.conn) → OpensStore (image_at S.Start) tables.conn) }
+    ensures finds { IfOk result (λ tables. IsTrusted (file_state tables.conn) → FindsStore (image_at S.Start) setup.now tables.conn) }
+    ensures setup { IfOk result (λ tables. tables.setup ≡ setup.now) }
+    ensures memory { IfOk result (λ tables. tables.in_memory ≡ None) }
+{
+    let conn = open_database(rt, path, start)?;
+    let tables = open_tables(rt.alloc(), conn, setup)?;
+    Ok(tables)
+}
+
+/// Copies what a store in a file has in its log into the file, and closes both.
+pub fn close_store<D: Disk + Drop>(tables: Tables<FileStore<D>>) -> Result<(), StoreFault> {
+    tables
+        .into_connection()
+        .close()
+        .map_err(StoreFault::Unclosed)
+}

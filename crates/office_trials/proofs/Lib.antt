@@ -1,7 +1,0 @@
-pub mod CountFacts
-pub mod CoveredFacts
-pub mod HintFacts
-pub mod NextFacts
-pub mod OneFacts
-pub mod OutcomeFacts
-pub mod TryFacts

@@ -1,4 +1,0 @@
-pub mod Counting
-pub mod Hints
-pub mod NextRun
-pub mod Trial

@@ -1,4 +1,0 @@
-pub mod Changes
-pub mod Sources
-pub mod LentLines
-pub mod Tried

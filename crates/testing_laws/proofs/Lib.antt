@@ -1,2 +1,0 @@
-pub mod Allowing
-pub mod Leaving

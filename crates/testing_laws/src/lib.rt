@@ -1,4 +1,0 @@
-//! What the rules promise over whole runs: statements for a reader who trusts no step.
-#![tactic(auto)]
-
-pub mod laws;

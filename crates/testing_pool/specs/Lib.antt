@@ -1,9 +1,0 @@
-pub mod AfterMoves
-pub mod ArchRows
-pub mod Changes
-pub mod JudgedRows
-pub mod Pools
-pub mod Present
-pub mod PresentSteps
-pub mod Trials
-pub mod Tried

@@ -1,0 +1,13 @@
+pub mod Allowing
+pub mod Leaving
+pub mod AllCame
+pub mod BesideTesting
+pub mod FallenNames
+pub mod Giving
+pub mod Logging
+pub mod Naming
+pub mod Orderly
+pub mod Restoring
+pub mod Telling
+pub mod Once
+pub mod Said
