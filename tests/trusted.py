@@ -21,7 +21,7 @@ from collections import defaultdict
 from pathlib import Path
 
 USERS = ['deb_version', 'deb_control', 'testing_install', 'testing_rules', 'office_mail', 'office_store',
-         'office_questions', 'office_checks', 'office_http', 'office_words', 'office_files', 'office_commands',
+         'office_questions', 'office_checks', 'office_http', 'office_words', 'office_commands',
          'office']
 STEPS = '-- Steps: no contract of a call that users make rests on this file.'
 CLAUSE = re.compile(r'\b(requires|ensures|before)\b\s*[\w-]*\s*$')
