@@ -48,6 +48,11 @@ def unpack(library, folder):
                     module.write(archive.read(length))
 
 
+def linked(folder, to):
+    """Makes a folder of the same files, which neither's checks change in place."""
+    shutil.copytree(folder, to, copy_function=os.link)
+
+
 def text_of(crate, path):
     with open(f"{crate.folder}/{path}", encoding="utf-8") as file:
         return file.read()
@@ -172,7 +177,7 @@ class Trials:
     def try_together(self, crate, changes, flags, room):
         """Tries changes of the bodies of different functions in one check, and notes those that are refused."""
         over = f"{room}/together"
-        self.kit.linked(f"{room}/seed", over)
+        linked(f"{room}/seed", over)
         ran = self.checked_by_kit(crate, with_changes(crate, changes), [*flags, *only(changes)], over)
         shutil.rmtree(over, ignore_errors=True)
         if not is_refused(crate, ran, changes):
@@ -188,7 +193,8 @@ class Trials:
         """The work that a crate's edits are tried over: the modules of its library. Those edits that can be tried together
         are tried here. If the library can't be read, it is what the kit would take with no start."""
         room = tempfile.mkdtemp(prefix=f"rt-edits-{os.getpid()}-")
-        self.kit.SEEDS.append(room)
+        # (the folders that kit 13f removes at its end)
+        getattr(self.kit, "SEEDS", []).append(room)
         seed = f"{room}/seed"
         try:
             os.mkdir(seed)

@@ -13,6 +13,9 @@ change, and of what these call. The edits in the bodies of different functions a
 on the contracts of what the function calls, and not on their bodies. Such an edit is refused if the prover complains of the
 function that it changes, and says of each unchanged one that it is proved, or calls one that isn't. Each other edit is tried
 alone, on its function, or else on the whole crate. The crate as it stands is proved before.
+
+The kit's own functions differ from kit to kit: 13f adds a task for each crate's edits (`add_edits`), and takes NAME and
+--anew; 13b has one function for them (`must_fail_all`), and proves all.
 """
 import contextlib
 import functools
@@ -21,6 +24,7 @@ import importlib.util
 import os
 import shutil
 import sys
+import tempfile
 
 if not shutil.which("rt"):
     sys.exit(__doc__)
@@ -34,7 +38,7 @@ sys.path.insert(0, os.path.dirname(os.path.realpath(__file__)))
 import edits
 import lanes
 
-prove, add_edits, seeded, checked = rt.Crate.ci, rt.add_edits, rt.seeded, rt.checked
+prove, checked = rt.Crate.ci, rt.checked
 # The kit walks each path down to a library anew, which took a minute at the start.
 below = functools.cache(rt.Crate.below)
 # The kit plans on twice the memory that these checks take.
@@ -51,13 +55,43 @@ def prove_for_edits(crate, flags, tests):
     return status
 
 
-def add_edits_behind(tasks, crate, edits, first, waits, is_well, kept):
-    """Adds the tasks of a crate's edits, which wait for its proof and begin with its library, also if there is only one."""
-    return add_edits(tasks, crate, edits, [*first, (crate.name, "proof")], waits, is_well, kept, start=crate.rlib)
+def seeded_with_nothing(crate, flags, start=None):
+    """The folder in which kit 13b keeps the work of a crate's edits: an empty one."""
+    room = tempfile.mkdtemp(prefix=f"rt-edits-{os.getpid()}-")
+    os.mkdir(f"{room}/seed")
+    return room
 
 
-trials = edits.Trials(rt, checked, seeded)
-rt.Crate.ci, rt.add_edits, rt.seeded, rt.checked = prove_for_edits, add_edits_behind, trials.seeded, trials.checked
+def must_fail_all(crate, all_edits, flags):
+    """Tries a crate's edits, in the place of the function of kit 13b: over what the crate's proof has checked. As the kit
+    has it, an edit that isn't refused so is tried again from nothing."""
+    room = trials.seeded(crate, flags)
+    seed, over = f"{room}/seed", f"{room}/edit"
+    try:
+        tried = []
+        for edit in all_edits:
+            edits.linked(seed, over)
+            tried.append(rt.must_fail(crate, edit, flags, over))
+            shutil.rmtree(over, ignore_errors=True)
+        is_sound = not rt.checked(crate, {}, flags, seed).returncode
+    finally:
+        shutil.rmtree(room, ignore_errors=True)
+    return [it if is_sound and it[0] else rt.must_fail(crate, edit, flags) for edit, it in zip(all_edits, tried)]
+
+
+trials = edits.Trials(rt, checked, getattr(rt, "seeded", seeded_with_nothing))
+if hasattr(rt, "add_edits"):
+    add_edits = rt.add_edits
+
+    def add_edits_behind(tasks, crate, edits, first, waits, is_well, kept):
+        """Adds the tasks of a crate's edits, which wait for its proof and begin with its library, also if there is one."""
+        behind = [*first, (crate.name, "proof")]
+        return add_edits(tasks, crate, edits, behind, waits, is_well, kept, start=crate.rlib)
+
+    rt.add_edits, rt.seeded = add_edits_behind, trials.seeded
+else:
+    rt.must_fail_all = must_fail_all
+rt.Crate.ci, rt.checked = prove_for_edits, trials.checked
 rt.Crate.below = lambda crate: [*below(crate)]
 rt.need = lambda crate: need(crate) // 2
 rt.in_lanes = lambda tasks: lanes.Lanes(rt).run(tasks)

@@ -6,6 +6,7 @@ lower priority, so they take what the proofs leave idle, and no proof waits for 
 """
 import collections
 import concurrent.futures
+import contextlib
 import os
 import threading
 from typing import NamedTuple
@@ -96,7 +97,7 @@ class Lanes:
         that it waits for, its lines, its memory, and a call of what was given and of a number of jobs."""
         behind = work_behind(tasks)
         left = sorted(tasks, key=lambda key: (not is_proof(key), -behind[key]))
-        with self.kit.ending():
+        with getattr(self.kit, "ending", contextlib.nullcontext)():
             while left or self.running:
                 self.begin_ready(tasks, left, behind)
                 ended, _ = concurrent.futures.wait(self.running, return_when=concurrent.futures.FIRST_COMPLETED)
