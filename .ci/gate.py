@@ -65,6 +65,8 @@ def seeded_with_nothing(crate, flags, start=None):
 def must_fail_all(crate, all_edits, flags):
     """Tries a crate's edits, in the place of the function of kit 13b: over what the crate's proof has checked. As the kit
     has it, an edit that isn't refused so is tried again from nothing."""
+    if not all_edits:
+        return []
     room = trials.seeded(crate, flags)
     seed, over = f"{room}/seed", f"{room}/edit"
     try:

@@ -8,7 +8,7 @@ use Rattle.sqlite.specs.Tree.{Trees}
 use Rattle.office_mail.specs.Kept.{Place, place_cmp}
 use Rattle.office_mail.specs.Lists.{Lists}
 use Rattle.office_keeper.specs.declared.values.Reports.{Reports}
-use Rattle.office_tables.specs.declared.said.Said.{Said}
+use Rattle.testing_tables.specs.declared.said.Said.{Said}
 use Rattle.std.specs.Ordering.{nat_cmp}
 use Rattle.testing_items.specs.Words.{byte_cmp}
 use Rattle.testing_model.specs.Moves.{row_cmp}

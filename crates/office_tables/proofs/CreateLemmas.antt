@@ -15,7 +15,7 @@ use Rattle.sqlite_tied.specs.Compute.{everything}
 use Rattle.office_tables.specs.Layout.{no_schema, office, mail, run, testing_source, testing_row, fact, fact_delays}
 use Rattle.office_tables.specs.Texts.{create_office_text, create_mail_text, create_run_text, create_testing_source_text, create_testing_row_text, create_fact_text, create_fact_delays_text}
 use Rattle.sqlite.specs.Tree.{Trees, put_row}
-use Rattle.office_tables.specs.declared.said.Said.{Said}
+use Rattle.testing_tables.specs.declared.said.Said.{Said}
 use Rattle.office_tables.specs.Tables.{IsTrusted, said_in}
 use Rattle.office_tables.specs.TableSteps.{Rows, SaysMore}
 use Rattle.office_tables.proofs.RunLemmas.{said_one}

@@ -2,7 +2,7 @@
 use Rattle.std.specs.Prelude.{◌≡◌, [], ◌∷◌, Some}
 use Rattle.sqlite.specs.Order.{Row}
 use Rattle.sqlite.specs.Tree.{Trees}
-use Rattle.office_tables.specs.declared.said.Said.{Said}
+use Rattle.testing_tables.specs.declared.said.Said.{Said}
 use Rattle.office_tables.specs.Tables.{office_in, said_in}
 
 -- the tables stand: the office says this in its one row, and all else is empty
