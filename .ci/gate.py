@@ -39,8 +39,9 @@ import edits
 import lanes
 
 prove, checked = rt.Crate.ci, rt.checked
-# The kit walks each path down to a library anew, which took a minute at the start.
-below = functools.cache(rt.Crate.below)
+# The kit walks each path down to a library anew, and for its sum reads all files on each of them. That took a minute at
+# the start, and minutes behind the proofs of the highest libraries.
+below, stamp = functools.cache(rt.Crate.below), functools.cache(rt.Crate.stamp)
 # The kit plans on twice the memory that these checks take.
 need = rt.need
 
@@ -94,7 +95,7 @@ if hasattr(rt, "add_edits"):
 else:
     rt.must_fail_all = must_fail_all
 rt.Crate.ci, rt.checked = prove_for_edits, trials.checked
-rt.Crate.below = lambda crate: [*below(crate)]
+rt.Crate.below, rt.Crate.stamp = lambda crate: [*below(crate)], lambda crate: stamp(crate)
 rt.need = lambda crate: need(crate) // 2
 rt.in_lanes = lambda tasks: lanes.Lanes(rt).run(tasks)
 sys.exit(rt.main(["ci", *sys.argv[1:]]))

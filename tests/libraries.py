@@ -7,6 +7,7 @@ GATE is a checkout in which `.ci/run` runs or has run, CHECKOUT one to work in. 
 text that CHECKOUT has, and over the same libraries, is linked to its `out/`, with the stamp by which `rt check` takes it.
 Two lines tell which crates got theirs, and which have none yet. It needs the kit of `rt`, whose functions it calls.
 """
+import functools
 import importlib.machinery
 import importlib.util
 import os
@@ -21,6 +22,9 @@ sys.dont_write_bytecode = True
 loader = importlib.machinery.SourceFileLoader("rt", os.path.join(kit, "rt"))
 rt = importlib.util.module_from_spec(importlib.util.spec_from_loader("rt", loader))
 loader.exec_module(rt)
+# (the kit walks each path down to a library anew)
+below, stamp = functools.cache(rt.Crate.below), functools.cache(rt.Crate.stamp)
+rt.Crate.below, rt.Crate.stamp = lambda crate: [*below(crate)], lambda crate: stamp(crate)
 
 
 def crates_in(checkout):
