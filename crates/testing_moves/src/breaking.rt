@@ -170,7 +170,7 @@ fn lack_told<'r>(
 }
 
 /// A clause of a row that would come by the move of a group, which no row on its architecture meets that stands or would
-/// come: then the move is refused. It is looked for where there are suites, and found without a trial.
+/// come: then the move is refused. It is looked for where there are suites.
 pub fn lack_by_move<'r>(
     alloc: Global,
     rows: &'r LiveRows,

@@ -91,8 +91,25 @@ impl<'u, 'a> Turns<'u, 'a> {
         Ok(true)
     }
 
-    /// Tries the candidate, and says whether it moved. If its rows lack something, that is seen without a trial, and
-    /// remembered: then it isn't tried again before a row has come in that may meet what it lacks.
+    /// Remembers what the rows of a candidate lack that was refused, if they lack something: then it isn't tried again
+    /// before a row has come in that may meet it.
+    fn remember_lack(
+        &self,
+        alloc: Global,
+        candidate: Numbered,
+        refusals: &mut Refusals,
+    ) -> Result<(), NoMemory>
+        ensures { OnOk result ((excuses : List AnExcuse) → IsNumbered excuses candidate.entry → AreRefused (moment_of self.now) excuses refusals.old
+            → AreRefused (moment_of self.now) excuses refusals.new) }
+    {
+        let group = slice::from_ref(&candidate.excuse.source);
+        if let Some(clause) = self.lack_by_move(alloc, group)? {
+            refusals.remember(alloc, candidate.number, clause)?;
+        }
+        Ok(())
+    }
+
+    /// Tries the candidate, unless it is known to be refused, and says whether it moved.
     fn try_alone(
         &mut self,
         alloc: Global,
@@ -105,14 +122,11 @@ impl<'u, 'a> Turns<'u, 'a> {
         if refusals.has(candidate.number) {
             return Ok(false);
         }
-        let group = slice::from_ref(&candidate.excuse.source);
-        if let Some(clause) = self.lack_by_move(alloc, group)? {
-            refusals.remember(alloc, candidate.number, clause)?;
-            return Ok(false);
-        }
         if !self.move_alone(alloc, candidate.excuse)? {
+            self.remember_lack(alloc, candidate, refusals)?;
             return Ok(false);
         }
+        let group = slice::from_ref(&candidate.excuse.source);
         self.wake_by_move(alloc, group, refusals)?;
         Ok(true)
     }

@@ -1,10 +1,9 @@
-use Rattle.std.proofs.Common.{◌≡◌, ◌∙◌, ◌∷◌, refl, sym, ap, subst, IfSome, Ok, [], true, false}
-use Rattle.std.specs.Option.{is_none}
+use Rattle.std.proofs.Common.{◌≡◌, ◌∙◌, ◌∷◌, refl, sym, ap, subst, Ok, [], true, false}
 use Rattle.std.proofs.lemmas.Bool.{false≢true}
 use Rattle.testing_live.specs.Lacks.{arriving}
 use Rattle.testing_moves.specs.Refusals.{AreRefused, AreWoken}
-use Rattle.testing_moves.specs.Runs.{Run, moment_of, broken_by_move, IsLacking}
-use Rattle.testing_moves.proofs.Remembering.{refused_known, refused_more, refused_moved}
+use Rattle.testing_moves.specs.Runs.{Run, moment_of}
+use Rattle.testing_moves.proofs.Remembering.{refused_known, refused_moved}
 use Rattle.testing_moves.proofs.turns.Turns.try_alone.Goals as goal
 
 pub returns-then-has : goal.returns-then-has
@@ -15,30 +14,15 @@ returns-then-has c = λ excuses number known. record {
   known = known;
 }
 
-pub returns-in-Some : goal.returns-in-Some
-returns-in-Some c = λ excuses number known.
-    let m = moment_of c.args.self.now in
-    let e = c.args.candidate.excuse.now in
-    let clause = c.in-Some.clause.now in
-    let group = c.from_ref-group.ensures.value in
-    let lacks = subst (λ o. IfSome o (λ x. IsLacking c.from_ref-group.result.now m x.now)) c.in-Some.is c.in_ok-clause.ensures.lacks in
-    let refused = subst (λ o. IfSome o (λ x. is_none (broken_by_move c.from_ref-group.result.now m) ≡ false)) c.in-Some.is c.in_ok-clause.ensures.refused in
-    record {
-      allowed = subst (λ g. is_none (broken_by_move g m) ≡ false) group refused;
-      after = λ no. absurd (false≢true no);
-      same = λ yes. refl;
-      known = refused_more m excuses c.args.refusals.now c.remember.new.self c.args.candidate.number e clause number
-          (subst (λ g. IsLacking g m clause) group lacks) c.in_ok-remember.ensures.flags c.in_ok-remember.ensures.noted known;
-    }
-
 pub returns-then-not-branch : goal.returns-then-not-branch
 returns-then-not-branch c = λ excuses number known.
     let stayed = ap Ok c.if-not-branch.true in
+    let as_before = c.in_ok-move_alone.ensures.same stayed in
     record {
       allowed = c.in_ok-move_alone.ensures.stays stayed;
       after = λ e. absurd (false≢true e);
-      same = λ e. c.in_ok-move_alone.ensures.same stayed;
-      known = subst (λ (r : Run). AreRefused (moment_of r) excuses c.args.refusals.now) (sym (c.in_ok-move_alone.ensures.same stayed)) known;
+      same = λ e. as_before;
+      known = c.in_ok-remember_lack.ensures excuses number (subst (λ (r : Run). AreRefused (moment_of r) excuses c.args.refusals.now) (sym as_before) known);
     }
 
 pub returns : goal.returns
