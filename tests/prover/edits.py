@@ -47,7 +47,8 @@ def try_edit(crate, edit, kept, stages):
     before = processor_seconds()
     verdict, said = rt.must_fail(crate, edit, ["--jobs", "1", "--stage-times", stages], kept)
     print("%6.1f s  %s\n          %s" % (processor_seconds() - before, said, stages_in(stages)), flush=True)
-    return verdict in (rt.REFUSED, rt.AT_LIMIT)
+    # (kit 13b tells whether it is refused, and 13f how it went)
+    return verdict in (rt.REFUSED, rt.AT_LIMIT) if hasattr(rt, "REFUSED") else verdict
 
 
 def main():
