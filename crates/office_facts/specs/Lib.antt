@@ -1,3 +1,4 @@
+pub mod Hand
 pub mod Known
 pub mod OfficeState
 pub mod Outcome

@@ -23,6 +23,7 @@ ghost use Rattle.office_orders.specs.ReadsStore.{ReadsStore};
 ghost use Rattle.office_facts.specs.Taking.{AreLettersOf, TookAgain};
 ghost use Rattle.office_facts.specs.Walk.{said_by, said_in, said_within};
 
+use crate::at_hand::AtHand;
 use crate::covered::take_text;
 use crate::restoring::item_in;
 use deb_control::Text;
@@ -205,7 +206,8 @@ fn retake_text(
     if !named {
         return Ok(());
     }
-    take_text(alloc, setup, facts, sender, number, text)?;
+    let mut nothing = AtHand::new(alloc);
+    take_text(alloc, setup, &mut nothing, facts, sender, number, text)?;
     Ok(())
 }
 

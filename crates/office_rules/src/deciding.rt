@@ -12,6 +12,7 @@ ghost use Rattle.office_rules.specs.Trial.{decided};
 use crate::{RunOutcome, release_place, run_beside};
 use deb_control::{NoMemory, Text};
 use jiff::civil::Date;
+use office_facts::at_hand::AtHand;
 use office_facts::covered::take_letters;
 use office_keeper::Letter;
 use office_mail::Setup;
@@ -102,7 +103,9 @@ fn take_all(
     ensures taken { OnOk result ((s : Covered) (t : Suite) → StandsFor facts.old s t → StandsFor facts.new (with_letters setup.now (release setup.now) letters.now s) t) }
     ensures no_store { IfErr result (λ fault. fault ≡ StoreFault.NoMemory) }
 {
-    take_letters(alloc, setup, facts, release_place(setup), letters)
+    let mut nothing = AtHand::new(alloc);
+    let place = release_place(setup);
+    take_letters(alloc, setup, &mut nothing, facts, place, letters)
 }
 
 /// What a run decides once the facts have taken what messages of the release team say, and with it a copy of the testing

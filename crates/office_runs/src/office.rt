@@ -23,6 +23,7 @@ use crate::posting::deliver;
 use crate::runs::settle;
 use crate::texts::kept_testing_text;
 use deb_control::Text;
+use office_facts::at_hand::AtHand;
 use office_facts::covered::KnownFacts;
 use office_keeper::{Keeper, MailText, Reports};
 use office_mail::{RunOrder, Setup};
@@ -35,7 +36,7 @@ use std::alloc::Global;
 use std::marker::Model;
 
 /// An office over a store, of which its contracts speak. Beside it stand for each sender how many numbers are known to be
-/// kept, the run orders that were read, and the facts of the mail that the last run covered.
+/// kept, the run orders that were read, the facts of the mail that the last run covered, and what was read of mail since.
 #[derive(Drop)]
 pub struct Office<K: Keeper> {
     alloc: Global,
@@ -44,10 +45,12 @@ pub struct Office<K: Keeper> {
     counts: Vec<u32>,
     orders: Vec<RunOrder>,
     known: Option<KnownFacts>,
+    hand: AtHand,
 }
 
 impl<K: Keeper> Model for Office<K> {
     ghost use Rattle.std.specs.Prelude.{◌≡◌, IfSome};
+    ghost use Rattle.office_facts.specs.Hand.{AreRead};
     ghost use Rattle.office_facts.specs.Known.{AreKnown};
     ghost use Rattle.office_orders.specs.Ready.{IsCounted};
 
@@ -57,7 +60,8 @@ impl<K: Keeper> Model for Office<K> {
 
     ghost invariant = { λ a. (K.setup a.keeper ≡ a.setup)
         × (K.is_trusted a.keeper → IsCounted a.setup (K.content a.keeper) a.counts.items a.orders.items)
-        × (K.is_trusted a.keeper → IfSome a.known (λ known. AreKnown a.setup (K.content a.keeper) known)) };
+        × (K.is_trusted a.keeper → IfSome a.known (λ known. AreKnown a.setup (K.content a.keeper) known))
+        × (AreRead a.setup a.hand) };
 }
 
 impl<K: Keeper> Office<K> {
@@ -73,6 +77,7 @@ impl<K: Keeper> Office<K> {
             counts: Vec::new(alloc),
             orders: Vec::new(alloc),
             known: None,
+            hand: AtHand::new(alloc),
         }
     }
 
@@ -87,8 +92,10 @@ impl<K: Keeper> Office<K> {
             counts: _,
             orders: _,
             known,
+            hand,
         } = self;
         drop(known);
+        drop(hand);
         keeper
     }
 
@@ -141,7 +148,13 @@ impl<K: Keeper> Office<K> {
         ensures lasts { StaysTrusted K.Keeper self.old self.new (is_ok result) }
         ensures counted { CountedDelivery (K.refusals self.old) (K.refusals self.new) result }
     {
-        deliver(self.alloc, &self.setup, &mut self.keeper, text)
+        deliver(
+            self.alloc,
+            &self.setup,
+            &mut self.keeper,
+            &mut self.hand,
+            text,
+        )
     }
 
     /// How many texts the store keeps best together.
@@ -168,7 +181,13 @@ impl<K: Keeper> Office<K> {
         ensures lasts { StaysTrusted K.Keeper self.old self.new (is_ok result) }
         ensures counted { Counted (K.refusals self.old) (K.refusals self.new) result }
     {
-        keep_texts(self.alloc, &self.setup, &mut self.keeper, texts)
+        keep_texts(
+            self.alloc,
+            &self.setup,
+            &mut self.keeper,
+            &mut self.hand,
+            texts,
+        )
     }
 
     /// Finishes the runs that are ready, in order. `Ok` means that none is left. It fails for want of
@@ -199,6 +218,7 @@ impl<K: Keeper> Office<K> {
             &mut self.counts,
             &mut self.orders,
             &mut self.known,
+            &mut self.hand,
         )?;
         Ok(Progress {
             ready: finished,

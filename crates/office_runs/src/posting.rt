@@ -4,11 +4,14 @@
 ghost use Rattle.std.specs.Prelude.{is_ok, ◌≡◌, ◌<◌, ◌∷◌, [], Ok, Err, IfOk, OnOk, OnErr, bytes_eq, length, if◌then◌else◌};
 ghost use Rattle.std.specs.FinMap.{get};
 ghost use Rattle.office_mail.specs.Kept.{kept_from, place_of, IsPlace, Within};
+ghost use Rattle.office_mail.specs.Lists.{Lists};
 ghost use Rattle.office_mail.specs.Read.{read};
 ghost use Rattle.office_replies.specs.Counted.{CountedDelivery};
 ghost use Rattle.office_orders.specs.StaysTrusted.{StaysTrusted};
+ghost use Rattle.office_facts.specs.Hand.{AreRead};
 ghost use Rattle.office_facts.specs.State.{AnswersDelivery, IsOffice, answer_at, answer_to};
 
+use office_facts::at_hand::AtHand;
 use office_keeper::{Keeper, MailText};
 use office_mail::{Message, Setup, read_message};
 use office_orders::stored;
@@ -63,11 +66,23 @@ fn post<K: Keeper>(
     }
 }
 
-/// Takes a text: keeps it where it is a message whose sender and number are free.
+/// A message that was read of a text is at hand where it is held, for the run that covers it.
+pub fn hold(hand: &mut AtHand, held: bool, text: &[u8], message: Message)
+    ensures { (setup : Lists) → read setup text.now ≡ Ok message → AreRead setup hand.old → AreRead setup hand.new }
+{
+    if held {
+        hand.put(text, message);
+    } else {
+        drop(message);
+    }
+}
+
+/// Takes a text: keeps it where it is a message whose sender and number are free. What was read of it is at hand then.
 pub fn deliver<K: Keeper>(
     alloc: Global,
     setup: &Setup,
     keeper: &mut K,
+    hand: &mut AtHand,
     text: &[u8],
 ) -> Result<Held, DeliverFault>
     ensures answer { K.is_trusted keeper.new → AnswersDelivery result (answer_to setup.now (K.content keeper.old).kept text.now) }
@@ -79,6 +94,7 @@ pub fn deliver<K: Keeper>(
     ensures office { K.is_trusted keeper.new → K.is_legible keeper.old → IsOffice setup.now (K.content keeper.old) → IsOffice setup.now (K.content keeper.new) }
     ensures err { K.is_trusted keeper.new → OnErr result (K.content keeper.new ≡ K.content keeper.old) }
     ensures place { IfOk result (λ held. held.sender < length setup.now.senders) }
+    ensures at_hand { AreRead setup.now hand.old → AreRead setup.now hand.new }
     ensures setup { K.setup keeper.new ≡ K.setup keeper.old }
     ensures before { K.is_trusted keeper.new → K.is_trusted keeper.old }
     ensures legible { K.is_trusted keeper.new → K.is_legible keeper.old → K.is_legible keeper.new }
@@ -88,7 +104,7 @@ pub fn deliver<K: Keeper>(
     match read_message(alloc, setup, text) {
         Ok(message) => {
             let answer = post(setup, keeper, &message, text);
-            drop(message);
+            hold(hand, answer.is_ok(), text, message);
             answer
         }
         Err(fault) => Err(DeliverFault::Mail(fault)),

@@ -13,5 +13,5 @@ returns-clause-taken c =
     let letters = c.args.letters.now in
     on_ok_weaker c.take_letters.result
     (λ taken s t h. subst (λ (l : Covered). StandsFor c.take_letters.new.facts l t)
-    (ap (λ (r : ℕ). said_in setup r letters s) c.release_place.ensures ∙ letters_said setup (release setup) letters s) (taken s t h))
+    (ap (λ (r : ℕ). said_in setup r letters s) c.release_place-place.ensures ∙ letters_said setup (release setup) letters s) (taken s t h))
     c.take_letters.ensures.taken

@@ -104,7 +104,7 @@ next_outcome-requires-clause-known g c = λ trusted.
     let content = g.K.Keeper.content in
     let before : Option KnownFacts = c.args.known.now in
     let at1 = c.in_ok-next_is_ready.ensures in
-    subst (λ (o : Option KnownFacts). IfSome o (λ known. AreKnown setup (content c.next_is_ready.new.keeper) known)) (sym c.take.ensures.value)
+    subst (λ (o : Option KnownFacts). IfSome o (λ known. AreKnown setup (content c.next_is_ready.new.keeper) known)) (sym c.take-before.ensures.value)
     (subst (λ (m : Content). IfSome before (λ known. AreKnown setup m known)) (sym (at1.looks.same trusted)) (c.requires.facts (at1.looks.before trusted)))
 
 pub returns-in-Ok-clause-known : goal.returns-in-Ok-clause-known

@@ -1,0 +1,180 @@
+//! What was read of mail when it came, at hand until the run that covers it takes it. So a message is mostly read once.
+
+ghost use Rattle.std.specs.Prelude.{◌≡◌, ◌⊎◌, Ok, Err, IfSome, IsTrue};
+ghost use Rattle.office_mail.specs.Lists.{Lists};
+ghost use Rattle.office_mail.specs.Read.{read};
+ghost use Rattle.office_facts.specs.Hand.{AreRead, IsRead};
+
+use office_keeper::MailText;
+use office_mail::{MailFault, Message, Setup, read_message};
+use std::alloc::Global;
+use std::collections::BTreeMap;
+
+/// How many messages are at hand at most. Before its first run a Debian release brings 70,000.
+const MOST: usize = 100_000;
+
+/// The length of the longest text that is kept at hand. Nearly all mail is shorter, and so much of it takes 400 MB at
+/// most; that of a Debian release takes 15.
+const LONGEST: usize = 4_096;
+
+/// A text that was read, and the message that it is.
+pub struct ReadText {
+    text: MailText,
+    message: Message,
+}
+
+impl Drop for ReadText {
+    fn drop(self) {
+        let ReadText {
+            text: _,
+            message: _,
+        } = self;
+    }
+}
+
+impl ReadText {
+    /// The message, where this is the text that was read.
+    fn into_message(self, text: &[u8]) -> Option<Message>
+        ensures { IfSome result (λ message. (self.text ≡ text.now) × (self.message ≡ message)) }
+    {
+        let ReadText { text: own, message } = self;
+        let same = is_same(own.as_slice(), text);
+        drop(own);
+        if same {
+            Some(message)
+        } else {
+            drop(message);
+            None
+        }
+    }
+}
+
+/// Whether two texts are the same.
+fn is_same(own: &[u8], text: &[u8]) -> bool
+    ensures { IsTrue result → own.now ≡ text.now }
+{
+    own == text
+}
+
+/// A value in a box, none where memory is refused.
+fn boxed(alloc: Global, read_text: ReadText) -> Option<Box<ReadText>>
+    ensures { IfSome result (λ b. b.value ≡ read_text) }
+{
+    match Box::new(alloc, read_text) {
+        Ok(own) => Some(own),
+        Err(refused) => {
+            drop(refused);
+            None
+        }
+    }
+}
+
+/// A copy of a text, with the message that it is; none where memory is refused.
+fn copied(alloc: Global, text: &[u8], message: Message) -> Option<Box<ReadText>>
+    ensures { IfSome result (λ b. (b.value.text ≡ text.now) × (b.value.message ≡ message)) }
+{
+    match MailText::copy_of(alloc, text) {
+        Ok(text) => boxed(alloc, ReadText { text, message }),
+        Err(_) => {
+            drop(message);
+            None
+        }
+    }
+}
+
+/// Messages with the texts that they were read of, by sender and number. What is taken is compared with the text that is
+/// kept, so nothing rests on where it came from.
+pub struct AtHand {
+    alloc: Global,
+    texts: BTreeMap<(u32, u32), Box<ReadText>>,
+}
+
+impl Drop for AtHand {
+    fn drop(self) {
+        let AtHand { alloc: _, texts: _ } = self;
+    }
+}
+
+impl AtHand {
+    /// Nothing is at hand. It takes no memory.
+    pub fn new(alloc: Global) -> AtHand
+        ensures { (setup : Lists) → AreRead setup result }
+    {
+        AtHand {
+            alloc,
+            texts: BTreeMap::new(alloc),
+        }
+    }
+
+    /// Whether one message more may be at hand, with this text.
+    fn has_room(&self, text: &[u8]) -> bool {
+        text.len() <= LONGEST && self.texts.len() < MOST
+    }
+
+    /// A text that was read is at hand, in the place of another under its sender and number, unless memory is refused.
+    fn insert(&mut self, place: (u32, u32), read_text: Box<ReadText>)
+        ensures { (setup : Lists) → IsRead setup read_text → AreRead setup self.old → AreRead setup self.new }
+    {
+        match self.texts.insert(place, read_text) {
+            Ok(before) => drop(before),
+            Err(refused) => drop(refused),
+        }
+    }
+
+    /// A message is at hand with its text, where there is room for it and memory isn't refused.
+    pub fn put(&mut self, text: &[u8], message: Message)
+        ensures { (setup : Lists) → read setup text.now ≡ Ok message → AreRead setup self.old → AreRead setup self.new }
+    {
+        if !self.has_room(text) {
+            drop(message);
+            return;
+        }
+        let place = (message.sender, message.number);
+        match copied(self.alloc, text, message) {
+            Some(read_text) => self.insert(place, read_text),
+            None => {}
+        }
+    }
+
+    /// Takes out what is at hand under a sender and a number: the message, where it was read of this text.
+    fn take(&mut self, sender: u32, number: u32, text: &[u8]) -> Option<Message>
+        ensures at_hand { (setup : Lists) → AreRead setup self.old → AreRead setup self.new }
+        ensures same { IfSome result (λ message. (setup : Lists) → AreRead setup self.old → read setup text.now ≡ Ok message) }
+    {
+        match self.texts.remove(&(sender, number)) {
+            Some(found) => Box::into_inner(found).into_message(text),
+            None => None,
+        }
+    }
+
+    /// The message that a text is, as `read_message` tells it: taken out of what is at hand under this sender and number,
+    /// where that was read of the same text, and else read.
+    pub fn message(
+        &mut self,
+        alloc: Global,
+        setup: &Setup,
+        sender: u32,
+        number: u32,
+        text: &[u8],
+    ) -> Result<Message, MailFault>
+        requires at_hand { AreRead setup.now self.old }
+        ensures exact { (result ≡ read setup.now text.now) ⊎ (result ≡ Err MailFault.NoMemory) }
+        ensures at_hand { AreRead setup.now self.new }
+    {
+        match self.take(sender, number, text) {
+            Some(message) => Ok(message),
+            None => read_message(alloc, setup, text),
+        }
+    }
+
+    /// Lets all of it go, where it is more than half of the most. Behind a run it is mail that came again, or that no run
+    /// covers yet.
+    pub fn make_room(&mut self)
+        ensures { (setup : Lists) → AreRead setup self.old → AreRead setup self.new }
+    {
+        if self.texts.len() <= MOST / 2 {
+            return;
+        }
+        self.texts.clear();
+    }
+}
