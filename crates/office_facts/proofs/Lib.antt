@@ -2,7 +2,7 @@ pub mod AgainFacts
 pub mod CoverFacts
 pub mod FinishedFacts
 pub mod GivenFacts
-pub mod HandFacts
+pub mod CacheFacts
 pub mod KeptRows
 pub mod KnownStand
 pub mod ReportFacts

@@ -1,4 +1,4 @@
-pub mod Hand
+pub mod Cached
 pub mod Known
 pub mod OfficeState
 pub mod Outcome

@@ -14,8 +14,8 @@ ghost use Rattle.office_facts.specs.State.{IsOffice};
 ghost use Rattle.office_facts.specs.Taking.{HavePutBack};
 ghost use Rattle.office_facts.specs.Walk.{said_within};
 
-use crate::at_hand::AtHand;
 use crate::covered::{KnownFacts, finished_facts, has_all, known_at, take_on};
+use crate::message_cache::MessageCache;
 use crate::restoring::put_back;
 use office_keeper::Keeper;
 use office_mail::{RunOrder, Setup};
@@ -65,7 +65,7 @@ pub(crate) fn take_to<K: Keeper>(
         StandsFor known.old.facts (said_within setup.now kept (slice_index known.old.taken.items) n) t → StandsFor known.new.facts (said_within setup.now kept (slice_index covers.now) n) t) }
     ensures looks { ReadsStore K.Keeper keeper.old keeper.new result }
 {
-    let mut nothing = AtHand::new(alloc);
+    let mut nothing = MessageCache::new(alloc);
     'senders: for sender in 0..setup.senders().len() {
         let cover = cover_at(covers, sender);
         take_on(

@@ -23,8 +23,8 @@ ghost use Rattle.office_orders.specs.ReadsStore.{ReadsStore};
 ghost use Rattle.office_facts.specs.Taking.{AreLettersOf, TookAgain};
 ghost use Rattle.office_facts.specs.Walk.{said_by, said_in, said_within};
 
-use crate::at_hand::AtHand;
 use crate::covered::take_text;
+use crate::message_cache::MessageCache;
 use crate::restoring::item_in;
 use deb_control::Text;
 use office_keeper::{Keeper, Letter};
@@ -206,7 +206,7 @@ fn retake_text(
     if !named {
         return Ok(());
     }
-    let mut nothing = AtHand::new(alloc);
+    let mut nothing = MessageCache::new(alloc);
     take_text(alloc, setup, &mut nothing, facts, sender, number, text)?;
     Ok(())
 }

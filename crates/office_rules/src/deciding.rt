@@ -12,8 +12,8 @@ ghost use Rattle.office_rules.specs.Trial.{decided};
 use crate::{RunOutcome, release_place, run_beside};
 use deb_control::{NoMemory, Text};
 use jiff::civil::Date;
-use office_facts::at_hand::AtHand;
 use office_facts::covered::take_letters;
+use office_facts::message_cache::MessageCache;
 use office_keeper::Letter;
 use office_mail::Setup;
 use office_replies::StoreFault;
@@ -103,7 +103,7 @@ fn take_all(
     ensures taken { OnOk result ((s : Covered) (t : Suite) → StandsFor facts.old s t → StandsFor facts.new (with_letters setup.now (release setup.now) letters.now s) t) }
     ensures no_store { IfErr result (λ fault. fault ≡ StoreFault.NoMemory) }
 {
-    let mut nothing = AtHand::new(alloc);
+    let mut nothing = MessageCache::new(alloc);
     let place = release_place(setup);
     take_letters(alloc, setup, &mut nothing, facts, place, letters)
 }

@@ -11,11 +11,11 @@ ghost use Rattle.office_runs.specs.GatherSteps.{ArePlaced, Gathers, TakesText, l
 ghost use Rattle.office_runs.specs.Together.{AreHeldHere, answers_to};
 ghost use Rattle.office_orders.specs.ReadsStore.{ReadsStore};
 ghost use Rattle.office_orders.specs.StaysTrusted.{StaysTrusted};
-ghost use Rattle.office_facts.specs.Hand.{AreRead};
+ghost use Rattle.office_facts.specs.Cached.{AreRead};
 ghost use Rattle.office_facts.specs.State.{IsOffice};
 
 use crate::posting::{compare, hold};
-use office_facts::at_hand::AtHand;
+use office_facts::message_cache::MessageCache;
 use office_keeper::{Keeper, MailText, NewLetter};
 use office_mail::{MailFault, Message, Setup, read_message};
 use office_orders::stored;
@@ -111,25 +111,25 @@ fn is_held(answer: &Result<Reply, StoreFault>) -> bool {
     matches!(answer, Ok(Ok(_)))
 }
 
-/// Answers one text more. What was read of it is at hand then.
+/// Answers one text more. What was read of it is cached then.
 fn gather<K: Keeper>(
     alloc: Global,
     setup: &Setup,
     keeper: &mut K,
-    hand: &mut AtHand,
+    cache: &mut MessageCache,
     letters: &mut Vec<NewLetter>,
     text: &[u8],
 ) -> Result<Reply, StoreFault>
     ensures takes { K.is_trusted keeper.new → IfOk result (λ reply. TakesText setup.now (K.content keeper.old).kept letters.old.items letters.new.items text.now reply) }
     ensures placed { ArePlaced setup.now letters.old.items → ArePlaced setup.now letters.new.items }
     ensures place { IfOk result (λ reply. IfOk reply (λ held. held.sender < length setup.now.senders)) }
-    ensures at_hand { AreRead setup.now hand.old → AreRead setup.now hand.new }
+    ensures cache { AreRead setup.now cache.old → AreRead setup.now cache.new }
     ensures looks { ReadsStore K.Keeper keeper.old keeper.new result }
 {
     match read_message(alloc, setup, text) {
         Ok(message) => {
             let answer = answer_message(alloc, setup, keeper, letters, &message, text);
-            hold(hand, is_held(&answer), text, message);
+            hold(cache, is_held(&answer), text, message);
             answer
         }
         Err(fault) if is_short(fault) => Err(StoreFault::NoMemory),
@@ -142,7 +142,7 @@ fn gather_all<K: Keeper>(
     alloc: Global,
     setup: &Setup,
     keeper: &mut K,
-    hand: &mut AtHand,
+    cache: &mut MessageCache,
     texts: &[MailText],
     block: &mut Block,
 ) -> Result<(), StoreFault>
@@ -152,7 +152,7 @@ fn gather_all<K: Keeper>(
     ensures placed { ArePlaced setup.now block.new.letters.items }
     ensures each { OnOk result (length block.new.replies.items ≡ length texts.now) }
     ensures places { AreHeldHere setup.now block.new.replies.items }
-    ensures at_hand { AreRead setup.now hand.old → AreRead setup.now hand.new }
+    ensures cache { AreRead setup.now cache.old → AreRead setup.now cache.new }
     ensures looks { ReadsStore K.Keeper keeper.old keeper.new result }
 {
     'texts: for text in texts {
@@ -160,7 +160,7 @@ fn gather_all<K: Keeper>(
             alloc,
             setup,
             keeper,
-            hand,
+            cache,
             &mut block.letters,
             text.as_slice(),
         )?;
@@ -194,7 +194,7 @@ pub fn keep_texts<K: Keeper>(
     alloc: Global,
     setup: &Setup,
     keeper: &mut K,
-    hand: &mut AtHand,
+    cache: &mut MessageCache,
     texts: &[MailText],
 ) -> Result<Option<Vec<Reply>>, StoreFault>
     ensures answers { K.is_trusted keeper.new → IfOk result (λ replies. IfSome replies (λ rs. rs.items ≡ answers_to setup.now (K.content keeper.old).kept texts.now)) }
@@ -208,7 +208,7 @@ pub fn keep_texts<K: Keeper>(
     ensures err { K.is_trusted keeper.new → OnErr result (K.content keeper.new ≡ K.content keeper.old) }
     ensures each { IfOk result (λ replies. IfSome replies (λ rs. length rs.items ≡ length texts.now)) }
     ensures places { IfOk result (λ replies. IfSome replies (λ rs. AreHeldHere setup.now rs.items)) }
-    ensures at_hand { AreRead setup.now hand.old → AreRead setup.now hand.new }
+    ensures cache { AreRead setup.now cache.old → AreRead setup.now cache.new }
     ensures setup { K.setup keeper.new ≡ K.setup keeper.old }
     ensures before { K.is_trusted keeper.new → K.is_trusted keeper.old }
     ensures legible { K.is_trusted keeper.new → K.is_legible keeper.old → K.is_legible keeper.new }
@@ -219,7 +219,7 @@ pub fn keep_texts<K: Keeper>(
         letters: Vec::new(alloc),
         replies: Vec::new(alloc),
     };
-    gather_all(alloc, setup, keeper, hand, texts, &mut block)?;
+    gather_all(alloc, setup, keeper, cache, texts, &mut block)?;
     if keep_letters(keeper, &block.letters)? {
         let Block { letters, replies } = block;
         drop(letters);

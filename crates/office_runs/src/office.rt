@@ -23,8 +23,8 @@ use crate::posting::deliver;
 use crate::runs::settle;
 use crate::texts::kept_testing_text;
 use deb_control::Text;
-use office_facts::at_hand::AtHand;
 use office_facts::covered::KnownFacts;
+use office_facts::message_cache::MessageCache;
 use office_keeper::{Keeper, MailText, Reports};
 use office_mail::{RunOrder, Setup};
 use office_orders::ready::ready_count;
@@ -45,12 +45,12 @@ pub struct Office<K: Keeper> {
     counts: Vec<u32>,
     orders: Vec<RunOrder>,
     known: Option<KnownFacts>,
-    hand: AtHand,
+    cache: MessageCache,
 }
 
 impl<K: Keeper> Model for Office<K> {
     ghost use Rattle.std.specs.Prelude.{◌≡◌, IfSome};
-    ghost use Rattle.office_facts.specs.Hand.{AreRead};
+    ghost use Rattle.office_facts.specs.Cached.{AreRead};
     ghost use Rattle.office_facts.specs.Known.{AreKnown};
     ghost use Rattle.office_orders.specs.Ready.{IsCounted};
 
@@ -61,7 +61,7 @@ impl<K: Keeper> Model for Office<K> {
     ghost invariant = { λ a. (K.setup a.keeper ≡ a.setup)
         × (K.is_trusted a.keeper → IsCounted a.setup (K.content a.keeper) a.counts.items a.orders.items)
         × (K.is_trusted a.keeper → IfSome a.known (λ known. AreKnown a.setup (K.content a.keeper) known))
-        × (AreRead a.setup a.hand) };
+        × (AreRead a.setup a.cache) };
 }
 
 impl<K: Keeper> Office<K> {
@@ -77,7 +77,7 @@ impl<K: Keeper> Office<K> {
             counts: Vec::new(alloc),
             orders: Vec::new(alloc),
             known: None,
-            hand: AtHand::new(alloc),
+            cache: MessageCache::new(alloc),
         }
     }
 
@@ -92,10 +92,10 @@ impl<K: Keeper> Office<K> {
             counts: _,
             orders: _,
             known,
-            hand,
+            cache,
         } = self;
         drop(known);
-        drop(hand);
+        drop(cache);
         keeper
     }
 
@@ -152,7 +152,7 @@ impl<K: Keeper> Office<K> {
             self.alloc,
             &self.setup,
             &mut self.keeper,
-            &mut self.hand,
+            &mut self.cache,
             text,
         )
     }
@@ -185,7 +185,7 @@ impl<K: Keeper> Office<K> {
             self.alloc,
             &self.setup,
             &mut self.keeper,
-            &mut self.hand,
+            &mut self.cache,
             texts,
         )
     }
@@ -218,7 +218,7 @@ impl<K: Keeper> Office<K> {
             &mut self.counts,
             &mut self.orders,
             &mut self.known,
-            &mut self.hand,
+            &mut self.cache,
         )?;
         Ok(Progress {
             ready: finished,

@@ -8,10 +8,10 @@ ghost use Rattle.office_mail.specs.Lists.{Lists};
 ghost use Rattle.office_mail.specs.Read.{read};
 ghost use Rattle.office_replies.specs.Counted.{CountedDelivery};
 ghost use Rattle.office_orders.specs.StaysTrusted.{StaysTrusted};
-ghost use Rattle.office_facts.specs.Hand.{AreRead};
+ghost use Rattle.office_facts.specs.Cached.{AreRead};
 ghost use Rattle.office_facts.specs.State.{AnswersDelivery, IsOffice, answer_at, answer_to};
 
-use office_facts::at_hand::AtHand;
+use office_facts::message_cache::MessageCache;
 use office_keeper::{Keeper, MailText};
 use office_mail::{Message, Setup, read_message};
 use office_orders::stored;
@@ -66,23 +66,23 @@ fn post<K: Keeper>(
     }
 }
 
-/// A message that was read of a text is at hand where it is held, for the run that covers it.
-pub fn hold(hand: &mut AtHand, held: bool, text: &[u8], message: Message)
-    ensures { (setup : Lists) → read setup text.now ≡ Ok message → AreRead setup hand.old → AreRead setup hand.new }
+/// A message that was read of a text is cached if it is held, for the run that covers it.
+pub fn hold(cache: &mut MessageCache, held: bool, text: &[u8], message: Message)
+    ensures { (setup : Lists) → read setup text.now ≡ Ok message → AreRead setup cache.old → AreRead setup cache.new }
 {
     if held {
-        hand.put(text, message);
+        cache.put(text, message);
     } else {
         drop(message);
     }
 }
 
-/// Takes a text: keeps it where it is a message whose sender and number are free. What was read of it is at hand then.
+/// Takes a text: keeps it where it is a message whose sender and number are free. What was read of it is cached then.
 pub fn deliver<K: Keeper>(
     alloc: Global,
     setup: &Setup,
     keeper: &mut K,
-    hand: &mut AtHand,
+    cache: &mut MessageCache,
     text: &[u8],
 ) -> Result<Held, DeliverFault>
     ensures answer { K.is_trusted keeper.new → AnswersDelivery result (answer_to setup.now (K.content keeper.old).kept text.now) }
@@ -94,7 +94,7 @@ pub fn deliver<K: Keeper>(
     ensures office { K.is_trusted keeper.new → K.is_legible keeper.old → IsOffice setup.now (K.content keeper.old) → IsOffice setup.now (K.content keeper.new) }
     ensures err { K.is_trusted keeper.new → OnErr result (K.content keeper.new ≡ K.content keeper.old) }
     ensures place { IfOk result (λ held. held.sender < length setup.now.senders) }
-    ensures at_hand { AreRead setup.now hand.old → AreRead setup.now hand.new }
+    ensures cache { AreRead setup.now cache.old → AreRead setup.now cache.new }
     ensures setup { K.setup keeper.new ≡ K.setup keeper.old }
     ensures before { K.is_trusted keeper.new → K.is_trusted keeper.old }
     ensures legible { K.is_trusted keeper.new → K.is_legible keeper.old → K.is_legible keeper.new }
@@ -104,7 +104,7 @@ pub fn deliver<K: Keeper>(
     match read_message(alloc, setup, text) {
         Ok(message) => {
             let answer = post(setup, keeper, &message, text);
-            hold(hand, answer.is_ok(), text, message);
+            hold(cache, answer.is_ok(), text, message);
             answer
         }
         Err(fault) => Err(DeliverFault::Mail(fault)),

@@ -7,15 +7,15 @@ ghost use Rattle.office_setup.specs.declared.setup.Role.TheVariants.{Release as 
 ghost use Rattle.office_mail.specs.Runs.{IsReady, IsReadyCount};
 ghost use Rattle.office_mail.specs.Setup.{place_of_role};
 ghost use Rattle.office_replies.specs.Counted.{Counted};
-ghost use Rattle.office_facts.specs.Hand.{AreRead};
+ghost use Rattle.office_facts.specs.Cached.{AreRead};
 ghost use Rattle.office_facts.specs.Known.{AreKnown};
 ghost use Rattle.office_orders.specs.StaysTrusted.{StaysTrusted};
 ghost use Rattle.office_orders.specs.Ready.{IsCounted};
 ghost use Rattle.office_facts.specs.State.{IsOffice};
 
 use crate::leaving::next_outcome;
-use office_facts::at_hand::AtHand;
 use office_facts::covered::KnownFacts;
+use office_facts::message_cache::MessageCache;
 use office_keeper::Keeper;
 use office_mail::{RunOrder, Setup};
 use office_orders::ready::next_is_ready;
@@ -70,19 +70,19 @@ fn finish_next<K: Keeper>(
     counts: &mut Vec<u32>,
     orders: &mut Vec<RunOrder>,
     known: &mut Option<KnownFacts>,
-    hand: &mut AtHand,
+    cache: &mut MessageCache,
     finished: u32,
 ) -> Result<bool, StoreFault>
     requires lists { K.setup keeper.old ≡ setup.now }
     requires known { K.is_trusted keeper.old → IsCounted setup.now (K.content keeper.old) counts.old.items orders.old.items }
     requires facts { K.is_trusted keeper.old → IfSome known.old (λ known. AreKnown setup.now (K.content keeper.old) known) }
     requires finished { K.is_trusted keeper.old → finished ≡ length (K.content keeper.old).reports }
-    requires at_hand { AreRead setup.now hand.old }
+    requires cache { AreRead setup.now cache.old }
     ensures known { K.is_trusted keeper.new → IsCounted setup.now (K.content keeper.new) counts.new.items orders.new.items }
     ensures facts { K.is_trusted keeper.new → IfSome known.new (λ known. AreKnown setup.now (K.content keeper.new) known) }
     ensures ready { K.is_trusted keeper.new → IsOffice setup.now (K.content keeper.old) → IfOk result (λ ready. IsTrue ready ↔ IsReady setup.now (K.content keeper.old).kept (finished + 1)) }
     ensures below { IfOk result (λ ready. IsTrue ready → finished < 999_999_999) }
-    ensures at_hand { AreRead setup.now hand.new }
+    ensures cache { AreRead setup.now cache.new }
     ensures kept { K.is_trusted keeper.new → (K.content keeper.new).kept ≡ (K.content keeper.old).kept }
     ensures reports { K.is_trusted keeper.new → IfOk result (λ ready. length (K.content keeper.new).reports ≡ (if ready then finished + 1 else finished)) }
     ensures err { K.is_trusted keeper.new → OnErr result (K.content keeper.new ≡ K.content keeper.old) }
@@ -97,7 +97,7 @@ fn finish_next<K: Keeper>(
         return Ok(false);
     }
     let before = known.take();
-    let (done, mut left) = next_outcome(alloc, setup, keeper, hand, before, orders, finished + 1)?;
+    let (done, mut left) = next_outcome(alloc, setup, keeper, cache, before, orders, finished + 1)?;
     match stored::finish(keeper, finished + 1, done) {
         Ok(()) => {
             left.facts.keep();
@@ -119,15 +119,15 @@ pub fn settle<K: Keeper>(
     counts: &mut Vec<u32>,
     orders: &mut Vec<RunOrder>,
     known: &mut Option<KnownFacts>,
-    hand: &mut AtHand,
+    cache: &mut MessageCache,
 ) -> Result<u32, StoreFault>
     requires lists { K.setup keeper.old ≡ setup.now }
     requires known { K.is_trusted keeper.old → IsCounted setup.now (K.content keeper.old) counts.old.items orders.old.items }
     requires facts { K.is_trusted keeper.old → IfSome known.old (λ known. AreKnown setup.now (K.content keeper.old) known) }
-    requires at_hand { AreRead setup.now hand.old }
+    requires cache { AreRead setup.now cache.old }
     ensures known { K.is_trusted keeper.new → IsCounted setup.now (K.content keeper.new) counts.new.items orders.new.items }
     ensures facts { K.is_trusted keeper.new → IfSome known.new (λ known. AreKnown setup.now (K.content keeper.new) known) }
-    ensures at_hand { AreRead setup.now hand.new }
+    ensures cache { AreRead setup.now cache.new }
     ensures ready { K.is_trusted keeper.new → K.is_legible keeper.old → IsOffice setup.now (K.content keeper.old) → IfOk result (λ n. IsReadyCount setup.now (K.content keeper.old).kept n) }
     ensures finished { K.is_trusted keeper.new → IfOk result (λ n. length (K.content keeper.new).reports ≡ n) }
     ensures grows { K.is_trusted keeper.new → length (K.content keeper.old).reports ≤ length (K.content keeper.new).reports }
@@ -140,7 +140,7 @@ pub fn settle<K: Keeper>(
     ensures counted { Counted (K.refusals keeper.old) (K.refusals keeper.new) result }
 {
     let mut finished = stored::finished(keeper)?;
-    'runs: while finish_next(alloc, setup, keeper, counts, orders, known, hand, finished)? {
+    'runs: while finish_next(alloc, setup, keeper, counts, orders, known, cache, finished)? {
         finished += 1;
     }
     Ok(finished)

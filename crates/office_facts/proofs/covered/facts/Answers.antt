@@ -19,7 +19,7 @@ senders-init g c =
       stand = known.stand;
       done = λ s low. absurd (omega (arith, low));
       ahead = known.within;
-      at_hand = c.requires.at_hand;
+      cache = c.requires.cache;
       looks = looked_then g.K.Keeper c.args.keeper.now c.args.keeper.now c.known_before.new.keeper (looked_none g.K.Keeper c.args.keeper.now) known.looks;
     }
 
@@ -52,7 +52,7 @@ senders-preserved g c =
           (λ same. subst (λ (k : ℕ). taken k ≤ covers k) (sym same) (omega (arith, own)))
           (λ other. omega (arith, next.others s other, so.ahead s))
           (cases_eq s n);
-      at_hand = next.at_hand;
+      cache = next.cache;
       looks = looked_then g.K.Keeper c.args.keeper.now c.senders.keeper c.take_on.new.keeper so.looks next.looks;
     }
 

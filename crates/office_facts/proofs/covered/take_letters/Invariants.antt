@@ -3,7 +3,7 @@ use Rattle.testing_model.specs.Covered.{Covered}
 use Rattle.testing_model.specs.Suite.{Suite}
 use Rattle.testing_model.specs.StandsFor.{StandsFor}
 use Rattle.office_keeper.specs.Content.{Content}
-use Rattle.office_facts.specs.Hand.{AreRead}
+use Rattle.office_facts.specs.Cached.{AreRead}
 use Rattle.office_facts.specs.Known.{AreUnderWay}
 use Rattle.office_facts.specs.Taking.{AreLettersOf}
 use Rattle.office_facts.specs.Walk.{said_in}
@@ -13,5 +13,5 @@ abbrev pub invariant-letters : goal.invariant-letters
 invariant-letters l = record {
   taken : (s : Covered) (t : Suite) → StandsFor l.fn.facts s t → StandsFor l.facts (said_in l.setup l.sender (take l.letter-index l.letters) s) t;
   way : (content : Content) → AreLettersOf content.kept l.sender l.letters → AreUnderWay l.setup content l.fn.facts → AreUnderWay l.setup content l.facts;
-  at_hand : AreRead l.setup l.hand;
+  cache : AreRead l.setup l.cache;
 }

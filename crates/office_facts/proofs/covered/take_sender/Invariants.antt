@@ -2,7 +2,7 @@ use Rattle.std.proofs.Common.{◌≤◌, ◌-◌, ◌++◌}
 use Rattle.testing_model.specs.Covered.{Covered}
 use Rattle.testing_model.specs.Suite.{Suite}
 use Rattle.testing_model.specs.StandsFor.{StandsFor}
-use Rattle.office_facts.specs.Hand.{AreRead}
+use Rattle.office_facts.specs.Cached.{AreRead}
 use Rattle.office_facts.specs.Known.{AreUnderWay}
 use Rattle.office_facts.specs.Walk.{said_by}
 use Rattle.office_orders.proofs.LookFacts.{Looked}
@@ -16,7 +16,7 @@ invariant-loads g l =
       within : l.taken ≤ l.cover;
       taken : trusted l.keeper → (s : Covered) (t : Suite) → StandsFor l.fn.facts (said_by l.setup (content l.fn.keeper).kept l.sender l.fn.taken ++ s) t → StandsFor l.facts (said_by l.setup (content l.fn.keeper).kept l.sender l.taken ++ s) t;
       way : trusted l.keeper → AreUnderWay l.setup (content l.fn.keeper) l.fn.facts → AreUnderWay l.setup (content l.fn.keeper) l.facts;
-      at_hand : AreRead l.setup l.hand;
+      cache : AreRead l.setup l.cache;
       looks : Looked g.K.Keeper l.fn.keeper l.keeper;
     }
 

@@ -1,7 +1,7 @@
 use Rattle.std.proofs.Common.{◌≡◌, ◌<◌, ◌≤◌, ℕ, length, slice_index}
 use Rattle.testing_model.specs.StandsFor.{StandsFor}
 use Rattle.testing_model.specs.Suite.{Suite}
-use Rattle.office_facts.specs.Hand.{AreRead}
+use Rattle.office_facts.specs.Cached.{AreRead}
 use Rattle.office_facts.specs.Walk.{said_within}
 use Rattle.office_orders.proofs.LookFacts.{Looked}
 use Rattle.office_facts.proofs.finished.take_to.Given as goal
@@ -15,6 +15,6 @@ invariant-senders g l =
           → StandsFor l.known.facts (said_within l.setup (content l.fn.keeper).kept (slice_index l.known.taken.items) (length l.setup.senders)) t;
       done : (s : ℕ) → s < l.sender → slice_index l.known.taken.items s ≡ slice_index l.covers s;
       ahead : (s : ℕ) → s < length l.setup.senders → slice_index l.known.taken.items s ≤ slice_index l.covers s;
-      at_hand : AreRead l.setup l.nothing;
+      cache : AreRead l.setup l.nothing;
       looks : Looked g.K.Keeper l.fn.keeper l.keeper;
     }

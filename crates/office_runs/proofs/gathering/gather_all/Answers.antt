@@ -14,7 +14,7 @@ texts-init g c = record {
   each = rw c.requires.replies refl;
   placed = rw c.requires.letters tt;
   places = rw c.requires.replies tt;
-  at_hand = λ h. h;
+  cache = λ h. h;
   looks = looked_none g.K.Keeper c.args.keeper.now;
 }
 
@@ -38,6 +38,6 @@ texts-preserved g c =
       each = ap length pushed ∙ length-append c.texts.block.replies.items (c.in_ok-reply.reply ∷ []) ∙ ap (λ (n : ℕ). n + 1) so.each;
       placed = next.placed so.placed;
       places = rw pushed (each_push (λ (r : Result Held DeliverFault). IfOk r (λ (held : Held). held.sender < length setup.senders)) c.texts.block.replies.items c.in_ok-reply.reply so.places next.place);
-      at_hand = λ h. next.at_hand (so.at_hand h);
+      cache = λ h. next.cache (so.cache h);
       looks = looked_then g.K.Keeper c.args.keeper.now c.texts.keeper c.gather.new.keeper so.looks next.looks;
     }

@@ -1,5 +1,5 @@
 use Rattle.std.proofs.Common.{◌≡◌, length, take}
-use Rattle.office_facts.specs.Hand.{AreRead}
+use Rattle.office_facts.specs.Cached.{AreRead}
 use Rattle.office_runs.specs.GatherSteps.{ArePlaced, Gathers}
 use Rattle.office_runs.specs.Together.{AreHeldHere}
 use Rattle.office_orders.proofs.LookFacts.{Looked}
@@ -11,6 +11,6 @@ invariant-texts g l = record {
   each : length l.block.replies.items ≡ l.text-index;
   placed : ArePlaced l.setup l.block.letters.items;
   places : AreHeldHere l.setup l.block.replies.items;
-  at_hand : AreRead l.setup l.fn.hand → AreRead l.setup l.hand;
+  cache : AreRead l.setup l.fn.cache → AreRead l.setup l.cache;
   looks : Looked g.K.Keeper l.fn.keeper l.keeper;
 }

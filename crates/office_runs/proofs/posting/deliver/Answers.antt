@@ -14,5 +14,5 @@ pub returns-in-Err-clause-answer : goal.returns-in-Err-clause-answer
 returns-in-Err-clause-answer g c = λ trusted.
     answer_fault c.args.setup.now (g.K.Keeper.content c.args.keeper.now).kept c.args.text.now c.in-Err.fault c.in-Err.ensures.exact
 
-pub returns-in-Ok-clause-at_hand : goal.returns-in-Ok-clause-at_hand
-returns-in-Ok-clause-at_hand g c = c.hold.ensures c.args.setup.now (ok_read c.args.setup.now c.args.text.now c.in-Ok.message c.in-Ok.ensures.exact)
+pub returns-in-Ok-clause-cache : goal.returns-in-Ok-clause-cache
+returns-in-Ok-clause-cache g c = c.hold.ensures c.args.setup.now (ok_read c.args.setup.now c.args.text.now c.in-Ok.message c.in-Ok.ensures.exact)

@@ -12,5 +12,5 @@ invariant_of-self g c =
       done.setup ∙ c.self.invariant.0,
       λ trusted. IsCounted-later c.self.inside.setup old new c.self.inside.counts.items c.self.inside.orders.items (done.within trusted) (omega (arith, ap length (done.reports trusted))) (c.self.invariant.1 (done.before trusted)),
       λ trusted. if_known-later c.self.inside.setup old new c.self.inside.known (done.within trusted) (done.reports trusted) (done.facts trusted) (c.self.invariant.2 (done.before trusted)),
-      done.at_hand c.self.invariant.3,
+      done.cache c.self.invariant.3,
     )

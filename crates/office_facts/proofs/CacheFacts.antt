@@ -1,4 +1,4 @@
--- Messages that are put at hand and taken out.
+-- Messages that are put into the cache and taken out.
 use Rattle.std.proofs.Common.{◌≡◌, ℕ, Bool, true, false, cond, List, [], ◌∷◌, Option, Some, None, Ok, IfSome, sym, ap, subst, ◌∙◌}
 use Rattle.std.specs.Prelude.{Box}
 use Rattle.std.specs.declared.alloc.Global.{Global}
@@ -11,11 +11,11 @@ use Rattle.office_mail.specs.Kept.{Place}
 use Rattle.office_mail.specs.Lists.{Lists}
 use Rattle.office_mail.specs.Read.{read}
 use Rattle.office_mail.specs.declared.message.Message.{Message}
-use Rattle.office_facts.specs.declared.at_hand.AtHand.{AtHand}
-use Rattle.office_facts.specs.declared.at_hand.ReadText.{ReadText}
-use Rattle.office_facts.specs.Hand.{AreRead, HoldEach, IsRead}
+use Rattle.office_facts.specs.declared.message_cache.MessageCache.{MessageCache}
+use Rattle.office_facts.specs.declared.message_cache.ReadText.{ReadText}
+use Rattle.office_facts.specs.Cached.{AreRead, HoldEach, IsRead}
 
--- the entries of what is at hand
+-- the entries of the cache
 abbrev Entries : Type 0
 Entries = List (Place × Box ReadText Global)
 
@@ -51,24 +51,24 @@ inserted_hold P cmp [] p x each own = (own, tt)
 inserted_hold P cmp (y ∷ ys) p x each own =
     order_holds P (cmp p y.0) ((p, x) ∷ y ∷ ys) ((y.0, x) ∷ ys) (y ∷ insert_entry cmp ys p x) (own, each) (own, each.1) (each.0, inserted_hold P cmp ys p x each.1 own)
 
--- nothing is at hand
-pub none_read : (setup : Lists) (hand : AtHand) → hand.texts.entries ≡ [] → AreRead setup hand
+-- nothing is cached
+pub none_read : (setup : Lists) (cache : MessageCache) → cache.texts.entries ≡ [] → AreRead setup cache
 unfolding AreRead
-none_read setup hand e = subst (λ (es : Entries). HoldEach (IsRead setup) es) (sym e) tt
+none_read setup cache e = subst (λ (es : Entries). HoldEach (IsRead setup) es) (sym e) tt
 
--- the same is at hand
-pub same_read : (setup : Lists) (old new : AtHand) → new.texts.entries ≡ old.texts.entries → AreRead setup old → AreRead setup new
+-- the same is cached
+pub same_read : (setup : Lists) (old new : MessageCache) → new.texts.entries ≡ old.texts.entries → AreRead setup old → AreRead setup new
 unfolding AreRead
 same_read setup old new e each = subst (λ (es : Entries). HoldEach (IsRead setup) es) (sym e) each
 
--- less is at hand
-pub removed_read : (setup : Lists) (old new : AtHand) (test : Place → Bool) → new.texts.entries ≡ remove_entry test old.texts.entries → AreRead setup old → AreRead setup new
+-- less is cached
+pub removed_read : (setup : Lists) (old new : MessageCache) (test : Place → Bool) → new.texts.entries ≡ remove_entry test old.texts.entries → AreRead setup old → AreRead setup new
 unfolding AreRead
 removed_read setup old new test e each =
     subst (λ (es : Entries). HoldEach (IsRead setup) es) (sym e) (removed_hold (IsRead setup) test old.texts.entries each)
 
--- one more is at hand
-pub inserted_read : (setup : Lists) (old new : AtHand) (cmp : Place → Place → Ordering) (p : Place) (b : Box ReadText Global) → new.texts.entries ≡ insert_entry cmp old.texts.entries p b → IsRead setup b → AreRead setup old → AreRead setup new
+-- one more is cached
+pub inserted_read : (setup : Lists) (old new : MessageCache) (cmp : Place → Place → Ordering) (p : Place) (b : Box ReadText Global) → new.texts.entries ≡ insert_entry cmp old.texts.entries p b → IsRead setup b → AreRead setup old → AreRead setup new
 unfolding AreRead
 inserted_read setup old new cmp p b e own each =
     subst (λ (es : Entries). HoldEach (IsRead setup) es) (sym e) (inserted_hold (IsRead setup) cmp old.texts.entries p b each own)
@@ -78,9 +78,9 @@ pub copied_read : (setup : Lists) (b : Box ReadText Global) (text : List ℕ) (m
 copied_read setup b text message same is e = ap (read setup) same ∙ e ∙ ap Ok (sym is)
 
 -- what is found and was read of this text is its message
-pub found_read : (hand : AtHand) (test : Place → Bool) (b : Box ReadText Global) (text : List ℕ) (o : Option Message) → Some b ≡ lookup test hand.texts.entries → IfSome o (λ message. (b.value.text ≡ text) × (b.value.message ≡ message))
-    → IfSome o (λ message. (setup : Lists) → AreRead setup hand → read setup text ≡ Ok message)
+pub found_read : (cache : MessageCache) (test : Place → Bool) (b : Box ReadText Global) (text : List ℕ) (o : Option Message) → Some b ≡ lookup test cache.texts.entries → IfSome o (λ message. (b.value.text ≡ text) × (b.value.message ≡ message))
+    → IfSome o (λ message. (setup : Lists) → AreRead setup cache → read setup text ≡ Ok message)
 unfolding AreRead
-found_read hand test b text None e is = tt
-found_read hand test b text (Some message) e is = λ setup each.
-    ap (read setup) (sym is.0) ∙ lookup_holds (IsRead setup) test hand.texts.entries b each (sym e) ∙ ap Ok is.1
+found_read cache test b text None e is = tt
+found_read cache test b text (Some message) e is = λ setup each.
+    ap (read setup) (sym is.0) ∙ lookup_holds (IsRead setup) test cache.texts.entries b each (sym e) ∙ ap Ok is.1

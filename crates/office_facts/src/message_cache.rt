@@ -1,21 +1,21 @@
-//! What was read of mail when it came, at hand until the run that covers it takes it. So a message is mostly read once.
+//! Messages as they were read when they came, until the run that covers them takes them. So a message is mostly read once.
 
 ghost use Rattle.std.specs.Prelude.{◌≡◌, ◌⊎◌, Ok, Err, IfSome, IsTrue};
 ghost use Rattle.office_mail.specs.Lists.{Lists};
 ghost use Rattle.office_mail.specs.Read.{read};
-ghost use Rattle.office_facts.specs.Hand.{AreRead, IsRead};
+ghost use Rattle.office_facts.specs.Cached.{AreRead, IsRead};
 
 use office_keeper::MailText;
 use office_mail::{MailFault, Message, Setup, read_message};
 use std::alloc::Global;
 use std::collections::BTreeMap;
 
-/// How many messages are at hand at most. Before its first run a Debian release brings 70,000.
-const MOST: usize = 100_000;
+/// How many bytes the cached messages may come to. Before its first run a Debian release brings 70,000 messages of 280
+/// bytes each.
+const ROOM: usize = 48 * 1024 * 1024;
 
-/// The length of the longest text that is kept at hand. Nearly all mail is shorter, and so much of it takes 400 MB at
-/// most; that of a Debian release takes 15.
-const LONGEST: usize = 4_096;
+/// What a message comes to beside the bytes of its text.
+const EACH: usize = 256;
 
 /// A text that was read, and the message that it is.
 pub struct ReadText {
@@ -82,36 +82,44 @@ fn copied(alloc: Global, text: &[u8], message: Message) -> Option<Box<ReadText>>
     }
 }
 
-/// Messages with the texts that they were read of, by sender and number. What is taken is compared with the text that is
-/// kept, so nothing rests on where it came from.
-pub struct AtHand {
+/// Messages with the texts that they were read of, by sender and number, up to a number of bytes. What is taken is compared
+/// with the text that is kept, so nothing rests on where it came from.
+pub struct MessageCache {
     alloc: Global,
+
+    /// How many bytes more may be cached.
+    room: usize,
     texts: BTreeMap<(u32, u32), Box<ReadText>>,
 }
 
-impl Drop for AtHand {
+impl Drop for MessageCache {
     fn drop(self) {
-        let AtHand { alloc: _, texts: _ } = self;
+        let MessageCache {
+            alloc: _,
+            room: _,
+            texts: _,
+        } = self;
     }
 }
 
-impl AtHand {
-    /// Nothing is at hand. It takes no memory.
-    pub fn new(alloc: Global) -> AtHand
+/// What a message with this text comes to.
+fn size_of(text: &[u8]) -> usize {
+    text.len().saturating_add(EACH)
+}
+
+impl MessageCache {
+    /// Nothing is cached. It takes no memory.
+    pub fn new(alloc: Global) -> MessageCache
         ensures { (setup : Lists) → AreRead setup result }
     {
-        AtHand {
+        MessageCache {
             alloc,
+            room: ROOM,
             texts: BTreeMap::new(alloc),
         }
     }
 
-    /// Whether one message more may be at hand, with this text.
-    fn has_room(&self, text: &[u8]) -> bool {
-        text.len() <= LONGEST && self.texts.len() < MOST
-    }
-
-    /// A text that was read is at hand, in the place of another under its sender and number, unless memory is refused.
+    /// A text that was read is cached, in the place of another under its sender and number, unless memory is refused.
     fn insert(&mut self, place: (u32, u32), read_text: Box<ReadText>)
         ensures { (setup : Lists) → IsRead setup read_text → AreRead setup self.old → AreRead setup self.new }
     {
@@ -121,14 +129,15 @@ impl AtHand {
         }
     }
 
-    /// A message is at hand with its text, where there is room for it and memory isn't refused.
+    /// A message is cached with its text, if there is room for it and memory isn't refused.
     pub fn put(&mut self, text: &[u8], message: Message)
         ensures { (setup : Lists) → read setup text.now ≡ Ok message → AreRead setup self.old → AreRead setup self.new }
     {
-        if !self.has_room(text) {
+        let Some(room) = self.room.checked_sub(size_of(text)) else {
             drop(message);
             return;
-        }
+        };
+        self.room = room;
         let place = (message.sender, message.number);
         match copied(self.alloc, text, message) {
             Some(read_text) => self.insert(place, read_text),
@@ -136,19 +145,22 @@ impl AtHand {
         }
     }
 
-    /// Takes out what is at hand under a sender and a number: the message, where it was read of this text.
+    /// Takes out what is cached under a sender and a number: the message, if it was read of this text.
     fn take(&mut self, sender: u32, number: u32, text: &[u8]) -> Option<Message>
-        ensures at_hand { (setup : Lists) → AreRead setup self.old → AreRead setup self.new }
+        ensures cache { (setup : Lists) → AreRead setup self.old → AreRead setup self.new }
         ensures same { IfSome result (λ message. (setup : Lists) → AreRead setup self.old → read setup text.now ≡ Ok message) }
     {
         match self.texts.remove(&(sender, number)) {
-            Some(found) => Box::into_inner(found).into_message(text),
+            Some(found) => {
+                self.room = self.room.saturating_add(size_of(text));
+                Box::into_inner(found).into_message(text)
+            }
             None => None,
         }
     }
 
-    /// The message that a text is, as `read_message` tells it: taken out of what is at hand under this sender and number,
-    /// where that was read of the same text, and else read.
+    /// The message that a text is, as `read_message` tells it: taken out of the cache if it was read of the same text
+    /// under this sender and number, and else read.
     pub fn message(
         &mut self,
         alloc: Global,
@@ -157,9 +169,9 @@ impl AtHand {
         number: u32,
         text: &[u8],
     ) -> Result<Message, MailFault>
-        requires at_hand { AreRead setup.now self.old }
+        requires cache { AreRead setup.now self.old }
         ensures exact { (result ≡ read setup.now text.now) ⊎ (result ≡ Err MailFault.NoMemory) }
-        ensures at_hand { AreRead setup.now self.new }
+        ensures cache { AreRead setup.now self.new }
     {
         match self.take(sender, number, text) {
             Some(message) => Ok(message),
@@ -167,14 +179,15 @@ impl AtHand {
         }
     }
 
-    /// Lets all of it go, where it is more than half of the most. Behind a run it is mail that came again, or that no run
+    /// Lets all of it go, if less than half of the room is left. Behind a run it is mail that came again, or that no run
     /// covers yet.
     pub fn make_room(&mut self)
         ensures { (setup : Lists) → AreRead setup self.old → AreRead setup self.new }
     {
-        if self.texts.len() <= MOST / 2 {
+        if self.room >= ROOM / 2 {
             return;
         }
         self.texts.clear();
+        self.room = ROOM;
     }
 }
