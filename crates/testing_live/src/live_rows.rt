@@ -153,7 +153,7 @@ impl LiveRows {
         Ok(LiveRows::Pooled(suites))
     }
 
-    /// The rows after the move of a group, by the change that was tried. Where there is none, they are a list from then on.
+    /// The rows after the move of a group, by the change that was tried. Where none was, they are a list from then on.
     pub fn moved(
         self,
         alloc: Global,

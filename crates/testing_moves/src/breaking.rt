@@ -97,8 +97,8 @@ fn broken_by_change(
     suites.first_lost(alloc, change)
 }
 
-/// What the move of a group breaks, told by the suites, and its change. There is none where the suites leave out the rows
-/// of one of its sources: then the move is judged anew.
+/// What the move of a group breaks, told by the suites, and the change that was tried. There is none where the suites
+/// leave out the rows of one of its sources: then the move is judged anew.
 fn told_by_move(
     alloc: Global,
     suites: &mut PoolSuites,

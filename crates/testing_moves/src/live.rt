@@ -138,8 +138,8 @@ impl<'u, 'a> LiveTesting<'u, 'a> {
         no_refusals(alloc, count)
     }
 
-    /// Moves a group, unless that breaks something: then testing stays, and the offender is told. Who was refused for want
-    /// of one of its rows is to be tried again once it has moved. The change that is tried is the one that is made.
+    /// Moves a group, unless that breaks something: then testing stays, and the offender is told. Who was refused for
+    /// want of one of its rows is to be tried again once it has moved. The change that is tried is the one that is made.
     pub fn move_unless_broken(
         &mut self,
         alloc: Global,

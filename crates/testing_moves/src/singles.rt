@@ -77,8 +77,8 @@ fn waiting(alloc: Global, excuse: &Excuse, offender: Offender) -> Result<Decisio
 }
 
 impl<'u, 'a> Turns<'u, 'a> {
-    /// Moves the candidate, where that breaks nothing, and says whether it moved. Who was refused for want of one of its
-    /// rows is to be tried again then.
+    /// Moves the candidate, where that breaks nothing, and says whether it moved. Then who was refused for want of one
+    /// of its rows is to be tried again.
     fn move_alone(
         &mut self,
         alloc: Global,

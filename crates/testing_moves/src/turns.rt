@@ -78,8 +78,8 @@ impl<'u, 'a> Turns<'u, 'a> {
         self.testing.broken_by_move(alloc, group)
     }
 
-    /// A clause for which the move of a group is refused, as long as no row comes that meets it. Where there is none, it
-    /// may be refused nevertheless.
+    /// A clause for which the move of a group is refused, as long as no row comes that meets it. Where there is none,
+    /// it may be refused nevertheless.
     pub fn lack_by_move(&self, alloc: Global, group: &[Text]) -> Result<Option<&Clause>, NoMemory>
         ensures lacks { IfOk result (λ found. IfSome found (λ clause. IsLacking group.now (moment_of self.now) clause.now)) }
         ensures refused { IfOk result (λ found. IfSome found (λ clause. is_none (broken_by_move group.now (moment_of self.now)) ≡ false)) }
@@ -94,8 +94,8 @@ impl<'u, 'a> Turns<'u, 'a> {
         self.testing.no_refusals(alloc, count)
     }
 
-    /// Moves a group, unless that breaks something: then testing stays, and the offender is told. Who was refused for want
-    /// of one of its rows is to be tried again once it has moved. There is no decision of it yet.
+    /// Moves a group, unless that breaks something: then testing stays, and the offender is told. Who was refused for
+    /// want of one of its rows is to be tried again once it has moved. There is no decision of it yet.
     pub fn move_unless_broken(
         &mut self,
         alloc: Global,
