@@ -1,18 +1,16 @@
 //! Testing's rows while a run changes them.
 
-ghost use Rattle.std.specs.Prelude.{◌≡◌, true, IfOk, List};
-ghost use Rattle.std.specs.List.{list_all};
+ghost use Rattle.std.specs.Prelude.{◌≡◌, IfOk, IfSome, List};
 ghost use Rattle.testing_install.specs.Closed.{marked};
 ghost use Rattle.testing_model.specs.Boxed.{unboxed};
 ghost use Rattle.testing_suites.specs.AfterMoves.{moved_rows, rows_without};
 ghost use Rattle.testing_model.specs.FactOrder.{AreBySource, IsUnstableOrder};
-ghost use Rattle.testing_live.specs.Held.{held, AreLive};
+ghost use Rattle.testing_live.specs.Held.{held, AreLive, IsChangeBy};
 ghost use Rattle.testing_model.specs.InOrder.{AreByKey};
 ghost use Rattle.testing_model.specs.JudgedRows.{lent};
 ghost use Rattle.testing_suites.specs.CarriedOver.{AreCarriedOver};
 ghost use Rattle.testing_suites.specs.Present.{IsShown};
 ghost use Rattle.testing_suites.specs.PresentSteps.{IsLive, present_rows};
-ghost use Rattle.testing_model.specs.SourceFilter.{hash_passes};
 ghost use Rattle.testing_items.specs.Words.{Text as Word};
 ghost use Rattle.testing_model.specs.declared.suite.RowIn.{RowIn as ARow};
 
@@ -24,7 +22,7 @@ use std::alloc::Global;
 use testing_facts::{Hashes, Unstable};
 use testing_items::Archs;
 use testing_model::{LentRow, RowIn};
-use testing_suites::{CarriedSuites, Testing, lend_rows};
+use testing_suites::{CarriedSuites, Change, Testing, lend_rows};
 
 /// Testing's rows: those that stand of a pool, whose suites judge a change, and make it, by what it touches; or a list
 /// of them, where there are no suites.
@@ -32,24 +30,6 @@ use testing_suites::{CarriedSuites, Testing, lend_rows};
 pub enum LiveRows {
     Pooled(PoolSuites),
     Listed(Vec<RowIn>),
-}
-
-/// The suites once a group has moved.
-fn moved_suites(
-    alloc: Global,
-    suites: PoolSuites,
-    unstable: Unstable<'_, '_>,
-    group: &[Text],
-) -> Result<PoolSuites, NoMemory>
-    requires order { IsUnstableOrder (unboxed unstable.sources.now) (lent unstable.rows.now) }
-    requires offered { list_all (hash_passes suites.candidates) group.now ≡ true }
-    ensures rows { IfOk result (λ new. (archs : List Word) → IsLive suites archs (lent unstable.entry.rows.now) (present_rows suites)
-        → present_rows new ≡ moved_rows (unboxed unstable.entry.sources.now) (lent unstable.entry.rows.now) group.now (present_rows suites)) }
-    ensures live { IfOk result (λ new. (archs : List Word) → IsLive suites archs (lent unstable.entry.rows.now) (present_rows suites)
-        → IsLive new archs (lent unstable.entry.rows.now) (present_rows new)) }
-{
-    let change = suites.change_by_move(alloc, unstable.sources, group)?;
-    suites.after(alloc, &change)
 }
 
 /// A list of the rows after the move of a group, in place of them.
@@ -71,27 +51,32 @@ fn listed_moved<'a>(
     Ok(LiveRows::Listed(copies))
 }
 
-/// The rows of a pool after the move of a group. They are a list from then on where the suites leave out rows of one of
-/// its sources.
-fn moved_from_pool(
+/// The rows after the move of a group by its change.
+fn moved_by(
     alloc: Global,
-    suites: PoolSuites,
+    rows: LiveRows,
     unstable: Unstable<'_, '_>,
     group: &[Text],
+    change: &Change,
 ) -> Result<LiveRows, NoMemory>
-    requires { IsUnstableOrder (unboxed unstable.sources.now) (lent unstable.rows.now) }
-    ensures rows { IfOk result (λ new. (archs : List Word) → IsLive suites archs (lent unstable.entry.rows.now) (present_rows suites)
-        → held new ≡ moved_rows (unboxed unstable.entry.sources.now) (lent unstable.entry.rows.now) group.now (present_rows suites)) }
-    ensures live { IfOk result (λ new. (archs : List Word) → IsLive suites archs (lent unstable.entry.rows.now) (present_rows suites)
+    requires order { IsUnstableOrder (unboxed unstable.sources.now) (lent unstable.rows.now) }
+    requires by_key { AreByKey (held rows) }
+    requires change { IsChangeBy rows (unboxed unstable.sources.now) group.now change.now }
+    ensures rows { IfOk result (λ new. (archs : List Word) → AreLive rows archs (lent unstable.entry.rows.now)
+        → held new ≡ moved_rows (unboxed unstable.entry.sources.now) (lent unstable.entry.rows.now) group.now (held rows)) }
+    ensures live { IfOk result (λ new. (archs : List Word) → AreLive rows archs (lent unstable.entry.rows.now)
         → AreLive new archs (lent unstable.entry.rows.now)) }
     ensures by_key { IfOk result (λ new. AreByKey (held new)) }
 {
-    if suites.offers(group) {
-        let suites = moved_suites(alloc, suites, unstable, group)?;
-        Ok(LiveRows::Pooled(suites))
-    } else {
-        let rows = LiveRows::Pooled(suites);
-        listed_moved(alloc, &rows, unstable, group)
+    match rows {
+        LiveRows::Pooled(suites) => {
+            let suites = suites.after(alloc, change)?;
+            Ok(LiveRows::Pooled(suites))
+        }
+        LiveRows::Listed(rows) => {
+            let rows = LiveRows::Listed(rows);
+            listed_moved(alloc, &rows, unstable, group)
+        }
     }
 }
 
@@ -168,25 +153,27 @@ impl LiveRows {
         Ok(LiveRows::Pooled(suites))
     }
 
-    /// The rows after the move of a group.
+    /// The rows after the move of a group, by the change that was tried. Where none was, they are a list from then on.
     pub fn moved(
         self,
         alloc: Global,
         unstable: Unstable<'_, '_>,
         group: &[Text],
+        change: Option<Change>,
     ) -> Result<LiveRows, NoMemory>
         requires order { IsUnstableOrder (unboxed unstable.sources.now) (lent unstable.rows.now) }
         requires by_key { AreByKey (held self) }
+        requires change { IfSome change (IsChangeBy self (unboxed unstable.sources.now) group.now) }
         ensures rows { IfOk result (λ new. (archs : List Word) → AreLive self archs (lent unstable.entry.rows.now)
             → held new ≡ moved_rows (unboxed unstable.entry.sources.now) (lent unstable.entry.rows.now) group.now (held self)) }
         ensures live { IfOk result (λ new. (archs : List Word) → AreLive self archs (lent unstable.entry.rows.now)
             → AreLive new archs (lent unstable.entry.rows.now)) }
         ensures by_key { IfOk result (λ new. AreByKey (held new)) }
     {
-        match self {
-            LiveRows::Pooled(suites) => moved_from_pool(alloc, suites, unstable, group),
-            LiveRows::Listed(rows) => {
-                let rows = LiveRows::Listed(rows);
+        match change {
+            Some(change) => moved_by(alloc, self, unstable, group, &change),
+            None => {
+                let rows = self;
                 listed_moved(alloc, &rows, unstable, group)
             }
         }

@@ -24,17 +24,22 @@ use Rattle.testing_install.proofs.Members.{contains_part}
 use Rattle.testing_install.proofs.Needing.{found_more}
 use Rattle.testing_items.specs.Words.{Text}
 use Rattle.testing_items.proofs.Members.{none_among}
+use Rattle.testing_live.specs.declared.live_rows.LiveRows.{LiveRows}
+use Rattle.testing_live.specs.declared.live_rows.LiveRows.TheVariants.{Pooled, Listed}
+use Rattle.testing_live.specs.Held.{IsChangeBy}
 use Rattle.testing_live.specs.Lacks.{arriving}
 use Rattle.testing_model.specs.declared.excuse.Excuse.{Excuse}
+use Rattle.testing_model.specs.declared.facts.UploadIn.{UploadIn}
 use Rattle.testing_model.specs.declared.suite.RowIn.{RowIn}
 use Rattle.testing_model.specs.InOrder.{AreByKey}
 use Rattle.testing_model.proofs.Sets.{first_or_rest}
 use Rattle.testing_moves.specs.declared.refusals.Numbered.{Numbered}
 use Rattle.testing_moves.specs.declared.refusals.Refusals.{Refusals}
 use Rattle.testing_moves.specs.LentItems.{lent_excuses}
-use Rattle.testing_moves.specs.Refusals.{excuses_of, IsNumbered, AreNumbered, IsRefused, AreRefused, AreWoken, woken_by}
+use Rattle.testing_moves.specs.Refusals.{excuses_of, IsNumbered, AreNumbered, IsRefused, AreRefused, AreWoken, IsWithinRows, woken_by}
 use Rattle.testing_moves.specs.Runs.{Moment, IsLacking, after_move, broken_by_move}
 use Rattle.testing_moves.proofs.Lacking.{after_by_key, lack_refused, lack_stays}
+use Rattle.testing_suites.specs.declared.change.Change.{Change}
 
 -- Candidates with their numbers.
 
@@ -129,6 +134,11 @@ woken_of_part xs ys old new part woken = record { noted = woken.noted; kept = wo
 
 no_mark : {P : Type 0} (k : ℕ) → marked [] k ≡ true → P
 no_mark k on = absurd (false≢true on)
+
+-- the places of a group's move are within the pool
+pub within_rows : (rows : LiveRows) (sources : List UploadIn) (group : List Text) (change : Change) → IsChangeBy rows sources group change → IsWithinRows rows change
+within_rows (Pooled s) sources group change is = is.within
+within_rows (Listed rows) sources group change is = tt
 
 -- where all is forgotten
 pub woken_all : (rows : List RowIn) (old new : Refusals) → new.flags.items ≡ [] → new.noted ≡ old.noted → AreWoken rows old new

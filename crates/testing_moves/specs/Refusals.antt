@@ -9,6 +9,8 @@ use Rattle.testing_install.specs.Closed.{marked}
 use Rattle.testing_install.specs.Index.{PlacesByName, places_at, bears}
 use Rattle.testing_install.specs.Needers.{names, places_for}
 use Rattle.testing_items.specs.Words.{Text}
+use Rattle.testing_live.specs.declared.live_rows.LiveRows.{LiveRows}
+use Rattle.testing_live.specs.declared.live_rows.LiveRows.TheVariants.{Pooled, Listed}
 use Rattle.testing_model.specs.declared.excuse.Excuse.{Excuse}
 use Rattle.testing_model.specs.declared.suite.RowIn.{RowIn}
 use Rattle.testing_model.specs.InOrder.{AreByKey}
@@ -16,6 +18,8 @@ use Rattle.testing_model.specs.Updates.{decide, accepted, moved_alone, is_allowe
 use Rattle.testing_moves.specs.declared.refusals.Numbered.{Numbered}
 use Rattle.testing_moves.specs.declared.refusals.Refusals.{Refusals}
 use Rattle.testing_moves.specs.Runs.{Moment, Run, IsLacking, go_on, moment_of}
+use Rattle.testing_suites.specs.declared.change.Change.{Change}
+use Rattle.testing_suites.specs.Tried.{IsWithin}
 
 -- the excuses of numbered candidates
 abbrev pub excuses_of : List Numbered → List Excuse
@@ -50,6 +54,11 @@ pub record AreWoken (rows : List RowIn) (old new : Refusals) : Type 0 where
   pub noted : new.noted ≡ old.noted
   pub kept : (number : ℕ) → marked new.flags.items number ≡ true → marked old.flags.items number ≡ true
   pub woken : (number : ℕ) (r : RowIn) (name : Text) → Contains rows r → bears r.binary name ≡ true → Contains (places_at old.noted name) number → marked new.flags.items number ≡ true → ⊥
+
+-- the places of the change are those of rows of the pool, where the rows stand of one
+abbrev pub IsWithinRows : LiveRows → Change → Type 0
+IsWithinRows (Pooled s) change = IsWithin s.rows change.leaving.items change.coming.items
+IsWithinRows (Listed rows) change = Unit {0}
 
 -- the candidate was tried: it has moved where it may move alone, and else nothing has changed
 pub record IsTried (old new : Run) (excuses : List Excuse) (e : Excuse) (refusals : Refusals) (moved : Bool) : Type 0 where

@@ -9,13 +9,12 @@ use Rattle.testing_model.specs.declared.facts.HintIn.{HintIn}
 use Rattle.testing_model.specs.declared.facts.UnhintIn.{UnhintIn}
 use Rattle.testing_model.specs.declared.facts.UploadIn.{UploadIn}
 use Rattle.testing_model.specs.declared.suite.RowIn.{RowIn}
-use Rattle.testing_model.specs.declared.update.Decision.{Decision}
 use Rattle.testing_model.specs.declared.update.Offender.{Offender}
 use Rattle.testing_model.specs.Suite.{Suite}
 use Rattle.testing_items.specs.Words.{Text}
 use Rattle.testing_model.specs.Moves.{move_group, remove_source, offender_of}
 use Rattle.testing_model.specs.Unstable.{is_in_force}
-use Rattle.testing_model.specs.Updates.{Outcome, then_do, decide, in_turn, remove_item, removals_of, move_easy, move_singles, wait_all}
+use Rattle.testing_model.specs.Updates.{Outcome, then_do, in_turn, remove_item, removals_of, move_easy, move_singles, wait_all}
 
 -- what stays during a run: the architectures, and unstable's sources and rows
 pub record Basis : Type 0 where
@@ -61,9 +60,12 @@ moment_of r = record { basis = r.basis; suite = r.outcome.suite }
 abbrev pub go_on : Run → (Basis → Suite → Outcome) → Run
 go_on r step = record { basis = r.basis; outcome = then_do r.outcome (step r.basis) }
 
--- a decision by which a group moves
-abbrev pub decide_move : Decision → List Text → Basis → Suite → Outcome
-decide_move d group b t = decide d (move_group b.sources b.rows group t)
+-- a run in which the group has moved, with no decision of it yet
+abbrev pub run_after_move : List Text → Run → Run
+run_after_move group r = record {
+  basis = r.basis;
+  outcome = record { decisions = r.outcome.decisions; suite = move_group r.basis.sources r.basis.rows group r.outcome.suite };
+}
 
 -- a run after all its turns
 abbrev pub after_turns : List Excuse → List HintIn → List UnhintIn → Run → Run

@@ -1,20 +1,22 @@
 //! What a change of testing during a run would break, told by the suites of the architectures.
 
-ghost use Rattle.std.specs.Prelude.{◌≡◌, [], ◌<◌, IfOk, IfSome, OnOk, List, length};
+ghost use Rattle.std.specs.Prelude.{◌≡◌, [], ◌<◌, IfOk, IfSome, List, length};
 ghost use Rattle.std.specs.List.{All};
 ghost use Rattle.testing_install.specs.Closed.{marked};
 ghost use Rattle.testing_model.specs.Boxed.{unboxed};
 ghost use Rattle.testing_suites.specs.AfterMoves.{moved_rows, rows_at, rows_without};
 ghost use Rattle.testing_model.specs.FactOrder.{AreBySource, IsUnstableOrder};
 ghost use Rattle.testing_items.specs.Words.{Text as Word};
-ghost use Rattle.testing_live.specs.Held.{held, AreLive};
+ghost use Rattle.testing_live.specs.Held.{held, AreLive, IsPoolMove, IsChangeBy};
 ghost use Rattle.testing_live.specs.Lacks.{arriving, Lacks};
 ghost use Rattle.testing_model.specs.InOrder.{AreByKey};
 ghost use Rattle.testing_model.specs.JudgedRows.{lent};
 ghost use Rattle.testing_model.specs.Moves as rules;
-ghost use Rattle.testing_moves.specs.Refusals.{AreWoken};
+ghost use Rattle.testing_moves.specs.Refusals.{AreWoken, IsWithinRows};
 ghost use Rattle.testing_suites.specs.Present.{IsShown};
 ghost use Rattle.testing_suites.specs.PresentSteps.{IsLive, present_rows};
+ghost use Rattle.testing_model.specs.declared.facts.UploadIn.{UploadIn as AnUpload};
+ghost use Rattle.testing_model.specs.declared.suite.RowIn.{RowIn as ARow};
 
 use crate::refusals::Refusals;
 use deb_control::{Clause, Text};
@@ -24,6 +26,7 @@ use testing_facts::Unstable;
 use testing_items::Archs;
 use testing_live::{LiveRows, PoolSuites, moved_rows, offender_of, rows_without};
 use testing_model::{LentRow, Offender};
+use testing_suites::Change;
 
 /// What the move of a group would break, judged anew.
 fn broken_by_move_anew<'a>(
@@ -71,29 +74,52 @@ fn broken_by_move_of_standing(
     broken_by_move_anew(alloc, archs, unstable, group, &rows)
 }
 
-/// What the move of a group breaks, told by the suites. They can't tell where they leave out the rows of one of its
-/// sources, nor where a row that comes stands already, that is where a source moves again: then the move is judged anew.
+/// What the change of a group's move breaks, told by the suites. They can't tell where a row that comes stands already,
+/// that is where a source moves again: then the move is judged anew.
+fn broken_by_change(
+    alloc: Global,
+    suites: &mut PoolSuites,
+    archs: &Archs,
+    unstable: Unstable<'_, '_>,
+    group: &[Text],
+    change: &Change,
+) -> Result<Option<Offender>, NoMemory>
+    requires order { IsUnstableOrder (unboxed unstable.sources.now) (lent unstable.rows.now) }
+    requires live { IsLive suites.old archs.now (lent unstable.rows.now) (present_rows suites.old) }
+    requires change { IsPoolMove suites.old (unboxed unstable.sources.now) group.now change.now }
+    ensures same { suites.new ≡ suites.old }
+    ensures offender { IfOk result (λ o. o ≡ rules.offender_of archs.now (present_rows suites.old)
+        (moved_rows (unboxed unstable.entry.sources.now) (lent unstable.entry.rows.now) group.now (present_rows suites.old)) group.now) }
+{
+    if !suites.is_fresh(change) {
+        return broken_by_move_of_standing(alloc, suites, archs, unstable, group);
+    }
+    suites.first_lost(alloc, change)
+}
+
+/// What the move of a group breaks, told by the suites, and the change that was tried. There is none where the suites
+/// leave out the rows of one of its sources: then the move is judged anew.
 fn told_by_move(
     alloc: Global,
     suites: &mut PoolSuites,
     archs: &Archs,
     unstable: Unstable<'_, '_>,
     group: &[Text],
-) -> Result<Option<Offender>, NoMemory>
+) -> Result<(Option<Offender>, Option<Change>), NoMemory>
     requires order { IsUnstableOrder (unboxed unstable.sources.now) (lent unstable.rows.now) }
     requires live { IsLive suites.old archs.now (lent unstable.rows.now) (present_rows suites.old) }
     ensures same { suites.new ≡ suites.old }
-    ensures offender { IfOk result (λ o. o ≡ rules.offender_of archs.now (present_rows suites.old)
+    ensures offender { IfOk result (λ told. told.0 ≡ rules.offender_of archs.now (present_rows suites.old)
         (moved_rows (unboxed unstable.entry.sources.now) (lent unstable.entry.rows.now) group.now (present_rows suites.old)) group.now) }
+    ensures change { IfOk result (λ told. IfSome told.1 (IsPoolMove suites.old (unboxed unstable.entry.sources.now) group.now)) }
 {
     if !suites.offers(group) {
-        return broken_by_move_of_standing(alloc, suites, archs, unstable, group);
+        let offender = broken_by_move_of_standing(alloc, suites, archs, unstable, group)?;
+        return Ok((offender, None));
     }
     let change = suites.change_by_move(alloc, unstable.sources, group)?;
-    if !suites.is_fresh(&change) {
-        return broken_by_move_of_standing(alloc, suites, archs, unstable, group);
-    }
-    suites.first_lost(alloc, &change)
+    let offender = broken_by_change(alloc, suites, archs, unstable, group, &change)?;
+    Ok((offender, Some(change)))
 }
 
 /// What the removal of a source breaks, told by the suites.
@@ -129,25 +155,28 @@ fn broken_by_move_of_held(
     broken_by_move_anew(alloc, archs, unstable, group, &list)
 }
 
-/// What the move of a group would break: told by the suites where there are any, and else judged anew.
+/// What the move of a group would break: told by the suites where there are any, and else judged anew. Beside it stands
+/// the change that was tried, if one was.
 pub fn broken_by_move(
     alloc: Global,
     rows: &mut LiveRows,
     archs: &Archs,
     unstable: Unstable<'_, '_>,
     group: &[Text],
-) -> Result<Option<Offender>, NoMemory>
+) -> Result<(Option<Offender>, Option<Change>), NoMemory>
     requires order { IsUnstableOrder (unboxed unstable.sources.now) (lent unstable.rows.now) }
     requires by_key { AreByKey (held rows.old) }
     requires live { AreLive rows.old archs.now (lent unstable.rows.now) }
     ensures same { rows.new ≡ rows.old }
-    ensures offender { IfOk result (λ o. o ≡ rules.offender_of archs.now (held rows.old)
+    ensures offender { IfOk result (λ told. told.0 ≡ rules.offender_of archs.now (held rows.old)
         (moved_rows (unboxed unstable.entry.sources.now) (lent unstable.entry.rows.now) group.now (held rows.old)) group.now) }
+    ensures change { IfOk result (λ told. IfSome told.1 (IsChangeBy rows.old (unboxed unstable.entry.sources.now) group.now)) }
 {
     if let LiveRows::Pooled(suites) = rows {
         return told_by_move(alloc, suites, archs, unstable, group);
     }
-    broken_by_move_of_held(alloc, rows, archs, unstable, group)
+    let offender = broken_by_move_of_held(alloc, rows, archs, unstable, group)?;
+    Ok((offender, None))
 }
 
 /// A clause of a row that would come by the move of a group, which no row on its architecture meets that stands or would
@@ -197,46 +226,19 @@ fn wake_among(suites: &PoolSuites, coming: &[usize], refusals: &mut Refusals)
     }
 }
 
-/// The group moved: who was refused for want of one of its rows is to be tried again. That is everyone where the suites
-/// leave out the rows of one of its sources.
-fn wake_told(
-    alloc: Global,
-    suites: &PoolSuites,
-    unstable: Unstable<'_, '_>,
-    group: &[Text],
-    refusals: &mut Refusals,
-) -> Result<(), NoMemory>
-    requires { AreBySource (unboxed unstable.sources.now) }
-    ensures { OnOk result ((archs : List Word) → IsLive suites.now archs (lent unstable.entry.rows.now) (present_rows suites.now)
-        → AreWoken (arriving (unboxed unstable.entry.sources.now) (lent unstable.entry.rows.now) group.now) refusals.old refusals.new) }
-{
-    if suites.offers(group) {
-        let change = suites.change_by_move(alloc, unstable.sources, group)?;
-        wake_among(suites, &change.coming, refusals);
-        return Ok(());
-    }
-    refusals.forget();
-    Ok(())
-}
-
-/// The group moved: who was refused for want of one of its rows is to be tried again. That is everyone where there are no
-/// suites.
-pub fn wake_by_move(
-    alloc: Global,
-    rows: &LiveRows,
-    unstable: Unstable<'_, '_>,
-    group: &[Text],
-    refusals: &mut Refusals,
-) -> Result<(), NoMemory>
-    requires { AreBySource (unboxed unstable.sources.now) }
-    ensures { OnOk result ((archs : List Word) → AreLive rows.now archs (lent unstable.entry.rows.now)
-        → AreWoken (arriving (unboxed unstable.entry.sources.now) (lent unstable.entry.rows.now) group.now) refusals.old refusals.new) }
+/// A group is about to move by the change: who was refused for want of one of the rows that come is to be tried again.
+/// That is everyone where no change was tried.
+pub fn wake_by_change(rows: &LiveRows, change: &Option<Change>, refusals: &mut Refusals)
+    requires { IfSome change.now (IsWithinRows rows.now) }
+    ensures { (archs : List Word) (sources : List AnUpload) (unstable : List ARow) (group : List Word) → AreLive rows.now archs unstable
+        → IfSome change.now (IsChangeBy rows.now sources group) → AreWoken (arriving sources unstable group) refusals.old refusals.new }
 {
     if let LiveRows::Pooled(suites) = rows {
-        return wake_told(alloc, suites, unstable, group, refusals);
+        if let Some(change) = change {
+            return wake_among(suites, &change.coming, refusals);
+        }
     }
     refusals.forget();
-    Ok(())
 }
 
 /// What the removal of a source would break: told by the suites where there are any, and else judged anew.

@@ -171,13 +171,15 @@ impl<'u, 'a> Turns<'u, 'a> {
     fn move_as_one(&mut self, alloc: Global, hint: u32, group: &[Text]) -> Result<(), NoMemory>
         ensures { OnOk result (self.new ≡ go_on self.old (λ b. rules.move_as_one b.archs b.sources b.rows hint group.now)) }
     {
-        match self.broken_by_move(alloc, group)? {
+        // No candidate was tried alone so far.
+        let mut refusals = self.no_refusals(alloc, 0)?;
+        match self.move_unless_broken(alloc, group, &mut refusals)? {
             None => {
                 let sources = self.testing().unstable_sources();
                 let items = MovedItems::new(moved_items(alloc, sources, group)?);
-                self.accept(alloc, Decision::EasyDone { hint, items }, group)
+                self.add_decision(Decision::EasyDone { hint, items })
             }
-            Some(offender) => self.refuse(Decision::EasyRefused { hint, offender }),
+            Some(offender) => self.add_decision(Decision::EasyRefused { hint, offender }),
         }
     }
 
@@ -197,7 +199,7 @@ impl<'u, 'a> Turns<'u, 'a> {
         if let Some(item) = first_other(excuses, items) {
             let name = item.name.copy(alloc)?;
             let version = item.version.copy(alloc)?;
-            return self.refuse(Decision::EasyNotCandidate {
+            return self.add_decision(Decision::EasyNotCandidate {
                 hint,
                 name,
                 version,

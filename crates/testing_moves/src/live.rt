@@ -1,6 +1,6 @@
 //! Testing while a run moves sources.
 
-ghost use Rattle.std.specs.Prelude.{◌≡◌, false, List, IfOk, IfSome, OnOk, is_none, option_copied};
+ghost use Rattle.std.specs.Prelude.{◌≡◌, false, true, List, IfOk, IfSome, OnOk, is_none, is_some, option_copied};
 ghost use Rattle.testing_model.specs.Excuses as excuses;
 ghost use Rattle.testing_model.specs.Boxed.{unboxed};
 ghost use Rattle.testing_model.specs.FactOrder.{AreBySource};
@@ -110,7 +110,14 @@ impl<'u, 'a> LiveTesting<'u, 'a> {
         ensures same { self.new ≡ self.old }
         ensures offender { IfOk result (λ o. o ≡ broken_by_move group.now self.old) }
     {
-        breaking::broken_by_move(alloc, &mut self.rows, self.archs, self.unstable, group)
+        let (offender, _change) = breaking::broken_by_move(
+            alloc,
+            &mut self.rows,
+            self.archs,
+            self.unstable,
+            group,
+        )?;
+        Ok(offender)
     }
 
     /// A clause for which the move of a group is refused: a row that would come has it, and no row on its architecture
@@ -131,26 +138,35 @@ impl<'u, 'a> LiveTesting<'u, 'a> {
         no_refusals(alloc, count)
     }
 
-    /// The group moved, or is about to: who was refused for want of one of its rows is to be tried again.
-    pub fn wake_by_move(
-        &self,
+    /// Moves a group, unless that breaks something: then testing stays, and the offender is told. Who was refused for
+    /// want of one of its rows is to be tried again once it has moved. The change that is tried is the one that is made.
+    pub fn move_unless_broken(
+        &mut self,
         alloc: Global,
         group: &[Text],
         refusals: &mut Refusals,
-    ) -> Result<(), NoMemory>
-        ensures { OnOk result (AreWoken (arriving self.now.basis.sources self.now.basis.rows group.now) refusals.old refusals.new) }
+    ) -> Result<Option<Offender>, NoMemory>
+        ensures offender { IfOk result (λ o. o ≡ broken_by_move group.now self.old) }
+        ensures moved { IfOk result (λ o. is_some o ≡ false → self.new ≡ after_move group.now self.old) }
+        ensures woken { IfOk result (λ o. is_some o ≡ false → AreWoken (arriving self.old.basis.sources self.old.basis.rows group.now) refusals.old refusals.new) }
+        ensures same { IfOk result (λ o. is_some o ≡ true → self.new ≡ self.old) }
+        ensures asleep { IfOk result (λ o. is_some o ≡ true → refusals.new ≡ refusals.old) }
     {
-        breaking::wake_by_move(alloc, &self.rows, self.unstable, group, refusals)
-    }
-
-    /// Moves a group.
-    pub fn move_group(&mut self, alloc: Global, group: &[Text]) -> Result<(), NoMemory>
-        ensures { OnOk result (self.new ≡ after_move group.now self.old) }
-    {
+        let (offender, change) = breaking::broken_by_move(
+            alloc,
+            &mut self.rows,
+            self.archs,
+            self.unstable,
+            group,
+        )?;
+        if offender.is_some() {
+            return Ok(offender);
+        }
+        breaking::wake_by_change(&self.rows, &change, refusals);
         move_sources(alloc, &mut self.sources, self.unstable.sources, group)?;
         let rows = mem::replace(&mut self.rows, LiveRows::Listed(Vec::new(alloc)));
-        self.rows = rows.moved(alloc, self.unstable, group)?;
-        Ok(())
+        self.rows = rows.moved(alloc, self.unstable, group, change)?;
+        Ok(offender)
     }
 
     /// What the removal of a source would break.

@@ -1,10 +1,11 @@
 //! Single moves: candidates that move alone, one after the other, and those that wait.
 
-ghost use Rattle.std.specs.Prelude.{◌≡◌, ◌++◌, ◌+◌, ◌<◌, List, IfOk, OnOk, true, false, take, drop};
+ghost use Rattle.std.specs.Prelude.{◌≡◌, ◌++◌, ◌+◌, ◌<◌, ◌∷◌, [], List, IfOk, OnOk, true, false, take, drop};
 ghost use Rattle.std.specs.VecDeque.{deque_len};
 ghost use Rattle.testing_moves.specs.LentItems.{lent_excuses};
 ghost use Rattle.testing_model.specs.declared.excuse.Excuse.{Excuse as AnExcuse};
-ghost use Rattle.testing_moves.specs.Refusals.{IsNumbered, AreNumbered, AreRefused, IsTried, IsNext};
+ghost use Rattle.testing_live.specs.Lacks.{arriving};
+ghost use Rattle.testing_moves.specs.Refusals.{IsNumbered, AreNumbered, AreRefused, AreWoken, IsTried, IsNext};
 ghost use Rattle.testing_moves.specs.Runs.{go_on, moment_of};
 ghost use Rattle.testing_model.specs.Updates as rules;
 
@@ -76,18 +77,27 @@ fn waiting(alloc: Global, excuse: &Excuse, offender: Offender) -> Result<Decisio
 }
 
 impl<'u, 'a> Turns<'u, 'a> {
-    /// Moves the candidate, where that breaks nothing, and says whether it moved.
-    fn move_alone(&mut self, alloc: Global, excuse: &Excuse) -> Result<bool, NoMemory>
+    /// Moves the candidate, where that breaks nothing, and says whether it moved. Then who was refused for want of one
+    /// of its rows is to be tried again.
+    fn move_alone(
+        &mut self,
+        alloc: Global,
+        excuse: &Excuse,
+        refusals: &mut Refusals,
+    ) -> Result<bool, NoMemory>
         ensures moved { result ≡ Ok true → rules.is_allowed_alone self.old.basis.archs self.old.basis.sources self.old.basis.rows self.old.outcome.suite excuse.now ≡ true }
         ensures after { result ≡ Ok true → self.new ≡ go_on self.old (λ b t. rules.decide (rules.accepted excuse.now) (rules.moved_alone b.sources b.rows t excuse.now)) }
         ensures stays { result ≡ Ok false → rules.is_allowed_alone self.old.basis.archs self.old.basis.sources self.old.basis.rows self.old.outcome.suite excuse.now ≡ false }
+        ensures woken { result ≡ Ok true → AreWoken (arriving self.old.basis.sources self.old.basis.rows (excuse.now.source ∷ [])) refusals.old refusals.new }
         ensures same { result ≡ Ok false → self.new ≡ self.old }
+        ensures asleep { result ≡ Ok false → refusals.new ≡ refusals.old }
     {
         let group = slice::from_ref(&excuse.source);
-        if self.broken_by_move(alloc, group)?.is_some() {
+        let offender = self.move_unless_broken(alloc, group, refusals)?;
+        if offender.is_some() {
             return Ok(false);
         }
-        self.accept(alloc, accepted(alloc, excuse)?, group)?;
+        self.add_decision(accepted(alloc, excuse)?)?;
         Ok(true)
     }
 
@@ -122,13 +132,11 @@ impl<'u, 'a> Turns<'u, 'a> {
         if refusals.has(candidate.number) {
             return Ok(false);
         }
-        if !self.move_alone(alloc, candidate.excuse)? {
-            self.remember_lack(alloc, candidate, refusals)?;
-            return Ok(false);
+        if self.move_alone(alloc, candidate.excuse, refusals)? {
+            return Ok(true);
         }
-        let group = slice::from_ref(&candidate.excuse.source);
-        self.wake_by_move(alloc, group, refusals)?;
-        Ok(true)
+        self.remember_lack(alloc, candidate, refusals)?;
+        Ok(false)
     }
 
     /// Moves the first candidate of the circle that may move alone, and says whether there was one.
@@ -174,7 +182,7 @@ impl<'u, 'a> Turns<'u, 'a> {
         ensures { OnOk result (self.new ≡ go_on self.old (λ b. rules.wait b.archs b.sources b.rows excuse.now)) }
     {
         match self.broken_by_move(alloc, slice::from_ref(&excuse.source))? {
-            Some(offender) => self.refuse(waiting(alloc, excuse, offender)?),
+            Some(offender) => self.add_decision(waiting(alloc, excuse, offender)?),
             None => Ok(()),
         }
     }

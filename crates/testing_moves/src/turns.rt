@@ -1,11 +1,11 @@
 //! Decisions at their turns, each against testing as it then is.
 
-ghost use Rattle.std.specs.Prelude.{◌≡◌, [], false, List, OnOk, IfOk, IfSome, is_none, map, filter};
+ghost use Rattle.std.specs.Prelude.{◌≡◌, [], false, true, List, OnOk, IfOk, IfSome, is_none, is_some, map, filter};
 ghost use Rattle.std.specs.List.{flat_map};
 ghost use Rattle.testing_live.specs.Lacks.{arriving};
 ghost use Rattle.testing_model.specs.declared.excuse.Excuse.{Excuse as AnExcuse};
 ghost use Rattle.testing_moves.specs.Refusals.{AreRefused, AreWoken};
-ghost use Rattle.testing_moves.specs.Runs.{go_on, moment_of, decide_move, broken_by_move, IsLacking};
+ghost use Rattle.testing_moves.specs.Runs.{go_on, moment_of, broken_by_move, run_after_move, IsLacking};
 ghost use Rattle.testing_model.specs.Moves.{remove_source};
 ghost use Rattle.testing_model.specs.Unstable as unstable;
 ghost use Rattle.testing_model.specs.Updates as rules;
@@ -78,8 +78,8 @@ impl<'u, 'a> Turns<'u, 'a> {
         self.testing.broken_by_move(alloc, group)
     }
 
-    /// A clause for which the move of a group is refused, as long as no row comes that meets it. Where there is none, it
-    /// may be refused nevertheless.
+    /// A clause for which the move of a group is refused, as long as no row comes that meets it. Where there is none,
+    /// it may be refused nevertheless.
     pub fn lack_by_move(&self, alloc: Global, group: &[Text]) -> Result<Option<&Clause>, NoMemory>
         ensures lacks { IfOk result (λ found. IfSome found (λ clause. IsLacking group.now (moment_of self.now) clause.now)) }
         ensures refused { IfOk result (λ found. IfSome found (λ clause. is_none (broken_by_move group.now (moment_of self.now)) ≡ false)) }
@@ -94,37 +94,28 @@ impl<'u, 'a> Turns<'u, 'a> {
         self.testing.no_refusals(alloc, count)
     }
 
-    /// The group moved, or is about to: who was refused for want of one of its rows is to be tried again.
-    pub fn wake_by_move(
-        &self,
+    /// Moves a group, unless that breaks something: then testing stays, and the offender is told. Who was refused for
+    /// want of one of its rows is to be tried again once it has moved. There is no decision of it yet.
+    pub fn move_unless_broken(
+        &mut self,
         alloc: Global,
         group: &[Text],
         refusals: &mut Refusals,
-    ) -> Result<(), NoMemory>
-        ensures { OnOk result (AreWoken (arriving self.now.basis.sources self.now.basis.rows group.now) refusals.old refusals.new) }
+    ) -> Result<Option<Offender>, NoMemory>
+        ensures offender { IfOk result (λ o. o ≡ broken_by_move group.now (moment_of self.old)) }
+        ensures moved { IfOk result (λ o. is_some o ≡ false → self.new ≡ run_after_move group.now self.old) }
+        ensures woken { IfOk result (λ o. is_some o ≡ false → AreWoken (arriving self.old.basis.sources self.old.basis.rows group.now) refusals.old refusals.new) }
+        ensures same { IfOk result (λ o. is_some o ≡ true → self.new ≡ self.old) }
+        ensures asleep { IfOk result (λ o. is_some o ≡ true → refusals.new ≡ refusals.old) }
     {
-        self.testing.wake_by_move(alloc, group, refusals)
+        self.testing.move_unless_broken(alloc, group, refusals)
     }
 
-    /// One decision that leaves testing as it is.
-    pub fn refuse(&mut self, decision: Decision) -> Result<(), NoMemory>
+    /// One decision more. Testing stays as it is.
+    pub fn add_decision(&mut self, decision: Decision) -> Result<(), NoMemory>
         ensures { OnOk result (self.new ≡ go_on self.old (λ _. decide decision)) }
     {
         Ok(self.decisions.push(decision)?)
-    }
-
-    /// One decision by which a group moves.
-    pub fn accept(
-        &mut self,
-        alloc: Global,
-        decision: Decision,
-        group: &[Text],
-    ) -> Result<(), NoMemory>
-        ensures { OnOk result (self.new ≡ go_on self.old (decide_move decision group.now)) }
-    {
-        self.decisions.push(decision)?;
-        self.testing.move_group(alloc, group)?;
-        Ok(())
     }
 
     /// One decision by which a source leaves.
@@ -161,7 +152,7 @@ impl<'u, 'a> Turns<'u, 'a> {
                 };
                 self.accept_removal(alloc, name, decision)
             }
-            Some(offender) => self.refuse(Decision::RemoveRefused {
+            Some(offender) => self.add_decision(Decision::RemoveRefused {
                 hint,
                 name: copy,
                 version,

@@ -1,32 +1,16 @@
-use Rattle.std.proofs.Common.{◌≡◌, ◌∙◌, sym, ap, Option, []}
-use Rattle.std.proofs.lemmas.Result.{IfOk-from_err}
-use Rattle.testing_model.specs.Boxed.{unboxed}
-use Rattle.testing_model.specs.JudgedRows.{lent}
-use Rattle.testing_model.specs.declared.update.Offender.{Offender}
-use Rattle.testing_model.specs.Moves.{move_group, offender_of}
-use Rattle.testing_suites.specs.PresentSteps.{present_rows}
-use Rattle.testing_model.specs.Suite.{Suite}
-use Rattle.testing_suites.specs.Tried.{first_told}
-use Rattle.testing_suites.proofs.Alive.{failing, move_told}
-use Rattle.testing_items.proofs.Weaker.{if_ok_weaker}
+use Rattle.std.proofs.Common.{◌∙◌, sym}
 use Rattle.testing_moves.proofs.breaking.told_by_move.Goals as goal
 
-pub returns-clause-offender : goal.returns-clause-offender
-returns-clause-offender c =
-    let s = c.args.suites.now in
-    let archs = c.args.archs.now in
-    let us = unboxed c.args.unstable.sources.now in
-    let unstable = lent c.args.unstable.rows.now in
-    let group = c.args.group.now in
-    let t : Suite = record { sources = []; rows = present_rows s } in
-    let leaving = c.in_ok-change.change.leaving.items in
-    let coming = c.in_ok-change.change.coming.items in
-    let new = move_group us unstable group t in
-    let tells = failing group t.rows new.rows in
-    let told = move_told s archs us unstable group leaving coming t c.requires.order c.requires.live c.in_ok-change.ensures.moves (sym c.offers.ensures ∙ c.if-not-offers.false)
-    c.in_ok-change.ensures.within (c.is_fresh.ensures c.if-not-is_fresh.false) in
-    if_ok_weaker _ (λ (o : Option Offender). o ≡ offender_of archs t.rows new.rows group) c.first_lost.result
-    (λ o first. first tells told ∙ ap (λ n. first_told n tells) c.requires.live.count) c.first_lost.ensures.first
+pub broken_by_change-requires-clause-change : goal.broken_by_change-requires-clause-change
+broken_by_change-requires-clause-change c = record {
+  offered = sym c.offers.ensures ∙ c.if-not-offers.false;
+  within = c.in_ok-change.ensures.within;
+  moves = c.in_ok-change.ensures.moves;
+}
 
-pub returns-in_err-change-clause-offender : goal.returns-in_err-change-clause-offender
-returns-in_err-change-clause-offender c = IfOk-from_err c.from_residual.result _ c.from_residual.ensures.0
+pub returns-clause-change : goal.returns-clause-change
+returns-clause-change c = record {
+  offered = sym c.offers.ensures ∙ c.if-not-offers.false;
+  within = c.in_ok-change.ensures.within;
+  moves = c.in_ok-change.ensures.moves;
+}

@@ -1,4 +1,4 @@
-use Rattle.std.proofs.Common.{arith, ◌≡◌, refl, sym, ◌∙◌, ap, subst, ◌<◌, ◌≤◌, ◌+◌, ◌++◌, false, true, take, drop, length, get_or}
+use Rattle.std.proofs.Common.{arith, ◌≡◌, refl, sym, ◌∙◌, ap, subst, ◌<◌, ◌≤◌, ◌+◌, ◌++◌, false, take, drop, length, get_or}
 use Rattle.std.specs.VecDeque.{deque_len}
 use Rattle.testing_moves.specs.Refusals.{AreRefused, IsNext, IsTried}
 use Rattle.testing_moves.specs.Runs.{moment_of}

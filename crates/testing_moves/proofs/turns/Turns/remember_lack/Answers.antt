@@ -1,4 +1,4 @@
-use Rattle.std.proofs.Common.{◌≡◌, subst, IfSome}
+use Rattle.std.proofs.Common.{subst, IfSome}
 use Rattle.testing_moves.specs.Runs.{moment_of, IsLacking}
 use Rattle.testing_moves.proofs.Remembering.{refused_more}
 use Rattle.testing_moves.proofs.turns.Turns.remember_lack.Goals as goal
