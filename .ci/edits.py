@@ -182,12 +182,15 @@ class Trials:
         shutil.rmtree(over, ignore_errors=True)
         if not is_refused(crate, ran, changes):
             return
+        refused = 0
         for change in changes:
             told = [*complaints(ran, change)]
             is_proved = f"\nfn {crate.name}::{change.function}: {PROVED}" in ran.stdout
             if told and not is_proved:
                 said = "\n".join([*told, "logic=not-proved"])
                 self.refused[crate.name, change] = subprocess.CompletedProcess(ran.args, 1, said)
+                refused += 1
+        self.kit.say(f"{crate.name}: {refused} of {len(changes)} must-fail edits refused in one check")
 
     def seeded(self, crate, flags, start=None):
         """The work that a crate's edits are tried over: the modules of its library. Those edits that can be tried together
