@@ -59,11 +59,14 @@ def text_of(crate, path):
 
 
 def functions_in(library, crate):
-    """The paths below the crate of the functions that the library has proofs of."""
+    """The paths below the crate of the functions that the library has proofs of, each with the bytes of its proof, if
+    the prover found all of it."""
     begin, end = f"Rattle-{crate}-proofs.", ".Met"
     with open(f"{library}/toolchain/checked.json", encoding="utf-8") as lines:
-        names = [json.loads(line)[0] for line in lines]
-    return {it[len(begin) : -len(end)].replace(".", "::") for it in names if it.startswith(begin) and it.endswith(end)}
+        sizes = {name: length for name, _, length in map(json.loads, lines) if name.startswith(begin)}
+    functions = [it.removesuffix(end) for it in sizes if it.endswith(end)]
+    found = {it: sizes.get(f"{it}.Proof") for it in functions if f"{it}.Answers" not in sizes}
+    return {it[len(begin) :].replace(".", "::"): found.get(it) for it in functions}
 
 
 def end_of_path(file, text, function):
@@ -130,8 +133,20 @@ def complaints(ran, change):
             yield found[0]
 
 
-def only(changes):
-    return [word for function in sorted({change.function for change in changes}) for word in ("--only", function)]
+def left_alone(changes, proved):
+    """A function of the crate that the changes leave alone, if there is one: that with the smallest proof, for which no
+    lemma is read. It is no method and no closure, since not each of them has a path that the prover takes."""
+    changed = {change.function for change in changes}
+    free = [it for it in proved if proved[it] and it == it.lower() and "::fn::" not in it and it not in changed]
+    alone = [it for it in free if sum(f"::{other}".endswith(f"::{it}") for other in proved) == 1]
+    return sorted(alone, key=proved.get)[:1]
+
+
+def only(changes, proved):
+    """The words for a check of the changed functions, and of one more: if the changed ones call no other function of
+    the crate, that one shows that the work which the check is made over is sound."""
+    functions = sorted({change.function for change in changes})
+    return [word for function in [*functions, *left_alone(changes, proved)] for word in ("--only", function)]
 
 
 def is_of(function, changed):
@@ -159,7 +174,7 @@ class Trials:
 
     def __init__(self, kit, checked, seeded):
         self.kit, self.checked_by_kit, self.seeded_by_kit = kit, checked, seeded
-        # The functions of a crate that is proved, by its name.
+        # The functions of a crate that is proved, with the sizes of their proofs, by its name.
         self.functions = {}
         # The folders over which the functions that edits change were checked, and those over which a whole crate was.
         self.seeds, self.whole = set(), set()
@@ -167,7 +182,7 @@ class Trials:
         self.refused = {}
 
     def change_of(self, crate, texts):
-        return change_of(crate, self.functions.get(crate.name, ()), texts)
+        return change_of(crate, self.functions.get(crate.name, {}), texts)
 
     def changes_of(self, crate):
         """What the crate's edits change, as far as they change one function each."""
@@ -178,7 +193,8 @@ class Trials:
         """Tries changes of the bodies of different functions in one check, and notes those that are refused."""
         over = f"{room}/together"
         linked(f"{room}/seed", over)
-        ran = self.checked_by_kit(crate, with_changes(crate, changes), [*flags, *only(changes)], over)
+        words = [*flags, *only(changes, self.functions[crate.name])]
+        ran = self.checked_by_kit(crate, with_changes(crate, changes), words, over)
         shutil.rmtree(over, ignore_errors=True)
         if not is_refused(crate, ran, changes):
             return
@@ -226,7 +242,8 @@ class Trials:
         if change and (crate.name, change) in self.refused:
             return self.refused[crate.name, change]
         if change and kept:
-            ran = self.checked_by_kit(crate, texts, [*flags, *only([change])], kept)
+            words = [*flags, *only([change], self.functions[crate.name])]
+            ran = self.checked_by_kit(crate, texts, words, kept)
             if is_refused(crate, ran, [change]):
                 # (in the place of the last line, which counts what was checked)
                 ran.stdout = ran.stdout.rstrip("\n").rpartition("\n")[0] + "\nlogic=not-proved\n"

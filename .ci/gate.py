@@ -17,6 +17,7 @@ alone, on its function, or else on the whole crate. The crate as it stands is pr
 The kit's own functions differ from kit to kit: 13f adds a task for each crate's edits (`add_edits`), and takes NAME and
 --anew; 13b has one function for them (`must_fail_all`), and proves all.
 """
+import concurrent.futures
 import contextlib
 import functools
 import importlib.machinery
@@ -54,6 +55,16 @@ def prove_for_edits(crate, flags, tests):
     with contextlib.suppress(OSError):
         os.remove(f"{os.path.dirname(crate.rlib)}/stamp")
     return status
+
+
+def compile_side_by_side(crate, backend, words, to):
+    """Compiles a proved program by both compilers side by side, in the place of one after the other: LLVM's build, which
+    comes first, is begun, and the build behind it waits for it."""
+    if backend == "llvm":
+        crate.by_llvm = compilers.submit(compile_by, crate, backend, words, to)
+        return 0
+    status = compile_by(crate, backend, words, to)
+    return crate.by_llvm.result() or status
 
 
 def seeded_with_nothing(crate, flags, start=None):
@@ -94,6 +105,8 @@ if hasattr(rt, "add_edits"):
     rt.add_edits, rt.seeded = add_edits_behind, trials.seeded
 else:
     rt.must_fail_all = must_fail_all
+    compile_by, compilers = rt.Crate.compile_by, concurrent.futures.ThreadPoolExecutor()
+    rt.Crate.compile_by = compile_side_by_side
 rt.Crate.ci, rt.checked = prove_for_edits, trials.checked
 rt.Crate.below, rt.Crate.stamp = lambda crate: [*below(crate)], lambda crate: stamp(crate)
 rt.need = lambda crate: need(crate) // 2

@@ -8,7 +8,7 @@ another crate: a function with its `requires` and `ensures`, a trait, the fields
 other impls say of it, its invariant, and its `pub` methods. From their words it goes on, by `ghost use` and `use`, to
 definitions and all that these name, and to what contracts see of types. All others are steps: they serve the proofs.
 It counts lines without comments, blank ones and `use`, twice: from the items of the crates that users call (USERS),
-which decides what is a step, and from the `pub` items of every crate.
+but for what only crates above call (INNER), which decides what is a step, and from the `pub` items of every crate.
   TOP         the top of the repository (the one that this file is in)
   --list      each definition, its lines, and whether it is believed, a step, or a step that contracts of a crate cite
   --check     a line for each file whose first line says falsely what it is; status 1 if there is one
@@ -21,8 +21,9 @@ from collections import defaultdict
 from pathlib import Path
 
 USERS = ['deb_version', 'deb_control', 'testing_install', 'testing_rules', 'office_mail', 'office_store',
-         'office_questions', 'office_checks', 'office_http', 'office_words', 'office_commands',
+         'office_bags', 'office_checks', 'office_http', 'office_words', 'office_commands',
          'office']
+INNER = {('office_bags', 'settle_behind')}
 STEPS = '-- Steps: no contract of a call that users make rests on this file.'
 CLAUSE = re.compile(r'\b(requires|ensures|before)\b\s*[\w-]*\s*$')
 ITEM = re.compile(r'(?P<pub>pub(?:\([a-z]+\))?\s+)?(?P<ghost>ghost\s+)?(?:unsafe\s+)?(?:const\s+(?=fn\b))?(?:(?P<kind>'
@@ -225,9 +226,10 @@ class Tree:
             yield from ((part.module, text) for name, text in part.ghosts if name != 'invariant' or item in public)
             yield from ((part.module, f.head) for f in part.inner
                         if item in public and (f.public or part.kind == 'trait' or part.trait))
-    def believed(self, crates):
+    def believed(self, crates, inner=()):
         """The definitions that the public contracts of these crates reach, each with what names it."""
         public = set().union(*(self.surface(crate) for crate in crates))
+        public = {item for item in public if (item.module.crate, item.name) not in inner}
         reached, todo = {None: None}, [(i, None) for i in sorted(public, key=lambda i: (i.module.crate, i.name))]
         for at, why in todo:
             if at in reached:
@@ -287,7 +289,7 @@ def main():
     option, _, name = next((a for a in sys.argv[1:] if a.startswith('--')), '').partition('=')
     tops = [a for a in sys.argv[1:] if not a.startswith('--')] + [Path(__file__).resolve().parents[1]]
     tree = Tree(tops[0])
-    users, every = tree.believed(USERS), tree.believed(tree.crates)
+    users, every = tree.believed(USERS, INNER), tree.believed(tree.crates)
     faults = [f'{f.label}: {head_fault(f, users)}' for f in tree.files.values() if head_fault(f, users)]
     kinds = {d: 'believed' if d in users else 'cited step' if d in every else 'step' for d in tree.named.values()}
     lines = {'': lambda: table(tree, users, every), '--check': lambda: faults, '--twice': lambda: twice(tree),

@@ -1,9 +1,9 @@
 #!/usr/bin/env python3
-"""Writes crates/rule_rows/data/random_suites, and crates/rule_rows/stdout: what is due for the rows of its stdin, and
-for these suites."""
+"""Writes crates/library_rows/data/random_suites, and the end of crates/library_rows/stdout: what is due for the rows of
+data/rule_rows beside them, and for these suites."""
 import sys
 sys.dont_write_bytecode = True
-from rows import DUE, ROWS, SUITES, due_rows, printed, read
+from rows import DUE, ROWS, SUITES, due_rows, parts, printed, read
 from suites import all_suites
 
 
@@ -12,6 +12,6 @@ def write(path, text):
         f.write(text)
 
 
-suites = all_suites()
+suites, (before, _) = all_suites(), parts()
 write(SUITES, suites)
-write(DUE, printed(due_rows(read(ROWS)) + due_rows(suites)))
+write(DUE, before + printed(due_rows(read(ROWS)) + due_rows(suites)))

@@ -1,13 +1,14 @@
-"""The rows of crates/rule_rows, and what is due for them."""
+"""The rows of the rules in crates/library_rows, and what is due for them."""
 import os
 from datetime import date
 from judge import Suite, run
 from mail import SENDERS, Mail
 
 HERE = os.path.dirname(os.path.abspath(__file__))
-CRATE = os.path.join(HERE, "..", "..", "crates", "rule_rows")
-ROWS = os.path.join(CRATE, "stdin")
+CRATE = os.path.join(HERE, "..", "..", "crates", "library_rows")
+ROWS = os.path.join(CRATE, "data", "rule_rows")
 SUITES = os.path.join(CRATE, "data", "random_suites")
+DRAWN = os.path.join(CRATE, "data", "drawn_rows")
 DUE = os.path.join(CRATE, "stdout")
 STATEMENTS = os.path.join(HERE, "statements")
 
@@ -18,8 +19,15 @@ def read(path):
 
 
 def rows_of(text):
-    """The rows of a text: each what it is about, and the lines below that."""
-    return [row.partition("\n")[::2] for row in text[len("=== "):-1].split("\n=== ")]
+    """The rows of a text: each what it is about, and the lines below that. What stands before the first row is none."""
+    return [row.partition("\n")[::2] for row in ("\n" + text[:-1]).split("\n=== ")[1:]]
+
+
+def parts():
+    """The parts of stdout: what is due for the rows of the low libraries, the last of which is drawn, and for these."""
+    text, last = read(DUE), "=== %s\n" % rows_of(read(DRAWN))[-1][0]
+    end = text.index("\n=== ", text.index(last)) + 1
+    return text[:end], text[end:]
 
 
 def given(mail, suite, lines):

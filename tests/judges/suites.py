@@ -8,6 +8,8 @@ VERSIONS = ["1", "1-0", "1+b1", "1+b1-0", "2", "2-0", "3~", "3~-0", "3", "3-0"]
 OPS = ["<<", "<=", "=", ">=", ">=", ">>"]
 DAYS = ["2025-03-08", "2025-03-12", "2025-03-16"]
 
+HEAD = "The random suites over the rules: see the head of rule_rows. tests/judges/make.py writes this file.\n\n"
+
 
 class Draws:
     """A generator of numbers by shifts (Marsaglia's xorshift)."""
@@ -227,4 +229,4 @@ def suite_of(is_moves, seed):
 
 
 def all_suites():
-    return "".join(suite_of(is_moves, seed) for is_moves in (False, True) for seed in range(1, 201))
+    return HEAD + "".join(suite_of(is_moves, seed) for is_moves in (False, True) for seed in range(1, 201))

@@ -3,8 +3,9 @@
 
 usage: drawn_rows.py [--check]
 
-It writes crates/library_rows/data/drawn_rows, and what is due for it behind what is due for the rows of stdin, in
-crates/library_rows/stdout. With --check it writes nothing, and ends with status 1 if the files are others.
+It writes crates/library_rows/data/drawn_rows, and what is due for it, in crates/library_rows/stdout: behind what is due
+for the rows of stdin, and before what is due for the rules. With --check it writes nothing, and ends with status 1 if
+the files are others.
 """
 import os
 import re
@@ -124,13 +125,21 @@ def chains():
             about + "%s: %s\n" % (came, signs(signed * 1000))
 
 
+def with_due(stated, due):
+    """The text of stdout with what is due for the drawn rows. What stands before them and behind them stays."""
+    before, _, rest = stated.partition(FIRST)
+    last = due[-1].partition("\n")[0]
+    end = rest.index("\n=== ", rest.index(last + "\n")) + 1
+    return before + "".join(due) + rest[end:]
+
+
 def main():
     rows = [*chains(), *rounds(), *suites()]
     stdout = os.path.join(CRATE, "stdout")
     with open(stdout, encoding="utf-8") as f:
         stated = f.read()
     made = {os.path.join(CRATE, "data/drawn_rows"): HEAD + "".join(drawn for drawn, _ in rows),
-            stdout: stated.split(FIRST)[0] + "".join(due for _, due in rows)}
+            stdout: with_due(stated, [due for _, due in rows])}
     for path, text in made.items():
         if "--check" not in sys.argv:
             with open(path, "w", encoding="utf-8") as f:

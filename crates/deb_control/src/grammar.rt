@@ -30,7 +30,7 @@ pub fn read_clauses(alloc: Global, text: &str) -> Result<Vec<Clause>, RelationFa
     ensures { GivesBy (λ v. v.items) result (clauses_in text.now) }
 {
     let items = parts(alloc, text, ',')?;
-    let mut clauses = Vec::new(alloc);
+    let mut clauses = Vec::with_capacity(alloc, items.len())?;
     'items: for item in &items {
         if !is_all_white(item.as_bytes()) {
             clauses.push(read_clause(alloc, item)?)?;
@@ -47,7 +47,7 @@ impl Provisions {
         ensures { Gives result (provisions_in text.now) }
     {
         let items = parts(alloc, text, ',')?;
-        let mut provisions = Vec::new(alloc);
+        let mut provisions = Vec::with_capacity(alloc, items.len())?;
         'items: for item in &items {
             if !is_all_white(item.as_bytes()) {
                 provisions.push(read_provision(alloc, item)?)?;
@@ -71,7 +71,7 @@ fn read_clause(alloc: Global, item: &str) -> Result<Clause, RelationFault>
     ensures { Gives result (clause_in item.now) }
 {
     let parts = parts(alloc, item, '|')?;
-    let mut alternatives = Vec::new(alloc);
+    let mut alternatives = Vec::with_capacity(alloc, parts.len())?;
     'parts: for part in &parts {
         alternatives.push(read_alternative(alloc, Signs::Any, part)?)?;
     }

@@ -15,6 +15,9 @@ use std::alloc::Global;
 use std::marker::Model;
 use std::str;
 
+/// Room for the fields of nearly all paragraphs.
+const FIELDS: usize = 12;
+
 /// A paragraph: its fields in source order, each a name and a value, which are slices of the source. Contracts see the
 /// list of them.
 #[derive(Drop)]
@@ -245,7 +248,7 @@ fn read_paragraph<'a>(
     if continues(first_line(text.as_bytes())) {
         return Err(ParagraphFault::FirstLineContinues);
     }
-    let mut fields = Vec::new(alloc);
+    let mut fields = Vec::with_capacity(alloc, FIELDS)?;
     let mut rest = text;
     'fields: while !is_blank_line(first_line(rest.as_bytes())) {
         let (whole, after) = split_field(rest);

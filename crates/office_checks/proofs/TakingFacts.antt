@@ -9,9 +9,9 @@ use Rattle.office_mail.specs.Kept.{IsPlace, Kept, Place, kept_from, place_of, pl
 use Rattle.office_mail.specs.Lists.{Lists}
 use Rattle.office_mail.specs.Read.{read}
 use Rattle.office_mail.proofs.KeptFacts.{kept_from-free}
-use Rattle.office_replies.specs.declared.faults.DeliverFault.{DeliverFault}
-use Rattle.office_replies.specs.declared.faults.DeliverFault.TheVariants.{OtherText}
-use Rattle.office_replies.specs.declared.faults.Held.{Held}
+use Rattle.office_orders.specs.declared.faults.DeliverFault.{DeliverFault}
+use Rattle.office_orders.specs.declared.faults.DeliverFault.TheVariants.{OtherText}
+use Rattle.office_orders.specs.declared.faults.Held.{Held}
 use Rattle.office_facts.specs.State.{AnswersDelivery, answer_at, answer_by, answer_to, held_at}
 use Rattle.office_checks.specs.Reading.{IsOther}
 use Rattle.office_checks.proofs.FrontFacts.{put_here}

@@ -1,7 +1,7 @@
 -- The line that tells what a check of a store found, and the exit status.
 use Rattle.std.specs.Prelude.{ℕ, List, [], ◌∷◌, ◌++◌, codes, decimal}
 use Rattle.office_mail.specs.Lists.{Lists}
-use Rattle.office_replies.specs.Replies.{name_at}
+use Rattle.office_orders.specs.Replies.{name_at}
 use Rattle.office_checks.specs.declared.Checked.{Checked}
 use Rattle.office_checks.specs.declared.Checked.TheVariants.{Whole, Differs}
 use Rattle.office_checks.specs.declared.Difference.{Difference}

@@ -3,7 +3,7 @@
 
 ghost use Rattle.std.specs.Prelude.{◌≡◌, None, IfOk, is_ok, length};
 ghost use Rattle.office_keeper.specs.MemoryState.{content_of};
-ghost use Rattle.office_replies.specs.Counted.{Counted};
+ghost use Rattle.office_orders.specs.Counted.{Counted};
 ghost use Rattle.office_orders.specs.ReadsStore.{ReadsStore};
 ghost use Rattle.office_orders.specs.StaysTrusted.{StaysTrusted};
 ghost use Rattle.office_facts.specs.State.{IsOffice};
@@ -18,7 +18,7 @@ use crate::memory::Bounded;
 use crate::{Checked, Difference};
 use office_keeper::Keeper;
 use office_mail::Setup;
-use office_replies::StoreFault;
+use office_orders::StoreFault;
 use office_runs::Office;
 use std::alloc::Global;
 

@@ -6,14 +6,14 @@ ghost use Rattle.office_keeper.specs.Content.{item_from_one};
 ghost use Rattle.office_keeper.specs.FactSet.{rows_in};
 ghost use Rattle.office_keeper.specs.MemoryState.{content_of};
 ghost use Rattle.office_keeper.specs.declared.faults.KeepFault.{KeepFault};
-ghost use Rattle.office_replies.specs.declared.faults.StoreFault.TheVariants.{NoMemory};
+ghost use Rattle.office_orders.specs.declared.faults.StoreFault.TheVariants.{NoMemory};
 ghost use Rattle.office_orders.specs.ReadsStore.{ReadsStore};
 ghost use Rattle.office_checks.specs.Comparing.{AreRunsCompared, IsCompared, IsRunDifference};
 
 use crate::Difference;
 use crate::memory::Bounded;
 use office_keeper::{KeepFault, Keeper, Reports};
-use office_replies::StoreFault;
+use office_orders::StoreFault;
 use testing_model::{Same, are_same};
 use testing_suites::Testing;
 

@@ -6,7 +6,7 @@ ghost use Rattle.std.specs.FinMap.{get, insert};
 ghost use Rattle.office_mail.specs.Kept.{placed};
 ghost use Rattle.office_keeper.specs.Content.{no_content};
 ghost use Rattle.office_keeper.specs.MemoryState.{content_of};
-ghost use Rattle.office_replies.specs.declared.faults.StoreFault.TheVariants as fault;
+ghost use Rattle.office_orders.specs.declared.faults.StoreFault.TheVariants as fault;
 ghost use Rattle.office_orders.specs.ReadsStore.{ReadsStore};
 ghost use Rattle.office_checks.specs.Comparing.{IsAnew, IsTaken, IsAllTaken, IsShort, IsMade};
 ghost use Rattle.office_checks.specs.Reading.{IsFront, IsOther};
@@ -17,7 +17,7 @@ use crate::memory::Bounded;
 use deb_control::NoMemory;
 use office_keeper::{Keeper, Letter};
 use office_mail::{MailFault, Setup};
-use office_replies::{DeliverFault, Held, StoreFault};
+use office_orders::{DeliverFault, Held, StoreFault};
 use office_runs::Office;
 use std::alloc::Global;
 

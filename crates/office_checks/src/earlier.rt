@@ -5,8 +5,8 @@ ghost use Rattle.std.specs.Prelude.{◌≡◌, ◌↔◌, ◌≤◌, ℕ, List, 
 ghost use Rattle.office_mail.specs.Lists.{Lists};
 ghost use Rattle.office_keeper.specs.Content.{Content};
 ghost use Rattle.office_keeper.specs.MemoryState.{content_of};
-ghost use Rattle.office_replies.specs.Counted.{Counted};
-ghost use Rattle.office_replies.specs.declared.faults.StoreFault.TheVariants as fault;
+ghost use Rattle.office_orders.specs.Counted.{Counted};
+ghost use Rattle.office_orders.specs.declared.faults.StoreFault.TheVariants as fault;
 ghost use Rattle.office_orders.specs.ReadsStore.{ReadsStore};
 ghost use Rattle.office_orders.specs.StaysTrusted.{StaysTrusted};
 ghost use Rattle.office_facts.specs.State.{IsSound, state_of};
@@ -21,7 +21,7 @@ use crate::memory::Bounded;
 use deb_control::Text;
 use office_keeper::Keeper;
 use office_mail::Setup;
-use office_replies::StoreFault;
+use office_orders::StoreFault;
 use office_runs::Office;
 use std::alloc::Global;
 

@@ -7,7 +7,7 @@ ghost use Rattle.office_orders.specs.ReadsStore.{ReadsStore};
 ghost use Rattle.office_checks.specs.Reading.{IsFrom, IsLetterFrom, IsNextLetter};
 
 use office_keeper::{Keeper, Letter};
-use office_replies::StoreFault;
+use office_orders::StoreFault;
 
 /// A number, where it isn't below another.
 fn number_from(from: u32, number: Option<u32>) -> Option<u32>

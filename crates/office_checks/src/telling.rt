@@ -5,7 +5,7 @@ ghost use Rattle.office_checks.specs.Telling.{checked_text, checked_words, diffe
 use crate::{Checked, Difference};
 use deb_control::{NoMemory, Text};
 use office_mail::Setup;
-use office_replies::name_at;
+use office_orders::name_at;
 use std::alloc::{AllocError, Global};
 
 /// A difference in words.

@@ -6,10 +6,10 @@ use Rattle.office_facts.specs.OfficeState.{OfficeState}
 use Rattle.office_facts.specs.State.{reports_at}
 use Rattle.office_words.specs.declared.reports.Report.{Report}
 use Rattle.office_words.specs.declared.reports.Report.TheVariants.{Testing, Excuses, Update}
-use Rattle.office_questions.specs.declared.mail.MailCount.{MailCount}
-use Rattle.office_questions.specs.Mail.{AreMailCounts, mail_text}
-use Rattle.office_replies.specs.declared.waiting.Awaited.{Awaited}
-use Rattle.office_replies.specs.declared.waiting.Awaited.TheVariants.{Order, Mail}
+use Rattle.office_bags.specs.declared.mail.MailCount.{MailCount}
+use Rattle.office_bags.specs.Mail.{AreMailCounts, mail_text}
+use Rattle.office_orders.specs.declared.waiting_lines.Awaited.{Awaited}
+use Rattle.office_orders.specs.declared.waiting_lines.Awaited.TheVariants.{Order, Mail}
 use Rattle.office_commands.specs.declared.reasons.Asked.{Asked}
 use Rattle.office_commands.specs.declared.reasons.Asked.TheVariants.{Last, Earlier, Unfinished}
 

@@ -7,10 +7,10 @@ ghost use Rattle.office_facts.specs.State.{state_of};
 
 use crate::telling::{print_text, refuse, refuse_output};
 use deb_control::Text;
+use office_bags::{AskFault, export, mail_counts, mail_text, runs_text, write_list};
 use office_http::Office;
 use office_mail::ToWrite;
-use office_questions::{AskFault, export, mail_counts, mail_text, runs_text, write_list};
-use office_replies::StoreFault;
+use office_orders::StoreFault;
 use office_store::Keeper;
 use std::io::{BufWriter, Write};
 

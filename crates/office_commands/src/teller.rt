@@ -3,7 +3,7 @@
 use deb_control::{Paragraph, Paragraphs};
 use office_http::{DeliverFault, Held, Progress, StoreFault, Watcher};
 use office_mail::MailFault;
-use office_replies::fault_words;
+use office_orders::fault_words;
 use std::io::IsTerminal;
 use std::time::{Duration, Instant};
 

@@ -6,7 +6,7 @@ ghost use Rattle.office_facts.specs.State.{IsSound, state_of};
 
 use deb_control::Text;
 use office_http::{Office, StoreFault};
-use office_replies::{Awaited, Waiting, waiting_text};
+use office_orders::{Awaited, Waiting, waiting_text};
 use office_store::Keeper;
 use office_words::Report;
 

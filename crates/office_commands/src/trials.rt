@@ -7,7 +7,7 @@ use crate::telling::{print_text, refuse};
 use deb_control::{NoMemory, Text};
 use office_http::{Office, StoreFault};
 use office_mail::Setup;
-use office_replies::{DeliverFault, fault_words, name_at};
+use office_orders::{DeliverFault, fault_words, name_at};
 use office_rules::{RefusedHint, Terms, Trial, Tried, has_changes, release_place, tried_text};
 use office_setup::values::day_in;
 use office_store::{Keeper, Plain, open_store, read_setup};

@@ -2,7 +2,7 @@
 use Rattle.std.specs.Prelude.{ℕ, zero, suc, List, [], ◌∷◌, ◌++◌, Option, Some, None, Result, Ok, Err}
 use Rattle.std.specs.List.{filter_map}
 use Rattle.std.specs.FinMap.{entries}
-use Rattle.jiff.specs.declared.civil.dates.Date.{Date}
+use Rattle.jiff_core.specs.declared.civil.date.Date.{Date}
 use Rattle.testing_model.specs.declared.excuse.Excuse.{Excuse}
 use Rattle.testing_model.specs.Suite.{Suite}
 use Rattle.testing_model.specs.Covered.{Covered, CoveredItem}

@@ -14,7 +14,7 @@ use crate::finished::{facts_within, take_to};
 use deb_control::NoMemory;
 use office_keeper::Keeper;
 use office_mail::{RunOrder, Setup};
-use office_replies::StoreFault;
+use office_orders::StoreFault;
 use std::alloc::Global;
 
 /// A copy of what is known.

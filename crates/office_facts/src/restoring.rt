@@ -15,9 +15,8 @@ ghost use Rattle.office_facts.specs.Taking.{AreLettersOf, AreNear, HavePutBack, 
 use deb_control::NoMemory;
 use office_keeper::{Keeper, Letter};
 use office_mail::{Body, MailFault, Message, Setup, read_message};
-use office_orders::stored;
 use office_orders::stored::BLOCK;
-use office_replies::StoreFault;
+use office_orders::{StoreFault, stored};
 use std::alloc::Global;
 use testing_facts::Facts;
 use testing_items::Item;

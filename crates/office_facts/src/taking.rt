@@ -12,8 +12,8 @@ ghost use Rattle.testing_model.specs.Tells.{Tells};
 ghost use Rattle.office_mail.specs.Runs.{cover_of};
 
 use office_mail::{Body, RunOrder};
+use office_orders::StoreFault;
 use office_orders::orders::stated_for;
-use office_replies::StoreFault;
 use testing_facts::Facts;
 use testing_items::Item;
 

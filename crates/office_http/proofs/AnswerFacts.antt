@@ -5,11 +5,11 @@ use Rattle.office_mail.specs.Kept.{Kept}
 use Rattle.office_mail.specs.Lists.{Lists}
 use Rattle.office_mail.specs.Runs.{IsReadyCount}
 use Rattle.office_mail.specs.declared.message.RunOrder.{RunOrder}
-use Rattle.office_replies.specs.Replies.{status_line}
-use Rattle.office_replies.specs.Waiting.{lack_line, awaited_lines, waiting_text}
-use Rattle.office_replies.specs.declared.waiting.Awaited.{Awaited}
-use Rattle.office_replies.specs.declared.waiting.Awaited.TheVariants.{Order, Mail}
-use Rattle.office_replies.specs.declared.waiting.Lack.{Lack}
+use Rattle.office_orders.specs.Replies.{status_line}
+use Rattle.office_orders.specs.WaitingLines.{lack_line, awaited_lines, waiting_text}
+use Rattle.office_orders.specs.declared.waiting_lines.Awaited.{Awaited}
+use Rattle.office_orders.specs.declared.waiting_lines.Awaited.TheVariants.{Order, Mail}
+use Rattle.office_orders.specs.declared.waiting_lines.Lack.{Lack}
 use Rattle.office_requests.specs.declared.reply.Answer.{Answer}
 use Rattle.office_requests.specs.declared.reply.Answer.TheVariants.{Status, Told}
 use Rattle.office_requests.specs.declared.request.Action.{Action}

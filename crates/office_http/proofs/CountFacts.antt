@@ -9,8 +9,8 @@ use Rattle.office_keeper.specs.declared.values.Letter.{Letter}
 use Rattle.office_keeper.specs.Content.{letter_at, letters_within}
 use Rattle.office_mail.specs.Lists.{Lists}
 use Rattle.office_orders.specs.Ready.{HasPlaces}
-use Rattle.office_questions.specs.declared.mail.MailCount.{MailCount}
-use Rattle.office_questions.specs.Mail.{letters_of, mail_text, AreMailCounts, IsMailCount}
+use Rattle.office_bags.specs.declared.mail.MailCount.{MailCount}
+use Rattle.office_bags.specs.Mail.{letters_of, mail_text, AreMailCounts, IsMailCount}
 use Rattle.office_http.specs.Serve.{unbroken_from, mail_count, mail_counts}
 
 module _ (kept : Kept) (sender : ℕ) where

@@ -4,8 +4,8 @@ use Rattle.std.specs.Str.{is_utf8}
 use Rattle.std.specs.Str.Lines.{lines}
 use Rattle.office_mail.specs.declared.message.MailFault.TheVariants as mail
 use Rattle.office_mail.specs.Lists.{Lists}
-use Rattle.office_replies.specs.declared.faults.DeliverFault.TheVariants.{Mail}
-use Rattle.office_replies.specs.Replies.{fault_words, name_at}
+use Rattle.office_orders.specs.declared.faults.DeliverFault.TheVariants.{Mail}
+use Rattle.office_orders.specs.Replies.{fault_words, name_at}
 use Rattle.office_requests.specs.declared.reply.Refusal.TheVariants as refusal
 use Rattle.office_requests.specs.declared.reply.Answer.{Answer}
 use Rattle.office_requests.specs.declared.reply.Answer.TheVariants.{Refused, Delivered, Told, BadHint}

@@ -6,7 +6,7 @@ ghost use Rattle.httparse.specs.Spans.{IsRequestAt};
 ghost use Rattle.httparse.specs.declared.spans.HeaderSpan.{HeaderSpan};
 ghost use Rattle.office_mail.specs.Counts.{HasRisen};
 ghost use Rattle.office_requests.specs.Asked.{asked_of, body_size};
-ghost use Rattle.office_questions.specs.Mail.{mail_text};
+ghost use Rattle.office_bags.specs.Mail.{mail_text};
 ghost use Rattle.office_runs.specs.Preserves.{Asks, Preserves, Holds, StoreRefused};
 ghost use Rattle.office_runs.specs.Laws.{RunsStand};
 ghost use Rattle.office_requests.specs.Reply.{continue_bytes, refused, reply_bytes, HasPlace};
@@ -16,17 +16,16 @@ ghost use Rattle.office_http.specs.Serve.{mail_counts, refusal_for, report_answe
 ghost use Rattle.office_rules.specs.Why.{IsWhy};
 ghost use Rattle.office_http.specs.ServeSteps.{answer_or, status_answer, text_answer, Tells, TellsAwaited, Runs, Answers, StopsRequest, ServesHead};
 ghost use Rattle.office_facts.specs.State.{state_of};
-ghost use Rattle.office_replies.specs.Counted.{Counted};
-ghost use Rattle.office_replies.specs.Written.{AppendsFront};
+ghost use Rattle.office_orders.specs.Counted.{Counted};
+ghost use Rattle.office_orders.specs.Written.{AppendsFront};
 
 use crate::trials::try_body;
 use deb_control::Text;
 use httparse::spans::{EMPTY_HEADER_SPAN, HeaderSpan, RequestSpans};
+use office_bags::{MailCount, mail_counts, mail_text, runs_text, settle_behind};
 use office_keeper::{Keeper, MailText};
 use office_mail::{Feed, MailFault, ReadFailed, Setup, Sink};
-use office_questions::{MailCount, mail_counts, mail_text, runs_text};
-use office_replays::settle_behind;
-use office_replies::{DeliverFault, Held, Progress, StoreFault, WriteFault, waiting_text};
+use office_orders::{DeliverFault, Held, Progress, StoreFault, WriteFault, waiting_text};
 use office_requests::routes::routes;
 use office_requests::{
     Action, Answer, Asked, BodyRead, FIELD_ROOM, HeadRead, Page, Posted, Refusal, asked_of,

@@ -9,7 +9,7 @@ ghost use Rattle.office_setup.specs.Values.{number_in, days_in, day_in, package_
 use crate::message::MailFault;
 use deb_control::{Paragraph, Text, is_package_name};
 use deb_version::{Version, VersionFault};
-use jiff::civil::Date;
+use jiff_core::civil::Date;
 use office_setup::{Field, values};
 use std::alloc::Global;
 use testing_items::{Severity, Urgency};

@@ -3,7 +3,7 @@ ghost use Rattle.std.specs.Prelude.{◌≡◌};
 ghost use Rattle.office_mail.specs.declared.message.MailFault.TheVariants as fault;
 
 use crate::texts::Numbers;
-use jiff::civil::Date;
+use jiff_core::civil::Date;
 use office_setup::Field;
 use std::alloc::{AllocError, AllocFailed};
 use testing_items::Item;

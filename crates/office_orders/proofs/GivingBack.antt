@@ -1,9 +1,9 @@
 -- A testing that is given back to the store that handed it out.
 use Rattle.std.proofs.Common.{◌≡◌, ℕ, inl, Result, Ok, Err, IfErr, ◌∙◌, refl, arith}
 use Rattle.office_keeper.specs.declared.keeping.Keeper.{Ghosts}
-use Rattle.office_replies.specs.Counted.{Counted}
-use Rattle.office_replies.specs.declared.faults.StoreFault.{StoreFault}
-use Rattle.office_replies.specs.declared.faults.StoreFault.TheVariants.{NoMemory, Store}
+use Rattle.office_orders.specs.Counted.{Counted}
+use Rattle.office_orders.specs.declared.faults.StoreFault.{StoreFault}
+use Rattle.office_orders.specs.declared.faults.StoreFault.TheVariants.{NoMemory, Store}
 use Rattle.office_orders.specs.ReadsStore.{ReadsStore}
 
 counted_back : {U : Type 0} (result : Result U StoreFault) (n m : ℕ) → m ≡ n → IfErr result (λ fault. fault ≡ NoMemory) → Counted n m result

@@ -1,8 +1,10 @@
 pub mod CountFacts
+pub mod DigitFacts
+pub mod GivingBack
 pub mod LastFacts
 pub mod LetterFacts
 pub mod LookFacts
 pub mod OrderFacts
 pub mod ReadyCount
 pub mod WaitingFacts
-pub mod GivingBack
+pub mod WrittenFacts

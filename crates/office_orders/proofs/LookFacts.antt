@@ -2,9 +2,9 @@
 use Rattle.std.proofs.Common.{◌≡◌, ℕ, Bool, true, false, Result, Ok, Err, ◌∙◌, refl, sym, ap, subst}
 use Rattle.office_keeper.specs.declared.keeping.Keeper.{Ghosts}
 use Rattle.office_mail.specs.Counts.{HasRisen}
-use Rattle.office_replies.specs.Counted.{Counted}
-use Rattle.office_replies.specs.declared.faults.StoreFault.{StoreFault}
-use Rattle.office_replies.specs.declared.faults.StoreFault.TheVariants.{NoMemory, Store}
+use Rattle.office_orders.specs.Counted.{Counted}
+use Rattle.office_orders.specs.declared.faults.StoreFault.{StoreFault}
+use Rattle.office_orders.specs.declared.faults.StoreFault.TheVariants.{NoMemory, Store}
 use Rattle.office_orders.specs.ReadsStore.{ReadsStore}
 use Rattle.office_orders.proofs.LastFacts.{lasts_none, lasts_then}
 

@@ -15,7 +15,7 @@ use Rattle.office_mail.specs.Read.{read}
 use Rattle.office_mail.specs.Runs.{runs, order_in, order_in_answer, order_at, orders_to, cover, cover_of, IsReady, IsReadyCount, IsGreatest, IsReadyRun}
 use Rattle.office_mail.proofs.ReadyFacts.{cover_of-push}
 use Rattle.office_mail.proofs.RunFacts.{IsReady-before}
-use Rattle.office_replies.specs.declared.faults.StoreFault.{StoreFault}
+use Rattle.office_orders.specs.declared.faults.StoreFault.{StoreFault}
 use Rattle.office_orders.specs.Ready.{FirstOrders, HasEach, HasPlaces, IsReached}
 
 pub order_at-none : (setup : Lists) (kept : Kept) (k : ℕ) → get kept (runs setup, k) ≡ None → order_at setup kept k ≡ None

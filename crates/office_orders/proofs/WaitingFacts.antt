@@ -15,9 +15,9 @@ use Rattle.office_mail.specs.Lists.{Lists}
 use Rattle.office_mail.specs.Kept.{Kept, Within}
 use Rattle.office_mail.specs.Runs.{IsReady, IsReadyCount, order_at}
 use Rattle.office_mail.proofs.RunFacts.{order_at-later}
-use Rattle.office_replies.specs.declared.waiting.Lack.{Lack}
-use Rattle.office_replies.specs.declared.waiting.Awaited.{Awaited}
-use Rattle.office_replies.specs.declared.waiting.Awaited.TheVariants.{Order, Mail}
+use Rattle.office_orders.specs.declared.waiting_lines.Lack.{Lack}
+use Rattle.office_orders.specs.declared.waiting_lines.Awaited.{Awaited}
+use Rattle.office_orders.specs.declared.waiting_lines.Awaited.TheVariants.{Order, Mail}
 use Rattle.office_orders.specs.Ready.{HasNumbers, HasEach, IsReached}
 use Rattle.office_orders.specs.Waiting.{IsFirstGap, IsLack, AreLacks, AwaitsBy, Awaits, AwaitsSome}
 use Rattle.office_orders.proofs.OrderFacts.{covers_are_whole}

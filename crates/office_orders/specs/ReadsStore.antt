@@ -2,8 +2,8 @@
 -- What a call leaves that only asks a store.
 use Rattle.std.specs.Prelude.{◌≡◌, Result, is_ok}
 use Rattle.office_keeper.specs.declared.keeping.Keeper.{Ghosts}
-use Rattle.office_replies.specs.declared.faults.StoreFault.{StoreFault}
-use Rattle.office_replies.specs.Counted.{Counted}
+use Rattle.office_orders.specs.declared.faults.StoreFault.{StoreFault}
+use Rattle.office_orders.specs.Counted.{Counted}
 use Rattle.office_orders.specs.StaysTrusted.{StaysTrusted}
 
 -- What is kept stays, and so does the setup. A store that is trusted after the call was so before it, and is legible if it was.

@@ -1,7 +1,17 @@
-//! Run orders in the kept mail of a store: which run is ready, and what the first that isn't waits for.
+//! What is answered to mail, as marks, replies and faults, and run orders in the kept mail of a store: which run is
+//! ready, and what the first that isn't waits for.
 #![tactic(auto)]
 
+mod faults;
 pub mod orders;
 pub mod ready;
+mod replies;
 pub mod stored;
 pub mod waiting;
+mod waiting_lines;
+
+pub use faults::{DeliverFault, Held, Progress, StoreFault};
+pub use replies::{
+    Delivery, Digits, Mark, WriteFault, fault_words, write_all, write_parts, write_reply,
+};
+pub use waiting_lines::{Awaited, Lack, Waiting, name_at, waiting_text};

@@ -9,11 +9,11 @@ ghost use Rattle.office_keeper.specs.Content.{letters_within};
 ghost use Rattle.office_orders.specs.ReadsStore.{ReadsStore};
 ghost use Rattle.office_orders.specs.Ready.{FirstOrders, GoesOn, HasNumbers, HasEach, HasPlaces, IsReached};
 
+use crate::faults::StoreFault;
 use crate::stored;
 use crate::stored::{BLOCK, block_end};
 use office_keeper::{Keeper, Letter};
 use office_mail::{Body, MailFault, Message, RunOrder, Setup, read_message, ready};
-use office_replies::StoreFault;
 use std::alloc::Global;
 
 /// The run order that a kept text is, or none. It fails for want of memory alone.

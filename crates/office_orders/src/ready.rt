@@ -6,10 +6,10 @@ ghost use Rattle.office_mail.specs.Runs.{IsReady, IsReadyCount};
 ghost use Rattle.office_orders.specs.ReadsStore.{ReadsStore};
 ghost use Rattle.office_orders.specs.Ready.{HasEach, HasPlaces, IsCounted};
 
+use crate::faults::StoreFault;
 use crate::orders::{is_there, order, read_orders};
 use office_keeper::Keeper;
 use office_mail::{RunOrder, Setup};
-use office_replies::StoreFault;
 use std::alloc::Global;
 
 /// The greatest number of a message, and so of a run.

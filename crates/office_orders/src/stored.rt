@@ -6,12 +6,12 @@ ghost use Rattle.std.specs.FinMap.{get, insert};
 ghost use Rattle.office_keeper.specs.Content.{with_text, with_run, reports_in, item_from_one, letters_within, IsNextNumber};
 ghost use Rattle.office_keeper.specs.FactSet.{AreHoldable, facts_after, rows_in};
 ghost use Rattle.office_keeper.specs.Provenance.{IsGiven, KnowsArchs};
-ghost use Rattle.office_replies.specs.Counted.{Counted};
+ghost use Rattle.office_orders.specs.Counted.{Counted};
 ghost use Rattle.office_orders.specs.StaysTrusted.{StaysTrusted};
 ghost use Rattle.office_orders.specs.ReadsStore.{ReadsStore};
 
+use crate::faults::StoreFault;
 use office_keeper::{Finished, Keeper, Letter, MailText, Reports};
-use office_replies::StoreFault;
 use testing_model::FactRows;
 use testing_suites::Testing;
 

@@ -8,12 +8,13 @@ ghost use Rattle.office_orders.specs.ReadsStore.{ReadsStore};
 ghost use Rattle.office_orders.specs.Ready.{HasEach, HasPlaces, IsReached};
 ghost use Rattle.office_orders.specs.Waiting.{AreLacks, Awaits, AwaitsSome};
 
+use crate::faults::{Progress, StoreFault};
 use crate::orders::{order, reach_all, stated_for};
 use crate::ready::ready_count;
 use crate::stored;
+use crate::waiting_lines::{Awaited, Lack, Waiting};
 use office_keeper::Keeper;
 use office_mail::{RunOrder, Setup};
-use office_replies::{Awaited, Lack, Progress, StoreFault, Waiting};
 use std::alloc::{AllocError, Global};
 
 /// How many numbers of a sender are counted, 0 where it has no count.

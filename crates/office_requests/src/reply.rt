@@ -4,14 +4,14 @@ ghost use Rattle.std.specs.Io.KnownBytes.{Appends};
 ghost use Rattle.http.specs.StatusCode.{reason_phrase};
 ghost use Rattle.office_mail.specs.Counts.{HasRisen};
 ghost use Rattle.office_requests.specs.Reply.{Reply, refusal_code, refusal_name, refusal_allow, refused, fault_code, accepted, bad_request, reply_in, reply_bytes, front_bytes, continue_bytes, HasPlace};
-ghost use Rattle.office_replies.specs.Replies.{status_line};
-ghost use Rattle.office_replies.specs.Written.{AppendsFront, joined};
+ghost use Rattle.office_orders.specs.Replies.{status_line};
+ghost use Rattle.office_orders.specs.Written.{AppendsFront, joined};
 
 use deb_control::Text;
 use http::StatusCode;
 use office_keeper::MailText;
 use office_mail::{MailFault, Setup, Sink};
-use office_replies::{
+use office_orders::{
     DeliverFault, Digits, Held, Progress, WriteFault, fault_words, write_all, write_parts,
 };
 
@@ -205,7 +205,7 @@ fn write_refused<W: Sink>(
     )
 }
 
-#[tactic(auto, unfolding(office_replies::specs::Replies::reply_line))]
+#[tactic(auto, unfolding(office_orders::specs::Replies::reply_line))]
 fn write_held<W: Sink>(
     setup: &Setup,
     held: Held,
@@ -232,7 +232,7 @@ fn write_held<W: Sink>(
     write_whole(StatusCode::OK, "", &body, size, is_head, writer)
 }
 
-#[tactic(auto, unfolding(office_replies::specs::Replies::reply_line))]
+#[tactic(auto, unfolding(office_orders::specs::Replies::reply_line))]
 fn write_fault<W: Sink>(
     setup: &Setup,
     fault: DeliverFault,

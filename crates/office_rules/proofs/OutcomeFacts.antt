@@ -2,7 +2,7 @@
 use Rattle.std.proofs.Common.{◌≡◌, ℕ, zero, suc, ◌+◌, List, Option, Some, sym, ap, ◌∙◌, refl, arith}
 use Rattle.std.specs.FinMap.{entries}
 use Rattle.std.specs.List.{filter_map}
-use Rattle.jiff.specs.declared.civil.dates.Date.{Date}
+use Rattle.jiff_core.specs.declared.civil.date.Date.{Date}
 use Rattle.testing_model.specs.declared.excuse.Excuse.{Excuse}
 use Rattle.testing_model.specs.declared.update.Decision.{Decision}
 use Rattle.testing_rules.specs.Covered.{Covered}

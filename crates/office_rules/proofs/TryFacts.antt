@@ -1,6 +1,6 @@
 -- What a trial is told.
 use Rattle.std.proofs.Common.{◌≡◌, ℕ, ◌+◌, List, length, Option, Some, None, ap, ◌∙◌}
-use Rattle.jiff.specs.declared.civil.dates.Date.{Date}
+use Rattle.jiff_core.specs.declared.civil.date.Date.{Date}
 use Rattle.testing_model.specs.Covered.{Covered}
 use Rattle.testing_model.specs.Suite.{Suite}
 use Rattle.office_mail.specs.Lists.{Lists}

@@ -1,6 +1,6 @@
 -- What is told of a source: by facts that stand for messages, and by the reports of the last finished run.
 use Rattle.std.proofs.Common.{◌≡◌, ℕ, ◌<◌, ◌≤◌, List, [], ◌∷◌, length, filter, Option, Some, None, sym, ap, subst, ◌∙◌, refl, arith}
-use Rattle.jiff.specs.declared.civil.dates.Date.{Date}
+use Rattle.jiff_core.specs.declared.civil.date.Date.{Date}
 use Rattle.testing_items.specs.Words.{Text}
 use Rattle.testing_model.specs.declared.excuse.Excuse.{Excuse}
 use Rattle.testing_model.specs.declared.facts.HintIn.{HintIn}

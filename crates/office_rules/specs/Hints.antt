@@ -9,7 +9,7 @@ use Rattle.office_mail.specs.Lists.{Lists}
 use Rattle.office_mail.specs.Read.{read}
 use Rattle.office_mail.specs.Setup.{place_of_role}
 use Rattle.office_keeper.specs.declared.values.Letter.{Letter}
-use Rattle.office_replies.specs.Replies.{name_at}
+use Rattle.office_orders.specs.Replies.{name_at}
 use Rattle.office_facts.specs.Outcome.{item_at}
 use Rattle.office_rules.specs.declared.RefusedHint.{RefusedHint}
 

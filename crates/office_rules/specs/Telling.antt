@@ -1,7 +1,7 @@
 -- Steps: no contract of a call that users make rests on this file.
 -- What is told of a source by facts, and by reports that may be missing.
 use Rattle.std.specs.Prelude.{◌≡◌, ℕ, List, filter, Option, Some, None}
-use Rattle.jiff.specs.declared.civil.dates.Date.{Date}
+use Rattle.jiff_core.specs.declared.civil.date.Date.{Date}
 use Rattle.testing_items.specs.Words.{Text}
 use Rattle.testing_model.specs.Covered.{Covered}
 use Rattle.testing_model.specs.FactLists.{FactLists}

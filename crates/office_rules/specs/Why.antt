@@ -1,7 +1,7 @@
 -- Why a source stands where the last finished run left it. That a source is told by itself is this office's own; what is told are the rules
 -- of the run (Debian Developer's Reference 5.13.2).
 use Rattle.std.specs.Prelude.{◌≡◌, ◌⊎◌, ℕ, Bool, true, false, List, [], ◌++◌, map, filter, Option, Some, None}
-use Rattle.jiff.specs.declared.civil.dates.Date.{Date}
+use Rattle.jiff_core.specs.declared.civil.date.Date.{Date}
 use Rattle.testing_items.specs.Words.{Text}
 use Rattle.testing_model.specs.declared.excuse.Excuse.{Excuse}
 use Rattle.testing_model.specs.declared.facts.BugIn.{BugIn}

@@ -8,9 +8,9 @@ ghost use Rattle.office_rules.specs.Counting.{EndsBelow};
 ghost use Rattle.office_rules.specs.Trial.{IsUnbroken};
 
 use office_keeper::Keeper;
+use office_orders::StoreFault;
 use office_orders::orders::{count_block, next_size};
 use office_orders::stored::block_end;
-use office_replies::StoreFault;
 
 /// The greatest number of a message.
 const GREATEST: u32 = 999_999_999;

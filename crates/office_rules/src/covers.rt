@@ -13,7 +13,7 @@ use crate::release_place;
 use office_facts::taking::cover_of;
 use office_keeper::Keeper;
 use office_mail::{RunOrder, Setup};
-use office_replies::StoreFault;
+use office_orders::StoreFault;
 use std::alloc::Global;
 
 /// Whether a trial covers all of a sender's mail that is kept without a gap.

@@ -11,12 +11,12 @@ ghost use Rattle.office_rules.specs.Trial.{decided};
 
 use crate::{RunOutcome, release_place, run_beside};
 use deb_control::{NoMemory, Text};
-use jiff::civil::Date;
+use jiff_core::civil::Date;
 use office_facts::covered::take_letters;
 use office_facts::message_cache::MessageCache;
 use office_keeper::Letter;
 use office_mail::Setup;
-use office_replies::StoreFault;
+use office_orders::StoreFault;
 use std::alloc::Global;
 use testing_reports::Decided;
 use testing_rules::{Facts, Testing};

@@ -8,7 +8,7 @@ use crate::{RefusedHint, release_place};
 use deb_control::Text;
 use office_keeper::{Letter, MailText};
 use office_mail::{MailFault, Setup, read_message};
-use office_replies::{StoreFault, name_at};
+use office_orders::{StoreFault, name_at};
 use std::alloc::{AllocError, Global};
 
 /// The greatest number of a message.

@@ -1,6 +1,6 @@
 //! What is true of every trial of hints.
 ghost use Rattle.std.specs.Prelude.{◌≡◌, ◌<◌, ℕ, ◌+◌, Bool, List, Option, Some, length};
-ghost use Rattle.jiff.specs.declared.civil.dates.Date.{Date};
+ghost use Rattle.jiff_core.specs.declared.civil.date.Date.{Date};
 ghost use Rattle.office_mail.specs.Kept.{Kept};
 ghost use Rattle.office_mail.specs.Lists.{Lists};
 ghost use Rattle.office_mail.specs.Runs.{IsReady, latest_day, orders_to};

@@ -13,7 +13,7 @@ mod told;
 mod trying;
 mod why;
 
-use jiff::civil::Date;
+use jiff_core::civil::Date;
 use office_mail::MailFault;
 pub use release::release_place;
 pub use rules::{RunOutcome, run_beside};

@@ -10,13 +10,13 @@ ghost use Rattle.testing_rules.specs.Watched.{AllWatchedWork};
 ghost use Rattle.testing_rules.specs.Provenance.{IsGivenBy};
 
 use deb_control::{NoMemory, Text};
-use jiff::civil::Date;
+use jiff_core::civil::Date;
 use office_keeper::Reports;
 use office_mail::Setup;
 use std::alloc::Global;
-use testing_rules::{
-    Archs, Excuses, Facts, Testing, Update, excuses, excuses_text, migrate, update_text,
-};
+use testing_excuses::excuses;
+use testing_reports::{excuses_text, update_text};
+use testing_rules::{Archs, Excuses, Facts, Testing, Update, migrate};
 
 /// What a run decides: testing as it leaves it, and the two reports.
 #[derive(Drop)]

@@ -12,7 +12,7 @@ ghost use Rattle.office_rules.specs.Telling.{unstable_of};
 ghost use Rattle.office_rules.specs.Why.{AreOrigins, IsRefused, IsRefusedWhere, IsTold, IsToldBy, IsToldOf, said_in, sender_names};
 
 use deb_control::{NoMemory, Text};
-use jiff::civil::Date;
+use jiff_core::civil::Date;
 use office_keeper::Reports;
 use office_mail::Setup;
 use std::alloc::Global;

@@ -5,7 +5,7 @@ ghost use Rattle.std.specs.Prelude.{is_ok, ◌≡◌, Some, IfOk, IfErr, IfSome,
 ghost use Rattle.testing_model.specs.Covered.{Covered};
 ghost use Rattle.testing_model.specs.StandsFor.{StandsFor};
 ghost use Rattle.office_keeper.specs.Content.{item_from_one};
-ghost use Rattle.office_replies.specs.Counted.{Counted};
+ghost use Rattle.office_orders.specs.Counted.{Counted};
 ghost use Rattle.office_orders.specs.ReadsStore.{ReadsStore};
 ghost use Rattle.office_orders.specs.Ready.{FirstOrders};
 ghost use Rattle.office_orders.specs.StaysTrusted.{StaysTrusted};
@@ -17,13 +17,12 @@ ghost use Rattle.office_rules.specs.Telling.{IsToldWith};
 
 use crate::told::told_after;
 use deb_control::Text;
-use jiff::civil::Date;
+use jiff_core::civil::Date;
 use office_facts::covered::{KnownFacts, covers};
 use office_facts::finished::{facts_within, finished_orders, remember};
 use office_keeper::{Keeper, Reports};
 use office_mail::{RunOrder, Setup, latest_day};
-use office_orders::stored;
-use office_replies::StoreFault;
+use office_orders::{StoreFault, stored};
 use std::alloc::Global;
 use testing_facts::Facts;
 use testing_suites::Testing;

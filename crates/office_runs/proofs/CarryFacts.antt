@@ -4,13 +4,13 @@ use Rattle.office_mail.specs.Lists.{Lists}
 use Rattle.office_keeper.specs.Content.{Content}
 use Rattle.office_mail.specs.Counts.{HasRisen}
 use Rattle.office_keeper.specs.declared.keeping.Keeper.{Ghosts}
-use Rattle.office_replies.specs.declared.faults.StoreFault.{StoreFault}
-use Rattle.office_replies.specs.declared.faults.StoreFault.TheVariants.{NoMemory, Store}
-use Rattle.office_replies.specs.declared.faults.DeliverFault.{DeliverFault}
-use Rattle.office_replies.specs.declared.faults.DeliverFault.TheVariants as deliver
-use Rattle.office_replies.specs.declared.faults.Held.{Held}
+use Rattle.office_orders.specs.declared.faults.StoreFault.{StoreFault}
+use Rattle.office_orders.specs.declared.faults.StoreFault.TheVariants.{NoMemory, Store}
+use Rattle.office_orders.specs.declared.faults.DeliverFault.{DeliverFault}
+use Rattle.office_orders.specs.declared.faults.DeliverFault.TheVariants as deliver
+use Rattle.office_orders.specs.declared.faults.Held.{Held}
 use Rattle.office_runs.specs.Preserves.{HasNotFallen, Holds, StoreRefused, Preserves, Asks}
-use Rattle.office_replies.specs.Counted.{Counted, CountedDelivery}
+use Rattle.office_orders.specs.Counted.{Counted, CountedDelivery}
 use Rattle.office_orders.specs.StaysTrusted.{StaysTrusted}
 use Rattle.office_facts.specs.OfficeState.{OfficeState}
 use Rattle.office_facts.specs.State.{IsSound, state_of}

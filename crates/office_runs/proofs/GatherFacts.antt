@@ -17,9 +17,9 @@ use Rattle.office_mail.proofs.KeptFacts.{places_total, tied, kept_from-nil, kept
 use Rattle.office_keeper.specs.Content.{Content}
 use Rattle.office_keeper.specs.NewMail.{AreFree, with_letters, with_mail}
 use Rattle.office_keeper.specs.declared.values.NewLetter.{NewLetter}
-use Rattle.office_replies.specs.declared.faults.DeliverFault.{DeliverFault}
-use Rattle.office_replies.specs.declared.faults.DeliverFault.TheVariants.{Mail, OtherText}
-use Rattle.office_replies.specs.declared.faults.Held.{Held}
+use Rattle.office_orders.specs.declared.faults.DeliverFault.{DeliverFault}
+use Rattle.office_orders.specs.declared.faults.DeliverFault.TheVariants.{Mail, OtherText}
+use Rattle.office_orders.specs.declared.faults.Held.{Held}
 use Rattle.office_facts.specs.State.{IsOffice, answer_to, answer_by, answer_at, held_at}
 use Rattle.office_runs.specs.GatherSteps.{Gathers, TakesText, letter_of, own_text, ArePlaced}
 use Rattle.office_runs.specs.Together.{answers_to}

@@ -2,7 +2,7 @@
 use Rattle.std.proofs.Common.{◌≡◌, ℕ, ◌+◌, List, length, Some, sym, ap, subst, ◌∙◌}
 use Rattle.office_mail.specs.declared.message.RunOrder.{RunOrder}
 use Rattle.office_mail.specs.Runs.{cover_of, cover, latest_day, orders_to}
-use Rattle.jiff.specs.declared.civil.dates.Date.{Date}
+use Rattle.jiff_core.specs.declared.civil.date.Date.{Date}
 use Rattle.testing_rules.specs.Covered.{Covered}
 use Rattle.office_mail.specs.Lists.{Lists}
 use Rattle.testing_rules.specs.FactLists.{FactLists}

@@ -6,8 +6,8 @@ use Rattle.office_mail.specs.Lists.{Lists}
 use Rattle.office_mail.specs.Kept.{Kept, IsPlace, kept_from}
 use Rattle.office_keeper.specs.NewMail.{AreFree, with_letters}
 use Rattle.office_keeper.specs.declared.values.NewLetter.{NewLetter}
-use Rattle.office_replies.specs.declared.faults.DeliverFault.{DeliverFault}
-use Rattle.office_replies.specs.declared.faults.Held.{Held}
+use Rattle.office_orders.specs.declared.faults.DeliverFault.{DeliverFault}
+use Rattle.office_orders.specs.declared.faults.Held.{Held}
 use Rattle.office_facts.specs.State.{answer_to}
 use Rattle.office_runs.specs.Together.{answers_to}
 

@@ -6,7 +6,7 @@ ghost use Rattle.std.specs.Option.{option_map};
 ghost use Rattle.office_keeper.specs.NewMail.{AreFree, with_letters, with_mail};
 ghost use Rattle.office_mail.specs.Kept.{kept_from, place_of, IsPlace, Within};
 ghost use Rattle.office_mail.specs.Read.{read};
-ghost use Rattle.office_replies.specs.Counted.{Counted};
+ghost use Rattle.office_orders.specs.Counted.{Counted};
 ghost use Rattle.office_runs.specs.GatherSteps.{ArePlaced, Gathers, TakesText, letter_of, own_text};
 ghost use Rattle.office_runs.specs.Together.{AreHeldHere, answers_to};
 ghost use Rattle.office_orders.specs.ReadsStore.{ReadsStore};
@@ -18,8 +18,7 @@ use crate::posting::{compare, hold};
 use office_facts::message_cache::MessageCache;
 use office_keeper::{Keeper, MailText, NewLetter};
 use office_mail::{MailFault, Message, Setup, read_message};
-use office_orders::stored;
-use office_replies::{DeliverFault, Held, StoreFault};
+use office_orders::{DeliverFault, Held, StoreFault, stored};
 use std::alloc::Global;
 
 /// What a delivery is answered.

@@ -10,7 +10,7 @@ ghost use Rattle.office_mail.specs.declared.message.RunOrder.{RunOrder};
 ghost use Rattle.office_setup.specs.declared.setup.Role.TheVariants.{Release};
 ghost use Rattle.office_keeper.specs.Content.{Content, item_from_one, no_content};
 ghost use Rattle.office_keeper.specs.LastDelays.{GetsLast};
-ghost use Rattle.office_replies.specs.declared.waiting.Lack.{Lack};
+ghost use Rattle.office_orders.specs.declared.waiting_lines.Lack.{Lack};
 ghost use Rattle.office_runs.specs.Laws.{RunsStand, TookTexts};
 ghost use Rattle.office_runs.specs.Migrated.{IsOfficeBefore};
 ghost use Rattle.office_facts.specs.Outcome.{outcome_of, reports_to};

@@ -18,14 +18,13 @@ ghost use Rattle.office_orders.specs.Ready.{FirstOrders};
 ghost use Rattle.office_facts.specs.State.{IsOffice};
 ghost use Rattle.office_facts.specs.Walk.{said_within};
 
-use jiff::civil::Date;
+use jiff_core::civil::Date;
 use office_facts::covered::{KnownFacts, facts};
 use office_facts::message_cache::MessageCache;
 use office_facts::retaking::go_with;
 use office_keeper::{Finished, Keeper};
 use office_mail::{RunOrder, Setup, latest_day};
-use office_orders::stored;
-use office_replies::StoreFault;
+use office_orders::{StoreFault, stored};
 use office_rules::run_beside;
 use std::alloc::Global;
 

@@ -6,7 +6,7 @@ ghost use Rattle.std.specs.FinMap.{get};
 ghost use Rattle.office_mail.specs.Kept.{kept_from, place_of, IsPlace, Within};
 ghost use Rattle.office_mail.specs.Lists.{Lists};
 ghost use Rattle.office_mail.specs.Read.{read};
-ghost use Rattle.office_replies.specs.Counted.{CountedDelivery};
+ghost use Rattle.office_orders.specs.Counted.{CountedDelivery};
 ghost use Rattle.office_orders.specs.StaysTrusted.{StaysTrusted};
 ghost use Rattle.office_facts.specs.Cached.{AreRead};
 ghost use Rattle.office_facts.specs.State.{AnswersDelivery, IsOffice, answer_at, answer_to};
@@ -14,8 +14,7 @@ ghost use Rattle.office_facts.specs.State.{AnswersDelivery, IsOffice, answer_at,
 use office_facts::message_cache::MessageCache;
 use office_keeper::{Keeper, MailText};
 use office_mail::{Message, Setup, read_message};
-use office_orders::stored;
-use office_replies::{DeliverFault, Held};
+use office_orders::{DeliverFault, Held, stored};
 use std::alloc::Global;
 
 /// What is answered where a text is kept already.

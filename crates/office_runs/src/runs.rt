@@ -6,7 +6,7 @@ ghost use Rattle.testing_model.specs.declared.facts.DelaysIn.{DelaysIn as SomeDe
 ghost use Rattle.office_setup.specs.declared.setup.Role.TheVariants.{Release as TheRelease};
 ghost use Rattle.office_mail.specs.Runs.{IsReady, IsReadyCount};
 ghost use Rattle.office_mail.specs.Setup.{place_of_role};
-ghost use Rattle.office_replies.specs.Counted.{Counted};
+ghost use Rattle.office_orders.specs.Counted.{Counted};
 ghost use Rattle.office_facts.specs.Cached.{AreRead};
 ghost use Rattle.office_facts.specs.Known.{AreKnown};
 ghost use Rattle.office_orders.specs.StaysTrusted.{StaysTrusted};
@@ -19,8 +19,7 @@ use office_facts::message_cache::MessageCache;
 use office_keeper::Keeper;
 use office_mail::{RunOrder, Setup};
 use office_orders::ready::next_is_ready;
-use office_orders::stored;
-use office_replies::StoreFault;
+use office_orders::{StoreFault, stored};
 use office_rules::release_place;
 use std::alloc::Global;
 use testing_rules::DelaysIn;

@@ -6,8 +6,7 @@ ghost use Rattle.office_orders.specs.ReadsStore.{ReadsStore};
 use deb_control::Text;
 use office_keeper::Keeper;
 use office_mail::Setup;
-use office_orders::stored;
-use office_replies::StoreFault;
+use office_orders::{StoreFault, stored};
 use std::alloc::Global;
 use testing_rules::Testing;
 

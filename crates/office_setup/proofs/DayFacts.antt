@@ -5,8 +5,9 @@ use Rattle.std.proofs.lemmas.Bool.{eqb-true}
 use Rattle.std.specs.Result.{result_ok}
 use Rattle.std.specs.Cmp.Derive.{both_true}
 use Rattle.std.proofs.lemmas.Bool.Decides.{nat_tests}
-use Rattle.jiff.specs.declared.civil.dates.Date.{Date}
-use Rattle.jiff.specs.Words.{IsDate, IsYmd, epoch_day, days_in_month}
+use Rattle.jiff_core.specs.declared.civil.date.Date.{Date}
+use Rattle.jiff_core.specs.Calendar.{IsDate, days_in_month}
+use Rattle.jiff_core.specs.Date.{IsYmd, epoch_day}
 use Rattle.jiff.proofs.Family.{same_date}
 use Rattle.office_setup.specs.Calendar.{is_real_day, is_between, date_of, day_if, day_if_real}
 use Rattle.office_setup.specs.Values.{is_day_form, DayForm}

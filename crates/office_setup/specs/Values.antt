@@ -8,7 +8,7 @@ use Rattle.deb_version.specs.Characters as chars
 use Rattle.deb_control.specs.Text.{is_white}
 use Rattle.deb_control.specs.Paragraphs.{not_empty}
 use Rattle.deb_control.specs.Relations.{is_package_name, is_version}
-use Rattle.jiff.specs.declared.civil.dates.Date.{Date}
+use Rattle.jiff_core.specs.declared.civil.date.Date.{Date}
 use Rattle.office_setup.specs.Calendar.{day_if_real}
 use Rattle.testing_items.specs.declared.item.Urgency.{Urgency}
 use Rattle.testing_items.specs.declared.item.Urgency.TheVariants.{Low, Medium, High, Emergency, Critical}

@@ -8,7 +8,7 @@ ghost use Rattle.office_setup.specs.Calendar.{day_if_real};
 ghost use Rattle.office_setup.specs.Values.{some_if, is_number, number_in, days_in, words, is_day_form, DayForm, day_in, ends_urgency, urgency_named, urgency_in, severity_in};
 
 use deb_control::{is_white, skip_white};
-use jiff::civil::Date;
+use jiff_core::civil::Date;
 use std::alloc::{AllocError, Global};
 use testing_items::{Severity, Urgency};
 

@@ -1,7 +1,7 @@
 -- Excuses from facts are those of the messages that the facts stand for.
 use Rattle.std.specs.Prelude.{ℕ, List, [], ◌∷◌, Option, map, filter, nat_lt, unwrap_or}
 use Rattle.std.proofs.Common.{◌≡◌, refl, ap, ◌∙◌}
-use Rattle.jiff.specs.declared.civil.dates.Date.{Date}
+use Rattle.jiff_core.specs.declared.civil.date.Date.{Date}
 use Rattle.testing_model.specs.declared.facts.UploadIn.{UploadIn}
 use Rattle.testing_model.specs.declared.excuse.Excuse.{Excuse}
 use Rattle.testing_items.specs.Words.{Text}

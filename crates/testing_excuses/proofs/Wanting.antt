@@ -10,7 +10,7 @@ use Rattle.testing_install.specs.Index.{hash_of}
 use Rattle.testing_excuses.specs.declared.by_source.News.{News}
 use Rattle.testing_model.specs.declared.facts.BuildIn.{BuildIn}
 use Rattle.testing_model.specs.declared.suite.RowIn.{RowIn}
-use Rattle.testing_lists.specs.declared.source_filter.SourceFilter.{SourceFilter}
+use Rattle.testing_facts.specs.declared.source_filter.SourceFilter.{SourceFilter}
 use Rattle.testing_excuses.specs.BySource.{is_among}
 use Rattle.testing_model.specs.Unstable.{places, row_at, built_on, built_rows}
 use Rattle.testing_model.specs.SourceFilter.{is_one_of, hash_passes}

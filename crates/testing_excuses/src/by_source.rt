@@ -8,7 +8,7 @@ ghost use Rattle.testing_model.specs.JudgedRows.{lent};
 ghost use Rattle.testing_items.specs.Words.{Text};
 
 use deb_version::{NoMemory, Version};
-use jiff::civil::Date;
+use jiff_core::civil::Date;
 use std::alloc::Global;
 use std::collections::HashMap;
 use std::marker::Model;

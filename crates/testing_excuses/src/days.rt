@@ -5,7 +5,7 @@ ghost use Rattle.testing_model.specs.Excuses as rules;
 
 use crate::reasons::is_named;
 use deb_version::Version;
-use jiff::civil::Date;
+use jiff_core::civil::Date;
 use testing_facts::{is_above, urgency_rank};
 use testing_items::{Hint, Urgency};
 use testing_model::{Delays, DelaysIn, HintIn, UploadIn};
@@ -14,8 +14,8 @@ use testing_model::{Delays, DelaysIn, HintIn, UploadIn};
 pub fn age_of(date: Date, upload: &UploadIn) -> u32
     ensures { result ≡ rules.age_of date upload.now }
 {
-    let day = date.to_plain().to_unix_epoch_day();
-    let uploaded = upload.day.to_plain().to_unix_epoch_day();
+    let day = date.to_unix_epoch_day();
+    let uploaded = upload.day.to_unix_epoch_day();
     if day < uploaded {
         return 0;
     }

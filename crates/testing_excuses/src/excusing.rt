@@ -19,7 +19,7 @@ use crate::own_hints::hints_by_source;
 use crate::reasons::{Known, reasons_of};
 use crate::source_filter::sources_of_news;
 use deb_version::{NoMemory, Version};
-use jiff::civil::Date;
+use jiff_core::civil::Date;
 use std::alloc::Global;
 use testing_facts::{Facts, Unhints, is_in_force, rows_passing};
 use testing_items::{Archs, copy_version};

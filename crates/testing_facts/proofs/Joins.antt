@@ -24,7 +24,7 @@ use Rattle.testing_model.proofs.GreatestDrops.{greatest-decide}
 use Rattle.testing_model.proofs.Sets.{first_or_rest, at_front}
 use Rattle.testing_items.proofs.Members.{tail_of}
 use Rattle.testing_order.specs.Uploads.{with_kept}
-use Rattle.testing_lists.proofs.KeptUploads.{kept_from, kept_own, kept_others}
+use Rattle.testing_facts.proofs.KeptUploads.{kept_from, kept_own, kept_others}
 
 -- builds that stand by two tests alike
 builds-same : (p q : BuildIn → Bool) → ((b : BuildIn) → p b ≡ q b) → (bs rows : List BuildIn) → with_builds p bs rows ≡ with_builds q bs rows

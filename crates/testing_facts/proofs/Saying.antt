@@ -27,9 +27,9 @@ use Rattle.testing_model.proofs.Picks.{rises-put}
 use Rattle.testing_model.proofs.Sets.{first_or_rest, at_front, put_from}
 use Rattle.testing_facts.specs.Entries.{entry_of, with_entry}
 use Rattle.testing_order.specs.Uploads.{with_kept}
-use Rattle.testing_lists.proofs.KeyMembers.{first_from}
-use Rattle.testing_lists.proofs.KeySlots.{by_source-upload, by_pair-builds, by_pair-drop, drops_by_pair-drop, by_number-bug}
-use Rattle.testing_lists.proofs.KeptUploads.{kept_from}
+use Rattle.testing_facts.proofs.KeyMembers.{first_from}
+use Rattle.testing_facts.proofs.KeySlots.{by_source-upload, by_pair-builds, by_pair-drop, drops_by_pair-drop, by_number-bug}
+use Rattle.testing_facts.proofs.KeptUploads.{kept_from}
 
 -- Which elements a list has with one more.
 pub upload_from : (u z : UploadIn) (us : List UploadIn) → Contains (with_upload u us) z → (u ≡ z) ⊎ Contains us z

@@ -21,7 +21,7 @@ use Rattle.testing_model.specs.declared.fact_row.FactRow.{FactRow}
 use Rattle.testing_model.specs.FactRows.{source_row, upload_row, build_row, drop_row, bug_row, hint_row, unhint_row, delays_row, rows_of, is_row, times}
 use Rattle.testing_facts.specs.Shifts.{way_given, come_in, put_over, Shift, shift_build, shift_builds, shift_of, Shifts}
 use Rattle.testing_order.specs.Uploads.{message_order, first_stays}
-use Rattle.testing_lists.proofs.KeptUploads.{none_gives_way}
+use Rattle.testing_facts.proofs.KeptUploads.{none_gives_way}
 
 -- sums over an element that is put by key
 module _ {A K : Type 0} (f : A → ℕ) (key : A → K) (cmp : K → K → Ordering) where

@@ -1,7 +1,10 @@
+pub mod Blocks
+pub mod ElementShifts
 pub mod Entries
+pub mod HintOrder
 pub mod Restored
 pub mod Shifts
-pub use Rattle.testing_lists.specs.Blocks
-pub use Rattle.testing_lists.specs.SourceFilter
+pub mod Slots
+pub mod SourceFilter
 pub use Rattle.testing_order.specs.Trimming
 pub use Rattle.testing_order.specs.Uploads

@@ -4,7 +4,7 @@ use Rattle.std.specs.Ordering.{nat_cmp}
 use Rattle.testing_order.specs.declared.entry.Entry.{Entry}
 use Rattle.testing_order.specs.declared.entry.Entry.TheVariants.{Upload, Dropped, Build, Bug, Hint, Unhint, Delays, Nothing}
 use Rattle.testing_items.specs.Words.{byte_cmp, lesser}
-pub use Rattle.testing_lists.specs.Shifts.{way_given, come_in, put_over, Shift, no_shift, then_shift, shift_build, shift_builds, IsShift}
+pub use Rattle.testing_facts.specs.ElementShifts.{way_given, come_in, put_over, Shift, no_shift, then_shift, shift_build, shift_builds, IsShift}
 use Rattle.testing_model.specs.FactLists.{FactLists}
 use Rattle.testing_model.specs.FactRows.{source_row, upload_row, build_row, drop_row, bug_row, hint_row, unhint_row, delays_row, times}
 use Rattle.testing_model.specs.Unstable.{upload_order, pair_order, drop_order, drop_pair, bug_order, hint_order, unhint_order, delays_order}

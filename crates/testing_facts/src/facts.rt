@@ -5,7 +5,7 @@ ghost use Rattle.testing_model.specs.Boxed.{unboxed};
 ghost use Rattle.testing_model.specs.Covered.{Covered, CoveredItem, upload_of, drop_of, bug_of, hint_of, unhint_of, delays_of, builds_of};
 ghost use Rattle.testing_facts.specs.Entries.{with_entry, noted};
 ghost use Rattle.testing_facts.specs.Restored.{said, put_given, last_given, restored};
-ghost use Rattle.testing_lists.specs.Shifts.{shift_builds};
+ghost use Rattle.testing_facts.specs.ElementShifts.{shift_builds};
 ghost use Rattle.testing_order.specs.Uploads.{AreByMessage, with_kept};
 ghost use Rattle.testing_order.specs.declared.entry.Entry.TheVariants.{Upload, Dropped, Bug, Hint as AHint, Unhint, Delays};
 ghost use Rattle.testing_model.specs.FactDifference.{IsChangedFrom, IsDifference};
@@ -20,15 +20,14 @@ ghost use Rattle.testing_model.specs.Tells.{Tells};
 ghost use Rattle.testing_model.specs.WithMessage.{with_upload, with_build, with_builds, with_greatest, with_bug, with_hint, with_unhint, stands_beside};
 ghost use Rattle.testing_model.specs.declared.facts.UploadIn.{UploadIn as AnUpload};
 
+use crate::build_blocks::BuildBlocks;
 use crate::copying::{copy_all, copy_boxed, copy_log, copy_said};
+use crate::shifts::{bug_shift, drop_shift, hint_left, last_row, source_shift, unhint_left};
+use crate::taken::{put_bug, put_drop, put_hint, put_kept, put_unhint, put_upload};
 use deb_version::NoMemory;
 use std::alloc::Global;
 use std::marker::Model;
 use testing_items::{Hint, Item};
-use testing_lists::{
-    BuildBlocks, bug_shift, drop_shift, hint_left, last_row, put_bug, put_drop, put_hint, put_kept,
-    put_unhint, put_upload, source_shift, unhint_left,
-};
 use testing_model::{
     BugIn, BuildIn, DelaysIn, DropIn, FactChanges, FactRow, HasSources, HintIn, UnhintIn, UploadIn,
 };
@@ -70,7 +69,7 @@ impl Drop for Facts {
 
 impl Model for Facts {
     ghost use Rattle.testing_order.specs.Uploads.{AreByMessage};
-    ghost use Rattle.testing_lists.specs.HintOrder.{AreHintsByNumber, AreUnhintsByNumber};
+    ghost use Rattle.testing_facts.specs.HintOrder.{AreHintsByNumber, AreUnhintsByNumber};
     ghost use Rattle.testing_model.specs.Boxed.{unboxed};
     ghost use Rattle.testing_model.specs.FactLists.{FactLists};
     ghost use Rattle.testing_model.specs.FactOrder.{IsFactOrder};

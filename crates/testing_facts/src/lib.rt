@@ -1,14 +1,20 @@
-//! The facts of the covered messages: taken one by one, and what of them a run may use.
+//! The facts of the covered messages: taken one by one, with the lists that they stand in, unstable's rows in blocks,
+//! and what of them a run may use.
 #![tactic(auto)]
 
+mod build_blocks;
+mod built;
 mod copying;
 mod facts;
+mod moves;
+mod shifts;
+mod source_filter;
+mod taken;
 mod unhinting;
 
+pub use built::{built_rows, rows_passing};
 pub use facts::Facts;
-pub use testing_lists::{
-    Hashes, SourceFilter, Unstable, as_source, built_rows, candidates, hashes_pass, passing_rows,
-    rows_passing, set_of, source_in,
-};
+pub use moves::{Unstable, as_source, source_in};
+pub use source_filter::{Hashes, SourceFilter, candidates, hashes_pass, passing_rows, set_of};
 pub use testing_order::{is_above, is_current, is_of_source, is_same_version, urgency_rank};
 pub use unhinting::{Unhints, is_in_force};

@@ -3,8 +3,8 @@ use Rattle.std.specs.Prelude.{ℕ, Bool, true, false, ◌&&◌, ◌||◌, not, n
 use Rattle.std.specs.List.{filter_map, list_any, last_or}
 use Rattle.std.specs.Option.{option_map_or}
 use Rattle.std.specs.Str.{bytes_eq}
-use Rattle.jiff.specs.declared.civil.dates.Date.{Date}
-use Rattle.jiff.specs.Words.{epoch_day}
+use Rattle.jiff_core.specs.declared.civil.date.Date.{Date}
+use Rattle.jiff_core.specs.Date.{epoch_day}
 use Rattle.testing_items.specs.declared.item.Urgency.{Urgency}
 use Rattle.testing_items.specs.declared.item.Urgency.TheVariants.{Low, Medium, High, Emergency, Critical}
 use Rattle.testing_items.specs.declared.item.Hint.{Hint}

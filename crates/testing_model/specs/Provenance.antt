@@ -1,7 +1,7 @@
 -- Which covered message gave an entry of testing.
 use Rattle.std.specs.Prelude.{◌≡◌, ℕ, zero, suc, ◌<◌, ◌≤◌, ◌⊎◌, List, length, Option, Some, None, Contains}
 use Rattle.std.specs.List.{slice_get}
-use Rattle.jiff.specs.declared.civil.dates.Date.{Date}
+use Rattle.jiff_core.specs.declared.civil.date.Date.{Date}
 use Rattle.deb_control.specs.declared.binary.Binary.{Binary}
 use Rattle.testing_items.specs.declared.item.Item.TheVariants.{Upload, Build}
 use Rattle.testing_items.specs.declared.item.Urgency.{Urgency}

@@ -5,7 +5,7 @@ ghost use Rattle.std.specs.Prelude.{◌≡◌, IfOk};
 use crate::shared_binary::SharedBinary;
 use deb_control::Text;
 use deb_version::{NoMemory, Version};
-use jiff::civil::Date;
+use jiff_core::civil::Date;
 use std::alloc::Global;
 use testing_items::{Hint, Severity, Urgency, copy_version};
 

@@ -15,7 +15,7 @@ ghost use Rattle.testing_moves.specs.Runs.{after_turns};
 use crate::live::LiveTesting;
 use crate::turns::Turns;
 use deb_version::NoMemory;
-use jiff::civil::Date;
+use jiff_core::civil::Date;
 use std::alloc::Global;
 use testing_facts::{Facts, Unhints, Unstable, built_rows, candidates};
 use testing_items::Archs;

@@ -4,7 +4,7 @@ use Rattle.std.specs.List.Sorted.{IsStrictlySortedBy}
 use Rattle.std.specs.declared.cmp.Ordering.{Ordering}
 use Rattle.std.specs.declared.cmp.Ordering.TheVariants.{Less}
 use Rattle.std.specs.Ordering.{nat_cmp, int_cmp, on, then_cmp}
-use Rattle.jiff.specs.Words.{epoch_day}
+use Rattle.jiff_core.specs.Date.{epoch_day}
 use Rattle.testing_items.specs.Words.{byte_cmp}
 use Rattle.testing_model.specs.declared.facts.UploadIn.{UploadIn}
 use Rattle.testing_model.specs.Excuses.{urgency_rank}

@@ -6,7 +6,7 @@ ghost use Rattle.testing_order.specs.Entries as entries;
 
 use deb_control::{Binary, Text};
 use deb_version::{NoMemory, Version};
-use jiff::civil::Date;
+use jiff_core::civil::Date;
 use std::alloc::Global;
 use std::marker::Model;
 use testing_items::{Hint, Item, Severity, Urgency, copy_version};

@@ -54,8 +54,8 @@ pub fn urgency_rank(urgency: Urgency) -> u32
 fn said_order(upload: &UploadIn, other: &UploadIn) -> Ordering
     ensures { result ≡ uploads.said_order upload.now other.now }
 {
-    let day = upload.day.to_plain().to_unix_epoch_day();
-    let days = day.cmp(&other.day.to_plain().to_unix_epoch_day());
+    let day = upload.day.to_unix_epoch_day();
+    let days = day.cmp(&other.day.to_unix_epoch_day());
     let urgencies = urgency_rank(upload.urgency).cmp(&urgency_rank(other.urgency));
     let versions = upload.version.text().cmp(other.version.text());
     let sources = upload.source.as_str().cmp(other.source.as_str());

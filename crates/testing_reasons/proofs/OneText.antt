@@ -1,9 +1,10 @@
 -- No two days lie so many days behind one, so a source has one text.
 use Rattle.std.specs.Prelude.{ℕ, Option, Some, None, List}
 use Rattle.std.proofs.Common.{◌≡◌, ◌∙◌, refl, sym, ap, subst}
-use Rattle.jiff.specs.declared.civil.dates.Date.{Date}
-use Rattle.jiff.specs.Words.{IsEpochDay}
-use Rattle.jiff.proofs.Family.{epoch_day_range, same_date}
+use Rattle.jiff_core.specs.declared.civil.date.Date.{Date}
+use Rattle.jiff_core.specs.Calendar.{IsEpochDay}
+use Rattle.jiff_core.proofs.DateLemmas.{epoch_day_range}
+use Rattle.jiff.proofs.Family.{same_date}
 use Rattle.testing_items.specs.Words.{Text}
 use Rattle.testing_model.specs.declared.excuse.Excuse.{Excuse}
 use Rattle.testing_model.specs.declared.facts.UploadIn.{UploadIn}

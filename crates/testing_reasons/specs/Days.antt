@@ -1,7 +1,8 @@
 -- Which day lies so many days behind another, by the numbers of days (that a source waits whole days is decided by this office).
 use Rattle.std.specs.Prelude.{◌≡◌, ℕ, ◌+ℤ◌, pos, Option, Some, None}
-use Rattle.jiff.specs.declared.civil.dates.Date.{Date}
-use Rattle.jiff.specs.Words.{epoch_day, IsEpochDay}
+use Rattle.jiff_core.specs.declared.civil.date.Date.{Date}
+use Rattle.jiff_core.specs.Calendar.{IsEpochDay}
+use Rattle.jiff_core.specs.Date.{epoch_day}
 use Rattle.testing_model.specs.declared.excuse.Excuse.{Excuse}
 use Rattle.testing_model.specs.declared.facts.UploadIn.{UploadIn}
 

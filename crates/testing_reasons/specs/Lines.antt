@@ -2,7 +2,7 @@
 -- form is decided by this office.
 use Rattle.std.specs.Prelude.{◌≡◌, ℕ, Bool, true, false, if◌then◌else◌, List, [], ◌∷◌, ◌++◌, codes, decimal, Option, Some, None, slice_index_or}
 use Rattle.std.specs.List.{flat_map}
-use Rattle.jiff.specs.declared.civil.dates.Date.{Date}
+use Rattle.jiff_core.specs.declared.civil.date.Date.{Date}
 use Rattle.jiff.specs.Words.{date_text}
 use Rattle.testing_items.specs.Words.{Text, arch_name}
 use Rattle.testing_model.specs.declared.excuse.Excuse.{Excuse}

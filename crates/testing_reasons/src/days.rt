@@ -3,15 +3,15 @@
 ghost use Rattle.std.specs.Prelude.{option_copied};
 ghost use Rattle.testing_reasons.specs.Days as rules;
 
-use jiff::civil::Date;
+use jiff_core::civil::Date;
 use testing_model::{Excuse, UploadIn};
 
 /// The day so many days behind another, where it can be written.
 fn day_after(day: Date, days: u32) -> Option<Date>
     ensures { rules.IsDayAfter day days result }
 {
-    match day.to_plain().checked_add(i64::from(days)) {
-        Ok(later) => Some(Date::from_plain(later)),
+    match day.checked_add(i64::from(days)) {
+        Ok(later) => Some(later),
         Err(_) => None,
     }
 }

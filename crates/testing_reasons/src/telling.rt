@@ -15,7 +15,8 @@ use crate::messages::{Origin, age_hint, origins};
 use crate::saying::Said;
 use deb_control::Text;
 use deb_version::NoMemory;
-use jiff::civil::Date;
+use jiff::civil;
+use jiff_core::civil::Date;
 use std::alloc::{AllocError, Global};
 use testing_items::Archs;
 use testing_model::{BugIn, Excuse, HintIn, LentRow, Reason, UploadIn};
@@ -47,7 +48,7 @@ fn push_upload(text: &mut String, senders: &[Text], upload: &UploadIn) -> Result
     let (sender, number, day) = (
         sender_name(senders, upload.sender),
         upload.number,
-        upload.day,
+        civil::Date::from_plain(upload.day),
     );
     writeln!(text, "upload {sender} {number} {day}")
 }
@@ -69,7 +70,10 @@ fn push_day(text: &mut String, ready: Option<Date>) -> Result<(), AllocError>
     ensures { OnOk result (string_bytes text.new ≡ string_bytes text.old ++ lines.day_words ready) }
 {
     match ready {
-        Some(day) => write!(text, " on {day}"),
+        Some(day) => {
+            let day = civil::Date::from_plain(day);
+            write!(text, " on {day}")
+        }
         None => Ok(()),
     }
 }

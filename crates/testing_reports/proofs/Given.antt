@@ -2,7 +2,7 @@
 use Rattle.std.specs.Prelude.{ℕ, ◌≤◌, List, [], ◌∷◌, ◌++◌, Option, Some, None, codes, pos}
 use Rattle.std.specs.List.{flat_map}
 use Rattle.std.proofs.Common.{lit≤}
-use Rattle.jiff.specs.declared.civil.dates.Date.{Date}
+use Rattle.jiff_core.specs.declared.civil.date.Date.{Date}
 use Rattle.testing_items.specs.Words.{Text}
 use Rattle.deb_control.specs.declared.binary.Binary.{Binary}
 use Rattle.deb_control.specs.declared.relation.Alternative.{Alternative}

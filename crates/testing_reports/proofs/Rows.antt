@@ -3,7 +3,7 @@ use Rattle.testing_install.specs.Installable.{are_installable}
 use Rattle.std.specs.Prelude.{◌≡◌, refl, [], ◌∷◌, ◌++◌, Some, None, codes, pos}
 use Rattle.std.specs.Fmt.{digits}
 use Rattle.std.proofs.Common.{lit≤}
-use Rattle.jiff.specs.declared.civil.dates.Date.{Date}
+use Rattle.jiff_core.specs.declared.civil.date.Date.{Date}
 use Rattle.jiff_core.specs.Calendar.{days_from_civil, day_count, days_of_years, days_of_months}
 use Rattle.deb_version.specs.Order.{version_cmp}
 use Rattle.deb_version.specs.Key.{key, key_cmp, blocks_key}

@@ -2,7 +2,7 @@
 -- excuses and the output of a run tell (Debian Developer's Reference 5.13.2).
 use Rattle.std.specs.Prelude.{ℕ, if◌then◌else◌, List, [], ◌∷◌, ◌++◌, codes, decimal}
 use Rattle.std.specs.List.{flat_map}
-use Rattle.jiff.specs.declared.civil.dates.Date.{Date}
+use Rattle.jiff_core.specs.declared.civil.date.Date.{Date}
 use Rattle.jiff.specs.Words.{date_text}
 use Rattle.std.specs.Option.{option_map_or}
 use Rattle.testing_model.specs.declared.excuse.Excuse.{Excuse}

@@ -1,7 +1,7 @@
 -- The text that tells what hints would change.
 use Rattle.std.specs.Prelude.{ℕ, ◌+◌, Bool, not, List, [], ◌∷◌, ◌++◌, codes, decimal, length, ◌==◌}
 use Rattle.std.specs.Str.Lines.{lines}
-use Rattle.jiff.specs.declared.civil.dates.Date.{Date}
+use Rattle.jiff_core.specs.declared.civil.date.Date.{Date}
 use Rattle.jiff.specs.Words.{date_text}
 use Rattle.testing_reports.specs.Changes.{changes, excuse_lines}
 use Rattle.testing_reports.specs.declared.telling.Decided.{Decided}

@@ -6,7 +6,8 @@ ghost use Rattle.testing_reports.specs.Reports as texts;
 ghost use Rattle.testing_reports.specs.Reports.{words, line, inner_line, reason_words, source_words, age_words, verdict, excuse_text, heading, decision_line, offender_text, moved_text, source_line, row_line};
 
 use deb_version::NoMemory;
-use jiff::civil::Date;
+use jiff::civil;
+use jiff_core::civil::Date;
 use std::alloc::{AllocError, Global};
 use testing_items::Archs;
 use testing_model::{Decision, Excuse, Excuses, Moved, Offender, Reason, RowIn, SourceIn, Update};
@@ -22,7 +23,8 @@ pub fn excuses_text(
 ) -> Result<String, NoMemory>
     ensures { IfOk result (λ t. string_bytes t ≡ texts.excuses_text archs.now run date excuses.now) }
 {
-    let mut text = format!(in alloc; "excuses {run} {date}\n")?;
+    let day = civil::Date::from_plain(date);
+    let mut text = format!(in alloc; "excuses {run} {day}\n")?;
     push_excuses(&mut text, archs, excuses.as_slice())?;
     Ok(text)
 }
@@ -37,7 +39,8 @@ pub fn update_text(
 ) -> Result<String, NoMemory>
     ensures { IfOk result (λ t. string_bytes t ≡ texts.update_text archs.now run date update.now) }
 {
-    let mut text = format!(in alloc; "update {run} {date}\n")?;
+    let day = civil::Date::from_plain(date);
+    let mut text = format!(in alloc; "update {run} {day}\n")?;
     push_decisions(&mut text, archs, update.as_slice())?;
     Ok(text)
 }

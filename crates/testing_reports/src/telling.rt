@@ -5,7 +5,8 @@ ghost use Rattle.testing_reports.specs.Tried.{changes_text, has_changes, try_lin
 
 use crate::lines::{push_excuse_changes, push_testing_changes, push_update_changes};
 use deb_control::{NoMemory, Text};
-use jiff::civil::Date;
+use jiff::civil;
+use jiff_core::civil::Date;
 use std::alloc::{AllocError, Global};
 
 /// What a run decides, in texts: the two reports, and testing as it leaves it.
@@ -79,7 +80,8 @@ fn push_try(
 ) -> Result<(), AllocError>
     ensures { OnOk result (string_bytes text.new ≡ string_bytes text.old ++ try_line run date sender.now number hint.now) }
 {
-    writeln!(text, "try {run} {date} {sender} {number} {hint}")
+    let day = civil::Date::from_plain(date);
+    writeln!(text, "try {run} {day} {sender} {number} {hint}")
 }
 
 /// The changes of all reports.

@@ -2,12 +2,13 @@
 //! whole runs, and of facts that are kept as rows.
 #![tactic(auto)]
 
+mod dated;
 mod fallen_sources;
 pub mod kept_laws;
 pub mod laws;
 
+pub use dated::{excuses, excuses_text, update_text};
 pub use fallen_sources::fallen;
-pub use testing_excuses::excuses;
 pub use testing_facts::Facts;
 pub use testing_items::{
     ALL, Archs, Binaries, Hint, HintItem, HintItems, Item, Names, Severity, Urgency,
@@ -18,5 +19,5 @@ pub use testing_model::{
     SharedBinary, SourceIn, UnhintIn, Update, UploadIn,
 };
 pub use testing_moves::migrate;
-pub use testing_reports::{excuses_text, testing_text, update_text};
+pub use testing_reports::testing_text;
 pub use testing_suites::Testing;

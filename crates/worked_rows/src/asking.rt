@@ -2,9 +2,9 @@
 
 use crate::bytes::text_in;
 use crate::failing::whole_writer;
+use office_bags::{AskFault, export, write_list};
 use office_http::Office;
 use office_mail::ToWrite;
-use office_questions::{AskFault, export, write_list};
 use office_store::Keeper;
 use std::alloc::{AllocError, Global};
 

@@ -7,7 +7,7 @@ use Rattle.deb_control.proofs.Each.{texts, begins_with_none, each_step, each_fai
 use Rattle.deb_control.proofs.grammar.read_clause.Goals as goal
 
 pub parts-init : goal.parts-init
-parts-init c = rw c.new-alternatives.ensures.items (begins_with_none (each_in (alternative_in Any) (texts c.deref-part-items.result.now)))
+parts-init c = rw c.in_ok-alternatives.ensures.items (begins_with_none (each_in (alternative_in Any) (texts c.deref-part-items.result.now)))
 
 pub parts-preserved : goal.parts-preserved
 parts-preserved c =

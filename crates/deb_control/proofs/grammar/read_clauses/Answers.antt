@@ -9,7 +9,7 @@ use Rattle.deb_control.proofs.grammar.read_clauses.Goals as goal
 use Rattle.deb_control.proofs.grammar.read_clauses.Goals.{then-not-is_all_white+in_ok-read_clause+in_ok-push, else-not-is_all_white}
 
 pub items-init : goal.items-init
-items-init c = rw c.new-clauses.ensures.items (begins_with_none (each_in clause_in (filter not_white (texts c.deref-item-items.result.now))))
+items-init c = rw c.in_ok-clauses.ensures.items (begins_with_none (each_in clause_in (filter not_white (texts c.deref-item-items.result.now))))
 
 pub items-preserved : goal.items-preserved
 items-preserved c =

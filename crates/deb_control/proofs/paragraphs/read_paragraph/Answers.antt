@@ -21,7 +21,7 @@ returns-in_err-field c =
     let step = field_step c.fields.rest.now _ _ names c.split_field.ensures full c.fields.invariant.1 in
     let bad = rw c.deref.ensures.value at c.in_err-field.ensures in
     let fault : first_fault [] (front_run (lines c.args.text.now)) ≡ Some c.in_err-field.field-0.0 = c.fields.invariant.2 ∙ step.fault ∙ ap (λ o. or_else o (first_fault (names ++ name_in (line_in_front c.split_field.result.0.now) ∷ []) (front_run (lines c.split_field.result.1.now)))) bad in
-    let p = err_from_is_err_and c.from_residual.result c.from_residual.ensures.1 in
+    let p = err_from_is_err_and c.from_residual-in_err-field.result c.from_residual-in_err-field.ensures.1 in
     rw (p.1, p.2) (inr (refused c.args.text.now _ c.requires fault))
 
 pub fields-smaller : goal.fields-smaller

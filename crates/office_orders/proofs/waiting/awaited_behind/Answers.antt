@@ -2,7 +2,7 @@ use Rattle.std.proofs.Common.{◌≡◌, ◌+◌, Option, Some, length, sym, ap,
 use Rattle.office_mail.specs.declared.message.RunOrder.{RunOrder}
 use Rattle.office_mail.specs.Runs.{order_at}
 use Rattle.office_keeper.specs.Content.{Content}
-use Rattle.office_replies.specs.declared.waiting.Awaited.TheVariants.{Mail}
+use Rattle.office_orders.specs.declared.waiting_lines.Awaited.TheVariants.{Mail}
 use Rattle.office_orders.specs.Waiting.{AreLacks, AwaitsBy}
 use Rattle.office_orders.proofs.ReadyCount.{ready_bound}
 use Rattle.office_orders.proofs.waiting.awaited_behind.Goals as goal

@@ -1,5 +1,5 @@
 use Rattle.std.proofs.Common.{◌≡◌, ◌+◌, ◌<◌, List, length, slice_index, sym, ap, subst, ◌∙◌, arith}
-use Rattle.office_replies.specs.declared.waiting.Lack.{Lack}
+use Rattle.office_orders.specs.declared.waiting_lines.Lack.{Lack}
 use Rattle.office_orders.specs.Waiting.{AreLacks}
 use Rattle.office_orders.proofs.WaitingFacts.{lacks_none, lacks_found, lacks_skipped}
 use Rattle.office_orders.proofs.waiting.lacks_behind.Goals as goal

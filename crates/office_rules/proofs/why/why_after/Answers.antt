@@ -1,6 +1,6 @@
 use Rattle.std.proofs.Common.{◌≡◌, Some, None, length, sym, ◌∙◌}
 use Rattle.std.proofs.lemmas.Result.{IfOk-weaker}
-use Rattle.jiff.specs.declared.civil.dates.Date.{Date}
+use Rattle.jiff_core.specs.declared.civil.date.Date.{Date}
 use Rattle.office_mail.specs.Runs.{latest_day}
 use Rattle.office_keeper.specs.Content.{Content, item_from_one}
 use Rattle.office_facts.specs.Outcome.{covered_items}

@@ -1,8 +1,8 @@
 use Rattle.std.proofs.Common.{◌≡◌, ◌<◌, ◌+◌, ◌++◌, ◌∷◌, [], List, ℕ, Result, IfOk, length, take, sym, ap, subst, refl, ◌∙◌}
 use Rattle.std.proofs.lemmas.List.{take_more, length-append}
 use Rattle.office_keeper.specs.Content.{Content}
-use Rattle.office_replies.specs.declared.faults.DeliverFault.{DeliverFault}
-use Rattle.office_replies.specs.declared.faults.Held.{Held}
+use Rattle.office_orders.specs.declared.faults.DeliverFault.{DeliverFault}
+use Rattle.office_orders.specs.declared.faults.Held.{Held}
 use Rattle.office_runs.specs.GatherSteps.{TakesText}
 use Rattle.office_runs.proofs.GatherFacts.{each_push, gathers_none, gathers_more}
 use Rattle.office_orders.proofs.LookFacts.{looked_none, looked_then}

@@ -3,7 +3,7 @@ use Rattle.std.specs.Prelude.{bytes_eq, if◌then◌else◌}
 use Rattle.std.specs.Option.{option_map}
 use Rattle.std.proofs.lemmas.List.{take_more, take-append-drop}
 use Rattle.office_keeper.specs.declared.values.NewLetter.{NewLetter}
-use Rattle.office_replies.specs.declared.faults.DeliverFault.TheVariants.{OtherText}
+use Rattle.office_orders.specs.declared.faults.DeliverFault.TheVariants.{OtherText}
 use Rattle.office_runs.specs.GatherSteps.{own_text}
 use Rattle.office_runs.proofs.GatherFacts.{own_less, own_more}
 use Rattle.office_runs.proofs.gathering.own_answer.Goals as goal

@@ -9,7 +9,7 @@ use Rattle.deb_control.proofs.relation.Provisions.parse.Goals as goal
 use Rattle.deb_control.proofs.relation.Provisions.parse.Goals.{then-not-is_all_white+in_ok-read_provision+in_ok-push, else-not-is_all_white}
 
 pub items-init : goal.items-init
-items-init c = rw c.new-provisions.ensures.items (begins_with_none (each_in provision_in (filter not_white (texts c.deref-item-items.result.now))))
+items-init c = rw c.in_ok-provisions.ensures.items (begins_with_none (each_in provision_in (filter not_white (texts c.deref-item-items.result.now))))
 
 pub items-preserved : goal.items-preserved
 items-preserved c =

@@ -7,7 +7,7 @@ use Rattle.testing_model.specs.Boxed.{unboxed}
 use Rattle.testing_model.specs.FactLists.{FactLists}
 use Rattle.testing_model.specs.FactOrder.{IsFactOrder}
 use Rattle.testing_order.specs.Uploads.{AreByMessage}
-use Rattle.testing_lists.specs.HintOrder.{AreHintsByNumber, AreUnhintsByNumber}
+use Rattle.testing_facts.specs.HintOrder.{AreHintsByNumber, AreUnhintsByNumber}
 use Rattle.testing_facts.proofs.facts.Facts.copy.Goals as goal
 
 same_order : (ss ss' : List UploadIn) (bs bs' : List BuildIn) (ds ds' : List DropIn) (gs gs' : List BugIn) → ss' ≡ ss → bs' ≡ bs → ds' ≡ ds → gs' ≡ gs → IsFactOrder ss bs ds gs → IsFactOrder ss' bs' ds' gs'

@@ -1,6 +1,6 @@
 use Rattle.std.proofs.Common.{sym, subst}
 use Rattle.testing_model.specs.FactOrder.{AreByPair}
-use Rattle.testing_lists.proofs.KeySlots.{by_pair-build}
+use Rattle.testing_facts.proofs.KeySlots.{by_pair-build}
 use Rattle.testing_facts.proofs.facts.Facts.restore_build.Goals as goal
 
 pub invariant_of-self : goal.invariant_of-self

@@ -2,7 +2,7 @@ use Rattle.std.proofs.Common.{◌∙◌, ap, sym, subst}
 use Rattle.testing_model.specs.Boxed.{unboxed}
 use Rattle.testing_model.specs.WithMessage.{with_greatest}
 use Rattle.testing_model.specs.FactOrder.{AreDropsByPair}
-use Rattle.testing_lists.proofs.KeySlots.{drops_by_pair-drop}
+use Rattle.testing_facts.proofs.KeySlots.{drops_by_pair-drop}
 use Rattle.testing_facts.proofs.facts.Facts.restore_drop.Goals as goal
 
 pub invariant_of-self-in-Some : goal.invariant_of-self-in-Some

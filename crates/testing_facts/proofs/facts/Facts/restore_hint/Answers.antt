@@ -1,6 +1,6 @@
 use Rattle.std.proofs.Common.{◌∙◌, ap, sym, subst}
 use Rattle.testing_model.specs.WithMessage.{with_hint}
-use Rattle.testing_lists.specs.HintOrder.{AreHintsByNumber}
+use Rattle.testing_facts.specs.HintOrder.{AreHintsByNumber}
 use Rattle.testing_facts.proofs.Saying.{hints_order}
 use Rattle.testing_facts.proofs.facts.Facts.restore_hint.Goals as goal
 

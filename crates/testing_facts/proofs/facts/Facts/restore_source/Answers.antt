@@ -2,7 +2,7 @@ use Rattle.std.proofs.Common.{◌∙◌, ap, sym, subst}
 use Rattle.testing_model.specs.WithMessage.{with_upload}
 use Rattle.testing_model.specs.Boxed.{unboxed}
 use Rattle.testing_model.specs.FactOrder.{AreBySource}
-use Rattle.testing_lists.proofs.KeySlots.{by_source-upload}
+use Rattle.testing_facts.proofs.KeySlots.{by_source-upload}
 use Rattle.testing_facts.proofs.facts.Facts.restore_source.Goals as goal
 
 pub invariant_of-self-in-Some : goal.invariant_of-self-in-Some

@@ -1,6 +1,6 @@
 use Rattle.std.proofs.Common.{length, arith, ◌∙◌, ap, sym, subst}
 use Rattle.testing_order.specs.Uploads.{AreByMessage, with_kept}
-use Rattle.testing_lists.proofs.KeptUploads.{by_message-kept}
+use Rattle.testing_facts.proofs.KeptUploads.{by_message-kept}
 use Rattle.testing_facts.proofs.facts.Facts.restore_upload.Goals as goal
 
 pub invariant_of-self-in-Some : goal.invariant_of-self-in-Some

@@ -2,7 +2,7 @@ use Rattle.std.proofs.Common.{◌∙◌, ap, arith, sym, subst}
 use Rattle.testing_model.specs.Boxed.{unboxed}
 use Rattle.testing_model.specs.WithMessage.{with_bug}
 use Rattle.testing_model.specs.FactOrder.{AreByNumber}
-use Rattle.testing_lists.proofs.KeySlots.{by_number-bug}
+use Rattle.testing_facts.proofs.KeySlots.{by_number-bug}
 use Rattle.testing_facts.proofs.facts.Facts.take_bug.Goals as goal
 
 pub invariant_of-self-2 : goal.invariant_of-self-2

@@ -2,7 +2,7 @@ use Rattle.std.proofs.Common.{arith, sym, subst}
 use Rattle.testing_model.specs.Boxed.{unboxed}
 use Rattle.testing_model.specs.FactOrder.{AreByPair}
 use Rattle.testing_model.specs.WithMessage.{stands_beside}
-use Rattle.testing_lists.proofs.KeySlots.{by_pair-builds}
+use Rattle.testing_facts.proofs.KeySlots.{by_pair-builds}
 use Rattle.testing_facts.proofs.facts.Facts.take_builds.Goals as goal
 
 pub invariant_of-self-2 : goal.invariant_of-self-2

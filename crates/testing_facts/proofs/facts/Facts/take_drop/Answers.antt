@@ -9,8 +9,8 @@ use Rattle.testing_model.specs.FactRows.{drop_row}
 use Rattle.testing_model.specs.WithMessage.{with_drop, with_greatest}
 use Rattle.testing_model.specs.declared.facts.DropIn.{DropIn}
 use Rattle.testing_model.specs.Unstable.{drop_pair, drop_order, pair_order}
-use Rattle.testing_lists.specs.Shifts.{way_given, come_in}
-use Rattle.testing_lists.proofs.KeySlots.{by_pair-drop, drops_by_pair-drop}
+use Rattle.testing_facts.specs.ElementShifts.{way_given, come_in}
+use Rattle.testing_facts.proofs.KeySlots.{by_pair-drop, drops_by_pair-drop}
 use Rattle.testing_facts.proofs.facts.Facts.take_drop.Goals as goal
 
 pub invariant_of-self-2 : goal.invariant_of-self-2

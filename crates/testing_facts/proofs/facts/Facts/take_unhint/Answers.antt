@@ -1,6 +1,6 @@
 use Rattle.std.proofs.Common.{arith, ◌∙◌, ap, sym, subst}
 use Rattle.testing_model.specs.WithMessage.{with_unhint}
-use Rattle.testing_lists.specs.HintOrder.{AreUnhintsByNumber}
+use Rattle.testing_facts.specs.HintOrder.{AreUnhintsByNumber}
 use Rattle.testing_facts.proofs.Saying.{unhints_order}
 use Rattle.testing_facts.proofs.facts.Facts.take_unhint.Goals as goal
 

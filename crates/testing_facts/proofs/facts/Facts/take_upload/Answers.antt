@@ -3,8 +3,8 @@ use Rattle.testing_model.specs.Boxed.{unboxed}
 use Rattle.testing_model.specs.WithMessage.{with_upload}
 use Rattle.testing_model.specs.FactOrder.{AreBySource}
 use Rattle.testing_order.specs.Uploads.{AreByMessage, with_kept}
-use Rattle.testing_lists.proofs.KeptUploads.{by_message-kept}
-use Rattle.testing_lists.proofs.KeySlots.{by_source-upload}
+use Rattle.testing_facts.proofs.KeptUploads.{by_message-kept}
+use Rattle.testing_facts.proofs.KeySlots.{by_source-upload}
 use Rattle.testing_facts.proofs.facts.Facts.take_upload.Goals as goal
 
 pub invariant_of-self-2 : goal.invariant_of-self-2

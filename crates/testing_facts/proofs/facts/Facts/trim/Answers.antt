@@ -10,7 +10,7 @@ use Rattle.testing_model.specs.KeptFacts.{counts_beside, trimmed}
 use Rattle.testing_model.specs.Suite.{Suite}
 use Rattle.testing_order.specs.Trimming.{with_sources}
 use Rattle.testing_order.specs.Uploads.{AreByMessage}
-use Rattle.testing_lists.proofs.KeptUploads.{by_message-filter}
+use Rattle.testing_facts.proofs.KeptUploads.{by_message-filter}
 use Rattle.testing_facts.proofs.facts.Facts.trim.Goals as goal
 
 pub invariant_of-self : goal.invariant_of-self

@@ -1,8 +1,0 @@
-pub mod AskFacts
-pub mod CountFacts
-pub mod ExportFacts
-pub mod LetterLists
-mod ReadItems
-mod ReportFacts
-pub mod StatedFacts
-pub mod TextLists

@@ -1,2 +1,0 @@
-pub mod DigitFacts
-pub mod WrittenFacts

@@ -1,4 +1,0 @@
-pub mod Counted
-pub mod Replies
-pub mod Waiting
-pub mod Written

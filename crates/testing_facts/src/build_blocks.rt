@@ -1,0 +1,455 @@
+//! Unstable's rows in blocks: a row that comes or goes shifts those of its own block alone.
+
+ghost use Rattle.std.specs.Prelude.{◌≡◌, ◌==◌, ◌<◌, ◌≤◌, ◌+◌, ◌*◌, ◌^◌, ℕ, [], ◌++◌, IfOk, OnOk, OnErr, filter, length, map, not, option_to_list, vec_len, vec_capacity};
+ghost use Rattle.std.specs.List.{All};
+ghost use Rattle.std.specs.Option.{IfSome};
+ghost use Rattle.testing_facts.specs.Blocks.{joined, upper_rows, HasRows, AreBlocks, begins_above, IsBlockFor};
+ghost use Rattle.testing_facts.specs.ElementShifts.{way_given, come_in, shift_builds, IsShift};
+ghost use Rattle.testing_model.specs.Boxed.{unboxed};
+ghost use Rattle.testing_model.specs.FactOrder.{AreByPair, AreDropsByPair};
+ghost use Rattle.testing_model.specs.FactRows.{build_row};
+ghost use Rattle.testing_model.specs.Unstable as unstable;
+ghost use Rattle.testing_model.specs.WithMessage as taken;
+
+use crate::shifts::{build_shift, taken_row};
+use crate::taken::{order_pair, put_build, stands_beside, take_row};
+use deb_control::Binary;
+use deb_version::NoMemory;
+use std::alloc::Global;
+use std::marker::Model;
+use testing_model::{BuildIn, DropIn, FactRow};
+use testing_order::{Log, Shifted, move_upper_half};
+
+/// So many rows fill a block, which is split then.
+const FULL: usize = 256;
+
+/// Some of the rows, with room for one more.
+#[derive(Drop)]
+pub struct Block {
+    rows: Vec<Box<BuildIn>>,
+}
+
+impl Model for Block {
+    ghost use Rattle.std.specs.Prelude.{List, vec_len, vec_capacity};
+    ghost use Rattle.testing_model.specs.Boxed.{unboxed};
+    ghost use Rattle.testing_model.specs.declared.facts.BuildIn.{BuildIn};
+    ghost use Rattle.testing_facts.specs.Blocks.{IsRoomy};
+
+    ghost Value = { List BuildIn };
+
+    ghost view = { λ a. unboxed a.rows.items };
+
+    ghost invariant = { λ a. IsRoomy (vec_len a.rows) (vec_capacity a.rows) };
+}
+
+impl Block {
+    /// A block of no rows.
+    fn new(alloc: Global) -> Result<Block, NoMemory>
+        ensures { IfOk result (λ block. block ≡ []) }
+    {
+        let rows = Vec::with_capacity(alloc, FULL)?;
+        Ok(Block { rows })
+    }
+
+    /// The rows, in order.
+    pub fn rows(&self) -> &[Box<BuildIn>]
+        ensures { unboxed result.now ≡ self.now }
+    {
+        self.rows.as_slice()
+    }
+
+    /// There is no row.
+    fn is_empty(&self) -> bool
+        ensures { result ≡ (length self.now == 0) }
+    {
+        self.rows.is_empty()
+    }
+
+    /// How many rows there are.
+    fn len(&self) -> usize
+        ensures len { result ≡ length self.now }
+        ensures below { result < 256 }
+    {
+        self.rows.len()
+    }
+
+    /// The first row is above the architecture and the name.
+    fn begins_above(&self, arch: &str, name: &str) -> bool
+        ensures { result ≡ begins_above (arch.now, name.now) self.now }
+    {
+        begin_above(&self.rows, arch, name)
+    }
+
+    /// An equal block, which shares the binaries.
+    fn copy(&self, alloc: Global) -> Result<Block, NoMemory>
+        ensures { IfOk result (λ block. block ≡ self.now) }
+    {
+        let rows = copy_rows(alloc, &self.rows)?;
+        Ok(Block { rows })
+    }
+
+    /// A build joins the rows. Where it fills the block, the spare one takes the upper half.
+    fn put(&mut self, build: Box<BuildIn>, spare: Block) -> Option<Block>
+        requires order { AreByPair self.old }
+        requires spare { spare ≡ [] }
+        ensures rows { self.new ++ upper_rows result ≡ taken.with_build build.value self.old }
+        ensures lower { HasRows self.new }
+        ensures upper { IfSome result HasRows }
+    {
+        put_build(&mut self.rows, build);
+        if self.rows.len() < FULL {
+            return None;
+        }
+        Some(upper_half(&mut self.rows, spare))
+    }
+
+    /// The rows lose the one that the drop takes, if there is one.
+    fn take(&mut self, drop: &DropIn)
+        requires { AreByPair self.old }
+        ensures { self.new ≡ taken.with_drop drop.now self.old }
+    {
+        take_row(&mut self.rows, drop);
+    }
+}
+
+/// The first of the rows is above the architecture and the name.
+fn begin_above(rows: &[Box<BuildIn>], arch: &str, name: &str) -> bool
+    ensures { result ≡ begins_above (arch.now, name.now) (unboxed rows.now) }
+{
+    match rows.first() {
+        Some(build) => order_pair(build, arch, name).is_gt(),
+        None => false,
+    }
+}
+
+/// The rows of a full block, but for its lower half, which stays.
+fn upper_half(rows: &mut Vec<Box<BuildIn>>, spare: Block) -> Block
+    requires full { vec_len rows.old ≡ 256 }
+    requires spare { spare ≡ [] }
+    ensures rows { unboxed rows.new.items ++ result ≡ unboxed rows.old.items }
+    ensures lower { vec_len rows.new ≡ 128 }
+    ensures upper { HasRows result }
+    ensures capacity { vec_capacity rows.new ≡ vec_capacity rows.old }
+{
+    let mut upper = spare.rows;
+    move_upper_half(rows, &mut upper);
+    Block { rows: upper }
+}
+
+/// The place of the block for the architecture and the name.
+fn block_for(blocks: &[Block], arch: &str, name: &str) -> usize
+    requires { 0 < length blocks.now }
+    ensures { IsBlockFor (arch.now, name.now) blocks.now result }
+{
+    let mut low = 0;
+    let mut high = blocks.len();
+    'search: while low + 1 < high {
+        let middle = low + (high - low) / 2;
+        if blocks[middle].begins_above(arch, name) {
+            high = middle;
+        } else {
+            low = middle;
+        }
+    }
+    low
+}
+
+/// How many rows the blocks have.
+fn count_rows(held: &[Block]) -> u128
+    ensures rows { result ≡ length (joined held.now) }
+    ensures below { result ≤ 256 * (2 ^ 64) }
+{
+    let mut count = 0;
+    'counted: for block in held {
+        count += block.len() as u128;
+    }
+    count
+}
+
+/// A build in a box of its own, which shares the binary.
+fn copy_build(alloc: Global, build: &BuildIn) -> Result<Box<BuildIn>, NoMemory>
+    ensures { IfOk result (λ copy. copy.value ≡ build.now) }
+{
+    let copy = BuildIn {
+        binary: build.binary.share()?,
+        sender: build.sender,
+        number: build.number,
+        place: build.place,
+    };
+    Ok(Box::new(alloc, copy)?)
+}
+
+/// Equal rows, with memory for as many as fill a block.
+fn copy_rows(alloc: Global, rows: &[Box<BuildIn>]) -> Result<Vec<Box<BuildIn>>, NoMemory>
+    ensures rows { IfOk result (λ copies. unboxed copies.items ≡ unboxed rows.now) }
+    ensures room { IfOk result (λ copies. 256 ≤ vec_capacity copies) }
+{
+    let mut copies = Vec::with_capacity(alloc, FULL)?;
+    for build in rows {
+        copies.push(copy_build(alloc, build)?)?;
+    }
+    Ok(copies)
+}
+
+/// Equal blocks.
+fn copy_blocks(alloc: Global, blocks: &[Block]) -> Result<Vec<Block>, NoMemory>
+    ensures { IfOk result (λ copies. copies.items ≡ blocks.now) }
+{
+    let mut copies = Vec::with_capacity(alloc, blocks.len())?;
+    for block in blocks {
+        copies.push(block.copy(alloc)?)?;
+    }
+    Ok(copies)
+}
+
+/// A build that joins, with a block to spare.
+#[derive(Drop)]
+struct Coming {
+    build: Box<BuildIn>,
+    spare: Block,
+}
+
+/// A build, with a block to spare.
+fn coming_build(alloc: Global, build: BuildIn) -> Result<Coming, NoMemory>
+    ensures build { IfOk result (λ c. c.build.value ≡ build) }
+    ensures spare { IfOk result (λ c. c.spare ≡ []) }
+{
+    let build = Box::new(alloc, build)?;
+    let spare = Block::new(alloc)?;
+    Ok(Coming { build, spare })
+}
+
+/// The builds, each with a block to spare.
+fn coming_builds(alloc: Global, builds: Vec<BuildIn>) -> Result<Vec<Coming>, NoMemory>
+    ensures builds { IfOk result (λ cs. map (λ c. c.build.value) cs.items ≡ builds.items) }
+    ensures spares { IfOk result (λ cs. All (λ c. c.spare ≡ []) cs.items) }
+{
+    let mut coming = Vec::new(alloc);
+    for build in builds {
+        coming.push(coming_build(alloc, build)?)?;
+    }
+    Ok(coming)
+}
+
+/// Makes room for so many blocks more. After it there is a block.
+fn make_room(alloc: Global, blocks: &mut Vec<Block>, count: usize) -> Result<(), NoMemory>
+    ensures rows { joined blocks.new.items ≡ joined blocks.old.items }
+    ensures filled { AreBlocks blocks.old.items → AreBlocks blocks.new.items }
+    ensures some { OnOk result (0 < vec_len blocks.new) }
+    ensures room { OnOk result (vec_len blocks.new + count ≤ vec_capacity blocks.new) }
+{
+    if blocks.is_empty() {
+        let first = Block::new(alloc)?;
+        blocks.push(first)?;
+    }
+    blocks.reserve(count)?;
+    Ok(())
+}
+
+/// A build joins the rows, where its own has none before it. There is room for a block more.
+fn put_coming(blocks: &mut Vec<Block>, coming: Coming)
+    requires order { AreByPair (joined blocks.old.items) }
+    requires filled { AreBlocks blocks.old.items }
+    requires some { 0 < vec_len blocks.old }
+    requires room { vec_len blocks.old < vec_capacity blocks.old }
+    requires spare { coming.spare ≡ [] }
+    ensures rows { joined blocks.new.items ≡ taken.with_build coming.build.value (joined blocks.old.items) }
+    ensures filled { AreBlocks blocks.new.items }
+    ensures len { vec_len blocks.new ≤ vec_len blocks.old + 1 }
+    ensures some { 0 < vec_len blocks.new }
+    ensures capacity { vec_capacity blocks.old ≤ vec_capacity blocks.new }
+{
+    let Coming { build, spare } = coming;
+    let binary = &build.binary;
+    let place = block_for(blocks, binary.architecture.as_str(), binary.name.as_str());
+    let block = &mut blocks[place];
+    if let Some(upper) = block.put(build, spare) {
+        let _ = blocks.insert(place + 1, upper);
+    }
+}
+
+/// What a build does to the rows of its block, and so to the rows of all.
+fn shift_in(blocks: &[Block], build: &BuildIn) -> Shifted
+    requires order { AreByPair (joined blocks.now) }
+    requires filled { AreBlocks blocks.now }
+    requires some { 0 < length blocks.now }
+    ensures { IsShift build_row (way_given unstable.pair_of unstable.pair_order unstable.build_order build.now (joined blocks.now))
+        (come_in unstable.pair_of unstable.pair_order unstable.build_order build.now (joined blocks.now)) result }
+{
+    let binary: &Binary = &build.binary;
+    let place = block_for(blocks, binary.architecture.as_str(), binary.name.as_str());
+    let block = &blocks[place];
+    build_shift(block.rows(), build)
+}
+
+/// The row that a drop takes, if there is one.
+fn taken_in(blocks: &[Block], drop: &DropIn) -> Option<FactRow>
+    requires order { AreByPair (joined blocks.now) }
+    requires filled { AreBlocks blocks.now }
+    ensures { option_to_list result ≡ map build_row (filter (λ b. not (taken.outlives drop.now b)) (joined blocks.now)) }
+{
+    if blocks.is_empty() {
+        return None;
+    }
+    let place = block_for(blocks, drop.arch.as_str(), drop.name.as_str());
+    let block = &blocks[place];
+    taken_row(block.rows(), drop)
+}
+
+/// The builds of one message join the rows, each where it stands, and what that does to the rows is noted. There is room
+/// for them.
+fn put_builds(held: &mut Vec<Block>, drops: &[Box<DropIn>], coming: Vec<Coming>, log: &mut Log)
+    requires order { AreByPair (joined held.old.items) }
+    requires filled { AreBlocks held.old.items }
+    requires some { 0 < vec_len held.old }
+    requires room { vec_len held.old + vec_len coming ≤ vec_capacity held.old }
+    requires spares { All (λ c. c.spare ≡ []) coming.items }
+    requires drops { AreDropsByPair (unboxed drops.now) }
+    requires room_came { vec_len log.old.came + vec_len coming ≤ vec_capacity log.old.came }
+    requires room_left { vec_len log.old.left + vec_len coming ≤ vec_capacity log.old.left }
+    ensures rows { joined held.new.items ≡ taken.with_builds (taken.stands_beside (unboxed drops.now)) (map (λ c. c.build.value) coming.items) (joined held.old.items) }
+    ensures filled { AreBlocks held.new.items }
+    ensures came { log.new.came.items ≡ log.old.came.items ++ (shift_builds (taken.stands_beside (unboxed drops.now)) (map (λ c. c.build.value) coming.items) (joined held.old.items)).came }
+    ensures left { log.new.left.items ≡ log.old.left.items ++ (shift_builds (taken.stands_beside (unboxed drops.now)) (map (λ c. c.build.value) coming.items) (joined held.old.items)).left }
+    ensures len { vec_len log.new.left ≤ vec_len log.old.left + vec_len coming }
+    ensures capacity { vec_capacity log.old.left ≤ vec_capacity log.new.left }
+{
+    let mut left = coming;
+    'builds: while let Some(next) = left.pop() {
+        let build: &BuildIn = &next.build;
+        if stands_beside(drops, build) {
+            log.note(shift_in(held, build));
+            put_coming(held, next);
+        }
+    }
+}
+
+/// The rows lose the one that the drop takes, if there is one.
+fn take_from(blocks: &mut Vec<Block>, drop: &DropIn)
+    requires order { AreByPair (joined blocks.old.items) }
+    requires filled { AreBlocks blocks.old.items }
+    ensures rows { joined blocks.new.items ≡ taken.with_drop drop.now (joined blocks.old.items) }
+    ensures filled { AreBlocks blocks.new.items }
+{
+    if blocks.is_empty() {
+        return;
+    }
+    let place = block_for(blocks, drop.arch.as_str(), drop.name.as_str());
+    let block = &mut blocks[place];
+    block.take(drop);
+    if place > 0 && blocks[place].is_empty() {
+        blocks.remove(place);
+    }
+}
+
+/// Unstable's rows, by architecture and name.
+pub struct BuildBlocks {
+    blocks: Vec<Block>,
+}
+
+impl Drop for BuildBlocks {
+    fn drop(self) {
+        let BuildBlocks { blocks: _ } = self;
+    }
+}
+
+impl Model for BuildBlocks {
+    ghost use Rattle.std.specs.Prelude.{List};
+    ghost use Rattle.testing_model.specs.declared.facts.BuildIn.{BuildIn};
+    ghost use Rattle.testing_facts.specs.Blocks.{joined, AreBlocks};
+
+    ghost Value = { List BuildIn };
+
+    ghost view = { λ a. joined a.blocks.items };
+
+    ghost invariant = { λ a. AreBlocks a.blocks.items };
+}
+
+impl BuildBlocks {
+    /// No rows.
+    pub fn new(alloc: Global) -> BuildBlocks
+        ensures { result ≡ [] }
+    {
+        BuildBlocks {
+            blocks: Vec::new(alloc),
+        }
+    }
+
+    /// The blocks, in order.
+    pub fn blocks(&self) -> &[Block]
+        ensures { joined result.now ≡ self.now }
+    {
+        self.blocks.as_slice()
+    }
+
+    /// How many rows there are.
+    pub fn count(&self) -> u128
+        ensures rows { result ≡ length self.now }
+        ensures below { result ≤ 256 * (2 ^ 64) }
+    {
+        count_rows(&self.blocks)
+    }
+
+    /// Equal rows, which share the binaries with these. NoMemory where memory runs out.
+    pub fn copy(&self, alloc: Global) -> Result<BuildBlocks, NoMemory>
+        ensures { IfOk result (λ copies. copies ≡ self.now) }
+    {
+        let blocks = copy_blocks(alloc, &self.blocks)?;
+        Ok(BuildBlocks { blocks })
+    }
+
+    /// The builds of one message join the rows, each where it stands beside the drops, and what that does to the rows is
+    /// noted. There is room for them in the log.
+    pub fn put(
+        &mut self,
+        alloc: Global,
+        drops: &[Box<DropIn>],
+        builds: Vec<BuildIn>,
+        log: &mut Log,
+    ) -> Result<(), NoMemory>
+        requires order { AreByPair self.old }
+        requires drops { AreDropsByPair (unboxed drops.now) }
+        requires room_came { vec_len log.old.came + vec_len builds ≤ vec_capacity log.old.came }
+        requires room_left { vec_len log.old.left + vec_len builds ≤ vec_capacity log.old.left }
+        ensures came { OnOk result (log.new.came.items ≡ log.old.came.items ++ (shift_builds (taken.stands_beside (unboxed drops.now)) builds.items self.old).came) }
+        ensures left { OnOk result (log.new.left.items ≡ log.old.left.items ++ (shift_builds (taken.stands_beside (unboxed drops.now)) builds.items self.old).left) }
+        ensures len { OnOk result (vec_len log.new.left ≤ vec_len log.old.left + vec_len builds) }
+        ensures capacity { OnOk result (vec_capacity log.old.left ≤ vec_capacity log.new.left) }
+        ensures log { OnErr result (log.new ≡ log.old) }
+        ensures ok { OnOk result (self.new ≡ taken.with_builds (taken.stands_beside (unboxed drops.now)) builds.items self.old) }
+        ensures err { OnErr result (self.new ≡ self.old) }
+    {
+        let coming = coming_builds(alloc, builds)?;
+        make_room(alloc, &mut self.blocks, coming.len())?;
+        put_builds(&mut self.blocks, drops, coming, log);
+        Ok(())
+    }
+
+    /// One build joins the rows, where its own has none before it.
+    pub fn put_one(&mut self, alloc: Global, build: BuildIn) -> Result<(), NoMemory>
+        requires { AreByPair self.old }
+        ensures ok { OnOk result (self.new ≡ taken.with_build build self.old) }
+        ensures err { OnErr result (self.new ≡ self.old) }
+    {
+        let coming = coming_build(alloc, build)?;
+        make_room(alloc, &mut self.blocks, 1)?;
+        put_coming(&mut self.blocks, coming);
+        Ok(())
+    }
+
+    /// The row that the drop takes, if there is one.
+    pub fn taken(&self, drop: &DropIn) -> Option<FactRow>
+        requires { AreByPair self.now }
+        ensures { option_to_list result ≡ map build_row (filter (λ b. not (taken.outlives drop.now b)) self.now) }
+    {
+        taken_in(&self.blocks, drop)
+    }
+
+    /// The rows lose the one that the drop takes, if there is one.
+    pub fn take(&mut self, drop: &DropIn)
+        requires { AreByPair self.old }
+        ensures { self.new ≡ taken.with_drop drop.now self.old }
+    {
+        take_from(&mut self.blocks, drop);
+    }
+}

@@ -1,0 +1,333 @@
+//! One more message, in the lists of facts.
+
+ghost use Rattle.std.specs.Prelude.{◌≡◌, ◌<◌, ◌≤◌, ◌+◌, length, map, option_to_list, vec_len, vec_capacity};
+ghost use Rattle.std.specs.Ordering.{nat_cmp};
+ghost use Rattle.std.specs.List.Sorted.{IsBinarySearchResult, IsSearchInRange};
+ghost use Rattle.testing_model.specs.Boxed.{unboxed};
+ghost use Rattle.testing_model.specs.FactOrder.{AreBySource, AreByPair, AreDropsByPair, AreByNumber};
+ghost use Rattle.testing_model.specs.Unstable.{pair_order, pair_of, drop_pair, hint_order, unhint_order};
+ghost use Rattle.testing_facts.specs.HintOrder.{AreHintsByNumber, AreUnhintsByNumber};
+ghost use Rattle.testing_facts.specs.ElementShifts.{come_in};
+ghost use Rattle.testing_facts.specs.Slots.{IsSlotFor, IsSlotIn, slotted};
+ghost use Rattle.testing_order.specs.Uploads.{message_order, AreByMessage, first_stays, with_kept};
+ghost use Rattle.testing_model.specs.FactRows as rows;
+ghost use Rattle.testing_model.specs.WithMessage as taken;
+ghost use Rattle.testing_items.specs.Words.{byte_cmp};
+
+use deb_control::Binary;
+use std::cmp::Ordering;
+use testing_model::{BugIn, BuildIn, DropIn, FactRow, HintIn, UnhintIn, UploadIn};
+use testing_order::{
+    bug_order, build_order, drop_order, hint_order, outlives, place_of_kept, unhint_order,
+    upload_order, upload_row,
+};
+
+/// Where a list takes an element: over the one at a place, before it, or nowhere.
+#[derive(Clone, Copy)]
+pub enum Slot {
+    Over(usize),
+    Before(usize),
+    Nowhere,
+}
+
+/// An element joins a list at its slot. There is room for it.
+fn put_at<T: Drop>(list: &mut Vec<T>, slot: Slot, element: T)
+    requires slot { IsSlotIn list.old.items slot }
+    requires room { vec_len list.old < vec_capacity list.old }
+    ensures items { list.new.items ≡ slotted list.old.items element slot }
+    ensures len { vec_len list.new ≤ vec_len list.old + 1 }
+    ensures capacity { vec_capacity list.old ≤ vec_capacity list.new }
+{
+    match slot {
+        Slot::Over(i) => list[i] = element,
+        Slot::Before(i) => {
+            let _ = list.insert(i, element);
+        }
+        Slot::Nowhere => {}
+    }
+}
+
+/// Where the sources have the name, or else where it belongs.
+pub fn place_of_upload(sources: &[Box<UploadIn>], name: &str) -> Result<usize, usize>
+    ensures bound { IsSearchInRange result (length (unboxed sources.now)) }
+    ensures found { IsBinarySearchResult (λ u. byte_cmp u.source name.now) (unboxed sources.now) result }
+{
+    sources.binary_search_by(
+        |upload: &Box<UploadIn>| -> Ordering
+            ensures { result ≡ byte_cmp upload.now.value.source name.entry.now }
+        { upload.source.as_str().cmp(name) },
+    )
+}
+
+/// Where the list takes the upload.
+fn slot_of_upload(sources: &[Box<UploadIn>], upload: &UploadIn) -> Slot
+    requires { AreBySource (unboxed sources.now) }
+    ensures { IsSlotFor (unboxed sources.now) upload.now (taken.with_upload upload.now (unboxed sources.now)) result }
+{
+    match place_of_upload(sources, upload.source.as_str()) {
+        Ok(i) => {
+            let other = &sources[i];
+            if upload_order(other, upload).is_lt() {
+                return Slot::Nowhere;
+            }
+            Slot::Over(i)
+        }
+        Err(i) => Slot::Before(i),
+    }
+}
+
+/// An upload joins unstable's sources, where its own has none before it. There is room for it.
+pub fn put_upload(sources: &mut Vec<Box<UploadIn>>, upload: Box<UploadIn>)
+    requires order { AreBySource (unboxed sources.old.items) }
+    requires room { vec_len sources.old < vec_capacity sources.old }
+    ensures { unboxed sources.new.items ≡ taken.with_upload upload.value (unboxed sources.old.items) }
+{
+    let slot = slot_of_upload(sources, &upload);
+    put_at(sources, slot, upload);
+}
+
+/// An upload joins the uploads, unless it is there. Gives its row where it came. There is room for it.
+pub fn put_kept(uploads: &mut Vec<UploadIn>, upload: UploadIn) -> Option<FactRow>
+    requires order { AreByMessage uploads.old.items }
+    requires room { vec_len uploads.old < vec_capacity uploads.old }
+    ensures items { uploads.new.items ≡ with_kept upload uploads.old.items }
+    ensures came { option_to_list result ≡ map rows.upload_row (come_in (λ u. u) message_order first_stays upload uploads.old.items) }
+    ensures len { vec_len uploads.new ≤ vec_len uploads.old + 1 }
+{
+    match place_of_kept(uploads, &upload) {
+        Ok(_place) => None,
+        Err(place) => {
+            let row = upload_row(&upload);
+            let _ = uploads.insert(place, upload);
+            Some(row)
+        }
+    }
+}
+
+/// The order of a drop's architecture and name beside these.
+fn order_drop(drop: &DropIn, arch: &str, name: &str) -> Ordering
+    ensures { result ≡ pair_order (drop_pair drop.now) (arch.now, name.now) }
+{
+    let names = drop.name.as_str().cmp(name);
+    drop.arch.as_str().cmp(arch).then(names)
+}
+
+/// Where the drops have the architecture and the name, or else where these belong.
+pub fn place_of_drop(drops: &[Box<DropIn>], arch: &str, name: &str) -> Result<usize, usize>
+    ensures bound { IsSearchInRange result (length (unboxed drops.now)) }
+    ensures found { IsBinarySearchResult (λ d. pair_order (drop_pair d) (arch.now, name.now)) (unboxed drops.now) result }
+{
+    drops.binary_search_by(
+        |drop: &Box<DropIn>| -> Ordering
+            ensures { result ≡ pair_order (drop_pair drop.now.value) (arch.entry.now, name.entry.now) }
+        { order_drop(drop, arch, name) },
+    )
+}
+
+/// Where the list takes the drop.
+fn slot_of_drop(drops: &[Box<DropIn>], drop: &DropIn) -> Slot
+    requires { AreDropsByPair (unboxed drops.now) }
+    ensures { IsSlotFor (unboxed drops.now) drop.now (taken.with_greatest drop.now (unboxed drops.now)) result }
+{
+    match place_of_drop(drops, drop.arch.as_str(), drop.name.as_str()) {
+        Ok(i) => {
+            let other = &drops[i];
+            if drop_order(other, drop).is_lt() {
+                return Slot::Nowhere;
+            }
+            Slot::Over(i)
+        }
+        Err(i) => Slot::Before(i),
+    }
+}
+
+/// A drop joins the greatest ones, where its architecture and name have none before it. There is room for it.
+pub fn put_drop(drops: &mut Vec<Box<DropIn>>, drop: Box<DropIn>)
+    requires order { AreDropsByPair (unboxed drops.old.items) }
+    requires room { vec_len drops.old < vec_capacity drops.old }
+    ensures { unboxed drops.new.items ≡ taken.with_greatest drop.value (unboxed drops.old.items) }
+{
+    let slot = slot_of_drop(drops, &drop);
+    put_at(drops, slot, drop);
+}
+
+/// Where the bugs have the number, or else where it belongs.
+pub fn place_of_bug(bugs: &[Box<BugIn>], bug: u32) -> Result<usize, usize>
+    ensures bound { IsSearchInRange result (length (unboxed bugs.now)) }
+    ensures found { IsBinarySearchResult (λ b. nat_cmp b.bug bug) (unboxed bugs.now) result }
+{
+    bugs.binary_search_by(
+        |other: &Box<BugIn>| -> Ordering
+            ensures { result ≡ nat_cmp other.now.value.bug bug }
+        { other.bug.cmp(&bug) },
+    )
+}
+
+/// Where the list takes the bug.
+fn slot_of_bug(bugs: &[Box<BugIn>], bug: &BugIn) -> Slot
+    requires { AreByNumber (unboxed bugs.now) }
+    ensures { IsSlotFor (unboxed bugs.now) bug.now (taken.with_bug bug.now (unboxed bugs.now)) result }
+{
+    match place_of_bug(bugs, bug.bug) {
+        Ok(i) => {
+            let other = &bugs[i];
+            if bug_order(other, bug).is_lt() {
+                return Slot::Nowhere;
+            }
+            Slot::Over(i)
+        }
+        Err(i) => Slot::Before(i),
+    }
+}
+
+/// A message on a bug joins the states, where the bug has none after it. There is room for it.
+pub fn put_bug(bugs: &mut Vec<Box<BugIn>>, bug: Box<BugIn>)
+    requires order { AreByNumber (unboxed bugs.old.items) }
+    requires room { vec_len bugs.old < vec_capacity bugs.old }
+    ensures { unboxed bugs.new.items ≡ taken.with_bug bug.value (unboxed bugs.old.items) }
+{
+    let slot = slot_of_bug(bugs, &bug);
+    put_at(bugs, slot, bug);
+}
+
+/// The order of a build's architecture and name beside these.
+pub fn order_pair(build: &BuildIn, arch: &str, name: &str) -> Ordering
+    ensures { result ≡ pair_order (pair_of build.now) (arch.now, name.now) }
+{
+    let names = build.binary.name.as_str().cmp(name);
+    build.binary.architecture.as_str().cmp(arch).then(names)
+}
+
+/// Where the rows have the architecture and the name, or else where these belong.
+pub fn place_of_pair(rows: &[Box<BuildIn>], arch: &str, name: &str) -> Result<usize, usize>
+    ensures bound { IsSearchInRange result (length (unboxed rows.now)) }
+    ensures found { IsBinarySearchResult (λ b. pair_order (pair_of b) (arch.now, name.now)) (unboxed rows.now) result }
+{
+    rows.binary_search_by(
+        |build: &Box<BuildIn>| -> Ordering
+            ensures { result ≡ pair_order (pair_of build.now.value) (arch.entry.now, name.entry.now) }
+        { order_pair(build, arch, name) },
+    )
+}
+
+/// Where the list takes the build.
+fn slot_of_build(rows: &[Box<BuildIn>], build: &BuildIn) -> Slot
+    requires { AreByPair (unboxed rows.now) }
+    ensures { IsSlotFor (unboxed rows.now) build.now (taken.with_build build.now (unboxed rows.now)) result }
+{
+    let binary: &Binary = &build.binary;
+    match place_of_pair(rows, binary.architecture.as_str(), binary.name.as_str()) {
+        Ok(i) => {
+            let other = &rows[i];
+            if build_order(other, build).is_lt() {
+                return Slot::Nowhere;
+            }
+            Slot::Over(i)
+        }
+        Err(i) => Slot::Before(i),
+    }
+}
+
+/// A build joins the rows, where its own has none before it. There is room for it.
+pub fn put_build(rows: &mut Vec<Box<BuildIn>>, build: Box<BuildIn>)
+    requires order { AreByPair (unboxed rows.old.items) }
+    requires room { vec_len rows.old < vec_capacity rows.old }
+    ensures items { unboxed rows.new.items ≡ taken.with_build build.value (unboxed rows.old.items) }
+    ensures len { vec_len rows.new ≤ vec_len rows.old + 1 }
+    ensures capacity { vec_capacity rows.old ≤ vec_capacity rows.new }
+{
+    let slot = slot_of_build(rows, &build);
+    put_at(rows, slot, build);
+}
+
+/// The build stands beside all of the drops.
+pub fn stands_beside(drops: &[Box<DropIn>], build: &BuildIn) -> bool
+    requires { AreDropsByPair (unboxed drops.now) }
+    ensures { result ≡ taken.stands_beside (unboxed drops.now) build.now }
+{
+    let binary: &Binary = &build.binary;
+    match place_of_drop(drops, binary.architecture.as_str(), binary.name.as_str()) {
+        Ok(i) => outlives(&drops[i], build),
+        Err(_) => true,
+    }
+}
+
+/// The rows lose the one that the drop takes, if there is one.
+pub fn take_row(rows: &mut Vec<Box<BuildIn>>, drop: &DropIn)
+    requires { AreByPair (unboxed rows.old.items) }
+    ensures items { unboxed rows.new.items ≡ taken.with_drop drop.now (unboxed rows.old.items) }
+    ensures len { vec_len rows.new ≤ vec_len rows.old }
+    ensures capacity { vec_capacity rows.new ≡ vec_capacity rows.old }
+{
+    if let Ok(i) = place_of_pair(rows, drop.arch.as_str(), drop.name.as_str()) {
+        if !outlives(drop, &rows[i]) {
+            rows.remove(i);
+        }
+    }
+}
+
+/// Where the hints have one of this number and sender, or else where it belongs.
+pub fn place_of_hint(hints: &[HintIn], hint: &HintIn) -> Result<usize, usize>
+    ensures bound { IsSearchInRange result (length hints.now) }
+    ensures found { IsBinarySearchResult (λ h. hint_order h hint.now) hints.now result }
+{
+    hints.binary_search_by(
+        |other: &HintIn| -> Ordering
+            ensures { result ≡ hint_order other.now hint.entry.now }
+        { hint_order(other, hint) },
+    )
+}
+
+/// Where the list takes the hint.
+fn slot_of_hint(hints: &[HintIn], hint: &HintIn) -> Slot
+    requires { AreHintsByNumber hints.now }
+    ensures { IsSlotFor hints.now hint.now (taken.with_hint hint.now hints.now) result }
+{
+    match place_of_hint(hints, hint) {
+        Ok(i) => Slot::Over(i),
+        Err(i) => Slot::Before(i),
+    }
+}
+
+/// A hint joins the hints. There is room for it.
+pub fn put_hint(hints: &mut Vec<HintIn>, hint: HintIn)
+    requires order { AreHintsByNumber hints.old.items }
+    requires room { vec_len hints.old < vec_capacity hints.old }
+    ensures { hints.new.items ≡ taken.with_hint hint hints.old.items }
+{
+    let slot = slot_of_hint(hints, &hint);
+    put_at(hints, slot, hint);
+}
+
+/// Where the unhints have one of this number and sender, or else where it belongs.
+pub fn place_of_unhint(unhints: &[UnhintIn], unhint: &UnhintIn) -> Result<usize, usize>
+    ensures bound { IsSearchInRange result (length unhints.now) }
+    ensures found { IsBinarySearchResult (λ c. unhint_order c unhint.now) unhints.now result }
+{
+    unhints.binary_search_by(
+        |other: &UnhintIn| -> Ordering
+            ensures { result ≡ unhint_order other.now unhint.entry.now }
+        { unhint_order(other, unhint) },
+    )
+}
+
+/// Where the list takes the unhint.
+fn slot_of_unhint(unhints: &[UnhintIn], unhint: &UnhintIn) -> Slot
+    requires { AreUnhintsByNumber unhints.now }
+    ensures { IsSlotFor unhints.now unhint.now (taken.with_unhint unhint.now unhints.now) result }
+{
+    match place_of_unhint(unhints, unhint) {
+        Ok(i) => Slot::Over(i),
+        Err(i) => Slot::Before(i),
+    }
+}
+
+/// An unhint joins the unhints. There is room for it.
+pub fn put_unhint(unhints: &mut Vec<UnhintIn>, unhint: UnhintIn)
+    requires order { AreUnhintsByNumber unhints.old.items }
+    requires room { vec_len unhints.old < vec_capacity unhints.old }
+    ensures { unhints.new.items ≡ taken.with_unhint unhint unhints.old.items }
+{
+    let slot = slot_of_unhint(unhints, &unhint);
+    put_at(unhints, slot, unhint);
+}
