@@ -222,8 +222,11 @@ class Trials:
             left = [change for change in self.changes_of(crate) if change.is_in_body]
             while left:
                 first = {change.function: change for change in reversed(left)}
+                if len(first) > 1 and not left_alone(first.values(), self.functions[crate.name]):
+                    # (if each function that can be asked of is changed, none would be proved)
+                    first.popitem()
                 self.try_together(crate, [*first.values()], flags, room)
-                left = [change for change in left if first[change.function] is not change]
+                left = [change for change in left if first.get(change.function) is not change]
             self.seeds.add(seed)
             return room
         except (OSError, ValueError, StopIteration, shutil.Error) as fault:

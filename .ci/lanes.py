@@ -1,8 +1,10 @@
 """The order in which the gate's checks run. See gate.py.
 
 As many proofs run side by side as there are processors. The proof with the most work in crates above it comes first. It
-gets two processors if there are more than two, since all else waits for it. Must-fail edits run beside the proofs at a
-lower priority, so they take what the proofs leave idle, and no proof waits for one to end. What runs must fit in memory.
+gets two processors if there are more than two, since all else waits for it. So does each proof while fewer of them run
+and are ready than there are processors, as at the end. If two processors take too much memory, a proof gets one.
+Must-fail edits run beside the proofs at a lower priority, so they take what the proofs leave idle, and no proof waits
+for one to end. What runs must fit in memory.
 """
 import collections
 import concurrent.futures
@@ -64,8 +66,9 @@ class Lanes:
         self.memory = 0.85 * kit.free()
         self.running, self.given = {}, {}
 
-    def jobs_for(self, key, is_first):
-        return 2 if is_first and is_proof(key) and self.processors > 2 else 1
+    def jobs_for(self, key, is_first, proofs):
+        """On how many processors a task begins, beside so many proofs that run or are ready, itself among them."""
+        return 2 if is_proof(key) and self.processors > 2 and (is_first or proofs < self.processors) else 1
 
     def has_room(self, key, memory):
         """Whether a task may begin beside those that run."""
@@ -78,13 +81,17 @@ class Lanes:
         """Begins the tasks that are ready, in their order, as long as there is room. No edit begins while a proof waits for
         memory, since edits would take it again and again."""
         lacks_memory = False
-        for key in [key for key in left if all(before in self.given for before in tasks[key][0])]:
+        ready = [key for key in left if all(before in self.given for before in tasks[key][0])]
+        proofs = sum(map(is_proof, ready)) + sum(is_proof(task.key) for task in self.running.values())
+        for key in ready:
             if lacks_memory and not is_proof(key):
                 break
             _, _, needs, call = tasks[key]
             is_first = all(behind[task.key] <= behind[key] for task in self.running.values())
-            jobs = self.jobs_for(key, is_first)
+            jobs = self.jobs_for(key, is_first, proofs)
             memory = needs * (1 + BESIDE * (jobs - 1))
+            if jobs > 1 and not self.has_room(key, memory):
+                jobs, memory = 1, needs
             if self.has_room(key, memory):
                 left.remove(key)
                 niceness = 0 if is_proof(key) else NICENESS

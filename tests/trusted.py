@@ -23,7 +23,7 @@ from pathlib import Path
 USERS = ['deb_version', 'deb_control', 'testing_install', 'testing_rules', 'office_mail', 'office_store',
          'office_bags', 'office_checks', 'office_http', 'office_words', 'office_commands',
          'office']
-INNER = {('office_bags', 'settle_behind')}
+INNER = {('office_replays', 'settle_behind')}
 STEPS = '-- Steps: no contract of a call that users make rests on this file.'
 CLAUSE = re.compile(r'\b(requires|ensures|before)\b\s*[\w-]*\s*$')
 ITEM = re.compile(r'(?P<pub>pub(?:\([a-z]+\))?\s+)?(?P<ghost>ghost\s+)?(?:unsafe\s+)?(?:const\s+(?=fn\b))?(?:(?P<kind>'

@@ -10,3 +10,5 @@ pub mod VersionChars
 pub mod SpellingLemmas
 pub mod SourceLemmas
 pub mod RefusalLemmas
+pub mod Alike
+pub mod LineFronts

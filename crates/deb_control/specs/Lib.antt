@@ -1,9 +1,12 @@
 pub mod Text
+pub mod LineFronts
 pub mod Paragraphs
 pub mod Reader
 pub mod ReaderSteps
 pub mod Relations
+pub mod ClauseSteps
 pub mod Binary
+pub mod BinarySteps
 pub mod WellFormed
 pub mod Spelling
 pub mod FirstFault

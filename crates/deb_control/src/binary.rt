@@ -1,10 +1,12 @@
 //! Binary packages (Debian Policy 5.3).
 
-ghost use Rattle.std.specs.Prelude.{◌≡◌, ◌++◌, true, IfOk, Ok};
+ghost use Rattle.std.specs.Prelude.{◌≡◌, ◌++◌, true, IfOk, IfSome, Ok};
 ghost use Rattle.std.specs.List.{list_all};
+ghost use Rattle.std.specs.Str.{bytes_eq};
 ghost use Rattle.deb_control.specs.Paragraphs.{value_of};
 ghost use Rattle.deb_control.specs.Relations.{Gives as GivesPart, is_qualifier_char, is_version, clauses_in, provisions_in};
 ghost use Rattle.deb_control.specs.Binary.{Gives, GivesBy, field_name, required, optional, of_field, is_architecture, source_in, source_of, binary_of};
+ghost use Rattle.deb_control.specs.BinarySteps.{needs_in, needs_same, binary_by};
 ghost use Rattle.deb_control.specs.declared.fault.BinaryField.TheVariants.{Source, Provides};
 
 use crate::fault::{BinaryFault, BinaryField, RelationFault};
@@ -55,33 +57,24 @@ impl Binary {
     /// The binary that a paragraph describes, or its first fault: a missing field, or else the first bad field in the
     /// order of `BinaryField`. Without a field `Source` the package's name and version are the source's, and without a
     /// version there its version is (Debian Policy 5.6.1).
-    #[tactic(auto, unfolding(crate::specs::Binary::binary_of))]
     pub fn parse(alloc: Global, paragraph: &Paragraph<'_>) -> Result<Binary, BinaryFault>
         ensures { Gives result (binary_of paragraph.now) }
     {
-        let package = required(paragraph, BinaryField::Package)?;
-        let version_text = required(paragraph, BinaryField::Version)?;
-        let architecture = required(paragraph, BinaryField::Architecture)?;
-        if !is_package_name(package.as_bytes()) {
-            return Err(BinaryFault::BadName(BinaryField::Package));
-        }
-        let version = in_field(BinaryField::Version, parse_version(alloc, version_text))?;
-        if !is_architecture(architecture.as_bytes()) {
-            return Err(BinaryFault::BadName(BinaryField::Architecture));
-        }
-        let (source, source_version) = read_source(alloc, paragraph, package, version_text)?;
-        let before = clauses_of(alloc, paragraph, BinaryField::PreDepends)?;
-        let depends = clauses_of(alloc, paragraph, BinaryField::Depends)?;
-        let provides = read_provisions(alloc, paragraph)?;
-        Ok(Binary {
-            name: Text::from_str(alloc, package)?,
-            version,
-            architecture: Text::from_str(alloc, architecture)?,
-            source,
-            source_version,
-            clauses: Clauses::new(alloc, joined(before, depends)?)?,
-            provides,
-        })
+        read_binary(alloc, paragraph, None)
+    }
+
+    /// The same, beside another binary and the paragraph that it was read from. If the two paragraphs have the same
+    /// texts under Pre-Depends and Depends, the clauses of the other binary are shared, and nothing is read for them.
+    pub fn parse_like(
+        alloc: Global,
+        paragraph: &Paragraph<'_>,
+        before: &Paragraph<'_>,
+        like: &Binary,
+    ) -> Result<Binary, BinaryFault>
+        requires { binary_of before.now ≡ Ok like.now }
+        ensures { Gives result (binary_of paragraph.now) }
+    {
+        read_binary(alloc, paragraph, clauses_like(paragraph, before, like))
     }
 
     /// An equal binary.
@@ -98,6 +91,98 @@ impl Binary {
             provides: self.provides.copy(alloc)?,
         })
     }
+}
+
+/// The binary that a paragraph describes, or its first fault. Clauses that are known already are shared.
+#[tactic(auto, unfolding(crate::specs::BinarySteps::binary_by))]
+fn read_binary(
+    alloc: Global,
+    paragraph: &Paragraph<'_>,
+    known: Option<&Clauses>,
+) -> Result<Binary, BinaryFault>
+    requires { IfSome known (λ c. needs_in paragraph.now ≡ Ok c.now) }
+    ensures { Gives result (binary_by paragraph.now) }
+{
+    let package = required(paragraph, BinaryField::Package)?;
+    let version_text = required(paragraph, BinaryField::Version)?;
+    let architecture = required(paragraph, BinaryField::Architecture)?;
+    if !is_package_name(package.as_bytes()) {
+        return Err(BinaryFault::BadName(BinaryField::Package));
+    }
+    let version = in_field(BinaryField::Version, parse_version(alloc, version_text))?;
+    if !is_architecture(architecture.as_bytes()) {
+        return Err(BinaryFault::BadName(BinaryField::Architecture));
+    }
+    let (source, source_version) = read_source(alloc, paragraph, package, version_text)?;
+    let clauses = needs(alloc, paragraph, known)?;
+    let provides = read_provisions(alloc, paragraph)?;
+    Ok(Binary {
+        name: Text::from_str(alloc, package)?,
+        version,
+        architecture: Text::from_str(alloc, architecture)?,
+        source,
+        source_version,
+        clauses,
+        provides,
+    })
+}
+
+/// The clauses of a binary, if the paragraph needs the same as the one that the binary was read from.
+fn clauses_like<'a>(
+    paragraph: &Paragraph<'_>,
+    before: &Paragraph<'_>,
+    like: &'a Binary,
+) -> Option<&'a Clauses>
+    requires { binary_of before.now ≡ Ok like.now }
+    ensures { IfSome result (λ c. needs_in paragraph.now ≡ Ok c.now) }
+{
+    if needs_same(paragraph, before) {
+        Some(&like.clauses)
+    } else {
+        None
+    }
+}
+
+/// Whether both paragraphs have the same texts under Pre-Depends and Depends.
+fn needs_same(paragraph: &Paragraph<'_>, other: &Paragraph<'_>) -> bool
+    ensures { result ≡ needs_same paragraph.now other.now }
+{
+    has_same(paragraph, other, BinaryField::PreDepends)
+        && has_same(paragraph, other, BinaryField::Depends)
+}
+
+fn has_same(paragraph: &Paragraph<'_>, other: &Paragraph<'_>, field: BinaryField) -> bool
+    ensures { result ≡ bytes_eq (optional paragraph.now field) (optional other.now field) }
+{
+    optional(paragraph, field) == optional(other, field)
+}
+
+/// What a package needs: the clauses that are known, or else those that are read.
+fn needs(
+    alloc: Global,
+    paragraph: &Paragraph<'_>,
+    known: Option<&Clauses>,
+) -> Result<Clauses, BinaryFault>
+    requires { IfSome known (λ c. needs_in paragraph.now ≡ Ok c.now) }
+    ensures { Gives result (needs_in paragraph.now) }
+{
+    let Some(clauses) = known else {
+        return read_needs(alloc, paragraph);
+    };
+    match clauses.copy() {
+        Ok(copy) => Ok(copy),
+        Err(_) => Err(BinaryFault::NoMemory),
+    }
+}
+
+/// The clauses of Pre-Depends, then those of Depends.
+#[tactic(auto, unfolding(crate::specs::BinarySteps::needs_in))]
+fn read_needs(alloc: Global, paragraph: &Paragraph<'_>) -> Result<Clauses, BinaryFault>
+    ensures { Gives result (needs_in paragraph.now) }
+{
+    let before = clauses_of(alloc, paragraph, BinaryField::PreDepends)?;
+    let depends = clauses_of(alloc, paragraph, BinaryField::Depends)?;
+    Ok(Clauses::new(alloc, joined(before, depends)?)?)
 }
 
 /// The value of a field that must be there.
@@ -197,7 +282,7 @@ fn source_with(alloc: Global, name: &str, version: &str) -> Result<(Text, Versio
     Ok((Text::from_str(alloc, name)?, version))
 }
 
-/// The clauses of a field, one by one.
+/// The clauses of a field, one by one. If the field is absent or empty, no memory is taken.
 fn clauses_of(
     alloc: Global,
     paragraph: &Paragraph<'_>,
@@ -205,23 +290,32 @@ fn clauses_of(
 ) -> Result<Vec<Clause>, BinaryFault>
     ensures { GivesBy (λ v. v.items) result (of_field field (clauses_in (optional paragraph.now field))) }
 {
-    in_field(field, read_clauses(alloc, optional(paragraph, field)))
+    let text = optional(paragraph, field);
+    if text.is_empty() {
+        return Ok(Vec::new(alloc));
+    }
+    in_field(field, read_clauses(alloc, text))
 }
 
-/// The provisions.
+/// The provisions. If the field is absent or empty, no memory is taken.
 fn read_provisions(alloc: Global, paragraph: &Paragraph<'_>) -> Result<Provisions, BinaryFault>
     ensures { Gives result (of_field Provides (provisions_in (optional paragraph.now Provides))) }
 {
-    in_field(
-        BinaryField::Provides,
-        Provisions::parse(alloc, optional(paragraph, BinaryField::Provides)),
-    )
+    let text = optional(paragraph, BinaryField::Provides);
+    if text.is_empty() {
+        let none = Vec::new(alloc);
+        return Ok(Provisions::new(none));
+    }
+    in_field(BinaryField::Provides, Provisions::parse(alloc, text))
 }
 
 /// Clauses, and then more.
 fn joined(before: Vec<Clause>, after: Vec<Clause>) -> Result<Vec<Clause>, AllocError>
     ensures { IfOk result (λ all. all.items ≡ before.items ++ after.items) }
 {
+    if before.is_empty() {
+        return Ok(after);
+    }
     let mut all = before;
     let mut more = after;
     all.append(&mut more)?;

@@ -5,11 +5,12 @@ ghost use Rattle.std.specs.List.{list_all, slice_split, position, position_or_le
 ghost use Rattle.std.specs.Option.{option_map, option_copied};
 ghost use Rattle.deb_control.specs.Relations.{Gives, GivesBy, is_package_name, is_lower_or_digit, is_package_char, is_version, ends_name, ends_version, is_qualifier_char, after_qualifier, less_sign, greater_sign, sign_in, version_in, relation_in, alternative_in, clause_in, clauses_in, provision_in, provisions_in};
 ghost use Rattle.deb_control.specs.declared.fault.RelationFault.TheVariants.{BadVersion, NoMemory as OutOfMemory};
+ghost use Rattle.deb_control.specs.ClauseSteps.{only_one};
 
 use crate::fault::RelationFault;
 use crate::owned::Text;
 use crate::relation::{Alternative, Clause, Clauses, Op, Provision, Provisions, Relation, Signs};
-use crate::text::{is_all_white, is_white, skip_white, strip_char};
+use crate::text::{index_of, is_all_white, is_white, skip_white, strip_char};
 use deb_version::{Version, VersionFault};
 use std::alloc::{AllocError, Global};
 
@@ -65,9 +66,30 @@ fn parts<'a>(alloc: Global, text: &'a str, separator: char) -> Result<Vec<&'a st
     text.split(separator).collect(alloc)
 }
 
-/// The alternatives of a clause.
-#[tactic(auto, unfolding(crate::specs::Relations::clause_in))]
+/// The alternatives of a clause. Nearly each clause has one, and takes no memory for a list of parts.
 fn read_clause(alloc: Global, item: &str) -> Result<Clause, RelationFault>
+    ensures { Gives result (clause_in item.now) }
+{
+    let bar = index_of(item.as_bytes(), b'|');
+    if bar == item.len() {
+        read_only_one(alloc, item)
+    } else {
+        read_alternatives(alloc, item)
+    }
+}
+
+/// The clause of one alternative.
+fn read_only_one(alloc: Global, item: &str) -> Result<Clause, RelationFault>
+    ensures { Gives result (only_one item.now) }
+{
+    let mut alternatives = Vec::with_capacity(alloc, 1)?;
+    alternatives.push(read_alternative(alloc, Signs::Any, item)?)?;
+    Ok(Clause::new(alternatives))
+}
+
+/// The alternatives of a clause, which a `|` separates.
+#[tactic(auto, unfolding(crate::specs::Relations::clause_in))]
+fn read_alternatives(alloc: Global, item: &str) -> Result<Clause, RelationFault>
     ensures { Gives result (clause_in item.now) }
 {
     let parts = parts(alloc, item, '|')?;

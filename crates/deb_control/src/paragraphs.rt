@@ -10,7 +10,9 @@ ghost use Rattle.deb_control.specs.Reader.{RefusedBy};
 ghost use Rattle.deb_control.specs.ReaderSteps.{line_in_front, IsFieldCut, IsFieldEnd, IsNameEnd, FieldRead};
 
 use crate::fault::ParagraphFault;
-use crate::text::{continues, first_line, index_of, is_blank_line, split_around, trim_white};
+use crate::text::{
+    begins_blank, begins_continuing, first_line, index_of, split_around, trim_white,
+};
 use std::alloc::Global;
 use std::marker::Model;
 use std::str;
@@ -144,7 +146,7 @@ fn skip_blank_lines(text: &str) -> &str
     ensures begins { (result.now ≡ []) ⊎ (is_blank_line (line_in_front result.now) ≡ false) }
 {
     let mut rest = text;
-    'lines: while is_blank_line(first_line(rest.as_bytes())) {
+    'lines: while begins_blank(rest.as_bytes()) {
         let end = index_of(rest.as_bytes(), b'\n');
         if end == rest.len() {
             return "";
@@ -159,7 +161,7 @@ fn field_end(bytes: &[u8]) -> usize
     ensures { IsFieldEnd bytes.now result }
 {
     let mut end = index_of(bytes, b'\n');
-    'lines: while end < bytes.len() && continues(first_line(&bytes[end + 1..])) {
+    'lines: while end < bytes.len() && begins_continuing(&bytes[end + 1..]) {
         end += 1 + index_of(&bytes[end + 1..], b'\n');
     }
     end
@@ -245,12 +247,12 @@ fn read_paragraph<'a>(
         (λ x. reading_of_text text.now ≡ then_read (map shown x.0.items) (reading_of_text x.1.now))
         (λ e. RefusedBy e (reading_of_text text.now)) }
 {
-    if continues(first_line(text.as_bytes())) {
+    if begins_continuing(text.as_bytes()) {
         return Err(ParagraphFault::FirstLineContinues);
     }
     let mut fields = Vec::with_capacity(alloc, FIELDS)?;
     let mut rest = text;
-    'fields: while !is_blank_line(first_line(rest.as_bytes())) {
+    'fields: while !begins_blank(rest.as_bytes()) {
         let (whole, after) = split_field(rest);
         let field = read_field(&fields, whole)?;
         fields.push(field)?;

@@ -1,15 +1,7 @@
 pub mod Asking
-pub mod BlockSteps
-pub mod Blocks
-pub mod Delivered
-pub mod DeliverySteps
-pub mod Ending
 pub mod Export
 pub mod Listing
-pub mod Losses
 pub mod Mail
 pub mod Numbers
-pub mod Output
-pub mod Replay
 pub mod RunLines
 pub mod Walk

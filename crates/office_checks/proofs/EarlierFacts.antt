@@ -6,7 +6,7 @@ use Rattle.office_mail.specs.Lists.{Lists}
 use Rattle.office_keeper.specs.Content.{Content}
 use Rattle.office_keeper.specs.MemoryState.{content_of}
 use Rattle.office_facts.specs.State.{IsOffice}
-use Rattle.office_rules.specs.Why.{IsWhy, IsWhyAfter}
+use Rattle.office_reasons.specs.Why.{IsWhy, IsWhyAfter}
 use Rattle.office_checks.specs.Comparing.{IsMade}
 use Rattle.office_checks.specs.Earlier.{IsAfter, IsToldAfter, IsToldOfRun}
 use Rattle.office_checks.specs.Whole.{AreOfSenders, IsFinished}

@@ -5,7 +5,7 @@ use Rattle.office_mail.specs.Lists.{Lists}
 use Rattle.office_keeper.specs.Content.{Content}
 use Rattle.office_keeper.specs.MemoryState.{content_of}
 use Rattle.office_facts.specs.State.{IsOffice}
-use Rattle.office_rules.specs.Why.{IsWhyAfter}
+use Rattle.office_reasons.specs.Why.{IsWhyAfter}
 use Rattle.office_checks.specs.Whole.{IsFinished}
 use Rattle.office_checks.specs.declared.memory.Bounded.{Bounded}
 

@@ -18,7 +18,7 @@ use office_store::{
 use office_words::{Report, Words, compare, refuse_report};
 use sqlite::{File, FileStore, Unknown};
 use std::io::{BufWriter, Write};
-use std::{fs, io};
+use std::{fs, io, mem};
 
 /// The exit status where memory ran out.
 const FAILED: u8 = 4;
@@ -184,10 +184,16 @@ pub(crate) fn tell_store(rt: &HostRuntime, path: &str, fault: &StoreFault) -> u8
     store_status(fault)
 }
 
-/// Does a task in an office whose store is in memory.
+/// Does a task in an office whose store is in memory. The process ends behind it, which gives back all memory at once, so
+/// the office's values aren't let go one by one.
 fn run_in_memory(rt: &HostRuntime, setup: Setup, task: Task) -> u8 {
     match Plain::new(rt.alloc(), &setup) {
-        Ok(plain) => run_over(rt, &mut Office::new(rt.alloc(), setup, plain), task),
+        Ok(plain) => {
+            let mut office = Office::new(rt.alloc(), setup, plain);
+            let status = run_over(rt, &mut office, task);
+            mem::forget(office);
+            status
+        }
         Err(_) => out_of_memory(rt),
     }
 }

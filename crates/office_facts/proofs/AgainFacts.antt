@@ -11,7 +11,7 @@ use Rattle.testing_items.specs.Words.{Text}
 use Rattle.testing_items.specs.declared.item.Item.{Item}
 use Rattle.testing_facts.specs.Restored.{said}
 use Rattle.testing_model.proofs.SameFacts.{stands-same}
-use Rattle.testing_rules.proofs.Naming.{same_nat}
+use Rattle.testing_laws.proofs.Naming.{same_nat}
 use Rattle.testing_model.proofs.Sets.{first_or_rest, given_by, gives}
 use Rattle.testing_model.specs.declared.facts.UploadIn.{UploadIn}
 use Rattle.testing_model.specs.Covered.{Covered, CoveredItem, upload_of, uploads_in}

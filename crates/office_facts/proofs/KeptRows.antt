@@ -15,9 +15,9 @@ use Rattle.testing_model.specs.SameMessages.{HasOneOfEach}
 use Rattle.testing_model.specs.Tells.{Tells}
 use Rattle.testing_model.specs.Covered.{Covered}
 use Rattle.testing_facts.specs.Uploads.{AreByMessage}
-use Rattle.testing_rules.proofs.Logging.{changes_make}
-use Rattle.testing_rules.proofs.Naming.{of_delays}
-use Rattle.testing_rules.proofs.Once.{rows_once, told_rows_are_fact_rows}
+use Rattle.testing_laws.proofs.Logging.{changes_make}
+use Rattle.testing_laws.proofs.Naming.{of_delays}
+use Rattle.testing_laws.proofs.Once.{rows_once, told_rows_are_fact_rows}
 use Rattle.office_setup.specs.declared.setup.Role.TheVariants.{Release}
 use Rattle.office_mail.specs.Kept.{Kept}
 use Rattle.office_mail.specs.Lists.{Lists}

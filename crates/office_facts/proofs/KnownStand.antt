@@ -15,9 +15,9 @@ use Rattle.testing_model.specs.Covered.{Covered, CoveredItem}
 use Rattle.testing_model.specs.FactLists.{FactLists}
 use Rattle.testing_model.specs.SameMessages.{SameElements, HasOneOfEach}
 use Rattle.testing_model.specs.StandsFor.{StandsFor}
-use Rattle.testing_rules.proofs.Restoring.{same_stand}
-use Rattle.testing_rules.proofs.Said.{more_tell, stand_tell}
-use Rattle.testing_rules.proofs.Telling.{same_facts}
+use Rattle.testing_laws.proofs.Restoring.{same_stand}
+use Rattle.testing_laws.proofs.Said.{more_tell, stand_tell}
+use Rattle.testing_laws.proofs.Telling.{same_facts}
 use Rattle.office_mail.specs.declared.message.RunOrder.{RunOrder}
 use Rattle.office_mail.specs.Kept.{Kept}
 use Rattle.office_mail.specs.Lists.{Lists}

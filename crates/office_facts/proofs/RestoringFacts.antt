@@ -26,9 +26,9 @@ use Rattle.testing_model.specs.Tells.{Tells}
 use Rattle.testing_model.specs.Covered.{Covered}
 use Rattle.testing_facts.specs.Restored.{Given, restored, said}
 use Rattle.testing_facts.specs.Uploads.{AreByMessage}
-use Rattle.testing_rules.specs.Restored.{restored_all}
-use Rattle.testing_rules.proofs.AllCame.{all_came}
-use Rattle.testing_rules.proofs.Said.{logged_tell, restored_tell}
+use Rattle.testing_laws.specs.Restored.{restored_all}
+use Rattle.testing_laws.proofs.AllCame.{all_came}
+use Rattle.testing_laws.proofs.Said.{logged_tell, restored_tell}
 use Rattle.office_mail.specs.Kept.{Kept}
 use Rattle.office_mail.specs.Lists.{Lists}
 use Rattle.office_keeper.specs.declared.values.Letter.{Letter}

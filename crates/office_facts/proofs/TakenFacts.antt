@@ -16,8 +16,8 @@ use Rattle.testing_model.specs.KeptFacts.{counts_beside, trimmed}
 use Rattle.testing_model.specs.Tells.{Tells}
 use Rattle.testing_model.proofs.SameFacts.{stands-same}
 use Rattle.testing_facts.proofs.KeptUploads.{by_message-filter}
-use Rattle.testing_rules.proofs.Logging.{trims_log}
-use Rattle.testing_rules.proofs.Said.{more_tell, trimmed_tell}
+use Rattle.testing_laws.proofs.Logging.{trims_log}
+use Rattle.testing_laws.proofs.Said.{more_tell, trimmed_tell}
 use Rattle.office_mail.specs.declared.message.MailFault.{MailFault}
 use Rattle.office_mail.specs.declared.message.MailFault.TheVariants.{NoMemory}
 use Rattle.office_mail.specs.declared.message.Message.{Message}

@@ -14,7 +14,7 @@ use Rattle.testing_model.specs.StandsFor.{StandsFor}
 use Rattle.testing_model.specs.Suite.{Suite}
 use Rattle.testing_model.specs.Tells.{Tells}
 use Rattle.testing_facts.specs.Restored.{Given, said}
-use Rattle.testing_rules.specs.Restored.{restored_all}
+use Rattle.testing_laws.specs.Restored.{restored_all}
 use Rattle.office_mail.specs.Kept.{Kept}
 use Rattle.office_keeper.specs.declared.values.Letter.{Letter}
 

@@ -34,8 +34,8 @@ use office_orders::{StoreFault, stored};
 use std::alloc::Global;
 use testing_facts::Facts;
 use testing_items::Item;
+use testing_laws::fallen;
 use testing_model::FactChanges;
-use testing_rules::fallen;
 use testing_suites::Testing;
 
 /// The facts of a run go with the testing that it leaves: the uploads of the sources that fell are taken again, and none is

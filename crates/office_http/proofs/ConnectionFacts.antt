@@ -10,7 +10,7 @@ use Rattle.office_http.specs.declared.serve.ServeFault.TheVariants.{Read, Write}
 use Rattle.office_http.specs.declared.serve.Served.{Served}
 use Rattle.office_http.specs.Serve.{kept_by, Does, IsServed, Serves, StopsServe}
 use Rattle.office_facts.specs.OfficeState.{OfficeState}
-use Rattle.office_bags.proofs.StandFacts.{Grows, grows_same}
+use Rattle.office_replays.proofs.StandFacts.{Grows, grows_same}
 
 within_by : (s : OfficeState) (action : Action) (body : List ℕ) (fault : Option StoreFault) → Within s.kept (kept_by s action body fault)
 within_by s Deliver body None = kept_from-Within s.setup s.kept (body ∷ [])

@@ -40,7 +40,7 @@ use Rattle.office_http.specs.declared.serve.ServeFault.{ServeFault}
 use Rattle.office_http.specs.declared.serve.ServeFault.TheVariants.{Read, Write}
 use Rattle.office_http.specs.declared.serve.Served.{Served}
 use Rattle.office_requests.specs.Asked.{asked_of, body_size, is_head_method}
-use Rattle.office_bags.specs.Losses.{TextCounted, DeliveryCounted}
+use Rattle.office_replays.specs.Losses.{TextCounted, DeliveryCounted}
 use Rattle.office_bags.specs.Mail.{mail_text}
 use Rattle.office_bags.specs.RunLines.{runs_text}
 use Rattle.office_facts.specs.Outcome.{testing_text, testing_after}
@@ -53,12 +53,12 @@ use Rattle.office_facts.specs.State.{answer_to, reports_at}
 use Rattle.office_orders.specs.Written.{AppendsFront}
 use Rattle.office_rules.specs.declared.Trial.TheVariants.{NoDate}
 use Rattle.office_http.specs.Serve.{mail_counts, page_answer, refusal_for, report_answer, letter_answer, delivery_answer, by_fault, posted_body, post_answer, answer_of, waits_of, continued, kept_by, settles, Does, Exchange, Found, IsFoundByPost, IsFoundFor, IsUnread, IsServed, Moves, Replied, RepliedFront, Serves, IsAwaited, StopsBefore, StopsServe}
-use Rattle.office_rules.specs.Why.{IsWhy}
+use Rattle.office_reasons.specs.Why.{IsWhy}
 use Rattle.office_http.specs.Trials.{hints_in, trial_answer}
 use Rattle.office_http.specs.ServeSteps.{answer_or, status_answer, text_answer, Tells, TellsAwaited, TellsTrial, Runs, Answers, ServesHead, ServesFront, StopsRequest}
-use Rattle.office_bags.proofs.ReplayFacts.{Leaves, reply_by-mark, delivery_counted, kept_after}
-use Rattle.office_bags.proofs.RiseFacts.{delivery_weaker, text_weaker}
-use Rattle.office_bags.specs.DeliverySteps.{Settles}
+use Rattle.office_replays.proofs.ReplayFacts.{Leaves, reply_by-mark, delivery_counted, kept_after}
+use Rattle.office_replays.proofs.RiseFacts.{delivery_weaker, text_weaker}
+use Rattle.office_replays.specs.DeliverySteps.{Settles}
 use Rattle.office_orders.proofs.WrittenFacts.{front_after}
 
 -- where nothing is found that the answer tells

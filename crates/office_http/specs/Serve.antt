@@ -34,7 +34,7 @@ use Rattle.office_http.specs.declared.serve.ServeFault.TheVariants.{Read, Write}
 use Rattle.office_rules.specs.declared.Trial.{Trial}
 use Rattle.office_rules.specs.Trial.{IsTrial}
 use Rattle.office_requests.specs.Asked.{asked_of, body_size, is_head_method}
-use Rattle.office_bags.specs.Losses.{TextCounted}
+use Rattle.office_replays.specs.Losses.{TextCounted}
 use Rattle.office_bags.specs.declared.mail.MailCount.{MailCount}
 use Rattle.office_bags.specs.Mail.{letters_of, mail_text}
 use Rattle.office_bags.specs.RunLines.{runs_text}
@@ -46,7 +46,7 @@ use Rattle.office_facts.specs.State.{answer_to, reports_at}
 use Rattle.office_orders.specs.Waiting.{Awaits}
 use Rattle.office_orders.specs.Written.{AppendsFront}
 use Rattle.office_http.specs.Trials.{hints_in, request_terms, tried_answer}
-use Rattle.office_rules.specs.Why.{IsWhy}
+use Rattle.office_reasons.specs.Why.{IsWhy}
 
 -- how a fault of memory or of the store is told
 abbrev pub refusal_for : StoreFault → Refusal

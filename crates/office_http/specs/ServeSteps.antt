@@ -16,7 +16,7 @@ use Rattle.office_requests.specs.declared.request.Asked.{Asked}
 use Rattle.office_http.specs.declared.serve.ServeFault.{ServeFault}
 use Rattle.office_http.specs.declared.serve.ServeFault.TheVariants.{Read, Write}
 use Rattle.office_requests.specs.Asked.{body_size}
-use Rattle.office_bags.specs.Losses.{TextCounted}
+use Rattle.office_replays.specs.Losses.{TextCounted}
 use Rattle.office_requests.specs.Request.{body_room}
 use Rattle.office_facts.specs.OfficeState.{OfficeState}
 use Rattle.office_orders.specs.Waiting.{Awaits}

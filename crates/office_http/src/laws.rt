@@ -1,6 +1,6 @@
 //! What is true of every store, of every office whatever mail comes and in whatever order, and of every replay.
 
-pub use office_bags::replay_laws::blocks_are_no_other;
+pub use office_replays::replay_laws::blocks_are_no_other;
 pub use office_runs::laws::{
     empty_is_sound, headline, lacks_are_needed, lacks_say_why, migrated_is_office, runs_stay,
 };

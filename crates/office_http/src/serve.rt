@@ -13,7 +13,7 @@ ghost use Rattle.office_requests.specs.Reply.{continue_bytes, refused, reply_byt
 ghost use Rattle.office_requests.specs.Request.{body_room, head_room};
 ghost use Rattle.office_requests.specs.RequestSteps.{IsHeadAt};
 ghost use Rattle.office_http.specs.Serve.{mail_counts, refusal_for, report_answer, letter_answer, delivery_answer, waits_of, Does, StopsBefore, Serves, StopsServe};
-ghost use Rattle.office_rules.specs.Why.{IsWhy};
+ghost use Rattle.office_reasons.specs.Why.{IsWhy};
 ghost use Rattle.office_http.specs.ServeSteps.{answer_or, status_answer, text_answer, Tells, TellsAwaited, Runs, Answers, StopsRequest, ServesHead};
 ghost use Rattle.office_facts.specs.State.{state_of};
 ghost use Rattle.office_orders.specs.Counted.{Counted};
@@ -22,10 +22,11 @@ ghost use Rattle.office_orders.specs.Written.{AppendsFront};
 use crate::trials::try_body;
 use deb_control::Text;
 use httparse::spans::{EMPTY_HEADER_SPAN, HeaderSpan, RequestSpans};
-use office_bags::{MailCount, mail_counts, mail_text, runs_text, settle_behind};
+use office_bags::{MailCount, mail_counts, mail_text, runs_text};
 use office_keeper::{Keeper, MailText};
 use office_mail::{Feed, MailFault, ReadFailed, Setup, Sink};
 use office_orders::{DeliverFault, Held, Progress, StoreFault, WriteFault, waiting_text};
+use office_replays::settle_behind;
 use office_requests::routes::routes;
 use office_requests::{
     Action, Answer, Asked, BodyRead, FIELD_ROOM, HeadRead, Page, Posted, Refusal, asked_of,

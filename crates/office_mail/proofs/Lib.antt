@@ -9,6 +9,7 @@ pub mod AnswerFacts
 pub mod HintFacts
 pub mod CoverFacts
 pub mod ReadFacts
+pub mod BuildFacts
 pub mod SaidFacts
 pub mod HeaderFacts
 pub mod BagFacts

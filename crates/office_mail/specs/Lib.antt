@@ -12,6 +12,7 @@ pub mod Hints
 pub mod Kept
 pub mod Laws
 pub mod Read
+pub mod BuildSteps
 pub mod Runs
 pub mod Said
 pub mod Bag

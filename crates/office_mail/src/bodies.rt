@@ -1,7 +1,9 @@
 //! What messages of each kind say.
-ghost use Rattle.std.specs.Prelude.{◌≡◌};
+ghost use Rattle.std.specs.Prelude.{◌≡◌, ◌<◌, IfSome, Ok, length};
+ghost use Rattle.deb_control.specs.Binary.{binary_of};
 ghost use Rattle.office_mail.specs.Answers.{Gives, GivesBy};
 ghost use Rattle.office_mail.specs.Read.{upload_of, drop_of, fault_of_binary, binary_in, build_of, bug_of, hint_of, unhint_of, delays_of, order_of, body_of, said, binary_field};
+ghost use Rattle.office_mail.specs.BuildSteps.{AreRead};
 ghost use Rattle.office_setup.specs.Steps.{each_of};
 
 use crate::covers::covers_in;
@@ -87,14 +89,47 @@ fn build_of(alloc: Global, paragraphs: &[Paragraph<'_>]) -> Result<Item, MailFau
     Ok(Item::Build(Binaries::of(binaries)))
 }
 
+/// The binaries of the paragraphs, in order.
 fn each_binary(alloc: Global, paragraphs: &[Paragraph<'_>]) -> Result<Vec<Binary>, MailFault>
     ensures { GivesBy (λ v. v.items) result (each_of binary_in paragraphs.now) }
 {
-    let mut binaries = Vec::new(alloc);
+    let mut binaries = Vec::with_capacity(alloc, paragraphs.len())?;
     'paragraphs: for paragraph in paragraphs {
-        binaries.push(binary_in(alloc, paragraph)?)?;
+        let binary = binary_beside(alloc, paragraph, paragraphs, binaries.as_slice())?;
+        binaries.push(binary)?;
     }
     Ok(binaries)
+}
+
+/// The binary of a paragraph, beside those of the first paragraphs. A package that is built on two architectures mostly
+/// needs the same on both, so it shares its clauses with one of its name.
+fn binary_beside(
+    alloc: Global,
+    paragraph: &Paragraph<'_>,
+    paragraphs: &[Paragraph<'_>],
+    binaries: &[Binary],
+) -> Result<Binary, MailFault>
+    requires { AreRead paragraphs.now binaries.now }
+    ensures { Gives result (binary_in paragraph.now) }
+{
+    let name = paragraph.field(Field::Package.name()).unwrap_or("");
+    let Some(place) = place_named(name, binaries) else {
+        return binary_in(alloc, paragraph);
+    };
+    let before = &paragraphs[place];
+    binary_like(alloc, paragraph, before, &binaries[place])
+}
+
+/// Where a binary of this name stands, if there is one.
+fn place_named(name: &str, binaries: &[Binary]) -> Option<usize>
+    ensures { IfSome result (λ place. place < length binaries.now) }
+{
+    for place in 0..binaries.len() {
+        if binaries[place].name.as_str() == name {
+            return Some(place);
+        }
+    }
+    None
 }
 
 #[tactic(auto, unfolding(crate::specs::Read::binary_in))]
@@ -102,6 +137,23 @@ fn binary_in(alloc: Global, paragraph: &Paragraph<'_>) -> Result<Binary, MailFau
     ensures { Gives result (binary_in paragraph.now) }
 {
     match Binary::parse(alloc, paragraph) {
+        Ok(binary) => Ok(binary),
+        Err(fault) => Err(fault_of_binary(fault)),
+    }
+}
+
+/// The same, beside the binary of another paragraph.
+#[tactic(auto, unfolding(crate::specs::Read::binary_in))]
+fn binary_like(
+    alloc: Global,
+    paragraph: &Paragraph<'_>,
+    before: &Paragraph<'_>,
+    like: &Binary,
+) -> Result<Binary, MailFault>
+    requires { binary_of before.now ≡ Ok like.now }
+    ensures { Gives result (binary_in paragraph.now) }
+{
+    match Binary::parse_like(alloc, paragraph, before, like) {
         Ok(binary) => Ok(binary),
         Err(fault) => Err(fault_of_binary(fault)),
     }

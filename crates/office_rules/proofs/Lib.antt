@@ -6,4 +6,3 @@ pub mod NextFacts
 pub mod OneFacts
 pub mod TriedOutcome
 pub mod TryFacts
-pub mod WhyFacts

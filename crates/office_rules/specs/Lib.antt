@@ -3,5 +3,3 @@ pub mod Counting
 pub mod Hints
 pub mod NextRun
 pub mod Trial
-pub mod Telling
-pub mod Why

@@ -1,9 +1,9 @@
 //! What a run decides without hints, and with them.
 
 ghost use Rattle.std.specs.Prelude.{◌≡◌, IfOk, IfErr, OnOk};
-ghost use Rattle.testing_rules.specs.Covered.{Covered};
-ghost use Rattle.testing_rules.specs.StandsFor.{StandsFor};
-ghost use Rattle.testing_rules.specs.Suite.{Suite};
+ghost use Rattle.testing_laws.specs.Covered.{Covered};
+ghost use Rattle.testing_laws.specs.StandsFor.{StandsFor};
+ghost use Rattle.testing_laws.specs.Suite.{Suite};
 ghost use Rattle.office_facts.specs.Outcome.{outcome, testing_text};
 ghost use Rattle.office_rules.specs.RuleSteps.{outcome_left};
 ghost use Rattle.office_rules.specs.Hints.{release, with_letters};
@@ -18,15 +18,15 @@ use office_keeper::Letter;
 use office_mail::Setup;
 use office_orders::StoreFault;
 use std::alloc::Global;
+use testing_laws::{Facts, Testing};
 use testing_reports::Decided;
-use testing_rules::{Facts, Testing};
 
 /// The text of testing behind a run.
 #[tactic(auto, unfolding(office_facts::specs::Outcome::testing_text))]
 fn testing_text(alloc: Global, setup: &Setup, run: u32, testing: &Testing) -> Result<Text, NoMemory>
     ensures { IfOk result (λ text. text ≡ testing_text setup.now run testing.now) }
 {
-    let text = testing_rules::testing_text(alloc, setup.archs(), run, testing)?;
+    let text = testing_laws::testing_text(alloc, setup.archs(), run, testing)?;
     Ok(Text::from_string(text))
 }
 

@@ -1,5 +1,5 @@
-//! A run by the rules over facts: testing as it leaves it, and its two reports; what the next run would decide if some
-//! hints were covered too; and why a source stands where the last run left it. Nothing is kept.
+//! A run by the rules over facts: testing as it leaves it, and its two reports; and what the next run would decide if some
+//! hints were covered too. Nothing is kept.
 #![tactic(auto)]
 
 mod counting;
@@ -9,9 +9,7 @@ mod hints;
 pub mod laws;
 mod release;
 mod rules;
-mod told;
 mod trying;
-mod why;
 
 use jiff_core::civil::Date;
 use office_mail::MailFault;
@@ -19,7 +17,6 @@ pub use release::release_place;
 pub use rules::{RunOutcome, run_beside};
 pub use testing_reports::{Decided, Tried, has_changes, tried_text};
 pub use trying::try_hints;
-pub use why::why_text;
 
 /// What a trial takes beside the hints: a day, if one is given, and whether all mail of all senders is covered that is
 /// kept without a gap.

@@ -2,12 +2,12 @@
 ghost use Rattle.std.specs.Prelude.{◌≡◌, IfOk};
 ghost use Rattle.office_facts.specs.Outcome.{Outcome, outcome};
 ghost use Rattle.office_rules.specs.RuleSteps.{outcome_left};
-ghost use Rattle.testing_rules.specs.Covered.{Covered};
-ghost use Rattle.testing_rules.specs.Reports.{excuses_text, update_text};
-ghost use Rattle.testing_rules.specs.StandsFor.{StandsFor};
+ghost use Rattle.testing_laws.specs.Covered.{Covered};
+ghost use Rattle.testing_laws.specs.Reports.{excuses_text, update_text};
+ghost use Rattle.testing_laws.specs.StandsFor.{StandsFor};
 ghost use Rattle.testing_model.specs.Tells.{AreSaidBy};
-ghost use Rattle.testing_rules.specs.Watched.{AllWatchedWork};
-ghost use Rattle.testing_rules.specs.Provenance.{IsGivenBy};
+ghost use Rattle.testing_laws.specs.Watched.{AllWatchedWork};
+ghost use Rattle.testing_laws.specs.Provenance.{IsGivenBy};
 
 use deb_control::{NoMemory, Text};
 use jiff_core::civil::Date;
@@ -15,8 +15,8 @@ use office_keeper::Reports;
 use office_mail::Setup;
 use std::alloc::Global;
 use testing_excuses::excuses;
+use testing_laws::{Archs, Excuses, Facts, Testing, Update, migrate};
 use testing_reports::{excuses_text, update_text};
-use testing_rules::{Archs, Excuses, Facts, Testing, Update, migrate};
 
 /// What a run decides: testing as it leaves it, and the two reports.
 #[derive(Drop)]

@@ -2,8 +2,8 @@
 #![tactic(auto, using(office_orders::proofs::LastFacts::lasting))]
 
 ghost use Rattle.std.specs.Prelude.{is_ok, ◌≡◌, ◌≤◌, ◌<◌, ℕ, List, Some, IfOk, IfSome, length, slice_index};
-ghost use Rattle.testing_rules.specs.Covered.{Covered};
-ghost use Rattle.testing_rules.specs.StandsFor.{StandsFor};
+ghost use Rattle.testing_laws.specs.Covered.{Covered};
+ghost use Rattle.testing_laws.specs.StandsFor.{StandsFor};
 ghost use Rattle.office_mail.specs.Runs.{cover_of, later, orders_to};
 ghost use Rattle.office_orders.specs.Counted.{Counted};
 ghost use Rattle.office_facts.specs.Known.{AreKnown};
@@ -28,8 +28,8 @@ use office_keeper::{Keeper, Letter};
 use office_mail::{RunOrder, Setup, latest_day};
 use office_orders::{StoreFault, stored};
 use std::alloc::Global;
+use testing_laws::Facts;
 use testing_reports::{Decided, Tried};
-use testing_rules::Facts;
 
 /// The later of two days.
 fn later(a: Date, b: Date) -> Date

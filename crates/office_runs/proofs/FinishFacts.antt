@@ -10,7 +10,7 @@ use Rattle.office_keeper.specs.declared.values.Finished.{Finished}
 use Rattle.office_keeper.specs.Content.{Content, reports_in, with_run}
 use Rattle.office_keeper.specs.Provenance.{AreOwnTexts}
 use Rattle.office_facts.specs.State.{IsOffice, KeepsFacts}
-use Rattle.testing_rules.specs.Watched.{AllWatchedWork}
+use Rattle.testing_laws.specs.Watched.{AllWatchedWork}
 use Rattle.office_facts.specs.Outcome.{Outcome, Testing, outcome_in, outcome_of, reports_from, reports_of, reports_to, testing_after}
 
 pub reports_to-suc : (setup : Lists) (kept : Kept) (n : ℕ) → reports_to setup kept (n + 1) ≡ reports_to setup kept n ++ reports_of setup kept (n + 1) ∷ []

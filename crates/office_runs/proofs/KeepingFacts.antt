@@ -11,8 +11,8 @@ use Rattle.testing_model.specs.FactRows.{rows_of, times}
 use Rattle.testing_model.specs.KeptFacts.{KeptFacts}
 use Rattle.testing_model.specs.StandsFor.{StandsFor}
 use Rattle.testing_model.specs.Tells.{Tells}
-use Rattle.testing_rules.specs.Covered.{Covered}
-use Rattle.testing_rules.proofs.Said.{more_tell}
+use Rattle.testing_laws.specs.Covered.{Covered}
+use Rattle.testing_laws.proofs.Said.{more_tell}
 use Rattle.office_mail.specs.declared.message.RunOrder.{RunOrder}
 use Rattle.office_setup.specs.declared.setup.Role.TheVariants.{Release}
 use Rattle.office_mail.specs.Kept.{Kept, Within, Place, IsPlace}

@@ -25,10 +25,10 @@ use Rattle.testing_model.proofs.Sets.{at_front}
 use Rattle.testing_model.specs.FactLists.{no_facts}
 use Rattle.testing_model.specs.FactRows.{row_order}
 use Rattle.testing_model.specs.KeptFacts.{KeptFacts}
-use Rattle.testing_rules.specs.Watched.{AllWatchedWork}
+use Rattle.testing_laws.specs.Watched.{AllWatchedWork}
 use Rattle.office_facts.proofs.WalkFacts.{none_covered}
 use Rattle.office_rules.proofs.OutcomeFacts.{covered_items-later, outcome_of-later}
-use Rattle.testing_rules.specs.Covered.{Covered}
+use Rattle.testing_laws.specs.Covered.{Covered}
 use Rattle.office_facts.specs.Outcome.{Outcome, Testing, covered_items, outcome_of, reports_from, reports_of, reports_to, testing_after}
 
 pub reports_to-later : (setup : Lists) (small large : Kept) (k : ℕ) → Within small large → IsReady setup small k → reports_to setup large k ≡ reports_to setup small k

@@ -3,10 +3,10 @@ use Rattle.std.proofs.Common.{◌≡◌, ℕ, ◌+◌, List, length, Some, sym, 
 use Rattle.office_mail.specs.declared.message.RunOrder.{RunOrder}
 use Rattle.office_mail.specs.Runs.{cover_of, cover, latest_day, orders_to}
 use Rattle.jiff_core.specs.declared.civil.date.Date.{Date}
-use Rattle.testing_rules.specs.Covered.{Covered}
+use Rattle.testing_laws.specs.Covered.{Covered}
 use Rattle.office_mail.specs.Lists.{Lists}
-use Rattle.testing_rules.specs.FactLists.{FactLists}
-use Rattle.testing_rules.specs.StandsFor.{StandsFor}
+use Rattle.testing_laws.specs.FactLists.{FactLists}
+use Rattle.testing_laws.specs.StandsFor.{StandsFor}
 use Rattle.office_keeper.specs.Content.{Content}
 use Rattle.office_orders.specs.Ready.{FirstOrders}
 use Rattle.office_facts.specs.State.{IsOffice}

@@ -5,7 +5,7 @@ use Rattle.testing_model.specs.FactLists.{FactLists}
 use Rattle.testing_model.specs.FactRows.{rows_of, times}
 use Rattle.testing_model.specs.KeptFacts.{KeptFacts}
 use Rattle.testing_model.specs.declared.fact_row.FactRow.{FactRow}
-use Rattle.testing_rules.specs.Watched.{AllWatchedWork}
+use Rattle.testing_laws.specs.Watched.{AllWatchedWork}
 use Rattle.office_mail.specs.Kept.{Place, IsPlace}
 use Rattle.office_mail.specs.Lists.{Lists}
 use Rattle.office_mail.specs.Runs.{IsReady}

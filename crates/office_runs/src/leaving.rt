@@ -2,11 +2,11 @@
 #![tactic(auto, using(office_orders::proofs::LastFacts::lasting))]
 
 ghost use Rattle.std.specs.Prelude.{◌≡◌, ℕ, ◌+◌, ◌<◌, IfOk, IfSome, OnOk, length, slice_index};
-ghost use Rattle.testing_rules.specs.Covered.{Covered};
-ghost use Rattle.testing_rules.specs.FactDifference.{IsDifference};
-ghost use Rattle.testing_rules.specs.KeptFacts.{KeptFacts};
-ghost use Rattle.testing_rules.specs.StandsFor.{StandsFor};
-ghost use Rattle.testing_rules.specs.Watched.{AllWatchedWork};
+ghost use Rattle.testing_laws.specs.Covered.{Covered};
+ghost use Rattle.testing_laws.specs.FactDifference.{IsDifference};
+ghost use Rattle.testing_laws.specs.KeptFacts.{KeptFacts};
+ghost use Rattle.testing_laws.specs.StandsFor.{StandsFor};
+ghost use Rattle.testing_laws.specs.Watched.{AllWatchedWork};
 ghost use Rattle.office_mail.specs.Runs.{cover_of};
 ghost use Rattle.office_keeper.specs.FactSet.{AreHoldable, facts_after};
 ghost use Rattle.office_keeper.specs.Provenance.{AreOwnTexts, IsGiven, KnowsArchs};

@@ -4,7 +4,7 @@
 ghost use Rattle.std.specs.Prelude.{is_ok, ◌≡◌, ◌+◌, ◌≤◌, ◌<◌, ◌∷◌, [], None, IfOk, IfSome, OnOk, OnErr, length};
 ghost use Rattle.std.specs.FinMap.{get};
 ghost use Rattle.std.specs.Option.{option_map};
-ghost use Rattle.testing_rules.specs.Watched.{AllWatchedWork};
+ghost use Rattle.testing_laws.specs.Watched.{AllWatchedWork};
 ghost use Rattle.office_mail.specs.Kept.{kept_from};
 ghost use Rattle.office_mail.specs.Runs.{IsReady, IsReadyCount};
 ghost use Rattle.office_keeper.specs.Content.{IsNextNumber};
@@ -15,7 +15,7 @@ ghost use Rattle.office_orders.specs.StaysTrusted.{StaysTrusted};
 ghost use Rattle.office_facts.specs.Outcome.{testing_after, testing_text};
 ghost use Rattle.office_facts.specs.State.{IsSound, KeepsFacts, state_of, answer_to, AnswersDelivery, reports_at};
 ghost use Rattle.office_orders.specs.Waiting.{Awaits, AwaitsSome};
-ghost use Rattle.office_rules.specs.Why.{IsWhy};
+ghost use Rattle.office_reasons.specs.Why.{IsWhy};
 ghost use Rattle.office_rules.specs.Trial.{IsTrial};
 
 use crate::gathering::{Reply, keep_texts};
@@ -30,7 +30,8 @@ use office_mail::{RunOrder, Setup};
 use office_orders::ready::ready_count;
 use office_orders::waiting::waiting;
 use office_orders::{DeliverFault, Held, Progress, StoreFault, Waiting, stored};
-use office_rules::{Terms, Trial, try_hints, why_text};
+use office_reasons::why_text;
+use office_rules::{Terms, Trial, try_hints};
 use std::alloc::Global;
 use std::marker::Model;
 

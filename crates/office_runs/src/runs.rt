@@ -22,7 +22,7 @@ use office_orders::ready::next_is_ready;
 use office_orders::{StoreFault, stored};
 use office_rules::release_place;
 use std::alloc::Global;
-use testing_rules::DelaysIn;
+use testing_laws::DelaysIn;
 
 /// Whether these delays, if any, are told by the release team, as all are where each text is kept under its own place.
 fn are_of_release(setup: &Setup, delays: Option<DelaysIn>) -> bool

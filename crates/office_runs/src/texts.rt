@@ -8,7 +8,7 @@ use office_keeper::Keeper;
 use office_mail::Setup;
 use office_orders::{StoreFault, stored};
 use std::alloc::Global;
-use testing_rules::Testing;
+use testing_laws::Testing;
 
 /// The text of testing after a number of runs. It fails for want of memory alone.
 #[tactic(auto, unfolding(office_facts::specs::Outcome::testing_text))]
@@ -21,7 +21,7 @@ fn testing_text(
     ensures text { IfOk result (λ text. text ≡ testing_text setup.now finished testing.now) }
     ensures no_store { IfErr result (λ fault. fault ≡ StoreFault.NoMemory) }
 {
-    let text = testing_rules::testing_text(alloc, setup.archs(), finished, testing)?;
+    let text = testing_laws::testing_text(alloc, setup.archs(), finished, testing)?;
     Ok(Text::from_string(text))
 }
 

@@ -1,10 +1,10 @@
 -- Who needs a name.
-use Rattle.std.proofs.Common.{◌≡◌, ℕ, ◌+◌, ◌<◌, ◌≤◌, Bool, true, false, ◌||◌, List, [], ◌∷◌, ◌++◌, length, get_or, take, Some, None, sym, ap, ◌∙◌, subst, inl, inr, arith}
+use Rattle.std.proofs.Common.{◌≡◌, ℕ, ◌+◌, ◌<◌, ◌≤◌, Bool, true, false, ◌||◌, List, [], ◌∷◌, ◌++◌, length, get_or, take, drop, Some, None, sym, refl, ap, ◌∙◌, subst, inl, inr, arith}
 use Rattle.std.specs.Str.{bytes_eq}
 use Rattle.std.specs.List.{slice_get, All, Contains, list_any, flat_map}
 use Rattle.std.proofs.lemmas.Option.{slice_get_within, same_Some}
 use Rattle.std.proofs.lemmas.Bool.{cases_lt, false≢true, or_cases}
-use Rattle.std.proofs.lemmas.List.{take_all, take_more, get_or_default, append_assoc, append-nil}
+use Rattle.std.proofs.lemmas.List.{take_all, take_more, drop_all, drop_more, get_or_default, append_assoc, append-nil}
 use Rattle.std.proofs.lemmas.List.Concat.{flat_map-cons}
 use Rattle.std.proofs.lemmas.Grind.{flat_map-append}
 use Rattle.std.proofs.lemmas.List.Elements.{Contains-append_left, Contains-append_right, Contains-append_cases}
@@ -129,11 +129,22 @@ needer_found rows map row index k needer at need =
     in_places map row a.name k (satisfies_bears row a (f.2 d)) (index.complete a.name k needer at (needs_alternative needer c.0 f.0 a c.1 within e))
 
 -- and those places are places of rows
-pub places_for_within : (rows : List Binary) (map : PlacesByName) (row : Binary) → IsNeeders rows map → (k : ℕ) → Contains (places_for map row) k → k < length rows
+places_for_within : (rows : List Binary) (map : PlacesByName) (row : Binary) → IsNeeders rows map → (k : ℕ) → Contains (places_for map row) k → k < length rows
 places_for_within rows map row index k c = elim (Contains-append_cases (places_at map row.name) (flat_map (λ p. places_at map p.name) row.provides) k c) [
   | inl own ↦ members_from_all (length rows) (places_at map row.name) (index.within row.name) k own
   | inr given ↦ part_contains (λ n. n < length rows) (λ p. places_at map p.name) row.provides (λ p n at. members_from_all (length rows) (places_at map p.name) (index.within p.name) n at) k given
 ]
+
+-- as many rows as there are
+pub needers_within : (rows : List Binary) (map : PlacesByName) (row : Binary) (n : ℕ) → IsNeeders rows map → length rows ≡ n → (k : ℕ) → Contains (places_for map row) k → k < n
+needers_within rows map row n index e k c = omega (arith, places_for_within rows map row index k c, e)
+
+-- the places at the row's name, and at the names of its first n provisions
+abbrev pub places_to : PlacesByName → Binary → ℕ → List ℕ
+places_to map row n = places_at map row.name ++ flat_map (λ p. places_at map p.name) (take n row.provides)
+
+pub to_first : (map : PlacesByName) (row : Binary) (name found : List ℕ) → found ≡ places_at map name → name ≡ row.name → found ≡ places_to map row 0
+to_first map row name found are named = are ∙ ap (λ q. places_at map q) named ∙ sym (append-nil (places_at map row.name))
 
 -- the places so far, and those of one provision more
 pub found_more : (map : PlacesByName) (row : Binary) (old new : List ℕ) (i : ℕ) (p : Provision) (name : List ℕ) (read : List Provision) → read ≡ row.provides → i < length read → p ≡ get_or read i p → name ≡ p.name → new ≡ old ++ places_at map name → old ≡ places_at map row.name ++ flat_map (λ q. places_at map q.name) (take i row.provides) → new ≡ places_at map row.name ++ flat_map (λ q. places_at map q.name) (take (i + 1) row.provides)
@@ -145,9 +156,27 @@ found_more map row old new i p name read are h at named added so_far =
     let more : flat_map f (take (i + 1) row.provides) ≡ flat_map f (take i row.provides) ++ places_at map p.name = ap (flat_map f) (take_more row.provides i p within ∙ ap (λ q. take i row.provides ++ q ∷ []) is_read) ∙ flat_map-append f (take i row.provides) (p ∷ []) ∙ ap (λ xs. flat_map f (take i row.provides) ++ xs) last in
     added ∙ ap (λ q. old ++ places_at map q) named ∙ ap (λ xs. xs ++ places_at map p.name) so_far ∙ append_assoc (places_at map row.name) (flat_map f (take i row.provides)) (places_at map p.name) ∙ ap (λ xs. places_at map row.name ++ xs) (sym more)
 
--- what was found, as a list
-pub found_within : (rows : List Binary) (map : PlacesByName) (row : Binary) (places found : List ℕ) (n : ℕ) → IsNeeders rows map → found ≡ places → places ≡ places_for map row → length rows ≡ n → (k : ℕ) → Contains found k → k < n
-found_within rows map row places found n index same are e k c = omega (arith, places_for_within rows map row index k (subst (λ xs. Contains xs k) (same ∙ are) c))
+pub to_next : (map : PlacesByName) (row : Binary) (i : ℕ) (p : Provision) (name found : List ℕ) (read : List Provision) → read ≡ row.provides → i < length read → p ≡ get_or read i p → name ≡ p.name → found ≡ places_at map name → places_to map row i ++ found ≡ places_to map row (i + 1)
+to_next map row i p name found read are h at named is =
+    found_more map row (places_to map row i) (places_to map row i ++ found) i p name read are h at named (ap (λ xs. places_to map row i ++ xs) is) refl
 
-pub found_all : (rows : List Binary) (map : PlacesByName) (row : Binary) (places found : List ℕ) → IsNeeders rows map → found ≡ places → places ≡ places_for map row → (k : ℕ) (needer : Binary) → slice_get rows k ≡ Some needer → may_need needer row ≡ true → Contains found k
-found_all rows map row places found index same are k needer at need = subst (λ xs. Contains xs k) (sym (same ∙ are)) (needer_found rows map row index k needer at need)
+pub to_all : (map : PlacesByName) (row : Binary) (n : ℕ) → length row.provides ≤ n → places_to map row n ≡ places_for map row
+to_all map row n h = ap (λ ps. places_at map row.name ++ flat_map (λ p. places_at map p.name) ps) (take_all n row.provides h)
+
+-- the places at the names of the provisions from the n-th on
+abbrev pub places_from : PlacesByName → Binary → ℕ → List ℕ
+places_from map row n = flat_map (λ p. places_at map p.name) (drop n row.provides)
+
+pub from_first : (map : PlacesByName) (row : Binary) (name found : List ℕ) → found ≡ places_at map name → name ≡ row.name → places_for map row ≡ found ++ places_from map row 0
+from_first map row name found are named = ap (λ xs. xs ++ places_from map row 0) (sym (are ∙ ap (λ q. places_at map q) named))
+
+-- those of the next provision, and of the others
+pub from_next : (map : PlacesByName) (row : Binary) (i : ℕ) (p : Provision) (name found : List ℕ) (read : List Provision) → read ≡ row.provides → i < length read → p ≡ get_or read i p → name ≡ p.name → found ≡ places_at map name → places_from map row i ≡ found ++ places_from map row (i + 1)
+from_next map row i p name found read are h at named is =
+    let f : Provision → List ℕ = λ q. places_at map q.name in
+    let within : i < length row.provides = rw (ap length are) at h in
+    let is_read : get_or row.provides i p ≡ p = sym (at ∙ ap (λ l. get_or l i p) are) in
+    ap (flat_map f) (drop_more row.provides i p within ∙ ap (λ q. q ∷ drop (i + 1) row.provides) is_read) ∙ flat_map-cons f p (drop (i + 1) row.provides) ∙ ap (λ xs. xs ++ places_from map row (i + 1)) (sym (is ∙ ap (λ q. places_at map q) named))
+
+pub from_none : (map : PlacesByName) (row : Binary) (n : ℕ) → length row.provides ≤ n → places_from map row n ≡ []
+from_none map row n h = ap (λ ps. flat_map (λ p. places_at map p.name) ps) (drop_all n row.provides h)

@@ -1,10 +1,10 @@
 -- Rows get their marks back that may be installable again after a change; and a whole change.
-use Rattle.std.proofs.Common.{◌≡◌, ℕ, ◌+◌, ◌<◌, ◌≤◌, Bool, true, false, ◌⊎◌, List, [], ◌∷◌, ◌++◌, length, get_or, set, Some, None, Global, sym, refl, ap, ◌∙◌, subst, ⊎_elim, inl, inr, arith}
+use Rattle.std.proofs.Common.{◌≡◌, ℕ, ◌+◌, ◌-◌, ◌<◌, ◌≤◌, Bool, true, false, ◌⊎◌, List, [], ◌∷◌, ◌++◌, length, get_or, set, Some, None, Global, sym, refl, ap, ◌∙◌, subst, ⊎_elim, inl, inr, arith}
 use Rattle.std.specs.List.{slice_get, All, Contains}
 use Rattle.std.proofs.lemmas.Option.{same_Some}
 use Rattle.std.proofs.lemmas.Bool.{cases_Bool, cases_eq, cases_lt, false≢true}
-use Rattle.std.proofs.lemmas.List.{length-append, get_or-set_same, get_or-set_other, get_or_append_left, get_or_default}
-use Rattle.std.proofs.lemmas.List.Elements.{Contains-push, Contains-push_cases}
+use Rattle.std.proofs.lemmas.List.{length-append, get_or-set_same, get_or-set_other, get_or_append_left, get_or-append_right, get_or_default}
+use Rattle.std.proofs.lemmas.List.Elements.{Contains-append_left, Contains-append_right, Contains-push, Contains-push_cases}
 use Rattle.deb_control.specs.declared.binary.Binary.{Binary}
 use Rattle.testing_install.specs.Closed.{marked}
 use Rattle.testing_install.specs.Among.{with_all, may_need}
@@ -109,6 +109,31 @@ revived_more there first old new first_fresh old_fresh new_fresh places n place 
         let is_place : get_or places j d ≡ place = ap (λ i. get_or places i d) same ∙ get_or_default places n d place h ∙ sym at in
         let there_too : there place ≡ true = ap there (sym is_place) ∙ on in
         ap (λ q. marked new q) is_place ∙ one.done 0 0 (omega arith) (omega arith) there_too)
+  ];
+}
+
+-- several places, and then several others
+pub revived_both : (there : ℕ → Bool) (first mid last : List Bool) (first_fresh mid_fresh last_fresh places others : List ℕ) → IsRevived there first mid first_fresh mid_fresh places (length places) → IsRevived there mid last mid_fresh last_fresh others (length others) → IsRevived there first last first_fresh last_fresh (places ++ others) (length (places ++ others))
+revived_both there first mid last first_fresh mid_fresh last_fresh places others r s = record {
+  inside = λ k on. elim (s.inside k on) [ inl before ↦ r.inside k before | inr here ↦ inr here ];
+  grown = λ k on. s.grown k (r.grown k on);
+  known = λ k on. elim (s.known k on) [
+    | inl before ↦ elim (r.known k before) [
+      | inl was ↦ inl was
+      | inr fresh ↦ inr (still_fresh mid_fresh last_fresh s.stays k fresh)
+    ]
+    | inr fresh ↦ inr fresh
+  ];
+  stays = λ j d l. let a = r.stays j d l in let b = s.stays j d a.0 in (b.0, b.1 ∙ a.1);
+  within = λ m p f. s.within m (λ q o. p q (Contains-append_right places others q o)) (r.within m (λ q o. p q (Contains-append_left places others q o)) f);
+  done = λ j d below l on. elim (cases_lt j (length places)) [
+    | inl less ↦ (
+        let at : get_or (places ++ others) j d ≡ get_or places j d = get_or_append_left places others d j less in
+        ap (λ q. marked last q) at ∙ s.grown (get_or places j d) (r.done j d less less (ap there (sym at) ∙ on)))
+    | inr behind ↦ (
+        let at : get_or (places ++ others) j d ≡ get_or others (j - length places) d = get_or-append_right places others (length places) j d refl behind in
+        let h : j - length places < length others = omega (arith, l, length-append places others, behind) in
+        ap (λ q. marked last q) at ∙ s.done (j - length places) d h h (ap there (sym at) ∙ on))
   ];
 }
 

@@ -3,7 +3,7 @@ use Rattle.std.proofs.Common.{◌≡◌, ℕ, ◌+◌, ◌<◌, ◌≤◌, Bool,
 use Rattle.std.specs.List.{slice_get, All, Contains, count_by}
 use Rattle.std.proofs.lemmas.Option.{same_Some}
 use Rattle.std.proofs.lemmas.Bool.{cases_eq, false≢true}
-use Rattle.std.proofs.lemmas.List.{length-set, length-append, get_or-set_same, get_or-set_other, drop_more, drop_all}
+use Rattle.std.proofs.lemmas.List.{length-set, length-append, get_or-set_same, get_or-set_other, drop_more, drop_all, append-nil}
 use Rattle.std.proofs.lemmas.List.Elements.{Contains-append_left, Contains-push, Contains-push_cases}
 use Rattle.deb_control.specs.declared.binary.Binary.{Binary}
 use Rattle.deb_control.specs.declared.relation.Clause.{Clause}
@@ -180,9 +180,13 @@ turn_in rows marks waiting front k s last = s.waiting_in k (subst (λ xs. Contai
 pub measure_fall : (marks : List Bool) (waiting : List ℕ) (o : ℕ) → o < length marks → marked marks o ≡ true → length (waiting ++ o ∷ []) + count_by (λ b. b) (set marks o false) ≡ length waiting + count_by (λ b. b) marks
 measure_fall marks waiting o h on = omega (arith, fewer_taken marks o h on, length-append waiting (o ∷ []))
 
--- the next of several places, and the end of them
-pub settling_next : (rows : List Binary) (there : ℕ → Bool) (first marks : List Bool) (waiting fallen places : List ℕ) (i : ℕ) (lost : Option Binary) → i < length places → IsSettling rows there first marks waiting fallen (drop i places) lost → IsSettling rows there first marks waiting fallen (get_or places i 0 ∷ drop (i + 1) places) lost
-settling_next rows there first marks waiting fallen places i lost h s = subst (λ todo. IsSettling rows there first marks waiting fallen todo lost) (drop_more places i 0 h) s
+-- the next of several places with more behind them, and the end of them
+pub settling_next : (rows : List Binary) (there : ℕ → Bool) (first marks : List Bool) (waiting fallen places : List ℕ) (i : ℕ) (lost : Option Binary) (more : List ℕ) → i < length places → IsSettling rows there first marks waiting fallen (drop i places ++ more) lost → IsSettling rows there first marks waiting fallen (get_or places i 0 ∷ (drop (i + 1) places ++ more)) lost
+settling_next rows there first marks waiting fallen places i lost more h s = subst (λ todo. IsSettling rows there first marks waiting fallen (todo ++ more) lost) (drop_more places i 0 h) s
 
-pub settling_last : (rows : List Binary) (there : ℕ → Bool) (first marks : List Bool) (waiting fallen places : List ℕ) (i : ℕ) (lost : Option Binary) → length places ≤ i → IsSettling rows there first marks waiting fallen (drop i places) lost → IsSettling rows there first marks waiting fallen [] lost
-settling_last rows there first marks waiting fallen places i lost h s = subst (λ todo. IsSettling rows there first marks waiting fallen todo lost) (drop_all i places h) s
+pub settling_last : (rows : List Binary) (there : ℕ → Bool) (first marks : List Bool) (waiting fallen places : List ℕ) (i : ℕ) (lost : Option Binary) (more : List ℕ) → length places ≤ i → IsSettling rows there first marks waiting fallen (drop i places ++ more) lost → IsSettling rows there first marks waiting fallen more lost
+settling_last rows there first marks waiting fallen places i lost more h s = subst (λ todo. IsSettling rows there first marks waiting fallen (todo ++ more) lost) (drop_all i places h) s
+
+-- none behind them
+pub settling_whole : (rows : List Binary) (there : ℕ → Bool) (first marks : List Bool) (waiting fallen places : List ℕ) (lost : Option Binary) → IsSettling rows there first marks waiting fallen places lost → IsSettling rows there first marks waiting fallen (places ++ []) lost
+settling_whole rows there first marks waiting fallen places lost s = subst (λ todo. IsSettling rows there first marks waiting fallen todo lost) (sym (append-nil places)) s

@@ -1,9 +1,9 @@
 -- What is remembered of a trial, and why a change may rest on it.
-use Rattle.std.proofs.Common.{◌≡◌, ℕ, ◌<◌, Bool, true, false, ◌&&◌, not, filter, ◌⊎◌, List, [], length, sym, refl, ap, ap₂, ◌∙◌, subst, inl, inr, arith}
+use Rattle.std.proofs.Common.{◌≡◌, ℕ, ◌<◌, ◌↔◌, Bool, true, false, ◌&&◌, not, filter, ◌⊎◌, List, [], ◌∷◌, length, sym, refl, ap, ap₂, ◌∙◌, subst, inl, inr, arith}
 use Rattle.std.specs.List.{Contains}
 use Rattle.std.proofs.lemmas.Bool.{cases_Bool, false≢true, and_parts, not-true}
 use Rattle.deb_control.specs.declared.binary.Binary.{Binary}
-use Rattle.testing_install.specs.Among.{with_all, after_change}
+use Rattle.testing_install.specs.Among.{IsLost, with_all, after_change}
 use Rattle.testing_install.specs.Closed.{marked}
 use Rattle.testing_install.specs.Index.{PlacesByName}
 use Rattle.testing_install.specs.Suite.{IsRight, IsSuite}
@@ -88,6 +88,15 @@ nothing_is_tried rows there installable t el ec ef er right =
       rising_in = all_from_members (length rows) t.rising.items (none t.rising.items er);
       right = subst (λ xs. IsRight rows (after_change t.leaving.items t.coming.items there) xs) (sym (same t.falling.items t.rising.items installable ef er)) (subst (λ xs. IsRight rows xs installable) (sym (same t.leaving.items t.coming.items there el ec)) right);
     }
+
+-- it loses nothing
+pub lost_none : (rows : List Binary) (there : List Bool) (leaving coming lost : List ℕ) → length leaving ≡ 0 → length coming ≡ 0 → lost ≡ [] → (k : ℕ) → Contains lost k ↔ IsLost rows (marked there) (marked (after_change leaving coming there)) k
+lost_none rows there [] [] lost el ec none k = (
+  (λ c. absurd (contains_none k (subst (λ xs. Contains xs k) none c))),
+  (λ l. elim l.2 [ inl was ↦ absurd (l.1 was) | inr off ↦ absurd (false≢true (sym off ∙ l.0)) ]),
+)
+lost_none rows there [] (x ∷ xs) lost el ec none k = absurd (omega (arith, ec))
+lost_none rows there (x ∷ xs) coming lost el ec none k = absurd (omega (arith, el))
 
 -- what is remembered after a trial that loses nothing
 pub tried_after : (rows : List Binary) (there m kept current : List Bool) (leaving coming : List ℕ) (old new : Tried) → kept ≡ m → IsRight rows there m → IsRight rows (after_change leaving coming there) current → IsTried rows there m old → ((rs : List Binary) (ts : List Bool) → length kept ≡ length rs → IsRight rs (after_change leaving coming ts) current → IsTried rs ts kept old → IsTried rs ts kept new) → IsTried rows there m new

@@ -4,15 +4,17 @@ ghost use Rattle.std.specs.Prelude.{◌≡◌, ℕ, ◌+◌, ◌<◌, Bool, true
 ghost use Rattle.std.specs.List.{All, count_by};
 ghost use Rattle.testing_install.specs.Among.{IsGreatestAmong, IsLost, after_change};
 ghost use Rattle.testing_install.specs.Closed.{marked};
-ghost use Rattle.testing_install.specs.Needers.{IsGraph};
+ghost use Rattle.testing_install.specs.Index.{places_at};
+ghost use Rattle.testing_install.specs.Needers.{IsGraph, places_for};
 ghost use Rattle.testing_install.specs.Rows.{shared};
 ghost use Rattle.testing_install.specs.Settling.{IsReviving, IsRevived};
 ghost use Rattle.testing_install.specs.Suite.{IsRight, IsChanged};
 
 use crate::graph::Graph;
+use crate::index::NameIndex;
 use crate::marks::{Marks, set_all};
-use crate::needers::needers_on;
 use crate::settle::{Falls, look_at, take_turns};
+use deb_control::Binary;
 use deb_version::NoMemory;
 use std::alloc::Global;
 
@@ -74,9 +76,34 @@ fn revive_among(
     Ok(())
 }
 
+// Marks those of the rows with a clause that has a name of the row's that are there and have no mark.
+fn revive_needers(
+    needers: &NameIndex,
+    there: &[bool],
+    marks: &mut Marks,
+    fresh: &mut Vec<usize>,
+    row: &Binary,
+) -> Result<(), NoMemory>
+    requires there { length there.now ≡ length marks.old.current }
+    requires needers { (name : List ℕ) → All (λ k. k < length there.now) (places_at needers.now name) }
+    ensures kept { marks.new.kept ≡ marks.old.kept }
+    ensures long { OnOk result (length marks.new.current ≡ length there.now) }
+    ensures measure { OnOk result (length fresh.new.items + count_by (λ b. b) marks.old.current
+        ≡ length fresh.old.items + count_by (λ b. b) marks.new.current) }
+    ensures revived { OnOk result (IsRevived (marked there.now) marks.old.current marks.new.current fresh.old.items fresh.new.items
+        (places_for needers.now row.now) (length (places_for needers.now row.now))) }
+{
+    let named = needers.places(row.name.as_str());
+    revive_among(there, marks, fresh, named)?;
+    for provision in row.provides.as_slice() {
+        let given = needers.places(provision.name.as_str());
+        revive_among(there, marks, fresh, given)?;
+    }
+    Ok(())
+}
+
 // Marks the rows that may be installable again by the fresh ones, and those that may be by these, and so on.
 fn revive(
-    alloc: Global,
     graph: &Graph,
     there: &[bool],
     marks: &mut Marks,
@@ -94,8 +121,8 @@ fn revive(
 {
     let mut next = 0;
     'revivals: while next < fresh.len() {
-        let needers = needers_on(alloc, &graph.needers, graph.rows[fresh[next]].as_ref())?;
-        revive_among(there, marks, fresh, &needers)?;
+        let row = graph.rows[fresh[next]].as_ref();
+        revive_needers(&graph.needers, there, marks, fresh, row)?;
         next += 1;
     }
     Ok(())
@@ -124,13 +151,13 @@ pub fn change(
     set_all(there, coming, true)?;
     set_all(marks, coming, true)?;
     let mut fresh = coming.to_vec(alloc)?;
-    revive(alloc, graph, there.current(), marks, &mut fresh)?;
+    revive(graph, there.current(), marks, &mut fresh)?;
     let mut falls = Falls {
         waiting: leaving.to_vec(alloc)?,
         fallen: Vec::new(alloc),
     };
     look_at(graph, marks, &mut falls, &fresh, None)?;
-    take_turns(alloc, graph, marks, &mut falls)?;
+    take_turns(graph, marks, &mut falls)?;
     Ok(falls.fallen)
 }
 

@@ -1,6 +1,5 @@
-ghost use Rattle.std.specs.Prelude.{◌≡◌, ◌++◌, ℕ, List, OnOk, IfOk};
-ghost use Rattle.testing_install.specs.Index.{places_at};
-ghost use Rattle.testing_install.specs.Needers.{IsNotedAt, names, needs_name, places_for};
+ghost use Rattle.std.specs.Prelude.{OnOk};
+ghost use Rattle.testing_install.specs.Needers.{IsNotedAt, names, needs_name};
 
 use crate::index::NameIndex;
 use deb_control::{Binary, Clause};
@@ -35,24 +34,4 @@ pub fn note_needs(
         note_clause(alloc, needers, clause, place)?;
     }
     Ok(())
-}
-
-// Adds the places at the name.
-fn add_places(found: &mut Vec<usize>, needers: &NameIndex, name: &str) -> Result<(), NoMemory>
-    ensures { OnOk result (found.new.items ≡ found.old.items ++ places_at needers.now name.now) }
-{
-    found.extend_from_slice(needers.places(name))?;
-    Ok(())
-}
-
-/// The places of the rows whose clauses have a name that the row bears.
-pub fn needers_on(alloc: Global, needers: &NameIndex, row: &Binary) -> Result<Vec<usize>, NoMemory>
-    ensures { IfOk result (λ found. found.items ≡ places_for needers.now row.now) }
-{
-    let mut found = Vec::new(alloc);
-    add_places(&mut found, needers, row.name.as_str())?;
-    for provision in row.provides.as_slice() {
-        add_places(&mut found, needers, provision.name.as_str())?;
-    }
-    Ok(found)
 }

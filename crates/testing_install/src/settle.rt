@@ -1,20 +1,18 @@
 //! The greatest closed set of the rows that are there, from marks of which it is a part.
 
-ghost use Rattle.std.specs.Prelude.{◌≡◌, ℕ, ◌+◌, ◌<◌, Bool, true, false, List, [], ◌∷◌, ◌++◌, length, Option, None, OnOk, slice_set};
+ghost use Rattle.std.specs.Prelude.{◌≡◌, ℕ, ◌+◌, ◌<◌, Bool, true, false, List, [], ◌∷◌, ◌++◌, length, Option, None, Some, OnOk, slice_set};
 ghost use Rattle.std.specs.List.{All, count_by};
 ghost use Rattle.std.specs.Option.{option_copied};
 ghost use Rattle.testing_install.specs.Closed.{IsMet, marked};
-ghost use Rattle.testing_install.specs.Needers.{IsGraph};
+ghost use Rattle.testing_install.specs.Needers.{IsGraph, places_for};
 ghost use Rattle.testing_install.specs.Rows.{shared};
 ghost use Rattle.testing_install.specs.Settling.{suspects, IsSized, IsSettling};
 
 use crate::graph::{Graph, is_met};
 use crate::marks::Marks;
-use crate::needers::needers_on;
 use crate::satisfies::meets;
 use deb_control::{Binary, Clause};
 use deb_version::NoMemory;
-use std::alloc::Global;
 
 /// Rows that are no longer marked.
 #[derive(Drop)]
@@ -121,9 +119,9 @@ pub fn look_at(
     ensures sized { OnOk result (IsSized (shared graph.now.rows.items) marks.new.current falls.new.waiting.items) }
     ensures measure { OnOk result (length falls.new.waiting.items + count_by (λ b. b) marks.new.current
         ≡ length falls.old.waiting.items + count_by (λ b. b) marks.old.current) }
-    ensures step { OnOk result ((there : ℕ → Bool) (first : List Bool)
-        → IsSettling (shared graph.now.rows.items) there first marks.old.current falls.old.waiting.items falls.old.fallen.items places.now (option_copied lost.entry)
-        → IsSettling (shared graph.now.rows.items) there first marks.new.current falls.new.waiting.items falls.new.fallen.items [] (option_copied lost.entry)) }
+    ensures step { OnOk result ((there : ℕ → Bool) (first : List Bool) (more : List ℕ)
+        → IsSettling (shared graph.now.rows.items) there first marks.old.current falls.old.waiting.items falls.old.fallen.items (places.now ++ more) (option_copied lost.entry)
+        → IsSettling (shared graph.now.rows.items) there first marks.new.current falls.new.waiting.items falls.new.fallen.items more (option_copied lost.entry)) }
 {
     for place in places {
         look(graph, marks, falls, *place, lost)?;
@@ -131,13 +129,34 @@ pub fn look_at(
     Ok(())
 }
 
-/// Gives each waiting row its turn, until none waits: the rows that may have needed it are looked at.
-pub fn take_turns(
-    alloc: Global,
+// Looks at the suspect clauses of the rows with a clause that has a name of the lost row's.
+fn look_at_needers(
     graph: &Graph,
     marks: &mut Marks,
     falls: &mut Falls,
+    lost: &Binary,
 ) -> Result<(), NoMemory>
+    requires graph { IsGraph (shared graph.now.rows.items) graph.now.bearers graph.now.needers }
+    requires sized { IsSized (shared graph.now.rows.items) marks.old.current falls.old.waiting.items }
+    ensures kept { marks.new.kept ≡ marks.old.kept }
+    ensures sized { OnOk result (IsSized (shared graph.now.rows.items) marks.new.current falls.new.waiting.items) }
+    ensures measure { OnOk result (length falls.new.waiting.items + count_by (λ b. b) marks.new.current
+        ≡ length falls.old.waiting.items + count_by (λ b. b) marks.old.current) }
+    ensures step { OnOk result ((there : ℕ → Bool) (first : List Bool)
+        → IsSettling (shared graph.now.rows.items) there first marks.old.current falls.old.waiting.items falls.old.fallen.items (places_for graph.now.needers lost.now) (Some lost.now)
+        → IsSettling (shared graph.now.rows.items) there first marks.new.current falls.new.waiting.items falls.new.fallen.items [] (Some lost.now)) }
+{
+    let named = graph.needers.places(lost.name.as_str());
+    look_at(graph, marks, falls, named, Some(lost))?;
+    for provision in lost.provides.as_slice() {
+        let given = graph.needers.places(provision.name.as_str());
+        look_at(graph, marks, falls, given, Some(lost))?;
+    }
+    Ok(())
+}
+
+/// Gives each waiting row its turn, until none waits: the rows that may have needed it are looked at.
+pub fn take_turns(graph: &Graph, marks: &mut Marks, falls: &mut Falls) -> Result<(), NoMemory>
     requires graph { IsGraph (shared graph.now.rows.items) graph.now.bearers graph.now.needers }
     requires sized { IsSized (shared graph.now.rows.items) marks.old.current falls.old.waiting.items }
     ensures kept { marks.new.kept ≡ marks.old.kept }
@@ -149,8 +168,7 @@ pub fn take_turns(
 {
     while let Some(place) = falls.waiting.pop() {
         let row = graph.rows[place].as_ref();
-        let needers = needers_on(alloc, &graph.needers, row)?;
-        look_at(graph, marks, falls, &needers, Some(row))?;
+        look_at_needers(graph, marks, falls, row)?;
     }
     Ok(())
 }

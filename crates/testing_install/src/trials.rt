@@ -75,7 +75,16 @@ fn remember(alloc: Global, marks: &Marks, tried: &mut Tried, leaving: &[usize], 
     }
 }
 
-/// The rows that a change loses, where the marks before it are kept. If it loses none, it is remembered.
+// No row leaves, and none comes.
+fn is_idle(leaving: &[usize], coming: &[usize]) -> bool
+    ensures leaving { result ≡ true → length leaving.now ≡ 0 }
+    ensures coming { result ≡ true → length coming.now ≡ 0 }
+{
+    leaving.is_empty() && coming.is_empty()
+}
+
+/// The rows that a change loses, where the marks before it are kept. If it loses none, it is remembered. The change of
+/// no rows takes no work.
 pub fn try_change(
     alloc: Global,
     graph: &Graph,
@@ -98,6 +107,9 @@ pub fn try_change(
     ensures lost { IfOk result (λ lost. (k : ℕ) → Contains lost.items k
         ↔ IsLost (shared graph.now.rows.items) (marked there.old.current) (marked (after_change leaving.now coming.now there.old.current)) k) }
 {
+    if is_idle(leaving, coming) {
+        return Ok(Vec::new(alloc));
+    }
     let lost = lost_by(alloc, graph, there, marks, leaving, coming)?;
     if lost.is_empty() {
         remember(alloc, marks, tried, leaving, coming);

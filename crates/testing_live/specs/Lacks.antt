@@ -14,7 +14,7 @@ use Rattle.testing_model.specs.declared.facts.UploadIn.{UploadIn}
 use Rattle.testing_model.specs.declared.suite.RowIn.{RowIn}
 use Rattle.testing_model.specs.Moves.{group_sources, is_row_on, is_watched_on}
 use Rattle.testing_model.specs.Unstable.{is_current}
-use Rattle.testing_suites.specs.Changes.{IsMoveOf}
+use Rattle.testing_suites.specs.Changes.{comes_at, AreThose}
 use Rattle.testing_suites.specs.PresentSteps.{PoolState}
 
 -- the package provides the name
@@ -52,9 +52,8 @@ pub record IsLack (archs : ℕ) (pool : List RowIn) (stands : List Bool) (coming
 
 -- it is one of the rows that come by a move of the group
 pub record IsLackOfMove (s : PoolState) (sources : List UploadIn) (group : List Text) (clause : Clause) : Type 0 where
-  pub leaving : List ℕ
   pub coming : List ℕ
-  pub moves : IsMoveOf s.rows s.stands s.first sources group leaving coming
+  pub arrive : AreThose (comes_at s.rows s.first) (group_sources sources group) coming
   pub lack : IsLack s.archs s.rows s.stands coming clause
 
 -- the rows that come by a move of the group

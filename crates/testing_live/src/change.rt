@@ -64,7 +64,7 @@ fn push_coming(
 
 /// The places of the rows that come: unstable's rows, which begin at the first place, that are current for a source of
 /// the group.
-fn coming_of(
+pub fn coming_of(
     alloc: Global,
     pool: &Pool,
     first: usize,

@@ -14,6 +14,7 @@ ghost use Rattle.testing_suites.specs.Tried.{first_told, Tells, IsWithin, IsRemo
 ghost use Rattle.testing_model.specs.SourceFilter.{hash_passes, passing_rows};
 ghost use Rattle.testing_items.specs.Words.{Text as Word};
 
+use crate::change::coming_of;
 use crate::lack::lack_among;
 use crate::provisions::provisions_of;
 use crate::{change_by_move, change_by_removal};
@@ -161,8 +162,8 @@ impl PoolSuites {
         requires { AreBySource (unboxed sources.now) }
         ensures { IfOk result (λ found. IfSome found (λ clause. IsLackOfMove self.now (unboxed sources.now) group.now clause.now)) }
     {
-        let change = self.change_by_move(alloc, sources, group)?;
-        Ok(lack_among(&self.kept, &self.provided, &change.coming))
+        let coming = coming_of(alloc, self.kept.pool(), self.first, sources, group)?;
+        Ok(lack_among(&self.kept, &self.provided, &coming))
     }
 
     /// None of the rows that come stands already.

@@ -31,11 +31,11 @@ use Rattle.testing_model.proofs.Least.{from_filter, to_filter}
 use Rattle.testing_model.proofs.Ordered.{by_key-put_all, by_key-kept}
 use Rattle.testing_model.proofs.Sets.{first_or_rest, gives, spread_from, spreads, maps}
 use Rattle.testing_suites.specs.AfterMoves.{rows_at}
-use Rattle.testing_suites.specs.Changes.{has, IsMoveOf}
+use Rattle.testing_suites.specs.Changes.{has, comes_at, stands_for, AreThose, IsMoveOf}
 use Rattle.testing_suites.specs.Present.{IsShown}
 use Rattle.testing_suites.specs.PresentSteps.{IsOn, IsLive, PoolState}
 use Rattle.testing_suites.specs.Trials.{is_place_on}
-use Rattle.testing_suites.proofs.Arranging.{move_of_places, from_has, to_has}
+use Rattle.testing_suites.proofs.Arranging.{at_some_of, move_of_places, from_has, to_has}
 use Rattle.testing_suites.proofs.Lost.{any_of, contains_at, at_place, get_map, of_map, judged_at}
 use Rattle.testing_suites.proofs.Moving.{IsMove, AreOthers, puts_from, puts_have, source_of_group}
 use Rattle.testing_suites.proofs.Shown.{itself_or_other}
@@ -196,18 +196,28 @@ module _ (sources : List UploadIn) (unstable : List RowIn) (group : List Text) (
 
 -- What the suites find lacking for a move.
 
+-- of no row that stands none leaves
+none_leaves : (pool : List RowIn) (first : ℕ) (sources : List UploadIn) (group : List Text) (coming : List ℕ) → AreThose (comes_at pool first) (group_sources sources group) coming
+    → IsMoveOf pool [] first sources group [] coming
+none_leaves pool first sources group coming arrive = record {
+  arriving = arrive;
+  own = λ name k c on. absurd (false≢true on);
+  giving_way = λ j k c on. absurd (false≢true (at_some_of (λ (r : RowIn). stands_for pool [] r k) (slice_get pool j) on).2);
+  only = λ k c. none_among k c;
+}
+
 module _ (s : PoolState) (archs : List Text) (sources : List UploadIn) (unstable : List RowIn) (group : List Text) (rows : List RowIn)
     (live : IsLive s archs unstable rows) (offered : list_all (hash_passes s.candidates) group ≡ true) where
   -- the places of a move are those of its rows
-  pub move_by_places : (leaving places : List ℕ) → IsMoveOf s.rows s.stands s.first sources group leaving places
-      → IsMove s.rows (marked s.stands) sources unstable group (has leaving) (has places)
-  move_by_places leaving places moves =
+  pub move_by_places : (stands : List Bool) (leaving places : List ℕ) → IsMoveOf s.rows stands s.first sources group leaving places
+      → IsMove s.rows (marked stands) sources unstable group (has leaving) (has places)
+  move_by_places stands leaving places moves =
       let pool = live.before ++ passing_rows s.candidates unstable in
-      let here : IsMoveOf pool s.stands s.first sources group leaving places = subst (λ ps. IsMoveOf ps s.stands s.first sources group leaving places) live.pooled moves in
-      let there : IsMoveOf pool s.stands (length live.before) sources group leaving places =
-      subst (λ n. IsMoveOf pool s.stands n sources group leaving places) live.begins here in
-      subst (λ ps. IsMove ps (marked s.stands) sources unstable group (has leaving) (has places)) (sym live.pooled)
-      (move_of_places live.before unstable s.candidates s.stands sources group leaving places there offered)
+      let here : IsMoveOf pool stands s.first sources group leaving places = subst (λ ps. IsMoveOf ps stands s.first sources group leaving places) live.pooled moves in
+      let there : IsMoveOf pool stands (length live.before) sources group leaving places =
+      subst (λ n. IsMoveOf pool stands n sources group leaving places) live.begins here in
+      subst (λ ps. IsMove ps (marked stands) sources unstable group (has leaving) (has places)) (sym live.pooled)
+      (move_of_places live.before unstable s.candidates stands sources group leaving places there offered)
 
   module _ (arch : ℕ) (clause : Clause) where
     does_on : (k : ℕ) (r : RowIn) → slice_get s.rows k ≡ Some r → is_row_on arch r ≡ true → meets r.binary clause ≡ true → meets_on arch s.rows clause k ≡ true
@@ -220,9 +230,9 @@ module _ (s : PoolState) (archs : List Text) (sources : List UploadIn) (unstable
           false≢true (sym (unmet.standing w.0) ∙ both_true w.2 (does_on w.0 r w.1 on does));
     }
 
-    none_comes : (leaving places : List ℕ) → IsMove s.rows (marked s.stands) sources unstable group (has leaving) (has places) → IsUnmet arch s.rows s.stands places clause
+    none_comes : (places : List ℕ) → IsMove s.rows (marked []) sources unstable group (has []) (has places) → IsUnmet arch s.rows s.stands places clause
         → NoneMeets arch clause (arriving sources unstable group)
-    none_comes leaving places move unmet = record {
+    none_comes places move unmet = record {
       each = λ r c on does.
           let g = spread_from (λ (u : UploadIn). filter (is_current u) unstable) (group_sources sources group) r c in
           let f = from_filter (is_current g.0) unstable r g.2 in
@@ -233,7 +243,7 @@ module _ (s : PoolState) (archs : List Text) (sources : List UploadIn) (unstable
   pub lack_told : (clause : Clause) → s.archs ≡ length archs → IsLackOfMove s sources group clause → Lacks archs sources unstable group rows clause
   lack_told clause count told =
       let lack = told.lack in
-      let move = move_by_places told.leaving told.coming told.moves in
+      let move = move_by_places [] [] told.coming (none_leaves s.rows s.first sources group told.coming told.arrive) in
       let came = move.comes lack.place (to_has told.coming lack.place lack.comes) in
       let same : came.0 ≡ lack.row = same_Some came.0 lack.row (sym came.2 ∙ lack.at) in
       record {
@@ -245,13 +255,13 @@ module _ (s : PoolState) (archs : List Text) (sources : List UploadIn) (unstable
         watched = lack.watched;
         needs = lack.needs;
         unmet = none_stands lack.arch clause told.coming lack.unmet;
-        alone = none_comes lack.arch clause told.leaving told.coming move lack.unmet;
+        alone = none_comes lack.arch clause told.coming move lack.unmet;
       }
 
   -- the rows at the places of those that come are all that come
   pub rows_came : (leaving places : List ℕ) → IsMoveOf s.rows s.stands s.first sources group leaving places → (r : RowIn) → Contains (arriving sources unstable group) r → Contains (rows_at s.rows places) r
   rows_came leaving places moves r c =
-      let move = move_by_places leaving places moves in
+      let move = move_by_places s.stands leaving places moves in
       let g = spread_from (λ (u : UploadIn). filter (is_current u) unstable) (group_sources sources group) r c in
       let f = from_filter (is_current g.0) unstable r g.2 in
       let k = move.coming_all r g.0 f.0 g.1 f.1 in

@@ -1,17 +1,54 @@
--- The circle of the candidates: the next one that may move, where some are known to be refused.
-use Rattle.std.specs.Prelude.{ℕ, ◌+◌, ◌<◌, ◌≤◌, Bool, true, false, List, ◌++◌, Contains, length, take, drop, get_or, map}
+-- A candidate that is tried, and the circle of all: the next one that may move, where some are known to be refused.
+use Rattle.std.specs.Prelude.{ℕ, ◌+◌, ◌<◌, ◌≤◌, Bool, true, false, List, [], ◌∷◌, ◌++◌, Contains, Result, Ok, Err, IfOk, length, take, drop, get_or, map}
 use Rattle.std.specs.List.{position_or_len}
 use Rattle.std.proofs.Common.{◌≡◌, refl, sym, ap, ◌∙◌, subst, arith, inl, inr}
+use Rattle.std.proofs.lemmas.Bool.{false≢true}
 use Rattle.std.proofs.lemmas.List.{length-map, get_or-map, take-map, drop-map, map-append, take-append-drop}
 use Rattle.std.proofs.lemmas.List.Elements.{Contains-append_left, Contains-append_right, Contains-append_cases}
+use Rattle.testing_live.specs.Lacks.{arriving}
 use Rattle.testing_model.specs.declared.excuse.Excuse.{Excuse}
 use Rattle.testing_moves.specs.declared.refusals.Numbered.{Numbered}
 use Rattle.testing_moves.specs.declared.refusals.Refusals.{Refusals}
-use Rattle.testing_moves.specs.Refusals.{excuses_of, IsNumbered, AreNumbered, AreRefused, IsTried, IsNext}
+use Rattle.testing_moves.specs.Refusals.{excuses_of, IsNumbered, AreNumbered, AreRefused, AreWoken, IsTried, IsNext}
 use Rattle.testing_moves.specs.Runs.{Run, go_on, moment_of}
 use Rattle.testing_moves.proofs.Circle.{search-on, search-found, search-over}
-use Rattle.testing_moves.proofs.Remembering.{numbers_of_part}
+use Rattle.testing_moves.proofs.Remembering.{numbers_of_part, refused_moved}
 use Rattle.testing_moves.proofs.Runs.{allowed_in, alone_in, circle_in, run_circle-next, run_circle-over}
+
+-- One candidate.
+
+-- what holds after a call that says yes or no
+pub by_answer : {E : Type 0} (P : Bool → Type 0) (r : Result Bool E) → (r ≡ Ok true → P true) → (r ≡ Ok false → P false) → IfOk r P
+by_answer P (Ok true) h k = h refl
+by_answer P (Ok false) h k = k refl
+by_answer P (Err e) h k = tt
+
+-- where nothing has changed, the same are refused
+pub known_still : (old new : Run) (excuses : List Excuse) (before after : Refusals) → new ≡ old → after ≡ before → AreRefused (moment_of old) excuses before → AreRefused (moment_of new) excuses after
+known_still old new excuses before after stays asleep known =
+    subst (λ (r : Run). AreRefused (moment_of r) excuses after) (sym stays) (subst (AreRefused (moment_of old) excuses) (sym asleep) known)
+
+module _ (old new : Run) (excuses : List Excuse) (e : Excuse) (refusals : Refusals) where
+  -- it has moved
+  pub tried_moved : (before : Refusals) → AreRefused (moment_of old) excuses before → allowed_in old e ≡ true → new ≡ go_on old (alone_in e)
+      → AreWoken (arriving old.basis.sources old.basis.rows (e.source ∷ [])) before refusals → IsTried old new excuses e refusals true
+  tried_moved before known may moves woken = record {
+    allowed = may;
+    after = λ h. moves;
+    same = λ h. absurd (false≢true (sym h));
+    known = subst (λ (r : Run). AreRefused (moment_of r) excuses refusals) (sym moves) (refused_moved (moment_of old) excuses (e.source ∷ []) before refusals woken known);
+  }
+
+  -- it may not move, and nothing has changed
+  pub tried_stayed : AreRefused (moment_of new) excuses refusals → allowed_in old e ≡ false → new ≡ old → IsTried old new excuses e refusals false
+  tried_stayed known may_not stays = record {
+    allowed = may_not;
+    after = λ h. absurd (false≢true h);
+    same = λ h. stays;
+    known = known;
+  }
+
+-- The circle.
 
 -- the excuse of a candidate of the circle
 excuse-at : (items : List Numbered) (i : ℕ) (c : Numbered) → i < length items → c ≡ get_or items i c → get_or (excuses_of items) i c.excuse.now ≡ c.excuse.now

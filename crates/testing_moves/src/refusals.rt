@@ -23,11 +23,13 @@ pub struct Numbered<'a> {
 }
 
 /// Whether each candidate, by its number, was refused for a clause that no row has met since; and, at each name that such
-/// a clause has, the numbers of those that were.
+/// a clause has, the numbers of those that were. Whether one was since a row last came in is a hint: then the next
+/// candidate mostly lacks something too.
 #[derive(Drop)]
 pub struct Refusals {
     pub flags: Vec<bool>,
     pub noted: NameIndex,
+    pub expects_lack: bool,
 }
 
 /// The candidates with their numbers.
@@ -56,6 +58,7 @@ pub fn no_refusals(alloc: Global, count: usize) -> Result<Refusals, NoMemory>
     Ok(Refusals {
         flags,
         noted: NameIndex::new(alloc),
+        expects_lack: false,
     })
 }
 
@@ -126,9 +129,11 @@ impl Refusals {
     ) -> Result<(), NoMemory>
         ensures flags { OnOk result (self.new.flags.items ≡ slice_set self.old.flags.items number true) }
         ensures noted { OnOk result (IsNotedAt (names clause.now) self.old.noted self.new.noted number) }
+        ensures expects { OnOk result (self.new.expects_lack ≡ true) }
     {
         note_clause(alloc, &mut self.noted, clause, number)?;
         set_flag(&mut self.flags, number, true);
+        self.expects_lack = true;
         Ok(())
     }
 
@@ -137,8 +142,10 @@ impl Refusals {
     pub fn wake(&mut self, binary: &Binary)
         ensures flags { self.new.flags.items ≡ woken_by self.old.noted binary.now self.old.flags.items }
         ensures noted { self.new.noted ≡ self.old.noted }
+        ensures expects { self.new.expects_lack ≡ false }
     {
         wake_by(&mut self.flags, &self.noted, binary);
+        self.expects_lack = false;
     }
 
     /// All candidates are to be tried again, and none is remembered any more.

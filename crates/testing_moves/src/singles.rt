@@ -101,25 +101,65 @@ impl<'u, 'a> Turns<'u, 'a> {
         Ok(true)
     }
 
-    /// Remembers what the rows of a candidate lack that was refused, if they lack something: then it isn't tried again
-    /// before a row has come in that may meet it.
+    /// Whether the rows of a candidate are found to lack something: then it may not move. That is remembered, so it is
+    /// passed over until a row has come in that may meet what they lack.
     fn remember_lack(
         &self,
         alloc: Global,
         candidate: Numbered,
         refusals: &mut Refusals,
-    ) -> Result<(), NoMemory>
-        ensures { OnOk result ((excuses : List AnExcuse) → IsNumbered excuses candidate.entry → AreRefused (moment_of self.now) excuses refusals.old
+    ) -> Result<bool, NoMemory>
+        ensures refused { result ≡ Ok true → rules.is_allowed_alone self.now.basis.archs self.now.basis.sources self.now.basis.rows self.now.outcome.suite candidate.entry.excuse.now ≡ false }
+        ensures known { OnOk result ((excuses : List AnExcuse) → IsNumbered excuses candidate.entry → AreRefused (moment_of self.now) excuses refusals.old
             → AreRefused (moment_of self.now) excuses refusals.new) }
     {
         let group = slice::from_ref(&candidate.excuse.source);
-        if let Some(clause) = self.lack_by_move(alloc, group)? {
-            refusals.remember(alloc, candidate.number, clause)?;
+        match self.lack_by_move(alloc, group)? {
+            Some(clause) => {
+                refusals.remember(alloc, candidate.number, clause)?;
+                Ok(true)
+            }
+            None => Ok(false),
         }
-        Ok(())
     }
 
-    /// Tries the candidate, unless it is known to be refused, and says whether it moved.
+    /// Tries the candidate, and says whether it moved. What its rows lack is looked up once it is refused, so one that
+    /// moves costs no look-up.
+    fn try_first(
+        &mut self,
+        alloc: Global,
+        candidate: Numbered,
+        refusals: &mut Refusals,
+    ) -> Result<bool, NoMemory>
+        ensures { IfOk result (λ moved. (excuses : List AnExcuse) → IsNumbered excuses candidate.entry → AreRefused (moment_of self.old) excuses refusals.old
+            → IsTried self.old self.new excuses candidate.entry.excuse.now refusals.new moved) }
+    {
+        if self.move_alone(alloc, candidate.excuse, refusals)? {
+            return Ok(true);
+        }
+        self.remember_lack(alloc, candidate, refusals)?;
+        Ok(false)
+    }
+
+    /// Looks up what the rows of the candidate lack, tries it where they are found to lack nothing, and says whether
+    /// it moved. So one that still lacks something costs no trial.
+    fn look_first(
+        &mut self,
+        alloc: Global,
+        candidate: Numbered,
+        refusals: &mut Refusals,
+    ) -> Result<bool, NoMemory>
+        ensures { IfOk result (λ moved. (excuses : List AnExcuse) → IsNumbered excuses candidate.entry → AreRefused (moment_of self.old) excuses refusals.old
+            → IsTried self.old self.new excuses candidate.entry.excuse.now refusals.new moved) }
+    {
+        if self.remember_lack(alloc, candidate, refusals)? {
+            return Ok(false);
+        }
+        self.move_alone(alloc, candidate.excuse, refusals)
+    }
+
+    /// Tries the candidate, unless it is known to be refused, and says whether it moved. Behind one that lacks something
+    /// what it lacks is looked up first, and behind one that moved it is tried first.
     fn try_alone(
         &mut self,
         alloc: Global,
@@ -132,11 +172,10 @@ impl<'u, 'a> Turns<'u, 'a> {
         if refusals.has(candidate.number) {
             return Ok(false);
         }
-        if self.move_alone(alloc, candidate.excuse, refusals)? {
-            return Ok(true);
+        if refusals.expects_lack {
+            return self.look_first(alloc, candidate, refusals);
         }
-        self.remember_lack(alloc, candidate, refusals)?;
-        Ok(false)
+        self.try_first(alloc, candidate, refusals)
     }
 
     /// Moves the first candidate of the circle that may move alone, and says whether there was one.

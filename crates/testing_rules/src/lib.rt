@@ -3,21 +3,11 @@
 #![tactic(auto)]
 
 mod dated;
-mod fallen_sources;
-pub mod kept_laws;
-pub mod laws;
 
 pub use dated::{excuses, excuses_text, update_text};
-pub use fallen_sources::fallen;
-pub use testing_facts::Facts;
-pub use testing_items::{
-    ALL, Archs, Binaries, Hint, HintItem, HintItems, Item, Names, Severity, Urgency,
+pub use testing_laws::{
+    ALL, Archs, Binaries, BugIn, BuildIn, Decision, Delays, DelaysIn, DropIn, Excuse, Excuses,
+    FactChanges, FactRow, FactRows, Facts, HasSources, Hint, HintIn, HintItem, HintItems, Item,
+    Moved, MovedItems, Names, Offender, Reason, Reasons, RowIn, Severity, SharedBinary, SourceIn,
+    Testing, UnhintIn, Update, UploadIn, Urgency, fallen, kept_laws, laws, migrate, testing_text,
 };
-pub use testing_model::{
-    BugIn, BuildIn, Decision, Delays, DelaysIn, DropIn, Excuse, Excuses, FactChanges, FactRow,
-    FactRows, HasSources, HintIn, Moved, MovedItems, Offender, Reason, Reasons, RowIn,
-    SharedBinary, SourceIn, UnhintIn, Update, UploadIn,
-};
-pub use testing_moves::migrate;
-pub use testing_reports::testing_text;
-pub use testing_suites::Testing;

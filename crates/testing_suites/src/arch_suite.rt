@@ -1,7 +1,7 @@
 //! The suite of one architecture, over the pool's rows that are on it.
 
-ghost use Rattle.std.specs.Prelude.{◌≡◌, ◌<◌, ◌≤◌, ◌-◌, ◌++◌, [], Bool, List, false, length, take, map, filter, replicate, slice_index, Some, IfOk, OnOk, OnErr};
-ghost use Rattle.std.specs.List.{All, range_with_len};
+ghost use Rattle.std.specs.Prelude.{◌≡◌, ◌<◌, ◌≤◌, ◌-◌, ◌++◌, [], Bool, List, true, false, length, take, map, filter, replicate, slice_index, Some, None, IfOk, OnOk, OnErr};
+ghost use Rattle.std.specs.List.{All, range_with_len, slice_get};
 ghost use Rattle.testing_install.specs.Rows.{shared};
 ghost use Rattle.testing_suites.specs.ArchRows.{AreAscending, AreNumbers, IsNumberOf, IsAfter, AreLostFrom, package_at};
 ghost use Rattle.testing_suites.specs.PresentSteps.{IsOver, IsSuiteOn};
@@ -50,11 +50,60 @@ fn packages_at(alloc: Global, pool: &Pool, places: &[usize]) -> Result<Vec<Rc<Bi
     Ok(packages)
 }
 
-/// The number of the place among those that ascend, where it is one of them.
+/// The number that the place has if the places from the first one up to it stand side by side.
+fn likely_number(places: &[usize], place: usize) -> usize {
+    match places.first() {
+        Some(first) => place.saturating_sub(*first),
+        None => 0,
+    }
+}
+
+/// The place has the number.
+fn has_number(places: &[usize], place: usize, number: usize) -> bool
+    ensures { result ≡ true → slice_get places.now number ≡ Some place }
+{
+    match places.get(number) {
+        Some(other) => *other == place,
+        None => false,
+    }
+}
+
+/// The place comes before the first of those that ascend.
+fn is_before(places: &[usize], place: usize) -> bool
+    requires { AreAscending places.now }
+    ensures { result ≡ true → IsNumberOf places.now place None }
+{
+    match places.first() {
+        Some(first) => place < *first,
+        None => false,
+    }
+}
+
+/// The place comes behind the last of those that ascend.
+fn is_behind(places: &[usize], place: usize) -> bool
+    requires { AreAscending places.now }
+    ensures { result ≡ true → IsNumberOf places.now place None }
+{
+    match places.last() {
+        Some(last) => *last < place,
+        None => false,
+    }
+}
+
+/// The number of the place among those that ascend, where it is one of them. Most rows of an architecture stand side
+/// by side in the pool. So the likely number is tried first, and then whether the place is outside. A search by halves
+/// comes last.
 fn number_of(places: &[usize], place: usize) -> Option<usize>
     requires { AreAscending places.now }
     ensures { IsNumberOf places.now place result }
 {
+    let likely = likely_number(places, place);
+    if has_number(places, place, likely) {
+        return Some(likely);
+    }
+    if is_before(places, place) || is_behind(places, place) {
+        return None;
+    }
     places.binary_search(&place).ok()
 }
 

@@ -7,16 +7,14 @@ use Rattle.deb_control.specs.ReaderSteps.{line_in_front, front_run}
 use Rattle.deb_control.proofs.Lines.{first_continues, refused, was_read, shorter, field_step, at_blank_line, names_with, fields_with}
 use Rattle.deb_control.proofs.paragraphs.read_paragraph.Goals as goal
 
-pub returns-then-continues : goal.returns-then-continues
-returns-then-continues c =
-    let line = c.first_line.ensures ∙ ap line_in_front c.as_bytes.ensures.value in
-    let begins : continues (line_in_front c.args.text.now) ≡ true = ap continues (sym line) ∙ sym c.continues.ensures ∙ c.if-continues.true in
+pub returns-then-begins_continuing : goal.returns-then-begins_continuing
+returns-then-begins_continuing c =
+    let begins : continues (line_in_front c.args.text.now) ≡ true = ap (λ bytes. continues (line_in_front bytes)) (sym c.as_bytes.ensures.value) ∙ sym c.begins_continuing.ensures ∙ c.if-begins_continuing.true in
     inr (refused c.args.text.now _ c.requires (first_continues c.args.text.now c.requires begins))
 
 pub returns-in_err-field : goal.returns-in_err-field
 returns-in_err-field c =
-    let line = c.first_line-in-fields.ensures ∙ ap line_in_front c.as_bytes-in-fields.ensures.value in
-    let full : is_blank_line (line_in_front c.fields.rest.now) ≡ false = ap is_blank_line (sym line) ∙ sym c.is_blank_line.ensures ∙ c.fields-test.true in
+    let full : is_blank_line (line_in_front c.fields.rest.now) ≡ false = ap (λ bytes. is_blank_line (line_in_front bytes)) (sym c.as_bytes-in-fields.ensures.value) ∙ sym c.begins_blank.ensures ∙ c.fields-test.true in
     let names = map (λ f. f.0.now) c.fields.fields.items in
     let step = field_step c.fields.rest.now _ _ names c.split_field.ensures full c.fields.invariant.1 in
     let bad = rw c.deref.ensures.value at c.in_err-field.ensures in
@@ -26,14 +24,12 @@ returns-in_err-field c =
 
 pub fields-smaller : goal.fields-smaller
 fields-smaller c =
-    let line = c.first_line-in-fields.ensures ∙ ap line_in_front c.as_bytes-in-fields.ensures.value in
-    let full : is_blank_line (line_in_front c.fields.rest.now) ≡ false = ap is_blank_line (sym line) ∙ sym c.is_blank_line.ensures ∙ c.fields-test.true in
+    let full : is_blank_line (line_in_front c.fields.rest.now) ≡ false = ap (λ bytes. is_blank_line (line_in_front bytes)) (sym c.as_bytes-in-fields.ensures.value) ∙ sym c.begins_blank.ensures ∙ c.fields-test.true in
     shorter c.fields.rest.now _ _ c.split_field.ensures full
 
 pub fields-preserved : goal.fields-preserved
 fields-preserved c =
-    let line = c.first_line-in-fields.ensures ∙ ap line_in_front c.as_bytes-in-fields.ensures.value in
-    let full : is_blank_line (line_in_front c.fields.rest.now) ≡ false = ap is_blank_line (sym line) ∙ sym c.is_blank_line.ensures ∙ c.fields-test.true in
+    let full : is_blank_line (line_in_front c.fields.rest.now) ≡ false = ap (λ bytes. is_blank_line (line_in_front bytes)) (sym c.as_bytes-in-fields.ensures.value) ∙ sym c.begins_blank.ensures ∙ c.fields-test.true in
     let items = c.fields.fields.items in
     let names = map (λ f. f.0.now) items in
     let after = front_run (lines c.split_field.result.1.now) in
@@ -51,8 +47,7 @@ fields-preserved c =
 
 pub returns : goal.returns
 returns c =
-    let line = c.first_line-in-fields.ensures ∙ ap line_in_front c.as_bytes-in-fields.ensures.value in
-    let blank : is_blank_line (line_in_front c.fields.rest.now) ≡ true = ap is_blank_line (sym line) ∙ sym c.is_blank_line.ensures ∙ c.fields-test.false in
+    let blank : is_blank_line (line_in_front c.fields.rest.now) ≡ true = ap (λ bytes. is_blank_line (line_in_front bytes)) (sym c.as_bytes-in-fields.ensures.value) ∙ sym c.begins_blank.ensures ∙ c.fields-test.false in
     let items = c.fields.fields.items in
     let done = at_blank_line c.fields.rest.now (map (λ f. f.0.now) items) blank in
     was_read c.args.text.now c.fields.rest.now (map shown items) c.requires

@@ -9,8 +9,7 @@ use Rattle.deb_control.proofs.paragraphs.skip_blank_lines.Goals as goal
 
 pub returns-then-end-rest-clause-same : goal.returns-then-end-rest-clause-same
 returns-then-end-rest-clause-same c =
-    let line = c.first_line.ensures ∙ ap line_in_front c.as_bytes.ensures.value in
-    let blank : is_blank_line (line_in_front c.lines.rest.now) ≡ true = ap is_blank_line (sym line) ∙ sym c.is_blank_line.ensures ∙ c.lines-test.true in
+    let blank : is_blank_line (line_in_front c.lines.rest.now) ≡ true = ap (λ bytes. is_blank_line (line_in_front bytes)) (sym c.as_bytes.ensures.value) ∙ sym c.begins_blank.ensures ∙ c.lines-test.true in
     let place : c.index_of-end.result ≡ position_or_len is_line_feed c.lines.rest.now = c.index_of-end.ensures ∙ ap (position_or_len is_line_feed) c.as_bytes-in-lines.ensures.value in
     reading_of_nothing ∙ sym (reading_of_blank c.lines.rest.now blank (sym place ∙ c.if-end-rest.true)) ∙ c.lines.invariant.1
 
@@ -23,8 +22,7 @@ split_around-requires-clause-ascii c =
 
 pub lines-preserved : goal.lines-preserved
 lines-preserved c =
-    let line = c.first_line.ensures ∙ ap line_in_front c.as_bytes.ensures.value in
-    let blank : is_blank_line (line_in_front c.lines.rest.now) ≡ true = ap is_blank_line (sym line) ∙ sym c.is_blank_line.ensures ∙ c.lines-test.true in
+    let blank : is_blank_line (line_in_front c.lines.rest.now) ≡ true = ap (λ bytes. is_blank_line (line_in_front bytes)) (sym c.as_bytes.ensures.value) ∙ sym c.begins_blank.ensures ∙ c.lines-test.true in
     let place : c.index_of-end.result ≡ position_or_len is_line_feed c.lines.rest.now = c.index_of-end.ensures ∙ ap (position_or_len is_line_feed) c.as_bytes-in-lines.ensures.value in
     let within = feed_within c.lines.rest.now c.index_of-end.result place c.if-end-rest.false in
     let after = c.split_around.ensures.back ∙ ap (λ (n : ℕ). drop (n + 1) c.lines.rest.now) place in (

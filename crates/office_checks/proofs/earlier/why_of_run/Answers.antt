@@ -2,7 +2,7 @@ use Rattle.std.proofs.Common.{◌≡◌, length, sym, subst, ◌∙◌}
 use Rattle.std.proofs.lemmas.Result.{IfOk-weaker}
 use Rattle.office_mail.specs.Lists.{Lists}
 use Rattle.office_keeper.specs.Content.{Content}
-use Rattle.office_rules.specs.Why.{IsWhy}
+use Rattle.office_reasons.specs.Why.{IsWhy}
 use Rattle.office_checks.specs.Earlier.{IsToldOfRun}
 use Rattle.office_checks.proofs.EarlierFacts.{told_of_last}
 use Rattle.office_checks.proofs.earlier.why_of_run.Goals as goal

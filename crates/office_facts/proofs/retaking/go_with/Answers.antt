@@ -4,7 +4,7 @@ use Rattle.testing_model.specs.FactLists.{FactLists}
 use Rattle.testing_model.specs.KeptFacts.{KeptFacts, trimmed}
 use Rattle.testing_model.specs.StandsFor.{StandsFor}
 use Rattle.testing_model.specs.Suite.{Suite}
-use Rattle.testing_rules.proofs.BesideTesting.{trim_keeps}
+use Rattle.testing_laws.proofs.BesideTesting.{trim_keeps}
 use Rattle.office_keeper.specs.Content.{Content}
 use Rattle.office_facts.specs.Known.{AreUnderWay, said_all}
 use Rattle.office_facts.specs.Walk.{said_within}

@@ -4,7 +4,7 @@ use Rattle.testing_items.specs.Words.{Text}
 use Rattle.testing_model.specs.Covered.{Covered}
 use Rattle.testing_model.specs.KeptFacts.{AreFallen}
 use Rattle.testing_model.specs.Suite.{Suite}
-use Rattle.testing_rules.proofs.FallenNames.{names_are_fallen}
+use Rattle.testing_laws.proofs.FallenNames.{names_are_fallen}
 use Rattle.office_keeper.specs.Content.{Content}
 use Rattle.office_facts.specs.Walk.{said_within}
 use Rattle.office_facts.proofs.AgainFacts.{again_stand, none_stand}

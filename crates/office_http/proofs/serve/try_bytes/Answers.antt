@@ -10,6 +10,9 @@ use Rattle.office_http.specs.Trials.{hints_in}
 use Rattle.office_http.proofs.ServeFacts.{place_or, tried, tried_bad}
 use Rattle.office_http.proofs.serve.try_bytes.Goals as goal
 
+pub returns-in-Ok-clause-carries : goal.returns-in-Ok-clause-carries
+returns-in-Ok-clause-carries g c = c.try_body.ensures.asks.carries
+
 pub returns-in-Ok-clause-place : goal.returns-in-Ok-clause-place
 returns-in-Ok-clause-place g c = rw c.answer_or.ensures (place_or (g.K.Keeper.setup c.args.office.now) c.try_body.result c.try_body.ensures.place)
 

@@ -1,7 +1,7 @@
 use Rattle.std.proofs.Common.{◌≡◌, ℕ, sym, ap, subst, ◌∙◌}
 use Rattle.std.proofs.lemmas.Result.{on_ok_weaker}
-use Rattle.testing_rules.specs.Covered.{Covered}
-use Rattle.testing_rules.specs.StandsFor.{StandsFor}
+use Rattle.testing_laws.specs.Covered.{Covered}
+use Rattle.testing_laws.specs.StandsFor.{StandsFor}
 use Rattle.office_facts.specs.Walk.{said_in}
 use Rattle.office_rules.specs.Hints.{release}
 use Rattle.office_rules.proofs.HintFacts.{letters_said}

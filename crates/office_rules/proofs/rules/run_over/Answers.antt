@@ -1,14 +1,14 @@
 use Rattle.std.proofs.Common.{◌≡◌, ◌≤◌, ℕ, List, Result, Ok, Err, IfOk, length, sym, ap, subst, ◌∙◌}
-use Rattle.testing_rules.specs.Covered.{Covered}
-use Rattle.testing_rules.specs.StandsFor.{StandsFor}
-use Rattle.testing_rules.specs.Suite.{Suite}
+use Rattle.testing_laws.specs.Covered.{Covered}
+use Rattle.testing_laws.specs.StandsFor.{StandsFor}
+use Rattle.testing_laws.specs.Suite.{Suite}
 use Rattle.testing_model.specs.Tells.{AreSaidBy}
-use Rattle.testing_rules.specs.Excuses.{excuses_of}
-use Rattle.testing_rules.specs.Updates.{IsUpdate}
-use Rattle.testing_rules.specs.Reports.{excuses_text, update_text}
-use Rattle.testing_rules.specs.Provenance.{IsGivenBy}
-use Rattle.testing_rules.proofs.Giving.{facts_give_update}
-use Rattle.testing_rules.specs.GivenUpdate.{suite_by}
+use Rattle.testing_laws.specs.Excuses.{excuses_of}
+use Rattle.testing_laws.specs.Updates.{IsUpdate}
+use Rattle.testing_laws.specs.Reports.{excuses_text, update_text}
+use Rattle.testing_laws.specs.Provenance.{IsGivenBy}
+use Rattle.testing_laws.proofs.Giving.{facts_give_update}
+use Rattle.testing_laws.specs.GivenUpdate.{suite_by}
 use Rattle.testing_model.specs.Updates.{Outcome as Update}
 use Rattle.office_keeper.specs.declared.values.Reports.{Reports}
 use Rattle.office_facts.specs.Outcome.{Outcome, outcome}

@@ -1,7 +1,7 @@
 use Rattle.std.proofs.Common.{◌≡◌, sym, ap, subst, ◌∙◌}
-use Rattle.testing_rules.specs.Covered.{Covered}
-use Rattle.testing_rules.specs.StandsFor.{StandsFor}
-use Rattle.testing_rules.specs.Suite.{Suite}
+use Rattle.testing_laws.specs.Covered.{Covered}
+use Rattle.testing_laws.specs.StandsFor.{StandsFor}
+use Rattle.testing_laws.specs.Suite.{Suite}
 use Rattle.office_keeper.specs.Content.{Content}
 use Rattle.office_orders.proofs.GivingBack.{given_back}
 use Rattle.office_facts.specs.Outcome.{outcome}

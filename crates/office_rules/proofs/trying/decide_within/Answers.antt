@@ -1,7 +1,7 @@
 use Rattle.std.proofs.Common.{◌≡◌, ℕ, Result, IfOk, slice_index, sym, subst}
 use Rattle.std.proofs.lemmas.Result.{IfOk-weaker}
-use Rattle.testing_rules.specs.Covered.{Covered}
-use Rattle.testing_rules.specs.StandsFor.{StandsFor}
+use Rattle.testing_laws.specs.Covered.{Covered}
+use Rattle.testing_laws.specs.StandsFor.{StandsFor}
 use Rattle.office_keeper.specs.Content.{Content}
 use Rattle.office_facts.specs.Outcome.{outcome}
 use Rattle.office_rules.specs.Hints.{release, with_letters}

@@ -1,8 +1,8 @@
 use Rattle.std.proofs.Common.{◌≡◌, ℕ, List, length, slice_index, sym, ap, subst, ◌∙◌, refl}
-use Rattle.testing_rules.specs.KeptFacts.{KeptFacts}
-use Rattle.testing_rules.specs.StandsFor.{StandsFor}
-use Rattle.testing_rules.specs.Suite.{Suite}
-use Rattle.testing_rules.specs.Watched.{AllWatchedWork}
+use Rattle.testing_laws.specs.KeptFacts.{KeptFacts}
+use Rattle.testing_laws.specs.StandsFor.{StandsFor}
+use Rattle.testing_laws.specs.Suite.{Suite}
+use Rattle.testing_laws.specs.Watched.{AllWatchedWork}
 use Rattle.office_mail.specs.Lists.{Lists}
 use Rattle.office_keeper.specs.Content.{Content}
 use Rattle.office_keeper.specs.FactSet.{AreHoldable, facts_after}

@@ -1,8 +1,8 @@
 use Rattle.std.proofs.Common.{◌≡◌, ◌+◌, ◌<◌, ℕ, List, Option, IfSome, length, slice_index, true, sym, ap, subst, ◌∙◌, refl, arith}
 use Rattle.std.specs.FinMap.{get}
 use Rattle.std.proofs.lemmas.List.{length_push}
-use Rattle.testing_rules.specs.FactLists.{FactLists}
-use Rattle.testing_rules.specs.KeptFacts.{KeptFacts}
+use Rattle.testing_laws.specs.FactLists.{FactLists}
+use Rattle.testing_laws.specs.KeptFacts.{KeptFacts}
 use Rattle.testing_model.specs.Suite.{Suite}
 use Rattle.testing_model.specs.declared.fact_row.FactChanges.{FactChanges}
 use Rattle.office_mail.specs.declared.message.RunOrder.{RunOrder}

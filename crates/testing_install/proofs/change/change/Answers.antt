@@ -1,6 +1,7 @@
-use Rattle.std.proofs.Common.{arith, ◌∙◌, ap, true, false, ◌≡◌, length}
+use Rattle.std.proofs.Common.{arith, ◌∙◌, ap, true, false, ◌≡◌, [], length}
 use Rattle.std.proofs.lemmas.Result.{IfOk-from_err}
 use Rattle.testing_install.proofs.Marking.{length-with_all}
+use Rattle.testing_install.proofs.Settled.{settling_whole}
 use Rattle.testing_install.proofs.Sharing.{length-shared}
 use Rattle.testing_install.proofs.Reviving.{reviving_begun, changed, places_in, bounded_by}
 use Rattle.testing_install.specs.Among.{with_all}
@@ -31,7 +32,7 @@ returns-clause-changed c =
     let revived = c.in_ok-revive.ensures.revived (marked c.args.marks.now.current) begun in
     changed rows c.args.there.now.current c.args.marks.now.current c.args.leaving.now c.args.coming.now c.requires.right leaving coming c.set_all-3.new.marks.current c.set_all-4.new.marks.current c.revive.new.marks.current c.revive.new.fresh.items there marks (rw c.current.ensures at revived)
     c.in_ok-to_vec.field-0.items c.new.result.items c.deref.result.now (c.in_ok-to_vec.ensures.items_if_clones_equal (λ _ _ e. e)) c.new.ensures.items c.deref.ensures.value
-    c.look_at.new.marks.current c.look_at.new.falls.waiting.items c.look_at.new.falls.fallen.items c.in_ok-look_at.ensures.step
+    c.look_at.new.marks.current c.look_at.new.falls.waiting.items c.look_at.new.falls.fallen.items (λ set first s. c.in_ok-look_at.ensures.step set first [] (settling_whole rows set first _ _ _ _ _ s))
     c.take_turns.new.marks.current c.take_turns.new.falls.waiting.items c.take_turns.new.falls.fallen.items c.in_ok-take_turns.ensures.step
     c.in_ok-take_turns.ensures.sized c.in_ok-take_turns.ensures.empty
 

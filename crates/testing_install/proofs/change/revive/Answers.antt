@@ -1,31 +1,34 @@
-use Rattle.std.proofs.Common.{arith, ◌∙◌, sym, ◌<◌, length}
+use Rattle.std.proofs.Common.{arith, ◌∙◌, sym, subst, ◌<◌, length}
+use Rattle.std.specs.List.{All}
 use Rattle.testing_install.proofs.Counting.{count_both}
 use Rattle.testing_install.proofs.Members.{all_from_members, members_from_all}
-use Rattle.testing_install.proofs.Needing.{found_within, found_all}
+use Rattle.testing_install.proofs.Needing.{needers_within, needer_found}
 use Rattle.testing_install.proofs.Sharing.{length-shared}
 use Rattle.testing_install.proofs.Reviving.{reviving_more, fresh_row}
+use Rattle.testing_install.specs.Index.{places_at}
 use Rattle.testing_install.specs.Rows.{shared}
 use Rattle.testing_install.specs.Closed.{marked}
 use Rattle.testing_install.proofs.change.revive.Goals as goal
 
-pub revive_among-requires-clause-places : goal.revive_among-requires-clause-places
-revive_among-requires-clause-places c = all_from_members _ _ (found_within (shared c.args.graph.now.rows.items) _ c.as_ref.result.now _ _ _ c.requires.graph.needed c.deref.ensures.value c.in_ok-needers.ensures (length-shared c.args.graph.now.rows.items ∙ sym c.requires.there))
+pub revive_needers-requires-clause-needers : goal.revive_needers-requires-clause-needers
+revive_needers-requires-clause-needers c = λ name. subst (λ n. All (λ k. k < n) (places_at c.args.graph.now.needers name)) (length-shared c.args.graph.now.rows.items ∙ sym c.requires.there) (c.requires.graph.needed.within name)
 
 pub revivals-smaller : goal.revivals-smaller
 revivals-smaller c =
     let below : c.revivals.next < length c.revivals.fresh.items = omega (arith, c.revivals-test.true, c.len.ensures, c.revivals.fresh.ok.0) in
-    omega (arith, below, (c.in_ok-revive_among.ensures.revived.stays c.revivals.next 0 below).0, count_both c.revive_among.new.marks.current, count_both c.revivals.marks.current, c.in_ok-revive_among.ensures.measure, c.in_ok-revive_among.ensures.long, c.revivals.invariant.long, c.requires.there)
+    omega (arith, below, (c.in_ok-revive_needers.ensures.revived.stays c.revivals.next 0 below).0, count_both c.revive_needers.new.marks.current, count_both c.revivals.marks.current, c.in_ok-revive_needers.ensures.measure, c.in_ok-revive_needers.ensures.long, c.revivals.invariant.long, c.requires.there)
 
 pub revivals-preserved : goal.revivals-preserved
 revivals-preserved c =
     let rows = shared c.args.graph.now.rows.items in
     let below : c.revivals.next < length c.revivals.fresh.items = omega (arith, c.revivals-test.true, c.len.ensures, c.revivals.fresh.ok.0) in
-    let one = c.in_ok-revive_among.ensures.revived in
-    let found = found_within rows _ c.as_ref.result.now _ _ (length c.args.graph.now.rows.items) c.requires.graph.needed c.deref.ensures.value c.in_ok-needers.ensures (length-shared c.args.graph.now.rows.items) in
+    let row = c.as_ref-row.result.now in
+    let one = c.in_ok-revive_needers.ensures.revived in
+    let found = needers_within rows _ row (length c.args.graph.now.rows.items) c.requires.graph.needed (length-shared c.args.graph.now.rows.items) in
     record {
-      revived = λ old s. reviving_more rows (marked c.args.there.now) old _ _ _ _ _ _ _ _ _ (c.revivals.invariant.revived old s) one (omega arith) below (fresh_row c.args.graph.now.rows.items c.revivals.fresh.items c.revivals.next c.index.result.now c.index-in-revivals.result.now c.as_ref.result.now below c.index.ensures c.revivals.invariant.fresh c.index-in-revivals.ensures c.as_ref.ensures) (found_all rows _ c.as_ref.result.now _ _ c.requires.graph.needed c.deref.ensures.value c.in_ok-needers.ensures);
-      long = c.in_ok-revive_among.ensures.long ∙ c.requires.there;
-      kept = c.in_ok-revive_among.ensures.kept ∙ c.revivals.invariant.kept;
+      revived = λ old s. reviving_more rows (marked c.args.there.now) old _ _ _ _ _ _ _ _ _ (c.revivals.invariant.revived old s) one (omega arith) below (fresh_row c.args.graph.now.rows.items c.revivals.fresh.items c.revivals.next c.index.result.now c.index-in-revivals.result.now row below c.index.ensures c.revivals.invariant.fresh c.index-in-revivals.ensures c.as_ref-row.ensures) (needer_found rows _ row c.requires.graph.needed);
+      long = c.in_ok-revive_needers.ensures.long ∙ c.requires.there;
+      kept = c.in_ok-revive_needers.ensures.kept ∙ c.revivals.invariant.kept;
       fresh = all_from_members _ _ (one.within (length c.args.graph.now.rows.items) found (members_from_all _ _ c.revivals.invariant.fresh));
       next = omega (arith, (one.stays c.revivals.next 0 below).0);
     }

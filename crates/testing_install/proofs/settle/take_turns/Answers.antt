@@ -1,6 +1,5 @@
 use Rattle.std.proofs.Common.{arith, ◌∙◌}
-use Rattle.testing_install.proofs.Members.{all_from_members}
-use Rattle.testing_install.proofs.Needing.{found_within, found_all}
+use Rattle.testing_install.proofs.Needing.{needer_found}
 use Rattle.testing_install.proofs.Sharing.{shared_at, length-shared}
 use Rattle.testing_install.proofs.Settled.{settling_turn, settling_calm, sized_turn, turn_in}
 use Rattle.testing_install.specs.Rows.{shared}
@@ -9,18 +8,15 @@ use Rattle.testing_install.proofs.settle.take_turns.Goals as goal
 pub index-requires : goal.index-requires
 index-requires c = omega (arith, turn_in _ _ _ _ _ c.loop-place.invariant.sized c.in-Some.ensures.items, length-shared c.args.graph.now.rows.items, c.args.graph.now.rows.ok.0)
 
-pub look_at-requires-clause-places : goal.look_at-requires-clause-places
-look_at-requires-clause-places c = all_from_members _ _ (found_within (shared c.args.graph.now.rows.items) _ c.as_ref-row.result.now _ _ _ c.requires.graph.needed c.deref.ensures.value c.in_ok-needers.ensures (length-shared c.args.graph.now.rows.items))
-
-pub look_at-requires-clause-sized : goal.look_at-requires-clause-sized
-look_at-requires-clause-sized c = sized_turn _ _ _ _ _ c.loop-place.invariant.sized c.in-Some.ensures.items
+pub look_at_needers-requires-clause-sized : goal.look_at_needers-requires-clause-sized
+look_at_needers-requires-clause-sized c = sized_turn _ _ _ _ _ c.loop-place.invariant.sized c.in-Some.ensures.items
 
 pub loop-place-preserved : goal.loop-place-preserved
 loop-place-preserved c =
     let rows = shared c.args.graph.now.rows.items in
     let at = shared_at c.args.graph.now.rows.items c.in-Some.place c.index.result.now c.as_ref-row.result.now (omega (arith, turn_in _ _ _ _ _ c.loop-place.invariant.sized c.in-Some.ensures.items, length-shared c.args.graph.now.rows.items)) c.index.ensures c.as_ref-row.ensures in
     record {
-      sized = c.in_ok-look_at.ensures.sized;
-      kept = c.in_ok-look_at.ensures.kept ∙ c.loop-place.invariant.kept;
-      step = λ there first s. settling_calm rows there first _ _ _ _ _ (c.in_ok-look_at.ensures.step there first (settling_turn rows there first _ _ _ _ _ _ _ _ (c.loop-place.invariant.step there first s) c.in-Some.ensures.items at (found_all rows _ c.as_ref-row.result.now _ _ c.requires.graph.needed c.deref.ensures.value c.in_ok-needers.ensures)));
+      sized = c.in_ok-look_at_needers.ensures.sized;
+      kept = c.in_ok-look_at_needers.ensures.kept ∙ c.loop-place.invariant.kept;
+      step = λ there first s. settling_calm rows there first _ _ _ _ _ (c.in_ok-look_at_needers.ensures.step there first (settling_turn rows there first _ _ _ _ _ _ _ _ (c.loop-place.invariant.step there first s) c.in-Some.ensures.items at (needer_found rows _ c.as_ref-row.result.now c.requires.graph.needed)));
     }

@@ -1,0 +1,11 @@
+use Rattle.std.proofs.Common.{◌≡◌, ℕ, List, [], Ok, sym, ap, ◌∙◌, eqb-true}
+use Rattle.std.proofs.lemmas.List.{nil_from_length}
+use Rattle.deb_control.specs.Relations.{clauses_in}
+use Rattle.deb_control.specs.Binary.{of_field}
+use Rattle.deb_control.proofs.Alike.{no_clauses}
+use Rattle.deb_control.proofs.binary.clauses_of.Goals as goal
+
+pub returns-then-is_empty : goal.returns-then-is_empty
+returns-then-is_empty c =
+    let nothing : c.optional-text.result.now ≡ [] = nil_from_length _ (eqb-true _ _ (sym c.is_empty.ensures ∙ c.if-is_empty.true)) in
+    ap (λ (text : List ℕ). of_field c.args.field (clauses_in text)) (sym c.optional-text.ensures ∙ nothing) ∙ ap (of_field c.args.field) no_clauses ∙ ap Ok (sym c.new.ensures.items)
