@@ -17,8 +17,8 @@ upper_rows (Some rows) = rows
 
 -- a block holds fewer rows than fill it, and has memory for as many
 pub record IsRoomy (len capacity : ℕ) : Type 0 where
-  pub below : len < 256
-  pub room : 256 ≤ capacity
+  pub below : len < 64
+  pub room : 64 ≤ capacity
 
 -- the block has a row
 abbrev pub HasRows : List BuildIn → Type 0

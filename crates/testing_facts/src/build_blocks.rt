@@ -21,7 +21,7 @@ use testing_model::{BuildIn, DropIn, FactRow};
 use testing_order::{Log, Shifted, move_upper_half};
 
 /// So many rows fill a block, which is split then.
-const FULL: usize = 256;
+const FULL: usize = 64;
 
 /// Some of the rows, with room for one more.
 #[derive(Drop)]
@@ -68,7 +68,7 @@ impl Block {
     /// How many rows there are.
     fn len(&self) -> usize
         ensures len { result ≡ length self.now }
-        ensures below { result < 256 }
+        ensures below { result < 64 }
     {
         self.rows.len()
     }
@@ -124,10 +124,10 @@ fn begin_above(rows: &[Box<BuildIn>], arch: &str, name: &str) -> bool
 
 /// The rows of a full block, but for its lower half, which stays.
 fn upper_half(rows: &mut Vec<Box<BuildIn>>, spare: Block) -> Block
-    requires full { vec_len rows.old ≡ 256 }
+    requires full { vec_len rows.old ≡ 64 }
     requires spare { spare ≡ [] }
     ensures rows { unboxed rows.new.items ++ result ≡ unboxed rows.old.items }
-    ensures lower { vec_len rows.new ≡ 128 }
+    ensures lower { vec_len rows.new ≡ 32 }
     ensures upper { HasRows result }
     ensures capacity { vec_capacity rows.new ≡ vec_capacity rows.old }
 {
@@ -157,7 +157,7 @@ fn block_for(blocks: &[Block], arch: &str, name: &str) -> usize
 /// How many rows the blocks have.
 fn count_rows(held: &[Block]) -> u128
     ensures rows { result ≡ length (joined held.now) }
-    ensures below { result ≤ 256 * (2 ^ 64) }
+    ensures below { result ≤ 64 * (2 ^ 64) }
 {
     let mut count = 0;
     'counted: for block in held {
@@ -182,7 +182,7 @@ fn copy_build(alloc: Global, build: &BuildIn) -> Result<Box<BuildIn>, NoMemory>
 /// Equal rows, with memory for as many as fill a block.
 fn copy_rows(alloc: Global, rows: &[Box<BuildIn>]) -> Result<Vec<Box<BuildIn>>, NoMemory>
     ensures rows { IfOk result (λ copies. unboxed copies.items ≡ unboxed rows.now) }
-    ensures room { IfOk result (λ copies. 256 ≤ vec_capacity copies) }
+    ensures room { IfOk result (λ copies. 64 ≤ vec_capacity copies) }
 {
     let mut copies = Vec::with_capacity(alloc, FULL)?;
     for build in rows {
@@ -385,7 +385,7 @@ impl BuildBlocks {
     /// How many rows there are.
     pub fn count(&self) -> u128
         ensures rows { result ≡ length self.now }
-        ensures below { result ≤ 256 * (2 ^ 64) }
+        ensures below { result ≤ 64 * (2 ^ 64) }
     {
         count_rows(&self.blocks)
     }

@@ -7,5 +7,5 @@ abbrev pub invariant-loop-build : goal.invariant-loop-build
 invariant-loop-build l =
     record {
       so_far : unboxed l.copies.items ≡ unboxed (take l.build-index l.rows);
-      room : 256 ≤ vec_capacity l.copies;
+      room : 64 ≤ vec_capacity l.copies;
     }

@@ -7,9 +7,9 @@ abbrev pub invariant-moved : goal.invariant-moved
 invariant-moved l =
     record {
       all : l.rows.items ++ reverse l.upper.items ≡ l.fn.rows.items;
-      count : vec_len l.rows + vec_len l.upper ≡ 256;
-      lower : 128 ≤ vec_len l.rows;
-      room : 256 ≤ vec_capacity l.upper;
+      count : vec_len l.rows + vec_len l.upper ≡ 64;
+      lower : 32 ≤ vec_len l.rows;
+      room : 64 ≤ vec_capacity l.upper;
       capacity : vec_capacity l.rows ≡ vec_capacity l.fn.rows;
     }
 
