@@ -1,2 +1,4 @@
+pub mod LiveSlots
 pub mod Provided
+pub mod SourceSlots
 pub mod Unmet

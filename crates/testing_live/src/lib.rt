@@ -15,9 +15,7 @@ mod row_tests;
 pub use change::{change_by_move, change_by_removal};
 pub use lent_rows::{moved_rows, rows_without};
 pub use live_rows::LiveRows;
-pub use live_sources::{
-    LiveSource, lend_sources, move_sources, own_sources, place_of_name, take_source,
-};
+pub use live_sources::LiveSources;
 pub use offender::{fails_on, first_failing, offender_of, rows_on, with_answers};
 pub use pool_suites::PoolSuites;
 pub use row_tests::{is_of, is_row_of, is_same_key};

@@ -1,122 +1,258 @@
-//! Testing's sources during a run, in order. Those that stay are lent, so a run copies each once, when it ends; a move
-//! shifts places alone.
+//! Testing's sources during a run. They stand in slots by name, one for each source that testing or unstable has, so a
+//! move changes a slot and shifts none. Those that stay are lent: a run copies each source once, when it ends.
 
-ghost use Rattle.std.specs.Prelude.{◌≡◌, length, not, filter, OnOk, OnErr, IfOk};
+ghost use Rattle.std.specs.Prelude.{◌≡◌, ◌<◌, [], length, not, filter, find, option_map, option_copied, OnOk, OnErr, IfOk};
 ghost use Rattle.std.specs.List.Sorted.{IsBinarySearchResult, IsSearchInRange};
 ghost use Rattle.std.specs.Str.{bytes_eq};
 ghost use Rattle.testing_suites.specs.AfterMoves.{sources_after};
 ghost use Rattle.testing_model.specs.Boxed.{unboxed};
 ghost use Rattle.testing_model.specs.FactOrder.{AreBySource};
 ghost use Rattle.testing_model.specs.InOrder.{AreByName};
-ghost use Rattle.testing_live.specs.LiveSources.{source_of, sources_of};
-ghost use Rattle.testing_model.specs.Moves as rules;
+ghost use Rattle.testing_live.specs.LiveSources.{name_of, source_of, sources_of, AreSlots, put_slot};
 ghost use Rattle.testing_items.specs.Words.{byte_cmp};
 
 use deb_control::Text;
-use deb_version::NoMemory;
+use deb_version::{NoMemory, Version};
 use std::alloc::Global;
 use std::cmp::Ordering;
+use std::marker::Model;
 use testing_facts::{as_source, source_in};
 use testing_model::{SourceIn, UploadIn};
 
-/// A source of testing during a run: as it was before, lent, or as a move has put it.
+/// A source during a run: testing lacks it, or it is as it was before, lent, or as a move has put it.
 #[derive(Drop)]
-pub enum LiveSource<'a> {
+enum Slot<'u, 'a> {
+    Absent(&'u UploadIn),
     Stays(&'a SourceIn),
     Moved(Box<SourceIn>),
 }
 
-impl LiveSource<'_> {
-    /// The source.
-    pub fn source(&self) -> &SourceIn
-        ensures { result.now ≡ source_of self.now }
+impl Slot<'_, '_> {
+    /// The source's name.
+    fn name(&self) -> &str
+        ensures { result.now ≡ name_of self.now }
     {
         match self {
-            LiveSource::Stays(source) => source,
-            LiveSource::Moved(source) => source,
+            Slot::Absent(upload) => upload.source.as_str(),
+            Slot::Stays(source) => source.name.as_str(),
+            Slot::Moved(source) => source.name.as_str(),
+        }
+    }
+
+    /// The source, if testing has it.
+    fn source(&self) -> Option<&SourceIn>
+        ensures { option_copied result ≡ source_of self.now }
+    {
+        match self {
+            Slot::Absent(_) => None,
+            Slot::Stays(source) => Some(source),
+            Slot::Moved(source) => Some(source),
         }
     }
 }
 
-/// Where the sources have the name, or else where it belongs.
-pub fn place_of_name(sources: &[LiveSource], name: &str) -> Result<usize, usize>
-    ensures bound { IsSearchInRange result (length (sources_of sources.now)) }
-    ensures found { IsBinarySearchResult (λ s. byte_cmp s.name name.now) (sources_of sources.now) result }
+/// Where the slots have the name, or else where it belongs.
+fn place_of_name(slots: &[Slot], name: &str) -> Result<usize, usize>
+    ensures bound { IsSearchInRange result (length slots.now) }
+    ensures found { IsBinarySearchResult (λ s. byte_cmp (name_of s) name.now) slots.now result }
 {
-    sources.binary_search_by(
-        |source: &LiveSource| -> Ordering
-            ensures { result ≡ byte_cmp (source_of source.now).name name.entry.now }
-        { source.source().name.as_str().cmp(name) },
+    slots.binary_search_by(
+        |slot: &Slot| -> Ordering
+            ensures { result ≡ byte_cmp (name_of slot.now) name.entry.now }
+        { slot.name().cmp(name) },
     )
 }
 
-/// Puts a source under its name.
-fn put_source(sources: &mut Vec<LiveSource>, source: Box<SourceIn>) -> Result<(), NoMemory>
-    requires { AreByName (sources_of sources.old.items) }
-    ensures ok { OnOk result (sources_of sources.new.items ≡ rules.put_source source.value (sources_of sources.old.items)) }
-    ensures err { OnErr result (sources.new.items ≡ sources.old.items) }
-    ensures ordered { AreByName (sources_of sources.new.items) }
+/// The same, with a look at the guessed place first.
+fn place_near(slots: &[Slot], name: &str, guess: usize) -> Result<usize, usize>
+    ensures bound { IsSearchInRange result (length slots.now) }
+    ensures found { IsBinarySearchResult (λ s. byte_cmp (name_of s) name.now) slots.now result }
 {
-    match place_of_name(sources, source.name.as_str()) {
-        Ok(place) => sources[place] = LiveSource::Moved(source),
-        Err(place) => sources.insert(place, LiveSource::Moved(source))?,
+    if let Some(slot) = slots.get(guess) {
+        if slot.name() == name {
+            return Ok(guess);
+        }
+    }
+    place_of_name(slots, name)
+}
+
+/// Puts a slot under its name, and returns its place. The guessed one is tried first.
+fn put_slot<'u, 'a>(
+    slots: &mut Vec<Slot<'u, 'a>>,
+    slot: Slot<'u, 'a>,
+    guess: usize,
+) -> Result<usize, NoMemory>
+    requires { AreSlots slots.old.items }
+    ensures ok { OnOk result (slots.new.items ≡ put_slot slot.entry slots.old.items) }
+    ensures place { IfOk result (λ place. place < length slots.new.items) }
+    ensures err { OnErr result (slots.new.items ≡ slots.old.items) }
+    ensures ordered { AreSlots slots.new.items }
+{
+    match place_near(slots, slot.name(), guess) {
+        Ok(place) => {
+            slots[place] = slot;
+            Ok(place)
+        }
+        Err(place) => {
+            slots.insert(place, slot)?;
+            Ok(place)
+        }
+    }
+}
+
+/// A slot for each of unstable's sources, as if testing had none of them.
+fn absent_sources<'u, 'a>(
+    alloc: Global,
+    unstable: &'u [Box<UploadIn>],
+) -> Result<Vec<Slot<'u, 'a>>, NoMemory>
+    requires { AreBySource (unboxed unstable.now) }
+    ensures none { IfOk result (λ slots. sources_of slots.items ≡ []) }
+    ensures ordered { IfOk result (λ slots. AreSlots slots.items) }
+{
+    let mut slots = Vec::with_capacity(alloc, unstable.len())?;
+    for upload in unstable {
+        slots.push(Slot::Absent(upload))?;
+    }
+    Ok(slots)
+}
+
+/// Testing's sources are lent to their slots.
+fn lend_sources<'u, 'a>(
+    slots: &mut Vec<Slot<'u, 'a>>,
+    testing: &'a [SourceIn],
+) -> Result<(), NoMemory>
+    requires none { sources_of slots.old.items ≡ [] }
+    requires slots { AreSlots slots.old.items }
+    requires order { AreByName testing.now }
+    ensures ok { OnOk result (sources_of slots.new.items ≡ testing.now) }
+    ensures ordered { AreSlots slots.new.items }
+{
+    let mut guess = 0;
+    for source in testing {
+        guess = put_slot(slots, Slot::Stays(source), guess)? + 1;
     }
     Ok(())
 }
 
-/// Takes out the source of a name.
-pub fn take_source(sources: &mut Vec<LiveSource>, name: &str)
-    requires { AreByName (sources_of sources.old.items) }
-    ensures sources { sources_of sources.new.items ≡ filter (λ x. not (bytes_eq x.name name.now)) (sources_of sources.old.items) }
-    ensures ordered { AreByName (sources_of sources.new.items) }
-{
-    if let Ok(place) = place_of_name(sources, name) {
-        sources.remove(place);
-    }
-}
-
 /// The sources of a group get their unstable versions.
-pub fn move_sources(
+fn move_sources<'u, 'a>(
     alloc: Global,
-    there: &mut Vec<LiveSource>,
-    sources: &[Box<UploadIn>],
+    slots: &mut Vec<Slot<'u, 'a>>,
+    unstable: &[Box<UploadIn>],
     group: &[Text],
 ) -> Result<(), NoMemory>
-    requires unstable { AreBySource (unboxed sources.now) }
-    requires order { AreByName (sources_of there.old.items) }
-    ensures ok { OnOk result (sources_of there.new.items ≡ sources_after (unboxed sources.now) group.now (sources_of there.old.items)) }
-    ensures ordered { AreByName (sources_of there.new.items) }
+    requires unstable { AreBySource (unboxed unstable.now) }
+    requires slots { AreSlots slots.old.items }
+    ensures ok { OnOk result (sources_of slots.new.items ≡ sources_after (unboxed unstable.now) group.now (sources_of slots.old.items)) }
+    ensures ordered { AreSlots slots.new.items }
 {
+    let mut guess = 0;
     for name in group {
-        if let Some(upload) = source_in(sources, name.as_str()) {
+        if let Some(upload) = source_in(unstable, name.as_str()) {
             let source = Box::new(alloc, as_source(alloc, upload)?)?;
-            put_source(there, source)?;
+            guess = put_slot(slots, Slot::Moved(source), guess)? + 1;
         }
     }
     Ok(())
 }
 
-/// The sources, lent.
-pub fn lend_sources<'a>(
-    alloc: Global,
-    sources: &'a [SourceIn],
-) -> Result<Vec<LiveSource<'a>>, NoMemory>
-    ensures { IfOk result (λ live. sources_of live.items ≡ sources.now) }
+/// Takes out the slot of a name.
+fn take_slot(slots: &mut Vec<Slot>, name: &str)
+    requires { AreSlots slots.old.items }
+    ensures slots { slots.new.items ≡ filter (λ s. not (bytes_eq (name_of s) name.now)) slots.old.items }
+    ensures ordered { AreSlots slots.new.items }
 {
-    let mut live = Vec::with_capacity(alloc, sources.len())?;
-    for source in sources {
-        live.push(LiveSource::Stays(source))?;
+    if let Ok(place) = place_of_name(slots, name) {
+        slots.remove(place);
     }
-    Ok(live)
 }
 
-/// Sources of one's own.
-pub fn own_sources(alloc: Global, live: &[LiveSource]) -> Result<Vec<SourceIn>, NoMemory>
-    ensures { IfOk result (λ sources. sources.items ≡ sources_of live.now) }
+/// Copies of testing's sources.
+fn copy_sources(alloc: Global, slots: &[Slot]) -> Result<Vec<SourceIn>, NoMemory>
+    ensures { IfOk result (λ sources. sources.items ≡ sources_of slots.now) }
 {
-    let mut sources = Vec::with_capacity(alloc, live.len())?;
-    for source in live {
-        sources.push(source.source().copy(alloc)?)?;
+    let mut sources = Vec::new(alloc);
+    for slot in slots {
+        if let Some(source) = slot.source() {
+            sources.push(source.copy(alloc)?)?;
+        }
     }
     Ok(sources)
+}
+
+/// Testing's sources during a run, by name.
+#[derive(Drop)]
+pub struct LiveSources<'u, 'a> {
+    slots: Vec<Slot<'u, 'a>>,
+}
+
+impl<'u, 'a> Model for LiveSources<'u, 'a> {
+    ghost use Rattle.std.specs.Prelude.{List};
+    ghost use Rattle.testing_live.specs.LiveSources.{sources_of, AreSlots};
+    ghost use Rattle.testing_model.specs.declared.suite.SourceIn.{SourceIn};
+
+    ghost Value = { List SourceIn };
+
+    ghost view = { λ a. sources_of a.slots.items };
+
+    ghost invariant = { λ a. AreSlots a.slots.items };
+}
+
+impl<'u, 'a> LiveSources<'u, 'a> {
+    /// Testing's sources before the run, beside unstable's, which may come.
+    pub fn new(
+        alloc: Global,
+        unstable: &'u [Box<UploadIn>],
+        testing: &'a [SourceIn],
+    ) -> Result<LiveSources<'u, 'a>, NoMemory>
+        requires unstable { AreBySource (unboxed unstable.now) }
+        requires testing { AreByName testing.now }
+        ensures { IfOk result (λ sources. sources ≡ testing.now) }
+    {
+        let mut slots = absent_sources(alloc, unstable)?;
+        lend_sources(&mut slots, testing)?;
+        Ok(LiveSources { slots })
+    }
+
+    /// The version of the source of a name.
+    pub fn version_of(&self, name: &str) -> Option<&Version>
+        ensures { option_copied result ≡ option_map (λ s. s.version) (find (λ s. bytes_eq s.name name.now) self.now) }
+    {
+        match place_of_name(&self.slots, name) {
+            Ok(place) => {
+                let source = self.slots[place].source()?;
+                Some(&source.version)
+            }
+            Err(_) => None,
+        }
+    }
+
+    /// The sources of a group get their unstable versions.
+    pub fn move_group(
+        &mut self,
+        alloc: Global,
+        unstable: &[Box<UploadIn>],
+        group: &[Text],
+    ) -> Result<(), NoMemory>
+        requires { AreBySource (unboxed unstable.now) }
+        ensures ok { OnOk result (self.new ≡ sources_after (unboxed unstable.now) group.now self.old) }
+        ensures ordered { AreByName self.new }
+    {
+        move_sources(alloc, &mut self.slots, unstable, group)
+    }
+
+    /// Takes out the source of a name.
+    pub fn remove(&mut self, name: &str)
+        ensures sources { self.new ≡ filter (λ x. not (bytes_eq x.name name.now)) self.old }
+        ensures ordered { AreByName self.new }
+    {
+        take_slot(&mut self.slots, name);
+    }
+
+    /// Copies of the sources.
+    pub fn copies(&self, alloc: Global) -> Result<Vec<SourceIn>, NoMemory>
+        ensures { IfOk result (λ sources. sources.items ≡ self.now) }
+    {
+        copy_sources(alloc, &self.slots)
+    }
 }

@@ -31,7 +31,8 @@ module _ {A K : Type 0} (key : A → K) (cmp : K → K → Ordering) where
   keys-put x [] = refl
   keys-put x (y ∷ ys) = keys-put_at _ x y ys refl (keys-put x ys)
 
-  sorted-put : IsTotalOrder cmp → (x : A) (xs : List A) → IsStrictlySortedBy cmp (map key xs) → IsStrictlySortedBy cmp (map key (put_by key cmp x xs))
+  -- one more leaves the order of the others
+  pub sorted-put : IsTotalOrder cmp → (x : A) (xs : List A) → IsStrictlySortedBy cmp (map key xs) → IsStrictlySortedBy cmp (map key (put_by key cmp x xs))
   unfolding IsStrictlySortedBy
   sorted-put o x xs h = subst (IsStrictlySortedBy cmp) (sym (keys-put x xs)) (rises-put o (key x) (map key xs) h)
 

@@ -21,9 +21,7 @@ use std::marker::Model;
 use std::mem;
 use testing_facts::{Hashes, Unstable};
 use testing_items::Archs;
-use testing_live::{
-    LiveRows, LiveSource, lend_sources, move_sources, own_sources, place_of_name, take_source,
-};
+use testing_live::{LiveRows, LiveSources};
 use testing_model::{Offender, UploadIn};
 use testing_suites::{CarriedSuites, Testing};
 
@@ -34,7 +32,7 @@ use testing_suites::{CarriedSuites, Testing};
 pub struct LiveTesting<'u, 'a> {
     archs: &'u Archs,
     unstable: Unstable<'u, 'a>,
-    sources: Vec<LiveSource<'a>>,
+    sources: LiveSources<'u, 'a>,
     rows: LiveRows,
 }
 
@@ -42,17 +40,16 @@ impl<'u, 'a> Model for LiveTesting<'u, 'a> {
     ghost use Rattle.testing_model.specs.Boxed.{unboxed};
     ghost use Rattle.testing_live.specs.Held.{held, IsLiveTesting};
     ghost use Rattle.testing_model.specs.JudgedRows.{lent};
-    ghost use Rattle.testing_live.specs.LiveSources.{sources_of};
     ghost use Rattle.testing_moves.specs.Runs.{Moment};
 
     ghost Value = { Moment };
 
     ghost view = { λ a. record {
       basis = record { archs = a.archs.now; sources = unboxed a.unstable.sources.now; rows = lent a.unstable.rows.now };
-      suite = record { sources = sources_of a.sources.items; rows = held a.rows };
+      suite = record { sources = a.sources; rows = held a.rows };
     } };
 
-    ghost invariant = { λ a. IsLiveTesting a.rows a.archs.now (unboxed a.unstable.sources.now) (lent a.unstable.rows.now) (sources_of a.sources.items) };
+    ghost invariant = { λ a. IsLiveTesting a.rows a.archs.now (unboxed a.unstable.sources.now) (lent a.unstable.rows.now) a.sources };
 }
 
 impl<'u, 'a> LiveTesting<'u, 'a> {
@@ -74,7 +71,7 @@ impl<'u, 'a> LiveTesting<'u, 'a> {
         }) }
     {
         let rows = LiveRows::new(alloc, archs, unstable, testing, candidates, kept)?;
-        let sources = lend_sources(alloc, testing.sources())?;
+        let sources = LiveSources::new(alloc, unstable.sources, testing.sources())?;
         Ok(LiveTesting {
             archs,
             unstable,
@@ -87,10 +84,7 @@ impl<'u, 'a> LiveTesting<'u, 'a> {
     pub fn version_of(&self, name: &str) -> Option<&Version>
         ensures { option_copied result ≡ excuses.testing_version self.now.suite name.now }
     {
-        match place_of_name(&self.sources, name) {
-            Ok(place) => Some(&self.sources[place].source().version),
-            Err(_) => None,
-        }
+        self.sources.version_of(name)
     }
 
     /// Unstable's sources.
@@ -163,7 +157,7 @@ impl<'u, 'a> LiveTesting<'u, 'a> {
             return Ok(offender);
         }
         breaking::wake_by_change(&self.rows, &change, refusals);
-        move_sources(alloc, &mut self.sources, self.unstable.sources, group)?;
+        self.sources.move_group(alloc, self.unstable.sources, group)?;
         let rows = mem::replace(&mut self.rows, LiveRows::Listed(Vec::new(alloc)));
         self.rows = rows.moved(alloc, self.unstable, group, change)?;
         Ok(offender)
@@ -186,7 +180,7 @@ impl<'u, 'a> LiveTesting<'u, 'a> {
         ensures { OnOk result (self.new ≡ after_removal name.now self.old) }
     {
         let rows = mem::replace(&mut self.rows, LiveRows::Listed(Vec::new(alloc)));
-        take_source(&mut self.sources, name.as_str());
+        self.sources.remove(name.as_str());
         self.rows = rows.without(alloc, name)?;
         Ok(())
     }
@@ -201,7 +195,7 @@ impl<'u, 'a> LiveTesting<'u, 'a> {
             sources,
             rows,
         } = self;
-        let sources = own_sources(alloc, &sources)?;
+        let sources = sources.copies(alloc)?;
         let (rows, kept) = rows.into_parts(alloc)?;
         Testing::of(alloc, sources, rows, kept)
     }

@@ -2,7 +2,6 @@ use Rattle.std.proofs.Common.{◌≡◌, IfOk, IfSome, false, subst}
 use Rattle.std.specs.Option.{is_none}
 use Rattle.testing_items.proofs.Weaker.{if_ok_weaker}
 use Rattle.testing_live.specs.Held.{held}
-use Rattle.testing_live.specs.LiveSources.{sources_of}
 use Rattle.testing_live.proofs.Unmet.{if_some_weaker}
 use Rattle.testing_model.specs.Boxed.{unboxed}
 use Rattle.testing_model.specs.JudgedRows.{lent}
@@ -24,7 +23,7 @@ returns-clause-refused c =
     let group = c.args.group.now in
     let a = c.self.inside in
     let archs = a.archs.now in
-    let t : Suite = record { sources = sources_of a.sources.items; rows = held a.rows } in
+    let t : Suite = record { sources = a.sources; rows = held a.rows } in
     let live = c.self.invariant.live in
     let refused = lack_refused (unboxed a.unstable.sources.now) (lent a.unstable.rows.now) group t c.self.invariant.order.by_key c.self.invariant.in_order.by_key archs in
     subst (λ (m : Moment). IfOk c.lack_by_move.result (λ found. IfSome found (λ clause. is_none (broken_by_move group m) ≡ false))) c.self.view_is

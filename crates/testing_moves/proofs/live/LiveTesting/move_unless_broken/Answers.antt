@@ -22,7 +22,7 @@ invariant_of-self-in_err-self-inside c =
     record {
       order = c.self.invariant.order;
       in_order = record {
-        by_name = c.move_sources.ensures.ordered;
+        by_name = c.move_group.ensures.ordered;
         by_key = subst (λ l. AreByKey (held l)) (sym c.replace-rows.ensures.after) (subst AreByKey (sym c.new.ensures.items) by_key-none);
       };
       live = subst (λ l. AreLive l archs unstable) (sym c.replace-rows.ensures.after) tt;
@@ -50,7 +50,7 @@ returns-clause-moved c = λ none.
     let live = subst (λ l. AreLive l archs unstable) (sym before) c.self.invariant.live in
     let moved = c.in_ok-self-inside.ensures.rows archs live ∙ ap (λ l. moved_rows us unstable group (held l)) before in
     let with_lists : List SourceIn → List RowIn → Moment = λ ss rs. record { basis = record { archs = archs; sources = us; rows = unstable }; suite = record { sources = ss; rows = rs } } in
-    ap₂ with_lists c.in_ok-move_sources.ensures.ok moved ∙ ap (after_move group) c.self.view_is
+    ap₂ with_lists c.in_ok-self-inside-sources.ensures.ok moved ∙ ap (after_move group) c.self.view_is
 
 pub returns-clause-same : goal.returns-clause-same
 returns-clause-same c = λ some. absurd (false≢true (sym c.if-is_some.false ∙ c.is_some.ensures ∙ some))

@@ -2,7 +2,6 @@ use Rattle.std.proofs.Common.{◌∙◌, ap, subst}
 use Rattle.testing_install.specs.Closed.{marked}
 use Rattle.testing_items.proofs.Weaker.{if_ok_weaker}
 use Rattle.testing_live.specs.Held.{held}
-use Rattle.testing_live.specs.LiveSources.{sources_of}
 use Rattle.testing_model.specs.Boxed.{unboxed}
 use Rattle.testing_model.specs.JudgedRows.{lent}
 use Rattle.testing_moves.specs.Refusals.{AreRefused}
@@ -15,7 +14,7 @@ returns c =
     let a = c.self.inside in
     let m : Moment = record {
       basis = record { archs = a.archs.now; sources = unboxed a.unstable.sources.now; rows = lent a.unstable.rows.now };
-      suite = record { sources = sources_of a.sources.items; rows = held a.rows };
+      suite = record { sources = a.sources; rows = held a.rows };
     } in
     if_ok_weaker _ _ c.no_refusals.result
     (λ refusals is excuses. subst (λ (n : Moment). AreRefused n excuses refusals) c.self.view_is

@@ -17,7 +17,7 @@ invariant_of-self c =
     record {
       order = c.self.invariant.order;
       in_order = record {
-        by_name = c.take_source.ensures.ordered;
+        by_name = c.remove.ensures.ordered;
         by_key = subst (λ l. AreByKey (held l)) (sym c.replace-rows.ensures.after) (subst AreByKey (sym c.new.ensures.items) by_key-none);
       };
       live = subst (λ l. AreLive l archs unstable) (sym c.replace-rows.ensures.after) tt;
@@ -32,5 +32,5 @@ returns c =
     let live = subst (λ l. AreLive l archs unstable) (sym c.replace-rows.ensures.value) c.self.invariant.live in
     let left = c.in_ok-self-inside.ensures.rows archs unstable live ∙ ap (λ l. rows_without name (held l)) c.replace-rows.ensures.value in
     let with_lists : List SourceIn → List RowIn → Moment = λ ss rs. record { basis = record { archs = archs; sources = us; rows = unstable }; suite = record { sources = ss; rows = rs } } in
-    let sources = rw c.as_str.ensures at c.take_source.ensures.sources in
+    let sources = rw c.as_str.ensures at c.remove.ensures.sources in
     ap₂ with_lists sources left ∙ ap (after_removal name) c.self.view_is

@@ -1,7 +1,0 @@
-use Rattle.std.proofs.Common.{◌≡◌, take}
-use Rattle.testing_live.specs.LiveSources.{sources_of}
-use Rattle.testing_live.proofs.live_sources.own_sources.Given as goal
-
--- those so far
-abbrev pub invariant-loop-source : goal.invariant-loop-source
-invariant-loop-source l = l.sources.items ≡ sources_of (take l.source-index l.live)
