@@ -3,13 +3,14 @@
 ghost use Rattle.std.specs.Prelude.{◌≡◌, IfOk};
 ghost use Rattle.std.specs.String.{string_bytes};
 
+use deb_version::SmallString;
 use std::alloc::{AllocError, Global};
 use std::marker::Model;
 
 /// A text. Contracts see its bytes.
 #[derive(Debug)]
 pub struct Text {
-    text: String,
+    text: SmallString,
 }
 
 impl Drop for Text {
@@ -20,11 +21,9 @@ impl Drop for Text {
 
 impl Model for Text {
     ghost use Rattle.std.specs.Prelude.{List, ℕ};
-    ghost use Rattle.std.specs.String.{string_bytes};
-
     ghost Value = { List ℕ };
 
-    ghost view = { λ a. string_bytes a.text };
+    ghost view = { λ a. a.text };
 }
 
 impl Text {
@@ -32,7 +31,7 @@ impl Text {
     pub fn from_str(alloc: Global, text: &str) -> Result<Text, AllocError>
         ensures { IfOk result (λ t. t ≡ text.now) }
     {
-        let text = String::from_str(alloc, text)?;
+        let text = SmallString::from_str(alloc, text)?;
         Ok(Text { text })
     }
 
@@ -40,15 +39,9 @@ impl Text {
     pub fn from_string(text: String) -> Text
         ensures { result ≡ string_bytes text }
     {
-        Text { text }
-    }
-
-    /// The text as a string. It takes no memory.
-    pub fn into_string(self) -> String
-        ensures { string_bytes result ≡ self }
-    {
-        let Text { text } = self;
-        text
+        Text {
+            text: SmallString::from_string(text),
+        }
     }
 
     /// The text as a slice.

@@ -3,6 +3,7 @@ pub mod Digits
 pub mod Key
 pub mod Front
 pub mod Text
+pub mod SmallString
 pub mod Split
 pub mod Order
 pub mod Laws

@@ -11,10 +11,12 @@ ghost use Rattle.deb_version.specs.Order.{version_cmp};
 mod faults;
 mod lent;
 mod parts;
+mod small_string;
 mod split;
 
 pub use faults::{CompareFault, NoMemory, VersionFault};
 pub use lent::compare_texts;
+pub use small_string::SmallString;
 use split::{Split, order_split, split_text};
 use std::alloc::Global;
 use std::cmp::Ordering;
@@ -22,7 +24,7 @@ use std::marker::Model;
 
 /// A version, `[epoch:]upstream[-revision]` (Debian Policy 5.6.12). Contracts see its text, a list of bytes.
 pub struct Version {
-    text: String,
+    text: SmallString,
     split: Split,
 }
 
@@ -34,15 +36,14 @@ impl Drop for Version {
 
 impl Model for Version {
     ghost use Rattle.std.specs.Prelude.{List, ℕ};
-    ghost use Rattle.std.specs.String.{string_bytes};
     ghost use Rattle.deb_version.specs.Text.{IsVersion};
     ghost use Rattle.deb_version.specs.Split.{IsSplit};
 
     ghost Value = { List ℕ };
 
-    ghost view = { λ v. string_bytes v.text };
+    ghost view = { λ v. v.text };
 
-    ghost invariant = { λ v. IsVersion (string_bytes v.text) × IsSplit (string_bytes v.text) v.split.epoch v.split.start v.split.upstream_len };
+    ghost invariant = { λ v. IsVersion v.text × IsSplit v.text v.split.epoch v.split.start v.split.upstream_len };
 }
 
 impl Version {
@@ -55,7 +56,7 @@ impl Version {
         ensures fault { IfErr result (λ e. e ≡ unwrap_or (version_fault text.now) VersionFault.NoMemory) }
     {
         let split = split_text(text.as_bytes())?;
-        let text = String::from_str(alloc, text).map_err(|_| VersionFault::NoMemory)?;
+        let text = SmallString::from_str(alloc, text).map_err(|_| VersionFault::NoMemory)?;
         Ok(Version { text, split })
     }
 
@@ -65,9 +66,9 @@ impl Version {
         ensures { result ≡ version_cmp self.now other.now }
     {
         order_split(
-            self.text.as_bytes(),
+            self.text.as_str().as_bytes(),
             self.split,
-            other.text.as_bytes(),
+            other.text.as_str().as_bytes(),
             other.split,
         )
     }
@@ -84,7 +85,7 @@ impl Version {
     pub fn copy(&self, alloc: Global) -> Result<Version, NoMemory>
         ensures { IfOk result (λ v. v ≡ self.now) }
     {
-        let text = String::from_str(alloc, self.text())?;
+        let text = SmallString::from_str(alloc, self.text())?;
         Ok(Version {
             text,
             split: self.split,
