@@ -21,6 +21,7 @@ impl Drop for Text {
 
 impl Model for Text {
     ghost use Rattle.std.specs.Prelude.{List, ℕ};
+
     ghost Value = { List ℕ };
 
     ghost view = { λ a. a.text };

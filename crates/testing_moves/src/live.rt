@@ -157,7 +157,8 @@ impl<'u, 'a> LiveTesting<'u, 'a> {
             return Ok(offender);
         }
         breaking::wake_by_change(&self.rows, &change, refusals);
-        self.sources.move_group(alloc, self.unstable.sources, group)?;
+        self.sources
+            .move_group(alloc, self.unstable.sources, group)?;
         let rows = mem::replace(&mut self.rows, LiveRows::Listed(Vec::new(alloc)));
         self.rows = rows.moved(alloc, self.unstable, group, change)?;
         Ok(offender)

@@ -50,7 +50,7 @@ returns-clause-moved c = λ none.
     let live = subst (λ l. AreLive l archs unstable) (sym before) c.self.invariant.live in
     let moved = c.in_ok-self-inside.ensures.rows archs live ∙ ap (λ l. moved_rows us unstable group (held l)) before in
     let with_lists : List SourceIn → List RowIn → Moment = λ ss rs. record { basis = record { archs = archs; sources = us; rows = unstable }; suite = record { sources = ss; rows = rs } } in
-    ap₂ with_lists c.in_ok-self-inside-sources.ensures.ok moved ∙ ap (after_move group) c.self.view_is
+    ap₂ with_lists c.in_ok-move_group.ensures.ok moved ∙ ap (after_move group) c.self.view_is
 
 pub returns-clause-same : goal.returns-clause-same
 returns-clause-same c = λ some. absurd (false≢true (sym c.if-is_some.false ∙ c.is_some.ensures ∙ some))
