@@ -3,6 +3,7 @@ pub mod LineFronts
 pub mod Paragraphs
 pub mod Reader
 pub mod ReaderSteps
+pub mod Alternatives
 pub mod Relations
 pub mod ClauseSteps
 pub mod Binary

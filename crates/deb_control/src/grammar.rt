@@ -82,9 +82,8 @@ fn read_clause(alloc: Global, item: &str) -> Result<Clause, RelationFault>
 fn read_only_one(alloc: Global, item: &str) -> Result<Clause, RelationFault>
     ensures { Gives result (only_one item.now) }
 {
-    let mut alternatives = Vec::with_capacity(alloc, 1)?;
-    alternatives.push(read_alternative(alloc, Signs::Any, item)?)?;
-    Ok(Clause::new(alternatives))
+    let alternative = read_alternative(alloc, Signs::Any, item)?;
+    Ok(Clause::one(alternative))
 }
 
 /// The alternatives of a clause, which a `|` separates.

@@ -1,6 +1,6 @@
 //! Relations between packages (Debian Policy 7).
 
-ghost use Rattle.std.specs.Prelude.{◌≡◌, IfOk};
+ghost use Rattle.std.specs.Prelude.{◌≡◌, ◌∷◌, [], IfOk};
 ghost use Rattle.std.specs.Option.{option_map};
 ghost use Rattle.deb_control.specs.Relations.{holds, allows};
 
@@ -10,6 +10,7 @@ use std::alloc::{AllocError, Global};
 use std::cmp::Ordering;
 use std::marker::Model;
 use std::rc::Rc;
+use std::slice;
 
 /// How a version is compared with the one that a relation states (Debian Policy 7.1).
 #[derive(Clone, Copy, Debug, PartialEq, Eq)]
@@ -126,9 +127,16 @@ impl Provision {
     }
 }
 
+/// The alternatives of a clause. Nearly each clause has one, which takes no memory of its own.
+#[derive(Drop)]
+enum Alternatives {
+    One(Alternative),
+    Several(Vec<Alternative>),
+}
+
 /// Alternatives, of which one is to be met (Debian Policy 7.1). Contracts see the list of them.
 pub struct Clause {
-    alternatives: Vec<Alternative>,
+    alternatives: Alternatives,
 }
 
 impl Drop for Clause {
@@ -139,44 +147,55 @@ impl Drop for Clause {
 
 impl Model for Clause {
     ghost use Rattle.std.specs.Prelude.{List};
+    ghost use Rattle.deb_control.specs.Alternatives.{alternatives_of};
     ghost use Rattle.deb_control.specs.declared.relation.Alternative.{Alternative};
 
     ghost Value = { List Alternative };
 
-    ghost view = { λ a. a.alternatives.items };
+    ghost view = { λ a. alternatives_of a.alternatives };
 }
 
 impl Clause {
+    /// The clause of one alternative. It takes no memory.
+    pub fn one(alternative: Alternative) -> Clause
+        ensures { result ≡ alternative ∷ [] }
+    {
+        Clause {
+            alternatives: Alternatives::One(alternative),
+        }
+    }
+
     /// The clause of these alternatives. It takes no memory, and what room is left over in the vector is given back.
     pub fn new(alternatives: Vec<Alternative>) -> Clause
         ensures { result ≡ alternatives.items }
     {
         let mut alternatives = alternatives;
         alternatives.shrink_to_fit();
-        Clause { alternatives }
+        Clause {
+            alternatives: Alternatives::Several(alternatives),
+        }
     }
 
     /// The alternatives, in the order in which they are written.
     pub fn as_slice(&self) -> &[Alternative]
         ensures { result.now ≡ self.now }
     {
-        self.alternatives.as_slice()
-    }
-
-    /// The alternatives as a vector. It takes no memory.
-    pub fn into_vec(self) -> Vec<Alternative>
-        ensures { result.items ≡ self }
-    {
-        let Clause { alternatives } = self;
-        alternatives
+        match &self.alternatives {
+            Alternatives::One(alternative) => slice::from_ref(alternative),
+            Alternatives::Several(alternatives) => alternatives.as_slice(),
+        }
     }
 
     /// An equal clause.
     pub fn copy(&self, alloc: Global) -> Result<Clause, NoMemory>
         ensures { IfOk result (λ c. c ≡ self.now) }
     {
-        let alternatives = copy_alternatives(alloc, &self.alternatives)?;
-        Ok(Clause { alternatives })
+        match &self.alternatives {
+            Alternatives::One(alternative) => Ok(Clause::one(alternative.copy(alloc)?)),
+            Alternatives::Several(alternatives) => {
+                Ok(Clause::new(copy_alternatives(alloc, alternatives)?))
+            }
+        }
     }
 }
 
