@@ -2,7 +2,7 @@
 use Rattle.std.proofs.Common.{◌≡◌, ℕ, ◌+◌, ◌-◌, ◌*◌, ◌<◌, ◌≤◌, ◌⊎◌, min, Option, Some, None, List, [], ◌∷◌, ◌++◌, length, take, drop, replicate, sym, ap, subst, ◌∙◌, refl, arith, codes, decimal, inl, inr, ⊎_elim}
 use Rattle.std.specs.Io.KnownBytes.{Consumes, prepend_known}
 use Rattle.std.proofs.KnownBytes.{Consumes-nil, Consumes-trans}
-use Rattle.std.proofs.lemmas.List.{append_assoc, append-nil, length-append, take-append-le, length-take, take-append-drop, take_all, length-replicate, length-take-le}
+use Rattle.std.proofs.lemmas.List.{append_assoc, append-nil, length-append, take-append-le, length-take, length-drop, drop-drop, take-append-drop, take_all, length-replicate, length-take-le}
 use Rattle.std.proofs.lemmas.Bool.{cases_lt, le-leb}
 use Rattle.std.proofs.Math.Seq.{take-nil}
 use Rattle.office_mail.specs.Bag.{header, handed, BeginsHeader, IsCutHeader, IsTruncated, EndsSo}
@@ -274,3 +274,29 @@ whole_message a b c n message small line body = record {
   same = body.same;
   took = Consumes-trans a.left b.left c.left (header (length body.whole)) body.whole (rw body.size line) body.took;
 }
+
+-- ---- a message that has come whole
+
+-- the bytes that wait lose their front
+front_taken : (pending : List ℕ) (at n : ℕ) (unread : Option (List ℕ)) → Consumes (prepend_known (drop at pending) unread) (prepend_known (drop (at + n) pending) unread) (take n (drop at pending))
+front_taken pending at n None = tt
+front_taken pending at n (Some xs) =
+    let front : List ℕ = take n (drop at pending) in
+    ap (λ (l : List ℕ). l ++ xs) (sym (take-append-drop n (drop at pending)))
+    ∙ append_assoc front (drop n (drop at pending)) xs
+    ∙ ap (λ (l : List ℕ). front ++ (l ++ xs)) (drop-drop n at pending)
+
+-- a message is the next n of the bytes that wait
+pub body_copied : (a b : Reading) (pending message : List ℕ) (unread : Option (List ℕ)) (at n : ℕ) → a.left ≡ prepend_known (drop at pending) unread → b.left ≡ prepend_known (drop (at + n) pending) unread
+    → at + n ≤ length pending → n ≤ 65_536 → message ≡ take n (drop at pending) → TakesBody a b n message
+unfolding handed
+body_copied a b pending message unread at n before after whole short copy = record {
+  whole = take n (drop at pending);
+  size = length-take-le n (drop at pending) (omega (arith, length-drop at pending, whole));
+  same = copy ∙ sym (take_all 65_537 (take n (drop at pending)) (omega (arith, length-take n (drop at pending), short)));
+  took = rw (before, after) (front_taken pending at n unread);
+}
+
+-- no memory is left for bytes that wait
+pub copy_without_memory : (a : Reading) (n : ℕ) (bytes : List ℕ) → Consumes a.left a.unread bytes → BreaksOff a a n NoMemory
+copy_without_memory a n bytes came = record { rest = bytes; came = came; short = tt; met = tt }

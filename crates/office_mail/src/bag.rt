@@ -1,5 +1,5 @@
 //! Bags: messages one after another, each behind a line that says how long it is.
-ghost use Rattle.std.specs.Prelude.{◌≡◌, ℕ, ◌+◌, ◌<◌, ◌≤◌, ◌⊎◌, nat_lt, List, [], ◌∷◌, ◌++◌, IsTrue, ◌↔◌, Some, None, Ok, Err, IsSome, IfSome, OnOk, OnErr, IfOk, IfErr, true, false, IsErrOf, vec_len};
+ghost use Rattle.std.specs.Prelude.{◌≡◌, ℕ, ◌+◌, ◌<◌, ◌≤◌, ◌⊎◌, nat_lt, List, [], ◌∷◌, ◌++◌, IsTrue, ◌↔◌, Some, None, Ok, Err, IsSome, IfSome, OnOk, OnErr, IfOk, IfErr, true, false, IsErrOf, vec_len, length, take, drop};
 ghost use Rattle.std.specs.Io.KnownBytes.{Consumes, IsAtEnd, Keeps};
 ghost use Rattle.office_mail.specs.Counts.{HasRisen};
 ghost use Rattle.office_mail.specs.Bag.{header, handed, ReadsOneWay};
@@ -170,8 +170,24 @@ impl<R: Feed> Bag<R> {
         }
     }
 
-    /// A message of that length.
+    /// A message of that length. If all of its bytes have come, they are copied at once.
     fn body(&mut self, length: u32) -> Result<Vec<u8>, BagFault>
+        ensures whole { IfOk result (λ message. TakesBody self.old self.new length message.items) }
+        ensures fault { IfErr result (λ fault. BreaksOff self.old self.new length fault) }
+        ensures cause { IsErrOf result BagFault.ReadFault → ReadFails self.old self.new }
+        ensures clean { IsErrOf result BagFault.ReadFault ⊎ (self.new.failures ≡ self.old.failures) }
+        ensures goes_on { GoesOn self.old self.new }
+    {
+        if has_come(&self.pending, self.at, length) {
+            let message = copied(self.alloc, &self.pending, self.at, length)?;
+            self.at += length as usize;
+            return Ok(message);
+        }
+        self.body_by_bytes(length)
+    }
+
+    /// A message of that length, byte by byte.
+    fn body_by_bytes(&mut self, length: u32) -> Result<Vec<u8>, BagFault>
         ensures whole { IfOk result (λ message. TakesBody self.old self.new length message.items) }
         ensures fault { IfErr result (λ fault. BreaksOff self.old self.new length fault) }
         ensures cause { IsErrOf result BagFault.ReadFault → ReadFails self.old self.new }
@@ -308,6 +324,29 @@ impl Line {
             place: self.place + 1,
             value: self.value * 10 + u32::from(byte - b'0'),
         })
+    }
+}
+
+/// A message of so many bytes has come whole, from a place on, and it has no surplus.
+fn has_come(pending: &[u8], at: usize, count: u32) -> bool
+    requires { at ≤ length pending.now }
+    ensures whole { result ≡ true → at + count ≤ length pending.now }
+    ensures short { result ≡ true → count ≤ 65_536 }
+{
+    let count = count as usize;
+    count <= LONGEST && count <= pending.len() - at
+}
+
+/// So many of the bytes, from a place on.
+fn copied(alloc: Global, pending: &[u8], at: usize, count: u32) -> Result<Vec<u8>, BagFault>
+    requires { at + count ≤ length pending.now }
+    ensures bytes { IfOk result (λ message. message.items ≡ take count (drop at pending.now)) }
+    ensures fault { IfErr result (λ fault. fault ≡ BagFault.NoMemory) }
+{
+    let end = at + count as usize;
+    match pending[at..end].to_vec(alloc) {
+        Ok(message) => Ok(message),
+        Err(_) => Err(BagFault::NoMemory),
     }
 }
 

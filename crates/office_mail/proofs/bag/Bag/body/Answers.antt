@@ -1,55 +1,24 @@
-use Rattle.std.proofs.Common.{refl, arith, rules}
-use Rattle.std.proofs.lemmas.Result.{IfOk-from_err, err_from_is_err_and}
-use Rattle.office_mail.proofs.BagFacts.{body_none, body_more, body_stops, body_without_memory, goes_on_twice, fails_later}
+use Rattle.std.proofs.Common.{◌≡◌, ℕ, ◌+◌, ◌≤◌, List, length, take, drop, ap, sym, refl, subst}
+use Rattle.std.proofs.lemmas.Result.{err_from_is_err_and}
+use Rattle.office_mail.specs.BagReads.{BreaksOff}
+use Rattle.office_mail.specs.Reading.{Reading}
+use Rattle.office_mail.specs.declared.bag.BagFault.TheVariants.{NoMemory}
+use Rattle.office_mail.proofs.BagFacts.{waits_before, body_copied, copy_without_memory}
 use Rattle.office_mail.proofs.bag.Bag.body.Goals as goal
 
-pub loop-i-init : goal.loop-i-init
-loop-i-init g c = record {
-  body = rw c.new-message.ensures.items (body_none c.args.self.now);
-  clean = refl;
-  goes_on = record { failures = omega arith; counts = (omega arith, omega arith); calls = omega arith; room = omega arith; ended = refl };
-}
-
-pub returns-in_err-byte-clause-fault : goal.returns-in_err-byte-clause-fault
-returns-in_err-byte-clause-fault g c =
+pub returns-in_err-message-clause-fault : goal.returns-in_err-message-clause-fault
+returns-in_err-message-clause-fault g c =
+    let bag = c.self.inside in
+    let waiting : List ℕ = drop bag.at bag.pending.items in
     let p = err_from_is_err_and c.from_residual.result c.from_residual.ensures.1 in
-    rw (p.1, p.2) (body_stops c.args.self.now c.loop-i.self c.next_byte.new.self c.loop-i._i c.args.length c.loop-i.message.items c.in_err-byte.field-0.0 c.loop-i.invariant.body (omega arith) c.in_err-byte.ensures.fault)
+    rw (p.1, p.2, c.in_err-message.ensures.fault)
+    (subst (λ (r : Reading). BreaksOff r r c.args.length NoMemory) c.self.view_is (copy_without_memory _ c.args.length waiting (waits_before waiting (g.R.Feed.left bag.reader))))
 
-pub returns-in_err-hand_out-clause-fault : goal.returns-in_err-hand_out-clause-fault
-returns-in_err-hand_out-clause-fault g c =
-    let p = err_from_is_err_and c.from_residual-in_err-hand_out.result c.from_residual-in_err-hand_out.ensures.1 in
-    rw (p.1, p.2, c.in_err-hand_out.ensures.fault) (body_without_memory c.args.self.now c.loop-i.self c.next_byte.new.self c.loop-i._i c.args.length c.in-Some.byte c.loop-i.message.items c.loop-i.invariant.body (rw c.in-Some.is at c.in_ok-byte.ensures.byte) c.in_ok-byte.ensures.waits)
-
-pub returns-in_err-byte-clause-cause : goal.returns-in_err-byte-clause-cause
-returns-in_err-byte-clause-cause g c =
-    let p = err_from_is_err_and c.from_residual.result c.from_residual.ensures.1 in
-    rw (p.1, p.2) (λ e. fails_later c.args.self.now c.loop-i.self c.next_byte.new.self c.loop-i.invariant.clean (c.in_err-byte.ensures.cause (cc)))
-
-pub returns-in_err-byte-clause-goes_on : goal.returns-in_err-byte-clause-goes_on
-returns-in_err-byte-clause-goes_on g c = goes_on_twice c.args.self.now c.loop-i.self c.next_byte.new.self c.loop-i.invariant.goes_on c.next_byte.ensures.goes_on
-
-pub returns-in_default-clause-goes_on : goal.returns-in_default-clause-goes_on
-returns-in_default-clause-goes_on g c = goes_on_twice c.args.self.now c.loop-i.self c.next_byte.new.self c.loop-i.invariant.goes_on c.next_byte.ensures.goes_on
-
-pub returns-in_err-hand_out-clause-goes_on : goal.returns-in_err-hand_out-clause-goes_on
-returns-in_err-hand_out-clause-goes_on g c = goes_on_twice c.args.self.now c.loop-i.self c.next_byte.new.self c.loop-i.invariant.goes_on c.next_byte.ensures.goes_on
-
-pub returns-in_default-clause-fault : goal.returns-in_default-clause-fault
-returns-in_default-clause-fault g c =
-    body_stops c.args.self.now c.loop-i.self c.next_byte.new.self c.loop-i._i c.args.length c.loop-i.message.items _ c.loop-i.invariant.body (omega arith) (c.in_ok-byte.ensures.end (rw c.in_default.is refl))
-
-pub loop-i-preserved : goal.loop-i-preserved
-loop-i-preserved g c = record {
-  body = body_more c.args.self.now c.loop-i.self c.next_byte.new.self c.loop-i._i c.in-Some.byte c.loop-i.message.items _ c.loop-i.invariant.body (rw c.in-Some.is at c.in_ok-byte.ensures.byte) c.in_ok-hand_out.ensures.handed;
-  clean = search rules;
-  goes_on = goes_on_twice c.args.self.now c.loop-i.self c.next_byte.new.self c.loop-i.invariant.goes_on c.next_byte.ensures.goes_on;
-}
-
-pub returns-clause-whole : goal.returns-clause-whole
-returns-clause-whole g c = search rules
-
-pub returns-in_err-byte-clause-whole : goal.returns-in_err-byte-clause-whole
-returns-in_err-byte-clause-whole g c = IfOk-from_err c.from_residual.result _ c.from_residual.ensures.0
-
-pub returns-in_err-hand_out-clause-whole : goal.returns-in_err-hand_out-clause-whole
-returns-in_err-hand_out-clause-whole g c = IfOk-from_err c.from_residual-in_err-hand_out.result _ c.from_residual-in_err-hand_out.ensures.0
+pub returns-then-has_come-clause-whole : goal.returns-then-has_come-clause-whole
+returns-then-has_come-clause-whole g c =
+    let bag = c.self.inside in
+    let n = c.args.length in
+    let message : List ℕ = c.in_ok-message.message.items in
+    let copy : message ≡ take n (drop bag.at bag.pending.items) = subst (λ (l : List ℕ). message ≡ take n (drop bag.at l)) c.deref-then-has_come.ensures.value c.in_ok-message.ensures.bytes in
+    let whole : bag.at + n ≤ length bag.pending.items = subst (λ (l : List ℕ). bag.at + n ≤ length l) c.deref.ensures.value (c.has_come.ensures.whole c.if-has_come.true) in
+    body_copied c.args.self.now _ bag.pending.items message (g.R.Feed.left bag.reader) bag.at n (ap (λ (r : Reading). r.left) (sym c.self.view_is)) refl whole (c.has_come.ensures.short c.if-has_come.true) copy

@@ -1,6 +1,6 @@
 use Rattle.std.proofs.Common.{◌≡◌}
 use Rattle.office_mail.specs.BagReads.{GoesOn, TakesBody}
-use Rattle.office_mail.proofs.bag.Bag.body.Given as goal
+use Rattle.office_mail.proofs.bag.Bag.body_by_bytes.Given as goal
 
 abbrev pub invariant-loop-i : goal.invariant-loop-i
 invariant-loop-i g l = record {
