@@ -1,5 +1,6 @@
 pub mod Grounds
 pub mod HintGroups
+pub mod LentGroups
 pub mod NewsGroups
 pub mod OwnHints
 pub mod OwnPart

@@ -15,6 +15,7 @@ use Rattle.testing_excuses.specs.declared.by_source.Grouped.{Grouped}
 use Rattle.testing_excuses.specs.declared.by_source.News.{News}
 use Rattle.testing_items.specs.Words.{Text}
 use Rattle.testing_excuses.specs.OwnHints.{own_hints}
+use Rattle.testing_excuses.specs.LentUploads.{uploads_lent}
 use Rattle.testing_model.specs.Suite.{Suite}
 use Rattle.testing_model.specs.FactLists.{FactLists}
 use Rattle.testing_model.specs.JudgedRows.{lent}
@@ -43,7 +44,7 @@ ground_at g name = record {
   rows = lent (group_at g.rows name);
   bugs = group_at g.bugs name;
   hints = group_at g.hints name;
-  uploads = group_at g.uploads name;
+  uploads = uploads_lent (group_at g.uploads name);
   delays = g.delays;
   date = g.date;
 }

@@ -1,3 +1,4 @@
 pub mod BySource
+pub mod LentUploads
 pub mod OwnHints
 pub mod SourceFilter

@@ -3,6 +3,7 @@
 ghost use Rattle.std.specs.Prelude.{◌≡◌, [], Some, None, if◌then◌else◌, filter, OnOk, IfOk, IsTrue};
 ghost use Rattle.std.specs.Str.{bytes_eq};
 ghost use Rattle.testing_excuses.specs.BySource.{slot_at, joined_by, group_at, ground_at, is_among};
+ghost use Rattle.testing_excuses.specs.LentUploads.{uploads_lent};
 ghost use Rattle.testing_model.specs.Boxed.{unboxed};
 ghost use Rattle.testing_model.specs.JudgedRows.{lent};
 ghost use Rattle.testing_items.specs.Words.{Text};
@@ -20,7 +21,7 @@ pub struct Found<'g, 'a> {
     pub rows: &'g [LentRow<'a>],
     pub bugs: &'g [BugIn],
     pub hints: &'g [HintIn],
-    pub uploads: &'g [UploadIn],
+    pub uploads: &'g [&'a UploadIn],
     pub delays: Delays,
     pub date: Date,
 }
@@ -28,6 +29,7 @@ pub struct Found<'g, 'a> {
 impl<'g, 'a> Model for Found<'g, 'a> {
     ghost use Rattle.testing_model.specs.Excuses.{Ground};
     ghost use Rattle.testing_model.specs.JudgedRows.{lent};
+    ghost use Rattle.testing_excuses.specs.LentUploads.{uploads_lent};
 
     ghost Value = { Ground };
 
@@ -35,7 +37,7 @@ impl<'g, 'a> Model for Found<'g, 'a> {
       rows = lent f.rows.now;
       bugs = f.bugs.now;
       hints = f.hints.now;
-      uploads = f.uploads.now;
+      uploads = uploads_lent f.uploads.now;
       delays = f.delays;
       date = f.date;
     } };
@@ -55,7 +57,7 @@ pub struct Grouped<'a> {
     pub rows: HashMap<&'a str, Vec<LentRow<'a>>>,
     pub bugs: HashMap<&'a str, Vec<BugIn>>,
     pub hints: HashMap<&'a str, Vec<HintIn>>,
-    pub uploads: HashMap<&'a str, Vec<UploadIn>>,
+    pub uploads: HashMap<&'a str, Vec<&'a UploadIn>>,
     pub delays: Delays,
     pub date: Date,
 }
@@ -110,15 +112,14 @@ fn join_bug(
 }
 
 /// An upload joins those of its source, where that has a group.
-fn join_upload(
-    alloc: Global,
-    groups: &mut HashMap<&str, Vec<UploadIn>>,
-    upload: &UploadIn,
+fn join_upload<'a>(
+    groups: &mut HashMap<&'a str, Vec<&'a UploadIn>>,
+    upload: &'a UploadIn,
 ) -> Result<(), NoMemory>
-    ensures { OnOk result ((q : Text) → slot_at groups.new q ≡ joined_by (bytes_eq q upload.now.source) upload.now (slot_at groups.old q)) }
+    ensures { OnOk result ((q : Text) → slot_at groups.new q ≡ joined_by (bytes_eq q upload.entry.now.source) upload.entry (slot_at groups.old q)) }
 {
     if let Some(group) = groups.get_mut(upload.source.as_str()) {
-        group.push(upload.copy(alloc)?)?;
+        group.push(upload)?;
     }
     Ok(())
 }
@@ -157,13 +158,13 @@ pub fn bugs_by_source<'a>(
 pub fn uploads_by_source<'a>(
     alloc: Global,
     news: &[News<'a>],
-    uploads: &[UploadIn],
-) -> Result<HashMap<&'a str, Vec<UploadIn>>, NoMemory>
-    ensures { IfOk result (λ groups. (q : Text) → IsTrue (is_among news.now q) → group_at groups q ≡ filter (λ u. bytes_eq q u.source) uploads.now) }
+    uploads: &'a [UploadIn],
+) -> Result<HashMap<&'a str, Vec<&'a UploadIn>>, NoMemory>
+    ensures { IfOk result (λ groups. (q : Text) → IsTrue (is_among news.now q) → uploads_lent (group_at groups q) ≡ filter (λ u. bytes_eq q u.source) uploads.now) }
 {
     let mut groups = groups_for(alloc, news)?;
     for upload in uploads {
-        join_upload(alloc, &mut groups, upload)?;
+        join_upload(&mut groups, upload)?;
     }
     Ok(groups)
 }

@@ -2,6 +2,7 @@
 
 ghost use Rattle.std.specs.Prelude.{◌≡◌, ◌≤◌, option_copied};
 ghost use Rattle.testing_model.specs.Excuses as rules;
+ghost use Rattle.testing_excuses.specs.LentUploads.{uploads_lent};
 
 use crate::reasons::is_named;
 use deb_version::Version;
@@ -76,8 +77,8 @@ fn counts(testing: Option<&Version>, name: &str, upload: &UploadIn) -> bool
 }
 
 /// The greatest urgency among the uploads that count.
-fn most_urgent(uploads: &[UploadIn], testing: Option<&Version>, name: &str) -> Urgency
-    ensures { result ≡ rules.most_urgent uploads.now (option_copied testing.entry) name.now }
+fn most_urgent(uploads: &[&UploadIn], testing: Option<&Version>, name: &str) -> Urgency
+    ensures { result ≡ rules.most_urgent (uploads_lent uploads.now) (option_copied testing.entry) name.now }
 {
     let mut urgency = Urgency::Low;
     for upload in uploads {
@@ -122,11 +123,11 @@ fn hinted_days(hints: &[HintIn], upload: &UploadIn) -> Option<u32>
 pub fn days_needed(
     delays: Delays,
     hints: &[HintIn],
-    uploads: &[UploadIn],
+    uploads: &[&UploadIn],
     testing: Option<&Version>,
     upload: &UploadIn,
 ) -> u32
-    ensures { result ≡ rules.days_needed delays hints.now uploads.now (option_copied testing.entry) upload.now }
+    ensures { result ≡ rules.days_needed delays hints.now (uploads_lent uploads.now) (option_copied testing.entry) upload.now }
 {
     match hinted_days(hints, upload) {
         Some(days) => days,
