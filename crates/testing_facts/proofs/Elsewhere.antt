@@ -79,6 +79,28 @@ module _ (arch : Text) where
       let end : last_of r rs ≡ y = last_is r rs y (subst (λ k. slice_get (r ∷ rs) k ≡ Some y) (let n : length (r ∷ rs) - 1 ≡ length rs = omega arith in n) last) in
       all_of_one r rs s (ap arch_of end ∙ sym ((bytes_eq-Decides (arch_of x) (arch_of y)).0 parts.0) ∙ ap arch_of (sym head)) (ap (λ (b : BuildIn). bytes_eq (arch_of b) arch) head ∙ not_one (bytes_eq (arch_of x) arch) parts.1)
 
+  abbrev is_there : BuildIn → Bool
+  is_there b = bytes_eq (arch_of b) arch
+
+  all_of_this : (x : BuildIn) (rs : List BuildIn) → AreByPair (x ∷ rs) → arch_of (last_of x rs) ≡ arch_of x → bytes_eq (arch_of x) arch ≡ true → list_all is_there (x ∷ rs) ≡ true
+  unfolding IsStrictlySortedBy
+  all_of_this x [] s e this = ap (λ b. b && true) this
+  all_of_this x (r ∷ rs) s e this =
+      let same : arch_of r ≡ arch_of x = same_text (arch_of r) (arch_of x) (subst (λ t. is_gt (byte_cmp (arch_of r) t) ≡ false) e (not_behind_last r rs s.1)) (not_later x r s.0.0) in
+      ap (λ b. b && list_all is_there (r ∷ rs)) this ∙ all_of_this r rs s.1 (e ∙ sym same) (ap (λ t. bytes_eq t arch) same ∙ this)
+
+  -- the first and the last are of the architecture
+  pub all_there : (rows : List BuildIn) (x y : BuildIn) → AreByPair rows → slice_get rows 0 ≡ Some x → slice_get rows (length rows - 1) ≡ Some y
+      → (bytes_eq (arch_of x) arch && bytes_eq (arch_of y) arch) ≡ true → list_all is_there rows ≡ true
+  all_there [] x y s first last e = refl
+  all_there (r ∷ rs) x y s first last e =
+      let parts = both_are (bytes_eq (arch_of x) arch) (bytes_eq (arch_of y) arch) e in
+      let head : r ≡ x = cc in
+      let end : last_of r rs ≡ y = last_is r rs y (subst (λ k. slice_get (r ∷ rs) k ≡ Some y) (let n : length (r ∷ rs) - 1 ≡ length rs = omega arith in n) last) in
+      let lowest : arch_of x ≡ arch = (bytes_eq-Decides (arch_of x) arch).0 parts.0 in
+      let highest : arch_of y ≡ arch = (bytes_eq-Decides (arch_of y) arch).0 parts.1 in
+      all_of_this r rs s (ap arch_of end ∙ highest ∙ sym lowest ∙ sym (ap arch_of head)) (ap (λ (b : BuildIn). bytes_eq (arch_of b) arch) head ∙ parts.0)
+
   module _ (test : BuildIn → Bool) where
     abbrev there : List BuildIn → List BuildIn
     there rows = filter (λ b. bytes_eq (arch_of b) arch) rows
@@ -93,6 +115,23 @@ module _ (arch : Text) where
           | inl t ↦ ap passing t ∙ ap (λ o. cond o (b ∷ there (filter test rows)) (there (filter test rows))) (not_one (bytes_eq (arch_of b) arch) parts.0) ∙ more
           | inr f ↦ ap passing f ∙ more
         ]
+
+    all_pass : (rows : List BuildIn) → list_all is_there rows ≡ true → there (filter test rows) ≡ filter test rows
+    all_pass [] h = refl
+    all_pass (b ∷ rows) h =
+        let parts = both_are (is_there b) (list_all is_there rows) h in
+        let kept : Bool → List BuildIn = λ t. cond t (b ∷ filter test rows) (filter test rows) in
+        let more = all_pass rows parts.1 in
+        elim (cases_Bool (test b)) [
+          | inl t ↦ ap (λ o. there (kept o)) t ∙ ap (λ o. cond o (b ∷ there (filter test rows)) (there (filter test rows))) parts.0 ∙ ap (λ bs. b ∷ bs) more ∙ sym (ap kept t)
+          | inr f ↦ ap (λ o. there (kept o)) f ∙ more ∙ sym (ap kept f)
+        ]
+
+-- of builds that are all of the architecture each that is let through adds its row
+pub all_come : (passing : SourceFilter) (builds : List BuildIn) (place : ℕ) (arch : Text) → list_all (λ (b : BuildIn). bytes_eq b.binary.architecture arch) builds ≡ true
+    → map (row_at place) (passing_builds passing builds) ≡ built_on (passing_builds passing builds) (place, arch)
+all_come passing builds place arch h =
+    sym (ap (map (row_at place)) (all_pass arch (λ (b : BuildIn). filter_passes passing b.binary.source) builds h))
 
 -- builds elsewhere add no row
 pub none_there : (rows : List RowIn) (passing : SourceFilter) (builds : List BuildIn) (place : ℕ) (arch : Text) → list_all (λ (b : BuildIn). not (bytes_eq b.binary.architecture arch)) builds ≡ true

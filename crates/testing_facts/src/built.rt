@@ -1,6 +1,6 @@
 //! Builds as rows of a suite.
 
-ghost use Rattle.std.specs.Prelude.{◌≡◌, ◌++◌, ◌&&◌, true, not, OnOk, IfOk};
+ghost use Rattle.std.specs.Prelude.{◌≡◌, ◌++◌, ◌&&◌, true, not, map, OnOk, IfOk};
 ghost use Rattle.std.specs.List.{list_all};
 ghost use Rattle.std.specs.Str.{bytes_eq};
 ghost use Rattle.testing_facts.specs.Blocks.{joined};
@@ -71,7 +71,47 @@ fn are_elsewhere(builds: &[Box<BuildIn>], arch: &str) -> bool
     }
 }
 
-/// The same, of builds in order: of those that are all of another architecture none is looked at.
+/// Both builds are of the architecture.
+fn are_both_on(first: &BuildIn, last: &BuildIn, arch: &str) -> bool
+    ensures { result ≡ (bytes_eq first.now.binary.architecture arch.now && bytes_eq last.now.binary.architecture arch.now) }
+{
+    let (lowest, highest) = (&first.binary.architecture, &last.binary.architecture);
+    lowest.as_str() == arch && highest.as_str() == arch
+}
+
+/// The builds, which are in order, are all of the architecture: the first and the last are.
+fn are_there(builds: &[Box<BuildIn>], arch: &str) -> bool
+    requires { AreByPair (unboxed builds.now) }
+    ensures { result ≡ true → list_all (λ b. bytes_eq b.binary.architecture arch.now) (unboxed builds.now) ≡ true }
+{
+    match builds.first() {
+        Some(first) => match builds.last() {
+            Some(last) => are_both_on(first, last, arch),
+            None => false,
+        },
+        None => false,
+    }
+}
+
+/// Those of the builds whose sources are let through come in as rows, at the place.
+fn push_passing<'a>(
+    rows: &mut Vec<LentRow<'a>>,
+    builds: &'a [Box<BuildIn>],
+    passing: &SourceFilter,
+    place: u32,
+) -> Result<(), NoMemory>
+    ensures { OnOk result (lent rows.new.items ≡ lent rows.old.items ++ map (unstable.row_at place) (passing_builds passing.now (unboxed builds.now))) }
+{
+    for build in builds {
+        if filter_passes(passing, &build.binary) {
+            rows.push(row_at(place, build))?;
+        }
+    }
+    Ok(())
+}
+
+/// The same, of builds in order: of those that are all of another architecture none is looked at, and of those that are
+/// all of this one no architecture is read.
 fn push_ordered<'a>(
     rows: &mut Vec<LentRow<'a>>,
     builds: &'a [Box<BuildIn>],
@@ -84,6 +124,9 @@ fn push_ordered<'a>(
 {
     if are_elsewhere(builds, arch) {
         return Ok(());
+    }
+    if are_there(builds, arch) {
+        return push_passing(rows, builds, passing, place);
     }
     push_built(rows, builds, passing, place, arch)
 }
