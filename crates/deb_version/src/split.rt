@@ -33,8 +33,23 @@ static PLACES: [u8; 256] = *b"\
 #[derive(Clone, Copy)]
 pub struct Split {
     pub epoch: u32,
-    pub start: usize,
-    pub upstream_len: usize,
+    pub start: u32,
+    pub upstream_len: u32,
+}
+
+impl Split {
+    /// The places in a text that is short enough to be a version.
+    fn of(epoch: u32, start: usize, upstream_len: usize) -> Split
+        requires start { start ≤ 256 }
+        requires upstream { upstream_len ≤ 256 }
+        ensures { result ≡ record { epoch = epoch; start = start; upstream_len = upstream_len } }
+    {
+        Split {
+            epoch,
+            start: start as u32,
+            upstream_len: upstream_len as u32,
+        }
+    }
 }
 
 /// How a text splits into the parts of a version, or its first fault.
@@ -55,11 +70,7 @@ pub fn split_text(text: &[u8]) -> Result<Split, VersionFault>
     let (upstream, revision) = parts_at(rest, upstream_len);
     match parts_fault(upstream, revision) {
         Some(fault) => Err(fault),
-        None => Ok(Split {
-            epoch,
-            start,
-            upstream_len,
-        }),
+        None => Ok(Split::of(epoch, start, upstream_len)),
     }
 }
 
@@ -88,8 +99,8 @@ fn parts_of(text: &[u8], split: Split) -> (&[u8], &[u8])
     ensures upstream { result.0.now ≡ upstream_of text.now }
     ensures revision { result.1.now ≡ revision_of text.now }
 {
-    let (_, rest) = text.split_at(split.start);
-    parts_at(rest, split.upstream_len)
+    let (_, rest) = text.split_at(split.start as usize);
+    parts_at(rest, split.upstream_len as usize)
 }
 
 /// The upstream version and the revision, of what follows the epoch.
