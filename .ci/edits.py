@@ -1,5 +1,14 @@
-"""Must-fail edits, tried on the functions that they change. See gate.py."""
-import json
+"""Must-fail edits, tried on the functions that they change. See gate.py.
+
+Each check is of a copy of the crate, from nothing. In the copy a function that the check isn't about has a hole for its
+proof, and a body that calls nothing. So the prover takes it by its contract. The crate's own proof went before, in the
+same run: it shows that these functions meet their contracts. The check is of the functions that the edits change, and
+of one more, the control. If the prover proves the control, nothing is wrong with the copy, and it is the edit that it
+refuses.
+"""
+import contextlib
+import copy
+import functools
 import os
 import re
 import shutil
@@ -7,249 +16,240 @@ import subprocess
 import tempfile
 from typing import NamedTuple
 
-# The prover keeps a module of a longer name elsewhere, and makes it again.
-LONGEST = 240
+PARTS = ("src", "specs", "proofs")
 FUNCTION = re.compile(r"(?m)^( *)(?:pub(?:\([a-z]+\))? )?fn (\w+)")
-BLOCK = re.compile(r"(?m)^impl(?:<[^>]*>)? (?:(\w+)(?:<[^>]*>)? for )?(\w+)")
-# The line that ends with the brace of a body, behind the function's name.
-BODY = re.compile(r"(?m)^ *\{$| \{$")
-# The prover's verdict on a function: proved, or proved where its callers give what it asks, as a closure is, or another.
+# The line above methods, and that of an `impl`, with its trait and its type.
+HEAD = re.compile(r"(?m)^(?:impl\b|(?:pub(?:\([a-z]+\))? )?(?:trait|mod) ).*$")
+BLOCK = re.compile(r"impl(?:<[^>]*>)? (?:(\w+) for )?(\w+)(?:<[^>]*>)? \{")
+TYPE = re.compile(r"(?m)^(?:pub(?:\([a-z]+\))? )?(?:struct|enum) (\w+)")
+# The body of a function, between its braces, for the function's indentation.
+BODY = r"(?m)^%s(?:\S.* )?\{(|\n(?:.*\n)*?%s)\}$"
+# The prover's verdict on a function. The function holds if its proof lacks nothing but those proofs that are holes.
 VERDICT = re.compile(r"(?m)^fn (\S+): (.*)$")
-PROVED, CALLS_UNPROVED = "proved", "no proof: it calls "
+HOLDS, FAILS = ("no holes", "depends on a hole"), ("not proved", "no proof")
 # A line of the prover on a goal that is open, at its place in the function or in its proof file.
 COMPLAINT = re.compile(r"(?m)^(?:note: )?([^\s:]+):(\d+):\d+: (?:it is not proved|error).*$")
+HOLE = """use Rattle.%s.Statement.{statement}
+
+pub %s_spec : {M : Type 1} → statement M
+%s_spec = ?
+"""
+
+
+class Function(NamedTuple):
+    """A function: its path below the crate, its file, and the places in the file's text where it begins, with its
+    comment, where its body begins, and where that ends."""
+
+    path: str
+    file: str
+    start: int
+    body: int
+    end: int
+
+    @property
+    def name(self):
+        return self.path.rpartition("::")[2]
+
+    @property
+    def proofs(self):
+        """The folder of its proof files."""
+        return "proofs/" + self.path.replace("::", "/")
 
 
 class Change(NamedTuple):
     """What an edit changes of a file: the text from one place to another, in one function."""
 
-    path: str
-    function: str
-    lines: range
-    is_in_body: bool
+    function: Function
     start: int
     end: int
     new: str
 
 
-def unpack(library, folder):
-    """Writes the checked modules of a library below the folder, as its build of the prover keeps them."""
-    with open(f"{library}/format", encoding="utf-8") as lines:
-        build = next(line.split()[1] for line in lines if line.startswith("rattle-build "))
-    to = os.path.join(folder, build.replace("/", "_"))
-    os.mkdir(to)
-    with open(f"{library}/toolchain/checked.json", encoding="utf-8") as lines:
-        modules = [json.loads(line) for line in lines]
-    with open(f"{library}/toolchain/checked.a", "rb") as archive:
-        for name, start, length in modules:
-            if "/" not in name and len(os.fsencode(name)) <= LONGEST:
-                archive.seek(start)
-                with open(os.path.join(to, f"{name}.oantt"), "wb") as module:
-                    module.write(archive.read(length))
-
-
-def linked(folder, to):
-    """Makes a folder of the same files, which neither's checks change in place."""
-    shutil.copytree(folder, to, copy_function=os.link)
-
-
+@functools.cache
 def text_of(crate, path):
     with open(f"{crate.folder}/{path}", encoding="utf-8") as file:
         return file.read()
 
 
-def functions_in(library, crate):
-    """The paths below the crate of the functions that the library has proofs of, each with the bytes of its proof, if
-    the prover found all of it."""
-    begin, end = f"Rattle-{crate}-proofs.", ".Met"
-    with open(f"{library}/toolchain/checked.json", encoding="utf-8") as lines:
-        sizes = {name: length for name, _, length in map(json.loads, lines) if name.startswith(begin)}
-    functions = [it.removesuffix(end) for it in sizes if it.endswith(end)]
-    found = {it: sizes.get(f"{it}.Proof") for it in functions if f"{it}.Answers" not in sizes}
-    return {it[len(begin) :].replace(".", "::"): found.get(it) for it in functions}
+def module_of(file):
+    """The modules of what stands in a source file."""
+    return [it for it in file.removesuffix(".rt").split("/")[1:] if it not in ("lib", "main", "mod")]
 
 
-def end_of_path(file, text, function):
-    """How the path of a function ends: a method's by its type, and another's by all of its modules."""
-    modules = [it for it in file.removesuffix(".rt").split("/")[1:] if it not in ("lib", "main", "mod")]
-    blocks = BLOCK.findall(text[: function.start()])
-    if not function[1] or not blocks:
-        return "::".join([*modules, function[2]])
-    of_trait, of_type = blocks[-1]
-    return f"{of_type}{of_trait}::{function[2]}"
+def path_of(file, text, found, types):
+    """The path of a function below its crate. A method's begins with the module of its type, and so does that of
+    `drop`. A function of a trait, or of a generic trait's `impl`, has none here."""
+    if not found[1]:
+        return "::".join([*module_of(file), found[2]])
+    heads = HEAD.findall(text, 0, found.start())
+    block = heads and BLOCK.fullmatch(heads[-1])
+    of_trait, of_type = block.groups() if block else (None, None)
+    if of_type in types and of_trait in (None, "Drop"):
+        return "::".join([*types[of_type], of_type, found[2]])
+    return "::".join([*module_of(file), of_type + of_trait, found[2]]) if of_trait else None
 
 
-def lines_of(text, function, behind):
-    """The lines of a function, with its comment and attributes, up to those of the function behind it."""
-    start = text.rfind("\n\n", 0, function.start()) + 2
-    end = text.rfind("\n\n", 0, behind.start()) if behind else len(text)
-    return range(text.count("\n", 0, start) + 1, text.count("\n", 0, end) + 2)
+@functools.cache
+def functions_of(crate):
+    """The functions of a crate whose paths can be read from its source."""
+    names = [f"{at}/{name}" for at, _, names in os.walk(f"{crate.folder}/src") for name in sorted(names)]
+    texts = {file: text_of(crate, file) for file in (os.path.relpath(it, crate.folder) for it in names)}
+    types = {name: module_of(file) for file, text in texts.items() for name in TYPE.findall(text)}
+    functions = []
+    for file, text in texts.items():
+        for found in FUNCTION.finditer(text):
+            path = path_of(file, text, found, types)
+            start = max(text.rfind(it, 0, found.start()) + 2 for it in ("\n\n", "{\n"))
+            body = re.compile(BODY % (found[1], found[1])).search(text, found.start())
+            if path and body:
+                functions.append(Function(path, file, start, *body.span(1)))
+    return functions
 
 
-def change_of(crate, proved, texts):
-    """What an edit with these texts changes, if it changes one of these functions alone, which are the proved ones."""
-    if not texts or len(texts) > 1 or not next(iter(texts)).startswith("src/"):
+def change_of(crate, texts):
+    """What an edit with these texts changes, if it changes one function alone."""
+    if not texts or len(texts) > 1:
         return None
-    path, text = next(iter(texts.items()))
-    old = text_of(crate, path)
+    file, text = next(iter(texts.items()))
+    old = text_of(crate, file)
     start = len(os.path.commonprefix([old, text]))
     behind = min(len(os.path.commonprefix([old[::-1], text[::-1]])), len(old) - start, len(text) - start)
-    functions = [*FUNCTION.finditer(old)]
-    before = [it for it in functions if it.start() <= start]
-    if not before or any(start < it.start() < len(old) - behind for it in functions):
-        return None
-    function = before[-1]
-    end = end_of_path(path, old, function)
-    paths = [it for it in proved if f"::{it}".endswith(f"::{end}")]
-    if len(paths) != 1:
-        return None
-    body = BODY.search(old, function.end())
-    end_of_body = old.find(f"\n{function[1]}}}\n", body.end()) if body else -1
-    return Change(
-        path=path,
-        function=paths[0],
-        lines=lines_of(old, function, next((it for it in functions if it.start() > start), None)),
-        is_in_body=bool(body) and body.end() <= start and len(old) - behind <= end_of_body,
-        start=start,
-        end=len(old) - behind,
-        new=text[start : len(text) - behind],
-    )
+    for function in functions_of(crate):
+        if function.file == file and function.start <= start and len(old) - behind <= function.end:
+            return Change(function, start, len(old) - behind, text[start : len(text) - behind])
+    return None
+
+
+def without_body(crate, function):
+    """A change of a function's body to one that calls nothing, in as many lines. A body of no line stays as it is."""
+    lines = text_of(crate, function.file).count("\n", function.body, function.end)
+    return Change(function, function.body, function.end, " loop {}" + "\n" * lines if lines else "")
 
 
 def with_changes(crate, changes):
     """The crate's files that the changes change, with all of them."""
     texts = {}
     for change in sorted(changes, key=lambda it: it.start, reverse=True):
-        text = texts.get(change.path) or text_of(crate, change.path)
-        texts[change.path] = text[: change.start] + change.new + text[change.end :]
+        text = texts.get(change.function.file) or text_of(crate, change.function.file)
+        texts[change.function.file] = text[: change.start] + change.new + text[change.end :]
     return texts
 
 
-def complaints(ran, change):
-    """The lines in which the prover says that something of the changed function isn't proved."""
-    proofs = "./proofs/" + change.function.replace("::", "/") + "/"
+def control_for(crate, changes):
+    """The shortest function of the crate that names no changed one, if there is one. One without a proof file comes
+    first, since no lemma is read for it."""
+
+    def is_apart(function):
+        text = text_of(crate, function.file)[function.start : function.end]
+        return all(it.function != function and not re.search(rf"\b{it.function.name}\b", text) for it in changes)
+
+    apart = [it for it in functions_of(crate) if is_apart(it)]
+    cost = lambda it: (os.path.isdir(f"{crate.folder}/{it.proofs}"), it.end - it.start)
+    return min(apart, key=cost, default=None)
+
+
+def copy_with_holes(crate, folder, holes):
+    """Copies a crate's files to a folder, with a hole for the proof of each of these functions."""
+    for part in PARTS:
+        if os.path.isdir(f"{crate.folder}/{part}"):
+            shutil.copytree(f"{crate.folder}/{part}", f"{folder}/{part}")
+    for function in holes:
+        proofs = f"{folder}/{function.proofs}"
+        os.makedirs(proofs, exist_ok=True)
+        for name in ("Answers", "Invariants"):
+            with contextlib.suppress(FileNotFoundError):
+                os.remove(f"{proofs}/{name}.antt")
+        module = f"{crate.name}/{function.proofs}".replace("/", ".")
+        with open(f"{proofs}/Proof.antt", "w", encoding="utf-8") as file:
+            file.write(HOLE % (module, function.name, function.name))
+
+
+def complaints(crate, ran, function):
+    """The lines in which the prover says that something of a changed function isn't proved."""
+    text = text_of(crate, function.file)
+    first, last = (text.count("\n", 0, place) + 1 for place in (function.start, function.end))
     for found in COMPLAINT.finditer(ran.stdout):
-        if found[1] == change.path and int(found[2]) in change.lines or found[1].startswith(proofs):
+        is_inside = found[1] == function.file and first <= int(found[2]) <= last
+        if is_inside or found[1].startswith(f"./{function.proofs}/"):
             yield found[0]
 
 
-def left_alone(changes, proved):
-    """A function of the crate that the changes leave alone, if there is one: that with the smallest proof, for which no
-    lemma is read. It is no method and no closure, since not each of them has a path that the prover takes."""
-    changed = {change.function for change in changes}
-    free = [it for it in proved if proved[it] and it == it.lower() and "::fn::" not in it and it not in changed]
-    alone = [it for it in free if sum(f"::{other}".endswith(f"::{it}") for other in proved) == 1]
-    return sorted(alone, key=proved.get)[:1]
-
-
-def only(changes, proved):
-    """The words for a check of the changed functions, and of one more: if the changed ones call no other function of
-    the crate, that one shows that the work which the check is made over is sound."""
-    functions = sorted({change.function for change in changes})
-    return [word for function in [*functions, *left_alone(changes, proved)] for word in ("--only", function)]
-
-
-def is_of(function, changed):
-    """Whether a function is changed, or is a closure of one that is: the prover writes `M::fn::F::all` for one of `M::F`."""
-    path = function.replace("::fn::", "::")
+def is_of(path, changed):
+    """Whether a function is changed, or is a closure of one that is: `M::fn::F::all` is one of `M::F`."""
+    path = path.replace("::fn::", "::").removeprefix("fn::")
     return any(path == it or path.startswith(f"{it}::") for it in changed)
 
 
-def is_refused(crate, ran, changes):
-    """Whether a check with these changes says that a changed function isn't proved, and speaks of no other function so: of
-    those that the check was of beside, each is proved, or calls one that isn't."""
-    changed = {f"{crate.name}::{change.function}" for change in changes}
-    verdicts = VERDICT.findall(ran.stdout)
-    others = [verdict for function, verdict in verdicts if not is_of(function, changed)]
-    return (
-        ran.returncode == 1
-        and any(function in changed and not verdict.startswith(PROVED) for function, verdict in verdicts)
-        and any(verdict.startswith(PROVED) for verdict in others)
-        and all(verdict.startswith((PROVED, CALLS_UNPROVED)) for verdict in others)
-    )
+def refusals(crate, ran, changes, control):
+    """The changes that a check refuses, with the lines that say so. It refuses none if the control doesn't hold, or
+    another function that no edit changes."""
+    verdicts = {path.removeprefix(f"{crate.name}::"): verdict for path, verdict in VERDICT.findall(ran.stdout)}
+    changed = [it.function.path for it in changes]
+    others = [verdict for path, verdict in verdicts.items() if not is_of(path, changed)]
+    if ran.returncode != 1 or control.path not in verdicts or not all(it.startswith(HOLDS) for it in others):
+        return {}
+    failing = [it for it in changes if verdicts.get(it.function.path, "").startswith(FAILS)]
+    told = {it: [*complaints(crate, ran, it.function)] for it in failing}
+    return {change: lines for change, lines in told.items() if lines}
 
 
 class Trials:
     """The kit's functions `seeded` and `checked`, for a run of it. Both take what the kit's own take."""
 
-    def __init__(self, kit, checked, seeded):
-        self.kit, self.checked_by_kit, self.seeded_by_kit = kit, checked, seeded
-        # The functions of a crate that is proved, with the sizes of their proofs, by its name.
-        self.functions = {}
-        # The folders over which the functions that edits change were checked, and those over which a whole crate was.
-        self.seeds, self.whole = set(), set()
-        # What the prover said of edits that it refused together with others, by crate and change.
+    def __init__(self, kit):
+        self.kit, self.checked_by_kit = kit, kit.checked
+        # What the prover said of the edits that it refused, by crate and change.
         self.refused = {}
 
-    def change_of(self, crate, texts):
-        return change_of(crate, self.functions.get(crate.name, {}), texts)
-
-    def changes_of(self, crate):
-        """What the crate's edits change, as far as they change one function each."""
-        texts = [self.kit.read_edit(edit, crate.folder)[0] for edit in self.kit.edits_of(crate)[0]]
-        return [change for change in (self.change_of(crate, it) for it in texts) if change]
-
-    def try_together(self, crate, changes, flags, room):
-        """Tries changes of the bodies of different functions in one check, and notes those that are refused."""
-        over = f"{room}/together"
-        linked(f"{room}/seed", over)
-        words = [*flags, *only(changes, self.functions[crate.name])]
-        ran = self.checked_by_kit(crate, with_changes(crate, changes), words, over)
-        shutil.rmtree(over, ignore_errors=True)
-        if not is_refused(crate, ran, changes):
-            return
-        refused = 0
-        for change in changes:
-            told = [*complaints(ran, change)]
-            is_proved = f"\nfn {crate.name}::{change.function}: {PROVED}" in ran.stdout
-            if told and not is_proved:
-                said = "\n".join([*told, "logic=not-proved"])
-                self.refused[crate.name, change] = subprocess.CompletedProcess(ran.args, 1, said)
-                refused += 1
-        self.kit.say(f"{crate.name}: {refused} of {len(changes)} must-fail edits refused in one check")
+    def try_changes(self, crate, changes, flags):
+        """Tries changes of different functions in one check, notes those that it refuses, and returns how many."""
+        control = control_for(crate, changes)
+        if not control:
+            return 0
+        asked = [*(it.function for it in changes), control]
+        words = [*flags, "--allow-holes", *(word for it in asked for word in ("--only", it.path))]
+        copied = copy.copy(crate)
+        with tempfile.TemporaryDirectory(prefix=f"rt-edit-{os.getpid()}-") as copied.folder:
+            holes = [it for it in functions_of(crate) if it not in asked]
+            copy_with_holes(crate, copied.folder, holes)
+            texts = with_changes(crate, [*changes, *(without_body(crate, it) for it in holes)])
+            ran = self.checked_by_kit(copied, texts, words, None)
+        found = refusals(crate, ran, changes, control)
+        for change, lines in found.items():
+            said = "\n".join([*lines, "logic=not-proved"])
+            self.refused[crate.name, change] = subprocess.CompletedProcess(ran.args, 1, said)
+        return len(found)
 
     def seeded(self, crate, flags, start=None):
-        """The work that a crate's edits are tried over: the modules of its library. Those edits that can be tried together
-        are tried here. If the library can't be read, it is what the kit would take with no start."""
+        """Tries those of a crate's edits together that can be. The kit tries each edit over a copy of what this
+        returns: a folder whose folder `seed` is empty, since each check begins from nothing."""
+        texts = [self.kit.read_edit(edit, crate.folder)[0] for edit in self.kit.edits_of(crate)[0]]
+        changes = [change for change in (change_of(crate, it) for it in texts) if change]
+        left = [change for change in changes if change.function.body <= change.start]
+        while left:
+            first = {change.function: change for change in reversed(left)}
+            if len(first) > 1 and not control_for(crate, first.values()):
+                # (one waits, so that it can be the control)
+                first.popitem()
+            if len(first) > 1:
+                refused = self.try_changes(crate, [*first.values()], flags)
+                self.kit.say(f"{crate.name}: {refused} of {len(first)} must-fail edits refused in one check")
+            left = [change for change in left if first.get(change.function) is not change]
         room = tempfile.mkdtemp(prefix=f"rt-edits-{os.getpid()}-")
         # (the folders that kit 13f removes at its end)
         getattr(self.kit, "SEEDS", []).append(room)
-        seed = f"{room}/seed"
-        try:
-            os.mkdir(seed)
-            unpack(crate.rlib, seed)
-            self.functions[crate.name] = functions_in(crate.rlib, crate.name)
-            left = [change for change in self.changes_of(crate) if change.is_in_body]
-            while left:
-                first = {change.function: change for change in reversed(left)}
-                if len(first) > 1 and not left_alone(first.values(), self.functions[crate.name]):
-                    # (if each function that can be asked of is changed, none would be proved)
-                    first.popitem()
-                self.try_together(crate, [*first.values()], flags, room)
-                left = [change for change in left if first.get(change.function) is not change]
-            self.seeds.add(seed)
-            return room
-        except (OSError, ValueError, StopIteration, shutil.Error) as fault:
-            self.kit.say(f"{crate.name}: its library wasn't read: {fault}")
-        shutil.rmtree(room, ignore_errors=True)
-        return self.seeded_by_kit(crate, flags)
+        os.mkdir(f"{room}/seed")
+        return room
 
     def checked(self, crate, texts, flags, kept):
-        """A check over the work of a crate's edits. The crate as it stands was proved when its library was made. So a check
-        of it is made only if an edit was tried on the whole crate."""
-        if not texts:
-            if kept in self.seeds and os.path.dirname(kept) not in self.whole:
-                return subprocess.CompletedProcess([], 0, "")
+        """A check of a crate with an edit. Over a seed it is of the function that the edit changes. If that doesn't
+        refuse the edit, it has no result, and the kit asks again, with no seed, for a check of the whole crate. The
+        crate as it stands was proved before its edits were tried."""
+        if not kept:
             return self.checked_by_kit(crate, texts, flags, kept)
-        change = self.change_of(crate, texts)
-        if change and (crate.name, change) in self.refused:
-            return self.refused[crate.name, change]
-        if change and kept:
-            words = [*flags, *only([change], self.functions[crate.name])]
-            ran = self.checked_by_kit(crate, texts, words, kept)
-            if is_refused(crate, ran, [change]):
-                # (in the place of the last line, which counts what was checked)
-                ran.stdout = ran.stdout.rstrip("\n").rpartition("\n")[0] + "\nlogic=not-proved\n"
-                return ran
-        self.whole.add(os.path.dirname(kept or ""))
-        return self.checked_by_kit(crate, texts, flags, kept)
+        if not texts:
+            return subprocess.CompletedProcess([], 0, "")
+        change = change_of(crate, texts)
+        if change and (crate.name, change) not in self.refused:
+            self.try_changes(crate, [change], flags)
+        return self.refused.get((crate.name, change), subprocess.CompletedProcess([], 2, ""))
