@@ -12,7 +12,7 @@ use Rattle.sqlite.specs.Command.TheVariants.{Insert, Select}
 use Rattle.sqlite.specs.Listing.{understood, reads_listing}
 use Rattle.sqlite.proofs.Callers.{IsPlain, command_of}
 use Rattle.testing_tables.specs.Layout.{office_schema}
-use Rattle.testing_tables.specs.Texts.{find_text, keep_text}
+use Rattle.testing_tables.specs.Texts.{find_text, keep_text, keep_eight_text}
 
 -- all rows that pass the terms, in any order
 abbrev pub plain_query : ℕ → List Term → List Term → Query
@@ -49,3 +49,10 @@ keep_is = refl
 pub keep_plain : IsPlain (understood office_schema keep_text)
 unfolding understood everything
 keep_plain = (refl, refl)
+
+abbrev pub keep_eight_terms : List Term
+keep_eight_terms = lit Null ∷ col 0 0 ∷ col 0 1 ∷ col 0 2 ∷ lit Null ∷ col 0 3 ∷ col 0 4 ∷ col 0 5 ∷ lit Null ∷ col 0 6 ∷ col 0 7 ∷ col 0 8 ∷ lit Null ∷ col 0 9 ∷ col 0 10 ∷ col 0 11 ∷ lit Null ∷ col 0 12 ∷ col 0 13 ∷ col 0 14 ∷ lit Null ∷ col 0 15 ∷ col 0 16 ∷ col 0 17 ∷ lit Null ∷ col 0 18 ∷ col 0 19 ∷ col 0 20 ∷ lit Null ∷ col 0 21 ∷ col 0 22 ∷ col 0 23 ∷ []
+
+pub keep_eight_is : (command_of (understood office_schema keep_eight_text) ≡ Insert 1 (Values keep_eight_terms 4)) × IsPlain (understood office_schema keep_eight_text)
+unfolding understood everything
+keep_eight_is = (refl, (refl, refl))

@@ -1,5 +1,6 @@
 -- Tables of testing that are changed until they have the new entries alone.
-use Rattle.std.proofs.Common.{◌≡◌, ◌≤◌, ◌+◌, inl, inr, ℕ, ℤ, List, [], ◌∷◌, ◌++◌, map, filter, filter_map, take, drop, length, Bool, true, false, cond, not, Option, Some, None, refl, sym, ap, subst, ◌∙◌, arith}
+use Rattle.std.proofs.Common.{◌≡◌, ◌≤◌, ◌+◌, inl, inr, ℕ, zero, suc, ℤ, List, [], ◌∷◌, ◌++◌, map, filter, filter_map, take, drop, length, Bool, true, false, cond, not, Option, Some, None, refl, sym, ap, subst, ◌∙◌, arith}
+use Rattle.std.specs.Prelude.{⊤}
 use Rattle.std.specs.List.{cons_option, slice_get, AllByRecursion}
 use Rattle.std.specs.List.Sorted.{IsPermutation, IsStrictlySortedBy}
 use Rattle.std.specs.Cmp.{IsTotalOrder}
@@ -27,7 +28,7 @@ use Rattle.testing_model.proofs.Orders.{text_order}
 use Rattle.testing_tables.specs.TableSteps.{Rows, rows_in}
 use Rattle.testing_tables.specs.Entries.{source_in, entry_in}
 use Rattle.testing_tables.specs.FactSteps.{TakesOut}
-use Rattle.testing_tables.specs.EntrySteps.{source_columns, source_entry, TakesSource, AddsSource, SetsSources, entry_columns, row_entry, TakesRow, AddsRow, SetsRows}
+use Rattle.testing_tables.specs.EntrySteps.{source_columns, source_entry, TakesSource, AddsSource, AddsSources, SetsSources, entry_columns, row_entry, TakesRow, AddsRow, AddsRows, SetsRows}
 use Rattle.testing_tables.specs.Differences.{AreCompared, SourcesCompared, RowsCompared}
 use Rattle.testing_tables.proofs.MailLemmas.{filter_same, has_permuted, empty_of, as_many, only_shown}
 use Rattle.testing_tables.proofs.DeleteLemmas.{itself}
@@ -92,6 +93,24 @@ behind xs i x is = drop_more xs i x (slice_get_within xs i x is) ∙ ap (λ y. y
 
 up_to : {X : Type 0} (xs : List X) (i : ℕ) (x : X) → slice_get xs i ≡ Some x → take (i + 1) xs ≡ take i xs ++ x ∷ []
 up_to xs i x is = take_more xs i x (slice_get_within xs i x is) ∙ ap (λ y. take i xs ++ y ∷ []) (get_or_from_slice_get xs i x x is)
+
+-- these elements stand in the list from a place on
+abbrev pub AreFrom : {X : Type 0} → List X → ℕ → List X → Type 0
+AreFrom all j [] = ⊤
+AreFrom all j (x ∷ xs) = (slice_get all j ≡ Some x) × AreFrom all (j + 1) xs
+
+shifted : {X : Type 0} (y : X) (all xs : List X) (j : ℕ) → AreFrom all j xs → AreFrom (y ∷ all) (j + 1) xs
+shifted y all [] j h = tt
+shifted y all (x ∷ xs) j h = let up : suc j ≡ j + 1 = omega arith in (subst (λ n. slice_get (y ∷ all) n ≡ Some x) up h.0, shifted y all xs (j + 1) h.1)
+
+pub are_from : {X : Type 0} (all : List X) (j k : ℕ) → AreFrom all j (take k (drop j all))
+are_from all j zero = tt
+are_from [] zero (suc k) = tt
+are_from [] (suc j) (suc k) = tt
+are_from (x ∷ all) zero (suc k) = (refl, shifted x all (take k all) 0 (are_from all 0 k))
+are_from (x ∷ all) (suc j) (suc k) =
+    let up : j + 1 ≡ suc j = omega arith in
+    subst (λ n. AreFrom (x ∷ all) n (take (suc k) (drop j all))) up (shifted x all (take (suc k) (drop j all)) j (are_from all j (suc k)))
 
 -- ---- one step of a comparison
 
@@ -262,6 +281,12 @@ module _ (shown : List Row) (sources : List SourceIn) where
         rest = sources_rest a b c was.rest (it.put ∙ ap (λ l. record (rows_in b) { sources = l }) (sym table));
       }
 
+  pub sources_come : (a b c : Trees) (i j : ℕ) (more : List SourceIn) → AreFrom sources j more → AddsSources b c more → SourcesCompared a b shown sources i j → SourcesCompared a c shown sources i (j + length more)
+  sources_come a b c i j [] from it was = let on : j ≡ j + 0 = omega arith in subst (λ (t : Trees). SourcesCompared a t shown sources i (j + 0)) (sym it) (subst (λ n. SourcesCompared a b shown sources i n) on was)
+  sources_come a b c i j (x ∷ more) from it was =
+      let on : j + 1 + length more ≡ j + length (x ∷ more) = omega arith in
+      subst (λ n. SourcesCompared a c shown sources i n) on (sources_come a it.0 c i (j + 1) more from.1 it.2 (source_comes a b it.0 i j x x.name from.0 refl it.1 was))
+
   pub sources_end : (a b : Trees) (i j : ℕ) → AreByName sources → length shown ≤ i → length sources ≤ j → SourcesCompared a b shown sources i j → SetsSources a b sources
   sources_end a b i j ordered m n was =
       let all = all_compared source_columns source_in source_entry source_shown (λ r. refl) shown sources (b 4) i j m n was.compared in
@@ -298,6 +323,12 @@ module _ (shown : List Row) (rows : List RowIn) where
             (compared_comes entry_columns entry_in row_entry row_shown (λ x. refl) shown rows (b 6) i j it.row r there (it.says ∙ ap (λ n. Some ((r.arch, n), ((r.sender, r.number), r.place))) named) it.free was.compared);
         rest = rows_rest a b c was.rest (it.put ∙ ap (λ l. record (rows_in b) { rows = l }) (sym table));
       }
+
+  pub rows_come : (a b c : Trees) (i j : ℕ) (more : List RowIn) → AreFrom rows j more → AddsRows b c more → RowsCompared a b shown rows i j → RowsCompared a c shown rows i (j + length more)
+  rows_come a b c i j [] from it was = let on : j ≡ j + 0 = omega arith in subst (λ (t : Trees). RowsCompared a t shown rows i (j + 0)) (sym it) (subst (λ n. RowsCompared a b shown rows i n) on was)
+  rows_come a b c i j (x ∷ more) from it was =
+      let on : j + 1 + length more ≡ j + length (x ∷ more) = omega arith in
+      subst (λ n. RowsCompared a c shown rows i n) on (rows_come a it.0 c i (j + 1) more from.1 it.2 (row_comes a b it.0 i j x x.binary.name from.0 refl it.1 was))
 
   pub rows_end : (a b : Trees) (i j : ℕ) → AreByKey rows → length shown ≤ i → length rows ≤ j → RowsCompared a b shown rows i j → SetsRows a b rows
   rows_end a b i j ordered m n was =

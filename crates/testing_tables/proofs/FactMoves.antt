@@ -1,9 +1,10 @@
 -- How the sets of facts are moved by the changes of their tables.
-use Rattle.std.proofs.Common.{◌≡◌, ◌≢◌, ◌≤◌, ◌<◌, ◌⊎◌, ◌+◌, inl, inr, ℕ, zero, suc, ℤ, pos, List, [], ◌∷◌, ◌++◌, map, filter, take, get_or, length, Bool, true, false, cond, not, ◌&&◌, ◌||◌, ◌==◌, nat_le, Option, Some, None, IsSome, is_some, refl, sym, ap, subst, ◌∙◌, arith}
+use Rattle.std.proofs.Common.{◌≡◌, ◌≢◌, ◌≤◌, ◌<◌, ◌⊎◌, ◌+◌, ◌-◌, inl, inr, ℕ, zero, suc, ℤ, pos, List, [], ◌∷◌, ◌++◌, map, filter, take, drop, get_or, length, Bool, true, false, cond, not, ◌&&◌, ◌||◌, ◌==◌, nat_le, Option, Some, None, IsSome, is_some, refl, sym, ap, subst, ◌∙◌, arith}
 use Rattle.std.specs.Prelude.{⊤}
 use Rattle.std.proofs.lemmas.Bool.{false≢true, true≢false}
 use Rattle.std.proofs.lemmas.Bool.Decides.{nat_tests}
 use Rattle.std.proofs.lemmas.List.{take_more}
+use Rattle.std.specs.List.{list_all}
 use Rattle.std.specs.List.Sorted.{IsPermutation}
 use Rattle.std.specs.Ordering.{is_eq}
 use Rattle.std.specs.FinMap.{get, insert, remove}
@@ -22,10 +23,12 @@ use Rattle.testing_tables.specs.TableSteps.{Rows, rows_in}
 use Rattle.testing_tables.specs.Legible.{AreRead}
 use Rattle.testing_tables.specs.TableContent.{release_place}
 use Rattle.testing_tables.specs.FactTables.{fact_entry, may_stand, fact_in, delays_of, delays_in, facts_in}
-use Rattle.testing_tables.specs.FactSteps.{is_fact, is_delays, id_columns, IsOnlyId, IsFound, TakesOut, TakesFact, TakesDelays, AddsFact, AddsDelays, CanStand, CanStandEach, MovesFacts, KeepsOthers, Leaves, DropsFact, DropsDelays, DropsOne, AddsOne, DropsEach, AddsEach, ChangesFacts}
+use Rattle.testing_tables.specs.FactSteps.{is_fact, is_delays, id_columns, IsOnlyId, IsFound, TakesOut, TakesFact, TakesDelays, is_no_delays, AddsFact, AddsFacts, AddsDelays, CanStand, CanStandEach, MovesFacts, KeepsOthers, Leaves, DropsFact, DropsDelays, DropsOne, AddsOne, DropsEach, AddsEach, ChangesFacts}
 use Rattle.testing_tables.proofs.DeleteLemmas.{itself}
 use Rattle.testing_tables.proofs.MailLemmas.{empty_of, as_many, only_shown}
-use Rattle.testing_tables.proofs.KeepLemmas.{seven}
+use Rattle.testing_tables.proofs.KeepLemmas.{seven, apart}
+use Rattle.testing_tables.proofs.WriteLemmas.{not_true}
+use Rattle.testing_tables.proofs.Eights.{take_on}
 use Rattle.testing_tables.proofs.FactSets.{same_set, same_entry, has_joined, of_inserted, inserted_has, of_removed, removed_has, said, says, below_eight}
 use Rattle.testing_tables.proofs.FactReads.{fact_shape, fact_stands, fact_here, fact_only, delays_shape, delays_here, delays_only}
 
@@ -332,10 +335,6 @@ push_without : (xs : List FactRow) (x : FactRow) (facts : FactSet) → without_r
 push_without [] x facts = refl
 push_without (y ∷ xs) x facts = push_without xs x (remove facts y)
 
-push_with : (xs : List FactRow) (x : FactRow) (facts : FactSet) → with_rows (xs ++ x ∷ []) facts ≡ insert (with_rows xs facts) x tt
-push_with [] x facts = refl
-push_with (y ∷ xs) x facts = push_with xs x (insert facts y tt)
-
 any_default : {X : Type 0} (xs : List X) (i : ℕ) (d e : X) → i < length xs → get_or xs i d ≡ get_or xs i e
 any_default [] i d e h = absurd (omega (arith, h))
 any_default (x ∷ xs) zero d e h = refl
@@ -363,26 +362,39 @@ module _ (release : ℕ) where
     others = others_same db next same;
   }
 
-  front_can : (xs : List FactRow) (x : FactRow) → CanStandEach release (xs ++ x ∷ []) → CanStandEach release xs × CanStand release x
-  front_can xs x can = (λ f there. can f (has_joined xs (x ∷ []) f (inl there)), can x (has_joined xs (x ∷ []) x (inr (inl refl))))
+  with_joined : (xs ys : List FactRow) (facts : FactSet) → with_rows (xs ++ ys) facts ≡ with_rows ys (with_rows xs facts)
+  with_joined [] ys facts = refl
+  with_joined (x ∷ xs) ys facts = with_joined xs ys (insert facts x tt)
 
-  pub adds_step : (a b c : Trees) (facts : List FactRow) (i : ℕ) (fact : FactRow) → i < length facts → fact ≡ get_or facts i fact → AddsEach release a b (take i facts) → AddsOne release b c fact → AddsEach release a c (take (i + 1) facts)
-  adds_step a b c facts i fact within is so_far one =
-      let front : take (i + 1) facts ≡ take i facts ++ fact ∷ [] = take_more facts i fact within ∙ ap (λ f. take i facts ++ f ∷ []) (sym is) in
-      record {
-        moves = λ can.
-            let parts = front_can (take i facts) fact (subst (CanStandEach release) front can) in
-            let both = moves_then a b c (with_rows (take i facts)) (λ set. insert set fact tt) (so_far.moves parts.0) (one.moves parts.1) in
-            record { has = both.has ∙ sym (push_with (take i facts) fact (facts_in release (a 8) (a 10))) ∙ ap (λ l. with_rows l (facts_in release (a 8) (a 10))) (sym front); reads = both.reads };
-        others = others_then a b c so_far.others one.others;
-      }
+  adds_then : (a b c : Trees) (xs ys : List FactRow) → AddsEach release a b xs → AddsEach release b c ys → AddsEach release a c (xs ++ ys)
+  adds_then a b c xs ys first second = record {
+    moves = λ can.
+        let both = moves_then a b c (with_rows xs) (with_rows ys) (first.moves (λ f there. can f (has_joined xs ys f (inl there)))) (second.moves (λ f there. can f (has_joined xs ys f (inr there)))) in
+        record { has = both.has ∙ sym (with_joined xs ys (facts_in release (a 8) (a 10))); reads = both.reads };
+    others = others_then a b c first.others second.others;
+  }
+
+  -- the next facts of a list
+  pub adds_on : (a b c : Trees) (facts : List FactRow) (i k : ℕ) → AddsEach release a b (take i facts) → AddsEach release b c (take k (take (length facts - i) (drop i facts))) → AddsEach release a c (take (i + k) facts)
+  adds_on a b c facts i k first second = subst (AddsEach release a c) (sym (take_on facts i k)) (adds_then a b c (take i facts) (take k (take (length facts - i) (drop i facts))) first second)
+
+  adds_alone : (a b : Trees) (fact : FactRow) → AddsOne release a b fact → AddsEach release a b (fact ∷ [])
+  adds_alone a b fact one = record { moves = λ can. one.moves (can fact (inl refl)); others = one.others }
+
+  -- the first fact of a list
+  pub adds_head : (a b : Trees) (facts : List FactRow) (d : FactRow) → 0 < length facts → AddsOne release a b (get_or facts 0 d) → AddsEach release a b (take 1 facts)
+  adds_head a b [] d some one = absurd (omega (arith, some))
+  adds_head a b (fact ∷ facts) d some one = adds_alone a b fact one
+
+  pub adds_facts_each : (a b : Trees) (facts : List FactRow) → list_all is_no_delays facts ≡ true → AddsFacts a b facts → AddsEach release a b facts
+  adds_facts_each a b [] low same = adds_start a b same
+  adds_facts_each a b (fact ∷ facts) low it =
+      let parts = not_true _ _ low in
+      adds_then a it.0 b (fact ∷ []) facts (adds_alone a it.0 fact (adds_fact_moves release a it.0 fact (apart fact.kind 8 parts.0) it.1)) (adds_facts_each it.0 b facts parts.1 it.2)
 
   -- the same of the fact at a place
   pub drops_at : (a b c : Trees) (facts : List FactRow) (i : ℕ) (d : FactRow) → i < length facts → DropsEach release a b (take i facts) → DropsOne release b c (get_or facts i d) → DropsEach release a c (take (i + 1) facts)
   drops_at a b c facts i d within so_far one = drops_step a b c facts i (get_or facts i d) within (any_default facts i d (get_or facts i d) within) so_far one
-
-  pub adds_at : (a b c : Trees) (facts : List FactRow) (i : ℕ) (d : FactRow) → i < length facts → AddsEach release a b (take i facts) → AddsOne release b c (get_or facts i d) → AddsEach release a c (take (i + 1) facts)
-  adds_at a b c facts i d within so_far one = adds_step a b c facts i (get_or facts i d) within (any_default facts i d (get_or facts i d) within) so_far one
 
   pub changes : (a b c : Trees) (it : FactChanges) → DropsEach release a b it.gone → AddsEach release b c it.put → ChangesFacts release a c it
   changes a b c it first second = record {

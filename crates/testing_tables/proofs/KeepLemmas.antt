@@ -1,7 +1,8 @@
 -- What INSERT makes of the mail.
-use Rattle.std.proofs.Common.{◌≡◌, ◌≢◌, ℕ, pos, List, [], ◌∷◌, false, Some, None, Ok, Err, Result, OnOk, refl, sym, ap, subst, ◌∙◌, arith, nat_eq}
+use Rattle.std.proofs.Common.{◌≡◌, ◌≢◌, ℕ, pos, List, [], ◌∷◌, length, map, false, Some, None, Ok, Err, Result, OnOk, refl, sym, ap, subst, ◌∙◌, arith, nat_eq}
 use Rattle.std.proofs.lemmas.Bool.Decides.{nat_tests}
 use Rattle.std.specs.FinMap.{get, insert}
+use Rattle.std.specs.List.{flat_map}
 use Rattle.sqlite.specs.declared.types.Value.TheVariants.{Null, Int, Blob}
 use Rattle.sqlite.specs.Order.{Row}
 use Rattle.sqlite.specs.Tree.{Trees}
@@ -16,12 +17,14 @@ use Rattle.sqlite.specs.Listing.{understood}
 use Rattle.sqlite.specs.State.{State, Executes, Writes, mode_of}
 use Rattle.sqlite.proofs.Callers.{runs_as, statement_of}
 use Rattle.sqlite.specs.Table.{Table}
+use Rattle.office_keeper.specs.declared.values.NewLetter.{NewLetter}
 use Rattle.testing_tables.specs.Layout.{office_schema, mail}
-use Rattle.testing_tables.specs.Texts.{keep_text}
+use Rattle.testing_tables.specs.Texts.{keep_text, keep_eight_text}
 use Rattle.testing_tables.specs.Tables.{letter_in, kept_rows}
-use Rattle.testing_tables.specs.TableSteps.{Rows, rows_in, AddsLetter}
-use Rattle.testing_tables.proofs.Compiled.{keep_is, keep_plain}
-use Rattle.testing_tables.proofs.WriteLemmas.{Inserted, inserts_one, cast_null, cast_int}
+use Rattle.testing_tables.specs.TableSteps.{Rows, rows_in, letter_parameters, AddsLetter, AddsLetters}
+use Rattle.testing_tables.proofs.Compiled.{keep_is, keep_plain, keep_eight_terms, keep_eight_is}
+use Rattle.testing_tables.proofs.WriteLemmas.{Inserted, InsertedEach, inserts_one, inserts_each, cast_null, cast_int}
+use Rattle.testing_tables.proofs.Eights.{of_eight}
 use Rattle.testing_tables.proofs.LetterFacts.{letter_of_parts, kept_put}
 
 abbrev pub keep_terms : List Term
@@ -93,6 +96,27 @@ keeps sender number text old new count has h =
     let done = subst (λ s. Does old.step_limit (mode_of old) params (record old.now { schema = s }) (statement_of keep_text (understood office_schema keep_text)) None command (Ok (run.tally, new.now))) has run.changed in
     let made = inserts_one office_schema 1 mail_table old.step_limit (mode_of old) params (statement_of keep_text (understood office_schema keep_text)) old.now.trees keep_terms 4 (letter_source sender number text) run.tally new.now refl refl refl done in
     (made.0, adds old.now.trees new.now.trees sender number text made.1)
+
+abbrev source_of : NewLetter → Row
+source_of letter = letter_source letter.sender letter.number letter.text
+
+each_letter : (db next : Trees) (letters : List NewLetter) → InsertedEach office_schema mail_table db next (map source_of letters) → AddsLetters db next letters
+each_letter db next [] same = same
+each_letter db next (l ∷ letters) it = (it.0, adds db it.0 l.sender l.number l.text it.1, each_letter it.0 next letters it.2)
+
+pub keeps_eight : (old new : State) (count : ℕ) → old.now.schema ≡ office_schema → (letters : List NewLetter) → length letters ≡ 8 → Executes keep_eight_text (flat_map letter_parameters letters) old new (Ok count)
+    → (new.now.schema ≡ office_schema) × AddsLetters old.now.trees new.now.trees letters
+keeps_eight old new count has = of_eight (λ letters. Executes keep_eight_text (flat_map letter_parameters letters) old new (Ok count) → (new.now.schema ≡ office_schema) × AddsLetters old.now.trees new.now.trees letters) each
+  where
+    each : (a b c e f g i j : NewLetter) → Executes keep_eight_text (flat_map letter_parameters (a ∷ b ∷ c ∷ e ∷ f ∷ g ∷ i ∷ j ∷ [])) old new (Ok count) → (new.now.schema ≡ office_schema) × AddsLetters old.now.trees new.now.trees (a ∷ b ∷ c ∷ e ∷ f ∷ g ∷ i ∷ j ∷ [])
+    each a b c e f g i j h =
+        let params = flat_map letter_parameters (a ∷ b ∷ c ∷ e ∷ f ∷ g ∷ i ∷ j ∷ []) in
+        let command = Insert 1 (Values keep_eight_terms 4) in
+        let text = statement_of keep_eight_text (understood office_schema keep_eight_text) in
+        let run : Writes old new None command text params count = runs_as keep_eight_text params old new office_schema has command keep_eight_is.0 keep_eight_is.1 count h in
+        let done = subst (λ s. Does old.step_limit (mode_of old) params (record old.now { schema = s }) text None command (Ok (run.tally, new.now))) has run.changed in
+        let made = inserts_each office_schema 1 mail_table old.step_limit (mode_of old) params text old.now.trees keep_eight_terms 4 (source_of a) (map source_of (b ∷ c ∷ e ∷ f ∷ g ∷ i ∷ j ∷ [])) run.tally new.now refl refl refl done in
+        (made.0, each_letter old.now.trees new.now.trees (a ∷ b ∷ c ∷ e ∷ f ∷ g ∷ i ∷ j ∷ []) made.1)
 
 -- a text that was added under a free number stands there
 pub inserted : (db next : Trees) (sender number : ℕ) (text : List ℕ) → AddsLetter db next sender number text → get (kept_rows (db 1)) (sender, number) ≡ None

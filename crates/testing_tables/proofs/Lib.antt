@@ -4,6 +4,7 @@ pub mod Answered
 pub mod KeyedFacts
 pub mod LetterFacts
 pub mod MailLemmas
+pub mod Eights
 pub mod WriteLemmas
 pub mod KeepLemmas
 pub mod StepLemmas

@@ -1,9 +1,10 @@
 -- Steps: no contract of a call that users make rests on this file.
 -- What the statements on the tables of testing show and make of them.
-use Rattle.std.specs.Prelude.{◌≡◌, ℕ, ℤ, false, List, [], ◌∷◌, map, Some}
+use Rattle.std.specs.Prelude.{◌≡◌, ◌<◌, ℕ, ℤ, pos, false, List, [], ◌∷◌, map, Some}
 use Rattle.std.specs.FinMap.{from_entries}
 use Rattle.sqlite_rules.specs.Edit.{is_taken}
 use Rattle.sqlite.specs.Order.{Row, column}
+use Rattle.sqlite.specs.declared.types.Value.TheVariants.{Int, Text}
 use Rattle.sqlite.specs.Tree.{Trees, put_row}
 use Rattle.testing_model.specs.declared.suite.SourceIn.{SourceIn}
 use Rattle.testing_model.specs.declared.suite.RowIn.{RowIn}
@@ -36,6 +37,19 @@ pub record AddsSource (db next : Trees) (name : List ℕ) (sender number : ℕ) 
   pub free : is_taken (db 4) row ≡ false
   pub put : rows_in next ≡ record (rows_in db) { sources = put_row row (db 4) }
 
+-- the values that a statement takes for a source
+abbrev pub source_parameters : List ℕ → ℕ → ℕ → Row
+source_parameters name sender number = Text name ∷ Int (pos sender) ∷ Int (pos number) ∷ []
+
+-- the numbers of a source have 32 bits
+abbrev pub FitsSource : ℕ → ℕ → Type 0
+FitsSource sender number = (sender < 4_294_967_296) × (number < 4_294_967_296)
+
+-- rows of these sources were put in one by one, and the other tables stand
+abbrev pub AddsSources : Trees → Trees → List SourceIn → Type 0
+AddsSources db next [] = next ≡ db
+AddsSources db next (source ∷ sources) = (mid : Trees) × AddsSource db mid source.name source.sender source.number × AddsSources mid next sources
+
 -- the table has these sources alone, it stays whole, and the other tables stand
 pub record SetsSources (db next : Trees) (sources : List SourceIn) : Type 0 where
   pub has : source_map (next 4) ≡ from_entries (map source_entry sources)
@@ -63,6 +77,19 @@ pub record AddsRow (db next : Trees) (arch : ℕ) (name : List ℕ) (sender numb
   pub says : entry_in row ≡ Some ((arch, name), ((sender, number), place))
   pub free : is_taken (db 6) row ≡ false
   pub put : rows_in next ≡ record (rows_in db) { rows = put_row row (db 6) }
+
+-- the values that a statement takes for a row
+abbrev pub row_parameters : ℕ → List ℕ → ℕ → ℕ → ℕ → Row
+row_parameters arch name sender number place = Int (pos arch) ∷ Text name ∷ Int (pos sender) ∷ Int (pos number) ∷ Int (pos place) ∷ []
+
+-- the numbers of a row have 32 bits
+abbrev pub FitsRow : ℕ → ℕ → ℕ → ℕ → Type 0
+FitsRow arch sender number place = (arch < 4_294_967_296) × (sender < 4_294_967_296) × (number < 4_294_967_296) × (place < 4_294_967_296)
+
+-- these rows were put in one by one, and the other tables stand
+abbrev pub AddsRows : Trees → Trees → List RowIn → Type 0
+AddsRows db next [] = next ≡ db
+AddsRows db next (row ∷ rows) = (mid : Trees) × AddsRow db mid row.arch row.binary.name row.sender row.number row.place × AddsRows mid next rows
 
 -- the table has these rows alone, it stays whole, and the other tables stand
 pub record SetsRows (db next : Trees) (rows : List RowIn) : Type 0 where

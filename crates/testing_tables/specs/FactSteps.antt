@@ -1,6 +1,6 @@
 -- Steps: no contract of a call that users make rests on this file.
 -- What the statements on the tables of facts show and make of them.
-use Rattle.std.specs.Prelude.{◌≡◌, ◌≢◌, ◌≤◌, ◌⊎◌, ◌&&◌, Bool, true, false, ℕ, ℤ, pos, List, [], ◌∷◌, length, map, filter, Option, Some, None, ⊤}
+use Rattle.std.specs.Prelude.{◌≡◌, ◌≢◌, ◌≤◌, ◌<◌, ◌⊎◌, ◌&&◌, Bool, true, false, not, nat_eq, ℕ, ℤ, pos, List, [], ◌∷◌, length, map, filter, Option, Some, None, ⊤}
 use Rattle.std.specs.FinMap.{insert, remove}
 use Rattle.std.specs.Ordering.{is_eq}
 use Rattle.std.specs.List.Sorted.{IsPermutation}
@@ -80,6 +80,23 @@ pub record AddsFact (db next : Trees) (fact : FactRow) : Type 0 where
   pub says : fact_in row ≡ fact_of fact
   pub free : is_taken (db 8) row ≡ false
   pub put : rows_in next ≡ record (rows_in db) { facts = put_row row (db 8) }
+
+-- the values that a statement takes for a fact
+abbrev pub fact_parameters : FactRow → Row
+fact_parameters fact = Int (pos fact.kind) ∷ Int (pos fact.sender) ∷ Int (pos fact.number) ∷ Int (pos fact.place) ∷ []
+
+-- the numbers of a fact have 32 bits
+abbrev pub FitsFact : FactRow → Type 0
+FitsFact fact = (fact.kind < 4_294_967_296) × (fact.sender < 4_294_967_296) × (fact.number < 4_294_967_296) × (fact.place < 4_294_967_296)
+
+-- a fact that isn't the last delays
+abbrev pub is_no_delays : FactRow → Bool
+is_no_delays fact = not (nat_eq fact.kind 8)
+
+-- rows of these facts were put in one by one, and the other tables stand
+abbrev pub AddsFacts : Trees → Trees → List FactRow → Type 0
+AddsFacts db next [] = next ≡ db
+AddsFacts db next (fact ∷ facts) = (mid : Trees) × AddsFact db mid fact × AddsFacts mid next facts
 
 -- a row of the last delays was put in, with the rowid 1, and the other tables stand
 pub record AddsDelays (db next : Trees) (number : ℕ) : Type 0 where

@@ -126,6 +126,10 @@ pub record AddsLetter (db next : Trees) (sender number : ℕ) (text : List ℕ) 
   pub free : is_taken (db 1) row ≡ false
   pub put : rows_in next ≡ record (rows_in db) { mail = put_row row (db 1) }
 
+-- the values that a statement takes for a letter
+abbrev pub letter_parameters : NewLetter → Row
+letter_parameters letter = Int (pos letter.sender) ∷ Int (pos letter.number) ∷ Blob letter.text ∷ []
+
 -- rows of these letters were put into the mail one by one, and the other tables stand
 abbrev pub AddsLetters : Trees → Trees → List NewLetter → Type 0
 AddsLetters db next [] = next ≡ db

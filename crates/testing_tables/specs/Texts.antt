@@ -8,6 +8,9 @@ find_text = codes "SELECT sender, number, body FROM mail WHERE sender = ?1 AND n
 abbrev pub keep_text : List ℕ
 keep_text = codes "INSERT INTO mail (sender, number, body) VALUES (?1, ?2, ?3)"
 
+abbrev pub keep_eight_text : List ℕ
+keep_eight_text = codes "INSERT INTO mail (sender, number, body) VALUES (?1, ?2, ?3), (?4, ?5, ?6), (?7, ?8, ?9), (?10, ?11, ?12), (?13, ?14, ?15), (?16, ?17, ?18), (?19, ?20, ?21), (?22, ?23, ?24)"
+
 abbrev pub office_text : List ℕ
 office_text = codes "SELECT id, schema, setup, finished FROM office"
 
@@ -29,11 +32,17 @@ take_source_text = codes "DELETE FROM testing_source WHERE rowid = ?1"
 abbrev pub add_source_text : List ℕ
 add_source_text = codes "INSERT INTO testing_source (name, sender, number) VALUES (?1, ?2, ?3)"
 
+abbrev pub add_eight_sources_text : List ℕ
+add_eight_sources_text = codes "INSERT INTO testing_source (name, sender, number) VALUES (?1, ?2, ?3), (?4, ?5, ?6), (?7, ?8, ?9), (?10, ?11, ?12), (?13, ?14, ?15), (?16, ?17, ?18), (?19, ?20, ?21), (?22, ?23, ?24)"
+
 abbrev pub take_row_text : List ℕ
 take_row_text = codes "DELETE FROM testing_row WHERE rowid = ?1"
 
 abbrev pub add_row_text : List ℕ
 add_row_text = codes "INSERT INTO testing_row (arch, name, sender, number, place) VALUES (?1, ?2, ?3, ?4, ?5)"
+
+abbrev pub add_eight_rows_text : List ℕ
+add_eight_rows_text = codes "INSERT INTO testing_row (arch, name, sender, number, place) VALUES (?1, ?2, ?3, ?4, ?5), (?6, ?7, ?8, ?9, ?10), (?11, ?12, ?13, ?14, ?15), (?16, ?17, ?18, ?19, ?20), (?21, ?22, ?23, ?24, ?25), (?26, ?27, ?28, ?29, ?30), (?31, ?32, ?33, ?34, ?35), (?36, ?37, ?38, ?39, ?40)"
 
 abbrev pub sources_text : List ℕ
 sources_text = codes "SELECT rowid, name, sender, number FROM testing_source"
@@ -52,6 +61,9 @@ take_fact_text = codes "DELETE FROM fact WHERE rowid = ?1"
 
 abbrev pub add_fact_text : List ℕ
 add_fact_text = codes "INSERT INTO fact (kind, sender, number, place) VALUES (?1, ?2, ?3, ?4)"
+
+abbrev pub add_eight_facts_text : List ℕ
+add_eight_facts_text = codes "INSERT INTO fact (kind, sender, number, place) VALUES (?1, ?2, ?3, ?4), (?5, ?6, ?7, ?8), (?9, ?10, ?11, ?12), (?13, ?14, ?15, ?16), (?17, ?18, ?19, ?20), (?21, ?22, ?23, ?24), (?25, ?26, ?27, ?28), (?29, ?30, ?31, ?32)"
 
 abbrev pub delays_text : List ℕ
 delays_text = codes "SELECT id, number FROM fact_delays"

@@ -1,14 +1,17 @@
 //! Changes of the tables of facts.
-ghost use Rattle.std.specs.Prelude.{◌≡◌, ◌≢◌, Err, map, filter, IfOk, OnOk, OnErr};
+ghost use Rattle.std.specs.Prelude.{◌≡◌, ◌≢◌, ◌≤◌, ◌<◌, Err, map, filter, take, length, IfOk, OnOk, OnErr};
+ghost use Rattle.std.specs.List.{AllByRecursion, list_all};
 ghost use Rattle.std.specs.List.Sorted.{IsPermutation};
 ghost use Rattle.sqlite.specs.Held.{state};
+ghost use Rattle.sqlite.specs.Values.{bound};
 ghost use Rattle.sqlite.specs.State.{HasCleanDisk};
 ghost use Rattle.testing_tables.specs.Tables.{IsTrusted, Lasts};
 ghost use Rattle.testing_tables.specs.TableSteps.{IsInside, WentOn};
-ghost use Rattle.testing_tables.specs.FactSteps.{is_fact, is_delays, id_columns, IsFound, TakesFact, TakesDelays, AddsFact, AddsDelays, DropsFact, DropsDelays, DropsOne, AddsOne, DropsEach, AddsEach};
+ghost use Rattle.testing_tables.specs.FactSteps.{is_fact, is_delays, id_columns, IsFound, TakesFact, TakesDelays, AddsFact, AddsFacts, AddsDelays, fact_parameters, FitsFact, is_no_delays, DropsFact, DropsDelays, DropsOne, AddsOne, DropsEach, AddsEach};
 
 use crate::rowids::{alone, only_id};
 use office_keeper::{Cause, KeepFault};
+use sqlite::types::{ToSql, ValueRef};
 use sqlite::{Alter, Error, Row, Transaction, params};
 use testing_model::FactRow;
 
@@ -317,6 +320,99 @@ pub fn drop_each<S: Alter>(
     Ok(())
 }
 
+/// The values of a fact's columns.
+fn fact_values(kind: u32, sender: u32, number: u32, place: u32) -> [ValueRef<'static>; 4]
+    ensures is { bound result ≡ fact_parameters (record { kind = kind; sender = sender; number = number; place = place }) }
+    ensures fits { FitsFact (record { kind = kind; sender = sender; number = number; place = place }) }
+{
+    [
+        kind.to_sql(),
+        sender.to_sql(),
+        number.to_sql(),
+        place.to_sql(),
+    ]
+}
+
+/// The values of a fact's columns, from its row.
+fn values_of(fact: &FactRow) -> [ValueRef<'static>; 4]
+    ensures is { bound result ≡ fact_parameters fact.now }
+    ensures fits { FitsFact fact.now }
+{
+    fact_values(fact.kind, fact.sender, fact.number, fact.place)
+}
+
+/// The values of eight facts' columns, fact by fact.
+fn eight_values(facts: &[FactRow]) -> [[ValueRef<'static>; 4]; 8]
+    requires eight { length facts.now ≡ 8 }
+    ensures is { map bound result ≡ map fact_parameters facts.now }
+    ensures fits { AllByRecursion FitsFact facts.now }
+{
+    match facts {
+        [first, second, third, fourth, fifth, sixth, seventh, eighth] => [
+            values_of(first),
+            values_of(second),
+            values_of(third),
+            values_of(fourth),
+            values_of(fifth),
+            values_of(sixth),
+            values_of(seventh),
+            values_of(eighth),
+        ],
+        _ => unreachable!(),
+    }
+}
+
+/// Adds eight facts by one statement.
+fn add_eight<S: Alter>(tx: &mut Transaction<'_, S>, facts: &[FactRow]) -> Result<usize, Error>
+    requires inside { IsTrusted (state S.Store tx.old.conn.now) → IsInside (state S.Store tx.old.conn.now) }
+    requires eight { length facts.now ≡ 8 }
+    ensures same_reference { tx.new.conn.ghost_name ≡ tx.old.conn.ghost_name }
+    ensures before { IsTrusted (state S.Store tx.new.conn.now) → IsTrusted (state S.Store tx.old.conn.now) }
+    ensures lasts { Lasts (state S.Store tx.old.conn.now) (state S.Store tx.new.conn.now) }
+    ensures open { HasCleanDisk (state S.Store tx.new.conn.now) → IsTrusted (state S.Store tx.old.conn.now) → OnOk result (IsTrusted (state S.Store tx.new.conn.now)) }
+    ensures on { IsTrusted (state S.Store tx.new.conn.now) → OnOk result (WentOn (state S.Store tx.old.conn.now) (state S.Store tx.new.conn.now)) }
+    ensures added { IsTrusted (state S.Store tx.new.conn.now) → OnOk result (AddsFacts (state S.Store tx.old.conn.now).now.trees (state S.Store tx.new.conn.now).now.trees facts.now) }
+    ensures err { IsTrusted (state S.Store tx.new.conn.now) → OnErr result ((state S.Store tx.new.conn.now).committed ≡ (state S.Store tx.old.conn.now).committed) }
+{
+    let values = eight_values(facts);
+    tx.execute(
+        "INSERT INTO fact (kind, sender, number, place) VALUES (?1, ?2, ?3, ?4), (?5, ?6, ?7, ?8), (?9, ?10, ?11, ?12), (?13, ?14, ?15, ?16), (?17, ?18, ?19, ?20), (?21, ?22, ?23, ?24), (?25, ?26, ?27, ?28), (?29, ?30, ?31, ?32)",
+        values.as_flattened(),
+    )
+}
+
+/// Whether none of these facts are the last delays.
+fn are_no_delays(facts: &[FactRow]) -> bool
+    ensures { result ≡ list_all is_no_delays facts.now }
+{
+    facts.iter().all(|fact| fact.kind != 8)
+}
+
+/// Puts the first of these facts into their tables, and says how many: eight by one statement where it can, or one.
+fn add_first<S: Alter>(
+    tx: &mut Transaction<'_, S>,
+    release: u32,
+    facts: &[FactRow],
+) -> Result<usize, Error>
+    requires inside { IsTrusted (state S.Store tx.old.conn.now) → IsInside (state S.Store tx.old.conn.now) }
+    requires some { 0 < length facts.now }
+    ensures same_reference { tx.new.conn.ghost_name ≡ tx.old.conn.ghost_name }
+    ensures before { IsTrusted (state S.Store tx.new.conn.now) → IsTrusted (state S.Store tx.old.conn.now) }
+    ensures lasts { Lasts (state S.Store tx.old.conn.now) (state S.Store tx.new.conn.now) }
+    ensures open { HasCleanDisk (state S.Store tx.new.conn.now) → IsTrusted (state S.Store tx.old.conn.now) → OnOk result (IsTrusted (state S.Store tx.new.conn.now)) }
+    ensures on { IsTrusted (state S.Store tx.new.conn.now) → OnOk result (WentOn (state S.Store tx.old.conn.now) (state S.Store tx.new.conn.now)) }
+    ensures count { IfOk result (λ count. (0 < count) × (count ≤ length facts.now)) }
+    ensures added { IsTrusted (state S.Store tx.new.conn.now) → IfOk result (λ count. AddsEach release (state S.Store tx.old.conn.now).now.trees (state S.Store tx.new.conn.now).now.trees (take count facts.now)) }
+    ensures err { IsTrusted (state S.Store tx.new.conn.now) → OnErr result ((state S.Store tx.new.conn.now).committed ≡ (state S.Store tx.old.conn.now).committed) }
+{
+    if facts.len() >= 8 && are_no_delays(&facts[..8]) {
+        add_eight(tx, &facts[..8])?;
+        return Ok(8);
+    }
+    add_one(tx, release, &facts[0])?;
+    Ok(1)
+}
+
 /// Puts these facts into their tables.
 pub fn add_each<S: Alter>(
     tx: &mut Transaction<'_, S>,
@@ -332,8 +428,10 @@ pub fn add_each<S: Alter>(
     ensures added { IsTrusted (state S.Store tx.new.conn.now) → OnOk result (AddsEach release (state S.Store tx.old.conn.now).now.trees (state S.Store tx.new.conn.now).now.trees facts.now) }
     ensures err { IsTrusted (state S.Store tx.new.conn.now) → OnErr result ((state S.Store tx.new.conn.now).committed ≡ (state S.Store tx.old.conn.now).committed) }
 {
-    'facts: for fact in facts {
-        add_one(tx, release, fact)?;
+    let mut at = 0;
+    'facts: while at < facts.len() {
+        let count = add_first(tx, release, &facts[at..])?;
+        at += count;
     }
     Ok(())
 }

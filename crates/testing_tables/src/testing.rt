@@ -1,13 +1,15 @@
 //! The tables of testing: of their rows a finished run writes those that changed.
 ghost use Rattle.std.specs.Prelude.{◌≡◌, ◌≢◌, ◌≤◌, ◌<◌, ◌⊎◌, Err, map, length, IfOk, OnOk, OnErr};
+ghost use Rattle.std.specs.List.{AllByRecursion};
 ghost use Rattle.std.specs.List.Sorted.{IsPermutation};
 ghost use Rattle.sqlite.specs.Held.{state};
+ghost use Rattle.sqlite.specs.Values.{bound};
 ghost use Rattle.sqlite.specs.Tree.{Trees};
 ghost use Rattle.sqlite.specs.State.{HasCleanDisk};
 ghost use Rattle.testing_model.specs.InOrder.{AreByName, AreByKey};
 ghost use Rattle.testing_tables.specs.Tables.{IsTrusted, Lasts};
 ghost use Rattle.testing_tables.specs.TableSteps.{IsInside, WentOn};
-ghost use Rattle.testing_tables.specs.EntrySteps.{source_columns, entry_columns, TakesSource, AddsSource, SetsSources, TakesRow, AddsRow, SetsRows};
+ghost use Rattle.testing_tables.specs.EntrySteps.{source_columns, entry_columns, TakesSource, AddsSource, AddsSources, source_parameters, FitsSource, SetsSources, TakesRow, AddsRow, AddsRows, row_parameters, FitsRow, SetsRows};
 ghost use Rattle.testing_tables.specs.Differences.{GoesOn, SourcesCompared, RowsCompared};
 
 use crate::differences::{
@@ -15,6 +17,7 @@ use crate::differences::{
 };
 use crate::rowids::alone;
 use office_keeper::{Cause, KeepFault};
+use sqlite::types::{ToSql, ValueRef};
 use sqlite::{Alter, Error, Row, Transaction, params};
 use testing_model::{RowIn, SourceIn};
 
@@ -98,6 +101,65 @@ fn add_source<S: Alter>(
     )
 }
 
+/// The values of a source's columns.
+fn source_values(name: &str, sender: u32, number: u32) -> [ValueRef<'_>; 3]
+    ensures is { bound result ≡ source_parameters name.now sender number }
+    ensures fits { FitsSource sender number }
+{
+    [name.to_sql(), sender.to_sql(), number.to_sql()]
+}
+
+/// The values of a source's columns, from the source.
+fn values_of_source(source: &SourceIn) -> [ValueRef<'_>; 3]
+    ensures is { bound result ≡ source_parameters source.now.name source.now.sender source.now.number }
+    ensures fits { FitsSource source.now.sender source.now.number }
+{
+    source_values(source.name.as_str(), source.sender, source.number)
+}
+
+/// The values of eight sources' columns, source by source.
+fn eight_source_values(sources: &[SourceIn]) -> [[ValueRef<'_>; 3]; 8]
+    requires eight { length sources.now ≡ 8 }
+    ensures is { map bound result ≡ map (λ s. source_parameters s.name s.sender s.number) sources.now }
+    ensures fits { AllByRecursion (λ s. FitsSource s.sender s.number) sources.now }
+{
+    match sources {
+        [first, second, third, fourth, fifth, sixth, seventh, eighth] => [
+            values_of_source(first),
+            values_of_source(second),
+            values_of_source(third),
+            values_of_source(fourth),
+            values_of_source(fifth),
+            values_of_source(sixth),
+            values_of_source(seventh),
+            values_of_source(eighth),
+        ],
+        _ => unreachable!(),
+    }
+}
+
+/// Adds eight sources by one statement.
+fn add_eight_sources<S: Alter>(
+    tx: &mut Transaction<'_, S>,
+    sources: &[SourceIn],
+) -> Result<usize, Error>
+    requires inside { IsTrusted (state S.Store tx.old.conn.now) → IsInside (state S.Store tx.old.conn.now) }
+    requires eight { length sources.now ≡ 8 }
+    ensures same_reference { tx.new.conn.ghost_name ≡ tx.old.conn.ghost_name }
+    ensures before { IsTrusted (state S.Store tx.new.conn.now) → IsTrusted (state S.Store tx.old.conn.now) }
+    ensures lasts { Lasts (state S.Store tx.old.conn.now) (state S.Store tx.new.conn.now) }
+    ensures open { HasCleanDisk (state S.Store tx.new.conn.now) → IsTrusted (state S.Store tx.old.conn.now) → OnOk result (IsTrusted (state S.Store tx.new.conn.now)) }
+    ensures on { IsTrusted (state S.Store tx.new.conn.now) → OnOk result (WentOn (state S.Store tx.old.conn.now) (state S.Store tx.new.conn.now)) }
+    ensures added { IsTrusted (state S.Store tx.new.conn.now) → OnOk result (AddsSources (state S.Store tx.old.conn.now).now.trees (state S.Store tx.new.conn.now).now.trees sources.now) }
+    ensures err { IsTrusted (state S.Store tx.new.conn.now) → OnErr result ((state S.Store tx.new.conn.now).committed ≡ (state S.Store tx.old.conn.now).committed) }
+{
+    let values = eight_source_values(sources);
+    tx.execute(
+        "INSERT INTO testing_source (name, sender, number) VALUES (?1, ?2, ?3), (?4, ?5, ?6), (?7, ?8, ?9), (?10, ?11, ?12), (?13, ?14, ?15), (?16, ?17, ?18), (?19, ?20, ?21), (?22, ?23, ?24)",
+        values.as_flattened(),
+    )
+}
+
 /// Does what is next to be done with the table of sources.
 fn change_source<S: Alter>(
     tx: &mut Transaction<'_, S>,
@@ -142,6 +204,38 @@ fn change_source<S: Alter>(
     }
 }
 
+/// Does what is next to be done with the table of sources. Where no shown row is left, eight sources are put in by one
+/// statement.
+fn change_source_or_more<S: Alter>(
+    tx: &mut Transaction<'_, S>,
+    shown: &[Row],
+    sources: &[SourceIn],
+    at: Compared,
+) -> Result<Compared, KeepFault>
+    requires inside { IsTrusted (state S.Store tx.old.conn.now) → IsInside (state S.Store tx.old.conn.now) }
+    requires within { (at.shown ≤ length shown.now) × (at.entries ≤ length sources.now) }
+    requires left { (at.shown < length shown.now) ⊎ (at.entries < length sources.now) }
+    ensures same_reference { tx.new.conn.ghost_name ≡ tx.old.conn.ghost_name }
+    ensures before { IsTrusted (state S.Store tx.new.conn.now) → IsTrusted (state S.Store tx.old.conn.now) }
+    ensures lasts { Lasts (state S.Store tx.old.conn.now) (state S.Store tx.new.conn.now) }
+    ensures open { HasCleanDisk (state S.Store tx.new.conn.now) → IsTrusted (state S.Store tx.old.conn.now) → OnOk result (IsTrusted (state S.Store tx.new.conn.now)) }
+    ensures on { IsTrusted (state S.Store tx.new.conn.now) → OnOk result (WentOn (state S.Store tx.old.conn.now) (state S.Store tx.new.conn.now)) }
+    ensures further { IfOk result (λ to. GoesOn (length shown.now) (length sources.now) at.shown at.entries to.shown to.entries) }
+    ensures compared { IsTrusted (state S.Store tx.new.conn.now) → IfOk result (λ to. (first : Trees) → SourcesCompared first (state S.Store tx.old.conn.now).now.trees shown.now sources.now at.shown at.entries → SourcesCompared first (state S.Store tx.new.conn.now).now.trees shown.now sources.now to.shown to.entries) }
+    ensures err { IsTrusted (state S.Store tx.new.conn.now) → OnErr result ((state S.Store tx.new.conn.now).committed ≡ (state S.Store tx.old.conn.now).committed) }
+    ensures bad { result ≢ Err (KeepFault.Store Cause.BadRow) }
+{
+    if at.shown < shown.len() || sources.len() - at.entries < 8 {
+        return change_source(tx, shown, sources, at);
+    }
+    let to = at.entries + 8;
+    add_eight_sources(tx, &sources[at.entries..to])?;
+    Ok(Compared {
+        shown: at.shown,
+        entries: to,
+    })
+}
+
 /// Changes the table of sources, of which all rows are shown, until it has these sources alone.
 fn change_sources<S: Alter>(
     tx: &mut Transaction<'_, S>,
@@ -165,7 +259,7 @@ fn change_sources<S: Alter>(
         entries: 0,
     };
     'changes: while at.shown < shown.len() || at.entries < sources.len() {
-        at = change_source(tx, shown, sources, at)?;
+        at = change_source_or_more(tx, shown, sources, at)?;
     }
     Ok(())
 }
@@ -277,6 +371,69 @@ fn add_row<S: Alter>(
     )
 }
 
+/// The values of a row's columns.
+fn row_values(arch: u32, name: &str, sender: u32, number: u32, place: u32) -> [ValueRef<'_>; 5]
+    ensures is { bound result ≡ row_parameters arch name.now sender number place }
+    ensures fits { FitsRow arch sender number place }
+{
+    [
+        arch.to_sql(),
+        name.to_sql(),
+        sender.to_sql(),
+        number.to_sql(),
+        place.to_sql(),
+    ]
+}
+
+/// The values of a row's columns, from the row.
+fn values_of_row(row: &RowIn) -> [ValueRef<'_>; 5]
+    ensures is { bound result ≡ row_parameters row.now.arch row.now.binary.name row.now.sender row.now.number row.now.place }
+    ensures fits { FitsRow row.now.arch row.now.sender row.now.number row.now.place }
+{
+    let name = row.binary.name.as_str();
+    row_values(row.arch, name, row.sender, row.number, row.place)
+}
+
+/// The values of eight rows' columns, row by row.
+fn eight_row_values(rows: &[RowIn]) -> [[ValueRef<'_>; 5]; 8]
+    requires eight { length rows.now ≡ 8 }
+    ensures is { map bound result ≡ map (λ r. row_parameters r.arch r.binary.name r.sender r.number r.place) rows.now }
+    ensures fits { AllByRecursion (λ r. FitsRow r.arch r.sender r.number r.place) rows.now }
+{
+    match rows {
+        [first, second, third, fourth, fifth, sixth, seventh, eighth] => [
+            values_of_row(first),
+            values_of_row(second),
+            values_of_row(third),
+            values_of_row(fourth),
+            values_of_row(fifth),
+            values_of_row(sixth),
+            values_of_row(seventh),
+            values_of_row(eighth),
+        ],
+        _ => unreachable!(),
+    }
+}
+
+/// Adds eight rows by one statement.
+fn add_eight_rows<S: Alter>(tx: &mut Transaction<'_, S>, rows: &[RowIn]) -> Result<usize, Error>
+    requires inside { IsTrusted (state S.Store tx.old.conn.now) → IsInside (state S.Store tx.old.conn.now) }
+    requires eight { length rows.now ≡ 8 }
+    ensures same_reference { tx.new.conn.ghost_name ≡ tx.old.conn.ghost_name }
+    ensures before { IsTrusted (state S.Store tx.new.conn.now) → IsTrusted (state S.Store tx.old.conn.now) }
+    ensures lasts { Lasts (state S.Store tx.old.conn.now) (state S.Store tx.new.conn.now) }
+    ensures open { HasCleanDisk (state S.Store tx.new.conn.now) → IsTrusted (state S.Store tx.old.conn.now) → OnOk result (IsTrusted (state S.Store tx.new.conn.now)) }
+    ensures on { IsTrusted (state S.Store tx.new.conn.now) → OnOk result (WentOn (state S.Store tx.old.conn.now) (state S.Store tx.new.conn.now)) }
+    ensures added { IsTrusted (state S.Store tx.new.conn.now) → OnOk result (AddsRows (state S.Store tx.old.conn.now).now.trees (state S.Store tx.new.conn.now).now.trees rows.now) }
+    ensures err { IsTrusted (state S.Store tx.new.conn.now) → OnErr result ((state S.Store tx.new.conn.now).committed ≡ (state S.Store tx.old.conn.now).committed) }
+{
+    let values = eight_row_values(rows);
+    tx.execute(
+        "INSERT INTO testing_row (arch, name, sender, number, place) VALUES (?1, ?2, ?3, ?4, ?5), (?6, ?7, ?8, ?9, ?10), (?11, ?12, ?13, ?14, ?15), (?16, ?17, ?18, ?19, ?20), (?21, ?22, ?23, ?24, ?25), (?26, ?27, ?28, ?29, ?30), (?31, ?32, ?33, ?34, ?35), (?36, ?37, ?38, ?39, ?40)",
+        values.as_flattened(),
+    )
+}
+
 /// Does what is next to be done with the table of rows.
 fn change_row<S: Alter>(
     tx: &mut Transaction<'_, S>,
@@ -322,6 +479,38 @@ fn change_row<S: Alter>(
     }
 }
 
+/// Does what is next to be done with the table of rows. Where no shown row is left, eight rows are put in by one
+/// statement.
+fn change_row_or_more<S: Alter>(
+    tx: &mut Transaction<'_, S>,
+    shown: &[Row],
+    rows: &[RowIn],
+    at: Compared,
+) -> Result<Compared, KeepFault>
+    requires inside { IsTrusted (state S.Store tx.old.conn.now) → IsInside (state S.Store tx.old.conn.now) }
+    requires within { (at.shown ≤ length shown.now) × (at.entries ≤ length rows.now) }
+    requires left { (at.shown < length shown.now) ⊎ (at.entries < length rows.now) }
+    ensures same_reference { tx.new.conn.ghost_name ≡ tx.old.conn.ghost_name }
+    ensures before { IsTrusted (state S.Store tx.new.conn.now) → IsTrusted (state S.Store tx.old.conn.now) }
+    ensures lasts { Lasts (state S.Store tx.old.conn.now) (state S.Store tx.new.conn.now) }
+    ensures open { HasCleanDisk (state S.Store tx.new.conn.now) → IsTrusted (state S.Store tx.old.conn.now) → OnOk result (IsTrusted (state S.Store tx.new.conn.now)) }
+    ensures on { IsTrusted (state S.Store tx.new.conn.now) → OnOk result (WentOn (state S.Store tx.old.conn.now) (state S.Store tx.new.conn.now)) }
+    ensures further { IfOk result (λ to. GoesOn (length shown.now) (length rows.now) at.shown at.entries to.shown to.entries) }
+    ensures compared { IsTrusted (state S.Store tx.new.conn.now) → IfOk result (λ to. (first : Trees) → RowsCompared first (state S.Store tx.old.conn.now).now.trees shown.now rows.now at.shown at.entries → RowsCompared first (state S.Store tx.new.conn.now).now.trees shown.now rows.now to.shown to.entries) }
+    ensures err { IsTrusted (state S.Store tx.new.conn.now) → OnErr result ((state S.Store tx.new.conn.now).committed ≡ (state S.Store tx.old.conn.now).committed) }
+    ensures bad { result ≢ Err (KeepFault.Store Cause.BadRow) }
+{
+    if at.shown < shown.len() || rows.len() - at.entries < 8 {
+        return change_row(tx, shown, rows, at);
+    }
+    let to = at.entries + 8;
+    add_eight_rows(tx, &rows[at.entries..to])?;
+    Ok(Compared {
+        shown: at.shown,
+        entries: to,
+    })
+}
+
 /// Changes the table of rows, of which all rows are shown, until it has these rows alone.
 fn change_rows<S: Alter>(
     tx: &mut Transaction<'_, S>,
@@ -345,7 +534,7 @@ fn change_rows<S: Alter>(
         entries: 0,
     };
     'changes: while at.shown < shown.len() || at.entries < rows.len() {
-        at = change_row(tx, shown, rows, at)?;
+        at = change_row_or_more(tx, shown, rows, at)?;
     }
     Ok(())
 }
