@@ -1,25 +1,27 @@
 -- Letters that are added to the mail one by one.
-use Rattle.std.proofs.Common.{◌≡◌, ◌<◌, ◌+◌, ℕ, List, [], ◌∷◌, ◌++◌, take, get_or, length, refl, sym, ap, subst, ◌∙◌}
-use Rattle.std.proofs.lemmas.List.{take_more}
+use Rattle.std.proofs.Common.{◌≡◌, ◌<◌, ◌+◌, ◌-◌, ℕ, List, [], ◌∷◌, ◌++◌, take, drop, get_or, length, refl, sym, ap, subst, ◌∙◌, arith}
 use Rattle.sqlite.specs.Tree.{Trees}
 use Rattle.office_mail.specs.Kept.{Kept}
 use Rattle.office_keeper.specs.declared.values.NewLetter.{NewLetter}
 use Rattle.office_keeper.specs.NewMail.{AreFree, with_letters}
 use Rattle.testing_tables.specs.Tables.{kept_rows}
 use Rattle.testing_tables.specs.TableSteps.{AddsLetter, AddsLetters}
+use Rattle.testing_tables.proofs.Eights.{take_on}
 use Rattle.testing_tables.proofs.KeepLemmas.{inserted}
 
--- one letter more
-adds_more : (a b c : Trees) (letters : List NewLetter) (l : NewLetter) → AddsLetters a b letters → AddsLetter b c l.sender l.number l.text → AddsLetters a c (letters ++ l ∷ [])
-adds_more a b c [] l so_far one = (c, subst (λ (db : Trees). AddsLetter db c l.sender l.number l.text) so_far one, refl)
-adds_more a b c (k ∷ letters) l so_far one = (so_far.0, so_far.1, adds_more so_far.0 b c letters l so_far.2 one)
+adds_then : (a b c : Trees) (xs ys : List NewLetter) → AddsLetters a b xs → AddsLetters b c ys → AddsLetters a c (xs ++ ys)
+adds_then a b c [] ys first second = subst (λ (db : Trees). AddsLetters db c ys) first second
+adds_then a b c (x ∷ xs) ys first second = (first.0, first.1, adds_then first.0 b c xs ys first.2 second)
 
--- a loop's step
-pub letters_at : (a b c : Trees) (letters : List NewLetter) (i : ℕ) (l : NewLetter) (text : List ℕ) → i < length letters → l ≡ get_or letters i l → text ≡ l.text → AddsLetters a b (take i letters)
-    → AddsLetter b c l.sender l.number text → AddsLetters a c (take (i + 1) letters)
-letters_at a b c letters i l text within is text_is so_far one =
-    let front : take (i + 1) letters ≡ take i letters ++ l ∷ [] = take_more letters i l within ∙ ap (λ k. take i letters ++ k ∷ []) (sym is) in
-    subst (AddsLetters a c) (sym front) (adds_more a b c (take i letters) l so_far (subst (AddsLetter b c l.sender l.number) text_is one))
+-- the next letters of a list
+pub letters_on : (a b c : Trees) (letters : List NewLetter) (i k : ℕ) → AddsLetters a b (take i letters) → AddsLetters b c (take k (take (length letters - i) (drop i letters))) → AddsLetters a c (take (i + k) letters)
+letters_on a b c letters i k first second = subst (AddsLetters a c) (sym (take_on letters i k)) (adds_then a b c (take i letters) (take k (take (length letters - i) (drop i letters))) first second)
+
+-- the first letter of a list
+pub letters_head : (a b : Trees) (letters : List NewLetter) (l : NewLetter) (text : List ℕ) → 0 < length letters → l ≡ get_or letters 0 l → text ≡ l.text → AddsLetter a b l.sender l.number text → AddsLetters a b (take 1 letters)
+letters_head a b [] l text some is text_is one = absurd (omega (arith, some))
+letters_head a b (x ∷ letters) l text some is text_is one =
+    (b, subst (λ (y : NewLetter). AddsLetter a b y.sender y.number y.text) is (subst (AddsLetter a b l.sender l.number) text_is one), refl)
 
 -- the numbers are still free behind the first letter
 pub free_behind : (db mid : Trees) (l : NewLetter) (letters : List NewLetter) → AddsLetter db mid l.sender l.number l.text → AreFree (kept_rows (db 1)) (l ∷ letters) → AreFree (kept_rows (mid 1)) letters

@@ -1,13 +1,15 @@
 //! The table of mail.
-ghost use Rattle.std.specs.Prelude.{◌≡◌, ◌≢◌, ◌<◌, ◌∷◌, [], List, ℕ, Some, Err, pos, IfOk, OnOk, OnErr};
+ghost use Rattle.std.specs.Prelude.{◌≡◌, ◌≢◌, ◌≤◌, ◌<◌, ◌∷◌, [], List, ℕ, Some, Err, pos, map, take, length, IfOk, OnOk, OnErr};
 ghost use Rattle.office_keeper.specs.Content.{IsNextNumber};
 ghost use Rattle.sqlite.specs.declared.types.Value.TheVariants.{Int, Blob};
 ghost use Rattle.sqlite.specs.Held.{state};
+ghost use Rattle.sqlite.specs.Values.{bound};
 ghost use Rattle.sqlite.specs.State.{HasCleanDisk};
 ghost use Rattle.testing_tables.specs.Tables.{IsTrusted, IsOurs, kept_rows, Lasts};
-ghost use Rattle.testing_tables.specs.TableSteps.{IsInside, WentOn, Same, AddsLetter, AddsLetters, AreSmall, IsCrowded, IsOnlyNumber, ShowsLeast};
+ghost use Rattle.testing_tables.specs.TableSteps.{IsInside, WentOn, Same, AddsLetter, AddsLetters, letter_parameters, AreSmall, IsCrowded, IsOnlyNumber, ShowsLeast};
 
 use office_keeper::{Cause, KeepFault, NewLetter};
+use sqlite::types::{ToSql, ValueRef};
 use sqlite::{Alter, Connection, Error, Row, Transaction, params};
 use testing_tables::mail::letter_in;
 pub use testing_tables::mail::{by_number, find, letters_in, load};
@@ -108,6 +110,79 @@ pub fn keep<S: Alter>(
     Ok(())
 }
 
+/// The values of a letter's columns.
+fn values_of(letter: &NewLetter) -> [ValueRef<'_>; 3]
+    ensures { bound result ≡ letter_parameters letter.now }
+{
+    let text = letter.text.as_slice();
+    [
+        letter.sender.to_sql(),
+        letter.number.to_sql(),
+        text.to_sql(),
+    ]
+}
+
+/// The values of eight letters' columns, letter by letter.
+fn eight_values(letters: &[NewLetter]) -> [[ValueRef<'_>; 3]; 8]
+    requires { length letters.now ≡ 8 }
+    ensures { map bound result ≡ map letter_parameters letters.now }
+{
+    match letters {
+        [first, second, third, fourth, fifth, sixth, seventh, eighth] => [
+            values_of(first),
+            values_of(second),
+            values_of(third),
+            values_of(fourth),
+            values_of(fifth),
+            values_of(sixth),
+            values_of(seventh),
+            values_of(eighth),
+        ],
+        _ => unreachable!(),
+    }
+}
+
+/// Adds eight texts to the mail by one statement.
+fn add_eight<S: Alter>(tx: &mut Transaction<'_, S>, letters: &[NewLetter]) -> Result<usize, Error>
+    requires inside { IsTrusted (state S.Store tx.old.conn.now) → IsInside (state S.Store tx.old.conn.now) }
+    requires eight { length letters.now ≡ 8 }
+    ensures same_reference { tx.new.conn.ghost_name ≡ tx.old.conn.ghost_name }
+    ensures before { IsTrusted (state S.Store tx.new.conn.now) → IsTrusted (state S.Store tx.old.conn.now) }
+    ensures lasts { Lasts (state S.Store tx.old.conn.now) (state S.Store tx.new.conn.now) }
+    ensures open { HasCleanDisk (state S.Store tx.new.conn.now) → IsTrusted (state S.Store tx.old.conn.now) → OnOk result (IsTrusted (state S.Store tx.new.conn.now)) }
+    ensures on { IsTrusted (state S.Store tx.new.conn.now) → OnOk result (WentOn (state S.Store tx.old.conn.now) (state S.Store tx.new.conn.now)) }
+    ensures added { IsTrusted (state S.Store tx.new.conn.now) → OnOk result (AddsLetters (state S.Store tx.old.conn.now).now.trees (state S.Store tx.new.conn.now).now.trees letters.now) }
+    ensures err { IsTrusted (state S.Store tx.new.conn.now) → OnErr result ((state S.Store tx.new.conn.now).committed ≡ (state S.Store tx.old.conn.now).committed) }
+{
+    let values = eight_values(letters);
+    tx.execute(
+        "INSERT INTO mail (sender, number, body) VALUES (?1, ?2, ?3), (?4, ?5, ?6), (?7, ?8, ?9), (?10, ?11, ?12), (?13, ?14, ?15), (?16, ?17, ?18), (?19, ?20, ?21), (?22, ?23, ?24)",
+        values.as_flattened(),
+    )
+}
+
+/// Adds the first of these texts to the mail, and says how many: eight by one statement, or one where there are fewer.
+fn add_first<S: Alter>(tx: &mut Transaction<'_, S>, letters: &[NewLetter]) -> Result<usize, Error>
+    requires inside { IsTrusted (state S.Store tx.old.conn.now) → IsInside (state S.Store tx.old.conn.now) }
+    requires some { 0 < length letters.now }
+    ensures same_reference { tx.new.conn.ghost_name ≡ tx.old.conn.ghost_name }
+    ensures before { IsTrusted (state S.Store tx.new.conn.now) → IsTrusted (state S.Store tx.old.conn.now) }
+    ensures lasts { Lasts (state S.Store tx.old.conn.now) (state S.Store tx.new.conn.now) }
+    ensures open { HasCleanDisk (state S.Store tx.new.conn.now) → IsTrusted (state S.Store tx.old.conn.now) → OnOk result (IsTrusted (state S.Store tx.new.conn.now)) }
+    ensures on { IsTrusted (state S.Store tx.new.conn.now) → OnOk result (WentOn (state S.Store tx.old.conn.now) (state S.Store tx.new.conn.now)) }
+    ensures count { IfOk result (λ count. (0 < count) × (count ≤ length letters.now)) }
+    ensures added { IsTrusted (state S.Store tx.new.conn.now) → IfOk result (λ count. AddsLetters (state S.Store tx.old.conn.now).now.trees (state S.Store tx.new.conn.now).now.trees (take count letters.now)) }
+    ensures err { IsTrusted (state S.Store tx.new.conn.now) → OnErr result ((state S.Store tx.new.conn.now).committed ≡ (state S.Store tx.old.conn.now).committed) }
+{
+    if letters.len() >= 8 {
+        add_eight(tx, &letters[..8])?;
+        return Ok(8);
+    }
+    let letter = &letters[0];
+    add_letter(tx, letter.sender, letter.number, letter.text.as_slice())?;
+    Ok(1)
+}
+
 /// Adds these texts to the mail.
 fn add_letters<S: Alter>(tx: &mut Transaction<'_, S>, letters: &[NewLetter]) -> Result<(), Error>
     requires inside { IsTrusted (state S.Store tx.old.conn.now) → IsInside (state S.Store tx.old.conn.now) }
@@ -119,8 +194,10 @@ fn add_letters<S: Alter>(tx: &mut Transaction<'_, S>, letters: &[NewLetter]) -> 
     ensures added { IsTrusted (state S.Store tx.new.conn.now) → OnOk result (AddsLetters (state S.Store tx.old.conn.now).now.trees (state S.Store tx.new.conn.now).now.trees letters.now) }
     ensures err { IsTrusted (state S.Store tx.new.conn.now) → OnErr result ((state S.Store tx.new.conn.now).committed ≡ (state S.Store tx.old.conn.now).committed) }
 {
-    'letters: for letter in letters {
-        add_letter(tx, letter.sender, letter.number, letter.text.as_slice())?;
+    let mut at = 0;
+    'letters: while at < letters.len() {
+        let count = add_first(tx, &letters[at..])?;
+        at += count;
     }
     Ok(())
 }
