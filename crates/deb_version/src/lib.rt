@@ -85,7 +85,7 @@ impl Version {
     pub fn copy(&self, alloc: Global) -> Result<Version, NoMemory>
         ensures { IfOk result (λ v. v ≡ self.now) }
     {
-        let text = SmallString::from_str(alloc, self.text())?;
+        let text = self.text.copy(alloc)?;
         Ok(Version {
             text,
             split: self.split,

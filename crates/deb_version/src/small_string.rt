@@ -2,19 +2,26 @@
 
 ghost use Rattle.std.specs.Prelude.{◌≡◌, ◌≤◌, length, IfOk, IsOk};
 ghost use Rattle.std.specs.String.{string_bytes};
+ghost use Rattle.deb_version.specs.SmallString.{bytes_of, IsText};
 
-use arrayvec::ArrayString;
 use std::alloc::{AllocError, Global};
 use std::marker::Model;
+use std::str;
+
+/// So many bytes stand inline.
+const ROOM: usize = 30;
 
 /// Where a string keeps its bytes.
 #[derive(Debug, Drop)]
 enum Data {
-    Inline(ArrayString<24>),
+    /// In the value itself, with room behind them.
+    Inline { len: u8, bytes: [u8; ROOM] },
+
     Heap(String),
 }
 
-/// A string that keeps up to 24 bytes inline, so most names and versions take no memory. Contracts see its bytes.
+/// A string that keeps up to 30 bytes inline, so nearly all names and versions take no memory. It takes 32 bytes itself.
+/// Contracts see its bytes.
 #[derive(Debug, Drop)]
 pub struct SmallString {
     data: Data,
@@ -22,22 +29,39 @@ pub struct SmallString {
 
 impl Model for SmallString {
     ghost use Rattle.std.specs.Prelude.{List, ℕ};
-    ghost use Rattle.deb_version.specs.SmallString.{bytes_of};
+    ghost use Rattle.deb_version.specs.SmallString.{bytes_of, IsText};
 
     ghost Value = { List ℕ };
 
     ghost view = { λ s. bytes_of s.data };
+
+    ghost invariant = { λ s. IsText s.data };
+}
+
+/// A text of so few bytes, inline.
+fn inline(text: &str) -> Data
+    requires { length text.now ≤ 30 }
+    ensures bytes { bytes_of result ≡ text.now }
+    ensures text { IsText result }
+{
+    let mut bytes = [0; ROOM];
+    bytes[..text.len()].copy_from_slice(text.as_bytes());
+    Data::Inline {
+        len: text.len() as u8,
+        bytes,
+    }
 }
 
 impl SmallString {
-    /// A string with these bytes. One of up to 24 takes no memory.
+    /// A string with these bytes. One of up to 30 takes no memory.
     pub fn from_str(alloc: Global, text: &str) -> Result<SmallString, AllocError>
         ensures ok { IfOk result (λ s. s ≡ text.now) }
-        ensures short { length text.now ≤ 24 → IsOk result }
+        ensures short { length text.now ≤ 30 → IsOk result }
     {
-        let data = match ArrayString::from(text) {
-            Ok(inline) => Data::Inline(inline),
-            Err(_) => Data::Heap(String::from_str(alloc, text)?),
+        let data = if text.len() <= ROOM {
+            inline(text)
+        } else {
+            Data::Heap(String::from_str(alloc, text)?)
         };
         Ok(SmallString { data })
     }
@@ -52,12 +76,29 @@ impl SmallString {
     }
 
     /// The string as a slice.
+    #[tactic(auto, unfolding(crate::specs::SmallString::IsText))]
     pub fn as_str(&self) -> &str
         ensures { result.now ≡ self.now }
     {
         match &self.data {
-            Data::Inline(inline) => inline.as_str(),
+            Data::Inline { len, bytes } => unsafe {
+                str::from_utf8_unchecked(&bytes[..*len as usize])
+            },
             Data::Heap(text) => text.as_str(),
         }
+    }
+
+    /// An equal string. One of up to 30 bytes that stand inline takes no memory.
+    pub fn copy(&self, alloc: Global) -> Result<SmallString, AllocError>
+        ensures { IfOk result (λ s. s ≡ self.now) }
+    {
+        let data = match &self.data {
+            Data::Inline { len, bytes } => Data::Inline {
+                len: *len,
+                bytes: *bytes,
+            },
+            Data::Heap(text) => Data::Heap(String::from_str(alloc, text.as_str())?),
+        };
+        Ok(SmallString { data })
     }
 }

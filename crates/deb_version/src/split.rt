@@ -33,8 +33,8 @@ static PLACES: [u8; 256] = *b"\
 #[derive(Clone, Copy)]
 pub struct Split {
     pub epoch: u32,
-    pub start: u32,
-    pub upstream_len: u32,
+    pub start: u16,
+    pub upstream_len: u16,
 }
 
 impl Split {
@@ -46,8 +46,8 @@ impl Split {
     {
         Split {
             epoch,
-            start: start as u32,
-            upstream_len: upstream_len as u32,
+            start: start as u16,
+            upstream_len: upstream_len as u16,
         }
     }
 }
@@ -74,12 +74,16 @@ pub fn split_text(text: &[u8]) -> Result<Split, VersionFault>
     }
 }
 
-/// The order of two versions, by their texts and how these split.
+/// The order of two versions, by their texts and how these split. Equal texts, which are the most, need no look at their
+/// parts.
 pub fn order_split(a: &[u8], first: Split, b: &[u8], second: Split) -> Ordering
     requires first { IsSplit a.now first.epoch first.start first.upstream_len }
     requires second { IsSplit b.now second.epoch second.start second.upstream_len }
     ensures { result ≡ version_cmp a.now b.now }
 {
+    if a == b {
+        return Ordering::Equal;
+    }
     let epochs = first.epoch.cmp(&second.epoch);
     if epochs.is_ne() {
         return epochs;

@@ -1,9 +1,16 @@
-use Rattle.std.proofs.Common.{◌≡◌, ◌∙◌, sym}
+use Rattle.std.proofs.Common.{◌≡◌, ◌∙◌, sym, ap, rules}
 use Rattle.std.specs.Ordering.{nat_cmp}
 use Rattle.deb_version.specs.Key.{part_cmp}
+use Rattle.deb_version.specs.Laws.{same_refl}
+use Rattle.deb_version.specs.Order.{version_cmp}
 use Rattle.deb_version.specs.Text.{epoch_of, upstream_of, revision_of}
 use Rattle.deb_version.proofs.Steps.{epochs_decide, upstreams_decide, revisions_decide}
 use Rattle.deb_version.proofs.split.order_split.Goals as goal
+
+pub returns-then-eq : goal.returns-then-eq
+returns-then-eq c =
+    let same : c.args.a.now ≡ c.args.b.now = search rules in
+    sym (same_refl c.args.a.now) ∙ ap (version_cmp c.args.a.now) same
 
 pub returns-then-is_ne : goal.returns-then-is_ne
 returns-then-is_ne c =
