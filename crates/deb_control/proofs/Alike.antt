@@ -1,8 +1,7 @@
 -- Binary packages that need the same, fields in which nothing stands, and clauses of one alternative.
-use Rattle.std.proofs.Common.{◌≡◌, ℕ, List, [], ◌∷◌, ◌++◌, true, length, Result, Ok, Err, refl, sym, ap, subst, ◌∙◌, arith}
-use Rattle.std.specs.List.{slice_split, position_or_len, before_first}
+use Rattle.std.proofs.Common.{◌≡◌, ℕ, List, [], ◌∷◌, ◌++◌, true, Result, Ok, Err, refl, sym, ap, subst, ◌∙◌}
+use Rattle.std.specs.List.{slice_split}
 use Rattle.std.proofs.lemmas.Bool.{and_parts}
-use Rattle.std.proofs.lemmas.List.{take_all}
 use Rattle.std.proofs.lemmas.Slice.Eq.{bytes_eq-Decides}
 use Rattle.std.specs.Str.{bytes_eq}
 use Rattle.deb_control.specs.Paragraphs.{Field, value_of}
@@ -14,7 +13,6 @@ use Rattle.deb_control.specs.declared.relation.Signs.TheVariants.{Any}
 use Rattle.deb_control.specs.declared.fault.BinaryField.TheVariants.{Package, Version, Architecture, Source, PreDepends, Depends, Provides}
 use Rattle.deb_control.specs.declared.fault.BinaryFault.TheVariants.{BadName, BadVersion}
 use Rattle.deb_control.specs.declared.binary.Binary.{Binary}
-use Rattle.deb_control.proofs.Split.{split_before_first}
 
 -- steps that go on alike give the same
 same_after : {A B E : Type 0} (r : Result A E) (f g : A → Result B E) → ((a : A) → f a ≡ g a) → (r >>= f) ≡ (r >>= g)
@@ -90,10 +88,7 @@ pub no_provisions : provisions_in [] ≡ Ok []
 unfolding provisions_in items each_in
 no_provisions = refl
 
--- an item without `|` is one alternative
-pub one_alternative : (item : List ℕ) (n : ℕ) → n ≡ position_or_len is_bar item → n ≡ length item → only_one item ≡ clause_in item
+-- an item that is one part is one alternative
+pub one_alternative : (item only : List ℕ) → slice_split is_bar item ≡ only ∷ [] → only_one only ≡ clause_in item
 unfolding clause_in each_in
-one_alternative item n at over =
-    let whole : before_first is_bar item ≡ item = take_all (position_or_len is_bar item) item (omega (arith, at, over)) in
-    let split : slice_split is_bar item ≡ item ∷ [] = subst (λ (t : List ℕ). slice_split is_bar t ≡ t ∷ []) whole (split_before_first is_bar item) in
-    ap (each_in (alternative_in Any)) (sym split)
+one_alternative item only cut = ap (each_in (alternative_in Any)) (sym cut)

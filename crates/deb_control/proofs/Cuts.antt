@@ -1,13 +1,13 @@
 -- Where a text is cut: at the end of a field, and at the end of its name.
-use Rattle.std.proofs.Common.{◌≡◌, ℕ, ◌+◌, ◌-◌, ◌<◌, ◌≤◌, true, false, not, List, [], ◌∷◌, ◌++◌, length, take, drop, get_or, slice_index, Result, Ok, Err, refl, sym, ap, ◌∙◌, subst, inl, inr, one-add, arith, eqb-true}
+use Rattle.std.proofs.Common.{◌≡◌, ℕ, ◌+◌, ◌-◌, ◌<◌, ◌≤◌, true, false, not, List, [], ◌∷◌, ◌++◌, length, take, drop, get_or, slice_index, Result, Ok, Err, refl, sym, ap, ◌∙◌, subst, ⊎_elim, inl, inr, one-add, arith, eqb-true, true≢false}
 use Rattle.std.specs.List.{position_or_len, list_all}
 use Rattle.std.specs.Result.{MatchResult, result_ok}
 use Rattle.std.specs.Str.{IsUtf8, is_utf8}
 use Rattle.std.specs.Borrow.{Bor}
 use Rattle.std.proofs.lemmas.Str.{IsUtf8-from_is_utf8, is_utf8-from_IsUtf8}
-use Rattle.std.proofs.lemmas.Bool.{false_from_ne_true}
+use Rattle.std.proofs.lemmas.Bool.{false_from_ne_true, cases_lt}
 use Rattle.std.proofs.lemmas.List.{take_all, take-take, take-append-drop, drop_more, length-drop, length-take-le, get_or-drop, get_or-take}
-use Rattle.std.proofs.lemmas.List.Sums.{prefix_len-le-length, passes_at_first, fails_before_first, position_or_len_is}
+use Rattle.std.proofs.lemmas.List.Sums.{prefix_len-le-length, passes_at_first, position_or_len_is}
 use Rattle.std.proofs.lemmas.List.Folds.{list_all-append}
 use Rattle.deb_control.specs.Text.{is_line_feed, is_colon, lines, continues}
 use Rattle.deb_control.specs.Paragraphs.{has_colon, reading, reading_of_text}
@@ -65,37 +65,56 @@ cut_within text n e some = record {
   ends = e.ends some;
 }
 
+-- no byte before n ends a name or a line
+abbrev pub NameGoesOn : List ℕ → ℕ → Type 0
+NameGoesOn whole n = (k : ℕ) → k < n → (is_colon (slice_index whole k) ≡ false) × (is_line_feed (slice_index whole k) ≡ false)
+
+-- a line feed comes after a colon before which there is none
+feed_later : (whole : List ℕ) (n k : ℕ) → NameGoesOn whole n → slice_index whole n ≡ 58 → is_line_feed (slice_index whole k) ≡ true → n < k
+feed_later whole n k before colon feed = ⊎_elim
+    (λ (less : k < n). absurd (true≢false (sym feed ∙ (before k less).1)))
+    (λ (more : n ≤ k). ⊎_elim
+    (λ (after : n < k). after)
+    (λ (upto : k ≤ n). let same : k ≡ n = omega arith in absurd (omega (arith, colon, eqb-true _ _ feed, ap (λ (j : ℕ). slice_index whole j) same)))
+    (cases_lt n k))
+    (cases_lt k n)
+
 -- the first colon of the first line
-pub colon_at : (whole : List ℕ) → position_or_len is_colon (line_in_front whole) < length (line_in_front whole) → IsColonAt whole (position_or_len is_colon (line_in_front whole))
-colon_at whole h =
+pub colon_at : (whole : List ℕ) (n : ℕ) → n < length whole → NameGoesOn whole n → slice_index whole n ≡ 58 → IsColonAt whole n
+colon_at whole n within before colon =
     let line = line_in_front whole in
-    let n = position_or_len is_colon line in
     let k = position_or_len is_line_feed whole in
     let k_le : k ≤ length whole = prefix_len-le-length (λ c. not (is_line_feed c)) whole in
+    let later : n < k = ⊎_elim
+    (λ (h : k < length whole). feed_later whole n k before colon (passes_at_first is_line_feed whole 0 h))
+    (λ (h : length whole ≤ k). omega arith)
+    (cases_lt k (length whole)) in
     let len : length line ≡ k = length-take-le k whole k_le in
-    let here : get_or line n 0 ≡ get_or whole n 0 = get_or-take k whole n 0 (omega (arith, len)) in
-    let passes : is_colon (get_or whole n 0) ≡ true = ap is_colon (sym here) ∙ passes_at_first is_colon line 0 h in
-    let first : position_or_len is_colon whole ≡ n =
-    position_or_len_is is_colon whole n 0 (omega (arith, len, k_le))
-    (λ j below. ap is_colon (sym (get_or-take k whole j 0 (omega (arith, len)))) ∙ fails_before_first is_colon line j 0 below)
-    (λ _. passes) in
+    let passes : is_colon (slice_index whole n) ≡ true = ap is_colon colon in
+    let first : position_or_len is_colon whole ≡ n = position_or_len_is is_colon whole n 0 (omega arith) (λ j below. (before j below).0) (λ _. passes) in
+    let first_of_line : position_or_len is_colon line ≡ n =
+    position_or_len_is is_colon line n 0 (omega (arith, len))
+    (λ j below. ap is_colon (get_or-take k whole j 0 (omega arith)) ∙ (before j below).0)
+    (λ _. ap is_colon (get_or-take k whole n 0 later) ∙ passes) in
     record {
-      has = any_within is_colon line h;
-      within = omega (arith, len, k_le);
-      colon = eqb-true _ _ passes;
-      name = sym (take-take n k whole (omega (arith, len)));
+      has = any_within is_colon line (omega (arith, len, first_of_line));
+      within = within;
+      colon = colon;
+      name = sym (take-take n k whole (omega arith)) ∙ ap (λ (i : ℕ). take i line) (sym first_of_line);
       value = ap (λ (i : ℕ). drop (i + 1) whole) (sym first);
     }
 
--- the same, of what the code computes
-pub colon_from : (whole line : List ℕ) (n : ℕ) → line ≡ line_in_front whole → n ≡ position_or_len is_colon line → n < length line → IsColonAt whole n
-colon_from whole line n e at h =
-    let same : position_or_len is_colon (line_in_front whole) ≡ n = ap (position_or_len is_colon) (sym e) ∙ sym at in
-    subst (λ (k : ℕ). IsColonAt whole k) same (colon_at whole (omega (arith, same, ap (λ (l : List ℕ). length l) e)))
-
-pub no_colon : (whole line : List ℕ) (n : ℕ) → line ≡ line_in_front whole → n ≡ position_or_len is_colon line → length line ≤ n → has_colon (line_in_front whole) ≡ false
-no_colon whole line n e at h =
-    ap has_colon (sym e) ∙ none_within is_colon line (omega (arith, prefix_len-le-length (λ c. not (is_colon c)) line))
+-- the first line ends before any colon
+pub no_colon : (whole : List ℕ) (n : ℕ) → n ≤ length whole → NameGoesOn whole n → (n < length whole → is_line_feed (slice_index whole n) ≡ true) → has_colon (line_in_front whole) ≡ false
+no_colon whole n within before feed =
+    let line = line_in_front whole in
+    let k = position_or_len is_line_feed whole in
+    let at : k ≡ n = position_or_len_is is_line_feed whole n 0 within (λ j below. (before j below).1) feed in
+    let len : length line ≡ n = length-take-le k whole (omega (arith, at)) ∙ at in
+    none_within is_colon line
+    (position_or_len_is is_colon line (length line) 0 (omega arith)
+    (λ j below. let less : j < n = omega (arith, len) in ap is_colon (get_or-take k whole j 0 (omega (arith, at))) ∙ (before j less).0)
+    (λ past. absurd (omega arith)))
 
 -- the length of the first line is the place of its line feed
 pub feed_at : (text : List ℕ) → position_or_len is_line_feed text < length text → slice_index text (position_or_len is_line_feed text) ≡ 10

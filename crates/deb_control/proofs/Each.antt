@@ -1,6 +1,7 @@
 -- Reading one text after the other.
-use Rattle.std.proofs.Common.{◌≡◌, ℕ, Bool, true, false, not, List, [], ◌∷◌, ◌++◌, map, Result, Ok, Err, refl, sym, ap, ◌∙◌}
-use Rattle.std.specs.List.{filter, list_all}
+use Rattle.std.proofs.Common.{◌≡◌, ℕ, Bool, true, false, not, List, [], ◌∷◌, ◌++◌, map, Option, Result, Ok, Err, refl, sym, ap, ◌∙◌}
+use Rattle.std.specs.List.{filter, list_all, slice_split}
+use Rattle.std.specs.Option.{option_map_or}
 use Rattle.std.specs.Borrow.{Bor}
 use Rattle.std.proofs.lemmas.Bool.{cond-true, cond-false, not_from_true, not_from_false}
 use Rattle.std.proofs.lemmas.List.{append-nil, append_assoc}
@@ -12,6 +13,10 @@ use Rattle.deb_control.specs.declared.fault.RelationFault.TheVariants.{BadName, 
 -- texts as slices of the source, by their bytes
 abbrev pub texts : List (Bor (List ℕ)) → List (List ℕ)
 texts xs = map (λ (x : Bor (List ℕ)). x.now) xs
+
+-- the items of what is left of a text, if anything is left
+abbrev pub items_left : (ℕ → Bool) → Option (Bor (List ℕ)) → List (List ℕ)
+items_left separates rest = option_map_or (λ (text : Bor (List ℕ)). slice_split separates text.now) rest []
 
 -- the values so far, and then those of the rest
 abbrev pub then_append : {A E : Type 0} → List A → Result (List A) E → Result (List A) E

@@ -1,4 +1,4 @@
--- Where names, versions and qualifiers end, a text may be cut.
+-- Where versions and qualifiers end, a text may be cut.
 use Rattle.std.proofs.Common.{◌≡◌, ℕ, ◌<◌, ◌≤◌, Bool, true, false, List, length, get_or, Option, Some, None, sym, ◌∙◌, subst, ⊎_elim, arith, ltb}
 use Rattle.std.specs.List.{position, position_or_len}
 use Rattle.std.specs.Str.{IsUtf8, IsCharBoundary}
@@ -6,10 +6,7 @@ use Rattle.std.proofs.lemmas.Str.{IsCharBoundary-before_ascii, IsCharBoundary-af
 use Rattle.std.proofs.lemmas.List.Sums.{passes_at_first}
 use Rattle.std.proofs.lemmas.Bool.{cases_Bool, cond-true, cond-false, ltb-true}
 use Rattle.std.proofs.lemmas.Bool.Decides.{nat_tests}
-use Rattle.deb_control.specs.Relations.{ends_name, ends_version, is_qualifier_char}
-
-pub name_ends_in_ascii : (c : ℕ) → ends_name c ≡ true → c < 128
-name_ends_in_ascii c h = grind (arith, nat_tests)
+use Rattle.deb_control.specs.Relations.{ends_version, is_qualifier_char}
 
 pub version_ends_in_ascii : (c : ℕ) → ends_version c ≡ true → c < 128
 version_ends_in_ascii c h = grind (arith, nat_tests)

@@ -12,3 +12,5 @@ pub mod SourceLemmas
 pub mod RefusalLemmas
 pub mod Alike
 pub mod LineFronts
+pub mod Names
+pub mod PackageNames

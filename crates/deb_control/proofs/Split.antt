@@ -1,9 +1,9 @@
 -- Lists cut at the elements that pass a test.
-use Rattle.std.proofs.Common.{◌≡◌, ℕ, suc, ◌+◌, ◌<◌, ◌≤◌, Bool, true, false, cond, not, List, [], ◌∷◌, ◌++◌, length, take, drop, refl, sym, ap, ◌∙◌, ⊎_elim, one-add, arith}
+use Rattle.std.proofs.Common.{◌≡◌, ℕ, suc, ◌+◌, ◌<◌, ◌≤◌, Bool, true, false, cond, not, List, [], ◌∷◌, ◌++◌, length, take, drop, get_or, refl, sym, ap, subst, ◌∙◌, ⊎_elim, one-add, arith}
 use Rattle.std.specs.List.{slice_split, onto_first, before_first, position_or_len, prefix_len, take_while, list_all, list_any, filter}
-use Rattle.std.proofs.lemmas.Bool.{cases_Bool, cond-true, cond-false, and_parts, or_left, or_right, not_from_true, not_from_false}
-use Rattle.std.proofs.lemmas.List.Sums.{take_while-cons}
-use Rattle.std.proofs.lemmas.List.{take-append-drop, length-take-le}
+use Rattle.std.proofs.lemmas.Bool.{cases_Bool, cases_lt, cond-true, cond-false, and_parts, or_left, or_right, not_from_true, not_from_false}
+use Rattle.std.proofs.lemmas.List.Sums.{take_while-cons, prefix_len-le-length, position_or_len_is}
+use Rattle.std.proofs.lemmas.List.{take-append-drop, length-take-le, take_all}
 use Rattle.std.proofs.Math.Seq.{take-append-add}
 use Rattle.deb_control.specs.Paragraphs.{not_empty}
 use Rattle.std.proofs.lemmas.List.Splits.{slice_split-cons_yes, slice_split-cons_no}
@@ -87,6 +87,10 @@ module _ {X : Type 0} (p : X → Bool) where
       (λ no. rw (before_first_no x xs no, slice_split-cons_no p x (before_first p xs) no, split_before_first xs) refl)
       (cases_Bool (p x))
 
+  -- a list in which no element passes is one part
+  pub split_none : (xs : List X) → position_or_len p xs ≡ length xs → slice_split p xs ≡ xs ∷ []
+  split_none xs over = let whole : before_first p xs ≡ xs = take_all (position_or_len p xs) xs (omega (arith, over)) in subst (λ (t : List X). slice_split p t ≡ t ∷ []) whole (split_before_first xs)
+
   -- a list is cut once at the first element that passes
   pub any_within : (xs : List X) → position_or_len p xs < length xs → list_any p xs ≡ true
   any_within [] h = absurd (omega arith)
@@ -123,3 +127,13 @@ pub take_sum : {X : Type 0} (xs : List X) (m n : ℕ) → m ≤ length xs → ta
 take_sum xs m n h =
     let e : length (take m xs) ≡ m = length-take-le m xs h in
     ap (λ ys. take (m + n) ys) (sym (take-append-drop m xs)) ∙ ap (λ (k : ℕ). take (k + n) (take m xs ++ drop m xs)) (sym e) ∙ take-append-add (take m xs) (drop m xs) n
+
+-- the first place that passes, where a search began at a place before which none does
+pub found_from : {X : Type 0} (p : X → Bool) (xs : List X) (d : X) (from n : ℕ) → n ≤ length xs → ((k : ℕ) → k < from → p (get_or xs k d) ≡ false) → ((k : ℕ) → from ≤ k → k < n → p (get_or xs k d) ≡ false) → (n < length xs → p (get_or xs n d) ≡ true)
+    → n ≡ position_or_len p xs
+found_from p xs d from n within before after ends =
+    sym (position_or_len_is p xs n d within (λ k below. ⊎_elim (λ (less : k < from). before k less) (λ (more : from ≤ k). after k more below) (cases_lt k from)) ends)
+
+-- a place that isn't the length is within
+pub found_within : {X : Type 0} (p : X → Bool) (xs : List X) (n : ℕ) → n ≡ position_or_len p xs → (n ≡ length xs → ⊥) → n < length xs
+found_within p xs n at other = omega (arith, prefix_len-le-length (λ x. not (p x)) xs)

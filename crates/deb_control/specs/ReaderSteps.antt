@@ -1,11 +1,11 @@
 -- Steps: no contract of a call that users make rests on this file.
 -- How a reader of paragraphs cuts its text: lines, fields, and where they end.
-use Rattle.std.specs.Prelude.{ℕ, ◌≡◌, ◌<◌, ◌≤◌, ◌+◌, true, false, not, List, [], ◌∷◌, ◌++◌, length, take, drop, slice_index, Option, Some, None, Result, Ok, Err, ◌⊎◌}
+use Rattle.std.specs.Prelude.{ℕ, ◌≡◌, ◌<◌, ◌≤◌, ◌+◌, Bool, true, false, not, ◌&&◌, ◌==◌, List, [], ◌∷◌, ◌++◌, length, take, drop, slice_index, Option, Some, None, Result, Ok, Err, ◌⊎◌}
 use Rattle.std.specs.List.{list_all, take_while, prefix_len, before_first, after_first}
 use Rattle.std.specs.Borrow.{Bor}
 use Rattle.deb_version.specs.Characters as chars
 use Rattle.deb_control.specs.Text.{is_line_feed, is_colon, lines, is_blank_line, continues, trim_white}
-use Rattle.deb_control.specs.Paragraphs.{name_in, has_colon, line_fault}
+use Rattle.deb_control.specs.Paragraphs.{is_field_name, name_in, has_colon, line_fault}
 use Rattle.deb_control.specs.declared.fault.ParagraphFault.{ParagraphFault}
 
 -- the first line of a text
@@ -47,6 +47,24 @@ pub record IsColonAt (whole : List ℕ) (n : ℕ) : Type 0 where
 abbrev pub IsNameEnd : List ℕ → Option ℕ → Type 0
 IsNameEnd whole None = has_colon (line_in_front whole) ≡ false
 IsNameEnd whole (Some n) = IsColonAt whole n
+
+-- a field's name may begin with the first byte
+abbrev pub may_name : List ℕ → Bool
+may_name [] = false
+may_name (c ∷ cs) = not (c == chars.number_sign) && not (c == chars.hyphen) && not (c == chars.colon)
+
+-- a colon stands behind n bytes, and a field's name may begin with the first of them
+abbrev pub is_named : List ℕ → ℕ → Bool
+is_named bytes n = slice_index bytes n == chars.colon && may_name bytes
+
+-- the line is refused for its name, whatever fields stand before it
+abbrev pub NameRefused : ParagraphFault → List ℕ → Type 0
+NameRefused e whole = (names : List (List ℕ)) → line_fault names (line_in_front whole) ≡ Some e
+
+-- what looking for a name answers
+abbrev pub NameRead : Result ℕ ParagraphFault → List ℕ → Type 0
+NameRead (Ok n) whole = IsColonAt whole n × (is_field_name (take n whole) ≡ true)
+NameRead (Err e) whole = NameRefused e whole
 
 -- what reading a field answers, where fields of these names stand before it
 abbrev pub FieldRead : Result (Bor (List ℕ) × Bor (List ℕ)) ParagraphFault → List (List ℕ) → List ℕ → Type 0

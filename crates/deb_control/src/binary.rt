@@ -12,7 +12,7 @@ ghost use Rattle.deb_control.specs.declared.fault.BinaryField.TheVariants.{Sourc
 use crate::fault::{BinaryFault, BinaryField, RelationFault};
 use crate::grammar::{
     is_lower_or_digit, is_package_name, is_qualifier_char, parse_version, read_clauses,
-    read_version, split_name,
+    read_version, split_package,
 };
 use crate::owned::Text;
 use crate::paragraphs::Paragraph;
@@ -22,18 +22,18 @@ use deb_version::{NoMemory, Version};
 use std::alloc::{AllocError, Global};
 
 /// A binary package: what it is called, where it runs, what it was built from, what it needs and what it provides
-/// (Debian Policy 5.3).
+/// (Debian Policy 5.3). The fields that say whether it meets a clause come first, and so side by side in memory.
 #[derive(Drop)]
 pub struct Binary {
     pub name: Text,
     pub version: Version,
-    pub architecture: Text,
-    pub source: Text,
-    pub source_version: Version,
 
     /// Those of Pre-Depends, then those of Depends (Debian Policy 7.2).
     pub clauses: Clauses,
     pub provides: Provisions,
+    pub source: Text,
+    pub source_version: Version,
+    pub architecture: Text,
 }
 
 impl BinaryField {
@@ -259,10 +259,9 @@ fn source_in(alloc: Global, version: &str, text: &str) -> Result<(Text, Version)
     requires { is_version version.now ≡ true }
     ensures { GivesPart result (source_in version.now text.now) }
 {
-    let (name, rest) = split_name(skip_white(text));
-    if !is_package_name(name.as_bytes()) {
+    let Some((name, rest)) = split_package(skip_white(text)) else {
         return Err(RelationFault::BadName);
-    }
+    };
     if is_all_white(rest.as_bytes()) {
         return source_with(alloc, name, version);
     }

@@ -1,18 +1,18 @@
 //! Reads clauses and provisions (Debian Policy 7.1, 7.2, 7.5).
 
-ghost use Rattle.std.specs.Prelude.{◌≡◌, ◌<◌, ◌≤◌, ◌==◌, ◌⊎◌, ℕ, true, false, length, take, drop, map, IfOk, MatchResult, Ok, Err};
+ghost use Rattle.std.specs.Prelude.{◌≡◌, ◌<◌, ◌≤◌, ◌==◌, ◌⊎◌, ◌∷◌, [], true, false, length, drop, IfSome, MatchOption, MatchResult, Ok, Err};
 ghost use Rattle.std.specs.List.{list_all, slice_split, position, position_or_len, before_first, prefix_len};
-ghost use Rattle.std.specs.Option.{option_map, option_copied};
+ghost use Rattle.std.specs.Option.{option_map, option_map_or};
 ghost use Rattle.deb_control.specs.Relations.{Gives, GivesBy, is_package_name, is_lower_or_digit, is_package_char, is_version, ends_name, ends_version, is_qualifier_char, after_qualifier, less_sign, greater_sign, sign_in, version_in, relation_in, alternative_in, clause_in, clauses_in, provision_in, provisions_in};
 ghost use Rattle.deb_control.specs.declared.fault.RelationFault.TheVariants.{BadVersion, NoMemory as OutOfMemory};
-ghost use Rattle.deb_control.specs.ClauseSteps.{only_one};
+ghost use Rattle.deb_control.specs.ClauseSteps.{only_one, is_package};
 
 use crate::fault::RelationFault;
 use crate::owned::Text;
 use crate::relation::{Alternative, Clause, Clauses, Op, Provision, Provisions, Relation, Signs};
-use crate::text::{index_of, is_all_white, is_white, skip_white, strip_char};
+use crate::text::{index_of, is_all_white, is_white, skip_white, split_around, strip_char};
 use deb_version::{Version, VersionFault};
-use std::alloc::{AllocError, Global};
+use std::alloc::Global;
 
 impl Clauses {
     /// The clauses of a text, as the value of a field `Depends`, or its first fault from the left. An item of white alone
@@ -30,9 +30,11 @@ impl Clauses {
 pub fn read_clauses(alloc: Global, text: &str) -> Result<Vec<Clause>, RelationFault>
     ensures { GivesBy (λ v. v.items) result (clauses_in text.now) }
 {
-    let items = parts(alloc, text, ',')?;
-    let mut clauses = Vec::with_capacity(alloc, items.len())?;
-    'items: for item in &items {
+    let mut clauses = Vec::with_capacity(alloc, count_items(text.as_bytes(), b','))?;
+    let mut rest = Some(text);
+    'items: while let Some(left) = rest {
+        let (item, after) = next_item(left, b',');
+        rest = after;
         if !is_all_white(item.as_bytes()) {
             clauses.push(read_clause(alloc, item)?)?;
         }
@@ -47,9 +49,11 @@ impl Provisions {
     pub fn parse(alloc: Global, text: &str) -> Result<Provisions, RelationFault>
         ensures { Gives result (provisions_in text.now) }
     {
-        let items = parts(alloc, text, ',')?;
-        let mut provisions = Vec::with_capacity(alloc, items.len())?;
-        'items: for item in &items {
+        let mut provisions = Vec::with_capacity(alloc, count_items(text.as_bytes(), b','))?;
+        let mut rest = Some(text);
+        'items: while let Some(left) = rest {
+            let (item, after) = next_item(left, b',');
+            rest = after;
             if !is_all_white(item.as_bytes()) {
                 provisions.push(read_provision(alloc, item)?)?;
             }
@@ -58,23 +62,39 @@ impl Provisions {
     }
 }
 
-/// The parts of a text between a character.
-fn parts<'a>(alloc: Global, text: &'a str, separator: char) -> Result<Vec<&'a str>, AllocError>
-    requires { separator < 128 }
-    ensures { IfOk result (λ v. map (λ x. x.now) v.items ≡ slice_split (λ c. c == separator) text.now) }
-{
-    text.split(separator).collect(alloc)
+/// How many items a text has between a character. A vector takes room for as many.
+fn count_items(text: &[u8], separator: u8) -> usize {
+    let mut items = 1;
+    let mut end = index_of(text, separator);
+    'items: while end < text.len() {
+        items += 1;
+        end += 1 + index_of(&text[end + 1..], separator);
+    }
+    items
 }
 
-/// The alternatives of a clause. Nearly each clause has one, and takes no memory for a list of parts.
+/// The first item of a text between a character, and what follows that character. The last item has nothing after it.
+fn next_item(text: &str, separator: u8) -> (&str, Option<&str>)
+    requires { separator < 128 }
+    ensures items { slice_split (λ c. c == separator) text.now
+        ≡ result.0.now ∷ option_map_or (λ rest. slice_split (λ c. c == separator) rest.now) result.1 [] }
+    ensures shorter { IfSome result.1 (λ rest. length rest.now < length text.now) }
+{
+    let end = index_of(text.as_bytes(), separator);
+    if end == text.len() {
+        return (text, None);
+    }
+    let (item, rest) = split_around(text, end);
+    (item, Some(rest))
+}
+
+/// The alternatives of a clause. Nearly each clause has one, and takes no memory for a list.
 fn read_clause(alloc: Global, item: &str) -> Result<Clause, RelationFault>
     ensures { Gives result (clause_in item.now) }
 {
-    let bar = index_of(item.as_bytes(), b'|');
-    if bar == item.len() {
-        read_only_one(alloc, item)
-    } else {
-        read_alternatives(alloc, item)
+    match next_item(item, b'|') {
+        (only, None) => read_only_one(alloc, only),
+        _ => read_alternatives(alloc, item),
     }
 }
 
@@ -91,9 +111,11 @@ fn read_only_one(alloc: Global, item: &str) -> Result<Clause, RelationFault>
 fn read_alternatives(alloc: Global, item: &str) -> Result<Clause, RelationFault>
     ensures { Gives result (clause_in item.now) }
 {
-    let parts = parts(alloc, item, '|')?;
-    let mut alternatives = Vec::with_capacity(alloc, parts.len())?;
-    'parts: for part in &parts {
+    let mut alternatives = Vec::with_capacity(alloc, count_items(item.as_bytes(), b'|'))?;
+    let mut rest = Some(item);
+    'parts: while let Some(left) = rest {
+        let (part, after) = next_item(left, b'|');
+        rest = after;
         alternatives.push(read_alternative(alloc, Signs::Any, part)?)?;
     }
     Ok(Clause::new(alternatives))
@@ -117,10 +139,9 @@ fn read_provision(alloc: Global, item: &str) -> Result<Provision, RelationFault>
 fn read_alternative(alloc: Global, signs: Signs, text: &str) -> Result<Alternative, RelationFault>
     ensures { Gives result (alternative_in signs text.now) }
 {
-    let (name, rest) = split_name(skip_white(text));
-    if !is_package_name(name.as_bytes()) {
+    let Some((name, rest)) = split_package(skip_white(text)) else {
         return Err(RelationFault::BadName);
-    }
+    };
     let rest = skip_qualifier(rest)?;
     let relation = read_relation(alloc, signs, rest)?;
     let name = Text::from_str(alloc, name)?;
@@ -245,15 +266,40 @@ fn read_greater(text: &str) -> (Op, &str)
     (Op::AtLeast, text)
 }
 
-/// A name in front, and what follows it.
-pub fn split_name(text: &str) -> (&str, &str)
-    ensures name { result.0.now ≡ before_first ends_name text.now }
-    ensures rest { result.1.now ≡ drop (position_or_len ends_name text.now) text.now }
+/// A package name in front, and what follows it, or None where none stands there. Its characters are looked through
+/// once.
+pub fn split_package(text: &str) -> Option<(&str, &str)>
+    ensures { MatchOption result (is_package_name (before_first ends_name text.now) ≡ false)
+        (λ x. (x.0.now ≡ before_first ends_name text.now)
+        × (x.1.now ≡ drop (position_or_len ends_name text.now) text.now)
+        × (is_package_name x.0.now ≡ true)) }
 {
-    match name_end(text.as_bytes()) {
-        Some(end) => text.split_at(end),
-        None => (text, ""),
+    let bytes = text.as_bytes();
+    let len = package_len(bytes);
+    if !is_package(bytes, len) {
+        return None;
     }
+    Some(text.split_at(len))
+}
+
+/// How many characters of a package name stand in front.
+fn package_len(bytes: &[u8]) -> usize
+    ensures { result ≡ prefix_len is_package_char bytes.now }
+{
+    for (i, c) in bytes.iter().enumerate() {
+        if !is_package_char(*c) {
+            return i;
+        }
+    }
+    bytes.len()
+}
+
+/// Whether the characters of a package name in front are one.
+fn is_package(bytes: &[u8], len: usize) -> bool
+    requires { len ≤ length bytes.now }
+    ensures { result ≡ is_package bytes.now len }
+{
+    2 <= len && is_lower_or_digit(bytes[0]) && (len == bytes.len() || ends_name(bytes[len]))
 }
 
 /// A version in front, and what follows it.
@@ -265,12 +311,6 @@ fn split_version(text: &str) -> (&str, &str)
         Some(end) => text.split_at(end),
         None => (text, ""),
     }
-}
-
-fn name_end(bytes: &[u8]) -> Option<usize>
-    ensures { result ≡ position ends_name bytes.now }
-{
-    bytes.iter().position(|c| ends_name(*c))
 }
 
 fn version_end(bytes: &[u8]) -> Option<usize>

@@ -56,6 +56,7 @@ impl Text {
     pub fn copy(&self, alloc: Global) -> Result<Text, AllocError>
         ensures { IfOk result (λ t. t ≡ self.now) }
     {
-        Text::from_str(alloc, self.as_str())
+        let text = self.text.copy(alloc)?;
+        Ok(Text { text })
     }
 }

@@ -1,18 +1,16 @@
 //! Paragraphs of fields (Debian Policy 5.1).
 
 ghost use Rattle.std.specs.Prelude.{◌≡◌, ◌<◌, ◌≤◌, ◌+◌, ◌⊎◌, ◌++◌, [], ℕ, false, length, take, drop, map, List, IfOk, IfErr, OnErr, IfSome, IfNone, MatchResult, Some, None, Ok};
-ghost use Rattle.std.specs.List.{list_all};
+ghost use Rattle.std.specs.List.{prefix_len};
 ghost use Rattle.std.specs.Option.{option_copied};
 ghost use Rattle.std.specs.Str.{str_eq_ignore_ascii_case};
 ghost use Rattle.deb_control.specs.Text.{is_blank_line, continues};
-ghost use Rattle.deb_control.specs.Paragraphs.{shown, is_field_name, is_name_char, has_name, reading, reading_of_text, ended, refusing, then_read, value_of};
+ghost use Rattle.deb_control.specs.Paragraphs.{shown, is_name_char, has_name, reading, reading_of_text, ended, refusing, then_read, value_of};
 ghost use Rattle.deb_control.specs.Reader.{RefusedBy};
-ghost use Rattle.deb_control.specs.ReaderSteps.{line_in_front, IsFieldCut, IsFieldEnd, IsNameEnd, FieldRead};
+ghost use Rattle.deb_control.specs.ReaderSteps.{line_in_front, may_name, is_named, IsFieldCut, IsFieldEnd, IsNameEnd, NameRead, NameRefused, FieldRead};
 
 use crate::fault::ParagraphFault;
-use crate::text::{
-    begins_blank, begins_continuing, first_line, index_of, split_around, trim_white,
-};
+use crate::text::{begins_blank, begins_continuing, index_of, split_around, trim_white};
 use std::alloc::Global;
 use std::marker::Model;
 use std::str;
@@ -179,21 +177,16 @@ fn split_field(text: &str) -> (&str, &str)
     }
 }
 
-/// Whether a name is one that a field may have.
-#[tactic(auto, unfolding(crate::specs::Paragraphs::is_field_name))]
-fn is_field_name(name: &[u8]) -> bool
-    ensures { result ≡ is_field_name name.now }
+/// How many characters of a name stand in front.
+fn name_len(bytes: &[u8]) -> usize
+    ensures { result ≡ prefix_len is_name_char bytes.now }
 {
-    match name {
-        [b'#' | b'-', ..] | [] => false,
-        _ => has_name_chars(name),
+    for (i, c) in bytes.iter().enumerate() {
+        if !is_name_char(*c) {
+            return i;
+        }
     }
-}
-
-fn has_name_chars(name: &[u8]) -> bool
-    ensures { result ≡ list_all is_name_char name.now }
-{
-    name.iter().all(|c| is_name_char(*c))
+    bytes.len()
 }
 
 /// A character of a name: from `!` to `~`, but no colon.
@@ -203,17 +196,59 @@ fn is_name_char(c: u8) -> bool
     b'!' <= c && c <= b'~' && c != b':'
 }
 
-/// Where the name of a field ends: at the first colon of its first line.
+/// Where the name of a field ends: at the first colon of its first line. What follows the colon isn't looked at.
 fn name_end(whole: &str) -> Option<usize>
     ensures { IsNameEnd whole.now result }
 {
-    let line = first_line(whole.as_bytes());
-    let colon = index_of(line, b':');
-    if colon < line.len() {
-        Some(colon)
-    } else {
-        None
+    for (i, c) in whole.as_bytes().iter().enumerate() {
+        if *c == b':' {
+            return Some(i);
+        }
+        if *c == b'\n' {
+            return None;
+        }
     }
+    None
+}
+
+/// Whether the first byte may begin a field's name.
+fn may_name(bytes: &[u8]) -> bool
+    ensures { result ≡ may_name bytes.now }
+{
+    match bytes {
+        [b'#' | b'-' | b':', ..] | [] => false,
+        _ => true,
+    }
+}
+
+/// Whether a colon stands at a place, behind what may begin a name.
+fn is_named(bytes: &[u8], len: usize) -> bool
+    ensures { result ≡ is_named bytes.now len }
+{
+    len < bytes.len() && bytes[len] == b':' && may_name(bytes)
+}
+
+/// The fault of a line that has no good name.
+fn name_fault(whole: &str) -> ParagraphFault
+    requires { is_named whole.now (prefix_len is_name_char whole.now) ≡ false }
+    ensures { NameRefused result whole.now }
+{
+    match name_end(whole) {
+        Some(_) => ParagraphFault::BadName,
+        None => ParagraphFault::NoColon,
+    }
+}
+
+/// Where the name of a field ends: at the first colon of its first line. The name is looked through once.
+fn read_name(whole: &str) -> Result<usize, ParagraphFault>
+    ensures { NameRead result whole.now }
+{
+    let bytes = whole.as_bytes();
+    let len = name_len(bytes);
+    if !is_named(bytes, len) {
+        return Err(name_fault(whole));
+    }
+    Ok(len)
 }
 
 /// The field that these lines are, where the other fields stand before it.
@@ -224,13 +259,8 @@ fn read_field<'a>(
 ) -> Result<(&'a str, &'a str), ParagraphFault>
     ensures { FieldRead result (map (λ f. f.0.now) before.now) whole.now }
 {
-    let Some(colon) = name_end(whole) else {
-        return Err(ParagraphFault::NoColon);
-    };
+    let colon = read_name(whole)?;
     let (name, value) = split_around(whole, colon);
-    if !is_field_name(name.as_bytes()) {
-        return Err(ParagraphFault::BadName);
-    }
     if has_name(before, name) {
         return Err(ParagraphFault::RepeatedField);
     }

@@ -1,0 +1,7 @@
+use Rattle.std.proofs.Common.{◌≡◌, ◌<◌, ℕ, slice_index, true}
+use Rattle.deb_control.specs.Relations.{is_package_char}
+use Rattle.deb_control.proofs.grammar.package_len.Given as goal
+
+-- each character so far may stand in a package name
+abbrev pub invariant-loop-i : goal.invariant-loop-i
+invariant-loop-i l = (k : ℕ) → k < l.i → is_package_char (slice_index l.bytes k) ≡ true
