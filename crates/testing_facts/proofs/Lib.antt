@@ -12,4 +12,5 @@ pub mod Saying
 pub mod ShiftLists
 pub mod Shifting
 pub mod Slotting
+pub mod Steps
 pub use Rattle.testing_order.proofs.Netting

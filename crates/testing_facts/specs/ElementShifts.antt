@@ -46,6 +46,6 @@ shift_builds stands [] rows = no_shift
 shift_builds stands (b ∷ bs) rows = if stands b then then_shift (shift_builds stands bs rows) (shift_build b (with_builds stands bs rows)) else shift_builds stands bs rows
 
 -- one element does this to the rows: what gives way to it leaves, and it comes where it comes in
-pub record IsShift {A : Type 0} (row : A → FactRow) (way come : List A) (shifted : Shifted) : Type 0 where
-  pub left : option_to_list shifted.left ≡ map row way
-  pub came : option_to_list shifted.came ≡ map row come
+pub record IsShift {A K : Type 0} (key : A → K) (cmp : K → K → Ordering) (rank : A → A → Ordering) (row : A → FactRow) (x : A) (xs : List A) (shifted : Shifted) : Type 0 where
+  pub left : option_to_list shifted.left ≡ map row (way_given key cmp rank x xs)
+  pub came : option_to_list shifted.came ≡ map row (come_in key cmp rank x xs)

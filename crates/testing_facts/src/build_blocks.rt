@@ -4,14 +4,13 @@ ghost use Rattle.std.specs.Prelude.{◌≡◌, ◌==◌, ◌<◌, ◌≤◌, ◌
 ghost use Rattle.std.specs.List.{All};
 ghost use Rattle.std.specs.Option.{IfSome};
 ghost use Rattle.testing_facts.specs.Blocks.{joined, upper_rows, HasRows, AreBlocks, begins_above, IsBlockFor};
-ghost use Rattle.testing_facts.specs.ElementShifts.{way_given, come_in, shift_builds, IsShift};
+ghost use Rattle.testing_facts.specs.ElementShifts.{shift_builds, IsShift};
 ghost use Rattle.testing_model.specs.Boxed.{unboxed};
 ghost use Rattle.testing_model.specs.FactOrder.{AreByPair, AreDropsByPair};
 ghost use Rattle.testing_model.specs.FactRows.{build_row};
 ghost use Rattle.testing_model.specs.Unstable as unstable;
 ghost use Rattle.testing_model.specs.WithMessage as taken;
 
-use crate::shifts::{build_shift, taken_row};
 use crate::taken::{order_pair, put_build, stands_beside, take_row};
 use deb_control::Binary;
 use deb_version::NoMemory;
@@ -40,6 +39,13 @@ impl Model for Block {
     ghost view = { λ a. unboxed a.rows.items };
 
     ghost invariant = { λ a. IsRoomy (vec_len a.rows) (vec_capacity a.rows) };
+}
+
+/// What a build that joined a block did to the rows of the facts, and the block of the upper half, if it filled its own.
+#[derive(Drop)]
+struct Entered {
+    shifted: Shifted,
+    upper: Option<Block>,
 }
 
 impl Block {
@@ -89,26 +95,32 @@ impl Block {
     }
 
     /// A build joins the rows. Where it fills the block, the spare one takes the upper half.
-    fn put(&mut self, build: Box<BuildIn>, spare: Block) -> Option<Block>
+    fn put(&mut self, build: Box<BuildIn>, spare: Block) -> Entered
         requires order { AreByPair self.old }
         requires spare { spare ≡ [] }
-        ensures rows { self.new ++ upper_rows result ≡ taken.with_build build.value self.old }
+        ensures rows { self.new ++ upper_rows result.upper ≡ taken.with_build build.value self.old }
+        ensures shift { IsShift unstable.pair_of unstable.pair_order unstable.build_order build_row build.value self.old result.shifted }
         ensures lower { HasRows self.new }
-        ensures upper { IfSome result HasRows }
+        ensures upper { IfSome result.upper HasRows }
     {
-        put_build(&mut self.rows, build);
+        let shifted = put_build(&mut self.rows, build);
         if self.rows.len() < FULL {
-            return None;
+            return Entered {
+                shifted,
+                upper: None,
+            };
         }
-        Some(upper_half(&mut self.rows, spare))
+        let upper = Some(upper_half(&mut self.rows, spare));
+        Entered { shifted, upper }
     }
 
-    /// The rows lose the one that the drop takes, if there is one.
-    fn take(&mut self, drop: &DropIn)
+    /// The rows lose the one that the drop takes, if there is one. Gives its row of the facts.
+    fn take(&mut self, drop: &DropIn) -> Option<FactRow>
         requires { AreByPair self.old }
-        ensures { self.new ≡ taken.with_drop drop.now self.old }
+        ensures rows { self.new ≡ taken.with_drop drop.now self.old }
+        ensures gone { option_to_list result ≡ map build_row (filter (λ b. not (taken.outlives drop.now b)) self.old) }
     {
-        take_row(&mut self.rows, drop);
+        take_row(&mut self.rows, drop)
     }
 }
 
@@ -246,14 +258,16 @@ fn make_room(alloc: Global, blocks: &mut Vec<Block>, count: usize) -> Result<(),
     Ok(())
 }
 
-/// A build joins the rows, where its own has none before it. There is room for a block more.
-fn put_coming(blocks: &mut Vec<Block>, coming: Coming)
+/// A build joins the rows, where its own has none before it. Gives what that does to the rows of the facts. There is room
+/// for a block more.
+fn put_coming(blocks: &mut Vec<Block>, coming: Coming) -> Shifted
     requires order { AreByPair (joined blocks.old.items) }
     requires filled { AreBlocks blocks.old.items }
     requires some { 0 < vec_len blocks.old }
     requires room { vec_len blocks.old < vec_capacity blocks.old }
     requires spare { coming.spare ≡ [] }
     ensures rows { joined blocks.new.items ≡ taken.with_build coming.build.value (joined blocks.old.items) }
+    ensures shift { IsShift unstable.pair_of unstable.pair_order unstable.build_order build_row coming.build.value (joined blocks.old.items) result }
     ensures filled { AreBlocks blocks.new.items }
     ensures len { vec_len blocks.new ≤ vec_len blocks.old + 1 }
     ensures some { 0 < vec_len blocks.new }
@@ -263,37 +277,11 @@ fn put_coming(blocks: &mut Vec<Block>, coming: Coming)
     let binary = &build.binary;
     let place = block_for(blocks, binary.architecture.as_str(), binary.name.as_str());
     let block = &mut blocks[place];
-    if let Some(upper) = block.put(build, spare) {
+    let Entered { shifted, upper } = block.put(build, spare);
+    if let Some(upper) = upper {
         let _ = blocks.insert(place + 1, upper);
     }
-}
-
-/// What a build does to the rows of its block, and so to the rows of all.
-fn shift_in(blocks: &[Block], build: &BuildIn) -> Shifted
-    requires order { AreByPair (joined blocks.now) }
-    requires filled { AreBlocks blocks.now }
-    requires some { 0 < length blocks.now }
-    ensures { IsShift build_row (way_given unstable.pair_of unstable.pair_order unstable.build_order build.now (joined blocks.now))
-        (come_in unstable.pair_of unstable.pair_order unstable.build_order build.now (joined blocks.now)) result }
-{
-    let binary: &Binary = &build.binary;
-    let place = block_for(blocks, binary.architecture.as_str(), binary.name.as_str());
-    let block = &blocks[place];
-    build_shift(block.rows(), build)
-}
-
-/// The row that a drop takes, if there is one.
-fn taken_in(blocks: &[Block], drop: &DropIn) -> Option<FactRow>
-    requires order { AreByPair (joined blocks.now) }
-    requires filled { AreBlocks blocks.now }
-    ensures { option_to_list result ≡ map build_row (filter (λ b. not (taken.outlives drop.now b)) (joined blocks.now)) }
-{
-    if blocks.is_empty() {
-        return None;
-    }
-    let place = block_for(blocks, drop.arch.as_str(), drop.name.as_str());
-    let block = &blocks[place];
-    taken_row(block.rows(), drop)
+    shifted
 }
 
 /// The builds of one message join the rows, each where it stands, and what that does to the rows is noted. There is room
@@ -318,28 +306,30 @@ fn put_builds(held: &mut Vec<Block>, drops: &[Box<DropIn>], coming: Vec<Coming>,
     'builds: while let Some(next) = left.pop() {
         let build: &BuildIn = &next.build;
         if stands_beside(drops, build) {
-            log.note(shift_in(held, build));
-            put_coming(held, next);
+            let shifted = put_coming(held, next);
+            log.note(shifted);
         }
     }
 }
 
-/// The rows lose the one that the drop takes, if there is one.
-fn take_from(blocks: &mut Vec<Block>, drop: &DropIn)
+/// The rows lose the one that the drop takes, if there is one. Gives its row of the facts.
+fn take_from(blocks: &mut Vec<Block>, drop: &DropIn) -> Option<FactRow>
     requires order { AreByPair (joined blocks.old.items) }
     requires filled { AreBlocks blocks.old.items }
     ensures rows { joined blocks.new.items ≡ taken.with_drop drop.now (joined blocks.old.items) }
+    ensures gone { option_to_list result ≡ map build_row (filter (λ b. not (taken.outlives drop.now b)) (joined blocks.old.items)) }
     ensures filled { AreBlocks blocks.new.items }
 {
     if blocks.is_empty() {
-        return;
+        return None;
     }
     let place = block_for(blocks, drop.arch.as_str(), drop.name.as_str());
     let block = &mut blocks[place];
-    block.take(drop);
+    let gone = block.take(drop);
     if place > 0 && blocks[place].is_empty() {
         blocks.remove(place);
     }
+    gone
 }
 
 /// Unstable's rows, by architecture and name.
@@ -433,23 +423,16 @@ impl BuildBlocks {
     {
         let coming = coming_build(alloc, build)?;
         make_room(alloc, &mut self.blocks, 1)?;
-        put_coming(&mut self.blocks, coming);
+        let _ = put_coming(&mut self.blocks, coming);
         Ok(())
     }
 
-    /// The row that the drop takes, if there is one.
-    pub fn taken(&self, drop: &DropIn) -> Option<FactRow>
-        requires { AreByPair self.now }
-        ensures { option_to_list result ≡ map build_row (filter (λ b. not (taken.outlives drop.now b)) self.now) }
-    {
-        taken_in(&self.blocks, drop)
-    }
-
-    /// The rows lose the one that the drop takes, if there is one.
-    pub fn take(&mut self, drop: &DropIn)
+    /// The rows lose the one that the drop takes, if there is one. Gives its row of the facts.
+    pub fn take(&mut self, drop: &DropIn) -> Option<FactRow>
         requires { AreByPair self.old }
-        ensures { self.new ≡ taken.with_drop drop.now self.old }
+        ensures rows { self.new ≡ taken.with_drop drop.now self.old }
+        ensures gone { option_to_list result ≡ map build_row (filter (λ b. not (taken.outlives drop.now b)) self.old) }
     {
-        take_from(&mut self.blocks, drop);
+        take_from(&mut self.blocks, drop)
     }
 }

@@ -22,7 +22,7 @@ ghost use Rattle.testing_model.specs.declared.facts.UploadIn.{UploadIn as AnUplo
 
 use crate::build_blocks::BuildBlocks;
 use crate::copying::{copy_all, copy_boxed, copy_log, copy_said};
-use crate::shifts::{bug_shift, drop_shift, hint_left, last_row, source_shift, unhint_left};
+use crate::shifts::{hint_left, last_row, unhint_left};
 use crate::taken::{put_bug, put_drop, put_hint, put_kept, put_unhint, put_upload};
 use deb_version::NoMemory;
 use std::alloc::Global;
@@ -307,12 +307,11 @@ impl Facts {
         ensures ok { OnOk result (self.new ≡ with_entry (Upload upload) self.old) }
         ensures err { OnErr result (self.new ≡ self.old) }
     {
-        let shifted = source_shift(&self.sources, &upload);
         self.uploads.reserve(1)?;
         self.log
             .reserve_with(&mut self.sources, self.uploads.len(), 3)?;
         let Twice { source, kept } = two_of(self.alloc, upload)?;
-        put_upload(&mut self.sources, source);
+        let shifted = put_upload(&mut self.sources, source);
         let came = put_kept(&mut self.uploads, kept);
         self.log.note(shifted);
         self.log.note(Shifted { left: None, came });
@@ -324,17 +323,12 @@ impl Facts {
         ensures ok { OnOk result (self.new ≡ with_entry (Dropped drop) self.old) }
         ensures err { OnErr result (self.new ≡ self.old) }
     {
-        let shifted = drop_shift(&self.drops, &drop);
-        let taken = Shifted {
-            left: self.rows.taken(&drop),
-            came: None,
-        };
         let boxed = Box::new(self.alloc, drop)?;
         self.log
             .reserve_with(&mut self.drops, self.uploads.len(), 2)?;
-        self.rows.take(&boxed);
-        put_drop(&mut self.drops, boxed);
-        self.log.note(taken);
+        let left = self.rows.take(&boxed);
+        let shifted = put_drop(&mut self.drops, boxed);
+        self.log.note(Shifted { left, came: None });
         self.log.note(shifted);
         Ok(())
     }
@@ -344,11 +338,10 @@ impl Facts {
         ensures ok { OnOk result (self.new ≡ with_entry (Bug bug) self.old) }
         ensures err { OnErr result (self.new ≡ self.old) }
     {
-        let shifted = bug_shift(&self.bugs, &bug);
         let boxed = Box::new(self.alloc, bug)?;
         self.log
             .reserve_with(&mut self.bugs, self.uploads.len(), 1)?;
-        put_bug(&mut self.bugs, boxed);
+        let shifted = put_bug(&mut self.bugs, boxed);
         self.log.note(shifted);
         Ok(())
     }
@@ -451,7 +444,7 @@ impl Facts {
         self.sources.reserve(1)?;
         if let Some(upload) = said_upload(sent, item)? {
             let boxed = Box::new(self.alloc, upload)?;
-            put_upload(&mut self.sources, boxed);
+            let _ = put_upload(&mut self.sources, boxed);
         }
         Ok(())
     }
@@ -488,7 +481,7 @@ impl Facts {
         self.drops.reserve(1)?;
         if let Some(drop) = said_drop(sent, item)? {
             let boxed = Box::new(self.alloc, drop)?;
-            put_drop(&mut self.drops, boxed);
+            let _ = put_drop(&mut self.drops, boxed);
         }
         Ok(())
     }
@@ -501,7 +494,7 @@ impl Facts {
         self.bugs.reserve(1)?;
         if let Some(bug) = said_bug(sent, item)? {
             let boxed = Box::new(self.alloc, bug)?;
-            put_bug(&mut self.bugs, boxed);
+            let _ = put_bug(&mut self.bugs, boxed);
         }
         Ok(())
     }

@@ -14,7 +14,7 @@ mod unhinting;
 
 pub use built::{built_rows, rows_passing};
 pub use facts::Facts;
-pub use moves::{Unstable, as_source, source_in};
+pub use moves::{Unstable, as_source, place_of_group, source_in, source_near};
 pub use source_filter::{Hashes, SourceFilter, candidates, hashes_pass, passing_rows, set_of};
 pub use testing_order::{is_above, is_current, is_of_source, is_same_version, urgency_rank};
 pub use unhinting::{Unhints, is_in_force};

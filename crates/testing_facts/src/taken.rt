@@ -1,16 +1,17 @@
 //! One more message, in the lists of facts.
 
-ghost use Rattle.std.specs.Prelude.{◌≡◌, ◌<◌, ◌≤◌, ◌+◌, length, map, option_to_list, vec_len, vec_capacity};
+ghost use Rattle.std.specs.Prelude.{◌≡◌, ◌<◌, ◌≤◌, ◌+◌, None, filter, length, map, not, option_to_list, vec_len, vec_capacity};
 ghost use Rattle.std.specs.Ordering.{nat_cmp};
 ghost use Rattle.std.specs.List.Sorted.{IsBinarySearchResult, IsSearchInRange};
 ghost use Rattle.testing_model.specs.Boxed.{unboxed};
 ghost use Rattle.testing_model.specs.FactOrder.{AreBySource, AreByPair, AreDropsByPair, AreByNumber};
+ghost use Rattle.testing_model.specs.Unstable as unstable;
 ghost use Rattle.testing_model.specs.Unstable.{pair_order, pair_of, drop_pair, hint_order, unhint_order};
 ghost use Rattle.testing_facts.specs.HintOrder.{AreHintsByNumber, AreUnhintsByNumber};
-ghost use Rattle.testing_facts.specs.ElementShifts.{come_in};
-ghost use Rattle.testing_facts.specs.Slots.{IsSlotFor, IsSlotIn, slotted};
+ghost use Rattle.testing_facts.specs.ElementShifts.{come_in, IsShift};
+ghost use Rattle.testing_facts.specs.Slots.{IsSlotFor, IsSlotIn, IsStep, slotted};
 ghost use Rattle.testing_order.specs.Uploads.{message_order, AreByMessage, first_stays, with_kept};
-ghost use Rattle.testing_model.specs.FactRows as rows;
+ghost use Rattle.testing_model.specs.FactRows as fact_rows;
 ghost use Rattle.testing_model.specs.WithMessage as taken;
 ghost use Rattle.testing_items.specs.Words.{byte_cmp};
 
@@ -18,8 +19,8 @@ use deb_control::Binary;
 use std::cmp::Ordering;
 use testing_model::{BugIn, BuildIn, DropIn, FactRow, HintIn, UnhintIn, UploadIn};
 use testing_order::{
-    bug_order, build_order, drop_order, hint_order, outlives, place_of_kept, unhint_order,
-    upload_order, upload_row,
+    Shifted, bug_order, bug_row, build_order, build_row, drop_order, drop_row, hint_order,
+    outlives, place_of_kept, source_row, unhint_order, upload_order, upload_row,
 };
 
 /// Where a list takes an element: over the one at a place, before it, or nowhere.
@@ -28,6 +29,28 @@ pub enum Slot {
     Over(usize),
     Before(usize),
     Nowhere,
+}
+
+/// Where a list takes an element, and what that does to the rows of the facts.
+#[derive(Clone, Copy)]
+pub struct Step {
+    pub slot: Slot,
+    pub shifted: Shifted,
+}
+
+/// The list stays as it is, and so do the rows.
+fn no_step() -> Step
+    ensures slot { result.slot ≡ Slot.Nowhere }
+    ensures left { result.shifted.left ≡ None }
+    ensures came { result.shifted.came ≡ None }
+{
+    Step {
+        slot: Slot::Nowhere,
+        shifted: Shifted {
+            left: None,
+            came: None,
+        },
+    }
 }
 
 /// An element joins a list at its slot. There is room for it.
@@ -59,31 +82,42 @@ pub fn place_of_upload(sources: &[Box<UploadIn>], name: &str) -> Result<usize, u
     )
 }
 
-/// Where the list takes the upload.
-fn slot_of_upload(sources: &[Box<UploadIn>], upload: &UploadIn) -> Slot
+/// Where the sources take the upload, and what that does to the rows.
+fn step_of_upload(sources: &[Box<UploadIn>], upload: &UploadIn) -> Step
     requires { AreBySource (unboxed sources.now) }
-    ensures { IsSlotFor (unboxed sources.now) upload.now (taken.with_upload upload.now (unboxed sources.now)) result }
+    ensures { IsStep (λ u. u.source) byte_cmp unstable.upload_order fact_rows.source_row upload.now (unboxed sources.now) result }
 {
+    let came = Some(source_row(upload));
     match place_of_upload(sources, upload.source.as_str()) {
         Ok(i) => {
-            let other = &sources[i];
+            let other: &UploadIn = &sources[i];
             if upload_order(other, upload).is_lt() {
-                return Slot::Nowhere;
+                return no_step();
             }
-            Slot::Over(i)
+            let left = Some(source_row(other));
+            Step {
+                slot: Slot::Over(i),
+                shifted: Shifted { left, came },
+            }
         }
-        Err(i) => Slot::Before(i),
+        Err(i) => Step {
+            slot: Slot::Before(i),
+            shifted: Shifted { left: None, came },
+        },
     }
 }
 
-/// An upload joins unstable's sources, where its own has none before it. There is room for it.
-pub fn put_upload(sources: &mut Vec<Box<UploadIn>>, upload: Box<UploadIn>)
+/// An upload joins unstable's sources, where its own has none before it. Gives what that does to the rows. There is room
+/// for it.
+pub fn put_upload(sources: &mut Vec<Box<UploadIn>>, upload: Box<UploadIn>) -> Shifted
     requires order { AreBySource (unboxed sources.old.items) }
     requires room { vec_len sources.old < vec_capacity sources.old }
-    ensures { unboxed sources.new.items ≡ taken.with_upload upload.value (unboxed sources.old.items) }
+    ensures items { unboxed sources.new.items ≡ taken.with_upload upload.value (unboxed sources.old.items) }
+    ensures shift { IsShift (λ u. u.source) byte_cmp unstable.upload_order fact_rows.source_row upload.value (unboxed sources.old.items) result }
 {
-    let slot = slot_of_upload(sources, &upload);
-    put_at(sources, slot, upload);
+    let step = step_of_upload(sources, &upload);
+    put_at(sources, step.slot, upload);
+    step.shifted
 }
 
 /// An upload joins the uploads, unless it is there. Gives its row where it came. There is room for it.
@@ -91,7 +125,7 @@ pub fn put_kept(uploads: &mut Vec<UploadIn>, upload: UploadIn) -> Option<FactRow
     requires order { AreByMessage uploads.old.items }
     requires room { vec_len uploads.old < vec_capacity uploads.old }
     ensures items { uploads.new.items ≡ with_kept upload uploads.old.items }
-    ensures came { option_to_list result ≡ map rows.upload_row (come_in (λ u. u) message_order first_stays upload uploads.old.items) }
+    ensures came { option_to_list result ≡ map fact_rows.upload_row (come_in (λ u. u) message_order first_stays upload uploads.old.items) }
     ensures len { vec_len uploads.new ≤ vec_len uploads.old + 1 }
 {
     match place_of_kept(uploads, &upload) {
@@ -108,8 +142,10 @@ pub fn put_kept(uploads: &mut Vec<UploadIn>, upload: UploadIn) -> Option<FactRow
 fn order_drop(drop: &DropIn, arch: &str, name: &str) -> Ordering
     ensures { result ≡ pair_order (drop_pair drop.now) (arch.now, name.now) }
 {
-    let names = drop.name.as_str().cmp(name);
-    drop.arch.as_str().cmp(arch).then(names)
+    match drop.arch.as_str().cmp(arch) {
+        Ordering::Equal => drop.name.as_str().cmp(name),
+        other => other,
+    }
 }
 
 /// Where the drops have the architecture and the name, or else where these belong.
@@ -124,31 +160,42 @@ pub fn place_of_drop(drops: &[Box<DropIn>], arch: &str, name: &str) -> Result<us
     )
 }
 
-/// Where the list takes the drop.
-fn slot_of_drop(drops: &[Box<DropIn>], drop: &DropIn) -> Slot
+/// Where the drops take the drop, and what that does to the rows.
+fn step_of_drop(drops: &[Box<DropIn>], drop: &DropIn) -> Step
     requires { AreDropsByPair (unboxed drops.now) }
-    ensures { IsSlotFor (unboxed drops.now) drop.now (taken.with_greatest drop.now (unboxed drops.now)) result }
+    ensures { IsStep unstable.drop_pair unstable.pair_order unstable.drop_order fact_rows.drop_row drop.now (unboxed drops.now) result }
 {
+    let came = Some(drop_row(drop));
     match place_of_drop(drops, drop.arch.as_str(), drop.name.as_str()) {
         Ok(i) => {
-            let other = &drops[i];
+            let other: &DropIn = &drops[i];
             if drop_order(other, drop).is_lt() {
-                return Slot::Nowhere;
+                return no_step();
             }
-            Slot::Over(i)
+            let left = Some(drop_row(other));
+            Step {
+                slot: Slot::Over(i),
+                shifted: Shifted { left, came },
+            }
         }
-        Err(i) => Slot::Before(i),
+        Err(i) => Step {
+            slot: Slot::Before(i),
+            shifted: Shifted { left: None, came },
+        },
     }
 }
 
-/// A drop joins the greatest ones, where its architecture and name have none before it. There is room for it.
-pub fn put_drop(drops: &mut Vec<Box<DropIn>>, drop: Box<DropIn>)
+/// A drop joins the greatest ones, where its architecture and name have none before it. Gives what that does to the rows.
+/// There is room for it.
+pub fn put_drop(drops: &mut Vec<Box<DropIn>>, drop: Box<DropIn>) -> Shifted
     requires order { AreDropsByPair (unboxed drops.old.items) }
     requires room { vec_len drops.old < vec_capacity drops.old }
-    ensures { unboxed drops.new.items ≡ taken.with_greatest drop.value (unboxed drops.old.items) }
+    ensures items { unboxed drops.new.items ≡ taken.with_greatest drop.value (unboxed drops.old.items) }
+    ensures shift { IsShift unstable.drop_pair unstable.pair_order unstable.drop_order fact_rows.drop_row drop.value (unboxed drops.old.items) result }
 {
-    let slot = slot_of_drop(drops, &drop);
-    put_at(drops, slot, drop);
+    let step = step_of_drop(drops, &drop);
+    put_at(drops, step.slot, drop);
+    step.shifted
 }
 
 /// Where the bugs have the number, or else where it belongs.
@@ -163,39 +210,52 @@ pub fn place_of_bug(bugs: &[Box<BugIn>], bug: u32) -> Result<usize, usize>
     )
 }
 
-/// Where the list takes the bug.
-fn slot_of_bug(bugs: &[Box<BugIn>], bug: &BugIn) -> Slot
+/// Where the states take the message on a bug, and what that does to the rows.
+fn step_of_bug(bugs: &[Box<BugIn>], bug: &BugIn) -> Step
     requires { AreByNumber (unboxed bugs.now) }
-    ensures { IsSlotFor (unboxed bugs.now) bug.now (taken.with_bug bug.now (unboxed bugs.now)) result }
+    ensures { IsStep (λ b. b.bug) nat_cmp unstable.bug_order fact_rows.bug_row bug.now (unboxed bugs.now) result }
 {
+    let came = Some(bug_row(bug));
     match place_of_bug(bugs, bug.bug) {
         Ok(i) => {
-            let other = &bugs[i];
+            let other: &BugIn = &bugs[i];
             if bug_order(other, bug).is_lt() {
-                return Slot::Nowhere;
+                return no_step();
             }
-            Slot::Over(i)
+            let left = Some(bug_row(other));
+            Step {
+                slot: Slot::Over(i),
+                shifted: Shifted { left, came },
+            }
         }
-        Err(i) => Slot::Before(i),
+        Err(i) => Step {
+            slot: Slot::Before(i),
+            shifted: Shifted { left: None, came },
+        },
     }
 }
 
-/// A message on a bug joins the states, where the bug has none after it. There is room for it.
-pub fn put_bug(bugs: &mut Vec<Box<BugIn>>, bug: Box<BugIn>)
+/// A message on a bug joins the states, where the bug has none after it. Gives what that does to the rows. There is room
+/// for it.
+pub fn put_bug(bugs: &mut Vec<Box<BugIn>>, bug: Box<BugIn>) -> Shifted
     requires order { AreByNumber (unboxed bugs.old.items) }
     requires room { vec_len bugs.old < vec_capacity bugs.old }
-    ensures { unboxed bugs.new.items ≡ taken.with_bug bug.value (unboxed bugs.old.items) }
+    ensures items { unboxed bugs.new.items ≡ taken.with_bug bug.value (unboxed bugs.old.items) }
+    ensures shift { IsShift (λ b. b.bug) nat_cmp unstable.bug_order fact_rows.bug_row bug.value (unboxed bugs.old.items) result }
 {
-    let slot = slot_of_bug(bugs, &bug);
-    put_at(bugs, slot, bug);
+    let step = step_of_bug(bugs, &bug);
+    put_at(bugs, step.slot, bug);
+    step.shifted
 }
 
 /// The order of a build's architecture and name beside these.
 pub fn order_pair(build: &BuildIn, arch: &str, name: &str) -> Ordering
     ensures { result ≡ pair_order (pair_of build.now) (arch.now, name.now) }
 {
-    let names = build.binary.name.as_str().cmp(name);
-    build.binary.architecture.as_str().cmp(arch).then(names)
+    match build.binary.architecture.as_str().cmp(arch) {
+        Ordering::Equal => build.binary.name.as_str().cmp(name),
+        other => other,
+    }
 }
 
 /// Where the rows have the architecture and the name, or else where these belong.
@@ -210,34 +270,45 @@ pub fn place_of_pair(rows: &[Box<BuildIn>], arch: &str, name: &str) -> Result<us
     )
 }
 
-/// Where the list takes the build.
-fn slot_of_build(rows: &[Box<BuildIn>], build: &BuildIn) -> Slot
+/// Where the rows take the build, and what that does to the rows of the facts.
+fn step_of_build(rows: &[Box<BuildIn>], build: &BuildIn) -> Step
     requires { AreByPair (unboxed rows.now) }
-    ensures { IsSlotFor (unboxed rows.now) build.now (taken.with_build build.now (unboxed rows.now)) result }
+    ensures { IsStep unstable.pair_of unstable.pair_order unstable.build_order fact_rows.build_row build.now (unboxed rows.now) result }
 {
+    let came = Some(build_row(build));
     let binary: &Binary = &build.binary;
     match place_of_pair(rows, binary.architecture.as_str(), binary.name.as_str()) {
         Ok(i) => {
-            let other = &rows[i];
+            let other: &BuildIn = &rows[i];
             if build_order(other, build).is_lt() {
-                return Slot::Nowhere;
+                return no_step();
             }
-            Slot::Over(i)
+            let left = Some(build_row(other));
+            Step {
+                slot: Slot::Over(i),
+                shifted: Shifted { left, came },
+            }
         }
-        Err(i) => Slot::Before(i),
+        Err(i) => Step {
+            slot: Slot::Before(i),
+            shifted: Shifted { left: None, came },
+        },
     }
 }
 
-/// A build joins the rows, where its own has none before it. There is room for it.
-pub fn put_build(rows: &mut Vec<Box<BuildIn>>, build: Box<BuildIn>)
+/// A build joins the rows, where its own has none before it. Gives what that does to the rows of the facts. There is room
+/// for it.
+pub fn put_build(rows: &mut Vec<Box<BuildIn>>, build: Box<BuildIn>) -> Shifted
     requires order { AreByPair (unboxed rows.old.items) }
     requires room { vec_len rows.old < vec_capacity rows.old }
     ensures items { unboxed rows.new.items ≡ taken.with_build build.value (unboxed rows.old.items) }
+    ensures shift { IsShift unstable.pair_of unstable.pair_order unstable.build_order fact_rows.build_row build.value (unboxed rows.old.items) result }
     ensures len { vec_len rows.new ≤ vec_len rows.old + 1 }
     ensures capacity { vec_capacity rows.old ≤ vec_capacity rows.new }
 {
-    let slot = slot_of_build(rows, &build);
-    put_at(rows, slot, build);
+    let step = step_of_build(rows, &build);
+    put_at(rows, step.slot, build);
+    step.shifted
 }
 
 /// The build stands beside all of the drops.
@@ -252,17 +323,25 @@ pub fn stands_beside(drops: &[Box<DropIn>], build: &BuildIn) -> bool
     }
 }
 
-/// The rows lose the one that the drop takes, if there is one.
-pub fn take_row(rows: &mut Vec<Box<BuildIn>>, drop: &DropIn)
+/// The rows lose the one that the drop takes, if there is one. Gives its row of the facts.
+pub fn take_row(rows: &mut Vec<Box<BuildIn>>, drop: &DropIn) -> Option<FactRow>
     requires { AreByPair (unboxed rows.old.items) }
     ensures items { unboxed rows.new.items ≡ taken.with_drop drop.now (unboxed rows.old.items) }
+    ensures gone { option_to_list result ≡ map fact_rows.build_row (filter (λ b. not (taken.outlives drop.now b)) (unboxed rows.old.items)) }
     ensures len { vec_len rows.new ≤ vec_len rows.old }
     ensures capacity { vec_capacity rows.new ≡ vec_capacity rows.old }
 {
-    if let Ok(i) = place_of_pair(rows, drop.arch.as_str(), drop.name.as_str()) {
-        if !outlives(drop, &rows[i]) {
+    match place_of_pair(rows, drop.arch.as_str(), drop.name.as_str()) {
+        Ok(i) => {
+            let other: &BuildIn = &rows[i];
+            if outlives(drop, other) {
+                return None;
+            }
+            let row = build_row(other);
             rows.remove(i);
+            Some(row)
         }
+        Err(_) => None,
     }
 }
 

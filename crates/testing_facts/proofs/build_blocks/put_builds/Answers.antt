@@ -1,12 +1,11 @@
-use Rattle.std.proofs.Common.{◌≡◌, sym, ap, subst, ◌∙◌, arith, cond, [], ◌∷◌, ◌++◌, List, map, Some}
-use Rattle.std.proofs.lemmas.List.{map-append, append_assoc}
+use Rattle.std.proofs.Common.{◌≡◌, sym, ap, subst, ◌∙◌, arith, cond, [], ◌∷◌, ◌++◌, map, Some}
+use Rattle.std.proofs.lemmas.List.{map-append}
 use Rattle.std.proofs.lemmas.List.Elements.{All-pop}
 use Rattle.testing_model.specs.Boxed.{unboxed}
 use Rattle.testing_facts.specs.Blocks.{joined}
-use Rattle.testing_facts.specs.ElementShifts.{shift_build, shift_builds}
+use Rattle.testing_facts.specs.ElementShifts.{shift_builds}
 use Rattle.testing_model.specs.FactOrder.{AreByPair}
 use Rattle.testing_model.specs.WithMessage.{with_build, with_builds, stands_beside}
-use Rattle.testing_model.specs.declared.facts.BuildIn.{BuildIn}
 use Rattle.testing_facts.specs.declared.build_blocks.Coming.{Coming}
 use Rattle.testing_model.proofs.BuildLists.{builds-last}
 use Rattle.testing_facts.proofs.KeySlots.{by_pair-build}
@@ -24,27 +23,27 @@ builds-preserved-then-stands_beside c =
     let items = ap (map (λ (n : Coming). n.build.value)) c.in-Some.ensures.items ∙ map-append (λ (n : Coming). n.build.value) c.pop.new.self.items (next ∷ []) in
     record {
       rows =
-          ap (with_builds p left) c.put_coming.ensures.rows
+          ap (with_builds p left) c.put_coming-shifted.ensures.rows
           ∙ ap (λ t. with_builds p left (cond t (with_build b rows) rows)) (sym stands)
           ∙ sym (builds-last p left b rows)
           ∙ ap (λ bs. with_builds p bs rows) (sym items)
           ∙ c.builds.invariant.rows;
-      came = came-next p left b rows c.builds.log.came.items c.note.new.self.came.items (joined c.put_coming.new.blocks.items) (sym stands) c.put_coming.ensures.rows
-          (c.note.ensures.came ∙ ap (λ t. c.builds.log.came.items ++ t) (c.shift_in.ensures.came ∙ ap (λ (x : BuildIn). (shift_build x (joined c.deref.result.now)).came) c.deref-build.ensures ∙ ap (λ (bs : List (List BuildIn)). (shift_build b (joined bs)).came) c.deref.ensures.value))
+      came = came-next p left b rows c.builds.log.came.items c.note.new.self.came.items (joined c.put_coming-shifted.new.blocks.items) (sym stands) c.put_coming-shifted.ensures.rows
+          (c.note.ensures.came ∙ ap (λ t. c.builds.log.came.items ++ t) c.put_coming-shifted.ensures.shift.came)
           ∙ ap (λ bs. c.builds.log.came.items ++ (shift_builds p bs rows).came) (sym items)
           ∙ c.builds.invariant.came;
-      gone = left-next p left b rows c.builds.log.left.items c.note.new.self.left.items (joined c.put_coming.new.blocks.items) (sym stands) c.put_coming.ensures.rows
-          (c.note.ensures.left ∙ ap (λ t. c.builds.log.left.items ++ t) (c.shift_in.ensures.left ∙ ap (λ (x : BuildIn). (shift_build x (joined c.deref.result.now)).left) c.deref-build.ensures ∙ ap (λ (bs : List (List BuildIn)). (shift_build b (joined bs)).left) c.deref.ensures.value))
+      gone = left-next p left b rows c.builds.log.left.items c.note.new.self.left.items (joined c.put_coming-shifted.new.blocks.items) (sym stands) c.put_coming-shifted.ensures.rows
+          (c.note.ensures.left ∙ ap (λ t. c.builds.log.left.items ++ t) c.put_coming-shifted.ensures.shift.left)
           ∙ ap (λ bs. c.builds.log.left.items ++ (shift_builds p bs rows).left) (sym items)
           ∙ c.builds.invariant.gone;
       room_came = omega (arith, c.in-Some.ensures.len, c.note.ensures.len_came, c.note.ensures.capacity_came, c.builds.invariant.room_came);
       room_left = omega (arith, c.in-Some.ensures.len, c.note.ensures.len_left, c.note.ensures.capacity_left, c.builds.invariant.room_left);
       len = omega (arith, c.in-Some.ensures.len, c.note.ensures.len_left, c.builds.invariant.len);
       capacity = omega (arith, c.note.ensures.capacity_left, c.builds.invariant.capacity);
-      order = subst AreByPair (sym c.put_coming.ensures.rows) (by_pair-build b rows c.builds.invariant.order);
-      filled = c.put_coming.ensures.filled;
-      some = c.put_coming.ensures.some;
-      room = omega (arith, c.in-Some.ensures.len, c.put_coming.ensures.len, c.put_coming.ensures.capacity, c.builds.invariant.room);
+      order = subst AreByPair (sym c.put_coming-shifted.ensures.rows) (by_pair-build b rows c.builds.invariant.order);
+      filled = c.put_coming-shifted.ensures.filled;
+      some = c.put_coming-shifted.ensures.some;
+      room = omega (arith, c.in-Some.ensures.len, c.put_coming-shifted.ensures.len, c.put_coming-shifted.ensures.capacity, c.builds.invariant.room);
       spares = (All-pop (λ (n : Coming). n.spare ≡ []) c.builds.left.items c.pop.new.self.items (Some next) c.in-Some.ensures.items c.builds.invariant.spares).0;
     }
 

@@ -7,9 +7,9 @@ use Rattle.testing_facts.proofs.taken.put_drop.Goals as goal
 pub put_at-requires-clause-slot : goal.put_at-requires-clause-slot
 put_at-requires-clause-slot c =
     let xs = c.args.drops.now.items in
-    box_slot_in xs c.args.drop.value (with_greatest c.args.drop.value (unboxed xs)) c.slot_of_drop-slot.result (rw (c.deref.ensures.value, c.deref-2.ensures) at c.slot_of_drop-slot.ensures)
+    box_slot_in xs c.args.drop.value (with_greatest c.args.drop.value (unboxed xs)) c.step_of_drop-step.result.slot (rw (c.deref.ensures.value, c.deref-2.ensures) at c.step_of_drop-step.ensures.slot)
 
-pub returns : goal.returns
-returns c =
+pub returns-clause-items : goal.returns-clause-items
+returns-clause-items c =
     let xs = c.args.drops.now.items in
-    ap unboxed c.put_at.ensures.items ∙ box_slotted_is xs c.args.drop (with_greatest c.args.drop.value (unboxed xs)) c.slot_of_drop-slot.result (rw (c.deref.ensures.value, c.deref-2.ensures) at c.slot_of_drop-slot.ensures)
+    ap unboxed c.put_at.ensures.items ∙ box_slotted_is xs c.args.drop (with_greatest c.args.drop.value (unboxed xs)) c.step_of_drop-step.result.slot (rw (c.deref.ensures.value, c.deref-2.ensures) at c.step_of_drop-step.ensures.slot)

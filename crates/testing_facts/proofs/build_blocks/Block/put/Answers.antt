@@ -5,4 +5,4 @@ use Rattle.testing_facts.proofs.Blocking.{some-with}
 use Rattle.testing_facts.proofs.build_blocks.Block.put.Goals as goal
 
 pub returns-then-len-lt-FULL-clause-lower : goal.returns-then-len-lt-FULL-clause-lower
-returns-then-len-lt-FULL-clause-lower c = subst HasRows (sym c.put_build.ensures.items) (some-with c.args.build.value (unboxed c.self.inside.rows.items))
+returns-then-len-lt-FULL-clause-lower c = subst HasRows (sym c.put_build-shifted.ensures.items) (some-with c.args.build.value (unboxed c.self.inside.rows.items))

@@ -11,7 +11,7 @@ invariant_of-self-in-Some c = (
     by_source = c.self.invariant.0.by_source;
     by_pair = c.self.invariant.0.by_pair;
     drops_by_pair = c.self.invariant.0.drops_by_pair;
-    by_number = subst AreByNumber (sym (c.put_bug.ensures ∙ ap (λ bs. with_bug c.in_ok-boxed.boxed.value (unboxed bs)) c.in_ok-reserve.ensures.items)) (by_number-bug c.in_ok-boxed.boxed.value (unboxed c.self.inside.bugs.items) c.self.invariant.0.by_number);
+    by_number = subst AreByNumber (sym (c.put_bug.ensures.items ∙ ap (λ bs. with_bug c.in_ok-boxed.boxed.value (unboxed bs)) c.in_ok-reserve.ensures.items)) (by_number-bug c.in_ok-boxed.boxed.value (unboxed c.self.inside.bugs.items) c.self.invariant.0.by_number);
   },
   c.self.invariant.1,
   c.self.invariant.2,

@@ -10,7 +10,7 @@ invariant_of-self-in-Some c = (
   record {
     by_source = c.self.invariant.0.by_source;
     by_pair = c.self.invariant.0.by_pair;
-    drops_by_pair = subst AreDropsByPair (sym (c.put_drop.ensures ∙ ap (λ ds. with_greatest c.in_ok-boxed.boxed.value (unboxed ds)) c.in_ok-reserve.ensures.items)) (drops_by_pair-drop c.in_ok-boxed.boxed.value (unboxed c.self.inside.drops.items) c.self.invariant.0.drops_by_pair);
+    drops_by_pair = subst AreDropsByPair (sym (c.put_drop.ensures.items ∙ ap (λ ds. with_greatest c.in_ok-boxed.boxed.value (unboxed ds)) c.in_ok-reserve.ensures.items)) (drops_by_pair-drop c.in_ok-boxed.boxed.value (unboxed c.self.inside.drops.items) c.self.invariant.0.drops_by_pair);
     by_number = c.self.invariant.0.by_number;
   },
   c.self.invariant.1,

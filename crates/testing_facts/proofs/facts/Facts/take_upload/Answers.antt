@@ -10,7 +10,7 @@ use Rattle.testing_facts.proofs.facts.Facts.take_upload.Goals as goal
 pub invariant_of-self-2 : goal.invariant_of-self-2
 invariant_of-self-2 c = (
   record {
-    by_source = subst AreBySource (sym (c.put_upload.ensures ∙ ap (λ us. with_upload c.in_ok-source.field-0.source.value (unboxed us)) c.in_ok-reserve_with.ensures.items)) (by_source-upload c.in_ok-source.field-0.source.value (unboxed c.self.inside.sources.items) c.self.invariant.0.by_source);
+    by_source = subst AreBySource (sym (c.put_upload-shifted.ensures.items ∙ ap (λ us. with_upload c.in_ok-source.field-0.source.value (unboxed us)) c.in_ok-reserve_with.ensures.items)) (by_source-upload c.in_ok-source.field-0.source.value (unboxed c.self.inside.sources.items) c.self.invariant.0.by_source);
     by_pair = c.self.invariant.0.by_pair;
     drops_by_pair = c.self.invariant.0.drops_by_pair;
     by_number = c.self.invariant.0.by_number;

@@ -1,15 +1,16 @@
-use Rattle.std.proofs.Common.{◌≡◌, ◌∙◌, sym, ap, subst, get_or, false, true, arith, ◌<◌, length}
+use Rattle.std.proofs.Common.{◌≡◌, arith, ◌∙◌, sym, ap, subst, ◌<◌, length, get_or, false, true}
 use Rattle.std.specs.List.Sorted.{IsPartitionPoint}
 use Rattle.std.specs.Ordering.{is_lt}
 use Rattle.std.specs.declared.cmp.Ordering.TheVariants.{Less, Equal, Greater}
+use Rattle.testing_model.specs.Boxed.{unboxed}
+use Rattle.testing_model.specs.FactRows.{drop_row}
 use Rattle.testing_model.specs.Unstable.{pair_order, drop_pair, drop_order}
 use Rattle.testing_model.specs.declared.facts.DropIn.{DropIn}
 use Rattle.testing_model.proofs.MoreMail.{pair_total}
-use Rattle.testing_model.specs.Boxed.{unboxed}
 use Rattle.testing_model.proofs.Unboxed.{unboxed-at, unboxed-length}
 use Rattle.testing_model.proofs.KeyOrder.{searchable}
-use Rattle.testing_facts.proofs.KeySlots.{found-over, found-nowhere, found-before}
-use Rattle.testing_facts.proofs.taken.slot_of_drop.Goals as goal
+use Rattle.testing_facts.proofs.Steps.{step-nowhere, step-over, step-before}
+use Rattle.testing_facts.proofs.taken.step_of_drop.Goals as goal
 
 pub returns-then-is_lt : goal.returns-then-is_lt
 returns-then-is_lt c =
@@ -18,13 +19,13 @@ returns-then-is_lt c =
     let xs = unboxed bs in
     let i = c.in-Ok.i in
     let box = c.index-drops-i.result in
-    let other = box.value in
+    let e = box.value in
     let below : i < length bs = omega (arith, unboxed-length bs, c.in-Ok.ensures.bound) in
-    let read = unboxed-at bs i box other below c.index-drops-i.is in
+    let read : get_or xs i e ≡ c.deref-other.result.now = unboxed-at bs i box e below c.index-drops-i.is ∙ sym c.deref-other.ensures in
     let pair = ap (λ n. (x.arch, n)) (sym c.as_str-2.ensures) ∙ ap (λ a. (a, c.as_str-2.result.now)) (sym c.as_str.ensures) in
-    let level : pair_order (drop_pair (get_or xs i other)) (drop_pair x) ≡ Equal = ap (pair_order (drop_pair (get_or xs i other))) pair ∙ c.in-Ok.ensures.found other in
-    let ranked : is_lt (drop_order (get_or xs i other) x) ≡ true = ap (λ (y : DropIn). is_lt (drop_order y x)) (read ∙ sym c.deref.ensures) ∙ sym (ap is_lt c.drop_order.ensures) ∙ sym c.is_lt.ensures ∙ c.if-is_lt.true in
-    found-nowhere drop_pair pair_total drop_order x xs i other c.requires c.in-Ok.ensures.bound level ranked
+    let level : pair_order (drop_pair (get_or xs i e)) (drop_pair x) ≡ Equal = ap (pair_order (drop_pair (get_or xs i e))) pair ∙ c.in-Ok.ensures.found e in
+    let ranked : is_lt (drop_order (get_or xs i e) x) ≡ true = ap (λ (y : DropIn). is_lt (drop_order y x)) read ∙ sym (ap is_lt c.drop_order.ensures) ∙ sym c.is_lt.ensures ∙ c.if-is_lt.true in
+    step-nowhere drop_pair pair_total drop_order drop_row x xs i e c.no_step.result c.requires c.in-Ok.ensures.bound level ranked c.no_step.ensures.slot c.no_step.ensures.left c.no_step.ensures.came
 
 pub returns-else-is_lt : goal.returns-else-is_lt
 returns-else-is_lt c =
@@ -33,13 +34,13 @@ returns-else-is_lt c =
     let xs = unboxed bs in
     let i = c.in-Ok.i in
     let box = c.index-drops-i.result in
-    let other = box.value in
+    let e = box.value in
     let below : i < length bs = omega (arith, unboxed-length bs, c.in-Ok.ensures.bound) in
-    let read = unboxed-at bs i box other below c.index-drops-i.is in
+    let read : get_or xs i e ≡ c.deref-other.result.now = unboxed-at bs i box e below c.index-drops-i.is ∙ sym c.deref-other.ensures in
     let pair = ap (λ n. (x.arch, n)) (sym c.as_str-2.ensures) ∙ ap (λ a. (a, c.as_str-2.result.now)) (sym c.as_str.ensures) in
-    let level : pair_order (drop_pair (get_or xs i other)) (drop_pair x) ≡ Equal = ap (pair_order (drop_pair (get_or xs i other))) pair ∙ c.in-Ok.ensures.found other in
-    let ranked : is_lt (drop_order (get_or xs i other) x) ≡ false = ap (λ (y : DropIn). is_lt (drop_order y x)) (read ∙ sym c.deref.ensures) ∙ sym (ap is_lt c.drop_order.ensures) ∙ sym c.is_lt.ensures ∙ c.if-is_lt.false in
-    found-over drop_pair pair_total drop_order x xs i other c.requires c.in-Ok.ensures.bound level ranked
+    let level : pair_order (drop_pair (get_or xs i e)) (drop_pair x) ≡ Equal = ap (pair_order (drop_pair (get_or xs i e))) pair ∙ c.in-Ok.ensures.found e in
+    let ranked : is_lt (drop_order (get_or xs i e) x) ≡ false = ap (λ (y : DropIn). is_lt (drop_order y x)) read ∙ sym (ap is_lt c.drop_order.ensures) ∙ sym c.is_lt.ensures ∙ c.if-is_lt.false in
+    step-over drop_pair pair_total drop_order drop_row x xs i e _ _ c.requires c.in-Ok.ensures.bound level ranked (c.drop_row-in-Ok.ensures ∙ ap drop_row (sym read)) c.drop_row.ensures
 
 pub returns-in-Err : goal.returns-in-Err
 returns-in-Err c =
@@ -49,4 +50,4 @@ returns-in-Err c =
     let pair = ap (λ n. (x.arch, n)) (sym c.as_str-2.ensures) ∙ ap (λ a. (a, c.as_str-2.result.now)) (sym c.as_str.ensures) in
     let by_pair = λ (p : _). IsPartitionPoint (λ (y : DropIn). pair_order (drop_pair y) p ≡ Less) (λ (y : DropIn). pair_order (drop_pair y) p ≡ Greater) xs i in
     let parts = subst by_pair (sym pair) (c.in-Err.ensures.found (searchable drop_pair pair_total xs c.requires (c.as_str.result.now, c.as_str-2.result.now))) in
-    found-before drop_pair pair_total drop_order x xs i c.in-Err.ensures.bound parts
+    step-before drop_pair pair_total drop_order drop_row x xs i _ c.in-Err.ensures.bound parts c.drop_row.ensures

@@ -1,4 +1,4 @@
-use Rattle.std.proofs.Common.{◌≡◌, arith, ◌∙◌, sym, ap, subst, ◌∷◌, [], ◌<◌, length, get_or, map, false, true}
+use Rattle.std.proofs.Common.{◌≡◌, arith, ◌∙◌, sym, ap, subst, ◌<◌, length, get_or, false, true}
 use Rattle.std.specs.List.Sorted.{IsPartitionPoint}
 use Rattle.std.specs.Ordering.{is_lt}
 use Rattle.std.specs.declared.cmp.Ordering.TheVariants.{Less, Equal, Greater}
@@ -10,8 +10,8 @@ use Rattle.testing_model.specs.declared.facts.UploadIn.{UploadIn}
 use Rattle.testing_model.proofs.Orders.{text_order}
 use Rattle.testing_model.proofs.Unboxed.{unboxed-at, unboxed-length}
 use Rattle.testing_model.proofs.KeyOrder.{searchable}
-use Rattle.testing_facts.proofs.KeyShifts.{way-at, come-at, none-at}
-use Rattle.testing_facts.proofs.shifts.source_shift.Goals as goal
+use Rattle.testing_facts.proofs.Steps.{step-nowhere, step-over, step-before}
+use Rattle.testing_facts.proofs.taken.step_of_upload.Goals as goal
 
 pub returns-then-is_lt : goal.returns-then-is_lt
 returns-then-is_lt c =
@@ -25,9 +25,7 @@ returns-then-is_lt c =
     let read : get_or xs i e ≡ c.deref-other.result.now = unboxed-at bs i box e below c.index-sources-i.is ∙ sym c.deref-other.ensures in
     let level : byte_cmp (get_or xs i e).source x.source ≡ Equal = ap (byte_cmp (get_or xs i e).source) (sym c.as_str.ensures) ∙ c.in-Ok.ensures.found e in
     let ranked : is_lt (upload_order (get_or xs i e) x) ≡ true = ap (λ (y : UploadIn). is_lt (upload_order y x)) read ∙ sym (ap is_lt c.upload_order.ensures) ∙ sym c.is_lt.ensures ∙ c.if-is_lt.true in
-    let way = way-at (λ (u : UploadIn). u.source) text_order upload_order x true xs i e c.requires c.in-Ok.ensures.bound level ranked in
-    let come = come-at (λ (u : UploadIn). u.source) text_order upload_order x true xs i e c.requires c.in-Ok.ensures.bound level ranked in
-    record { left = sym (ap (map source_row) way); came = sym (ap (map source_row) come) }
+    step-nowhere (λ (u : UploadIn). u.source) text_order upload_order source_row x xs i e c.no_step.result c.requires c.in-Ok.ensures.bound level ranked c.no_step.ensures.slot c.no_step.ensures.left c.no_step.ensures.came
 
 pub returns-else-is_lt : goal.returns-else-is_lt
 returns-else-is_lt c =
@@ -41,22 +39,13 @@ returns-else-is_lt c =
     let read : get_or xs i e ≡ c.deref-other.result.now = unboxed-at bs i box e below c.index-sources-i.is ∙ sym c.deref-other.ensures in
     let level : byte_cmp (get_or xs i e).source x.source ≡ Equal = ap (byte_cmp (get_or xs i e).source) (sym c.as_str.ensures) ∙ c.in-Ok.ensures.found e in
     let ranked : is_lt (upload_order (get_or xs i e) x) ≡ false = ap (λ (y : UploadIn). is_lt (upload_order y x)) read ∙ sym (ap is_lt c.upload_order.ensures) ∙ sym c.is_lt.ensures ∙ c.if-is_lt.false in
-    let way = way-at (λ (u : UploadIn). u.source) text_order upload_order x false xs i e c.requires c.in-Ok.ensures.bound level ranked in
-    let come = come-at (λ (u : UploadIn). u.source) text_order upload_order x false xs i e c.requires c.in-Ok.ensures.bound level ranked in
-    record {
-      left = ap (λ r. r ∷ []) (c.source_row-in-Ok.ensures ∙ ap source_row (sym read)) ∙ sym (ap (map source_row) way);
-      came = ap (λ r. r ∷ []) c.source_row.ensures ∙ sym (ap (map source_row) come);
-    }
+    step-over (λ (u : UploadIn). u.source) text_order upload_order source_row x xs i e _ _ c.requires c.in-Ok.ensures.bound level ranked (c.source_row-in-Ok.ensures ∙ ap source_row (sym read)) c.source_row.ensures
 
 pub returns-in-Err : goal.returns-in-Err
 returns-in-Err c =
     let x = c.args.upload.now in
     let xs = unboxed c.args.sources.now in
-    let i = c.in-Err.field-0 in
+    let i = c.in-Err.i in
     let by_name = λ (n : _). IsPartitionPoint (λ (y : UploadIn). byte_cmp y.source n ≡ Less) (λ (y : UploadIn). byte_cmp y.source n ≡ Greater) xs i in
     let parts = subst by_name c.as_str.ensures (c.in-Err.ensures.found (searchable (λ (u : UploadIn). u.source) text_order xs c.requires c.as_str.result.now)) in
-    let none = none-at (λ (u : UploadIn). u.source) text_order upload_order x xs i parts in
-    record {
-      left = sym (ap (map source_row) none.0);
-      came = ap (λ r. r ∷ []) c.source_row.ensures ∙ sym (ap (map source_row) none.1);
-    }
+    step-before (λ (u : UploadIn). u.source) text_order upload_order source_row x xs i _ c.in-Err.ensures.bound parts c.source_row.ensures
