@@ -16,10 +16,11 @@ use crate::marks::{Marks, set_all};
 use crate::settle::{Falls, look_at, take_turns};
 use deb_control::Binary;
 use deb_version::NoMemory;
+use smallvec::SmallVec;
 use std::alloc::Global;
 
 // Marks the row at the place, which is fresh.
-fn mark(marks: &mut Marks, fresh: &mut Vec<usize>, place: usize) -> Result<(), NoMemory>
+fn mark(marks: &mut Marks, fresh: &mut SmallVec<usize, 4>, place: usize) -> Result<(), NoMemory>
     requires { place < length marks.old.current }
     ensures kept { marks.new.kept ≡ marks.old.kept }
     ensures marks { OnOk result (marks.new.current ≡ slice_set marks.old.current place true) }
@@ -34,7 +35,7 @@ fn mark(marks: &mut Marks, fresh: &mut Vec<usize>, place: usize) -> Result<(), N
 fn revive_one(
     there: &[bool],
     marks: &mut Marks,
-    fresh: &mut Vec<usize>,
+    fresh: &mut SmallVec<usize, 4>,
     place: usize,
 ) -> Result<(), NoMemory>
     requires there { length there.now ≡ length marks.old.current }
@@ -59,7 +60,7 @@ fn revive_one(
 fn revive_among(
     there: &[bool],
     marks: &mut Marks,
-    fresh: &mut Vec<usize>,
+    fresh: &mut SmallVec<usize, 4>,
     places: &[usize],
 ) -> Result<(), NoMemory>
     requires there { length there.now ≡ length marks.old.current }
@@ -81,7 +82,7 @@ fn revive_needers(
     needers: &NameIndex,
     there: &[bool],
     marks: &mut Marks,
-    fresh: &mut Vec<usize>,
+    fresh: &mut SmallVec<usize, 4>,
     row: &Binary,
 ) -> Result<(), NoMemory>
     requires there { length there.now ≡ length marks.old.current }
@@ -107,7 +108,7 @@ fn revive(
     graph: &Graph,
     there: &[bool],
     marks: &mut Marks,
-    fresh: &mut Vec<usize>,
+    fresh: &mut SmallVec<usize, 4>,
 ) -> Result<(), NoMemory>
     requires graph { IsGraph (shared graph.now.rows.items) graph.now.bearers graph.now.needers }
     requires there { length there.now ≡ length graph.now.rows.items }
@@ -136,7 +137,7 @@ pub fn change(
     marks: &mut Marks,
     leaving: &[usize],
     coming: &[usize],
-) -> Result<Vec<usize>, NoMemory>
+) -> Result<SmallVec<usize, 4>, NoMemory>
     requires graph { IsGraph (shared graph.now.rows.items) graph.now.bearers graph.now.needers }
     requires right { IsRight (shared graph.now.rows.items) there.old.current marks.old.current }
     requires leaving { All (λ k. k < length graph.now.rows.items) leaving.now }
@@ -150,11 +151,11 @@ pub fn change(
     set_all(marks, leaving, false)?;
     set_all(there, coming, true)?;
     set_all(marks, coming, true)?;
-    let mut fresh = coming.to_vec(alloc)?;
+    let mut fresh = SmallVec::from_slice(alloc, coming)?;
     revive(graph, there.current(), marks, &mut fresh)?;
     let mut falls = Falls {
-        waiting: leaving.to_vec(alloc)?,
-        fallen: Vec::new(alloc),
+        waiting: SmallVec::from_slice(alloc, leaving)?,
+        fallen: SmallVec::new(alloc),
     };
     look_at(graph, marks, &mut falls, &fresh, None)?;
     take_turns(graph, marks, &mut falls)?;

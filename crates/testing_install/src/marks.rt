@@ -6,6 +6,7 @@ ghost use Rattle.testing_install.specs.Trials.{IsDifference};
 ghost use Rattle.std.specs.List.{All};
 
 use deb_version::NoMemory;
+use smallvec::SmallVec;
 use std::alloc::Global;
 use std::marker::Model;
 
@@ -92,7 +93,7 @@ impl Marks {
     }
 
     /// The places that have lost their mark since the marks were last kept.
-    pub fn falling(&self, alloc: Global) -> Result<Vec<usize>, NoMemory>
+    pub fn falling(&self, alloc: Global) -> Result<SmallVec<usize, 4>, NoMemory>
         ensures { IfOk result (λ list. IsDifference self.now.kept self.now.current list.items) }
     {
         let list = difference(alloc, &self.kept, &self.current, &self.touched)?;
@@ -100,7 +101,7 @@ impl Marks {
     }
 
     /// The places that have got a mark since the marks were last kept.
-    pub fn rising(&self, alloc: Global) -> Result<Vec<usize>, NoMemory>
+    pub fn rising(&self, alloc: Global) -> Result<SmallVec<usize, 4>, NoMemory>
         ensures { IfOk result (λ list. IsDifference self.now.current self.now.kept list.items) }
     {
         let list = difference(alloc, &self.current, &self.kept, &self.touched)?;
@@ -149,10 +150,10 @@ fn difference(
     first: &[bool],
     second: &[bool],
     places: &[usize],
-) -> Result<Vec<usize>, NoMemory>
+) -> Result<SmallVec<usize, 4>, NoMemory>
     ensures { IfOk result (λ list. list.items ≡ filter (λ k. marked first.now k && not (marked second.now k)) places.now) }
 {
-    let mut list = Vec::new(alloc);
+    let mut list = SmallVec::new(alloc);
     for place in places {
         if is_in_difference(first, second, *place) {
             list.push(*place)?;

@@ -13,14 +13,15 @@ use crate::marks::Marks;
 use crate::satisfies::meets;
 use deb_control::{Binary, Clause};
 use deb_version::NoMemory;
+use smallvec::SmallVec;
 
-/// Rows that are no longer marked.
+/// Rows that are no longer marked. Mostly they are few, and stand in the value itself.
 #[derive(Drop)]
 pub struct Falls {
     /// Those that wait for their turn.
-    pub waiting: Vec<usize>,
+    pub waiting: SmallVec<usize, 4>,
     /// Those that a look took the mark from.
-    pub fallen: Vec<usize>,
+    pub fallen: SmallVec<usize, 4>,
 }
 
 // The clause is to be looked at where the row is lost, or where no lost row is given.

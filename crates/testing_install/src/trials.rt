@@ -14,15 +14,17 @@ use crate::change::{change, lost_by};
 use crate::graph::Graph;
 use crate::marks::{Marks, set_all};
 use deb_version::NoMemory;
+use smallvec::SmallVec;
 use std::alloc::Global;
 
-/// A change that was tried: which rows leave and come, which lose their mark by it, and which get one.
+/// A change that was tried: which rows leave and come, which lose their mark by it, and which get one. Mostly they are
+/// few, and stand in the value itself.
 #[derive(Drop)]
 pub struct Tried {
-    pub leaving: Vec<usize>,
-    pub coming: Vec<usize>,
-    pub falling: Vec<usize>,
-    pub rising: Vec<usize>,
+    pub leaving: SmallVec<usize, 4>,
+    pub coming: SmallVec<usize, 4>,
+    pub falling: SmallVec<usize, 4>,
+    pub rising: SmallVec<usize, 4>,
 }
 
 /// The change of no rows, which needs no trial.
@@ -33,10 +35,10 @@ pub fn nothing_tried(alloc: Global) -> Tried
     ensures rising { result.rising.items ≡ [] }
 {
     Tried {
-        leaving: Vec::new(alloc),
-        coming: Vec::new(alloc),
-        falling: Vec::new(alloc),
-        rising: Vec::new(alloc),
+        leaving: SmallVec::new(alloc),
+        coming: SmallVec::new(alloc),
+        falling: SmallVec::new(alloc),
+        rising: SmallVec::new(alloc),
     }
 }
 
@@ -52,8 +54,8 @@ fn noted(
     ensures falling { IfOk result (λ t. IsDifference marks.now.kept marks.now.current t.falling.items) }
     ensures rising { IfOk result (λ t. IsDifference marks.now.current marks.now.kept t.rising.items) }
 {
-    let leaving = leaving.to_vec(alloc)?;
-    let coming = coming.to_vec(alloc)?;
+    let leaving = SmallVec::from_slice(alloc, leaving)?;
+    let coming = SmallVec::from_slice(alloc, coming)?;
     let falling = marks.falling(alloc)?;
     let rising = marks.rising(alloc)?;
     Ok(Tried {

@@ -12,8 +12,9 @@ ghost use Rattle.testing_suites.specs.Tried.{IsWithin, IsRemovalOf};
 use crate::row_tests::{is_of, is_same_key};
 use deb_control::Text;
 use deb_version::NoMemory;
+use smallvec::SmallVec;
 use std::alloc::Global;
-use testing_facts::{is_current, source_in};
+use testing_facts::{is_current, source_near};
 use testing_model::{LentRow, UploadIn};
 use testing_suites::{Change, Pool};
 
@@ -45,7 +46,7 @@ fn stands_for(pool: &Pool, stands: &[bool], other: &LentRow, place: usize) -> bo
 
 /// Those of the places whose rows come for the upload.
 fn push_coming(
-    coming: &mut Vec<usize>,
+    coming: &mut SmallVec<usize, 4>,
     pool: &Pool,
     first: usize,
     upload: &UploadIn,
@@ -63,20 +64,21 @@ fn push_coming(
 }
 
 /// The places of the rows that come: unstable's rows, which begin at the first place, that are current for a source of
-/// the group.
+/// the group. Near the guessed place a source is looked for first.
 pub fn coming_of(
     alloc: Global,
     pool: &Pool,
     first: usize,
     sources: &[Box<UploadIn>],
+    near: usize,
     group: &[Text],
-) -> Result<Vec<usize>, NoMemory>
+) -> Result<SmallVec<usize, 4>, NoMemory>
     requires { AreBySource (unboxed sources.now) }
     ensures { IfOk result (λ coming. AreThose (comes_at pool.now first) (group_sources (unboxed sources.now) group.now) coming.items) }
 {
-    let mut coming = Vec::new(alloc);
+    let mut coming = SmallVec::new(alloc);
     for name in group {
-        if let Some(upload) = source_in(sources, name.as_str()) {
+        if let Some(upload) = source_near(sources, name.as_str(), near) {
             let places = pool.of_source(upload.source.as_str());
             push_coming(&mut coming, pool, first, upload, places)?;
         }
@@ -86,7 +88,7 @@ pub fn coming_of(
 
 /// Those of the places whose rows stand and name the source.
 fn push_standing(
-    leaving: &mut Vec<usize>,
+    leaving: &mut SmallVec<usize, 4>,
     pool: &Pool,
     stands: &[bool],
     name: &str,
@@ -110,11 +112,11 @@ fn standing_of_group(
     pool: &Pool,
     stands: &[bool],
     group: &[Text],
-) -> Result<Vec<usize>, NoMemory>
+) -> Result<SmallVec<usize, 4>, NoMemory>
     requires { length stands.now ≡ length pool.now }
     ensures { IfOk result (λ leaving. AreThose (stands_of pool.now stands.now) group.now leaving.items) }
 {
-    let mut leaving = Vec::new(alloc);
+    let mut leaving = SmallVec::new(alloc);
     for name in group {
         let places = pool.of_source(name.as_str());
         push_standing(&mut leaving, pool, stands, name.as_str(), places)?;
@@ -124,7 +126,7 @@ fn standing_of_group(
 
 /// Those of the places whose rows stand and have the key of the other.
 fn push_giving_way(
-    leaving: &mut Vec<usize>,
+    leaving: &mut SmallVec<usize, 4>,
     pool: &Pool,
     stands: &[bool],
     other: &LentRow,
@@ -148,12 +150,12 @@ fn giving_way(
     pool: &Pool,
     stands: &[bool],
     coming: &[usize],
-) -> Result<Vec<usize>, NoMemory>
+) -> Result<SmallVec<usize, 4>, NoMemory>
     requires places { All (λ k. k < length pool.now) coming.now }
     requires flags { length stands.now ≡ length pool.now }
     ensures { IfOk result (λ leaving. AreThose (gives_way_to pool.now stands.now) coming.now leaving.items) }
 {
-    let mut leaving = Vec::new(alloc);
+    let mut leaving = SmallVec::new(alloc);
     for place in coming {
         let row = pool.row(*place);
         let places = pool.of_name(row.binary.name.as_str());
@@ -163,13 +165,14 @@ fn giving_way(
 }
 
 /// The rows that come by a move of the group, and those that leave: the rows that are present of its sources, and those of the
-/// key of one that comes. Unstable's rows begin at the first place.
+/// key of one that comes. Unstable's rows begin at the first place. Near the guessed place a source is looked for first.
 pub fn change_by_move(
     alloc: Global,
     pool: &Pool,
     stands: &[bool],
     first: usize,
     sources: &[Box<UploadIn>],
+    near: usize,
     group: &[Text],
 ) -> Result<Change, NoMemory>
     requires order { AreBySource (unboxed sources.now) }
@@ -177,7 +180,7 @@ pub fn change_by_move(
     ensures within { IfOk result (λ change. IsWithin pool.now change.leaving.items change.coming.items) }
     ensures moves { IfOk result (λ change. IsMoveOf pool.now stands.now first (unboxed sources.now) group.now change.leaving.items change.coming.items) }
 {
-    let coming = coming_of(alloc, pool, first, sources, group)?;
+    let coming = coming_of(alloc, pool, first, sources, near, group)?;
     let mut leaving = standing_of_group(alloc, pool, stands, group)?;
     let giving_way = giving_way(alloc, pool, stands, &coming)?;
     leaving.extend_from_slice(&giving_way)?;
@@ -196,10 +199,10 @@ pub fn change_by_removal(
     ensures removal { IfOk result (λ change. IsRemovalOf pool.now stands.now name.now change.leaving.items) }
     ensures none { IfOk result (λ change. change.coming.items ≡ []) }
 {
-    let mut leaving = Vec::new(alloc);
+    let mut leaving = SmallVec::new(alloc);
     push_standing(&mut leaving, pool, stands, name, pool.of_source(name))?;
     Ok(Change {
         leaving,
-        coming: Vec::new(alloc),
+        coming: SmallVec::new(alloc),
     })
 }

@@ -16,7 +16,7 @@ use deb_version::{NoMemory, Version};
 use std::alloc::Global;
 use std::cmp::Ordering;
 use std::marker::Model;
-use testing_facts::{as_source, source_in};
+use testing_facts::{as_source, source_near};
 use testing_model::{SourceIn, UploadIn};
 
 /// A source during a run: testing lacks it, or it is as it was before, lent, or as a move has put it.
@@ -134,11 +134,13 @@ fn lend_sources<'u, 'a>(
     Ok(())
 }
 
-/// The sources of a group get their unstable versions.
+/// The sources of a group get their unstable versions. The guessed place is tried first, among unstable's sources and
+/// among the slots: mostly these are the same sources.
 fn move_sources<'u, 'a>(
     alloc: Global,
     slots: &mut Vec<Slot<'u, 'a>>,
     unstable: &[Box<UploadIn>],
+    near: usize,
     group: &[Text],
 ) -> Result<(), NoMemory>
     requires unstable { AreBySource (unboxed unstable.now) }
@@ -146,9 +148,9 @@ fn move_sources<'u, 'a>(
     ensures ok { OnOk result (sources_of slots.new.items ≡ sources_after (unboxed unstable.now) group.now (sources_of slots.old.items)) }
     ensures ordered { AreSlots slots.new.items }
 {
-    let mut guess = 0;
+    let mut guess = near;
     for name in group {
-        if let Some(upload) = source_in(unstable, name.as_str()) {
+        if let Some(upload) = source_near(unstable, name.as_str(), guess) {
             let source = Box::new(alloc, as_source(alloc, upload)?)?;
             guess = put_slot(slots, Slot::Moved(source), guess)? + 1;
         }
@@ -167,11 +169,39 @@ fn take_slot(slots: &mut Vec<Slot>, name: &str)
     }
 }
 
+/// The version of the source of a name, by where the name was found among the slots, or where it belongs.
+fn version_found<'s>(
+    slots: &'s [Slot],
+    name: &str,
+    place: Result<usize, usize>,
+) -> Option<&'s Version>
+    requires slots { AreSlots slots.now }
+    requires bound { IsSearchInRange place (length slots.now) }
+    requires found { IsBinarySearchResult (λ s. byte_cmp (name_of s) name.now) slots.now place }
+    ensures { option_copied result ≡ option_map (λ s. s.version) (find (λ s. bytes_eq s.name name.now) (sources_of slots.now)) }
+{
+    match place {
+        Ok(place) => {
+            let source = slots[place].source()?;
+            Some(&source.version)
+        }
+        Err(_) => None,
+    }
+}
+
+/// Where the name next to one that was found, or belongs, at a place may stand.
+fn next_place(place: Result<usize, usize>) -> usize {
+    match place {
+        Ok(place) => place.saturating_add(1),
+        Err(place) => place,
+    }
+}
+
 /// Copies of testing's sources.
 fn copy_sources(alloc: Global, slots: &[Slot]) -> Result<Vec<SourceIn>, NoMemory>
     ensures { IfOk result (λ sources. sources.items ≡ sources_of slots.now) }
 {
-    let mut sources = Vec::new(alloc);
+    let mut sources = Vec::with_capacity(alloc, slots.len())?;
     for slot in slots {
         if let Some(source) = slot.source() {
             sources.push(source.copy(alloc)?)?;
@@ -218,27 +248,33 @@ impl<'u, 'a> LiveSources<'u, 'a> {
     pub fn version_of(&self, name: &str) -> Option<&Version>
         ensures { option_copied result ≡ option_map (λ s. s.version) (find (λ s. bytes_eq s.name name.now) self.now) }
     {
-        match place_of_name(&self.slots, name) {
-            Ok(place) => {
-                let source = self.slots[place].source()?;
-                Some(&source.version)
-            }
-            Err(_) => None,
-        }
+        let slots = self.slots.as_slice();
+        version_found(slots, name, place_of_name(slots, name))
     }
 
-    /// The sources of a group get their unstable versions.
+    /// The version of the source of a name, and at which place the next name may stand. The guessed place is tried first.
+    pub fn version_near(&self, name: &str, guess: usize) -> (Option<&Version>, usize)
+        ensures { option_copied result.0 ≡ option_map (λ s. s.version) (find (λ s. bytes_eq s.name name.now) self.now) }
+    {
+        let slots = self.slots.as_slice();
+        let place = place_near(slots, name, guess);
+        let version = version_found(slots, name, place);
+        (version, next_place(place))
+    }
+
+    /// The sources of a group get their unstable versions. The guessed place is tried first.
     pub fn move_group(
         &mut self,
         alloc: Global,
         unstable: &[Box<UploadIn>],
+        near: usize,
         group: &[Text],
     ) -> Result<(), NoMemory>
         requires { AreBySource (unboxed unstable.now) }
         ensures ok { OnOk result (self.new ≡ sources_after (unboxed unstable.now) group.now self.old) }
         ensures ordered { AreByName self.new }
     {
-        move_sources(alloc, &mut self.slots, unstable, group)
+        move_sources(alloc, &mut self.slots, unstable, near, group)
     }
 
     /// Takes out the source of a name.

@@ -127,11 +127,13 @@ impl PoolSuites {
         hashes_pass(&self.candidates, group)
     }
 
-    /// The rows that come by a move of the group, and those that leave.
+    /// The rows that come by a move of the group, and those that leave. Near the guessed place a source is looked for
+    /// first.
     pub fn change_by_move(
         &self,
         alloc: Global,
         sources: &[Box<UploadIn>],
+        near: usize,
         group: &[Text],
     ) -> Result<Change, NoMemory>
         requires { AreBySource (unboxed sources.now) }
@@ -139,7 +141,15 @@ impl PoolSuites {
         ensures moves { IfOk result (λ change. IsMoveOf self.now.rows self.now.stands self.now.first (unboxed sources.now) group.now change.leaving.items change.coming.items) }
     {
         let stands = self.kept.stands();
-        change_by_move(alloc, self.kept.pool(), stands, self.first, sources, group)
+        change_by_move(
+            alloc,
+            self.kept.pool(),
+            stands,
+            self.first,
+            sources,
+            near,
+            group,
+        )
     }
 
     /// The rows that leave by a removal of the source.
@@ -152,17 +162,19 @@ impl PoolSuites {
     }
 
     /// A clause of a row that would come by a move of the group, which no row on its architecture meets that stands or
-    /// would come. Where there is none, the move may break something nevertheless.
+    /// would come. Where there is none, the move may break something nevertheless. Near the guessed place a source is
+    /// looked for first.
     pub fn lack_by_move(
         &self,
         alloc: Global,
         sources: &[Box<UploadIn>],
+        near: usize,
         group: &[Text],
     ) -> Result<Option<&Clause>, NoMemory>
         requires { AreBySource (unboxed sources.now) }
         ensures { IfOk result (λ found. IfSome found (λ clause. IsLackOfMove self.now (unboxed sources.now) group.now clause.now)) }
     {
-        let coming = coming_of(alloc, self.kept.pool(), self.first, sources, group)?;
+        let coming = coming_of(alloc, self.kept.pool(), self.first, sources, near, group)?;
         Ok(lack_among(&self.kept, &self.provided, &coming))
     }
 

@@ -98,12 +98,14 @@ fn broken_by_change(
 }
 
 /// What the move of a group breaks, told by the suites, and the change that was tried. There is none where the suites
-/// leave out the rows of one of its sources: then the move is judged anew.
+/// leave out the rows of one of its sources: then the move is judged anew. Near the guessed place a source is looked for
+/// first.
 fn told_by_move(
     alloc: Global,
     suites: &mut PoolSuites,
     archs: &Archs,
     unstable: Unstable<'_, '_>,
+    near: usize,
     group: &[Text],
 ) -> Result<(Option<Offender>, Option<Change>), NoMemory>
     requires order { IsUnstableOrder (unboxed unstable.sources.now) (lent unstable.rows.now) }
@@ -117,7 +119,7 @@ fn told_by_move(
         let offender = broken_by_move_of_standing(alloc, suites, archs, unstable, group)?;
         return Ok((offender, None));
     }
-    let change = suites.change_by_move(alloc, unstable.sources, group)?;
+    let change = suites.change_by_move(alloc, unstable.sources, near, group)?;
     let offender = broken_by_change(alloc, suites, archs, unstable, group, &change)?;
     Ok((offender, Some(change)))
 }
@@ -156,12 +158,13 @@ fn broken_by_move_of_held(
 }
 
 /// What the move of a group would break: told by the suites where there are any, and else judged anew. Beside it stands
-/// the change that was tried, if one was.
+/// the change that was tried, if one was. Near the guessed place a source is looked for first.
 pub fn broken_by_move(
     alloc: Global,
     rows: &mut LiveRows,
     archs: &Archs,
     unstable: Unstable<'_, '_>,
+    near: usize,
     group: &[Text],
 ) -> Result<(Option<Offender>, Option<Change>), NoMemory>
     requires order { IsUnstableOrder (unboxed unstable.sources.now) (lent unstable.rows.now) }
@@ -173,18 +176,20 @@ pub fn broken_by_move(
     ensures change { IfOk result (λ told. IfSome told.1 (IsChangeBy rows.old (unboxed unstable.entry.sources.now) group.now)) }
 {
     if let LiveRows::Pooled(suites) = rows {
-        return told_by_move(alloc, suites, archs, unstable, group);
+        return told_by_move(alloc, suites, archs, unstable, near, group);
     }
     let offender = broken_by_move_of_held(alloc, rows, archs, unstable, group)?;
     Ok((offender, None))
 }
 
 /// A clause of a row that would come by the move of a group, which no row on its architecture meets that stands or would
-/// come. The suites can't tell where they leave out the rows of one of its sources.
+/// come. The suites can't tell where they leave out the rows of one of its sources. Near the guessed place a source is
+/// looked for first.
 fn lack_told<'r>(
     alloc: Global,
     suites: &'r PoolSuites,
     unstable: Unstable<'_, '_>,
+    near: usize,
     group: &[Text],
 ) -> Result<Option<&'r Clause>, NoMemory>
     requires { AreBySource (unboxed unstable.sources.now) }
@@ -192,18 +197,20 @@ fn lack_told<'r>(
         → Lacks archs (unboxed unstable.entry.sources.now) (lent unstable.entry.rows.now) group.now (present_rows suites.now) clause.now)) }
 {
     if suites.offers(group) {
-        suites.lack_by_move(alloc, unstable.sources, group)
+        suites.lack_by_move(alloc, unstable.sources, near, group)
     } else {
         Ok(None)
     }
 }
 
 /// A clause of a row that would come by the move of a group, which no row on its architecture meets that stands or would
-/// come: then the move is refused. It is looked for where there are suites.
+/// come: then the move is refused. It is looked for where there are suites. Near the guessed place a source is looked for
+/// first.
 pub fn lack_by_move<'r>(
     alloc: Global,
     rows: &'r LiveRows,
     unstable: Unstable<'_, '_>,
+    near: usize,
     group: &[Text],
 ) -> Result<Option<&'r Clause>, NoMemory>
     requires { AreBySource (unboxed unstable.sources.now) }
@@ -211,7 +218,7 @@ pub fn lack_by_move<'r>(
         → Lacks archs (unboxed unstable.entry.sources.now) (lent unstable.entry.rows.now) group.now (held rows.now) clause.now)) }
 {
     if let LiveRows::Pooled(suites) = rows {
-        return lack_told(alloc, suites, unstable, group);
+        return lack_told(alloc, suites, unstable, near, group);
     }
     Ok(None)
 }

@@ -1,7 +1,8 @@
 //! Groups that easy hints ask for.
 
-ghost use Rattle.std.specs.Prelude.{◌≡◌, true, length, ◌∷◌, [], ◌++◌, ◌&&◌, not, IfOk, OnOk, option_copied, map, filter, find};
+ghost use Rattle.std.specs.Prelude.{◌≡◌, true, false, length, ◌∷◌, [], ◌++◌, ◌&&◌, not, IfOk, OnOk, option_copied, map, filter, find};
 ghost use Rattle.std.specs.List.Sorted.{IsSearchInRange};
+ghost use Rattle.std.specs.Option.{option_map_or};
 ghost use Rattle.std.specs.Str.{bytes_eq};
 ghost use Rattle.testing_model.specs.Boxed.{unboxed};
 ghost use Rattle.testing_model.specs.FactOrder.{AreBySource};
@@ -82,14 +83,21 @@ pub fn is_candidate(excuses: &[Excuse], name: &str, version: &Version) -> bool
     is_found(excuses, name, version) || is_among(excuses, name, version)
 }
 
+/// What testing has of a source, if anything, is the version.
+pub fn is_version(there: Option<&Version>, version: &Version) -> bool
+    ensures { result ≡ option_map_or (words.is_same_version version.now) (option_copied there.entry) false }
+{
+    match there {
+        Some(there) => is_same_version(version, there),
+        None => false,
+    }
+}
+
 /// Testing has the source at the version.
 pub fn is_in_testing(testing: &LiveTesting, name: &str, version: &Version) -> bool
     ensures { result ≡ rules.is_in_testing testing.now.suite name.now version.now }
 {
-    match testing.version_of(name) {
-        Some(there) => is_same_version(version, there),
-        None => false,
-    }
+    is_version(testing.version_of(name), version)
 }
 
 /// The items that testing doesn't have yet.

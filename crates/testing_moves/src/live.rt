@@ -19,7 +19,7 @@ use deb_version::{NoMemory, Version};
 use std::alloc::Global;
 use std::marker::Model;
 use std::mem;
-use testing_facts::{Hashes, Unstable};
+use testing_facts::{Hashes, Unstable, place_of_group};
 use testing_items::Archs;
 use testing_live::{LiveRows, LiveSources};
 use testing_model::{Offender, UploadIn};
@@ -34,6 +34,9 @@ pub struct LiveTesting<'u, 'a> {
     unstable: Unstable<'u, 'a>,
     sources: LiveSources<'u, 'a>,
     rows: LiveRows,
+
+    /// Where the source that was tried last stands among unstable's. Most sources are tried in the order of their names.
+    near: usize,
 }
 
 impl<'u, 'a> Model for LiveTesting<'u, 'a> {
@@ -77,6 +80,7 @@ impl<'u, 'a> LiveTesting<'u, 'a> {
             unstable,
             sources,
             rows,
+            near: 0,
         })
     }
 
@@ -85,6 +89,14 @@ impl<'u, 'a> LiveTesting<'u, 'a> {
         ensures { option_copied result ≡ excuses.testing_version self.now.suite name.now }
     {
         self.sources.version_of(name)
+    }
+
+    /// The source's version in testing, and where the source next to it by name may stand. The guessed place is tried
+    /// first.
+    pub fn version_near(&self, name: &str, guess: usize) -> (Option<&Version>, usize)
+        ensures { option_copied result.0 ≡ excuses.testing_version self.now.suite name.now }
+    {
+        self.sources.version_near(name, guess)
     }
 
     /// Unstable's sources.
@@ -104,11 +116,14 @@ impl<'u, 'a> LiveTesting<'u, 'a> {
         ensures same { self.new ≡ self.old }
         ensures offender { IfOk result (λ o. o ≡ broken_by_move group.now self.old) }
     {
+        let near = place_of_group(self.unstable.sources, group, self.near);
+        self.near = near;
         let (offender, _change) = breaking::broken_by_move(
             alloc,
             &mut self.rows,
             self.archs,
             self.unstable,
+            near,
             group,
         )?;
         Ok(offender)
@@ -120,7 +135,7 @@ impl<'u, 'a> LiveTesting<'u, 'a> {
         ensures lacks { IfOk result (λ found. IfSome found (λ clause. IsLacking group.now self.now clause.now)) }
         ensures refused { IfOk result (λ found. IfSome found (λ clause. is_none (broken_by_move group.now self.now) ≡ false)) }
     {
-        breaking::lack_by_move(alloc, &self.rows, self.unstable, group)
+        breaking::lack_by_move(alloc, &self.rows, self.unstable, self.near, group)
     }
 
     /// Of so many candidates none was refused so far.
@@ -146,11 +161,14 @@ impl<'u, 'a> LiveTesting<'u, 'a> {
         ensures same { IfOk result (λ o. is_some o ≡ true → self.new ≡ self.old) }
         ensures asleep { IfOk result (λ o. is_some o ≡ true → refusals.new ≡ refusals.old) }
     {
+        let near = place_of_group(self.unstable.sources, group, self.near);
+        self.near = near;
         let (offender, change) = breaking::broken_by_move(
             alloc,
             &mut self.rows,
             self.archs,
             self.unstable,
+            near,
             group,
         )?;
         if offender.is_some() {
@@ -158,7 +176,7 @@ impl<'u, 'a> LiveTesting<'u, 'a> {
         }
         breaking::wake_by_change(&self.rows, &change, refusals);
         self.sources
-            .move_group(alloc, self.unstable.sources, group)?;
+            .move_group(alloc, self.unstable.sources, near, group)?;
         let rows = mem::replace(&mut self.rows, LiveRows::Listed(Vec::new(alloc)));
         self.rows = rows.moved(alloc, self.unstable, group, change)?;
         Ok(offender)
@@ -195,6 +213,7 @@ impl<'u, 'a> LiveTesting<'u, 'a> {
             unstable: _,
             sources,
             rows,
+            near: _,
         } = self;
         let sources = sources.copies(alloc)?;
         let (rows, kept) = rows.into_parts(alloc)?;

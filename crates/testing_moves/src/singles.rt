@@ -9,7 +9,7 @@ ghost use Rattle.testing_moves.specs.Refusals.{IsNumbered, AreNumbered, AreRefus
 ghost use Rattle.testing_moves.specs.Runs.{go_on, moment_of};
 ghost use Rattle.testing_model.specs.Updates as rules;
 
-use crate::groups::{has_no_reason, is_in_testing};
+use crate::groups::{has_no_reason, is_version};
 use crate::live::LiveTesting;
 use crate::refusals::{Numbered, Refusals, with_numbers};
 use crate::turns::Turns;
@@ -19,11 +19,16 @@ use std::collections::VecDeque;
 use std::slice;
 use testing_model::{Decision, Excuse, Offender};
 
-/// The excuse makes its source a candidate, which hasn't moved.
-fn is_remaining(testing: &LiveTesting, excuse: &Excuse) -> bool
-    ensures { result ≡ rules.is_remaining testing.now.suite excuse.now }
+/// Whether the excuse makes its source a candidate, which hasn't moved, and where the source next to it by name may stand
+/// in testing. The guessed place is tried first.
+fn is_remaining(testing: &LiveTesting, excuse: &Excuse, guess: usize) -> (bool, usize)
+    ensures { result.0 ≡ rules.is_remaining testing.now.suite excuse.now }
 {
-    has_no_reason(excuse) && !is_in_testing(testing, excuse.source.as_str(), &excuse.unstable)
+    if !has_no_reason(excuse) {
+        return (false, guess);
+    }
+    let (version, next) = testing.version_near(excuse.source.as_str(), guess);
+    (!is_version(version, &excuse.unstable), next)
 }
 
 /// The candidates that haven't moved, by name.
@@ -35,8 +40,11 @@ fn remaining<'a>(
     ensures { IfOk result (λ es. lent_excuses es.items ≡ rules.remaining excuses.now testing.now.suite) }
 {
     let mut candidates = Vec::new(alloc);
+    let mut next = 0;
     for excuse in excuses {
-        if is_remaining(testing, excuse) {
+        let (remains, after) = is_remaining(testing, excuse, next);
+        next = after;
+        if remains {
             candidates.push(excuse)?;
         }
     }

@@ -11,6 +11,7 @@ use crate::offender::is_row_on;
 use crate::pool::Pool;
 use deb_control::Binary;
 use deb_version::NoMemory;
+use smallvec::SmallVec;
 use std::alloc::Global;
 use std::marker::Model;
 use std::rc::Rc;
@@ -25,11 +26,16 @@ fn is_place_on(arch: u32, pool: &Pool, place: usize) -> bool
 }
 
 /// The places, from one on, of the pool's rows that are on the architecture.
-fn places_on(alloc: Global, arch: u32, pool: &Pool, from: usize) -> Result<Vec<usize>, NoMemory>
+fn places_on(
+    alloc: Global,
+    arch: u32,
+    pool: &Pool,
+    from: usize,
+) -> Result<SmallVec<usize, 4>, NoMemory>
     requires { from ≤ length pool.now }
     ensures { IfOk result (λ places. places.items ≡ filter (is_place_on arch pool.now) (range_with_len from (length pool.now - from))) }
 {
-    let mut places = Vec::new(alloc);
+    let mut places = SmallVec::new(alloc);
     for place in from..pool.len() {
         if is_place_on(arch, pool, place) {
             places.push(place)?;
@@ -43,7 +49,7 @@ fn packages_at(alloc: Global, pool: &Pool, places: &[usize]) -> Result<Vec<Rc<Bi
     requires { All (λ k. k < length pool.now) places.now }
     ensures { IfOk result (λ packages. map (λ b. Some b) (shared packages.items) ≡ map (package_at pool.now) places.now) }
 {
-    let mut packages = Vec::new(alloc);
+    let mut packages = Vec::with_capacity(alloc, places.len())?;
     for place in places {
         packages.push(pool.package(*place)?)?;
     }
@@ -108,11 +114,15 @@ fn number_of(places: &[usize], place: usize) -> Option<usize>
 }
 
 /// The numbers of the places among those that ascend. What isn't one of them is left out.
-fn numbers_of(alloc: Global, own: &[usize], places: &[usize]) -> Result<Vec<usize>, NoMemory>
+fn numbers_of(
+    alloc: Global,
+    own: &[usize],
+    places: &[usize],
+) -> Result<SmallVec<usize, 4>, NoMemory>
     requires { AreAscending own.now }
     ensures { IfOk result (λ numbers. AreNumbers own.now places.now numbers.items) }
 {
-    let mut numbers = Vec::new(alloc);
+    let mut numbers = SmallVec::new(alloc);
     for place in places {
         if let Some(number) = number_of(own, *place) {
             numbers.push(number)?;
@@ -122,11 +132,15 @@ fn numbers_of(alloc: Global, own: &[usize], places: &[usize]) -> Result<Vec<usiz
 }
 
 /// The places of the numbers.
-fn places_of(alloc: Global, own: &[usize], numbers: &[usize]) -> Result<Vec<usize>, NoMemory>
+fn places_of(
+    alloc: Global,
+    own: &[usize],
+    numbers: &[usize],
+) -> Result<SmallVec<usize, 4>, NoMemory>
     requires { All (λ i. i < length own.now) numbers.now }
     ensures { IfOk result (λ places. places.items ≡ map (slice_index own.now) numbers.now) }
 {
-    let mut places = Vec::new(alloc);
+    let mut places = SmallVec::new(alloc);
     for number in numbers {
         places.push(own[*number])?;
     }
@@ -199,7 +213,7 @@ impl ArchSuite {
         alloc: Global,
         leaving: &[usize],
         coming: &[usize],
-    ) -> Result<Vec<usize>, NoMemory>
+    ) -> Result<SmallVec<usize, 4>, NoMemory>
         ensures same { self.new ≡ self.old }
         ensures lost { IfOk result (λ lost. AreLostFrom self.old leaving.now coming.now lost.items) }
     {

@@ -19,6 +19,7 @@ ghost use Rattle.testing_model.specs.declared.suite.RowIn.{RowIn as ARow};
 use crate::lent_rows::{are_by_key, lend_rows, rows_at, rows_in_order};
 use crate::{ArchSuite, Change, Pool, lost_anywhere};
 use deb_version::NoMemory;
+use smallvec::SmallVec;
 use std::alloc::Global;
 use std::marker::Model;
 use testing_model::{LentRow, Offender, RowIn};
@@ -47,10 +48,10 @@ fn none_stands(flags: &[bool], places: &[usize]) -> bool
 }
 
 /// The first places.
-fn first_places(alloc: Global, count: usize) -> Result<Vec<usize>, NoMemory>
+fn first_places(alloc: Global, count: usize) -> Result<SmallVec<usize, 4>, NoMemory>
     ensures { IfOk result (λ places. places.items ≡ range_with_len 0 count) }
 {
-    let mut places = Vec::new(alloc);
+    let mut places = SmallVec::with_capacity(alloc, count)?;
     for place in 0..count {
         places.push(place)?;
     }
@@ -110,7 +111,7 @@ fn extended(
     ensures each { IfOk result (λ new. (stands : List Bool) → length stands ≡ from → AreSuites (take from pool.now) stands suites.items
         → AreSuites pool.now (stands ++ replicate (length pool.now - from) false) new.items) }
 {
-    let mut extended = Vec::new(alloc);
+    let mut extended = Vec::with_capacity(alloc, suites.len())?;
     let mut arch = 0;
     for suite in suites {
         extended.push(suite.with_rows(alloc, arch, pool, from)?)?;
@@ -220,7 +221,7 @@ impl CarriedSuites {
         let lent = lend_rows(alloc, rows)?;
         let suites = none.with_rows(alloc, &lent)?;
         let change = Change {
-            leaving: Vec::new(alloc),
+            leaving: SmallVec::new(alloc),
             coming: first_places(alloc, rows.len())?,
         };
         suites.after(alloc, &change)

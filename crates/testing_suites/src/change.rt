@@ -2,9 +2,11 @@
 
 ghost use Rattle.std.specs.Prelude.{◌<◌};
 
-/// Places of rows that leave, and of rows that come then.
+use smallvec::SmallVec;
+
+/// Places of rows that leave, and of rows that come then. Mostly they are few, and stand in the value itself.
 #[derive(Drop)]
 pub struct Change {
-    pub leaving: Vec<usize>,
-    pub coming: Vec<usize>,
+    pub leaving: SmallVec<usize, 4>,
+    pub coming: SmallVec<usize, 4>,
 }

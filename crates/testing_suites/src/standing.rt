@@ -13,6 +13,7 @@ use crate::carried_suites::CarriedSuites;
 use crate::lent_rows::order_rows;
 use crate::{Change, Pool};
 use deb_version::NoMemory;
+use smallvec::SmallVec;
 use std::alloc::Global;
 use testing_model::{LentRow, RowIn, is_row};
 
@@ -118,11 +119,11 @@ fn is_alone(flags: &[bool], others: &[bool], place: usize) -> bool
 }
 
 /// The places where a flag of the first ones is set, and that of the others isn't.
-fn set_alone(alloc: Global, flags: &[bool], others: &[bool]) -> Result<Vec<usize>, NoMemory>
+fn set_alone(alloc: Global, flags: &[bool], others: &[bool]) -> Result<SmallVec<usize, 4>, NoMemory>
     requires { length flags.now ≡ length others.now }
     ensures { IfOk result (λ places. places.items ≡ filter (is_alone flags.now others.now) (range_with_len 0 (length flags.now))) }
 {
-    let mut places = Vec::new(alloc);
+    let mut places = SmallVec::new(alloc);
     for place in 0..flags.len() {
         if is_alone(flags, others, place) {
             places.push(place)?;

@@ -28,10 +28,10 @@ returns-clause-changed c =
     let marks : c.set_all-4.new.marks.current ≡ with_all true c.args.coming.now (with_all false c.args.leaving.now c.args.marks.now.current) = c.in_ok-set_all-4.ensures.set ∙ ap (λ xs. with_all true c.args.coming.now xs) c.in_ok-set_all-2.ensures.set in
     let leaving = places_in c.args.graph.now.rows.items c.args.leaving.now c.requires.leaving in
     let coming = places_in c.args.graph.now.rows.items c.args.coming.now c.requires.coming in
-    let begun = reviving_begun rows c.args.there.now.current c.args.marks.now.current c.args.leaving.now c.args.coming.now c.requires.right leaving coming c.current.result.now _ _ (c.current.ensures ∙ there) marks (c.in_ok-fresh.ensures.items_if_clones_equal (λ _ _ e. e)) in
+    let begun = reviving_begun rows c.args.there.now.current c.args.marks.now.current c.args.leaving.now c.args.coming.now c.requires.right leaving coming c.current.result.now _ _ (c.current.ensures ∙ there) marks c.in_ok-fresh.ensures.ok in
     let revived = c.in_ok-revive.ensures.revived (marked c.args.marks.now.current) begun in
     changed rows c.args.there.now.current c.args.marks.now.current c.args.leaving.now c.args.coming.now c.requires.right leaving coming c.set_all-3.new.marks.current c.set_all-4.new.marks.current c.revive.new.marks.current c.revive.new.fresh.items there marks (rw c.current.ensures at revived)
-    c.in_ok-to_vec.field-0.items c.new.result.items c.deref.result.now (c.in_ok-to_vec.ensures.items_if_clones_equal (λ _ _ e. e)) c.new.ensures.items c.deref.ensures.value
+    c.in_ok-from_slice.field-0.items c.new.result.items c.deref.result.now c.in_ok-from_slice.ensures.ok c.new.ensures.items c.deref.ensures
     c.look_at.new.marks.current c.look_at.new.falls.waiting.items c.look_at.new.falls.fallen.items (λ set first s. c.in_ok-look_at.ensures.step set first [] (settling_whole rows set first _ _ _ _ _ s))
     c.take_turns.new.marks.current c.take_turns.new.falls.waiting.items c.take_turns.new.falls.fallen.items c.in_ok-take_turns.ensures.step
     c.in_ok-take_turns.ensures.sized c.in_ok-take_turns.ensures.empty
@@ -72,11 +72,11 @@ returns-in_err-revive-clause-there c = IfOk-from_err c.from_residual-in_err-revi
 pub returns-in_err-revive-clause-changed : goal.returns-in_err-revive-clause-changed
 returns-in_err-revive-clause-changed c = IfOk-from_err c.from_residual-in_err-revive.result _ c.from_residual-in_err-revive.ensures.0
 
-pub returns-in_err-to_vec-clause-there : goal.returns-in_err-to_vec-clause-there
-returns-in_err-to_vec-clause-there c = IfOk-from_err c.from_residual-in_err-to_vec.result _ c.from_residual-in_err-to_vec.ensures.0
+pub returns-in_err-from_slice-clause-there : goal.returns-in_err-from_slice-clause-there
+returns-in_err-from_slice-clause-there c = IfOk-from_err c.from_residual-in_err-from_slice.result _ c.from_residual-in_err-from_slice.ensures.0
 
-pub returns-in_err-to_vec-clause-changed : goal.returns-in_err-to_vec-clause-changed
-returns-in_err-to_vec-clause-changed c = IfOk-from_err c.from_residual-in_err-to_vec.result _ c.from_residual-in_err-to_vec.ensures.0
+pub returns-in_err-from_slice-clause-changed : goal.returns-in_err-from_slice-clause-changed
+returns-in_err-from_slice-clause-changed c = IfOk-from_err c.from_residual-in_err-from_slice.result _ c.from_residual-in_err-from_slice.ensures.0
 
 pub returns-in_err-look_at-clause-there : goal.returns-in_err-look_at-clause-there
 returns-in_err-look_at-clause-there c = IfOk-from_err c.from_residual-in_err-look_at.result _ c.from_residual-in_err-look_at.ensures.0

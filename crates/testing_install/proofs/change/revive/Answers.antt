@@ -1,5 +1,6 @@
-use Rattle.std.proofs.Common.{arith, ◌∙◌, sym, subst, ◌<◌, length}
+use Rattle.std.proofs.Common.{arith, ◌≡◌, ◌∙◌, sym, ap, subst, ◌<◌, length, get_or}
 use Rattle.std.specs.List.{All}
+use Rattle.std.proofs.lemmas.List.{get_or_default}
 use Rattle.testing_install.proofs.Counting.{count_both}
 use Rattle.testing_install.proofs.Members.{all_from_members, members_from_all}
 use Rattle.testing_install.proofs.Needing.{needers_within, needer_found}
@@ -15,18 +16,20 @@ revive_needers-requires-clause-needers c = λ name. subst (λ n. All (λ k. k < 
 
 pub revivals-smaller : goal.revivals-smaller
 revivals-smaller c =
-    let below : c.revivals.next < length c.revivals.fresh.items = omega (arith, c.revivals-test.true, c.len.ensures, c.revivals.fresh.ok.0) in
+    let below : c.revivals.next < length c.revivals.fresh.items = omega (arith, c.revivals-test.true, c.len.ensures.value) in
     omega (arith, below, (c.in_ok-revive_needers.ensures.revived.stays c.revivals.next 0 below).0, count_both c.revive_needers.new.marks.current, count_both c.revivals.marks.current, c.in_ok-revive_needers.ensures.measure, c.in_ok-revive_needers.ensures.long, c.revivals.invariant.long, c.requires.there)
 
 pub revivals-preserved : goal.revivals-preserved
 revivals-preserved c =
     let rows = shared c.args.graph.now.rows.items in
-    let below : c.revivals.next < length c.revivals.fresh.items = omega (arith, c.revivals-test.true, c.len.ensures, c.revivals.fresh.ok.0) in
+    let below : c.revivals.next < length c.revivals.fresh.items = omega (arith, c.revivals-test.true, c.len.ensures.value) in
+    let place = get_or c.deref.result.now c.revivals.next 0 in
+    let read : place ≡ get_or c.revivals.fresh.items c.revivals.next place = ap (λ ks. get_or ks c.revivals.next 0) c.deref.ensures ∙ get_or_default c.revivals.fresh.items c.revivals.next 0 place below in
     let row = c.as_ref-row.result.now in
     let one = c.in_ok-revive_needers.ensures.revived in
     let found = needers_within rows _ row (length c.args.graph.now.rows.items) c.requires.graph.needed (length-shared c.args.graph.now.rows.items) in
     record {
-      revived = λ old s. reviving_more rows (marked c.args.there.now) old _ _ _ _ _ _ _ _ _ (c.revivals.invariant.revived old s) one (omega arith) below (fresh_row c.args.graph.now.rows.items c.revivals.fresh.items c.revivals.next c.index.result.now c.index-in-revivals.result.now row below c.index.ensures c.revivals.invariant.fresh c.index-in-revivals.ensures c.as_ref-row.ensures) (needer_found rows _ row c.requires.graph.needed);
+      revived = λ old s. reviving_more rows (marked c.args.there.now) old _ _ _ _ _ _ _ _ _ (c.revivals.invariant.revived old s) one (omega arith) below (fresh_row c.args.graph.now.rows.items c.revivals.fresh.items c.revivals.next place c.index.result.now row below read c.revivals.invariant.fresh c.index.ensures c.as_ref-row.ensures) (needer_found rows _ row c.requires.graph.needed);
       long = c.in_ok-revive_needers.ensures.long ∙ c.requires.there;
       kept = c.in_ok-revive_needers.ensures.kept ∙ c.revivals.invariant.kept;
       fresh = all_from_members _ _ (one.within (length c.args.graph.now.rows.items) found (members_from_all _ _ c.revivals.invariant.fresh));

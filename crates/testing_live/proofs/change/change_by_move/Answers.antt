@@ -10,7 +10,7 @@ use Rattle.testing_live.proofs.change.change_by_move.Goals as goal
 pub giving_way-requires-clause-places : goal.giving_way-requires-clause-places
 giving_way-requires-clause-places c =
     let pool = c.args.pool.now in
-    subst (All (λ k. k < length pool)) (sym c.deref.ensures.value)
+    subst (All (λ k. k < length pool)) (sym c.deref.ensures)
     (coming_within pool c.args.first (group_sources (unboxed c.args.sources.now) c.args.group.now) c.in_ok-coming.coming.items c.in_ok-coming.ensures)
 
 moved : goal.returns-clause-moves
@@ -23,8 +23,8 @@ moved c =
     let own = c.in_ok-leaving.leaving.items in
     let given = c.in_ok-giving_way.giving_way.items in
     let coming = c.in_ok-coming.coming.items in
-    let gives_way = subst (λ ks. AreThose (gives_way_to pool stands) ks given) c.deref.ensures.value c.in_ok-giving_way.ensures in
-    let items = c.in_ok-extend_from_slice.ensures.items ∙ ap (λ ks. own ++ ks) c.deref-2.ensures.value in
+    let gives_way = subst (λ ks. AreThose (gives_way_to pool stands) ks given) c.deref.ensures c.in_ok-giving_way.ensures in
+    let items = c.in_ok-extend_from_slice.ensures.ok ∙ ap (λ ks. own ++ ks) c.deref-2.ensures in
     subst (λ ks. IsMoveOf pool stands first us group ks coming) (sym items)
     (all_that_leave pool stands first us group own given coming c.in_ok-coming.ensures c.in_ok-leaving.ensures gives_way)
 

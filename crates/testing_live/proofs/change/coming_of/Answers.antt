@@ -21,8 +21,8 @@ loop-name-preserved c =
     let d = c.name-item.result in
     let below : i < length group = omega arith in
     let before = c.loop-name.coming.items in
-    let found = ap (source_in us) (sym c.name-item.is) ∙ ap (source_in us) (sym c.as_str.ensures) ∙ sym c.source_in.ensures in
-    elim c.match-source_in.branch [
+    let found = ap (source_in us) (sym c.name-item.is) ∙ ap (source_in us) (sym c.as_str.ensures) ∙ sym c.source_near.ensures in
+    elim c.match-source_near.branch [
       | in-Some+in_ok-push_coming w ↦
           let u = w.in-Some.upload.now in
           let more = group-some (source_in us) group i d below u (found ∙ ap option_copied w.in-Some.is) in

@@ -20,8 +20,8 @@ loop-name-preserved c =
     let below : i < length group = omega arith in
     let base = sources_of c.args.slots.now.items in
     let put : List SourceIn → UploadIn → List SourceIn = λ xs u. put_source (as_source u) xs in
-    let found = ap (source_in us) (sym c.name-item.is) ∙ ap (source_in us) (sym c.as_str.ensures) ∙ sym c.source_in.ensures in
-    elim c.match-source_in.branch [
+    let found = ap (source_in us) (sym c.name-item.is) ∙ ap (source_in us) (sym c.as_str.ensures) ∙ sym c.source_near.ensures in
+    elim c.match-source_near.branch [
       | in-Some+in_ok-as_source+in_ok-source+in_ok-guess w ↦
           let u = w.in-Some.upload.now in
           let is = found ∙ ap option_copied w.in-Some.is in

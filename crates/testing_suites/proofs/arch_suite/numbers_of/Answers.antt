@@ -22,7 +22,7 @@ loop-place-preserved c =
     let more : take (i + 1) places ≡ done ++ place ∷ [] = take_more places i 0 c.loop-place-test.true in
     elim c.match-number_of.branch [
       | in-Some+in_ok-push w ↦
-          let items = ap (λ v. v.items) w.numbers-is ∙ w.in_ok-push.ensures.items in
+          let items = ap (λ v. v.items) w.numbers-is ∙ w.in_ok-push.ensures.ok in
           subst (AreNumbers own (take (i + 1) places)) (sym items) (subst (λ ks. AreNumbers own ks (before ++ w.in-Some.number ∷ [])) (sym more)
           (numbers_more own done before c.loop-place.invariant place w.in-Some.number c.requires (told _ w.in-Some.is)))
       | in_default w ↦

@@ -17,7 +17,7 @@ loop-place-preserved c =
     record {
       so_far = elim c.if-is_place_on.branch [
         | then-is_place_on+in_ok-push w ↦
-            ap (λ v. v.items) w.places-is ∙ w.in_ok-push.ensures.items ∙ ap (λ ks. ks ++ place ∷ []) c.loop-place.invariant.so_far
+            ap (λ v. v.items) w.places-is ∙ w.in_ok-push.ensures.ok ∙ ap (λ ks. ks ++ place ∷ []) c.loop-place.invariant.so_far
             ∙ sym (more ∙ ap (λ b. before ++ cond b (place ∷ []) []) (sym c.is_place_on.ensures ∙ w.if-is_place_on.true))
         | else-is_place_on w ↦
             ap (λ v. v.items) w.places-is ∙ c.loop-place.invariant.so_far ∙ sym (append-nil before)

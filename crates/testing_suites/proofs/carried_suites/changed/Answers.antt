@@ -18,7 +18,7 @@ loop-arch-preserved c =
     let coming = c.args.change.now.coming.items in
     let below : arch < length suites = omega (arith, c.loop-arch-test.true, c.requires, c.loop-arch.invariant.count) in
     let at : slice_get suites arch ≡ Some suite = slice_get-get_or suites arch suite below ∙ ap Some (sym c.index_mut-suite.ensures.value) in
-    let after = subst (λ ks. IsAfter suite ks coming new.suite.there) c.deref.ensures.value (subst (λ ks. IsAfter suite c.deref.result.now ks new.suite.there) c.deref-in-loop-arch.ensures.value c.in_ok-change.ensures.there) in
+    let after = subst (λ ks. IsAfter suite ks coming new.suite.there) c.deref.ensures (subst (λ ks. IsAfter suite c.deref.result.now ks new.suite.there) c.deref-in-loop-arch.ensures c.in_ok-change.ensures.there) in
     changed_more c.args.suites.items suites leaving coming arch c.loop-arch.invariant suite new at
     (λ pool. suite_after arch pool suite new leaving coming c.in_ok-change.ensures.places c.in_ok-change.ensures.rows after)
 

@@ -9,7 +9,7 @@ loop-suite-init c =
     let olds = c.args.suites.items in
     let pool = c.args.pool.now in
     let from = c.args.from in
-    subst (λ news. AreExtendedTo olds news (into_iter_items c.into_iter-suite-iterator.result) pool from 0) (sym c.new-extended.ensures.items)
+    subst (λ news. AreExtendedTo olds news (into_iter_items c.into_iter-suite-iterator.result) pool from 0) (sym c.in_ok-extended.ensures.items)
     (subst (λ rest. AreExtendedTo olds [] rest pool from 0) (sym c.into_iter-suite-iterator.ensures.into_iter_gives.0) (extended_none olds pool from))
 
 pub with_rows-requires-clause-over : goal.with_rows-requires-clause-over

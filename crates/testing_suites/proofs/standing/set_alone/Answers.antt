@@ -15,7 +15,7 @@ loop-place-preserved c =
     ap (filter test) (sym (range_more place)) ∙ filter-append test (range_with_len 0 place) (place ∷ []) in
     elim c.if-is_alone.branch [
       | then-is_alone+in_ok-push w ↦
-          ap (λ v. v.items) w.places-is ∙ w.in_ok-push.ensures.items ∙ ap (λ ks. ks ++ place ∷ []) c.loop-place.invariant
+          ap (λ v. v.items) w.places-is ∙ w.in_ok-push.ensures.ok ∙ ap (λ ks. ks ++ place ∷ []) c.loop-place.invariant
           ∙ sym (more ∙ ap (λ b. before ++ cond b (place ∷ []) []) (sym c.is_alone.ensures ∙ w.if-is_alone.true))
       | else-is_alone w ↦
           ap (λ v. v.items) w.places-is ∙ c.loop-place.invariant ∙ sym (append-nil before)

@@ -17,7 +17,7 @@ lack_among-requires-clause-coming c =
     let sources = group_sources (unboxed c.args.sources.now) c.args.group.now in
     let coming = c.in_ok-coming.coming.items in
     let arrive = subst (λ (pool : List RowIn). AreThose (comes_at pool first) sources coming) c.pool.ensures c.in_ok-coming.ensures in
-    subst (λ ks. All (λ k. k < length rows) ks) (sym c.deref.ensures.value) (coming_within rows first sources coming arrive)
+    subst (λ ks. All (λ k. k < length rows) ks) (sym c.deref.ensures) (coming_within rows first sources coming arrive)
 
 pub returns : goal.returns
 returns c =
@@ -29,5 +29,5 @@ returns c =
       coming = coming;
       arrive = subst (λ (s : PoolState). AreThose (comes_at s.rows s.first) sources coming) c.self.view_is arrive;
       lack = subst (λ (s : PoolState). IsLack s.archs s.rows s.stands coming clause.now) c.self.view_is
-          (subst (λ ks. IsLack c.self.inside.kept.archs c.self.inside.kept.rows c.self.inside.kept.stands ks clause.now) c.deref.ensures.value lack);
+          (subst (λ ks. IsLack c.self.inside.kept.archs c.self.inside.kept.rows c.self.inside.kept.stands ks clause.now) c.deref.ensures lack);
     }) c.lack_among.ensures

@@ -8,12 +8,12 @@ use Rattle.testing_suites.proofs.arch_suite.ArchSuite.change.Goals as goal
 pub change-requires-clause-leaving : goal.change-requires-clause-leaving
 change-requires-clause-leaving c =
     numbers_within c.deref.result.now c.args.leaving.now c.in_ok-left.left.items c.deref-3.result.now (length c.self.inside.suite.rows) c.in_ok-left.ensures
-    (ap length c.deref.ensures.value ∙ sym c.self.invariant.count) c.deref-3.ensures.value
+    (ap length c.deref.ensures.value ∙ sym c.self.invariant.count) c.deref-3.ensures
 
 pub change-requires-clause-coming : goal.change-requires-clause-coming
 change-requires-clause-coming c =
     numbers_within c.deref-2.result.now c.args.coming.now c.in_ok-came.came.items c.deref-4.result.now (length c.self.inside.suite.rows) c.in_ok-came.ensures
-    (ap length c.deref-2.ensures.value ∙ sym c.self.invariant.count) c.deref-4.ensures.value
+    (ap length c.deref-2.ensures.value ∙ sym c.self.invariant.count) c.deref-4.ensures
 
 pub invariant_of-self : goal.invariant_of-self
 invariant_of-self c =
@@ -31,7 +31,7 @@ returns-clause-there c =
     on_ok_weaker c.change.result (λ is.
     subst (λ p. IsAfter p leaving coming there) c.self.view_is
     (after_numbers own suite leaving coming left came (subst (λ ks. AreNumbers ks leaving left) c.deref.ensures.value c.in_ok-left.ensures) (subst (λ ks. AreNumbers ks coming came) c.deref-2.ensures.value c.in_ok-came.ensures)
-    there (is ∙ ap (λ ks. after_change ks c.deref-4.result.now suite.there) c.deref-3.ensures.value ∙ ap (λ ks. after_change left ks suite.there) c.deref-4.ensures.value))) c.change.ensures.there
+    there (is ∙ ap (λ ks. after_change ks c.deref-4.result.now suite.there) c.deref-3.ensures ∙ ap (λ ks. after_change left ks suite.there) c.deref-4.ensures))) c.change.ensures.there
 
 pub returns-in_err-left-clause-there : goal.returns-in_err-left-clause-there
 returns-in_err-left-clause-there c = IfOk-from_err c.from_residual.result _ c.from_residual.ensures.0

@@ -12,12 +12,12 @@ use Rattle.testing_suites.proofs.arch_suite.ArchSuite.trial.Goals as goal
 pub trial-requires-clause-leaving : goal.trial-requires-clause-leaving
 trial-requires-clause-leaving c =
     numbers_within c.deref.result.now c.args.leaving.now c.in_ok-left.left.items c.deref-3.result.now (length c.self.inside.suite.rows) c.in_ok-left.ensures
-    (ap length c.deref.ensures.value ∙ sym c.self.invariant.count) c.deref-3.ensures.value
+    (ap length c.deref.ensures.value ∙ sym c.self.invariant.count) c.deref-3.ensures
 
 pub trial-requires-clause-coming : goal.trial-requires-clause-coming
 trial-requires-clause-coming c =
     numbers_within c.deref-2.result.now c.args.coming.now c.in_ok-came.came.items c.deref-4.result.now (length c.self.inside.suite.rows) c.in_ok-came.ensures
-    (ap length c.deref-2.ensures.value ∙ sym c.self.invariant.count) c.deref-4.ensures.value
+    (ap length c.deref-2.ensures.value ∙ sym c.self.invariant.count) c.deref-4.ensures
 
 pub places_of-requires : goal.places_of-requires
 places_of-requires c =
@@ -31,7 +31,7 @@ places_of-requires c =
     let came_are = subst (λ ks. AreNumbers ks coming came) c.deref-2.ensures.value c.in_ok-came.ensures in
     let lost = c.in_ok-lost.lost.items in
     let AreExact : List ℕ → List ℕ → Type 0 = λ ls cs. (k : ℕ) → Contains lost k ↔ IsLost suite.rows (marked suite.there) (marked (after_change ls cs suite.there)) k in
-    let exact = subst (λ ls. AreExact ls came) c.deref-3.ensures.value (subst (λ cs. AreExact c.deref-3.result.now cs) c.deref-4.ensures.value c.in_ok-lost.ensures.lost) in
+    let exact = subst (λ ls. AreExact ls came) c.deref-3.ensures (subst (λ cs. AreExact c.deref-3.result.now cs) c.deref-4.ensures c.in_ok-lost.ensures.lost) in
     subst (λ ks. All (λ i. i < length ks) c.deref-6.result.now) (sym c.deref-5.ensures.value)
     (lost_within own suite leaving coming left came left_are came_are c.self.invariant lost exact c.deref-6.result.now c.deref-6.ensures.value)
 
@@ -47,7 +47,7 @@ returns-clause-lost c =
     let came_are = subst (λ ks. AreNumbers ks coming came) c.deref-2.ensures.value c.in_ok-came.ensures in
     let lost = c.in_ok-lost.lost.items in
     let AreExact : List ℕ → List ℕ → Type 0 = λ ls cs. (k : ℕ) → Contains lost k ↔ IsLost suite.rows (marked suite.there) (marked (after_change ls cs suite.there)) k in
-    let exact = subst (λ ls. AreExact ls came) c.deref-3.ensures.value (subst (λ cs. AreExact c.deref-3.result.now cs) c.deref-4.ensures.value c.in_ok-lost.ensures.lost) in
+    let exact = subst (λ ls. AreExact ls came) c.deref-3.ensures (subst (λ cs. AreExact c.deref-3.result.now cs) c.deref-4.ensures c.in_ok-lost.ensures.lost) in
     if_ok_weaker _ (λ places. AreLostFrom c.args.self.now leaving coming places.items) c.places_of.result
     (λ places is.
     subst (λ p. AreLostFrom p leaving coming places.items) c.self.view_is

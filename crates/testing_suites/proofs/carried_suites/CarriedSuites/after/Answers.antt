@@ -12,7 +12,7 @@ set_flags-requires-2 c =
     let long : length c.set_flags.new.flags.items ≡ length c.args.self.rows =
     ap length c.set_flags.ensures ∙ length-with_all false c.deref.result.now old ∙ c.self.invariant.long ∙ ap (λ (s : CarriedState). length s.rows) c.self.view_is in
     subst (λ n. All (λ k. k < n) c.deref-2.result.now) (sym long)
-    (subst (All (λ k. k < length c.args.self.rows)) (sym c.deref-2.ensures.value) c.requires.coming_within)
+    (subst (All (λ k. k < length c.args.self.rows)) (sym c.deref-2.ensures) c.requires.coming_within)
 
 pub invariant_of-result : goal.invariant_of-result
 invariant_of-result c =
@@ -20,7 +20,7 @@ invariant_of-result c =
     let leaving = c.args.change.now.leaving.items in
     let coming = c.args.change.now.coming.items in
     let flags = flags_are old c.set_flags.new.flags.items c.set_flags-2.new.flags.items leaving coming c.deref.result.now c.deref-2.result.now
-    c.deref.ensures.value c.deref-2.ensures.value c.set_flags.ensures c.set_flags-2.ensures in
+    c.deref.ensures c.deref-2.ensures c.set_flags.ensures c.set_flags-2.ensures in
     record {
       long = ap length flags ∙ length-after leaving coming old ∙ c.self.invariant.long;
       count = sym c.in_ok-suites.ensures.count;
