@@ -89,6 +89,9 @@ fn copy_text(
     }
 }
 
+/// For so many letters room is taken at once. A caller that wants more of them is rare.
+const AT_ONCE: u32 = 255;
+
 /// The letters of a sender from one number to another, by number, where the first isn't above the second.
 fn letters_between(
     alloc: Global,
@@ -102,8 +105,9 @@ fn letters_between(
     ensures ordered { IsOrdered place_cmp mail.now }
     ensures no_store { IfErr result (λ fault. fault ≡ KeepFault.NoMemory) }
 {
-    let mut letters = Vec::new(alloc);
-    'places: for (place, text) in mail.range((sender, from)..=(sender, to)) {
+    let entries = mail.range((sender, from)..=(sender, to));
+    let mut letters = Vec::with_capacity(alloc, (to - from).min(AT_ONCE) as usize + 1)?;
+    'places: for (place, text) in entries {
         letters.push(Letter {
             number: place.1,
             text: MailText::copy_of(alloc, text.as_slice())?,

@@ -139,7 +139,7 @@ pub fn rows_by_source<'a>(
     Ok(groups)
 }
 
-/// The bugs of each source that is news.
+/// The bugs of each source that is news. If there are no bugs, no source has a group.
 pub fn bugs_by_source<'a>(
     alloc: Global,
     news: &[News<'a>],
@@ -147,6 +147,9 @@ pub fn bugs_by_source<'a>(
 ) -> Result<HashMap<&'a str, Vec<BugIn>>, NoMemory>
     ensures { IfOk result (λ groups. (q : Text) → IsTrue (is_among news.now q) → group_at groups q ≡ filter (λ b. bytes_eq q b.source) (unboxed bugs.now)) }
 {
+    if bugs.is_empty() {
+        return Ok(HashMap::new(alloc));
+    }
     let mut groups = groups_for(alloc, news)?;
     for bug in bugs {
         join_bug(alloc, &mut groups, bug)?;

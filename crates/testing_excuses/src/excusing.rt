@@ -94,7 +94,7 @@ fn news_of<'a>(
 ) -> Result<Vec<News<'a>>, NoMemory>
     ensures { IfOk result (λ news. map told_of news.items ≡ news_of testing.now (unboxed sources.now)) }
 {
-    let mut news = Vec::new(alloc);
+    let mut news = Vec::with_capacity(alloc, sources.len())?;
     let mut next = 0;
     'sources: for upload in sources {
         let (version, after) = testing_version_near(testing, upload.source.as_str(), next);
@@ -128,7 +128,7 @@ fn excuses_on(
 ) -> Result<Vec<Excuse>, NoMemory>
     ensures { IfOk result (λ es. es.items ≡ excuses_by (place_numbers archs.now) (ground_at grouped.now) (map told_of news.now)) }
 {
-    let mut excuses = Vec::new(alloc);
+    let mut excuses = Vec::with_capacity(alloc, news.len())?;
     for source in news {
         excuses.push(excuse_of(alloc, archs, grouped, source)?)?;
     }

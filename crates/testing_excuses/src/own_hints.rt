@@ -226,7 +226,7 @@ fn begun_for<'a>(
 }
 
 /// What the hints ask of each source that is news. It takes time by the sources and by what the hints name, and not by
-/// both together. NoMemory where memory runs out.
+/// both together. If there are no hints, no source has a group. NoMemory where memory runs out.
 pub fn hints_by_source<'a>(
     alloc: Global,
     news: &[News<'a>],
@@ -234,6 +234,9 @@ pub fn hints_by_source<'a>(
 ) -> Result<HashMap<&'a str, Vec<HintIn>>, NoMemory>
     ensures { IfOk result (λ groups. (q : Word) → IsTrue (is_among news.now q) → group_at groups q ≡ own_hints q hints.now) }
 {
+    if hints.is_empty() {
+        return Ok(HashMap::new(alloc));
+    }
     let mut groups = begun_for(alloc, news, are_all_out(hints))?;
     for hint in hints {
         join_hint(alloc, &mut groups, hint)?;

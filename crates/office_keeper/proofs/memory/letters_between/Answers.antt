@@ -9,8 +9,8 @@ use Rattle.office_keeper.proofs.memory.letters_between.Goals as goal
 
 pub places-init : goal.places-init
 places-init c =
-    ap (λ ls. ls ++ map letter_of c.into_iter-place-iterator.result) c.new-letters.ensures.items
-    ∙ ap (map letter_of) (c.into_iter-place-iterator.ensures.into_iter_gives ∙ c.range-place-items.ensures.between (search rules)
+    ap (λ ls. ls ++ map letter_of c.into_iter-place-iterator.result) c.in_ok-letters.ensures.items
+    ∙ ap (map letter_of) (c.into_iter-place-iterator.ensures.into_iter_gives ∙ c.range-entries.ensures.between (search rules)
     ∙ ap (λ (p : Place). entries_between place_cmp (Included p) (Included (range_inclusive_end c.new.result)) c.args.mail.now.entries) c.new.ensures.start
     ∙ ap (λ (p : Place). entries_between place_cmp (Included (c.args.sender, c.args.from)) (Included p) c.args.mail.now.entries) c.new.ensures.end)
 

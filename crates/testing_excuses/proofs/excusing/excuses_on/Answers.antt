@@ -5,7 +5,7 @@ use Rattle.std.proofs.lemmas.List.{take_all}
 use Rattle.testing_excuses.proofs.excusing.excuses_on.Goals as goal
 
 pub returns-in_err-excuse_of : goal.returns-in_err-excuse_of
-returns-in_err-excuse_of c = IfOk-from_err c.from_residual.result _ c.from_residual.ensures.0
+returns-in_err-excuse_of c = IfOk-from_err c.from_residual-in_err-excuse_of.result _ c.from_residual-in_err-excuse_of.ensures.0
 
 pub returns-in_err-push : goal.returns-in_err-push
 returns-in_err-push c = IfOk-from_err c.from_residual-in_err-push.result _ c.from_residual-in_err-push.ensures.0
