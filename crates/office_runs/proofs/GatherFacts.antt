@@ -87,7 +87,7 @@ apart : (b : Bool) (text : List ℕ) (o : Option (List ℕ)) → (b ≡ true →
 apart true text o h = absurd (h refl)
 apart false text o h = refl
 
-put_here : (kept : Kept) (p : Place) (text : List ℕ) → get (insert kept p text) p ≡ Some text
+pub put_here : (kept : Kept) (p : Place) (text : List ℕ) → get (insert kept p text) p ≡ Some text
 put_here kept p text = get-insert places_total kept p text p ∙ here (eq_by_cmp place_cmp p p) text (get kept p) (ap is_eq (tied_itself places_total p))
 
 put_apart : (kept : Kept) (p q : Place) (text : List ℕ) → (q ≡ p → ⊥) → get (insert kept p text) q ≡ get kept q

@@ -1,4 +1,5 @@
 pub mod CarryFacts
+pub mod CountSteps
 pub mod FinishFacts
 pub mod GatherFacts
 pub mod KeepingFacts

@@ -1,3 +1,4 @@
+pub mod Counting
 pub mod GatherSteps
 pub mod Laws
 pub mod Migrated

@@ -18,6 +18,7 @@ ghost use Rattle.office_orders.specs.Waiting.{Awaits, AwaitsSome};
 ghost use Rattle.office_reasons.specs.Why.{IsWhy};
 ghost use Rattle.office_rules.specs.Trial.{IsTrial};
 
+use crate::counting::{count_replies, count_reply};
 use crate::gathering::{Reply, keep_texts};
 use crate::posting::deliver;
 use crate::runs::settle;
@@ -148,13 +149,15 @@ impl<K: Keeper> Office<K> {
         ensures lasts { StaysTrusted K.Keeper self.old self.new (is_ok result) }
         ensures counted { CountedDelivery (K.refusals self.old) (K.refusals self.new) result }
     {
-        deliver(
+        let reply = deliver(
             self.alloc,
             &self.setup,
             &mut self.keeper,
             &mut self.cache,
             text,
-        )
+        );
+        count_reply(&mut self.counts, &reply);
+        reply
     }
 
     /// How many texts the store keeps best together.
@@ -181,13 +184,15 @@ impl<K: Keeper> Office<K> {
         ensures lasts { StaysTrusted K.Keeper self.old self.new (is_ok result) }
         ensures counted { Counted (K.refusals self.old) (K.refusals self.new) result }
     {
-        keep_texts(
+        let replies = keep_texts(
             self.alloc,
             &self.setup,
             &mut self.keeper,
             &mut self.cache,
             texts,
-        )
+        );
+        count_replies(&mut self.counts, &replies);
+        replies
     }
 
     /// Finishes the runs that are ready, in order. `Ok` means that none is left. It fails for want of
