@@ -280,10 +280,12 @@ impl Model for Provisions {
 }
 
 impl Provisions {
-    /// These provisions. It takes no memory.
+    /// These provisions. It takes no memory, and what room is left over in the vector is given back.
     pub fn new(provisions: Vec<Provision>) -> Provisions
         ensures { result ≡ provisions.items }
     {
+        let mut provisions = provisions;
+        provisions.shrink_to_fit();
         Provisions { provisions }
     }
 

@@ -379,11 +379,7 @@ pub(crate) fn take_text(
     ensures no_store { IfErr result (λ fault. fault ≡ StoreFault.NoMemory) }
 {
     match cache.message(alloc, setup, sender, number, text) {
-        Ok(message) => {
-            let taken = take_body(facts, sender, number, &message.body);
-            drop(message);
-            taken
-        }
+        Ok(message) => take_body(facts, sender, number, message.body),
         Err(fault) => no_message(fault),
     }
 }

@@ -17,33 +17,36 @@ use office_orders::orders::stated_for;
 use testing_facts::Facts;
 use testing_items::Item;
 
-/// The facts take what a message says to the rules. It fails for want of memory alone.
-pub fn take_body(facts: &mut Facts, sender: u32, number: u32, body: &Body) -> Result<(), StoreFault>
-    ensures stand { OnOk result ((s : Covered) (t : Suite) → StandsFor facts.old s t → StandsFor facts.new (option_to_list (item_in_body (sender, number) body.now) ++ s) t) }
-    ensures tells { OnOk result ((s : Covered) → Tells facts.old s → Tells facts.new (option_to_list (item_in_body (sender, number) body.now) ++ s)) }
+/// The facts take what a message says to the rules, and its texts with it. It fails for want of memory alone.
+pub fn take_body(facts: &mut Facts, sender: u32, number: u32, body: Body) -> Result<(), StoreFault>
+    ensures stand { OnOk result ((s : Covered) (t : Suite) → StandsFor facts.old s t → StandsFor facts.new (option_to_list (item_in_body (sender, number) body) ++ s) t) }
+    ensures tells { OnOk result ((s : Covered) → Tells facts.old s → Tells facts.new (option_to_list (item_in_body (sender, number) body) ++ s)) }
     ensures moved { OnOk result ((count : FactRow → ℕ) → IsChangedFrom count facts.old → IsChangedFrom count facts.new) }
     ensures by_message { OnOk result (AreByMessage facts.old.uploads → AreByMessage facts.new.uploads) }
     ensures kept { OnOk result ((u : UploadIn) → Contains facts.old.uploads u → Contains facts.new.uploads u) }
-    ensures there { OnOk result ((m : CoveredItem) (u : UploadIn) → item_in_body (sender, number) body.now ≡ Some m → upload_of m ≡ Some u → Contains facts.new.uploads u) }
+    ensures there { OnOk result ((m : CoveredItem) (u : UploadIn) → item_in_body (sender, number) body ≡ Some m → upload_of m ≡ Some u → Contains facts.new.uploads u) }
     ensures no_store { IfErr result (λ fault. fault ≡ StoreFault.NoMemory) }
 {
     match body {
         Body::Item(item) => take_item(facts, sender, number, item),
-        Body::Run(_) => Ok(()),
+        Body::Run(order) => {
+            drop(order);
+            Ok(())
+        }
     }
 }
 
 /// The facts take an item that a message says. It fails for want of memory alone.
-fn take_item(facts: &mut Facts, sender: u32, number: u32, item: &Item) -> Result<(), StoreFault>
-    ensures stand { OnOk result ((s : Covered) (t : Suite) → let m : CoveredItem = record { sender = sender; number = number; item = item.now } in StandsFor facts.old s t → StandsFor facts.new (m ∷ s) t) }
-    ensures tells { OnOk result ((s : Covered) → let m : CoveredItem = record { sender = sender; number = number; item = item.now } in Tells facts.old s → Tells facts.new (m ∷ s)) }
+fn take_item(facts: &mut Facts, sender: u32, number: u32, item: Item) -> Result<(), StoreFault>
+    ensures stand { OnOk result ((s : Covered) (t : Suite) → let m : CoveredItem = record { sender = sender; number = number; item = item } in StandsFor facts.old s t → StandsFor facts.new (m ∷ s) t) }
+    ensures tells { OnOk result ((s : Covered) → let m : CoveredItem = record { sender = sender; number = number; item = item } in Tells facts.old s → Tells facts.new (m ∷ s)) }
     ensures moved { OnOk result ((count : FactRow → ℕ) → IsChangedFrom count facts.old → IsChangedFrom count facts.new) }
     ensures by_message { OnOk result (AreByMessage facts.new.uploads) }
     ensures kept { OnOk result ((u : UploadIn) → Contains facts.old.uploads u → Contains facts.new.uploads u) }
-    ensures there { OnOk result ((u : UploadIn) → let m : CoveredItem = record { sender = sender; number = number; item = item.now } in upload_of m ≡ Some u → Contains facts.new.uploads u) }
+    ensures there { OnOk result ((u : UploadIn) → let m : CoveredItem = record { sender = sender; number = number; item = item } in upload_of m ≡ Some u → Contains facts.new.uploads u) }
     ensures no_store { IfErr result (λ fault. fault ≡ StoreFault.NoMemory) }
 {
-    facts.take(sender, number, item)?;
+    facts.take_owned(sender, number, item)?;
     let _ = facts.uploads();
     Ok(())
 }

@@ -280,7 +280,27 @@ impl Facts {
         ensures moved { OnOk result ((count : ARow → ℕ) → IsChangedFrom count self.old → IsChangedFrom count self.new) }
         ensures err { OnErr result (self.new ≡ self.old) }
     {
-        let entry = entry_of(self.alloc, sender, number, item)?;
+        let copy = item.copy(self.alloc)?;
+        self.take_owned(sender, number, copy)
+    }
+
+    /// Takes what one more message says, and the item itself: the facts keep its binaries, and copy none of them.
+    pub fn take_owned(&mut self, sender: u32, number: u32, item: Item) -> Result<(), NoMemory>
+        ensures ok { OnOk result ((s : Covered) (t : Suite) → let m : CoveredItem = record { sender = sender; number = number; item = item } in
+            StandsFor self.old s t → StandsFor self.new (m ∷ s) t) }
+        ensures kept { OnOk result ((u : AnUpload) → Contains self.old.uploads u → Contains self.new.uploads u) }
+        ensures there { OnOk result ((u : AnUpload) → let m : CoveredItem = record { sender = sender; number = number; item = item } in
+            upload_of m ≡ Some u → Contains self.new.uploads u) }
+        ensures tells { OnOk result ((s : Covered) → let m : CoveredItem = record { sender = sender; number = number; item = item } in Tells self.old s → Tells self.new (m ∷ s)) }
+        ensures moved { OnOk result ((count : ARow → ℕ) → IsChangedFrom count self.old → IsChangedFrom count self.new) }
+        ensures err { OnErr result (self.new ≡ self.old) }
+    {
+        let sent = Sent {
+            alloc: self.alloc,
+            sender,
+            number,
+        };
+        let entry = entry_of(sent, item)?;
         self.put(entry)?;
         Ok(())
     }

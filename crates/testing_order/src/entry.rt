@@ -1,6 +1,6 @@
 //! What one message gives to the facts.
 
-ghost use Rattle.std.specs.Prelude.{◌≡◌, ◌+◌, IfOk, option_copied};
+ghost use Rattle.std.specs.Prelude.{◌≡◌, ◌+◌, IfOk};
 ghost use Rattle.testing_model.specs.Covered.{CoveredItem, placed_from};
 ghost use Rattle.testing_order.specs.Entries as entries;
 
@@ -9,7 +9,7 @@ use deb_version::{NoMemory, Version};
 use jiff_core::civil::Date;
 use std::alloc::Global;
 use std::marker::Model;
-use testing_items::{Hint, Item, Severity, Urgency, copy_version};
+use testing_items::{Binaries, Hint, Item, Severity, Urgency};
 use testing_model::{
     BugIn, BuildIn, Delays, DelaysIn, DropIn, HintIn, SharedBinary, UnhintIn, UploadIn,
 };
@@ -72,15 +72,15 @@ fn placed(
     alloc: Global,
     sender: u32,
     number: u32,
-    binaries: &[Binary],
+    binaries: Vec<Binary>,
 ) -> Result<Vec<BuildIn>, NoMemory>
-    ensures { IfOk result (λ builds. builds.items ≡ placed_from 1 sender number binaries.now) }
+    ensures { IfOk result (λ builds. builds.items ≡ placed_from 1 sender number binaries.items) }
 {
-    let mut builds = Vec::new(alloc);
+    let mut builds = Vec::with_capacity(alloc, binaries.len())?;
     let mut place = 1;
     'binaries: for binary in binaries {
         builds.push(BuildIn {
-            binary: SharedBinary::copy_of(alloc, binary)?,
+            binary: SharedBinary::of(alloc, binary)?,
             sender,
             number,
             place,
@@ -90,7 +90,7 @@ fn placed(
     Ok(builds)
 }
 
-/// The sender and the number of a message, and where what it says is copied to.
+/// The sender and the number of a message, and where what is kept of it stands.
 #[derive(Clone, Copy)]
 pub struct Sent {
     pub alloc: Global,
@@ -100,69 +100,71 @@ pub struct Sent {
 
 impl Sent {
     /// An upload.
-    pub fn upload(
-        self,
-        source: &Text,
-        version: &Version,
-        urgency: Urgency,
-        day: Date,
-    ) -> Result<UploadIn, NoMemory>
-        ensures { IfOk result (λ u. u ≡ record { source = source.now; version = version.now; urgency = urgency; day = day; sender = self.sender; number = self.number }) }
+    pub fn upload(self, source: Text, version: Version, urgency: Urgency, day: Date) -> UploadIn
+        ensures { result ≡ record { source = source; version = version; urgency = urgency; day = day; sender = self.sender; number = self.number } }
     {
-        Ok(UploadIn {
-            source: source.copy(self.alloc)?,
-            version: version.copy(self.alloc)?,
+        UploadIn {
+            source,
+            version,
             urgency,
             day,
             sender: self.sender,
             number: self.number,
-        })
+        }
     }
 
     /// A drop.
-    pub fn dropped(self, name: &Text, arch: &Text, version: &Version) -> Result<DropIn, NoMemory>
-        ensures { IfOk result (λ d. d ≡ record { name = name.now; arch = arch.now; version = version.now; sender = self.sender; number = self.number }) }
+    pub fn dropped(self, name: Text, arch: Text, version: Version) -> DropIn
+        ensures { result ≡ record { name = name; arch = arch; version = version; sender = self.sender; number = self.number } }
     {
-        Ok(DropIn {
-            name: name.copy(self.alloc)?,
-            arch: arch.copy(self.alloc)?,
-            version: version.copy(self.alloc)?,
+        DropIn {
+            name,
+            arch,
+            version,
             sender: self.sender,
             number: self.number,
-        })
+        }
     }
 
     /// A message on a bug.
     pub fn bug(
         self,
         bug: u32,
-        source: &Text,
+        source: Text,
         severity: Severity,
-        found: Option<&Version>,
-        fixed: Option<&Version>,
-    ) -> Result<BugIn, NoMemory>
-        ensures { IfOk result (λ b. b ≡ record { bug = bug; source = source.now; severity = severity; found = option_copied found.entry; fixed = option_copied fixed.entry; sender = self.sender; number = self.number }) }
+        found: Option<Version>,
+        fixed: Option<Version>,
+    ) -> BugIn
+        ensures { result ≡ record { bug = bug; source = source; severity = severity; found = found; fixed = fixed; sender = self.sender; number = self.number } }
     {
-        Ok(BugIn {
+        BugIn {
             bug,
-            source: source.copy(self.alloc)?,
+            source,
             severity,
-            found: copy_version(self.alloc, found)?,
-            fixed: copy_version(self.alloc, fixed)?,
+            found,
+            fixed,
             sender: self.sender,
             number: self.number,
-        })
+        }
     }
 
     /// A hint.
-    pub fn hint(self, hint: &Hint) -> Result<HintIn, NoMemory>
-        ensures { IfOk result (λ h. h ≡ record { hint = hint.now; sender = self.sender; number = self.number }) }
+    pub fn hint(self, hint: Hint) -> HintIn
+        ensures { result ≡ record { hint = hint; sender = self.sender; number = self.number } }
     {
-        Ok(HintIn {
-            hint: hint.copy(self.alloc)?,
+        HintIn {
+            hint,
             sender: self.sender,
             number: self.number,
-        })
+        }
+    }
+
+    /// The builds, which take over the binaries.
+    fn builds(self, binaries: Binaries) -> Result<Builds, NoMemory>
+        ensures { IfOk result (λ builds. builds ≡ placed_from 1 self.sender self.number binaries) }
+    {
+        let builds = placed(self.alloc, self.sender, self.number, binaries.into_vec())?;
+        Ok(Builds { builds })
     }
 
     /// An unhint.
@@ -177,65 +179,54 @@ impl Sent {
     }
 
     /// A message on delays.
-    pub fn delays(self, delays: Delays) -> DelaysIn
-        ensures { result ≡ record { delays = delays; sender = self.sender; number = self.number } }
+    pub fn delays(self, low: u32, medium: u32, high: u32, critical: u32) -> DelaysIn
+        ensures { result ≡ record { delays = record { low = low; medium = medium; high = high; critical = critical }; sender = self.sender; number = self.number } }
     {
         DelaysIn {
-            delays,
+            delays: Delays {
+                low,
+                medium,
+                high,
+                critical,
+            },
             sender: self.sender,
             number: self.number,
         }
     }
 }
 
-/// What the message gives.
-pub fn entry_of(alloc: Global, sender: u32, number: u32, item: &Item) -> Result<Entry, NoMemory>
-    ensures { IfOk result (λ e. let m : CoveredItem = record { sender = sender; number = number; item = item.now } in e ≡ entries.entry_of m) }
+/// What the message gives. It takes over the item, so that no text is copied.
+pub fn entry_of(sent: Sent, item: Item) -> Result<Entry, NoMemory>
+    ensures { IfOk result (λ e. let m : CoveredItem = record { sender = sent.sender; number = sent.number; item = item } in e ≡ entries.entry_of m) }
 {
-    let sent = Sent {
-        alloc,
-        sender,
-        number,
-    };
     match item {
         Item::Upload {
             source,
             version,
             urgency,
             day,
-        } => Ok(Entry::Upload(sent.upload(source, version, *urgency, *day)?)),
+        } => Ok(Entry::Upload(sent.upload(source, version, urgency, day))),
         Item::Dropped {
             name,
             arch,
             version,
-        } => Ok(Entry::Dropped(sent.dropped(name, arch, version)?)),
-        Item::Build(binaries) => {
-            let builds = placed(alloc, sender, number, binaries.as_slice())?;
-            Ok(Entry::Build(Builds { builds }))
-        }
+        } => Ok(Entry::Dropped(sent.dropped(name, arch, version))),
+        Item::Build(binaries) => Ok(Entry::Build(sent.builds(binaries)?)),
         Item::Bug {
             bug,
             source,
             severity,
             found,
             fixed,
-        } => {
-            let bug = sent.bug(*bug, source, *severity, found.as_ref(), fixed.as_ref())?;
-            Ok(Entry::Bug(bug))
-        }
-        Item::Hint(hint) => Ok(Entry::Hint(sent.hint(hint)?)),
-        Item::Unhint(cancels) => Ok(Entry::Unhint(sent.unhint(*cancels))),
+        } => Ok(Entry::Bug(sent.bug(bug, source, severity, found, fixed))),
+        Item::Hint(hint) => Ok(Entry::Hint(sent.hint(hint))),
+        Item::Unhint(cancels) => Ok(Entry::Unhint(sent.unhint(cancels))),
         Item::Delays {
             low,
             medium,
             high,
             critical,
-        } => Ok(Entry::Delays(sent.delays(Delays {
-            low: *low,
-            medium: *medium,
-            high: *high,
-            critical: *critical,
-        }))),
+        } => Ok(Entry::Delays(sent.delays(low, medium, high, critical))),
         Item::Nothing => Ok(Entry::Nothing),
     }
 }

@@ -8,10 +8,8 @@ ghost use Rattle.testing_model.specs.Covered.{CoveredItem, placed_from};
 use crate::entry::Sent;
 use deb_control::Binary;
 use deb_version::NoMemory;
-use testing_items::Item;
-use testing_model::{
-    BugIn, BuildIn, Delays, DelaysIn, DropIn, HintIn, SharedBinary, UnhintIn, UploadIn,
-};
+use testing_items::{Item, copy_version};
+use testing_model::{BugIn, BuildIn, DelaysIn, DropIn, HintIn, SharedBinary, UnhintIn, UploadIn};
 
 /// The upload, where the message is one.
 pub fn said_upload(sent: Sent, item: &Item) -> Result<Option<UploadIn>, NoMemory>
@@ -23,7 +21,11 @@ pub fn said_upload(sent: Sent, item: &Item) -> Result<Option<UploadIn>, NoMemory
             version,
             urgency,
             day,
-        } => Ok(Some(sent.upload(source, version, *urgency, *day)?)),
+        } => {
+            let source = source.copy(sent.alloc)?;
+            let version = version.copy(sent.alloc)?;
+            Ok(Some(sent.upload(source, version, *urgency, *day)))
+        }
         _ => Ok(None),
     }
 }
@@ -37,7 +39,12 @@ pub fn said_drop(sent: Sent, item: &Item) -> Result<Option<DropIn>, NoMemory>
             name,
             arch,
             version,
-        } => Ok(Some(sent.dropped(name, arch, version)?)),
+        } => {
+            let name = name.copy(sent.alloc)?;
+            let arch = arch.copy(sent.alloc)?;
+            let version = version.copy(sent.alloc)?;
+            Ok(Some(sent.dropped(name, arch, version)))
+        }
         _ => Ok(None),
     }
 }
@@ -54,8 +61,10 @@ pub fn said_bug(sent: Sent, item: &Item) -> Result<Option<BugIn>, NoMemory>
             found,
             fixed,
         } => {
-            let bug = sent.bug(*bug, source, *severity, found.as_ref(), fixed.as_ref())?;
-            Ok(Some(bug))
+            let source = source.copy(sent.alloc)?;
+            let found = copy_version(sent.alloc, found.as_ref())?;
+            let fixed = copy_version(sent.alloc, fixed.as_ref())?;
+            Ok(Some(sent.bug(*bug, source, *severity, found, fixed)))
         }
         _ => Ok(None),
     }
@@ -66,7 +75,7 @@ pub fn said_hint(sent: Sent, item: &Item) -> Result<Option<HintIn>, NoMemory>
     ensures { IfOk result (λ said. let m : CoveredItem = record { sender = sent.sender; number = sent.number; item = item.now } in said ≡ covered.hint_of m) }
 {
     match item {
-        Item::Hint(hint) => Ok(Some(sent.hint(hint)?)),
+        Item::Hint(hint) => Ok(Some(sent.hint(hint.copy(sent.alloc)?))),
         _ => Ok(None),
     }
 }
@@ -91,12 +100,7 @@ pub fn said_delays(sent: Sent, item: &Item) -> Option<DelaysIn>
             medium,
             high,
             critical,
-        } => Some(sent.delays(Delays {
-            low: *low,
-            medium: *medium,
-            high: *high,
-            critical: *critical,
-        })),
+        } => Some(sent.delays(*low, *medium, *high, *critical)),
         _ => None,
     }
 }

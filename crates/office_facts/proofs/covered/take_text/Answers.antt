@@ -21,10 +21,10 @@ returns-in-Ok-clause-taken c =
     let setup = c.args.setup.now in
     let text = c.args.text.now in
     let message = c.in-Ok.message in
-    on_ok_weaker c.take_body-taken.result
-    (λ stand s t h. subst (λ (l : Covered). StandsFor c.take_body-taken.new.facts (l ++ s) t)
+    on_ok_weaker c.take_body.result
+    (λ stand s t h. subst (λ (l : Covered). StandsFor c.take_body.new.facts (l ++ s) t)
     (sym (item_at-read setup p text (Ok message) (ok_read setup text message c.in-Ok.ensures.exact))) (stand s t h))
-    c.take_body-taken.ensures.stand
+    c.take_body.ensures.stand
 
 pub returns-in-Ok-clause-there : goal.returns-in-Ok-clause-there
 returns-in-Ok-clause-there c =
@@ -32,9 +32,9 @@ returns-in-Ok-clause-there c =
     let setup = c.args.setup.now in
     let text = c.args.text.now in
     let message = c.in-Ok.message in
-    on_ok_weaker c.take_body-taken.result
+    on_ok_weaker c.take_body.result
     (λ there m u is says. there m u (sym (item_is setup p text (Ok message) (ok_read setup text message c.in-Ok.ensures.exact)) ∙ is) says)
-    c.take_body-taken.ensures.there
+    c.take_body.ensures.there
 
 pub returns-in-Ok-clause-way : goal.returns-in-Ok-clause-way
 returns-in-Ok-clause-way c =
@@ -42,9 +42,9 @@ returns-in-Ok-clause-way c =
     let setup = c.args.setup.now in
     let text = c.args.text.now in
     let message = c.in-Ok.message in
-    let took = c.take_body-taken.ensures in
-    let new = c.take_body-taken.new.facts in
-    on_ok_three c.take_body-taken.result _ _ _ _
+    let took = c.take_body.ensures in
+    let new = c.take_body.new.facts in
+    on_ok_three c.take_body.result _ _ _ _
     (λ tells moved by_message content stands was. way_more setup content p text c.args.facts.now new stands
     (λ s h. subst (λ (l : Covered). Tells new (l ++ s)) (sym (item_at-read setup p text (Ok message) (ok_read setup text message c.in-Ok.ensures.exact))) (tells s h))
     moved by_message was)

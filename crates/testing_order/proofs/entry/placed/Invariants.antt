@@ -1,7 +1,8 @@
-use Rattle.std.proofs.Common.{◌≡◌, ◌+◌, take}
+use Rattle.std.proofs.Common.{◌≡◌, ◌++◌}
+use Rattle.std.specs.Vec.Iter.{into_iter_items}
 use Rattle.testing_model.specs.Covered.{placed_from}
 use Rattle.testing_order.proofs.entry.placed.Given as goal
 
--- those so far, and the next place
+-- with those that are left, all are placed
 abbrev pub invariant-binaries : goal.invariant-binaries
-invariant-binaries l = (l.builds.items ≡ placed_from 1 l.sender l.number (take l.binary-index l.binaries)) × (l.place ≡ l.binary-index + 1)
+invariant-binaries l = l.builds.items ++ placed_from l.place l.sender l.number (into_iter_items l.binary-iterator) ≡ placed_from 1 l.sender l.number l.fn.binaries.items

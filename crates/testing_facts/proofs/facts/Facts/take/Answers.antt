@@ -1,44 +1,31 @@
-use Rattle.std.proofs.Common.{◌∷◌, Contains, sym, ap, ◌∙◌, subst}
-use Rattle.testing_model.specs.FactLists.{FactLists}
+use Rattle.std.proofs.Common.{◌≡◌, ◌∷◌, Contains, Some, subst}
+use Rattle.std.proofs.lemmas.Result.{on_ok_weaker}
+use Rattle.testing_items.specs.declared.item.Item.{Item}
+use Rattle.testing_model.specs.Covered.{CoveredItem, upload_of}
 use Rattle.testing_model.specs.StandsFor.{StandsFor}
 use Rattle.testing_model.specs.Tells.{Tells}
-use Rattle.testing_facts.specs.Entries.{with_entry}
-use Rattle.testing_model.specs.FactDifference.{IsChangedFrom}
-use Rattle.testing_facts.proofs.Joins.{joins, keeps, is_there}
-use Rattle.testing_facts.proofs.Saying.{says_more}
-use Rattle.testing_facts.proofs.Shifting.{takes_log}
 use Rattle.testing_facts.proofs.facts.Facts.take.Goals as goal
 
 pub returns-clause-ok : goal.returns-clause-ok
-returns-clause-ok c = λ s t h.
+returns-clause-ok c =
     let n = c.args.sender in
     let k = c.args.number in
-    let i = c.args.item.now in
-    let old = c.args.self.now in
-    let became = c.in_ok-put.ensures.ok ∙ ap (λ e. with_entry e old) c.in_ok-entry.ensures in
-    subst (λ (f : FactLists). StandsFor f (record { sender = n; number = k; item = i } ∷ s) t) (sym became) (joins old s t h n k i)
-
-pub returns-clause-kept : goal.returns-clause-kept
-returns-clause-kept c = λ u d.
-    subst (λ (f : FactLists). Contains f.uploads u) (sym c.in_ok-put.ensures.ok) (keeps c.in_ok-entry.entry c.args.self.now u d)
+    on_ok_weaker c.take_owned.result
+    (λ stand s t h. subst (λ (i : Item). StandsFor c.take_owned.new.self (record { sender = n; number = k; item = i } ∷ s) t) c.in_ok-copy.ensures (stand s t h))
+    c.take_owned.ensures.ok
 
 pub returns-clause-there : goal.returns-clause-there
-returns-clause-there c = λ u e.
+returns-clause-there c =
     let n = c.args.sender in
     let k = c.args.number in
-    let i = c.args.item.now in
-    let old = c.args.self.now in
-    let became = c.in_ok-put.ensures.ok ∙ ap (λ e. with_entry e old) c.in_ok-entry.ensures in
-    subst (λ (f : FactLists). Contains f.uploads u) (sym became) (is_there old n k i u e)
-
-pub returns-clause-moved : goal.returns-clause-moved
-returns-clause-moved c = λ count h. subst (IsChangedFrom count) (sym c.in_ok-put.ensures.ok) (takes_log count c.in_ok-entry.entry c.args.self.now h)
+    on_ok_weaker c.take_owned.result
+    (λ there u. subst (λ (i : Item). let m : CoveredItem = record { sender = n; number = k; item = i } in upload_of m ≡ Some u → Contains c.take_owned.new.self.uploads u) c.in_ok-copy.ensures (there u))
+    c.take_owned.ensures.there
 
 pub returns-clause-tells : goal.returns-clause-tells
-returns-clause-tells c = λ s h.
+returns-clause-tells c =
     let n = c.args.sender in
     let k = c.args.number in
-    let i = c.args.item.now in
-    let old = c.args.self.now in
-    let became = c.in_ok-put.ensures.ok ∙ ap (λ e. with_entry e old) c.in_ok-entry.ensures in
-    subst (λ (f : FactLists). Tells f (record { sender = n; number = k; item = i } ∷ s)) (sym became) (says_more old s h n k i)
+    on_ok_weaker c.take_owned.result
+    (λ tells s h. subst (λ (i : Item). Tells c.take_owned.new.self (record { sender = n; number = k; item = i } ∷ s)) c.in_ok-copy.ensures (tells s h))
+    c.take_owned.ensures.tells
