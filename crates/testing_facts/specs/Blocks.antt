@@ -20,6 +20,11 @@ pub record IsRoomy (len capacity : ℕ) : Type 0 where
   pub below : len < 64
   pub room : 64 ≤ capacity
 
+-- memory for the rows of a block, of which none has come
+pub record IsSpare (rows : List BuildIn) (capacity : ℕ) : Type 0 where
+  pub empty : rows ≡ []
+  pub room : 64 ≤ capacity
+
 -- the block has a row
 abbrev pub HasRows : List BuildIn → Type 0
 HasRows rows = 0 < length rows

@@ -1,7 +1,6 @@
 //! Unstable's rows in blocks: a row that comes or goes shifts those of its own block alone.
 
-ghost use Rattle.std.specs.Prelude.{◌≡◌, ◌==◌, ◌<◌, ◌≤◌, ◌+◌, ◌*◌, ◌^◌, ℕ, [], ◌++◌, IfOk, OnOk, OnErr, filter, length, map, not, option_to_list, vec_len, vec_capacity};
-ghost use Rattle.std.specs.List.{All};
+ghost use Rattle.std.specs.Prelude.{◌≡◌, ◌==◌, ◌<◌, ◌≤◌, ◌+◌, ◌*◌, ◌^◌, ℕ, [], ◌++◌, IfOk, OnOk, OnErr, IsTrue, IsFalse, filter, length, map, not, option_to_list, slice_index_or, true, false, vec_len, vec_capacity};
 ghost use Rattle.std.specs.Option.{IfSome};
 ghost use Rattle.testing_facts.specs.Blocks.{joined, upper_rows, HasRows, AreBlocks, begins_above, IsBlockFor};
 ghost use Rattle.testing_facts.specs.ElementShifts.{shift_builds, IsShift};
@@ -39,6 +38,33 @@ impl Model for Block {
     ghost view = { λ a. unboxed a.rows.items };
 
     ghost invariant = { λ a. IsRoomy (vec_len a.rows) (vec_capacity a.rows) };
+}
+
+/// Memory for the rows of a block, of which none has come.
+#[derive(Drop)]
+struct Spare {
+    rows: Vec<Box<BuildIn>>,
+}
+
+impl Model for Spare {
+    ghost use Rattle.std.specs.Prelude.{List, vec_capacity};
+    ghost use Rattle.testing_model.specs.Boxed.{unboxed};
+    ghost use Rattle.testing_model.specs.declared.facts.BuildIn.{BuildIn};
+    ghost use Rattle.testing_facts.specs.Blocks.{IsSpare};
+
+    ghost Value = { List BuildIn };
+
+    ghost view = { λ a. unboxed a.rows.items };
+
+    ghost invariant = { λ a. IsSpare (unboxed a.rows.items) (vec_capacity a.rows) };
+}
+
+impl Spare {
+    /// Memory for as many rows as fill a block.
+    fn new(alloc: Global) -> Result<Spare, NoMemory> {
+        let rows = Vec::with_capacity(alloc, FULL)?;
+        Ok(Spare { rows })
+    }
 }
 
 /// What a build that joined a block did to the rows of the facts, and the block of the upper half, if it filled its own.
@@ -94,14 +120,15 @@ impl Block {
         Ok(Block { rows })
     }
 
-    /// A build joins the rows. Where it fills the block, the spare one takes the upper half.
-    fn put(&mut self, build: Box<BuildIn>, spare: Block) -> Entered
+    /// A build joins the rows. Where it fills the block, one of the spares takes the upper half.
+    fn put(&mut self, build: Box<BuildIn>, spares: &mut Vec<Spare>) -> Entered
         requires order { AreByPair self.old }
-        requires spare { spare ≡ [] }
+        requires spares { 0 < vec_len spares.old }
         ensures rows { self.new ++ upper_rows result.upper ≡ taken.with_build build.value self.old }
         ensures shift { IsShift unstable.pair_of unstable.pair_order unstable.build_order build_row build.value self.old result.shifted }
         ensures lower { HasRows self.new }
         ensures upper { IfSome result.upper HasRows }
+        ensures spares { vec_len spares.old ≤ vec_len spares.new + 1 }
     {
         let shifted = put_build(&mut self.rows, build);
         if self.rows.len() < FULL {
@@ -110,7 +137,8 @@ impl Block {
                 upper: None,
             };
         }
-        let upper = Some(upper_half(&mut self.rows, spare));
+        let last = spares.len() - 1;
+        let upper = Some(upper_half(&mut self.rows, spares.remove(last)));
         Entered { shifted, upper }
     }
 
@@ -135,9 +163,8 @@ fn begin_above(rows: &[Box<BuildIn>], arch: &str, name: &str) -> bool
 }
 
 /// The rows of a full block, but for its lower half, which stays.
-fn upper_half(rows: &mut Vec<Box<BuildIn>>, spare: Block) -> Block
-    requires full { vec_len rows.old ≡ 64 }
-    requires spare { spare ≡ [] }
+fn upper_half(rows: &mut Vec<Box<BuildIn>>, spare: Spare) -> Block
+    requires { vec_len rows.old ≡ 64 }
     ensures rows { unboxed rows.new.items ++ result ≡ unboxed rows.old.items }
     ensures lower { vec_len rows.new ≡ 32 }
     ensures upper { HasRows result }
@@ -164,6 +191,84 @@ fn block_for(blocks: &[Block], arch: &str, name: &str) -> usize
         }
     }
     low
+}
+
+/// Two places of blocks, of which one may be right: that of the block that was put into last, and one before it.
+#[derive(Clone, Copy)]
+struct Near {
+    last: usize,
+    other: usize,
+}
+
+/// No block was put into yet.
+fn nowhere() -> Near {
+    Near { last: 0, other: 0 }
+}
+
+/// A block was put into. One beside the last one takes its place.
+fn nearer(near: Near, place: usize) -> Near {
+    if place == near.last || place == near.last.saturating_add(1) {
+        return Near {
+            last: place,
+            other: near.other,
+        };
+    }
+    Near {
+        last: place,
+        other: near.last,
+    }
+}
+
+/// There is a block at the place, and it is the first or doesn't begin above the architecture and the name.
+fn may_hold(blocks: &[Block], arch: &str, name: &str, place: usize) -> bool
+    ensures within { IsTrue result → place < length blocks.now }
+    ensures begins { IsTrue result → 0 < place → begins_above (arch.now, name.now) (slice_index_or blocks.now place []) ≡ false }
+    ensures above { IsFalse result → place < length blocks.now → begins_above (arch.now, name.now) (slice_index_or blocks.now place []) ≡ true }
+{
+    match blocks.get(place) {
+        Some(block) => place == 0 || !block.begins_above(arch, name),
+        None => false,
+    }
+}
+
+/// The place or the next one, if one of them is that of the block for the architecture and the name.
+fn block_at(blocks: &[Block], arch: &str, name: &str, place: usize) -> Option<usize>
+    ensures { IfSome result (λ place. IsBlockFor (arch.now, name.now) blocks.now place) }
+{
+    if !may_hold(blocks, arch, name, place) {
+        return None;
+    }
+    if !may_hold(blocks, arch, name, place + 1) {
+        return Some(place);
+    }
+    if !may_hold(blocks, arch, name, place + 2) {
+        return Some(place + 1);
+    }
+    None
+}
+
+/// The place of the block for the architecture and the name. The places that are near are tried first.
+fn place_near(blocks: &[Block], arch: &str, name: &str, near: Near) -> usize
+    requires { 0 < length blocks.now }
+    ensures { IsBlockFor (arch.now, name.now) blocks.now result }
+{
+    if let Some(place) = block_at(blocks, arch, name, near.last) {
+        return place;
+    }
+    if let Some(place) = block_at(blocks, arch, name, near.other) {
+        return place;
+    }
+    block_for(blocks, arch, name)
+}
+
+/// The same, and the place is near from now on.
+fn block_near(blocks: &[Block], arch: &str, name: &str, near: &mut Near) -> usize
+    requires { 0 < length blocks.now }
+    ensures { IsBlockFor (arch.now, name.now) blocks.now result }
+{
+    let place = place_near(blocks, arch, name, *near);
+    *near = nearer(*near, place);
+    place
 }
 
 /// How many rows the blocks have.
@@ -214,33 +319,25 @@ fn copy_blocks(alloc: Global, blocks: &[Block]) -> Result<Vec<Block>, NoMemory>
     Ok(copies)
 }
 
-/// A build that joins, with a block to spare.
-#[derive(Drop)]
-struct Coming {
-    build: Box<BuildIn>,
-    spare: Block,
-}
-
-/// A build, with a block to spare.
-fn coming_build(alloc: Global, build: BuildIn) -> Result<Coming, NoMemory>
-    ensures build { IfOk result (λ c. c.build.value ≡ build) }
-    ensures spare { IfOk result (λ c. c.spare ≡ []) }
+/// The builds, each in a box of its own.
+fn boxed_builds(alloc: Global, builds: Vec<BuildIn>) -> Result<Vec<Box<BuildIn>>, NoMemory>
+    ensures { IfOk result (λ boxes. unboxed boxes.items ≡ builds.items) }
 {
-    let build = Box::new(alloc, build)?;
-    let spare = Block::new(alloc)?;
-    Ok(Coming { build, spare })
-}
-
-/// The builds, each with a block to spare.
-fn coming_builds(alloc: Global, builds: Vec<BuildIn>) -> Result<Vec<Coming>, NoMemory>
-    ensures builds { IfOk result (λ cs. map (λ c. c.build.value) cs.items ≡ builds.items) }
-    ensures spares { IfOk result (λ cs. All (λ c. c.spare ≡ []) cs.items) }
-{
-    let mut coming = Vec::new(alloc);
+    let mut boxes = Vec::with_capacity(alloc, builds.len())?;
     for build in builds {
-        coming.push(coming_build(alloc, build)?)?;
+        boxes.push(Box::new(alloc, build)?)?;
     }
-    Ok(coming)
+    Ok(boxes)
+}
+
+/// There are at least so many spares.
+fn top_up(alloc: Global, spares: &mut Vec<Spare>, count: usize) -> Result<(), NoMemory>
+    ensures { OnOk result (count ≤ vec_len spares.new) }
+{
+    'spares: while spares.len() < count {
+        spares.push(Spare::new(alloc)?)?;
+    }
+    Ok(())
 }
 
 /// Makes room for so many blocks more. After it there is a block.
@@ -259,25 +356,35 @@ fn make_room(alloc: Global, blocks: &mut Vec<Block>, count: usize) -> Result<(),
 }
 
 /// A build joins the rows, where its own has none before it. Gives what that does to the rows of the facts. There is room
-/// for a block more.
-fn put_coming(blocks: &mut Vec<Block>, coming: Coming) -> Shifted
+/// for a block more, and a spare for its rows.
+fn put_coming(
+    blocks: &mut Vec<Block>,
+    near: &mut Near,
+    spares: &mut Vec<Spare>,
+    build: Box<BuildIn>,
+) -> Shifted
     requires order { AreByPair (joined blocks.old.items) }
     requires filled { AreBlocks blocks.old.items }
     requires some { 0 < vec_len blocks.old }
     requires room { vec_len blocks.old < vec_capacity blocks.old }
-    requires spare { coming.spare ≡ [] }
-    ensures rows { joined blocks.new.items ≡ taken.with_build coming.build.value (joined blocks.old.items) }
-    ensures shift { IsShift unstable.pair_of unstable.pair_order unstable.build_order build_row coming.build.value (joined blocks.old.items) result }
+    requires spares { 0 < vec_len spares.old }
+    ensures rows { joined blocks.new.items ≡ taken.with_build build.value (joined blocks.old.items) }
+    ensures shift { IsShift unstable.pair_of unstable.pair_order unstable.build_order build_row build.value (joined blocks.old.items) result }
     ensures filled { AreBlocks blocks.new.items }
     ensures len { vec_len blocks.new ≤ vec_len blocks.old + 1 }
     ensures some { 0 < vec_len blocks.new }
     ensures capacity { vec_capacity blocks.old ≤ vec_capacity blocks.new }
+    ensures spares { vec_len spares.old ≤ vec_len spares.new + 1 }
 {
-    let Coming { build, spare } = coming;
     let binary = &build.binary;
-    let place = block_for(blocks, binary.architecture.as_str(), binary.name.as_str());
+    let place = block_near(
+        blocks,
+        binary.architecture.as_str(),
+        binary.name.as_str(),
+        near,
+    );
     let block = &mut blocks[place];
-    let Entered { shifted, upper } = block.put(build, spare);
+    let Entered { shifted, upper } = block.put(build, spares);
     if let Some(upper) = upper {
         let _ = blocks.insert(place + 1, upper);
     }
@@ -285,28 +392,35 @@ fn put_coming(blocks: &mut Vec<Block>, coming: Coming) -> Shifted
 }
 
 /// The builds of one message join the rows, each where it stands, and what that does to the rows is noted. There is room
-/// for them.
-fn put_builds(held: &mut Vec<Block>, drops: &[Box<DropIn>], coming: Vec<Coming>, log: &mut Log)
+/// for them, and a spare for each.
+fn put_builds(
+    held: &mut Vec<Block>,
+    near: &mut Near,
+    drops: &[Box<DropIn>],
+    coming: Vec<Box<BuildIn>>,
+    spares: &mut Vec<Spare>,
+    log: &mut Log,
+)
     requires order { AreByPair (joined held.old.items) }
     requires filled { AreBlocks held.old.items }
     requires some { 0 < vec_len held.old }
     requires room { vec_len held.old + vec_len coming ≤ vec_capacity held.old }
-    requires spares { All (λ c. c.spare ≡ []) coming.items }
+    requires spares { vec_len coming ≤ vec_len spares.old }
     requires drops { AreDropsByPair (unboxed drops.now) }
     requires room_came { vec_len log.old.came + vec_len coming ≤ vec_capacity log.old.came }
     requires room_left { vec_len log.old.left + vec_len coming ≤ vec_capacity log.old.left }
-    ensures rows { joined held.new.items ≡ taken.with_builds (taken.stands_beside (unboxed drops.now)) (map (λ c. c.build.value) coming.items) (joined held.old.items) }
+    ensures rows { joined held.new.items ≡ taken.with_builds (taken.stands_beside (unboxed drops.now)) (unboxed coming.items) (joined held.old.items) }
     ensures filled { AreBlocks held.new.items }
-    ensures came { log.new.came.items ≡ log.old.came.items ++ (shift_builds (taken.stands_beside (unboxed drops.now)) (map (λ c. c.build.value) coming.items) (joined held.old.items)).came }
-    ensures left { log.new.left.items ≡ log.old.left.items ++ (shift_builds (taken.stands_beside (unboxed drops.now)) (map (λ c. c.build.value) coming.items) (joined held.old.items)).left }
+    ensures came { log.new.came.items ≡ log.old.came.items ++ (shift_builds (taken.stands_beside (unboxed drops.now)) (unboxed coming.items) (joined held.old.items)).came }
+    ensures left { log.new.left.items ≡ log.old.left.items ++ (shift_builds (taken.stands_beside (unboxed drops.now)) (unboxed coming.items) (joined held.old.items)).left }
     ensures len { vec_len log.new.left ≤ vec_len log.old.left + vec_len coming }
     ensures capacity { vec_capacity log.old.left ≤ vec_capacity log.new.left }
 {
     let mut left = coming;
     'builds: while let Some(next) = left.pop() {
-        let build: &BuildIn = &next.build;
+        let build: &BuildIn = &next;
         if stands_beside(drops, build) {
-            let shifted = put_coming(held, next);
+            let shifted = put_coming(held, near, spares, next);
             log.note(shifted);
         }
     }
@@ -335,11 +449,17 @@ fn take_from(blocks: &mut Vec<Block>, drop: &DropIn) -> Option<FactRow>
 /// Unstable's rows, by architecture and name.
 pub struct BuildBlocks {
     blocks: Vec<Block>,
+    near: Near,
+    spares: Vec<Spare>,
 }
 
 impl Drop for BuildBlocks {
     fn drop(self) {
-        let BuildBlocks { blocks: _ } = self;
+        let BuildBlocks {
+            blocks: _,
+            near: _,
+            spares: _,
+        } = self;
     }
 }
 
@@ -362,6 +482,8 @@ impl BuildBlocks {
     {
         BuildBlocks {
             blocks: Vec::new(alloc),
+            near: nowhere(),
+            spares: Vec::new(alloc),
         }
     }
 
@@ -385,7 +507,11 @@ impl BuildBlocks {
         ensures { IfOk result (λ copies. copies ≡ self.now) }
     {
         let blocks = copy_blocks(alloc, &self.blocks)?;
-        Ok(BuildBlocks { blocks })
+        Ok(BuildBlocks {
+            blocks,
+            near: self.near,
+            spares: Vec::new(alloc),
+        })
     }
 
     /// The builds of one message join the rows, each where it stands beside the drops, and what that does to the rows is
@@ -409,9 +535,17 @@ impl BuildBlocks {
         ensures ok { OnOk result (self.new ≡ taken.with_builds (taken.stands_beside (unboxed drops.now)) builds.items self.old) }
         ensures err { OnErr result (self.new ≡ self.old) }
     {
-        let coming = coming_builds(alloc, builds)?;
+        let coming = boxed_builds(alloc, builds)?;
+        top_up(alloc, &mut self.spares, coming.len())?;
         make_room(alloc, &mut self.blocks, coming.len())?;
-        put_builds(&mut self.blocks, drops, coming, log);
+        put_builds(
+            &mut self.blocks,
+            &mut self.near,
+            drops,
+            coming,
+            &mut self.spares,
+            log,
+        );
         Ok(())
     }
 
@@ -421,9 +555,10 @@ impl BuildBlocks {
         ensures ok { OnOk result (self.new ≡ taken.with_build build self.old) }
         ensures err { OnErr result (self.new ≡ self.old) }
     {
-        let coming = coming_build(alloc, build)?;
+        let coming = Box::new(alloc, build)?;
+        top_up(alloc, &mut self.spares, 1)?;
         make_room(alloc, &mut self.blocks, 1)?;
-        let _ = put_coming(&mut self.blocks, coming);
+        let _ = put_coming(&mut self.blocks, &mut self.near, &mut self.spares, coming);
         Ok(())
     }
 

@@ -1,12 +1,13 @@
-use Rattle.std.proofs.Common.{◌≡◌, sym, ap, subst, ◌∙◌, arith, cond, [], ◌∷◌, ◌++◌, map, Some}
+use Rattle.std.proofs.Common.{sym, ap, subst, ◌∙◌, arith, cond, List, [], ◌∷◌, ◌++◌}
+use Rattle.std.specs.Prelude.{Box}
+use Rattle.std.specs.declared.alloc.Global.{Global}
 use Rattle.std.proofs.lemmas.List.{map-append}
-use Rattle.std.proofs.lemmas.List.Elements.{All-pop}
 use Rattle.testing_model.specs.Boxed.{unboxed}
 use Rattle.testing_facts.specs.Blocks.{joined}
 use Rattle.testing_facts.specs.ElementShifts.{shift_builds}
 use Rattle.testing_model.specs.FactOrder.{AreByPair}
 use Rattle.testing_model.specs.WithMessage.{with_build, with_builds, stands_beside}
-use Rattle.testing_facts.specs.declared.build_blocks.Coming.{Coming}
+use Rattle.testing_model.specs.declared.facts.BuildIn.{BuildIn}
 use Rattle.testing_model.proofs.BuildLists.{builds-last}
 use Rattle.testing_facts.proofs.KeySlots.{by_pair-build}
 use Rattle.testing_facts.proofs.ShiftLists.{came-next, left-next, came-passed, left-passed}
@@ -16,11 +17,11 @@ pub builds-preserved-then-stands_beside : goal.builds-preserved-then-stands_besi
 builds-preserved-then-stands_beside c =
     let p = stands_beside (unboxed c.args.drops.now) in
     let next = c.in-Some.next in
-    let b = next.build.value in
-    let left = map (λ (n : Coming). n.build.value) c.pop.new.self.items in
+    let b = next.value in
+    let left = unboxed c.pop.new.self.items in
     let rows = joined c.builds.held.items in
     let stands = ap p (sym c.deref-build.ensures) ∙ sym c.stands_beside.ensures ∙ c.if-stands_beside.true in
-    let items = ap (map (λ (n : Coming). n.build.value)) c.in-Some.ensures.items ∙ map-append (λ (n : Coming). n.build.value) c.pop.new.self.items (next ∷ []) in
+    let items = ap (λ (ns : List (Box BuildIn Global)). unboxed ns) c.in-Some.ensures.items ∙ map-append (λ (n : Box BuildIn Global). n.value) c.pop.new.self.items (next ∷ []) in
     record {
       rows =
           ap (with_builds p left) c.put_coming-shifted.ensures.rows
@@ -44,18 +45,18 @@ builds-preserved-then-stands_beside c =
       filled = c.put_coming-shifted.ensures.filled;
       some = c.put_coming-shifted.ensures.some;
       room = omega (arith, c.in-Some.ensures.len, c.put_coming-shifted.ensures.len, c.put_coming-shifted.ensures.capacity, c.builds.invariant.room);
-      spares = (All-pop (λ (n : Coming). n.spare ≡ []) c.builds.left.items c.pop.new.self.items (Some next) c.in-Some.ensures.items c.builds.invariant.spares).0;
+      spares = omega (arith, c.in-Some.ensures.len, c.put_coming-shifted.ensures.spares, c.builds.invariant.spares);
     }
 
 pub builds-preserved : goal.builds-preserved
 builds-preserved c =
     let p = stands_beside (unboxed c.args.drops.now) in
     let next = c.in-Some.next in
-    let b = next.build.value in
-    let left = map (λ (n : Coming). n.build.value) c.pop.new.self.items in
+    let b = next.value in
+    let left = unboxed c.pop.new.self.items in
     let rows = joined c.builds.held.items in
     let stands = ap p (sym c.deref-build.ensures) ∙ sym c.stands_beside.ensures ∙ c.if-stands_beside.false in
-    let items = ap (map (λ (n : Coming). n.build.value)) c.in-Some.ensures.items ∙ map-append (λ (n : Coming). n.build.value) c.pop.new.self.items (next ∷ []) in
+    let items = ap (λ (ns : List (Box BuildIn Global)). unboxed ns) c.in-Some.ensures.items ∙ map-append (λ (n : Box BuildIn Global). n.value) c.pop.new.self.items (next ∷ []) in
     record {
       rows =
           ap (λ t. with_builds p left (cond t (with_build b rows) rows)) (sym stands)
@@ -76,5 +77,5 @@ builds-preserved c =
       filled = c.builds.invariant.filled;
       some = c.builds.invariant.some;
       room = omega (arith, c.in-Some.ensures.len, c.builds.invariant.room);
-      spares = (All-pop (λ (n : Coming). n.spare ≡ []) c.builds.left.items c.pop.new.self.items (Some next) c.in-Some.ensures.items c.builds.invariant.spares).0;
+      spares = omega (arith, c.in-Some.ensures.len, c.builds.invariant.spares);
     }

@@ -1,5 +1,4 @@
-use Rattle.std.proofs.Common.{◌≡◌, ◌+◌, ◌++◌, ◌≤◌, ◌<◌, [], map, vec_len}
-use Rattle.std.specs.List.{All}
+use Rattle.std.proofs.Common.{◌≡◌, ◌+◌, ◌++◌, ◌≤◌, ◌<◌, vec_len}
 use Rattle.std.specs.Prelude.{vec_capacity}
 use Rattle.testing_model.specs.Boxed.{unboxed}
 use Rattle.testing_facts.specs.Blocks.{joined, AreBlocks}
@@ -12,11 +11,11 @@ use Rattle.testing_facts.proofs.build_blocks.put_builds.Given as goal
 abbrev pub invariant-builds : goal.invariant-builds
 invariant-builds l =
     record {
-      rows : with_builds (stands_beside (unboxed l.drops)) (map (λ c. c.build.value) l.left.items) (joined l.held.items) ≡ with_builds (stands_beside (unboxed l.drops)) (map (λ c. c.build.value) l.fn.coming.items) (joined l.fn.held.items);
-      came : l.log.came.items ++ (shift_builds (stands_beside (unboxed l.drops)) (map (λ c. c.build.value) l.left.items) (joined l.held.items)).came
-          ≡ l.fn.log.came.items ++ (shift_builds (stands_beside (unboxed l.drops)) (map (λ c. c.build.value) l.fn.coming.items) (joined l.fn.held.items)).came;
-      gone : l.log.left.items ++ (shift_builds (stands_beside (unboxed l.drops)) (map (λ c. c.build.value) l.left.items) (joined l.held.items)).left
-          ≡ l.fn.log.left.items ++ (shift_builds (stands_beside (unboxed l.drops)) (map (λ c. c.build.value) l.fn.coming.items) (joined l.fn.held.items)).left;
+      rows : with_builds (stands_beside (unboxed l.drops)) (unboxed l.left.items) (joined l.held.items) ≡ with_builds (stands_beside (unboxed l.drops)) (unboxed l.fn.coming.items) (joined l.fn.held.items);
+      came : l.log.came.items ++ (shift_builds (stands_beside (unboxed l.drops)) (unboxed l.left.items) (joined l.held.items)).came
+          ≡ l.fn.log.came.items ++ (shift_builds (stands_beside (unboxed l.drops)) (unboxed l.fn.coming.items) (joined l.fn.held.items)).came;
+      gone : l.log.left.items ++ (shift_builds (stands_beside (unboxed l.drops)) (unboxed l.left.items) (joined l.held.items)).left
+          ≡ l.fn.log.left.items ++ (shift_builds (stands_beside (unboxed l.drops)) (unboxed l.fn.coming.items) (joined l.fn.held.items)).left;
       room_came : vec_len l.log.came + vec_len l.left ≤ vec_capacity l.log.came;
       room_left : vec_len l.log.left + vec_len l.left ≤ vec_capacity l.log.left;
       len : vec_len l.log.left + vec_len l.left ≤ vec_len l.fn.log.left + vec_len l.fn.coming;
@@ -25,7 +24,7 @@ invariant-builds l =
       filled : AreBlocks l.held.items;
       some : 0 < vec_len l.held;
       room : vec_len l.held + vec_len l.left ≤ vec_capacity l.held;
-      spares : All (λ c. c.spare ≡ []) l.left.items;
+      spares : vec_len l.left ≤ vec_len l.spares;
     }
 
 abbrev pub decreases-builds : goal.decreases-builds
