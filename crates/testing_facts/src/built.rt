@@ -148,6 +148,15 @@ fn push_built_on<'a>(
     Ok(())
 }
 
+/// Room for so many rows, unless they are more than memory holds.
+fn room_for(count: u128) -> usize {
+    if count < 0x1_0000_0000 {
+        count as usize
+    } else {
+        0
+    }
+}
+
 /// The builds of the sources that are let through, lent as rows, by place of the architecture.
 pub fn rows_passing<'a>(
     alloc: Global,
@@ -160,7 +169,7 @@ pub fn rows_passing<'a>(
     ensures ordered { IfOk result (λ rows. AreByPair (passing_builds passing.now builds.now) → AreByKey (lent rows.items)) }
 {
     let blocks = builds.blocks();
-    let mut rows = Vec::new(alloc);
+    let mut rows = Vec::with_capacity(alloc, room_for(builds.count()))?;
     for place in 0..archs.len() {
         push_built_on(&mut rows, blocks, passing, place, archs.name(place))?;
     }

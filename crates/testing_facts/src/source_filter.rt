@@ -28,7 +28,7 @@ pub enum SourceFilter {
 fn hashes_of_excused(alloc: Global, excuses: &[Excuse]) -> Result<Vec<u64>, NoMemory>
     ensures { IfOk result (λ hashes. hashes.items ≡ rules.excused excuses.now) }
 {
-    let mut hashes = Vec::new(alloc);
+    let mut hashes = Vec::with_capacity(alloc, excuses.len())?;
     for excuse in excuses {
         hashes.push(hash_of(excuse.source.as_str()))?;
     }
@@ -89,7 +89,7 @@ pub fn passing_rows<'a>(
 ) -> Result<Vec<LentRow<'a>>, NoMemory>
     ensures { IfOk result (λ wanted. lent wanted.items ≡ rules.passing_rows hashes.now.keys (lent rows.now)) }
 {
-    let mut wanted = Vec::new(alloc);
+    let mut wanted = Vec::with_capacity(alloc, rows.len())?;
     for row in rows {
         if is_one_of(hashes, row.binary.source_hash()) {
             wanted.push(*row)?;

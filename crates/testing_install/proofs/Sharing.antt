@@ -1,6 +1,6 @@
 -- Rows that are shared, and more of them behind.
-use Rattle.std.proofs.Common.{◌≡◌, ℕ, zero, suc, ◌+◌, ◌<◌, ◌≤◌, List, [], ◌∷◌, ◌++◌, length, get_or, Some, Global, sym, refl, ap, ◌∙◌, arith}
-use Rattle.std.specs.List.{slice_get}
+use Rattle.std.proofs.Common.{◌≡◌, ℕ, zero, suc, ◌+◌, ◌<◌, ◌≤◌, List, [], ◌∷◌, ◌++◌, length, get_or, Some, Global, sym, refl, ap, ◌∙◌, subst, arith}
+use Rattle.std.specs.List.{slice_get, All, Contains}
 use Rattle.std.specs.Option.{option_map}
 use Rattle.std.specs.declared.rc.Rc.{Rc}
 use Rattle.std.proofs.lemmas.Option.{slice_get-map, slice_get_read}
@@ -59,3 +59,16 @@ graph_all rows bearers needers n to h = record { borne = index_all rows bearers 
 -- a graph of no rows
 pub graph_none : (bearers needers : PlacesByName) → ((q : List ℕ) → places_at bearers q ≡ []) → ((q : List ℕ) → places_at needers q ≡ []) → IsGraph [] bearers needers
 graph_none bearers needers b n = graph_all [] bearers needers 0 (record { borne = index_none [] bearers b; needed = needers_none [] needers n }) (omega arith)
+
+-- a graph with the same places
+pub graph_same : (rows : List Binary) (b0 n0 b1 n1 : PlacesByName) → ((q : List ℕ) → places_at b1 q ≡ places_at b0 q) → ((q : List ℕ) → places_at n1 q ≡ places_at n0 q) → IsGraph rows b0 n0 → IsGraph rows b1 n1
+graph_same rows b0 n0 b1 n1 borne needed g = record {
+  borne = record {
+    within = λ q. subst (All (λ k. k < length rows)) (sym (borne q)) (g.borne.within q);
+    complete = λ q k row at e. subst (λ ks. Contains ks k) (sym (borne q)) (g.borne.complete q k row at e);
+  };
+  needed = record {
+    within = λ q. subst (All (λ k. k < length rows)) (sym (needed q)) (g.needed.within q);
+    complete = λ q k row at e. subst (λ ks. Contains ks k) (sym (needed q)) (g.needed.complete q k row at e);
+  };
+}

@@ -25,7 +25,7 @@ mod work;
 
 pub use counted::{Counted, installable, installable_counted};
 use deb_control::Binary;
-pub use index::{NameIndex, hash_of};
+pub use index::{NameIndex, hash_of, note_row};
 pub use satisfies::meets;
 pub use suite::Suite;
 

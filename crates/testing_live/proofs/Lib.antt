@@ -1,4 +1,3 @@
 pub mod LiveSlots
-pub mod Provided
 pub mod SourceSlots
 pub mod Unmet

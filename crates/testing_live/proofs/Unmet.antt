@@ -1,18 +1,19 @@
 -- A clause that no row meets.
-use Rattle.std.specs.Prelude.{ℕ, ◌≤◌, Bool, true, false, ◌&&◌, List, [], Contains, Option, Some, None, IfSome, length, get_or}
+use Rattle.std.specs.Prelude.{ℕ, ◌≤◌, Bool, true, false, ◌&&◌, ◌||◌, List, [], Contains, Option, Some, None, IfSome, length, get_or}
 use Rattle.std.specs.List.{AllWithin, slice_get, list_any}
 use Rattle.std.specs.Str.{bytes_eq}
-use Rattle.std.proofs.Common.{◌≡◌, refl, sym, ◌∙◌, subst, arith, inl, inr}
+use Rattle.std.proofs.Common.{◌≡◌, refl, sym, ap, ◌∙◌, subst, arith, inl, inr}
 use Rattle.std.proofs.lemmas.Bool.{false≢true, or_cases}
 use Rattle.std.proofs.lemmas.Slice.Eq.{bytes_eq-Decides}
+use Rattle.deb_control.specs.declared.binary.Binary.{Binary}
 use Rattle.deb_control.specs.declared.relation.Alternative.{Alternative}
 use Rattle.deb_control.specs.declared.relation.Clause.{Clause}
 use Rattle.testing_install.specs.Closed.{marked}
-use Rattle.testing_install.specs.Index.{PlacesByName, places_at, bears}
+use Rattle.testing_install.specs.Index.{bears}
 use Rattle.testing_install.specs.Satisfies.{satisfies, meets}
 use Rattle.testing_install.proofs.Finding.{any_at, satisfies_bears}
 use Rattle.testing_items.specs.Words.{Text}
-use Rattle.testing_live.specs.Lacks.{provides, meets_on, stands_for_it, IsProvisionIndex}
+use Rattle.testing_live.specs.Lacks.{meets_on, stands_for_it}
 use Rattle.testing_model.specs.declared.suite.RowIn.{RowIn}
 use Rattle.testing_model.specs.Moves.{is_row_on}
 use Rattle.testing_suites.proofs.Arranging.{at_some_of}
@@ -36,6 +37,10 @@ second_of_both : (a b : Bool) → (a && b) ≡ true → b ≡ true
 second_of_both true b h = h
 second_of_both false b h = absurd (false≢true h)
 
+-- a package bears its own name
+pub bears_own : (b : Binary) (name : Text) → b.name ≡ name → bears b name ≡ true
+bears_own b name e = ap (λ own. own || list_any (λ p. bytes_eq p.name name) b.provides) ((bytes_eq-Decides b.name name).1 e)
+
 -- none of some elements passes where not any does
 pub none_of : {A : Type 0} (test : A → Bool) (xs : List A) (x : A) → list_any test xs ≡ false → Contains xs x → test x ≡ false
 none_of test xs x h c = not_so (test x) (λ on. false≢true (sym h ∙ any_of test xs x c on))
@@ -48,14 +53,10 @@ module _ (arch : ℕ) (pool : List RowIn) (stands : List Bool) (clause : Clause)
   pub record IsMissed (a : Alternative) : Type 0 where
     pub each : (k : ℕ) (r : RowIn) → slice_get pool k ≡ Some r → bears r.binary a.name ≡ true → stands_for_it arch pool stands clause k ≡ false
 
-  -- the places of a name, and those at which it is provided, have all rows that bear it
-  pub missed_under : (name : Text) (index : PlacesByName) (named provided : List ℕ) → ((k : ℕ) (r : RowIn) → slice_get pool k ≡ Some r → r.binary.name ≡ name → Contains named k)
-      → IsProvisionIndex pool index → provided ≡ places_at index name → list_any test named ≡ false → list_any test provided ≡ false
+  -- the places of a name have all rows that bear it
+  pub missed_under : (name : Text) (named : List ℕ) → ((k : ℕ) (r : RowIn) → slice_get pool k ≡ Some r → bears r.binary name ≡ true → Contains named k) → list_any test named ≡ false
       → (k : ℕ) (r : RowIn) → slice_get pool k ≡ Some r → bears r.binary name ≡ true → test k ≡ false
-  missed_under name index named provided complete is_index e out off k r at b = elim (or_cases (bytes_eq r.binary.name name) (provides r.binary name) b) [
-    | inl own ↦ none_of test named k out (complete k r at ((bytes_eq-Decides r.binary.name name).0 own))
-    | inr given ↦ none_of test provided k off (subst (λ ks. Contains ks k) (sym e) (is_index.complete name k r at given))
-  ]
+  missed_under name named complete out k r at b = none_of test named k out (complete k r at b)
 
   stands_not : (n : ℕ) → AllWithin IsMissed clause 0 n → length clause ≤ n → (k : ℕ) → test k ≡ true → ⊥
   stands_not n missed h k on =

@@ -3,11 +3,9 @@
 use Rattle.std.specs.Prelude.{◌≡◌, ℕ, ◌<◌, Bool, true, false, ◌&&◌, List, length, filter, Contains, Some}
 use Rattle.std.specs.List.{slice_get, list_any, flat_map}
 use Rattle.std.specs.Option.{option_map_or}
-use Rattle.std.specs.Str.{bytes_eq}
 use Rattle.deb_control.specs.declared.binary.Binary.{Binary}
 use Rattle.deb_control.specs.declared.relation.Clause.{Clause}
 use Rattle.testing_install.specs.Closed.{marked}
-use Rattle.testing_install.specs.Index.{PlacesByName, places_at}
 use Rattle.testing_install.specs.Satisfies.{meets}
 use Rattle.testing_items.specs.Words.{Text}
 use Rattle.testing_model.specs.declared.facts.UploadIn.{UploadIn}
@@ -16,14 +14,6 @@ use Rattle.testing_model.specs.Moves.{group_sources, is_row_on, is_watched_on}
 use Rattle.testing_model.specs.Unstable.{is_current}
 use Rattle.testing_suites.specs.Changes.{comes_at, AreThose}
 use Rattle.testing_suites.specs.PresentSteps.{PoolState}
-
--- the package provides the name
-abbrev pub provides : Binary → Text → Bool
-provides b name = list_any (λ p. bytes_eq p.name name) b.provides
-
--- the index has at each name the places of the rows that provide it
-pub record IsProvisionIndex (pool : List RowIn) (index : PlacesByName) : Type 0 where
-  pub complete : (name : Text) (k : ℕ) (r : RowIn) → slice_get pool k ≡ Some r → provides r.binary name ≡ true → Contains (places_at index name) k
 
 -- the pool's row at the place is on the architecture and meets the clause
 abbrev pub meets_on : ℕ → List RowIn → Clause → ℕ → Bool

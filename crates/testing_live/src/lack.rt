@@ -4,13 +4,13 @@
 ghost use Rattle.std.specs.Prelude.{◌≡◌, ℕ, ◌<◌, false, true, IfSome, Contains, Some, length};
 ghost use Rattle.std.specs.List.{All, list_any, slice_get};
 ghost use Rattle.testing_install.specs.Index.{bears};
-ghost use Rattle.testing_live.specs.Lacks.{meets_on, stands_for_it, IsProvisionIndex, IsUnmet, IsLack};
+ghost use Rattle.testing_live.specs.Lacks.{meets_on, stands_for_it, IsUnmet, IsLack};
 ghost use Rattle.testing_model.specs.declared.suite.RowIn.{RowIn as ARow};
 ghost use Rattle.testing_model.specs.JudgedRows.{row_of};
 ghost use Rattle.testing_model.specs.Moves as moves;
 
 use deb_control::{Binary, Clause};
-use testing_install::{NameIndex, meets};
+use testing_install::meets;
 use testing_items::ALL;
 use testing_model::LentRow;
 use testing_suites::{CarriedSuites, Pool, is_row_on};
@@ -45,28 +45,19 @@ fn is_met_among(arch: u32, suites: &CarriedSuites, clause: &Clause, places: &[us
 }
 
 /// A row that bears the name stands, is on the architecture and meets the clause.
-fn is_met_under(
-    arch: u32,
-    suites: &CarriedSuites,
-    provided: &NameIndex,
-    clause: &Clause,
-    name: &str,
-) -> bool
-    requires { IsProvisionIndex suites.now.rows provided.now }
+fn is_met_under(arch: u32, suites: &CarriedSuites, clause: &Clause, name: &str) -> bool
     ensures { result ≡ false → (k : ℕ) (r : ARow) → slice_get suites.now.rows k ≡ Some r → bears r.binary name.now ≡ true
         → stands_for_it arch suites.now.rows suites.now.stands clause.now k ≡ false }
 {
     is_met_among(arch, suites, clause, suites.pool().of_name(name))
-        || is_met_among(arch, suites, clause, provided.places(name))
 }
 
 /// A row stands, is on the architecture and meets the clause.
-fn is_met(arch: u32, suites: &CarriedSuites, provided: &NameIndex, clause: &Clause) -> bool
-    requires { IsProvisionIndex suites.now.rows provided.now }
+fn is_met(arch: u32, suites: &CarriedSuites, clause: &Clause) -> bool
     ensures { result ≡ false → (k : ℕ) → stands_for_it arch suites.now.rows suites.now.stands clause.now k ≡ false }
 {
     for alternative in clause.as_slice() {
-        if is_met_under(arch, suites, provided, clause, alternative.name.as_str()) {
+        if is_met_under(arch, suites, clause, alternative.name.as_str()) {
             return true;
         }
     }
@@ -83,33 +74,24 @@ fn is_met_by(arch: u32, pool: &Pool, clause: &Clause, places: &[usize]) -> bool
 }
 
 /// No row on the architecture meets the clause that stands or comes.
-fn is_unmet(
-    arch: u32,
-    suites: &CarriedSuites,
-    provided: &NameIndex,
-    coming: &[usize],
-    clause: &Clause,
-) -> bool
-    requires { IsProvisionIndex suites.now.rows provided.now }
+fn is_unmet(arch: u32, suites: &CarriedSuites, coming: &[usize], clause: &Clause) -> bool
     ensures { result ≡ true → IsUnmet arch suites.now.rows suites.now.stands coming.now clause.now }
 {
-    !is_met(arch, suites, provided, clause) && !is_met_by(arch, suites.pool(), clause, coming)
+    !is_met(arch, suites, clause) && !is_met_by(arch, suites.pool(), clause, coming)
 }
 
 /// The first clause of the package that no row on the architecture meets which stands or comes.
 fn unmet_clause<'a>(
     arch: u32,
     suites: &CarriedSuites,
-    provided: &NameIndex,
     coming: &[usize],
     binary: &'a Binary,
 ) -> Option<&'a Clause>
-    requires { IsProvisionIndex suites.now.rows provided.now }
     ensures has { IfSome result (λ clause. Contains binary.now.clauses clause.now) }
     ensures unmet { IfSome result (λ clause. IsUnmet arch suites.now.rows suites.now.stands coming.now clause.now) }
 {
     for clause in binary.clauses.as_slice() {
-        if is_unmet(arch, suites, provided, coming, clause) {
+        if is_unmet(arch, suites, coming, clause) {
             return Some(clause);
         }
     }
@@ -124,13 +106,7 @@ fn watching(row: &LentRow) -> u32
 }
 
 /// A clause of the row at a place that comes, which no row on its architecture meets that stands or comes.
-fn lack_at<'a>(
-    suites: &'a CarriedSuites,
-    provided: &NameIndex,
-    coming: &[usize],
-    place: usize,
-) -> Option<&'a Clause>
-    requires index { IsProvisionIndex suites.now.rows provided.now }
+fn lack_at<'a>(suites: &'a CarriedSuites, coming: &[usize], place: usize) -> Option<&'a Clause>
     requires place { place < length suites.now.rows }
     requires comes { Contains coming.now place }
     ensures { IfSome result (λ clause. IsLack suites.now.archs suites.now.rows suites.now.stands coming.now clause.now) }
@@ -140,22 +116,17 @@ fn lack_at<'a>(
     if arch >= suites.archs() {
         return None;
     }
-    unmet_clause(arch, suites, provided, coming, row.binary)
+    unmet_clause(arch, suites, coming, row.binary)
 }
 
 /// A clause of a row that comes, which no row on its architecture meets that stands or comes. Where there is none, the
 /// change may lose a row nevertheless.
-pub fn lack_among<'a>(
-    suites: &'a CarriedSuites,
-    provided: &NameIndex,
-    coming: &[usize],
-) -> Option<&'a Clause>
-    requires index { IsProvisionIndex suites.now.rows provided.now }
+pub fn lack_among<'a>(suites: &'a CarriedSuites, coming: &[usize]) -> Option<&'a Clause>
     requires coming { All (λ k. k < length suites.now.rows) coming.now }
     ensures { IfSome result (λ clause. IsLack suites.now.archs suites.now.rows suites.now.stands coming.now clause.now) }
 {
     for place in coming {
-        if let Some(clause) = lack_at(suites, provided, coming, *place) {
+        if let Some(clause) = lack_at(suites, coming, *place) {
             return Some(clause);
         }
     }

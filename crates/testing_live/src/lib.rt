@@ -9,7 +9,6 @@ mod live_rows;
 mod live_sources;
 mod offender;
 mod pool_suites;
-mod provisions;
 mod row_tests;
 
 pub use change::{change_by_move, change_by_removal};

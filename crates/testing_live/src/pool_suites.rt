@@ -16,24 +16,21 @@ ghost use Rattle.testing_items.specs.Words.{Text as Word};
 
 use crate::change::coming_of;
 use crate::lack::lack_among;
-use crate::provisions::provisions_of;
 use crate::{change_by_move, change_by_removal};
 use deb_control::{Clause, Text};
 use deb_version::NoMemory;
 use std::alloc::Global;
 use std::marker::Model;
 use testing_facts::{Hashes, hashes_pass, passing_rows};
-use testing_install::NameIndex;
 use testing_model::{LentRow, Offender, UploadIn};
 use testing_suites::{CarriedSuites, Change};
 
-/// The suites over the rows that may stand in testing during a run, and which of the rows provide a name. Unstable's
-/// rows, which begin at the first place, are there where their source is a candidate.
+/// The suites over the rows that may stand in testing during a run. Unstable's rows, which begin at the first place, are
+/// there where their source is a candidate.
 pub struct PoolSuites {
     kept: CarriedSuites,
     candidates: Hashes,
     first: usize,
-    provided: NameIndex,
 }
 
 impl Drop for PoolSuites {
@@ -42,13 +39,11 @@ impl Drop for PoolSuites {
             kept: _,
             candidates: _,
             first: _,
-            provided: _,
         } = self;
     }
 }
 
 impl Model for PoolSuites {
-    ghost use Rattle.testing_live.specs.Lacks.{IsProvisionIndex};
     ghost use Rattle.testing_suites.specs.PresentSteps.{PoolState};
 
     ghost Value = { PoolState };
@@ -60,8 +55,6 @@ impl Model for PoolSuites {
       stands = s.kept.stands;
       archs = s.kept.archs;
     } };
-
-    ghost invariant = { λ s. IsProvisionIndex s.kept.rows s.provided };
 }
 
 impl PoolSuites {
@@ -83,12 +76,10 @@ impl PoolSuites {
         let first = kept.len();
         let wanted = passing_rows(alloc, &candidates, unstable)?;
         let kept = kept.with_rows(alloc, &wanted)?;
-        let provided = provisions_of(alloc, kept.pool())?;
         Ok(PoolSuites {
             kept,
             candidates,
             first,
-            provided,
         })
     }
 
@@ -100,7 +91,6 @@ impl PoolSuites {
             kept,
             candidates: _,
             first: _,
-            provided: _,
         } = self;
         kept
     }
@@ -175,7 +165,7 @@ impl PoolSuites {
         ensures { IfOk result (λ found. IfSome found (λ clause. IsLackOfMove self.now (unboxed sources.now) group.now clause.now)) }
     {
         let coming = coming_of(alloc, self.kept.pool(), self.first, sources, near, group)?;
-        Ok(lack_among(&self.kept, &self.provided, &coming))
+        Ok(lack_among(&self.kept, &coming))
     }
 
     /// None of the rows that come stands already.
@@ -215,14 +205,12 @@ impl PoolSuites {
             kept,
             candidates,
             first,
-            provided,
         } = self;
         let kept = kept.after(alloc, change)?;
         Ok(PoolSuites {
             kept,
             candidates,
             first,
-            provided,
         })
     }
 }

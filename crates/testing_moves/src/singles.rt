@@ -221,6 +221,7 @@ impl<'u, 'a> Turns<'u, 'a> {
         ensures { OnOk result (self.new ≡ go_on self.old (λ b. rules.move_singles b.archs b.sources b.rows excuses.now)) }
     {
         let candidates = remaining(alloc, self.testing(), excuses)?;
+        self.reserve(candidates.len())?;
         self.move_all(alloc, &candidates)
     }
 

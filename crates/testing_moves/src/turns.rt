@@ -111,6 +111,13 @@ impl<'u, 'a> Turns<'u, 'a> {
         self.testing.move_unless_broken(alloc, group, refusals)
     }
 
+    /// Makes room for so many decisions more.
+    pub fn reserve(&mut self, decisions: usize) -> Result<(), NoMemory>
+        ensures { self.new ≡ self.old }
+    {
+        Ok(self.decisions.reserve(decisions)?)
+    }
+
     /// One decision more. Testing stays as it is.
     pub fn add_decision(&mut self, decision: Decision) -> Result<(), NoMemory>
         ensures { OnOk result (self.new ≡ go_on self.old (λ _. decide decision)) }

@@ -6,12 +6,13 @@ use Rattle.std.proofs.lemmas.Option.{slice_get_within, slice_get_read, same_Some
 use Rattle.std.proofs.lemmas.Bool.{cases_lt}
 use Rattle.std.proofs.lemmas.List.{length-append, length-map, map-append, get_or_at}
 use Rattle.std.proofs.lemmas.Slice.Eq.{bytes_eq-Decides}
-use Rattle.testing_install.specs.Index.{PlacesByName, places_at}
+use Rattle.deb_control.specs.declared.binary.Binary.{Binary}
+use Rattle.testing_install.specs.Index.{bears, PlacesByName, places_at, IsNoted, IsIndex}
 use Rattle.testing_install.specs.Needers.{IsNotedAt}
 use Rattle.testing_install.proofs.Sharing.{slice_get_before}
 use Rattle.testing_model.specs.declared.suite.RowIn.{RowIn}
 use Rattle.testing_items.specs.Words.{Text}
-use Rattle.testing_suites.specs.Pools.{IsTextIndex, IsPool, sources_of, names_of}
+use Rattle.testing_suites.specs.Pools.{IsTextIndex, IsPool, sources_of, packages_of}
 
 -- one text more, whose place is noted
 module _ (texts : List Text) (text : Text) (old new : PlacesByName) (n : ℕ) (long : n ≡ length texts) (to : IsTextIndex texts old) (noted : IsNotedAt (λ q. bytes_eq q text) old new n) where
@@ -33,13 +34,31 @@ module _ (texts : List Text) (text : Text) (old new : PlacesByName) (n : ℕ) (l
     ];
   }
 
+-- one package more, whose place is noted at the names that it bears
+module _ (rows : List Binary) (row : Binary) (old new : PlacesByName) (n : ℕ) (long : n ≡ length rows) (to : IsIndex rows old) (noted : IsNoted row old new n) where
+  count : length (rows ++ row ∷ []) ≡ n + 1
+  count = omega (arith, length-append rows (row ∷ []), long)
+
+  names_behind : IsIndex (rows ++ row ∷ []) new
+  names_behind = record {
+    within = λ q. noted.within q (length (rows ++ row ∷ [])) (omega (arith, count)) (λ k d h. omega (arith, to.within q k d h, count, long));
+    complete = λ q k other at e. elim (cases_lt k n) [
+      | inl l ↦ noted.stays q k (to.complete q k other (sym (slice_get_before rows (row ∷ []) k (omega (arith, l, long))) ∙ at) e)
+      | inr g ↦ (
+          let same : k ≡ n = omega (arith, g, slice_get_within (rows ++ row ∷ []) k other at, count) in
+          let here : slice_get (rows ++ row ∷ []) n ≡ Some row = slice_get_read (rows ++ row ∷ []) (n + 1) n row (sym count) (omega arith) (sym (get_or_at rows row [] row n (sym long))) in
+          let alike : other ≡ row = same_Some other row (sym at ∙ ap (slice_get (rows ++ row ∷ [])) same ∙ here) in
+          subst (Contains (places_at new q)) (sym same) (noted.noted q (sym (ap (λ r. bears r q) alike) ∙ e)))
+    ];
+  }
+
 -- one row more
 pub pool_behind : (rows : List RowIn) (row : RowIn) (s0 n0 s1 n1 : PlacesByName) (place : ℕ) → place ≡ length rows → IsPool rows s0 n0
-    → IsNotedAt (λ q. bytes_eq q row.binary.source) s0 s1 place → IsNotedAt (λ q. bytes_eq q row.binary.name) n0 n1 place → IsPool (rows ++ row ∷ []) s1 n1
+    → IsNotedAt (λ q. bytes_eq q row.binary.source) s0 s1 place → IsNoted row.binary n0 n1 place → IsPool (rows ++ row ∷ []) s1 n1
 pool_behind rows row s0 n0 s1 n1 place e p sourced named =
     let source : RowIn → Text = λ r. r.binary.source in
-    let name : RowIn → Text = λ r. r.binary.name in
+    let binary_of : RowIn → Binary = λ r. r.binary in
     record {
       sources = subst (λ ts. IsTextIndex ts s1) (sym (map-append source rows (row ∷ []))) (index_behind (sources_of rows) row.binary.source s0 s1 place (e ∙ sym (length-map rows source)) p.sources sourced);
-      names = subst (λ ts. IsTextIndex ts n1) (sym (map-append name rows (row ∷ []))) (index_behind (names_of rows) row.binary.name n0 n1 place (e ∙ sym (length-map rows name)) p.names named);
+      names = subst (λ bs. IsIndex bs n1) (sym (map-append binary_of rows (row ∷ []))) (names_behind (packages_of rows) row.binary n0 n1 place (e ∙ sym (length-map rows binary_of)) p.names named);
     }

@@ -1,7 +1,8 @@
 //! Rows that may stand in testing, by place.
 
-ghost use Rattle.std.specs.Prelude.{◌≡◌, ℕ, ◌∷◌, ◌++◌, [], ◌<◌, length, Some, Contains, OnOk, IfOk};
+ghost use Rattle.std.specs.Prelude.{◌≡◌, ℕ, ◌∷◌, ◌++◌, [], ◌<◌, true, length, Some, Contains, OnOk, IfOk};
 ghost use Rattle.std.specs.List.{All, slice_get};
+ghost use Rattle.testing_install.specs.Index.{bears};
 ghost use Rattle.testing_model.specs.declared.suite.RowIn.{RowIn as ARow};
 ghost use Rattle.testing_model.specs.JudgedRows.{lent, row_of};
 ghost use Rattle.testing_suites.specs.Pools.{IsPool, HasPlaces};
@@ -12,10 +13,11 @@ use deb_version::NoMemory;
 use std::alloc::Global;
 use std::marker::Model;
 use std::rc::Rc;
-use testing_install::NameIndex;
+use testing_install::{NameIndex, note_row};
 use testing_model::{LentRow, RowIn};
 
-/// The rows, and their places by the source that they name, by the package's name, and in the order of their keys.
+/// The rows, and their places by the source that they name, by the names that the package bears, and in the order of
+/// their keys.
 pub struct Pool {
     rows: Vec<RowIn>,
     by_source: NameIndex,
@@ -60,7 +62,7 @@ fn add_row(
 {
     let place = rows.len();
     by_source.note(alloc, row.binary.source.as_str(), place)?;
-    by_name.note(alloc, row.binary.name.as_str(), place)?;
+    note_row(alloc, by_name, row.binary, place)?;
     rows.push(row.copy()?)?;
     Ok(())
 }
@@ -89,6 +91,9 @@ impl Pool {
             order,
         } = self;
         let from = rows.len();
+        rows.reserve(more.len())?;
+        by_source.reserve(more.len())?;
+        by_name.reserve(more.len())?;
         for row in more {
             add_row(alloc, &mut rows, &mut by_source, &mut by_name, row)?;
         }
@@ -139,10 +144,11 @@ impl Pool {
         self.by_source.places(name)
     }
 
-    /// The places of the rows whose package has the name, and of some others it may be.
+    /// The places of the rows whose package bears the name: it is its own, or one that it provides. Places of some others
+    /// may be among them.
     pub fn of_name(&self, name: &str) -> &[usize]
         ensures within { All (λ k. k < length self.now) result.now }
-        ensures complete { (k : ℕ) (r : ARow) → slice_get self.now k ≡ Some r → r.binary.name ≡ name.now → Contains result.now k }
+        ensures complete { (k : ℕ) (r : ARow) → slice_get self.now k ≡ Some r → bears r.binary name.now ≡ true → Contains result.now k }
     {
         self.by_name.places(name)
     }

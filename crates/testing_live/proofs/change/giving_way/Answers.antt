@@ -7,6 +7,7 @@ use Rattle.testing_model.specs.declared.suite.RowIn.{RowIn}
 use Rattle.testing_suites.specs.Changes.{gives_way_to, stands_for, AreThose}
 use Rattle.testing_model.specs.JudgedRows.{row_of}
 use Rattle.testing_suites.proofs.Changing.{those_more, giving_way_among}
+use Rattle.testing_live.proofs.Unmet.{bears_own}
 use Rattle.testing_live.proofs.change.giving_way.Goals as goal
 
 pub loop-place-preserved : goal.loop-place-preserved
@@ -24,7 +25,7 @@ loop-place-preserved c =
     let at : slice_get pool j ≡ Some row = c.row-row.ensures in
     let as_test : (k : ℕ) → test j k ≡ stands_for pool stands row k = λ k. ap (λ (m : Option RowIn). option_map_or (λ (r : RowIn). stands_for pool stands r k) m false) at in
     let all : (k : ℕ) → test j k ≡ true → Contains places k =
-    λ k h. giving_way_among pool row places (λ p r there e. c.of_name-places.ensures.complete p r there (e ∙ sym (c.as_str.ensures ∙ ap (λ (q : Binary). q.name) c.deref.ensures))) stands k (sym (as_test k) ∙ h) in
+    λ k h. giving_way_among pool row places (λ p r there e. c.of_name-places.ensures.complete p r there (bears_own r.binary _ (e ∙ sym (c.as_str.ensures ∙ ap (λ (q : Binary). q.name) c.deref.ensures)))) stands k (sym (as_test k) ∙ h) in
     let same : filter (test j) places ≡ filter (stands_for pool stands row) places =
     ap (λ (m : Option RowIn). filter (λ k. option_map_or (λ (r : RowIn). stands_for pool stands r k) m false) places) at in
     let those = those_more test (take i coming) before j places c.loop-place.invariant all in

@@ -1,6 +1,7 @@
 use Rattle.std.proofs.Common.{◌≡◌, ◌∙◌, sym, ap, subst, ◌++◌, ◌∷◌, [], arith}
 use Rattle.std.specs.Str.{bytes_eq}
 use Rattle.deb_control.specs.declared.binary.Binary.{Binary}
+use Rattle.testing_install.specs.Index.{IsNoted}
 use Rattle.testing_install.specs.Needers.{IsNotedAt}
 use Rattle.testing_model.specs.JudgedRows.{row_of}
 use Rattle.testing_suites.specs.Pools.{IsPool}
@@ -16,6 +17,6 @@ returns-clause-indexes c =
     let names = c.args.by_name.now in
     let more : c.push.new.self.items ≡ rows ++ row ∷ [] = c.in_ok-push.ensures.items ∙ ap (λ r. rows ++ r ∷ []) c.in_ok-copy.ensures in
     let sourced = subst (λ t. IsNotedAt (λ q. bytes_eq q t) sources c.note.new.self place) (c.as_str.ensures ∙ ap (λ (q : Binary). q.source) c.deref.ensures) c.in_ok-note.ensures in
-    let named = subst (λ t. IsNotedAt (λ q. bytes_eq q t) names c.note-2.new.self place) (c.as_str-2.ensures ∙ ap (λ (q : Binary). q.name) c.deref-2.ensures) c.in_ok-note-2.ensures in
-    subst (λ rs. IsPool rs c.note.new.self c.note-2.new.self) (sym more)
-    (pool_behind rows row sources names c.note.new.self c.note-2.new.self place (omega (arith, c.len-place.ensures, c.args.rows.now.ok.0)) c.requires sourced named)
+    let named = subst (λ b. IsNoted b names c.note_row.new.bearers place) c.deref-2.ensures c.in_ok-note_row.ensures in
+    subst (λ rs. IsPool rs c.note.new.self c.note_row.new.bearers) (sym more)
+    (pool_behind rows row sources names c.note.new.self c.note_row.new.bearers place (omega (arith, c.len-place.ensures, c.args.rows.now.ok.0)) c.requires sourced named)

@@ -10,14 +10,14 @@ use Rattle.testing_suites.specs.PresentSteps.{PoolState}
 use Rattle.testing_suites.proofs.Changing.{coming_within}
 use Rattle.testing_live.proofs.pool_suites.PoolSuites.lack_by_move.Goals as goal
 
-pub lack_among-requires-clause-coming : goal.lack_among-requires-clause-coming
-lack_among-requires-clause-coming c =
+pub lack_among-requires : goal.lack_among-requires
+lack_among-requires c =
     let rows = c.self.inside.kept.rows in
     let first = c.self.inside.first in
     let sources = group_sources (unboxed c.args.sources.now) c.args.group.now in
     let coming = c.in_ok-coming.coming.items in
     let arrive = subst (λ (pool : List RowIn). AreThose (comes_at pool first) sources coming) c.pool.ensures c.in_ok-coming.ensures in
-    subst (λ ks. All (λ k. k < length rows) ks) (sym c.deref.ensures) (coming_within rows first sources coming arrive)
+    record { coming = subst (λ ks. All (λ k. k < length rows) ks) (sym c.deref.ensures) (coming_within rows first sources coming arrive) }
 
 pub returns : goal.returns
 returns c =
