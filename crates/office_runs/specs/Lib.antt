@@ -1,3 +1,4 @@
+pub mod Asked
 pub mod Counting
 pub mod GatherSteps
 pub mod Laws

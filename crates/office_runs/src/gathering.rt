@@ -7,6 +7,7 @@ ghost use Rattle.office_keeper.specs.NewMail.{AreFree, with_letters, with_mail};
 ghost use Rattle.office_mail.specs.Kept.{kept_from, place_of, IsPlace, Within};
 ghost use Rattle.office_mail.specs.Read.{read};
 ghost use Rattle.office_orders.specs.Counted.{Counted};
+ghost use Rattle.office_runs.specs.Asked.{AreFreeFrom};
 ghost use Rattle.office_runs.specs.GatherSteps.{ArePlaced, Gathers, TakesText, letter_of, own_text};
 ghost use Rattle.office_runs.specs.Together.{AreHeldHere, answers_to};
 ghost use Rattle.office_orders.specs.ReadsStore.{ReadsStore};
@@ -14,11 +15,12 @@ ghost use Rattle.office_orders.specs.StaysTrusted.{StaysTrusted};
 ghost use Rattle.office_facts.specs.Cached.{AreRead};
 ghost use Rattle.office_facts.specs.State.{IsOffice};
 
+use crate::asked::{Asked, find};
 use crate::posting::{compare, hold};
 use office_facts::message_cache::MessageCache;
 use office_keeper::{Keeper, MailText, NewLetter};
 use office_mail::{MailFault, Message, Setup, read_message};
-use office_orders::{DeliverFault, Held, StoreFault, stored};
+use office_orders::{DeliverFault, Held, StoreFault};
 use std::alloc::Global;
 
 /// What a delivery is answered.
@@ -68,13 +70,15 @@ fn answer_message<K: Keeper>(
     alloc: Global,
     setup: &Setup,
     keeper: &mut K,
+    asked: &mut Vec<Asked>,
     letters: &mut Vec<NewLetter>,
     message: &Message,
     text: &[u8],
 ) -> Result<Reply, StoreFault>
     requires read { read setup.now text.now ≡ Ok message.now }
     requires place { IsPlace setup.now (place_of message.now) }
-    ensures takes { K.is_trusted keeper.new → IfOk result (λ reply. TakesText setup.now (K.content keeper.old).kept letters.old.items letters.new.items text.now reply) }
+    ensures takes { K.is_trusted keeper.new → AreFreeFrom (K.content keeper.old).kept asked.old.items → IfOk result (λ reply. TakesText setup.now (K.content keeper.old).kept letters.old.items letters.new.items text.now reply) }
+    ensures asked { K.is_trusted keeper.new → AreFreeFrom (K.content keeper.old).kept asked.old.items → OnOk result (AreFreeFrom (K.content keeper.old).kept asked.new.items) }
     ensures placed { ArePlaced setup.now letters.old.items → ArePlaced setup.now letters.new.items }
     ensures held { IfOk result (λ reply. IfOk reply (λ held. held.sender ≡ message.now.sender)) }
     ensures looks { ReadsStore K.Keeper keeper.old keeper.new result }
@@ -86,7 +90,7 @@ fn answer_message<K: Keeper>(
     if let Some(reply) = own_answer(letters, held, text) {
         return Ok(reply);
     }
-    match stored::find(keeper, held.sender, held.number)? {
+    match find(keeper, asked, held.sender, held.number)? {
         Some(kept) => Ok(compare(held, &kept, text)),
         None => {
             add_letter(alloc, letters, held, text)?;
@@ -116,10 +120,12 @@ fn gather<K: Keeper>(
     setup: &Setup,
     keeper: &mut K,
     cache: &mut MessageCache,
+    asked: &mut Vec<Asked>,
     letters: &mut Vec<NewLetter>,
     text: &[u8],
 ) -> Result<Reply, StoreFault>
-    ensures takes { K.is_trusted keeper.new → IfOk result (λ reply. TakesText setup.now (K.content keeper.old).kept letters.old.items letters.new.items text.now reply) }
+    ensures takes { K.is_trusted keeper.new → AreFreeFrom (K.content keeper.old).kept asked.old.items → IfOk result (λ reply. TakesText setup.now (K.content keeper.old).kept letters.old.items letters.new.items text.now reply) }
+    ensures asked { K.is_trusted keeper.new → AreFreeFrom (K.content keeper.old).kept asked.old.items → OnOk result (AreFreeFrom (K.content keeper.old).kept asked.new.items) }
     ensures placed { ArePlaced setup.now letters.old.items → ArePlaced setup.now letters.new.items }
     ensures place { IfOk result (λ reply. IfOk reply (λ held. held.sender < length setup.now.senders)) }
     ensures cache { AreRead setup.now cache.old → AreRead setup.now cache.new }
@@ -127,7 +133,7 @@ fn gather<K: Keeper>(
 {
     match read_message(alloc, setup, text) {
         Ok(message) => {
-            let answer = answer_message(alloc, setup, keeper, letters, &message, text);
+            let answer = answer_message(alloc, setup, keeper, asked, letters, &message, text);
             hold(cache, is_held(&answer), text, message);
             answer
         }
@@ -154,12 +160,14 @@ fn gather_all<K: Keeper>(
     ensures cache { AreRead setup.now cache.old → AreRead setup.now cache.new }
     ensures looks { ReadsStore K.Keeper keeper.old keeper.new result }
 {
+    let mut asked = Vec::new(alloc);
     'texts: for text in texts {
         let reply = gather(
             alloc,
             setup,
             keeper,
             cache,
+            &mut asked,
             &mut block.letters,
             text.as_slice(),
         )?;

@@ -3,7 +3,7 @@ use Rattle.office_runs.proofs.GatherFacts.{takes_fault, fault_read}
 use Rattle.office_runs.proofs.gathering.gather.Goals as goal
 
 pub returns-in-Err-2-clause-takes : goal.returns-in-Err-2-clause-takes
-returns-in-Err-2-clause-takes g c = λ trusted.
+returns-in-Err-2-clause-takes g c = λ trusted free.
     takes_fault c.args.setup.now (g.K.Keeper.content c.args.keeper.now).kept c.args.letters.now.items c.args.text.now c.in-Err.fault
     (fault_read c.args.setup.now c.args.text.now c.in-Err.fault c.in-Err.ensures.exact (c.is_short.ensures c.if-is_short.false))
 

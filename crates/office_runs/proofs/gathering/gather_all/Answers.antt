@@ -1,8 +1,9 @@
-use Rattle.std.proofs.Common.{◌≡◌, ◌<◌, ◌+◌, ◌++◌, ◌∷◌, [], List, ℕ, Result, IfOk, length, take, sym, ap, subst, refl, ◌∙◌}
+use Rattle.std.proofs.Common.{◌≡◌, ◌<◌, ◌+◌, ◌++◌, ◌∷◌, [], List, ℕ, Result, IfOk, arith, length, take, sym, ap, subst, refl, ◌∙◌}
 use Rattle.std.proofs.lemmas.List.{take_more, length-append}
 use Rattle.office_keeper.specs.Content.{Content}
 use Rattle.office_orders.specs.declared.faults.DeliverFault.{DeliverFault}
 use Rattle.office_orders.specs.declared.faults.Held.{Held}
+use Rattle.office_runs.specs.Asked.{AreFreeFrom}
 use Rattle.office_runs.specs.GatherSteps.{TakesText}
 use Rattle.office_runs.proofs.GatherFacts.{each_push, gathers_none, gathers_more}
 use Rattle.office_orders.proofs.LookFacts.{looked_none, looked_then}
@@ -11,6 +12,7 @@ use Rattle.office_runs.proofs.gathering.gather_all.Goals as goal
 pub texts-init : goal.texts-init
 texts-init g c = record {
   gathers = λ trusted. rw (c.requires.letters, c.requires.replies) (gathers_none c.args.setup.now (g.K.Keeper.content c.args.keeper.now).kept);
+  asked = λ trusted. rw c.new-asked.ensures.items (λ k d low. absurd (omega (arith, low)));
   each = rw c.requires.replies refl;
   placed = rw c.requires.letters tt;
   places = rw c.requires.replies tt;
@@ -34,7 +36,11 @@ texts-preserved g c =
       gathers = λ trusted.
           let earlier = next.looks.before trusted in
           rw (pushed, more) (gathers_more setup old c.texts.block.letters.items c.gather.new.letters.items c.texts.block.replies.items (take i texts) text c.in_ok-reply.reply (so.gathers earlier)
-          (subst (λ (m : Content). TakesText setup m.kept c.texts.block.letters.items c.gather.new.letters.items text c.in_ok-reply.reply) (so.looks.same earlier) (next.takes trusted)));
+          (subst (λ (m : Content). AreFreeFrom m.kept c.texts.asked.items → TakesText setup m.kept c.texts.block.letters.items c.gather.new.letters.items text c.in_ok-reply.reply) (so.looks.same earlier) (next.takes trusted)
+          (so.asked earlier)));
+      asked = λ trusted.
+          let earlier = next.looks.before trusted in
+          subst (λ (m : Content). AreFreeFrom m.kept c.texts.asked.items → AreFreeFrom m.kept c.gather.new.asked.items) (so.looks.same earlier) (next.asked trusted) (so.asked earlier);
       each = ap length pushed ∙ length-append c.texts.block.replies.items (c.in_ok-reply.reply ∷ []) ∙ ap (λ (n : ℕ). n + 1) so.each;
       placed = next.placed so.placed;
       places = rw pushed (each_push (λ (r : Result Held DeliverFault). IfOk r (λ (held : Held). held.sender < length setup.senders)) c.texts.block.replies.items c.in_ok-reply.reply so.places next.place);
