@@ -13,3 +13,4 @@ pub mod Needers
 pub mod Settling
 pub mod Suite
 pub mod Trials
+pub mod Noting
