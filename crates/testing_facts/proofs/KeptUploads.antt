@@ -13,7 +13,6 @@ use Rattle.testing_items.specs.declared.item.Urgency.{Urgency}
 use Rattle.testing_items.specs.declared.item.Urgency.TheVariants.{Low, Medium, High, Emergency, Critical}
 use Rattle.testing_model.specs.declared.facts.UploadIn.{UploadIn}
 use Rattle.testing_model.specs.Excuses.{urgency_rank}
-use Rattle.testing_model.proofs.KeyOrder.{searchable}
 use Rattle.testing_model.proofs.MoreMail.{nat_tied, text_tied, then_equal}
 use Rattle.testing_model.proofs.Ordered.{sorted-kept}
 use Rattle.testing_model.proofs.Orders.{text_order}

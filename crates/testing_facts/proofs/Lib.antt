@@ -2,6 +2,7 @@ pub mod Blocking
 pub mod Cancelling
 pub mod Elsewhere
 pub mod EveryPassing
+pub mod Guesses
 pub mod Joins
 pub mod KeptUploads
 pub mod KeyMembers

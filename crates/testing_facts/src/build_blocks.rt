@@ -21,10 +21,11 @@ use testing_order::{Log, Shifted, move_upper_half};
 /// So many rows fill a block, which is split then.
 const FULL: usize = 64;
 
-/// Some of the rows, with room for one more.
+/// Some of the rows, with room for one more, and the place that the last one was put at. The next one may belong there.
 #[derive(Drop)]
 pub struct Block {
     rows: Vec<Box<BuildIn>>,
+    guess: usize,
 }
 
 impl Model for Block {
@@ -80,7 +81,7 @@ impl Block {
         ensures { IfOk result (λ block. block ≡ []) }
     {
         let rows = Vec::with_capacity(alloc, FULL)?;
-        Ok(Block { rows })
+        Ok(Block { rows, guess: 0 })
     }
 
     /// The rows, in order.
@@ -88,13 +89,6 @@ impl Block {
         ensures { unboxed result.now ≡ self.now }
     {
         self.rows.as_slice()
-    }
-
-    /// There is no row.
-    fn is_empty(&self) -> bool
-        ensures { result ≡ (length self.now == 0) }
-    {
-        self.rows.is_empty()
     }
 
     /// How many rows there are.
@@ -105,19 +99,15 @@ impl Block {
         self.rows.len()
     }
 
-    /// The first row is above the architecture and the name.
-    fn begins_above(&self, arch: &str, name: &str) -> bool
-        ensures { result ≡ begins_above (arch.now, name.now) self.now }
-    {
-        begin_above(&self.rows, arch, name)
-    }
-
     /// An equal block, which shares the binaries.
     fn copy(&self, alloc: Global) -> Result<Block, NoMemory>
         ensures { IfOk result (λ block. block ≡ self.now) }
     {
         let rows = copy_rows(alloc, &self.rows)?;
-        Ok(Block { rows })
+        Ok(Block {
+            rows,
+            guess: self.guess,
+        })
     }
 
     /// A build joins the rows. Where it fills the block, one of the spares takes the upper half.
@@ -130,7 +120,7 @@ impl Block {
         ensures upper { IfSome result.upper HasRows }
         ensures spares { vec_len spares.old ≤ vec_len spares.new + 1 }
     {
-        let shifted = put_build(&mut self.rows, build);
+        let shifted = put_build(&mut self.rows, &mut self.guess, build);
         if self.rows.len() < FULL {
             return Entered {
                 shifted,
@@ -138,7 +128,7 @@ impl Block {
             };
         }
         let last = spares.len() - 1;
-        let upper = Some(upper_half(&mut self.rows, spares.remove(last)));
+        let upper = Some(upper_half(&mut self.rows, self.guess, spares.remove(last)));
         Entered { shifted, upper }
     }
 
@@ -163,7 +153,7 @@ fn begin_above(rows: &[Box<BuildIn>], arch: &str, name: &str) -> bool
 }
 
 /// The rows of a full block, but for its lower half, which stays.
-fn upper_half(rows: &mut Vec<Box<BuildIn>>, spare: Spare) -> Block
+fn upper_half(rows: &mut Vec<Box<BuildIn>>, guess: usize, spare: Spare) -> Block
     requires { vec_len rows.old ≡ 64 }
     ensures rows { unboxed rows.new.items ++ result ≡ unboxed rows.old.items }
     ensures lower { vec_len rows.new ≡ 32 }
@@ -172,7 +162,10 @@ fn upper_half(rows: &mut Vec<Box<BuildIn>>, spare: Spare) -> Block
 {
     let mut upper = spare.rows;
     move_upper_half(rows, &mut upper);
-    Block { rows: upper }
+    Block {
+        rows: upper,
+        guess: guess.saturating_sub(rows.len()),
+    }
 }
 
 /// The place of the block for the architecture and the name.
@@ -184,7 +177,7 @@ fn block_for(blocks: &[Block], arch: &str, name: &str) -> usize
     let mut high = blocks.len();
     'search: while low + 1 < high {
         let middle = low + (high - low) / 2;
-        if blocks[middle].begins_above(arch, name) {
+        if begin_above(blocks[middle].rows(), arch, name) {
             high = middle;
         } else {
             low = middle;
@@ -226,7 +219,7 @@ fn may_hold(blocks: &[Block], arch: &str, name: &str, place: usize) -> bool
     ensures above { IsFalse result → place < length blocks.now → begins_above (arch.now, name.now) (slice_index_or blocks.now place []) ≡ true }
 {
     match blocks.get(place) {
-        Some(block) => place == 0 || !block.begins_above(arch, name),
+        Some(block) => place == 0 || !begin_above(block.rows(), arch, name),
         None => false,
     }
 }
@@ -440,7 +433,7 @@ fn take_from(blocks: &mut Vec<Block>, drop: &DropIn) -> Option<FactRow>
     let place = block_for(blocks, drop.arch.as_str(), drop.name.as_str());
     let block = &mut blocks[place];
     let gone = block.take(drop);
-    if place > 0 && blocks[place].is_empty() {
+    if place > 0 && blocks[place].rows().is_empty() {
         blocks.remove(place);
     }
     gone

@@ -2,7 +2,9 @@
 
 ghost use Rattle.std.specs.Prelude.{◌≡◌, ◌<◌, ◌≤◌, ◌+◌, None, filter, length, map, not, option_to_list, vec_len, vec_capacity};
 ghost use Rattle.std.specs.Ordering.{nat_cmp};
+ghost use Rattle.std.specs.List.{HoldsAt};
 ghost use Rattle.std.specs.List.Sorted.{IsBinarySearchResult, IsSearchInRange};
+ghost use Rattle.std.specs.declared.cmp.Ordering.TheVariants.{Greater};
 ghost use Rattle.testing_model.specs.Boxed.{unboxed};
 ghost use Rattle.testing_model.specs.FactOrder.{AreBySource, AreByPair, AreDropsByPair, AreByNumber};
 ghost use Rattle.testing_model.specs.Unstable as unstable;
@@ -22,6 +24,9 @@ use testing_order::{
     Shifted, bug_order, bug_row, build_order, build_row, drop_order, drop_row, hint_order,
     outlives, place_of_kept, source_row, unhint_order, upload_order, upload_row,
 };
+
+/// So many rows are tried from a guess on, before all are searched.
+const TRIES: usize = 4;
 
 /// Where a list takes an element: over the one at a place, before it, or nowhere.
 #[derive(Clone, Copy)]
@@ -270,15 +275,63 @@ pub fn place_of_pair(rows: &[Box<BuildIn>], arch: &str, name: &str) -> Result<us
     )
 }
 
-/// Where the rows take the build, and what that does to the rows of the facts.
-fn step_of_build(rows: &[Box<BuildIn>], build: &BuildIn) -> Step
+/// The same, where the row at the place is above them. The one before it is tried first.
+fn place_below(rows: &[Box<BuildIn>], arch: &str, name: &str, place: usize) -> Result<usize, usize>
+    requires within { place < length rows.now }
+    requires above { HoldsAt (λ b. pair_order (pair_of b) (arch.now, name.now) ≡ Greater) (unboxed rows.now) place }
+    ensures bound { IsSearchInRange result (length (unboxed rows.now)) }
+    ensures found { IsBinarySearchResult (λ b. pair_order (pair_of b) (arch.now, name.now)) (unboxed rows.now) result }
+{
+    if place == 0 {
+        return Err(place);
+    }
+    match order_pair(&rows[place - 1], arch, name) {
+        Ordering::Less => Err(place),
+        Ordering::Equal => Ok(place - 1),
+        Ordering::Greater => place_of_pair(rows, arch, name),
+    }
+}
+
+/// The same. Some rows from the guess on are tried first, and the one before it.
+fn place_from(rows: &[Box<BuildIn>], arch: &str, name: &str, guess: usize) -> Result<usize, usize>
+    ensures bound { IsSearchInRange result (length (unboxed rows.now)) }
+    ensures found { IsBinarySearchResult (λ b. pair_order (pair_of b) (arch.now, name.now)) (unboxed rows.now) result }
+{
+    let mut place = guess;
+    'tries: while place < rows.len() && place - guess < TRIES {
+        match order_pair(&rows[place], arch, name) {
+            Ordering::Less => place += 1,
+            Ordering::Equal => return Ok(place),
+            Ordering::Greater => {
+                if guess < place {
+                    return Err(place);
+                }
+                return place_below(rows, arch, name, place);
+            }
+        }
+    }
+    if guess < place && place == rows.len() {
+        return Err(place);
+    }
+    place_of_pair(rows, arch, name)
+}
+
+/// Where the rows take the build, and what that does to the rows of the facts. That place is the next guess.
+fn step_of_build(rows: &[Box<BuildIn>], build: &BuildIn, guess: &mut usize) -> Step
     requires { AreByPair (unboxed rows.now) }
     ensures { IsStep unstable.pair_of unstable.pair_order unstable.build_order fact_rows.build_row build.now (unboxed rows.now) result }
 {
     let came = Some(build_row(build));
     let binary: &Binary = &build.binary;
-    match place_of_pair(rows, binary.architecture.as_str(), binary.name.as_str()) {
+    let found = place_from(
+        rows,
+        binary.architecture.as_str(),
+        binary.name.as_str(),
+        *guess,
+    );
+    match found {
         Ok(i) => {
+            *guess = i;
             let other: &BuildIn = &rows[i];
             if build_order(other, build).is_lt() {
                 return no_step();
@@ -289,16 +342,19 @@ fn step_of_build(rows: &[Box<BuildIn>], build: &BuildIn) -> Step
                 shifted: Shifted { left, came },
             }
         }
-        Err(i) => Step {
-            slot: Slot::Before(i),
-            shifted: Shifted { left: None, came },
-        },
+        Err(i) => {
+            *guess = i;
+            Step {
+                slot: Slot::Before(i),
+                shifted: Shifted { left: None, came },
+            }
+        }
     }
 }
 
 /// A build joins the rows, where its own has none before it. Gives what that does to the rows of the facts. There is room
-/// for it.
-pub fn put_build(rows: &mut Vec<Box<BuildIn>>, build: Box<BuildIn>) -> Shifted
+/// for it. Its place is looked for at the guess first, and is the next guess.
+pub fn put_build(rows: &mut Vec<Box<BuildIn>>, guess: &mut usize, build: Box<BuildIn>) -> Shifted
     requires order { AreByPair (unboxed rows.old.items) }
     requires room { vec_len rows.old < vec_capacity rows.old }
     ensures items { unboxed rows.new.items ≡ taken.with_build build.value (unboxed rows.old.items) }
@@ -306,7 +362,7 @@ pub fn put_build(rows: &mut Vec<Box<BuildIn>>, build: Box<BuildIn>) -> Shifted
     ensures len { vec_len rows.new ≤ vec_len rows.old + 1 }
     ensures capacity { vec_capacity rows.old ≤ vec_capacity rows.new }
 {
-    let step = step_of_build(rows, &build);
+    let step = step_of_build(rows, &build, guess);
     put_at(rows, step.slot, build);
     step.shifted
 }
