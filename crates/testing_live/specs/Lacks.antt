@@ -3,7 +3,6 @@
 use Rattle.std.specs.Prelude.{◌≡◌, ℕ, ◌<◌, Bool, true, false, ◌&&◌, List, length, filter, Contains, Some}
 use Rattle.std.specs.List.{slice_get, list_any, flat_map}
 use Rattle.std.specs.Option.{option_map_or}
-use Rattle.deb_control.specs.declared.binary.Binary.{Binary}
 use Rattle.deb_control.specs.declared.relation.Clause.{Clause}
 use Rattle.testing_install.specs.Closed.{marked}
 use Rattle.testing_install.specs.Satisfies.{meets}

@@ -15,7 +15,7 @@ use deb_version::NoMemory;
 use std::alloc::Global;
 use std::slice;
 use testing_facts::{Unstable, is_current, source_in};
-use testing_model::{LentRow, RowIn, UploadIn};
+use testing_model::{LentRow, UploadIn};
 use testing_suites::put_row;
 
 /// Puts in the current rows of a source, each under its key.
@@ -83,15 +83,4 @@ pub fn rows_without<'a>(
     ensures { IfOk result (λ kept. lent kept.items ≡ rows_without name.now (lent rows.now)) }
 {
     other_rows(alloc, rows, slice::from_ref(name))
-}
-
-/// Equal rows.
-pub fn copy_lent(alloc: Global, rows: &[LentRow]) -> Result<Vec<RowIn>, NoMemory>
-    ensures { IfOk result (λ copies. copies.items ≡ lent rows.now) }
-{
-    let mut copies = Vec::with_capacity(alloc, rows.len())?;
-    for row in rows {
-        copies.push(row.copy()?)?;
-    }
-    Ok(copies)
 }

@@ -14,7 +14,7 @@ ghost use Rattle.testing_suites.specs.PresentSteps.{IsLive, present_rows};
 ghost use Rattle.testing_items.specs.Words.{Text as Word};
 ghost use Rattle.testing_model.specs.declared.suite.RowIn.{RowIn as ARow};
 
-use crate::lent_rows::{copy_lent, moved_rows, rows_without};
+use crate::lent_rows::{moved_rows, rows_without};
 use crate::pool_suites::PoolSuites;
 use deb_control::Text;
 use deb_version::NoMemory;
@@ -22,7 +22,7 @@ use std::alloc::Global;
 use testing_facts::{Hashes, Unstable};
 use testing_items::Archs;
 use testing_model::{LentRow, RowIn};
-use testing_suites::{CarriedSuites, Change, Testing, lend_rows};
+use testing_suites::{CarriedSuites, Change, Testing, copy_lent, lend_rows};
 
 /// Testing's rows: those that stand of a pool, whose suites judge a change, and make it, by what it touches; or a list
 /// of them, where there are no suites.
@@ -125,14 +125,6 @@ fn kept_or_new(
     }
 }
 
-/// A list of the rows that stand.
-fn standing_rows(alloc: Global, suites: &PoolSuites) -> Result<Vec<RowIn>, NoMemory>
-    ensures { IfOk result (λ rows. rows.items ≡ present_rows suites.now) }
-{
-    let rows = suites.rows(alloc)?;
-    copy_lent(alloc, &rows)
-}
-
 impl LiveRows {
     /// The rows before a run. To them those of unstable may come whose source is a candidate.
     pub fn new(
@@ -217,7 +209,7 @@ impl LiveRows {
     {
         match self {
             LiveRows::Pooled(suites) => {
-                let rows = standing_rows(alloc, &suites)?;
+                let rows = suites.copies(alloc)?;
                 Ok((rows, Some(suites.into_kept())))
             }
             LiveRows::Listed(rows) => Ok((rows, None)),

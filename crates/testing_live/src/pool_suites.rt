@@ -22,7 +22,7 @@ use deb_version::NoMemory;
 use std::alloc::Global;
 use std::marker::Model;
 use testing_facts::{Hashes, hashes_pass, passing_rows};
-use testing_model::{LentRow, Offender, UploadIn};
+use testing_model::{LentRow, Offender, RowIn, UploadIn};
 use testing_suites::{CarriedSuites, Change};
 
 /// The suites over the rows that may stand in testing during a run. Unstable's rows, which begin at the first place, are
@@ -100,6 +100,13 @@ impl PoolSuites {
         ensures { IfOk result (λ rows. lent rows.items ≡ present_rows self.now) }
     {
         self.kept.rows(alloc)
+    }
+
+    /// Copies of the rows that stand, by architecture and name.
+    pub fn copies(&self, alloc: Global) -> Result<Vec<RowIn>, NoMemory>
+        ensures { IfOk result (λ copies. copies.items ≡ present_rows self.now) }
+    {
+        self.kept.copies(alloc)
     }
 
     /// The row at the place, whether it stands or not.

@@ -1,7 +1,7 @@
 //! The rows of a pool, which of them stand in testing, and the suite of each architecture: what of a run's suites is of no
 //! one run.
 
-ghost use Rattle.std.specs.Prelude.{◌≡◌, ℕ, ◌++◌, ◌-◌, ◌^◌, ◌<◌, ◌≤◌, true, false, Bool, length, take, replicate, filter, [], IfOk, List, Option};
+ghost use Rattle.std.specs.Prelude.{◌≡◌, ℕ, ◌++◌, ◌-◌, ◌^◌, ◌<◌, ◌≤◌, true, false, Bool, length, take, replicate, filter, [], IfOk, IfSome, List, Option};
 ghost use Rattle.std.specs.List.{All, range_with_len};
 ghost use Rattle.testing_install.specs.Among.{with_all, after_change};
 ghost use Rattle.testing_install.specs.Closed.{marked};
@@ -16,7 +16,7 @@ ghost use Rattle.testing_suites.specs.Tried.{first_told, Tells, IsWithin};
 ghost use Rattle.testing_items.specs.Words.{Text as Word};
 ghost use Rattle.testing_model.specs.declared.suite.RowIn.{RowIn as ARow};
 
-use crate::lent_rows::{are_by_key, lend_rows, rows_at, rows_in_order};
+use crate::lent_rows::{copies_by_key, copy_lent, lend_rows, rows_in_order};
 use crate::{ArchSuite, Change, Pool, lost_anywhere};
 use deb_version::NoMemory;
 use smallvec::SmallVec;
@@ -256,31 +256,33 @@ impl CarriedSuites {
         self.archs
     }
 
-    /// The rows that stand, in the pool's order.
-    fn rows_in_pool_order(&self, alloc: Global) -> Result<Vec<LentRow<'_>>, NoMemory>
-        ensures { IfOk result (λ rows. SameElements (rows_at self.now.rows (set_places self.now.stands)) (lent rows.items)) }
-    {
-        let places = set_among(alloc, &self.stands, self.pool.order())?;
-        rows_at(alloc, &self.pool, &places)
-    }
-
-    /// The rows that stand, sorted by architecture and name.
-    fn sorted_rows(&self, alloc: Global) -> Result<Vec<LentRow<'_>>, NoMemory>
+    /// The rows that stand, by architecture and name. They are sorted.
+    pub fn rows(&self, alloc: Global) -> Result<Vec<LentRow<'_>>, NoMemory>
         ensures { IfOk result (λ rows. lent rows.items ≡ with_rows (rows_at self.now.rows (set_places self.now.stands)) []) }
     {
         let places = set_places(alloc, &self.stands)?;
         rows_in_order(alloc, &self.pool, &places)
     }
 
-    /// The rows that stand, by architecture and name: as the pool has them in order, or else sorted.
-    pub fn rows(&self, alloc: Global) -> Result<Vec<LentRow<'_>>, NoMemory>
-        ensures { IfOk result (λ rows. lent rows.items ≡ with_rows (rows_at self.now.rows (set_places self.now.stands)) []) }
+    /// Copies of the rows that stand, in the pool's order, if that is the one of architecture and name.
+    fn copies_in_pool_order(&self, alloc: Global) -> Result<Option<Vec<RowIn>>, NoMemory>
+        ensures copies { IfOk result (λ found. IfSome found (λ copies. SameElements (rows_at self.now.rows (set_places self.now.stands)) copies.items)) }
+        ensures ordered { IfOk result (λ found. IfSome found (λ copies. AreByKey copies.items)) }
     {
-        let rows = self.rows_in_pool_order(alloc)?;
-        if are_by_key(&rows) {
-            Ok(rows)
-        } else {
-            self.sorted_rows(alloc)
+        let places = set_among(alloc, &self.stands, self.pool.order())?;
+        copies_by_key(alloc, &self.pool, &places)
+    }
+
+    /// Copies of the rows that stand, by architecture and name.
+    pub fn copies(&self, alloc: Global) -> Result<Vec<RowIn>, NoMemory>
+        ensures { IfOk result (λ copies. copies.items ≡ with_rows (rows_at self.now.rows (set_places self.now.stands)) []) }
+    {
+        match self.copies_in_pool_order(alloc)? {
+            Some(copies) => Ok(copies),
+            None => {
+                let rows = self.rows(alloc)?;
+                copy_lent(alloc, &rows)
+            }
         }
     }
 

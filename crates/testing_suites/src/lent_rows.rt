@@ -1,6 +1,6 @@
 //! Rows that are lent, in the order of testing: a change moves places and copies no row.
 
-ghost use Rattle.std.specs.Prelude.{◌≡◌, ◌<◌, true, length, [], Err, OnOk, OnErr, IfOk};
+ghost use Rattle.std.specs.Prelude.{◌≡◌, ◌<◌, true, length, [], Err, OnOk, OnErr, IfOk, IfSome};
 ghost use Rattle.std.specs.List.{All};
 ghost use Rattle.std.specs.List.Sorted.{IsBinarySearchResult, IsSearchInRange};
 ghost use Rattle.testing_suites.specs.AfterMoves.{with_rows, rows_at};
@@ -81,7 +81,7 @@ fn put_rows<'a>(
 }
 
 /// The rows of a pool at some places, as the places stand.
-pub fn rows_at<'a>(
+fn rows_at<'a>(
     alloc: Global,
     pool: &'a Pool,
     places: &[usize],
@@ -97,6 +97,49 @@ pub fn rows_at<'a>(
     Ok(rows)
 }
 
+/// The row's key is above that of the last of the others.
+fn is_above_last(rows: &[RowIn], row: &LentRow) -> bool
+    ensures { result ≡ true → IsBinarySearchResult (λ r. rules.row_cmp (rules.row_key r) (rules.row_key (row_of row.now))) rows.now (Err (length rows.now)) }
+{
+    match rows.last() {
+        Some(last) => order_rows(&last.lend(), row).is_lt(),
+        None => true,
+    }
+}
+
+/// Copies of the rows of a pool at some places, as the places stand, if the key of each is above that of the one before
+/// it.
+pub fn copies_by_key(
+    alloc: Global,
+    pool: &Pool,
+    places: &[usize],
+) -> Result<Option<Vec<RowIn>>, NoMemory>
+    requires { All (λ k. k < length pool.now) places.now }
+    ensures copies { IfOk result (λ found. IfSome found (λ copies. copies.items ≡ rows_at pool.now places.now)) }
+    ensures ordered { IfOk result (λ found. IfSome found (λ copies. AreByKey copies.items)) }
+{
+    let mut copies = Vec::with_capacity(alloc, places.len())?;
+    for place in places {
+        let row = pool.row(*place);
+        if !is_above_last(&copies, &row) {
+            return Ok(None);
+        }
+        copies.push(row.copy()?)?;
+    }
+    Ok(Some(copies))
+}
+
+/// Equal rows.
+pub fn copy_lent(alloc: Global, rows: &[LentRow]) -> Result<Vec<RowIn>, NoMemory>
+    ensures { IfOk result (λ copies. copies.items ≡ lent rows.now) }
+{
+    let mut copies = Vec::with_capacity(alloc, rows.len())?;
+    for row in rows {
+        copies.push(row.copy()?)?;
+    }
+    Ok(copies)
+}
+
 /// Brings rows into the order of their keys. Stretches that are in order already are kept as they are, and merged.
 fn sort_rows(rows: &mut Vec<LentRow>) -> Result<(), NoMemory>
     ensures { SameElements (lent rows.old.items) (lent rows.new.items) }
@@ -110,7 +153,7 @@ fn sort_rows(rows: &mut Vec<LentRow>) -> Result<(), NoMemory>
 }
 
 /// Each row's key is above that of the row before it.
-pub fn are_by_key(rows: &[LentRow]) -> bool
+fn are_by_key(rows: &[LentRow]) -> bool
     ensures { result ≡ true → AreByKey (lent rows.now) }
 {
     for place in 0..rows.len() {

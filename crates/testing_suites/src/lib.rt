@@ -17,7 +17,7 @@ mod watched;
 pub use arch_suite::ArchSuite;
 pub use carried_suites::CarriedSuites;
 pub use change::Change;
-pub use lent_rows::{lend_rows, put_row};
+pub use lent_rows::{copy_lent, lend_rows, put_row};
 pub use offender::{RowAnswer, is_row_on};
 pub use pool::Pool;
 pub use row_order::order_rows;

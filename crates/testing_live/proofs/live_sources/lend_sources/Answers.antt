@@ -1,4 +1,4 @@
-use Rattle.std.proofs.Common.{refl, sym, ap, ◌∙◌, take, List}
+use Rattle.std.proofs.Common.{refl, ap, ◌∙◌, take}
 use Rattle.testing_live.specs.LiveSources.{sources_of}
 use Rattle.testing_live.proofs.LiveSlots.{sources-put, sources-next}
 use Rattle.testing_model.specs.Moves.{put_source}

@@ -7,7 +7,6 @@ use Rattle.testing_model.specs.Moves.{source_in, put_source, as_source}
 use Rattle.testing_model.specs.declared.facts.UploadIn.{UploadIn}
 use Rattle.testing_model.specs.declared.suite.SourceIn.{SourceIn}
 use Rattle.testing_items.proofs.Grouping.{group-none, put-more}
-use Rattle.std.proofs.lemmas.List.{take_all}
 use Rattle.testing_live.proofs.live_sources.move_sources.Goals as goal
 use Rattle.testing_live.proofs.live_sources.move_sources.Goals.{in-Some+in_ok-as_source+in_ok-source+in_ok-guess, in_default}
 

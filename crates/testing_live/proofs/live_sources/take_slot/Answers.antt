@@ -1,5 +1,5 @@
 use Rattle.std.proofs.Common.{◌≡◌, sym, ap, ◌∙◌, subst}
-use Rattle.std.specs.Prelude.{Bool, false, cond, not, get_or, filter}
+use Rattle.std.specs.Prelude.{Bool, false, cond, not, get_or}
 use Rattle.std.specs.List.{remove}
 use Rattle.std.specs.Ordering.{is_eq}
 use Rattle.std.specs.Str.{bytes_eq}

@@ -1,6 +1,4 @@
-use Rattle.std.proofs.Common.{ap, ◌∙◌}
-use Rattle.testing_model.specs.Boxed.{unboxed}
-use Rattle.testing_suites.specs.AfterMoves.{sources_after}
+use Rattle.std.proofs.Common.{◌∙◌}
 use Rattle.testing_live.proofs.LiveSlots.{by_name}
 use Rattle.testing_live.proofs.live_sources.LiveSources.move_group.Goals as goal
 
