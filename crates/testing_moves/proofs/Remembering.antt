@@ -43,20 +43,20 @@ use Rattle.testing_suites.specs.declared.change.Change.{Change}
 
 -- Candidates with their numbers.
 
-module _ (candidates : List (Bor Excuse)) (items : List Numbered) (n : ℕ) (b : Bor Excuse) (below : n < length candidates) (is : b ≡ get_or candidates n b) where
+module _ (candidates : List (Bor Excuse)) (items : List Numbered) (n near : ℕ) (b : Bor Excuse) (below : n < length candidates) (is : b ≡ get_or candidates n b) where
   abbrev one_more : List Numbered
-  one_more = items ++ record { number = n; excuse = b } ∷ []
+  one_more = items ++ record { number = n; excuse = b; near = near } ∷ []
 
   pub excuses_more : excuses_of items ≡ lent_excuses (take n candidates) → excuses_of one_more ≡ lent_excuses (take (n + 1) candidates)
   excuses_more before =
-      map-append (λ (c : Numbered). c.excuse.now) items (record { number = n; excuse = b } ∷ [])
+      map-append (λ (c : Numbered). c.excuse.now) items (record { number = n; excuse = b; near = near } ∷ [])
       ∙ ap (λ es. es ++ b.now ∷ []) before
       ∙ sym (map-append (λ (e : Bor Excuse). e.now) (take n candidates) (b ∷ []))
       ∙ ap lent_excuses (ap (λ x. take n candidates ++ x ∷ []) is ∙ sym (take_more candidates n b below))
 
   pub numbers_more : AreNumbered (lent_excuses candidates) items → AreNumbered (lent_excuses candidates) one_more
   numbers_more before = record {
-    each = λ c d. elim (Contains-push_cases items (record { number = n; excuse = b }) c d) [
+    each = λ c d. elim (Contains-push_cases items (record { number = n; excuse = b; near = near }) c d) [
       | inl among ↦ before.each c among
       | inr own ↦ subst (IsNumbered (lent_excuses candidates)) own
           (slice_get-map (λ (e : Bor Excuse). e.now) candidates n ∙ ap (λ o. option_map (λ (e : Bor Excuse). e.now) o) (slice_get_read candidates (length candidates) n b refl below is))

@@ -107,6 +107,13 @@ impl<'u, 'a> LiveTesting<'u, 'a> {
         self.unstable.sources
     }
 
+    /// The source that is tried next is looked for near this place of unstable's first. No answer rests on it.
+    pub fn look_near(&mut self, place: usize)
+        ensures { self.new ≡ self.old }
+    {
+        self.near = place;
+    }
+
     /// What the move of a group would break.
     pub fn broken_by_move(
         &mut self,

@@ -12,14 +12,17 @@ ghost use Rattle.testing_moves.specs.Refusals.{excuses_of, AreNumbered, woken_by
 use deb_control::{Binary, Clause};
 use deb_version::NoMemory;
 use std::alloc::Global;
+use std::slice;
+use testing_facts::place_of_group;
 use testing_install::NameIndex;
-use testing_model::Excuse;
+use testing_model::{Excuse, UploadIn};
 
-/// A candidate with its number among those of a run.
+/// A candidate with its number among those of a run. `near` is a guess where its source stands among unstable's.
 #[derive(Clone, Copy)]
 pub struct Numbered<'a> {
     pub number: usize,
     pub excuse: &'a Excuse,
+    pub near: usize,
 }
 
 /// Whether each candidate, by its number, was refused for a clause that no row has met since; and, at each name that such
@@ -32,19 +35,24 @@ pub struct Refusals {
     pub expects_lack: bool,
 }
 
-/// The candidates with their numbers.
+/// The candidates with their numbers. They stand by name, as unstable's sources do.
 pub fn with_numbers<'a>(
     alloc: Global,
     candidates: &[&'a Excuse],
+    sources: &[Box<UploadIn>],
 ) -> Result<Vec<Numbered<'a>>, NoMemory>
     ensures excuses { IfOk result (λ circle. excuses_of circle.items ≡ lent_excuses candidates.now) }
     ensures numbers { IfOk result (λ circle. AreNumbered (lent_excuses candidates.now) circle.items) }
 {
     let mut circle = Vec::with_capacity(alloc, candidates.len())?;
+    let mut near = 0;
     for number in 0..candidates.len() {
+        let excuse = candidates[number];
+        near = place_of_group(sources, slice::from_ref(&excuse.source), near);
         circle.push(Numbered {
             number,
-            excuse: candidates[number],
+            excuse,
+            near,
         })?;
     }
     Ok(circle)

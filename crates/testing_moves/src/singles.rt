@@ -180,6 +180,7 @@ impl<'u, 'a> Turns<'u, 'a> {
         if refusals.has(candidate.number) {
             return Ok(false);
         }
+        self.look_near(candidate.near);
         if refusals.expects_lack {
             return self.look_first(alloc, candidate, refusals);
         }
@@ -210,7 +211,8 @@ impl<'u, 'a> Turns<'u, 'a> {
     fn move_all(&mut self, alloc: Global, candidates: &[&Excuse]) -> Result<(), NoMemory>
         ensures { OnOk result (self.new ≡ go_on self.old (λ b. rules.move_circle b.archs b.sources b.rows (lent_excuses candidates.now))) }
     {
-        let mut circle = VecDeque::from(with_numbers(alloc, candidates)?);
+        let sources = self.testing().unstable_sources();
+        let mut circle = VecDeque::from(with_numbers(alloc, candidates, sources)?);
         let mut refusals = self.no_refusals(alloc, candidates.len())?;
         'moves: while self.move_next(alloc, &mut circle, &mut refusals)? {}
         Ok(())

@@ -78,6 +78,13 @@ impl<'u, 'a> Turns<'u, 'a> {
         self.testing.broken_by_move(alloc, group)
     }
 
+    /// The source that is tried next is looked for near this place of unstable's first. No answer rests on it.
+    pub fn look_near(&mut self, place: usize)
+        ensures { self.new ≡ self.old }
+    {
+        self.testing.look_near(place);
+    }
+
     /// A clause for which the move of a group is refused, as long as no row comes that meets it. Where there is none,
     /// it may be refused nevertheless.
     pub fn lack_by_move(&self, alloc: Global, group: &[Text]) -> Result<Option<&Clause>, NoMemory>

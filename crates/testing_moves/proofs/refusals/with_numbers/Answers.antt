@@ -10,9 +10,10 @@ loop-number-preserved c =
     let items = c.loop-number.circle.items in
     let n = c.loop-number.number in
     let b = c.index-candidates-number.result in
+    let near = c.place_of_group-near.result in
     let below : n < length candidates = omega arith in
     let pushed = c.in_ok-push.ensures.items in
     record {
-      excuses = ap excuses_of pushed ∙ excuses_more candidates items n b below c.index-candidates-number.is c.loop-number.invariant.excuses;
-      numbers = subst (AreNumbered (lent_excuses candidates)) (sym pushed) (numbers_more candidates items n b below c.index-candidates-number.is c.loop-number.invariant.numbers);
+      excuses = ap excuses_of pushed ∙ excuses_more candidates items n near b below c.index-candidates-number.is c.loop-number.invariant.excuses;
+      numbers = subst (AreNumbered (lent_excuses candidates)) (sym pushed) (numbers_more candidates items n near b below c.index-candidates-number.is c.loop-number.invariant.numbers);
     }
