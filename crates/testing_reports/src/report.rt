@@ -100,27 +100,33 @@ fn push_decisions(
     Ok(())
 }
 
+/// A word comes behind a text, and a space behind it.
+fn push_word(text: &mut String, word: &str) -> Result<(), AllocError>
+    ensures { OnOk result (string_bytes text.new ≡ string_bytes text.old ++ word.now ++ 32 ∷ []) }
+{
+    text.push_str(word)?;
+    text.push_str(" ")
+}
+
 fn push_source(text: &mut String, source: &SourceIn) -> Result<(), AllocError>
     ensures { OnOk result (string_bytes text.new ≡ string_bytes text.old ++ source_line source.now) }
 {
-    writeln!(
-        text,
-        "source {} {}",
-        source.name.as_str(),
-        source.version.text()
-    )
+    text.push_str("source ")?;
+    push_word(text, source.name.as_str())?;
+    text.push_str(source.version.text())?;
+    text.push_str("\n")
 }
 
 fn push_row(text: &mut String, archs: &Archs, row: &RowIn) -> Result<(), AllocError>
     ensures { OnOk result (string_bytes text.new ≡ string_bytes text.old ++ row_line archs.now row.now) }
 {
-    let (arch, binary) = (archs.name(row.arch), &row.binary);
-    let (name, version) = (binary.name.as_str(), binary.version.text());
-    writeln!(
-        text,
-        "binary {arch} {name} {version} {}",
-        binary.source.as_str()
-    )
+    let binary = &row.binary;
+    text.push_str("binary ")?;
+    push_word(text, archs.name(row.arch))?;
+    push_word(text, binary.name.as_str())?;
+    push_word(text, binary.version.text())?;
+    text.push_str(binary.source.as_str())?;
+    text.push_str("\n")
 }
 
 fn push_excuse(text: &mut String, archs: &Archs, excuse: &Excuse) -> Result<(), AllocError>
