@@ -51,7 +51,7 @@ impl Keeper for Bounded {
         self.plain.find(sender, number)
     }
 
-    fn keep(&mut self, sender: u32, number: u32, text: &[u8]) -> Result<(), KeepFault> {
+    fn keep(&mut self, sender: u32, number: u32, text: &MailText) -> Result<(), KeepFault> {
         self.plain.keep(sender, number, text)
     }
 

@@ -74,8 +74,8 @@ inserted_read setup old new cmp p b e own each =
     subst (λ (es : Entries). HoldEach (IsRead setup) es) (sym e) (inserted_hold (IsRead setup) cmp old.texts.entries p b each own)
 
 -- a text with the message that it is
-pub copied_read : (setup : Lists) (b : Box ReadText Global) (text : List ℕ) (message : Message) → b.value.text ≡ text → b.value.message ≡ message → read setup text ≡ Ok message → IsRead setup b
-copied_read setup b text message same is e = ap (read setup) same ∙ e ∙ ap Ok (sym is)
+pub shared_read : (setup : Lists) (b : Box ReadText Global) (text : List ℕ) (message : Message) → b.value.text ≡ text → b.value.message ≡ message → read setup text ≡ Ok message → IsRead setup b
+shared_read setup b text message same is e = ap (read setup) same ∙ e ∙ ap Ok (sym is)
 
 -- what is found and was read of this text is its message
 pub found_read : (cache : MessageCache) (test : Place → Bool) (b : Box ReadText Global) (text : List ℕ) (o : Option Message) → Some b ≡ lookup test cache.texts.entries → IfSome o (λ message. (b.value.text ≡ text) × (b.value.message ≡ message))

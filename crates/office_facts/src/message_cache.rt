@@ -69,11 +69,11 @@ fn boxed(alloc: Global, read_text: ReadText) -> Option<Box<ReadText>>
     }
 }
 
-/// A copy of a text, with the message that it is; none where memory is refused.
-fn copied(alloc: Global, text: &[u8], message: Message) -> Option<Box<ReadText>>
+/// An equal text, shared if it can be, with the message that it is; none where memory is refused.
+fn shared(alloc: Global, text: &MailText, message: Message) -> Option<Box<ReadText>>
     ensures { IfSome result (λ b. (b.value.text ≡ text.now) × (b.value.message ≡ message)) }
 {
-    match MailText::copy_of(alloc, text) {
+    match text.share(alloc) {
         Ok(text) => boxed(alloc, ReadText { text, message }),
         Err(_) => {
             drop(message);
@@ -130,16 +130,16 @@ impl MessageCache {
     }
 
     /// A message is cached with its text, if there is room for it and memory isn't refused.
-    pub fn put(&mut self, text: &[u8], message: Message)
+    pub fn put(&mut self, text: &MailText, message: Message)
         ensures { (setup : Lists) → read setup text.now ≡ Ok message → AreRead setup self.old → AreRead setup self.new }
     {
-        let Some(room) = self.room.checked_sub(size_of(text)) else {
+        let Some(room) = self.room.checked_sub(size_of(text.as_slice())) else {
             drop(message);
             return;
         };
         self.room = room;
         let place = (message.sender, message.number);
-        match copied(self.alloc, text, message) {
+        match shared(self.alloc, text, message) {
             Some(read_text) => self.insert(place, read_text),
             None => {}
         }

@@ -1,3 +1,4 @@
 pub mod FactSets
+pub mod GuessFacts
 pub mod MemoryFacts
 pub mod PartFacts

@@ -5,3 +5,4 @@ pub mod Provenance
 pub mod MemoryState
 pub mod LastDelays
 pub mod NewMail
+pub mod MailBytes

@@ -53,8 +53,8 @@ pub trait Keeper {
         ensures bad { is_trusted self.new → is_legible self.old → AreOwnTexts (setup self.old) (content self.old).kept → result ≢ Err (KeepFault.Store Cause.BadRow) }
         ensures counted { Counted (refusals self.old) (refusals self.new) result };
 
-    /// Keeps a text under a free number.
-    fn keep(&mut self, sender: u32, number: u32, text: &[u8]) -> Result<(), KeepFault>
+    /// Keeps a text under a free number. A store in memory shares its bytes, if others may.
+    fn keep(&mut self, sender: u32, number: u32, text: &MailText) -> Result<(), KeepFault>
         requires free { is_trusted self.old → get (content self.old).kept (sender, number) ≡ None }
         ensures kept { is_trusted self.new → is_legible self.old → OnOk result (content self.new ≡ with_text (content self.old) sender number text.now) }
         ensures mail { is_trusted self.new → OnOk result ((content self.new).kept ≡ insert (content self.old).kept (sender, number) text.now) }

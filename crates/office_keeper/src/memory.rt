@@ -73,8 +73,8 @@ impl Plain {
     }
 }
 
-/// A copy of the text at a place, or none.
-fn copy_text(
+/// The text at a place, or none. It is shared if it can be.
+fn share_text(
     alloc: Global,
     mail: &BTreeMap<(u32, u32), MailText>,
     sender: u32,
@@ -85,7 +85,7 @@ fn copy_text(
 {
     match mail.get(&(sender, number)) {
         None => Ok(None),
-        Some(text) => Ok(Some(MailText::copy_of(alloc, text.as_slice())?)),
+        Some(text) => Ok(Some(text.share(alloc)?)),
     }
 }
 
@@ -110,7 +110,7 @@ fn letters_between(
     'places: for (place, text) in entries {
         letters.push(Letter {
             number: place.1,
-            text: MailText::copy_of(alloc, text.as_slice())?,
+            text: text.share(alloc)?,
         })?;
     }
     Ok(letters)
@@ -300,11 +300,11 @@ impl Keeper for Plain {
     ghost disk_faults = { λ _. 0 };
 
     fn find(&mut self, sender: u32, number: u32) -> Result<Option<MailText>, KeepFault> {
-        copy_text(self.alloc, &self.mail, sender, number)
+        share_text(self.alloc, &self.mail, sender, number)
     }
 
-    fn keep(&mut self, sender: u32, number: u32, text: &[u8]) -> Result<(), KeepFault> {
-        let text = MailText::copy_of(self.alloc, text)?;
+    fn keep(&mut self, sender: u32, number: u32, text: &MailText) -> Result<(), KeepFault> {
+        let text = text.share(self.alloc)?;
         self.mail.insert((sender, number), text)?;
         Ok(())
     }

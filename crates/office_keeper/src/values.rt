@@ -5,12 +5,20 @@ ghost use Rattle.office_keeper.specs.Content.{reports_in};
 use deb_control::{NoMemory, Text};
 use std::alloc::{AllocError, Global};
 use std::marker::Model;
+use std::rc::Rc;
 use testing_model::FactChanges;
 use testing_suites::Testing;
 
+/// Where a text has its bytes: in a vector of its own, or in one that it shares with equal texts.
+#[derive(Drop)]
+enum Bytes {
+    Own(Vec<u8>),
+    Shared(Rc<Vec<u8>>),
+}
+
 /// The bytes of a text that came by mail. Contracts see their list.
 pub struct MailText {
-    bytes: Vec<u8>,
+    bytes: Bytes,
 }
 
 impl Drop for MailText {
@@ -21,34 +29,52 @@ impl Drop for MailText {
 
 impl Model for MailText {
     ghost use Rattle.std.specs.Prelude.{List, ℕ};
+    ghost use Rattle.office_keeper.specs.MailBytes.{bytes_of};
 
     ghost Value = { List ℕ };
 
-    ghost view = { λ a. a.bytes.items };
+    ghost view = { λ a. bytes_of a.bytes };
 }
 
 impl MailText {
-    /// A copy of these bytes.
-    pub fn copy_of(alloc: Global, bytes: &[u8]) -> Result<MailText, AllocError>
-        ensures { IfOk result (λ text. text ≡ bytes.now) }
-    {
-        Ok(MailText {
-            bytes: Vec::from_slice(alloc, bytes)?,
-        })
-    }
-
     /// A text of these bytes. It takes no memory.
     pub fn of(bytes: Vec<u8>) -> MailText
         ensures { result ≡ bytes.items }
     {
-        MailText { bytes }
+        MailText {
+            bytes: Bytes::Own(bytes),
+        }
+    }
+
+    /// A copy of these bytes, which others may share from here on.
+    pub fn shared(alloc: Global, bytes: &[u8]) -> Result<MailText, AllocError>
+        ensures { IfOk result (λ text. text ≡ bytes.now) }
+    {
+        let bytes = Rc::new(alloc, Vec::from_slice(alloc, bytes)?)?;
+        Ok(MailText {
+            bytes: Bytes::Shared(bytes),
+        })
+    }
+
+    /// An equal text. It shares the bytes if others may, and else it copies them.
+    pub fn share(&self, alloc: Global) -> Result<MailText, AllocError>
+        ensures { IfOk result (λ text. text ≡ self.now) }
+    {
+        let bytes = match &self.bytes {
+            Bytes::Own(bytes) => Bytes::Own(Vec::from_slice(alloc, bytes.as_slice())?),
+            Bytes::Shared(bytes) => Bytes::Shared(bytes.clone()?),
+        };
+        Ok(MailText { bytes })
     }
 
     /// The bytes. It takes no memory.
     pub fn as_slice(&self) -> &[u8]
         ensures { result.now ≡ self.now }
     {
-        self.bytes.as_slice()
+        match &self.bytes {
+            Bytes::Own(bytes) => bytes.as_slice(),
+            Bytes::Shared(bytes) => bytes.as_ref().as_slice(),
+        }
     }
 }
 

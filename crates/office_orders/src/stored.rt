@@ -76,7 +76,7 @@ pub fn keep<K: Keeper>(
     keeper: &mut K,
     sender: u32,
     number: u32,
-    text: &[u8],
+    text: &MailText,
 ) -> Result<(), StoreFault>
     requires free { K.is_trusted keeper.old → get (K.content keeper.old).kept (sender, number) ≡ None }
     ensures kept { K.is_trusted keeper.new → K.is_legible keeper.old → OnOk result (K.content keeper.new ≡ with_text (K.content keeper.old) sender number text.now) }

@@ -44,11 +44,11 @@ answer_due r due e = search (rules, e)
 pub answer_no_memory : (due : Result Held DeliverFault) → AnswersDelivery (Err (Mail NoMemory)) due
 answer_no_memory due = search rules
 
-pub answer_fault : (setup : Lists) (kept : Kept) (text : List ℕ) (fault : MailFault) → (Err fault ≡ read setup text) ⊎ (◌≡◌ {A = Result Message MailFault} (Err fault) (Err NoMemory)) → AnswersDelivery (Err (Mail fault)) (answer_to setup kept text)
+pub answer_fault : (setup : Lists) (kept : Kept) (text : List ℕ) (fault : MailFault) → (read setup text ≡ Err fault) ⊎ (fault ≡ NoMemory) → AnswersDelivery (Err (Mail fault)) (answer_to setup kept text)
 unfolding answer_to
 answer_fault setup kept text fault h = ⊎_elim
-    (λ e. answer_due (Err (Mail fault)) (answer_to setup kept text) (ap (answer_by kept text) e))
-    (λ e. let same : fault ≡ NoMemory = cc in rw same (answer_no_memory (answer_to setup kept text))) h
+    (λ e. answer_due (Err (Mail fault)) (answer_to setup kept text) (sym (ap (answer_by kept text) e)))
+    (λ same. rw same (answer_no_memory (answer_to setup kept text))) h
 
 pub some_of : {A : Type 0} (o : Option A) (x : A) → o ≡ Some x → IsSome o
 some_of o x e = rw e refl

@@ -45,18 +45,18 @@ fn own_answer(letters: &[NewLetter], held: Held, text: &[u8]) -> Option<Reply>
     None
 }
 
-/// Adds a letter with a copy of this text.
+/// Adds a letter with this text, which is shared if it can be.
 fn add_letter(
     alloc: Global,
     letters: &mut Vec<NewLetter>,
     held: Held,
-    text: &[u8],
+    text: &MailText,
 ) -> Result<(), StoreFault>
     ensures ok { OnOk result (letters.new.items ≡ letters.old.items ++ letter_of held text.now ∷ []) }
     ensures err { OnErr result (letters.new.items ≡ letters.old.items) }
     ensures short { OnErr result (result ≡ Err StoreFault.NoMemory) }
 {
-    let text = MailText::copy_of(alloc, text)?;
+    let text = text.share(alloc)?;
     letters.push(NewLetter {
         sender: held.sender,
         number: held.number,
@@ -73,7 +73,7 @@ fn answer_message<K: Keeper>(
     asked: &mut Vec<Asked>,
     letters: &mut Vec<NewLetter>,
     message: &Message,
-    text: &[u8],
+    text: &MailText,
 ) -> Result<Reply, StoreFault>
     requires read { read setup.now text.now ≡ Ok message.now }
     requires place { IsPlace setup.now (place_of message.now) }
@@ -87,11 +87,11 @@ fn answer_message<K: Keeper>(
         sender: message.sender,
         number: message.number,
     };
-    if let Some(reply) = own_answer(letters, held, text) {
+    if let Some(reply) = own_answer(letters, held, text.as_slice()) {
         return Ok(reply);
     }
     match find(keeper, asked, held.sender, held.number)? {
-        Some(kept) => Ok(compare(held, &kept, text)),
+        Some(kept) => Ok(compare(held, &kept, text.as_slice())),
         None => {
             add_letter(alloc, letters, held, text)?;
             Ok(Ok(held))
@@ -122,7 +122,7 @@ fn gather<K: Keeper>(
     cache: &mut MessageCache,
     asked: &mut Vec<Asked>,
     letters: &mut Vec<NewLetter>,
-    text: &[u8],
+    text: &MailText,
 ) -> Result<Reply, StoreFault>
     ensures takes { K.is_trusted keeper.new → AreFreeFrom (K.content keeper.old).kept asked.old.items → IfOk result (λ reply. TakesText setup.now (K.content keeper.old).kept letters.old.items letters.new.items text.now reply) }
     ensures asked { K.is_trusted keeper.new → AreFreeFrom (K.content keeper.old).kept asked.old.items → OnOk result (AreFreeFrom (K.content keeper.old).kept asked.new.items) }
@@ -131,7 +131,7 @@ fn gather<K: Keeper>(
     ensures cache { AreRead setup.now cache.old → AreRead setup.now cache.new }
     ensures looks { ReadsStore K.Keeper keeper.old keeper.new result }
 {
-    match read_message(alloc, setup, text) {
+    match read_message(alloc, setup, text.as_slice()) {
         Ok(message) => {
             let answer = answer_message(alloc, setup, keeper, asked, letters, &message, text);
             hold(cache, is_held(&answer), text, message);
@@ -169,7 +169,7 @@ fn gather_all<K: Keeper>(
             cache,
             &mut asked,
             &mut block.letters,
-            text.as_slice(),
+            text,
         )?;
         block.replies.push(reply)?;
     }

@@ -1,7 +1,7 @@
 //! One delivery: a message finds its place free, its own text there, or another.
 #![tactic(auto, using(office_orders::proofs::LastFacts::lasting))]
 
-ghost use Rattle.std.specs.Prelude.{is_ok, ◌≡◌, ◌<◌, ◌∷◌, [], Ok, Err, IfOk, OnOk, OnErr, bytes_eq, length, if◌then◌else◌};
+ghost use Rattle.std.specs.Prelude.{is_ok, ◌≡◌, ◌<◌, ◌∷◌, ◌⊎◌, [], Ok, Err, IfOk, IfErr, OnOk, OnErr, bytes_eq, length, if◌then◌else◌};
 ghost use Rattle.std.specs.FinMap.{get};
 ghost use Rattle.office_mail.specs.Kept.{kept_from, place_of, IsPlace, Within};
 ghost use Rattle.office_mail.specs.Lists.{Lists};
@@ -13,7 +13,7 @@ ghost use Rattle.office_facts.specs.State.{AnswersDelivery, IsOffice, answer_at,
 
 use office_facts::message_cache::MessageCache;
 use office_keeper::{Keeper, MailText};
-use office_mail::{Message, Setup, read_message};
+use office_mail::{MailFault, Message, Setup, read_message};
 use office_orders::{DeliverFault, Held, stored};
 use std::alloc::Global;
 
@@ -33,7 +33,7 @@ fn post<K: Keeper>(
     setup: &Setup,
     keeper: &mut K,
     message: &Message,
-    text: &[u8],
+    text: &MailText,
 ) -> Result<Held, DeliverFault>
     requires read { read setup.now text.now ≡ Ok message.now }
     requires place { IsPlace setup.now (place_of message.now) }
@@ -57,7 +57,7 @@ fn post<K: Keeper>(
         number: message.number,
     };
     match stored::find(keeper, held.sender, held.number)? {
-        Some(kept) => compare(held, &kept, text),
+        Some(kept) => compare(held, &kept, text.as_slice()),
         None => {
             stored::keep(keeper, held.sender, held.number, text)?;
             Ok(held)
@@ -66,13 +66,30 @@ fn post<K: Keeper>(
 }
 
 /// A message that was read of a text is cached if it is held, for the run that covers it.
-pub fn hold(cache: &mut MessageCache, held: bool, text: &[u8], message: Message)
+pub fn hold(cache: &mut MessageCache, held: bool, text: &MailText, message: Message)
     ensures { (setup : Lists) → read setup text.now ≡ Ok message → AreRead setup cache.old → AreRead setup cache.new }
 {
     if held {
         cache.put(text, message);
     } else {
         drop(message);
+    }
+}
+
+/// The message that a text is, with a copy of the text that others may share from here on.
+fn read_shared(alloc: Global, setup: &Setup, text: &[u8]) -> Result<(Message, MailText), MailFault>
+    ensures message { IfOk result (λ it. read setup.now text.now ≡ Ok it.0) }
+    ensures text { IfOk result (λ it. it.1 ≡ text.now) }
+    ensures place { IfOk result (λ it. IsPlace setup.now (place_of it.0)) }
+    ensures fault { IfErr result (λ fault. (read setup.now text.now ≡ Err fault) ⊎ (fault ≡ MailFault.NoMemory)) }
+{
+    let message = read_message(alloc, setup, text)?;
+    match MailText::shared(alloc, text) {
+        Ok(text) => Ok((message, text)),
+        Err(_) => {
+            drop(message);
+            Err(MailFault::NoMemory)
+        }
     }
 }
 
@@ -100,10 +117,11 @@ pub fn deliver<K: Keeper>(
     ensures lasts { StaysTrusted K.Keeper keeper.old keeper.new (is_ok result) }
     ensures counted { CountedDelivery (K.refusals keeper.old) (K.refusals keeper.new) result }
 {
-    match read_message(alloc, setup, text) {
-        Ok(message) => {
-            let answer = post(setup, keeper, &message, text);
-            hold(cache, answer.is_ok(), text, message);
+    match read_shared(alloc, setup, text) {
+        Ok((message, text)) => {
+            let answer = post(setup, keeper, &message, &text);
+            hold(cache, answer.is_ok(), &text, message);
+            drop(text);
             answer
         }
         Err(fault) => Err(DeliverFault::Mail(fault)),

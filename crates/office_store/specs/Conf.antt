@@ -1,5 +1,5 @@
 -- Setups read from a file, and exit statuses.
-use Rattle.std.specs.Prelude.{ℕ, Option, List, take, Result, Ok, Err}
+use Rattle.std.specs.Prelude.{ℕ, List, take}
 use Rattle.office_store.specs.declared.conf.ConfFault.{ConfFault}
 use Rattle.office_store.specs.declared.conf.ConfFault.TheVariants.{Refused, Unreadable}
 use Rattle.office_setup.specs.declared.setup.SetupFault.{SetupFault}

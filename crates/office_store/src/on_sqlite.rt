@@ -108,10 +108,10 @@ impl<S: Alter> Keeper for Tables<S> {
         )
     }
 
-    fn keep(&mut self, sender: u32, number: u32, text: &[u8]) -> Result<(), KeepFault> {
+    fn keep(&mut self, sender: u32, number: u32, text: &MailText) -> Result<(), KeepFault> {
         count(
             &mut self.refusals,
-            mail::keep(&mut self.conn, sender, number, text),
+            mail::keep(&mut self.conn, sender, number, text.as_slice()),
         )
     }
 

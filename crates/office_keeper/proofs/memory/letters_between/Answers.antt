@@ -16,8 +16,8 @@ places-init c =
 
 pub places-preserved : goal.places-preserved
 places-preserved c =
-    letter_comes c.places.letters.items c.push.new.self.items (c.in-Some.place.now, c.in-Some.text.now) c.in_ok-copy_of.field-0 c.places.place-iterator c.next.new.self
-    (c.in_ok-copy_of.ensures ∙ c.as_slice.ensures) c.in_ok-push.ensures.items c.in-Some.ensures.steps
+    letter_comes c.places.letters.items c.push.new.self.items (c.in-Some.place.now, c.in-Some.text.now) c.in_ok-share.field-0 c.places.place-iterator c.next.new.self
+    c.in_ok-share.ensures c.in_ok-push.ensures.items c.in-Some.ensures.steps
     ∙ c.places.invariant
 
 pub returns-clause-loaded : goal.returns-clause-loaded

@@ -27,10 +27,10 @@ texts-preserved g c =
     let next = c.in_ok-reply.ensures in
     let texts : List (List ℕ) = c.args.texts.now in
     let i = c.texts.text-index in
-    let text : List ℕ = c.as_slice.result.now in
+    let text : List ℕ = c.text-item.result in
     let old = (g.K.Keeper.content c.args.keeper.now).kept in
     let more : take (i + 1) texts ≡ take i texts ++ text ∷ [] =
-    take_more texts i c.text-item.result c.texts-test.true ∙ ap (λ (t : List ℕ). take i texts ++ t ∷ []) (sym c.text-item.is ∙ sym c.as_slice.ensures) in
+    take_more texts i c.text-item.result c.texts-test.true ∙ ap (λ (t : List ℕ). take i texts ++ t ∷ []) (sym c.text-item.is) in
     let pushed : c.push.new.self.items ≡ c.texts.block.replies.items ++ c.in_ok-reply.reply ∷ [] = c.in_ok-push.ensures.items in
     record {
       gathers = λ trusted.
