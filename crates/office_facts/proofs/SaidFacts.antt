@@ -1,5 +1,5 @@
 -- What all kept mail says.
-use Rattle.std.proofs.Common.{◌≡◌, ℕ, List, Option, Some, None, Ok, IsSome, sym, ap, subst, ◌∙◌, refl}
+use Rattle.std.proofs.Common.{◌≡◌, ℕ, List, Option, Some, IsSome, sym, ap, ◌∙◌, refl}
 use Rattle.std.specs.Prelude.{Contains}
 use Rattle.std.specs.FinMap.{get, entries, entries_sorted, get-entries}
 use Rattle.testing_items.specs.declared.item.Item.{Item}
@@ -8,7 +8,6 @@ use Rattle.testing_model.proofs.Sets.{given_by, gives}
 use Rattle.testing_model.specs.Covered.{CoveredItem, delays_of}
 use Rattle.testing_model.specs.SameMessages.{HasOneOfEach}
 use Rattle.office_mail.specs.declared.message.Body.TheVariants.{Item as Saying}
-use Rattle.office_setup.specs.declared.setup.Role.{Role}
 use Rattle.office_setup.specs.declared.setup.Role.TheVariants.{Release}
 use Rattle.office_mail.specs.Kept.{Kept, Place, Within}
 use Rattle.office_mail.specs.Kinds.{role_needed}

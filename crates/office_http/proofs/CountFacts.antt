@@ -1,8 +1,8 @@
 -- The counts of kept mail are a function of it.
-use Rattle.std.proofs.Common.{◌≡◌, ◌≤◌, ◌<◌, ◌+◌, ◌-◌, ℕ, zero, suc, Bool, true, false, cond, nat_eq, List, [], ◌∷◌, map, length, filter_map, is_some, Option, Some, None, Result, Ok, Err, IfOk, refl, sym, ap, subst, ◌∙◌, arith}
+use Rattle.std.proofs.Common.{◌≡◌, ◌≤◌, ◌<◌, ◌+◌, ◌-◌, ℕ, zero, suc, Bool, true, false, nat_eq, List, [], ◌∷◌, map, length, filter_map, is_some, Option, Some, None, Result, Ok, Err, IfOk, refl, sym, ap, ◌∙◌, arith}
 use Rattle.std.specs.Prelude.{IsSome, ◌==◌}
 use Rattle.std.proofs.lemmas.Bool.Decides.{nat_tests}
-use Rattle.std.specs.List.{AllByRecursion, range_with_len, cons_option}
+use Rattle.std.specs.List.{AllByRecursion, range_with_len}
 use Rattle.std.specs.FinMap.{get}
 use Rattle.office_mail.specs.Kept.{Kept}
 use Rattle.office_keeper.specs.declared.values.Letter.{Letter}
@@ -10,7 +10,7 @@ use Rattle.office_keeper.specs.Content.{letter_at, letters_within}
 use Rattle.office_mail.specs.Lists.{Lists}
 use Rattle.office_orders.specs.Ready.{HasPlaces}
 use Rattle.office_bags.specs.declared.mail.MailCount.{MailCount}
-use Rattle.office_bags.specs.Mail.{letters_of, mail_text, AreMailCounts, IsMailCount}
+use Rattle.office_bags.specs.Mail.{letters_of, AreMailCounts, IsMailCount}
 use Rattle.office_http.specs.Serve.{unbroken_from, mail_count, mail_counts}
 
 module _ (kept : Kept) (sender : ℕ) where

@@ -1,5 +1,5 @@
 -- What the steps of the migration make of the tables.
-use Rattle.std.proofs.Common.{◌≡◌, ◌≢◌, inr, ◌≤◌, ℕ, List, [], ◌∷◌, Bool, true, false, cond, ◌&&◌, ◌==◌, nat_le, nat_eq, Option, Some, None, IsSome, Result, Ok, Err, IfOk, length, is_some, map, refl, sym, ap, subst, ◌∙◌, arith}
+use Rattle.std.proofs.Common.{◌≡◌, ◌≢◌, inr, ◌≤◌, ℕ, List, [], ◌∷◌, Bool, true, false, cond, ◌&&◌, ◌==◌, nat_le, Option, Some, None, Result, Ok, Err, IfOk, length, is_some, map, refl, sym, ap, subst, ◌∙◌, arith}
 use Rattle.std.proofs.lemmas.Bool.Decides.{nat_tests}
 use Rattle.std.specs.List.Sorted.{IsPermutation}
 use Rattle.std.specs.Result.{result_ok, IsErrAnd}
@@ -22,7 +22,6 @@ use Rattle.office_tables.specs.Layout.{schema_before, office_schema, fact_delays
 use Rattle.office_tables.specs.Tables.{number_in, text_in, office_by, office_in, said_in, kept_rows, IsWhole}
 use Rattle.office_tables.specs.TableContent.{release_place}
 use Rattle.office_tables.specs.TableSteps.{Rows, rows_in, SaysAlone, Silences, SaysMore, office_columns}
-use Rattle.office_tables.specs.FactSteps.{AddsDelays}
 use Rattle.office_tables.specs.CreatingSteps.{Makes, schema_of_six}
 use Rattle.office_tables.specs.SetupText.{setup_text}
 use Rattle.office_opening.specs.Opening.{text_by, shown_office, text_of_one, text_before, kept_text, lists_by, open_fault, IsKeptFor, IsKeptBefore, IsKeptForOther, IsMigrated, IsUnreadable}

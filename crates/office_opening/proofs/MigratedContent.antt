@@ -4,18 +4,14 @@ use Rattle.std.specs.FinMap.{get, insert}
 use Rattle.sqlite.specs.Order.{Row}
 use Rattle.sqlite.specs.Tree.{Trees}
 use Rattle.sqlite_rules.specs.Lists.{Has}
-use Rattle.testing_model.specs.Suite.{Suite}
 use Rattle.testing_model.specs.declared.fact_row.FactRow.{FactRow}
 use Rattle.office_mail.specs.Lists.{Lists}
 use Rattle.office_mail.specs.Runs.{cover}
 use Rattle.office_mail.specs.Setup.{IsSetup}
-use Rattle.office_keeper.specs.Content.{Content}
-use Rattle.office_keeper.specs.FactSet.{FactSet}
 use Rattle.office_keeper.specs.LastDelays.{IsLastTold, GetsLast, release_delays, with_last}
-use Rattle.office_keeper.specs.declared.values.Reports.{Reports}
 use Rattle.office_tables.specs.Entries.{source_map, entry_map}
 use Rattle.office_tables.specs.FactTables.{delays_in, facts_in}
-use Rattle.office_tables.specs.Legible.{IsLegible, SaysOnce, AreReported, AreNamed, AreRead}
+use Rattle.office_tables.specs.Legible.{IsLegible, AreReported}
 use Rattle.office_opening.specs.Migrating.{KeepsDelays, Migrates, IsLegibleBefore, content_before}
 use Rattle.office_tables.specs.SetupText.{setup_text}
 use Rattle.office_tables.specs.TableContent.{content_in, count_said, release_place, reports_to, suite_in, source_at, row_at}

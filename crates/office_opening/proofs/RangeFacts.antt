@@ -1,7 +1,7 @@
 -- What the letters of a range of numbers say: the orders of runs, and the delays of the release team.
-use Rattle.std.proofs.Common.{◌≡◌, ⊎_elim, ◌≤◌, ◌<◌, ◌+◌, ◌-◌, ◌==◌, ◌&&◌, inl, inr, ℕ, zero, suc, List, [], ◌∷◌, ◌++◌, max, Bool, true, false, cond, Option, Some, None, option_map, option_and_then, option_to_list, is_some, slice_index, IsSome, Result, Ok, Err, IfOk, filter_map, refl, sym, ap, subst, ◌∙◌, arith}
+use Rattle.std.proofs.Common.{◌≡◌, ⊎_elim, ◌≤◌, ◌<◌, ◌+◌, ◌-◌, ◌==◌, ◌&&◌, ℕ, zero, suc, List, [], ◌∷◌, ◌++◌, max, Bool, true, false, cond, Option, Some, None, option_map, option_and_then, option_to_list, is_some, slice_index, IsSome, Result, Ok, Err, IfOk, filter_map, refl, sym, ap, subst, ◌∙◌, arith}
 use Rattle.std.proofs.lemmas.Bool.Decides.{nat_tests}
-use Rattle.std.proofs.lemmas.Bool.{cases_Bool, cases_lt}
+use Rattle.std.proofs.lemmas.Bool.{cases_lt}
 use Rattle.std.specs.List.{range_with_len, cons_option}
 use Rattle.std.specs.FinMap.{get}
 use Rattle.testing_model.specs.declared.facts.DelaysIn.{DelaysIn}
@@ -15,8 +15,7 @@ use Rattle.office_mail.specs.Runs.{runs, cover, cover_of, orders_to, order_at, o
 use Rattle.office_mail.proofs.ReadyFacts.{cover_of-push}
 use Rattle.office_keeper.specs.declared.values.Letter.{Letter}
 use Rattle.office_keeper.specs.Content.{letter_at, letters_within}
-use Rattle.office_keeper.specs.LastDelays.{delays_in_body, TellsDelays, IsLastTold}
-use Rattle.office_keeper.specs.Provenance.{IsKept}
+use Rattle.office_keeper.specs.LastDelays.{TellsDelays, IsLastTold}
 use Rattle.office_tables.specs.TableContent.{own_by, message_at, release_place}
 use Rattle.office_opening.specs.Migrating.{order_of, AreMessages}
 use Rattle.office_opening.specs.MigratingSteps.{stated_by, next_stated, cover_on, delays_told, told_by, next_told, told_on}

@@ -1,5 +1,5 @@
 -- What the kept messages say that numbers cover.
-use Rattle.std.proofs.Common.{◌≡◌, ⊎_elim, ℕ, ◌<◌, ◌≤◌, Bool, true, false, cond, ◌&&◌, nat_le, length, Option, Some, None, List, IsSome, sym, ap, subst, ◌∙◌, refl, arith}
+use Rattle.std.proofs.Common.{◌≡◌, ⊎_elim, ℕ, ◌<◌, ◌≤◌, Bool, true, false, cond, ◌&&◌, nat_le, length, Option, Some, None, List, IsSome, sym, ap, ◌∙◌, refl, arith}
 use Rattle.std.specs.Prelude.{Contains}
 use Rattle.std.specs.FinMap.{get, entries, entries_sorted, get-entries, get-retain_keys, retain_keys}
 use Rattle.std.proofs.lemmas.Bool.{cases_lt, le-leb, lt-leb}
@@ -11,13 +11,13 @@ use Rattle.testing_model.specs.SameMessages.{SameElements}
 use Rattle.testing_model.specs.StandsFor.{StandsFor}
 use Rattle.testing_model.specs.Suite.{Suite}
 use Rattle.office_mail.specs.Lists.{Lists}
-use Rattle.office_mail.specs.Kept.{Kept, Place, IsPlace}
+use Rattle.office_mail.specs.Kept.{Kept, Place}
 use Rattle.office_mail.specs.Runs.{is_covered}
 use Rattle.office_mail.proofs.KeptFacts.{exact_places}
 use Rattle.office_facts.specs.Outcome.{item_at}
 use Rattle.office_orders.specs.Ready.{HasPlaces}
 use Rattle.office_facts.specs.Walk.{item_of, said_within}
-use Rattle.office_facts.proofs.WalkFacts.{IsSaid, entry_found, find_entry, of_text, one_of_each, place_within, within_place}
+use Rattle.office_facts.proofs.WalkFacts.{entry_found, find_entry, of_text, one_of_each, place_within, within_place}
 use Rattle.office_rules.specs.Trial.{items_within}
 
 get-covered : (kept : Kept) (covers : ℕ → ℕ) (p : Place) → get (retain_keys kept (is_covered covers)) p ≡ cond (is_covered covers p) (get kept p) None

@@ -6,11 +6,10 @@ use Rattle.std.proofs.lemmas.Bool.{cases_eq, cases_lt, eq-eqb, ne_eqb}
 use Rattle.jiff_core.specs.declared.civil.date.Date.{Date}
 use Rattle.jiff_core.specs.Date.{epoch_day}
 use Rattle.testing_model.specs.Covered.{Covered, CoveredItem}
-use Rattle.testing_model.specs.SameMessages.{SameElements}
 use Rattle.testing_model.specs.Suite.{Suite}
 use Rattle.office_mail.specs.declared.message.RunOrder.{RunOrder}
 use Rattle.office_mail.specs.Lists.{Lists}
-use Rattle.office_mail.specs.Kept.{Kept, Place, Within}
+use Rattle.office_mail.specs.Kept.{Kept, Place}
 use Rattle.office_mail.specs.Runs.{IsReady, cover, cover_of, later, latest, latest_day, order_at, orders_to}
 use Rattle.office_mail.proofs.ReadyFacts.{cover_of-push}
 use Rattle.office_mail.proofs.RunFacts.{orders_to-later}

@@ -13,7 +13,7 @@ use Rattle.testing_model.specs.SameMessages.{SameElements, HasOneOfEach}
 use Rattle.testing_model.specs.StandsFor.{StandsFor}
 use Rattle.testing_model.specs.Suite.{Suite}
 use Rattle.testing_model.specs.Unstable.{unstable_sources, unstable_builds, unstable_rows, built_rows, greatest_drops, bug_states, hints_by_number, unhints_by_number, last_delays}
-use Rattle.testing_model.specs.Updates.{Outcome as Update, update_by, update_of}
+use Rattle.testing_model.specs.Updates.{update_by, update_of}
 use Rattle.testing_model.proofs.SameFacts.{stands-same}
 use Rattle.testing_excuses.proofs.Grounds.{same-excuses}
 use Rattle.office_mail.specs.Lists.{Lists}

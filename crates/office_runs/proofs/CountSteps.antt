@@ -1,5 +1,5 @@
 -- What is held is kept.
-use Rattle.std.proofs.Common.{◌≡◌, ◌⊎◌, ⊎_elim, ℕ, zero, suc, ◌<◌, Bool, true, false, List, [], ◌∷◌, length, set, get_or, Option, Some, None, Result, Ok, Err, IsSome, OnOk, IfOk, IfSome, sym, ap, subst, refl, arith}
+use Rattle.std.proofs.Common.{◌≡◌, ◌⊎◌, ⊎_elim, ℕ, zero, suc, ◌<◌, Bool, true, false, List, [], ◌∷◌, length, get_or, Option, Some, None, Result, Ok, Err, IsSome, OnOk, IfOk, IfSome, sym, subst, refl, arith}
 use Rattle.std.specs.Prelude.{Vec, bytes_eq, if◌then◌else◌}
 use Rattle.std.specs.declared.alloc.Global.{Global}
 use Rattle.std.specs.FinMap.{get, insert}
@@ -10,7 +10,7 @@ use Rattle.office_mail.specs.Kept.{Kept, Within, place_of, kept_from}
 use Rattle.office_mail.specs.Read.{read}
 use Rattle.office_mail.proofs.KeptFacts.{kept_from-append, kept_from-free, kept_from-taken, kept_from-Within}
 use Rattle.office_orders.specs.declared.faults.DeliverFault.{DeliverFault}
-use Rattle.office_orders.specs.declared.faults.DeliverFault.TheVariants.{Mail, OtherText, Store}
+use Rattle.office_orders.specs.declared.faults.DeliverFault.TheVariants.{OtherText}
 use Rattle.office_orders.specs.declared.faults.Held.{Held}
 use Rattle.office_orders.specs.declared.faults.StoreFault.{StoreFault}
 use Rattle.office_orders.proofs.CountFacts.{some_later}

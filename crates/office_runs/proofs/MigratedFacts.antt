@@ -1,7 +1,7 @@
 -- The migration of what an office of schema 1 left.
 use Rattle.std.proofs.Common.{◌≡◌, ⊎_elim, ◌≢◌, ◌≤◌, ◌<◌, ◌+◌, ◌==◌, ◌&&◌, ◌||◌, inl, inr, ℕ, Bool, true, false, cond, List, [], ◌∷◌, ◌++◌, length, map, Option, Some, None, Ok, IsSome, is_some, option_to_list, sym, ap, subst, ◌∙◌, refl, arith}
 use Rattle.std.specs.Prelude.{Contains}
-use Rattle.std.specs.List.{filter_map, AllByRecursion}
+use Rattle.std.specs.List.{AllByRecursion}
 use Rattle.std.specs.FinMap.{get, insert}
 use Rattle.std.proofs.lemmas.Bool.Decides.{nat_tests}
 use Rattle.std.specs.Ordering.{is_lt}
@@ -17,27 +17,26 @@ use Rattle.testing_items.specs.Words.{lesser, least}
 use Rattle.testing_model.proofs.Orders.{delays_total}
 use Rattle.testing_model.proofs.Sets.{first_or_rest, given_by, gives}
 use Rattle.testing_model.proofs.Least.{least_from}
-use Rattle.testing_model.proofs.First.{NoneBelow, least-none_below}
+use Rattle.testing_model.proofs.First.{least-none_below}
 use Rattle.testing_items.specs.declared.item.Item.{Item as Thing}
 use Rattle.testing_items.specs.declared.item.Item.TheVariants.{Upload, Dropped, Build, Bug, Hint, Unhint, Delays, Nothing}
 use Rattle.office_mail.specs.declared.message.Message.{Message}
 use Rattle.office_mail.specs.declared.message.Body.{Body}
 use Rattle.office_mail.specs.declared.message.Body.TheVariants.{Item, Run}
 use Rattle.office_setup.specs.declared.setup.Role.TheVariants.{Release}
-use Rattle.office_mail.specs.Kept.{Kept, Place, IsPlace}
+use Rattle.office_mail.specs.Kept.{Place}
 use Rattle.office_mail.specs.Lists.{Lists}
 use Rattle.office_mail.specs.Read.{read}
 use Rattle.office_mail.specs.Runs.{cover}
-use Rattle.office_mail.specs.Setup.{count_of, place_of_role, IsSetup}
+use Rattle.office_mail.specs.Setup.{count_of, place_of_role}
 use Rattle.office_keeper.specs.Content.{Content}
 use Rattle.office_keeper.specs.FactSet.{FactSet, count_in}
 use Rattle.office_keeper.specs.LastDelays.{delays_in_body, TellsDelays, IsLastTold, GetsLast, release_delays, with_last}
-use Rattle.office_keeper.specs.Provenance.{AreOwnTexts, IsKept}
+use Rattle.office_keeper.specs.Provenance.{IsKept}
 use Rattle.office_keeper.proofs.FactSets.{has-insert}
-use Rattle.office_facts.specs.Known.{said_all}
-use Rattle.office_runs.specs.Migrated.{without_delays, KeepsFactsBefore, IsOfficeBefore}
+use Rattle.office_runs.specs.Migrated.{without_delays, IsOfficeBefore}
 use Rattle.office_facts.specs.Outcome.{item_in_body, item_in_answer, item_at, covered_items}
-use Rattle.office_facts.specs.State.{IsOffice, KeepsFacts}
+use Rattle.office_facts.specs.State.{IsOffice}
 use Rattle.office_facts.specs.Walk.{item_of}
 use Rattle.office_facts.proofs.GivenFacts.{says}
 use Rattle.office_facts.proofs.SaidFacts.{said_at_place, told_by_release}

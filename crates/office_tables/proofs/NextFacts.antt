@@ -1,5 +1,5 @@
 -- What the statement on the least number of a sender shows, and what its row says.
-use Rattle.std.proofs.Common.{◌≡◌, ◌⊎◌, ◌≤◌, ◌<◌, inl, inr, ℕ, ℤ, pos, List, [], ◌∷◌, map, filter, filter_map, take, length, Bool, true, false, ◌&&◌, nat_eq, nat_le, nat_lt, is_some, None, Some, Option, Ok, Err, Result, IfOk, codes, refl, sym, ap, subst, ◌∙◌, arith}
+use Rattle.std.proofs.Common.{◌≡◌, ◌⊎◌, ◌≤◌, ◌<◌, inl, inr, ℕ, ℤ, pos, List, [], ◌∷◌, map, filter, filter_map, take, Bool, true, false, ◌&&◌, nat_eq, nat_le, nat_lt, is_some, None, Some, Option, Ok, Err, Result, IfOk, codes, refl, sym, ap, subst, ◌∙◌, arith}
 use Rattle.std.proofs.lemmas.Bool.Decides.{nat_tests}
 use Rattle.std.proofs.lemmas.Cmp.{tied_itself}
 use Rattle.std.proofs.lemmas.List.Sorted.{searchable_from_sorted, IsPermutation-sym}
@@ -20,15 +20,14 @@ use Rattle.sqlite_sql.specs.declared.ops.BinaryOp.TheVariants.{Compare}
 use Rattle.sqlite_sql.specs.declared.ops.CompareOp.TheVariants.{Ge}
 use Rattle.sqlite_sql.proofs.QueryLemmas.{output_cmp_total}
 use Rattle.sqlite.specs.Collation.TheVariants.{Binary}
-use Rattle.sqlite.specs.Ops.{binary, is_true, from_truth}
-use Rattle.sqlite.specs.Term.{Term, lit, col, op2}
-use Rattle.sqlite.specs.Query.{Query, Output, output, output_cmp, inner, end, matches, IsAnswer}
+use Rattle.sqlite.specs.Ops.{binary, is_true}
+use Rattle.sqlite.specs.Term.{lit, col, op2}
+use Rattle.sqlite.specs.Query.{Query, Output, output, output_cmp, IsAnswer}
 use Rattle.sqlite.specs.Command.TheVariants.{Select}
 use Rattle.sqlite.specs.Program.{overlay}
 use Rattle.sqlite.specs.State.{State, Shown}
 use Rattle.sqlite.specs.Effect.{Answers}
 use Rattle.sqlite.specs.Listing.{understood, reads_listing}
-use Rattle.sqlite.specs.Tree.{Trees}
 use Rattle.sqlite.proofs.Callers.{IsPlain, command_of, reads_as}
 use Rattle.sqlite_rules.specs.Lists.{Has}
 use Rattle.sqlite_rules.proofs.ListLemmas.{has_filtered, has_kept, contains_had}
@@ -38,9 +37,9 @@ use Rattle.office_keeper.specs.Content.{IsNextNumber}
 use Rattle.testing_tables.specs.Layout.{office_schema}
 use Rattle.testing_tables.specs.Texts.{next_text}
 use Rattle.testing_tables.specs.Tables.{letter_in, kept_rows}
-use Rattle.testing_tables.specs.TableSteps.{AreSmall, IsCrowded, IsLeast, IsOnlyNumber, ShowsLeast, is_from, letter_columns}
+use Rattle.testing_tables.specs.TableSteps.{AreSmall, IsCrowded, IsOnlyNumber, ShowsLeast, is_from, letter_columns}
 use Rattle.testing_tables.proofs.Compiled.{plain_query, equals}
-use Rattle.testing_tables.proofs.Answered.{passes, shown_of, picked, fused}
+use Rattle.testing_tables.proofs.Answered.{passes, picked}
 use Rattle.testing_tables.proofs.LetterFacts.{letter_parts, letter_of_parts, int_is}
 use Rattle.testing_tables.proofs.MailLemmas.{equal_is, truth_is, filter_same, has_permuted, empty_of, as_many}
 use Rattle.testing_tables.proofs.EntryMaps.{from_first, has_first}

@@ -1,12 +1,12 @@
 -- A change without an offender, in the words of its rows.
-use Rattle.std.specs.Prelude.{ℕ, zero, suc, ◌+◌, ◌<◌, ◌≤◌, ◌↔◌, ◌⊎◌, Bool, true, false, ◌&&◌, ◌||◌, not, List, [], ◌∷◌, Option, Some, None, map, filter, length, option_map}
+use Rattle.std.specs.Prelude.{ℕ, zero, suc, ◌+◌, ◌<◌, ◌≤◌, ◌↔◌, ◌⊎◌, Bool, true, false, ◌&&◌, ◌||◌, not, List, [], ◌∷◌, Option, None, map, filter, length, option_map}
 use Rattle.std.specs.List.{AllByRecursion, filter_map, cons_option, range_with_len}
 use Rattle.std.proofs.Common.{◌≡◌, refl, sym, ap, ◌∙◌, arith, ⊎_elim, inl, inr}
 use Rattle.std.proofs.lemmas.Bool.{false≢true}
 use Rattle.testing_model.specs.declared.suite.RowIn.{RowIn}
 use Rattle.testing_model.specs.declared.update.Offender.{Offender}
 use Rattle.testing_items.specs.Words.{Text, byte_cmp, least}
-use Rattle.testing_model.specs.Moves.{RowAnswer, is_row_of, is_watched_on, was_installable, judged_on, fails_on, first_failing, offender_on, first_of, offender_of}
+use Rattle.testing_model.specs.Moves.{RowAnswer, is_row_of, is_watched_on, was_installable, judged_on, fails_on, offender_on, first_of, offender_of}
 use Rattle.testing_laws.specs.MoveLaws.{IsUnbroken}
 use Rattle.testing_items.proofs.Each.{each-weaker}
 use Rattle.testing_model.proofs.Watching.{none_on, fails_none}

@@ -1,6 +1,6 @@
 -- Single moves go on until none is allowed.
-use Rattle.std.specs.Prelude.{ℕ, zero, suc, ◌+◌, ◌<◌, ◌≤◌, ◌⊎◌, Bool, true, false, cond, List, [], ◌∷◌, ◌++◌, Option, Some, None, find, length, Contains, is_some, get_or}
-use Rattle.std.specs.List.{AllByRecursion, before_first, after_first, position_or_len, slice_get}
+use Rattle.std.specs.Prelude.{ℕ, zero, suc, ◌+◌, ◌<◌, ◌≤◌, ◌⊎◌, Bool, true, false, cond, List, [], ◌∷◌, ◌++◌, Option, Some, None, find, length, is_some, get_or}
+use Rattle.std.specs.List.{AllByRecursion, before_first, after_first, position_or_len}
 use Rattle.std.proofs.Common.{◌≡◌, refl, sym, ap, ◌∙◌, subst, arith, ⊎_elim, inl, inr}
 use Rattle.std.proofs.lemmas.Bool.{false≢true, cases_lt}
 use Rattle.std.proofs.lemmas.List.{length-append}
@@ -11,7 +11,6 @@ use Rattle.std.proofs.lemmas.Option.{same_Some, slice_get-get_or, slice_get_past
 use Rattle.testing_model.specs.declared.facts.UploadIn.{UploadIn}
 use Rattle.testing_model.specs.declared.suite.RowIn.{RowIn}
 use Rattle.testing_model.specs.declared.excuse.Excuse.{Excuse}
-use Rattle.testing_model.specs.declared.update.Decision.{Decision}
 use Rattle.testing_model.specs.Suite.{Suite}
 use Rattle.testing_items.specs.Words.{Text}
 use Rattle.testing_model.specs.Updates.{Outcome, nothing, accepted, moved_alone, is_allowed_alone, single_moves}

@@ -1,7 +1,7 @@
 use Rattle.std.proofs.Common.{length, slice_index, sym, subst}
 use Rattle.testing_model.specs.Covered.{Covered}
 use Rattle.testing_model.specs.FactLists.{FactLists}
-use Rattle.testing_model.specs.KeptFacts.{KeptFacts, trimmed}
+use Rattle.testing_model.specs.KeptFacts.{KeptFacts}
 use Rattle.testing_model.specs.StandsFor.{StandsFor}
 use Rattle.testing_model.specs.Suite.{Suite}
 use Rattle.testing_laws.proofs.BesideTesting.{trim_keeps}

@@ -1,4 +1,4 @@
-use Rattle.std.proofs.Common.{◌≡◌, Some, None, Err, IfOk, subst}
+use Rattle.std.proofs.Common.{◌≡◌, Some, None, IfOk, subst}
 use Rattle.sqlite.specs.Effect.{Database}
 use Rattle.sqlite.specs.Held.{state}
 use Rattle.office_keeper.specs.Content.{letters_within}

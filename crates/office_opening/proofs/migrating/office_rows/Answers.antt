@@ -1,7 +1,6 @@
-use Rattle.std.proofs.Common.{◌∷◌, [], List, pos, map, filter}
+use Rattle.std.proofs.Common.{◌∷◌, [], List, map}
 use Rattle.std.specs.List.Sorted.{IsPermutation}
 use Rattle.sqlite.specs.Order.{Row}
-use Rattle.sqlite.specs.declared.types.Value.TheVariants.{Int}
 use Rattle.sqlite.specs.Held.{state}
 use Rattle.office_tables.specs.Texts.{office_text}
 use Rattle.office_tables.specs.TableSteps.{office_columns}

@@ -1,6 +1,5 @@
 use Rattle.std.proofs.Common.{rules, ◌≡◌, ◌++◌, ◌∷◌, [], List, ℕ, ap, ◌∙◌}
 use Rattle.std.specs.Prelude.{codes, decimal}
-use Rattle.office_keeper.specs.declared.values.Letter.{Letter}
 use Rattle.office_orders.specs.Replies.{name_at}
 use Rattle.office_rules.specs.Hints.{hint_text, release}
 use Rattle.office_rules.proofs.HintFacts.{in_pieces}

@@ -1,7 +1,5 @@
-use Rattle.std.proofs.Common.{◌≡◌, ◌+◌, ◌++◌, ◌∷◌, [], ℕ, List, None, Option, Some, drop, length, get_or, refl, sym, ap, subst, ◌∙◌, arith}
-use Rattle.office_mail.specs.declared.message.MailFault.{MailFault}
-use Rattle.office_keeper.specs.declared.values.Letter.{Letter}
-use Rattle.office_rules.specs.Hints.{first_refused, hint_letters, hint_refusal}
+use Rattle.std.proofs.Common.{◌≡◌, ◌+◌, ◌++◌, ◌∷◌, [], ℕ, List, None, drop, sym, ap, ◌∙◌, arith}
+use Rattle.office_rules.specs.Hints.{hint_letters, hint_refusal}
 use Rattle.office_rules.proofs.HintFacts.{hint_next, letters_all, letters_later, refused_here, refused_later, refused_none}
 use Rattle.office_rules.proofs.hints.take_hints.Goals as goal
 

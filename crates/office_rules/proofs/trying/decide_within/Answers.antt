@@ -1,4 +1,4 @@
-use Rattle.std.proofs.Common.{◌≡◌, ℕ, Result, IfOk, slice_index, sym, subst}
+use Rattle.std.proofs.Common.{◌≡◌, ℕ, IfOk, slice_index, subst}
 use Rattle.std.proofs.lemmas.Result.{IfOk-weaker}
 use Rattle.testing_laws.specs.Covered.{Covered}
 use Rattle.testing_laws.specs.StandsFor.{StandsFor}

@@ -1,7 +1,6 @@
-use Rattle.std.proofs.Common.{◌≡◌, ◌≤◌, ℕ, List, Option, None, Some, Result, IfOk, IfSome, slice_index, length, refl, sym, ap, subst, ◌∙◌}
+use Rattle.std.proofs.Common.{◌≡◌, ◌≤◌, ℕ, List, Option, None, Some, IfOk, IfSome, slice_index, length, refl, sym, ap, subst, ◌∙◌}
 use Rattle.std.proofs.lemmas.Result.{IfOk-weaker}
 use Rattle.jiff_core.specs.declared.civil.date.Date.{Date}
-use Rattle.office_mail.specs.declared.message.RunOrder.{RunOrder}
 use Rattle.office_mail.specs.Runs.{cover_of, latest_day, orders_to}
 use Rattle.office_keeper.specs.Content.{Content}
 use Rattle.office_facts.specs.declared.covered.KnownFacts.{KnownFacts}

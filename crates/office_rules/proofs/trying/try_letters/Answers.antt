@@ -1,4 +1,4 @@
-use Rattle.std.proofs.Common.{◌≡◌, ◌+◌, ℕ, List, length, slice_index, sym, ap, ◌∙◌, arith}
+use Rattle.std.proofs.Common.{◌≡◌, ◌+◌, ℕ, length, slice_index, ap, ◌∙◌, arith}
 use Rattle.office_keeper.specs.Content.{Content}
 use Rattle.office_orders.proofs.ReadyCount.{ready_bound}
 use Rattle.office_rules.specs.Hints.{release}

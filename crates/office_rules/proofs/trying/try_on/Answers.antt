@@ -1,4 +1,4 @@
-use Rattle.std.proofs.Common.{◌≡◌, ◌++◌, ℕ, List, None, Some, slice_index, length, sym, ap, ◌∙◌}
+use Rattle.std.proofs.Common.{◌≡◌, ◌++◌, ℕ, List, slice_index, length, sym, ap, ◌∙◌}
 use Rattle.office_keeper.specs.Content.{Content}
 use Rattle.office_keeper.specs.declared.values.Letter.{Letter}
 use Rattle.office_rules.specs.Hints.{first_refused, hint_letters, release}

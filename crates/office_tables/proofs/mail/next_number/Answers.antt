@@ -1,7 +1,5 @@
-use Rattle.std.proofs.Common.{◌≡◌, [], ◌∷◌, List, IfOk, ap, subst}
-use Rattle.sqlite.specs.Order.{Row}
+use Rattle.std.proofs.Common.{◌≡◌, [], ◌∷◌}
 use Rattle.sqlite.specs.Held.{state}
-use Rattle.testing_tables.specs.TableSteps.{IsOnlyNumber}
 use Rattle.office_tables.proofs.NextFacts.{next_found, next_crowded}
 use Rattle.office_tables.proofs.mail.next_number.Goals as goal
 
