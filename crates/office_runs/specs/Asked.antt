@@ -4,10 +4,12 @@ use Rattle.std.specs.Prelude.{ℕ, List, Option, None, IfSome}
 use Rattle.std.specs.List.{All}
 use Rattle.office_mail.specs.Kept.{Kept}
 use Rattle.office_keeper.specs.Content.{IsNextNumber}
+use Rattle.office_runs.specs.declared.asked.Asked.{Asked}
 
 -- where a sender has a number, all its numbers from there on are free
 abbrev pub IsFreeFrom : Kept → ℕ → Option ℕ → Type 0
 IsFreeFrom kept sender from = IfSome from (λ n. IsNextNumber kept sender n None)
 
-abbrev pub AreFreeFrom : Kept → List (ℕ × Option ℕ) → Type 0
-AreFreeFrom kept asked = All (λ a. IsFreeFrom kept a.0 a.1) asked
+-- and so has each that was asked
+abbrev pub AreFreeFrom : Kept → List Asked → Type 0
+AreFreeFrom kept asked = All (λ a. IsFreeFrom kept a.sender a.free_from) asked

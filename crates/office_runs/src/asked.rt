@@ -12,20 +12,25 @@ ghost use Rattle.office_runs.specs.Asked.{AreFreeFrom, IsFreeFrom};
 use office_keeper::{Keeper, MailText};
 use office_orders::{StoreFault, stored};
 
-/// A sender that was asked, and from which number on its numbers are free, if they are known to be.
-pub type Asked = (u32, Option<u32>);
+/// What a sender answered that was asked for its next number: from which number on its numbers are free, if they are known
+/// to be.
+#[derive(Clone, Copy)]
+pub struct Asked {
+    pub sender: u32,
+    pub free_from: Option<u32>,
+}
 
 /// Whether a sender was asked.
 fn is_asked(asked: &[Asked], sender: u32) -> bool {
-    asked.iter().any(|one| one.0 == sender)
+    asked.iter().any(|one| one.sender == sender)
 }
 
 /// Whether a number is known to be free by what a sender was asked.
 fn is_free_by(one: &Asked, sender: u32, number: u32) -> bool
-    ensures { (kept : Kept) → IsFreeFrom kept one.now.0 one.now.1 → IsTrue result → get kept (sender, number) ≡ None }
+    ensures { (kept : Kept) → IsFreeFrom kept one.now.sender one.now.free_from → IsTrue result → get kept (sender, number) ≡ None }
 {
-    match one.1 {
-        Some(from) => one.0 == sender && from <= number,
+    match one.free_from {
+        Some(from) => one.sender == sender && from <= number,
         None => false,
     }
 }
@@ -66,7 +71,10 @@ fn ask<K: Keeper>(
         return Ok(());
     }
     let next = stored::next_number(keeper, sender, number)?;
-    asked.push((sender, free_from(next, number)))?;
+    asked.push(Asked {
+        sender,
+        free_from: free_from(next, number),
+    })?;
     Ok(())
 }
 
