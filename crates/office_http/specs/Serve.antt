@@ -191,6 +191,11 @@ kept_by s Deliver body (Some f) = s.kept
 kept_by s Settle body fault = s.kept
 kept_by s Try body fault = s.kept
 
+-- the texts that a request delivers
+abbrev pub delivered_by : Option (Action × List ℕ) → Option StoreFault → List (List ℕ)
+delivered_by (Some (Deliver, body)) None = body ∷ []
+delivered_by _ _ = []
+
 -- whether a POST settles: a delivery that is held, and a settle
 abbrev pub settles : OfficeState → Action → List ℕ → Option StoreFault → Bool
 settles s Deliver body None = is_ok (answer_to s.setup s.kept body)

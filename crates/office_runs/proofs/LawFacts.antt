@@ -32,7 +32,7 @@ same_office setup xs ys a b x y same size =
       x.office.testing_is ∙ ap (λ (m : Kept). testing_after setup m (length a.reports)) mail ∙ ap (testing_after setup b.kept) size ∙ sym y.office.testing_is,
     )
 
-same_count : (setup : Lists) (kept : Kept) (n m : ℕ) → IsReadyCount setup kept n → IsReadyCount setup kept m → n ≡ m
+pub same_count : (setup : Lists) (kept : Kept) (n m : ℕ) → IsReadyCount setup kept n → IsReadyCount setup kept m → n ≡ m
 same_count setup kept n m h l =
     let low = l.none_above n h.holds in
     let high = h.none_above m l.holds in
@@ -44,7 +44,7 @@ settled_office setup xs ys a b x y same all every =
     same_office setup xs ys a b x y same (same_count setup b.kept (length a.reports) (length b.reports) all_there every)
 
 -- the reports of more runs begin with those of fewer
-more_reports : (setup : Lists) (kept : Kept) (k d : ℕ) → (more : List Reports) × (reports_to setup kept (k + d) ≡ reports_to setup kept k ++ more)
+pub more_reports : (setup : Lists) (kept : Kept) (k d : ℕ) → (more : List Reports) × (reports_to setup kept (k + d) ≡ reports_to setup kept k ++ more)
 more_reports setup kept k zero = let none : k + 0 ≡ k = omega arith in ([], ap (reports_to setup kept) none ∙ sym (append-nil (reports_to setup kept k)))
 more_reports setup kept k (suc d) =
     let before = more_reports setup kept k d in

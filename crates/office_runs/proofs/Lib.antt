@@ -2,6 +2,7 @@ pub mod CarryFacts
 pub mod CountSteps
 pub mod FinishFacts
 pub mod GatherFacts
+pub mod HistoryFacts
 pub mod KeepingFacts
 pub mod LawFacts
 pub mod MigratedFacts

@@ -1,8 +1,8 @@
 //! What is true of every store, and of every office whatever mail comes and in whatever order.
-ghost use Rattle.std.specs.Prelude.{◌≡◌, ◌+◌, ◌≤◌, ◌↔◌, ℕ, List, [], length, Contains, Some, None};
+ghost use Rattle.std.specs.Prelude.{◌≡◌, ◌+◌, ◌-◌, ◌≤◌, ◌↔◌, ℕ, List, [], ◌∷◌, ◌++◌, true, length, Contains, Some, None};
 ghost use Rattle.std.specs.FinMap.{get};
-ghost use Rattle.office_mail.specs.Kept.{Kept, Within};
-ghost use Rattle.office_mail.specs.Laws.{SameTexts};
+ghost use Rattle.office_mail.specs.Kept.{Kept, Within, kept_from};
+ghost use Rattle.office_mail.specs.Laws.{OneText, SameTexts};
 ghost use Rattle.office_mail.specs.Lists.{Lists};
 ghost use Rattle.office_mail.specs.Runs.{IsReady, IsReadyCount, order_at};
 ghost use Rattle.office_mail.specs.Setup.{count_of};
@@ -11,6 +11,7 @@ ghost use Rattle.office_setup.specs.declared.setup.Role.TheVariants.{Release};
 ghost use Rattle.office_keeper.specs.Content.{Content, item_from_one, no_content};
 ghost use Rattle.office_keeper.specs.LastDelays.{GetsLast};
 ghost use Rattle.office_orders.specs.declared.waiting_lines.Lack.{Lack};
+ghost use Rattle.office_runs.specs.History.{Step, Looked, Settled, Leads, IsByRules, Agree, coming, is_settled, texts_in};
 ghost use Rattle.office_runs.specs.Laws.{RunsStand, TookTexts};
 ghost use Rattle.office_runs.specs.Migrated.{IsOfficeBefore};
 ghost use Rattle.office_facts.specs.Outcome.{outcome_of, reports_to};
@@ -24,9 +25,31 @@ pub fn empty_is_sound<K: Keeper>()
     ensures { (store : K) → K.is_legible store → K.content store ≡ no_content → IsSound K.Keeper store }
 {}
 
-/// The headline: of two offices to which the same well-formed texts came, in any order and with any repeats,
-/// and no sender gave one number two texts, each run that both have finished has the same two reports.
+/// The headline: after any list of deliveries, with losses, repeats and reorderings, in which no sender gives one number two
+/// texts, testing and both reports of every finished run are what the promotion rules give for that run's covered messages,
+/// each taken once in its sender's order; a settled office has finished exactly the ready runs; only finishing a run changes
+/// testing. A list of steps is any history: deliveries, settles and questions from an empty office on.
 pub fn headline()
+    ensures rules { (setup : Lists) (steps : List Step) (office : Content) → Leads setup no_content steps office → IsByRules setup (texts_in steps) office }
+    // Neither order nor repeats matter: offices to which the same texts came agree.
+    ensures order { (setup : Lists) (xs ys : List Step) (a b : Content) → Leads setup no_content xs a → Leads setup no_content ys b → OneText setup (texts_in xs) → SameTexts setup (texts_in xs) (texts_in ys) → Agree xs ys a b }
+    ensures settled { (setup : Lists) (steps : List Step) (office : Content) → Leads setup no_content steps office → is_settled steps ≡ true → IsReadyCount setup office.kept (length office.reports) }
+    ensures only { (setup : Lists) (steps : List Step) (old new : Content) → Leads setup old steps new → RunsStand old new }
+{}
+
+/// What a call leads to, and then another, the two lead to together; a call that changes nothing is a step too.
+pub fn steps_follow()
+    ensures twice { (setup : Lists) (xs ys : List Step) (a b c : Content) → Leads setup a xs b → Leads setup b ys c → Leads setup a (xs ++ ys) c }
+    ensures looked { (setup : Lists) (old new : Content) → new ≡ old → Leads setup old (Looked ∷ []) new }
+    // Whatever takes one office to another with these texts more and no run less, as a whole replay does, is such steps.
+    ensures came { (setup : Lists) (texts : List (List ℕ)) (old new : Content) → IsOffice setup old → IsOffice setup new → new.kept ≡ kept_from setup old.kept texts → length old.reports ≤ length new.reports → Leads setup old (coming texts (length new.reports - length old.reports) Looked) new }
+    // The last of them is a settle that answered Ok, if exactly the ready runs are finished.
+    ensures settled { (setup : Lists) (texts : List (List ℕ)) (old new : Content) → IsOffice setup old → IsOffice setup new → new.kept ≡ kept_from setup old.kept texts → length old.reports ≤ length new.reports → IsReadyCount setup new.kept (length new.reports) → Leads setup old (coming texts (length new.reports - length old.reports) Settled) new }
+{}
+
+/// Of two offices to which the same well-formed texts came, in any order and with any repeats,
+/// and no sender gave one number two texts, each run that both have finished has the same two reports.
+pub fn same_texts()
     ensures each { (setup : Lists) (xs ys : List (List ℕ)) (a b : Content) (k : ℕ) → TookTexts setup xs a → TookTexts setup ys b → SameTexts setup xs ys → k ≤ length a.reports → k ≤ length b.reports → item_from_one k a.reports ≡ item_from_one k b.reports }
     // Where as many runs are finished in both, all reports are the same, and so is testing.
     ensures same { (setup : Lists) (xs ys : List (List ℕ)) (a b : Content) → TookTexts setup xs a → TookTexts setup ys b → SameTexts setup xs ys → length a.reports ≡ length b.reports → (a.reports ≡ b.reports) × (a.testing ≡ b.testing) }

@@ -1,7 +1,7 @@
 //! The office: what it takes, finishes and reports.
 #![tactic(auto, using(office_orders::proofs::LastFacts::lasting))]
 
-ghost use Rattle.std.specs.Prelude.{is_ok, ◌≡◌, ◌+◌, ◌≤◌, ◌<◌, ◌∷◌, [], None, IfOk, IfSome, OnOk, OnErr, length};
+ghost use Rattle.std.specs.Prelude.{is_ok, ◌≡◌, ◌+◌, ◌-◌, ◌≤◌, ◌<◌, ◌∷◌, [], None, IfOk, IfSome, OnOk, OnErr, length};
 ghost use Rattle.std.specs.FinMap.{get};
 ghost use Rattle.std.specs.Option.{option_map};
 ghost use Rattle.testing_laws.specs.Watched.{AllWatchedWork};
@@ -10,6 +10,7 @@ ghost use Rattle.office_mail.specs.Runs.{IsReady, IsReadyCount};
 ghost use Rattle.office_keeper.specs.Content.{IsNextNumber};
 ghost use Rattle.office_keeper.specs.Provenance.{AreOwnTexts};
 ghost use Rattle.office_orders.specs.Counted.{Counted, CountedDelivery};
+ghost use Rattle.office_runs.specs.History.{Leads, deliveries, delivery, settling};
 ghost use Rattle.office_runs.specs.Together.{AreHeldHere, answers_to};
 ghost use Rattle.office_orders.specs.StaysTrusted.{StaysTrusted};
 ghost use Rattle.office_facts.specs.Outcome.{testing_after, testing_text};
@@ -135,6 +136,7 @@ impl<K: Keeper> Office<K> {
     /// changes, also where memory runs out or the store fails.
     pub fn deliver(&mut self, text: &[u8]) -> Result<Held, DeliverFault>
         // The answer is a function of the text and of what is kept, unless memory ran out or the store failed.
+        ensures step { K.is_trusted self.new → IsSound K.Keeper self.old → Leads (K.setup self.old) (K.content self.old) (delivery text.now result ∷ []) (K.content self.new) }
         ensures answer { K.is_trusted self.new → IsSound K.Keeper self.old → AnswersDelivery result (answer_to (K.setup self.old) (K.content self.old).kept text.now) }
         ensures kept { K.is_trusted self.new → IsSound K.Keeper self.old → OnOk result ((K.content self.new).kept ≡ kept_from (K.setup self.old) (K.content self.old).kept (text.now ∷ [])) }
         ensures finished { K.is_trusted self.new → IsSound K.Keeper self.old → (state_of K.Keeper self.new).finished ≡ (state_of K.Keeper self.old).finished }
@@ -169,6 +171,7 @@ impl<K: Keeper> Office<K> {
     /// the store keeps them best one by one. Then nothing changes, and neither does it where memory runs out or the store
     /// fails.
     pub fn deliver_together(&mut self, texts: &[MailText]) -> Result<Option<Vec<Reply>>, StoreFault>
+        ensures steps { K.is_trusted self.new → IsSound K.Keeper self.old → IfOk result (λ replies. IfSome replies (λ rs. Leads (K.setup self.old) (K.content self.old) (deliveries texts.now rs.items) (K.content self.new))) }
         ensures answers { K.is_trusted self.new → IsSound K.Keeper self.old → IfOk result (λ replies. IfSome replies (λ rs. rs.items ≡ answers_to (K.setup self.old) (K.content self.old).kept texts.now)) }
         ensures kept { K.is_trusted self.new → IsSound K.Keeper self.old → IfOk result (λ replies. IfSome replies (λ rs. (K.content self.new).kept ≡ kept_from (K.setup self.old) (K.content self.old).kept texts.now)) }
         ensures none { K.is_trusted self.new → IsSound K.Keeper self.old → IfOk result (λ replies. replies ≡ None → K.content self.new ≡ K.content self.old) }
@@ -198,6 +201,7 @@ impl<K: Keeper> Office<K> {
     /// Finishes the runs that are ready, in order. `Ok` means that none is left. It fails for want of
     /// memory or of the store alone.
     pub fn settle(&mut self) -> Result<Progress, StoreFault>
+        ensures steps { K.is_trusted self.new → IsSound K.Keeper self.old → Leads (K.setup self.old) (K.content self.old) (settling (length (K.content self.new).reports - length (K.content self.old).reports) result) (K.content self.new) }
         ensures ready { K.is_trusted self.new → IsSound K.Keeper self.old → IfOk result (λ progress. IsReadyCount (K.setup self.old) (K.content self.old).kept progress.ready) }
         ensures finished { K.is_trusted self.new → IsSound K.Keeper self.old → IfOk result (λ progress. (progress.finished ≡ progress.ready) × ((state_of K.Keeper self.new).finished ≡ progress.ready)) }
 

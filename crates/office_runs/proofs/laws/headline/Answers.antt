@@ -1,11 +1,14 @@
-use Rattle.office_runs.proofs.LawFacts.{each_report, same_office, settled_office}
+use Rattle.office_runs.proofs.HistoryFacts.{agree, by_rules_all, leads_stand, settled_all}
 use Rattle.office_runs.proofs.laws.headline.Goals as goal
 
-pub returns-clause-each : goal.returns-clause-each
-returns-clause-each c = each_report
+pub returns-clause-rules : goal.returns-clause-rules
+returns-clause-rules c = by_rules_all
 
-pub returns-clause-same : goal.returns-clause-same
-returns-clause-same c = same_office
+pub returns-clause-order : goal.returns-clause-order
+returns-clause-order c = agree
 
 pub returns-clause-settled : goal.returns-clause-settled
-returns-clause-settled c = settled_office
+returns-clause-settled c = settled_all
+
+pub returns-clause-only : goal.returns-clause-only
+returns-clause-only c = leads_stand

@@ -1,7 +1,11 @@
-use Rattle.std.proofs.Common.{length, ap, ◌∙◌, arith}
+use Rattle.std.proofs.Common.{IfOk, IfSome, length, sym, ap, subst, ◌∙◌, arith}
 use Rattle.office_keeper.specs.Content.{Content}
+use Rattle.office_mail.specs.Lists.{Lists}
+use Rattle.office_facts.specs.State.{IsSound}
+use Rattle.office_runs.specs.History.{Leads, deliveries}
 use Rattle.office_orders.proofs.CountFacts.{IsCounted-later}
 use Rattle.office_runs.proofs.CountSteps.{together_kept}
+use Rattle.office_runs.proofs.HistoryFacts.{together}
 use Rattle.office_runs.proofs.KeepingFacts.{if_known-later}
 use Rattle.office_runs.proofs.office.Office.deliver_together.Goals as goal
 
@@ -18,3 +22,14 @@ invariant_of-self g c =
       λ trusted. if_known-later c.self.inside.setup old new c.self.inside.known (done.within trusted) (done.reports trusted) (done.facts trusted) (c.self.invariant.2 (done.before trusted)),
       done.cache c.self.invariant.3,
     )
+
+pub returns-clause-steps : goal.returns-clause-steps
+returns-clause-steps g c = λ trusted.
+    let keeper = g.K.Keeper in
+    let new : Content = keeper.content c.keep_texts-replies.new.keeper in
+    let done = c.keep_texts-replies.ensures in
+    let answer = c.keep_texts-replies.result in
+    subst (λ v. IsSound keeper v → IfOk answer (λ replies. IfSome replies (λ rs. Leads (keeper.setup v) (keeper.content v) (deliveries c.args.texts.now rs.items) new))) c.self.view_is (λ sound.
+    let old : Content = keeper.content c.self.inside.keeper in
+    subst (λ (s : Lists). IfOk answer (λ replies. IfSome replies (λ rs. Leads s old (deliveries c.args.texts.now rs.items) new))) (sym c.self.invariant.0)
+    (together c.self.inside.setup c.args.texts.now answer old new (done.answers trusted) (done.kept trusted) (done.reports trusted) (done.testing trusted sound.0) (done.facts trusted)))
