@@ -28,6 +28,7 @@ pub mod FactShows
 pub mod TakeLemmas
 pub mod FactWrites
 pub mod InsideLemmas
+pub mod WithinLemmas
 pub mod FactMoves
 pub mod DifferenceLemmas
 pub mod EntrySays

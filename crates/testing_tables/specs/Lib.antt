@@ -11,3 +11,4 @@ pub mod Legible
 pub mod FactSteps
 pub mod Differences
 pub mod Loaded
+pub mod StepsWithin

@@ -1,12 +1,9 @@
 //! Changes of the tables of facts.
-ghost use Rattle.std.specs.Prelude.{◌≡◌, ◌≢◌, ◌≤◌, ◌<◌, Err, map, filter, take, length, IfOk, OnOk, OnErr};
+ghost use Rattle.std.specs.Prelude.{◌≡◌, ◌≢◌, ◌≤◌, ◌<◌, Err, map, filter, take, length, IfOk};
 ghost use Rattle.std.specs.List.{AllByRecursion, list_all};
 ghost use Rattle.std.specs.List.Sorted.{IsPermutation};
-ghost use Rattle.sqlite.specs.Held.{state};
 ghost use Rattle.sqlite.specs.Values.{bound};
-ghost use Rattle.sqlite.specs.State.{HasCleanDisk};
-ghost use Rattle.testing_tables.specs.Tables.{IsTrusted, Lasts};
-ghost use Rattle.testing_tables.specs.TableSteps.{IsInside, WentOn};
+ghost use Rattle.testing_tables.specs.StepsWithin.{StepsWithin, BeginsInside, Yields, LeavesAll};
 ghost use Rattle.testing_tables.specs.FactSteps.{is_fact, is_delays, id_columns, IsFound, TakesFact, TakesDelays, AddsFact, AddsFacts, AddsDelays, fact_parameters, FitsFact, is_no_delays, DropsFact, DropsDelays, DropsOne, AddsOne, DropsEach, AddsEach};
 
 use crate::rowids::{alone, only_id};
@@ -23,15 +20,10 @@ fn fact_ids<S: Alter>(
     number: u32,
     place: u32,
 ) -> Result<Vec<Row>, Error>
-    requires inside { IsTrusted (state S.Store tx.old.conn.now) → IsInside (state S.Store tx.old.conn.now) }
-    ensures same_reference { tx.new.conn.ghost_name ≡ tx.old.conn.ghost_name }
-    ensures before { IsTrusted (state S.Store tx.new.conn.now) → IsTrusted (state S.Store tx.old.conn.now) }
-    ensures lasts { Lasts (state S.Store tx.old.conn.now) (state S.Store tx.new.conn.now) }
-    ensures open { HasCleanDisk (state S.Store tx.new.conn.now) → IsTrusted (state S.Store tx.old.conn.now) → OnOk result (IsTrusted (state S.Store tx.new.conn.now)) }
-    ensures on { IsTrusted (state S.Store tx.new.conn.now) → OnOk result (WentOn (state S.Store tx.old.conn.now) (state S.Store tx.new.conn.now)) }
-    ensures same { IsTrusted (state S.Store tx.new.conn.now) → OnOk result ((state S.Store tx.new.conn.now).now ≡ (state S.Store tx.old.conn.now).now) }
-    ensures rows { IsTrusted (state S.Store tx.new.conn.now) → IfOk result (λ rows. IsPermutation (map id_columns (filter (is_fact (record { kind = kind; sender = sender; number = number; place = place })) ((state S.Store tx.old.conn.now).now.trees 8))) rows.items) }
-    ensures err { IsTrusted (state S.Store tx.new.conn.now) → OnErr result ((state S.Store tx.new.conn.now).committed ≡ (state S.Store tx.old.conn.now).committed) }
+    requires inside { BeginsInside S.Store tx.old.conn }
+    ensures steps { StepsWithin S.Store tx.old.conn tx.new.conn result }
+    ensures same { LeavesAll S.Store tx.old.conn tx.new.conn result }
+    ensures rows { Yields S.Store tx.old.conn tx.new.conn result (λ db _ rows. IsPermutation (map id_columns (filter (is_fact (record { kind = kind; sender = sender; number = number; place = place })) (db 8))) rows.items) }
 {
     tx.query_all(
         "SELECT rowid FROM fact WHERE kind = ?1 AND sender = ?2 AND number = ?3 AND place = ?4",
@@ -41,15 +33,10 @@ fn fact_ids<S: Alter>(
 
 /// The rowids of the delays under a number, in any order.
 fn delays_ids<S: Alter>(tx: &mut Transaction<'_, S>, number: u32) -> Result<Vec<Row>, Error>
-    requires inside { IsTrusted (state S.Store tx.old.conn.now) → IsInside (state S.Store tx.old.conn.now) }
-    ensures same_reference { tx.new.conn.ghost_name ≡ tx.old.conn.ghost_name }
-    ensures before { IsTrusted (state S.Store tx.new.conn.now) → IsTrusted (state S.Store tx.old.conn.now) }
-    ensures lasts { Lasts (state S.Store tx.old.conn.now) (state S.Store tx.new.conn.now) }
-    ensures open { HasCleanDisk (state S.Store tx.new.conn.now) → IsTrusted (state S.Store tx.old.conn.now) → OnOk result (IsTrusted (state S.Store tx.new.conn.now)) }
-    ensures on { IsTrusted (state S.Store tx.new.conn.now) → OnOk result (WentOn (state S.Store tx.old.conn.now) (state S.Store tx.new.conn.now)) }
-    ensures same { IsTrusted (state S.Store tx.new.conn.now) → OnOk result ((state S.Store tx.new.conn.now).now ≡ (state S.Store tx.old.conn.now).now) }
-    ensures rows { IsTrusted (state S.Store tx.new.conn.now) → IfOk result (λ rows. IsPermutation (map id_columns (filter (is_delays number) ((state S.Store tx.old.conn.now).now.trees 10))) rows.items) }
-    ensures err { IsTrusted (state S.Store tx.new.conn.now) → OnErr result ((state S.Store tx.new.conn.now).committed ≡ (state S.Store tx.old.conn.now).committed) }
+    requires inside { BeginsInside S.Store tx.old.conn }
+    ensures steps { StepsWithin S.Store tx.old.conn tx.new.conn result }
+    ensures same { LeavesAll S.Store tx.old.conn tx.new.conn result }
+    ensures rows { Yields S.Store tx.old.conn tx.new.conn result (λ db _ rows. IsPermutation (map id_columns (filter (is_delays number) (db 10))) rows.items) }
 {
     tx.query_all(
         "SELECT id FROM fact_delays WHERE number = ?1",
@@ -59,28 +46,18 @@ fn delays_ids<S: Alter>(tx: &mut Transaction<'_, S>, number: u32) -> Result<Vec<
 
 /// Takes the facts with a rowid out, and counts them.
 fn take_fact<S: Alter>(tx: &mut Transaction<'_, S>, id: i64) -> Result<usize, Error>
-    requires inside { IsTrusted (state S.Store tx.old.conn.now) → IsInside (state S.Store tx.old.conn.now) }
-    ensures same_reference { tx.new.conn.ghost_name ≡ tx.old.conn.ghost_name }
-    ensures before { IsTrusted (state S.Store tx.new.conn.now) → IsTrusted (state S.Store tx.old.conn.now) }
-    ensures lasts { Lasts (state S.Store tx.old.conn.now) (state S.Store tx.new.conn.now) }
-    ensures open { HasCleanDisk (state S.Store tx.new.conn.now) → IsTrusted (state S.Store tx.old.conn.now) → OnOk result (IsTrusted (state S.Store tx.new.conn.now)) }
-    ensures on { IsTrusted (state S.Store tx.new.conn.now) → OnOk result (WentOn (state S.Store tx.old.conn.now) (state S.Store tx.new.conn.now)) }
-    ensures taken { IsTrusted (state S.Store tx.new.conn.now) → IfOk result (λ count. TakesFact (state S.Store tx.old.conn.now).now.trees (state S.Store tx.new.conn.now).now.trees id count) }
-    ensures err { IsTrusted (state S.Store tx.new.conn.now) → OnErr result ((state S.Store tx.new.conn.now).committed ≡ (state S.Store tx.old.conn.now).committed) }
+    requires inside { BeginsInside S.Store tx.old.conn }
+    ensures steps { StepsWithin S.Store tx.old.conn tx.new.conn result }
+    ensures taken { Yields S.Store tx.old.conn tx.new.conn result (λ db next count. TakesFact db next id count) }
 {
     tx.execute("DELETE FROM fact WHERE rowid = ?1", params![id])
 }
 
 /// Takes the delays with a rowid out, and counts them.
 fn take_delays<S: Alter>(tx: &mut Transaction<'_, S>, id: i64) -> Result<usize, Error>
-    requires inside { IsTrusted (state S.Store tx.old.conn.now) → IsInside (state S.Store tx.old.conn.now) }
-    ensures same_reference { tx.new.conn.ghost_name ≡ tx.old.conn.ghost_name }
-    ensures before { IsTrusted (state S.Store tx.new.conn.now) → IsTrusted (state S.Store tx.old.conn.now) }
-    ensures lasts { Lasts (state S.Store tx.old.conn.now) (state S.Store tx.new.conn.now) }
-    ensures open { HasCleanDisk (state S.Store tx.new.conn.now) → IsTrusted (state S.Store tx.old.conn.now) → OnOk result (IsTrusted (state S.Store tx.new.conn.now)) }
-    ensures on { IsTrusted (state S.Store tx.new.conn.now) → OnOk result (WentOn (state S.Store tx.old.conn.now) (state S.Store tx.new.conn.now)) }
-    ensures taken { IsTrusted (state S.Store tx.new.conn.now) → IfOk result (λ count. TakesDelays (state S.Store tx.old.conn.now).now.trees (state S.Store tx.new.conn.now).now.trees id count) }
-    ensures err { IsTrusted (state S.Store tx.new.conn.now) → OnErr result ((state S.Store tx.new.conn.now).committed ≡ (state S.Store tx.old.conn.now).committed) }
+    requires inside { BeginsInside S.Store tx.old.conn }
+    ensures steps { StepsWithin S.Store tx.old.conn tx.new.conn result }
+    ensures taken { Yields S.Store tx.old.conn tx.new.conn result (λ db next count. TakesDelays db next id count) }
 {
     tx.execute("DELETE FROM fact_delays WHERE id = ?1", params![id])
 }
@@ -93,14 +70,9 @@ fn add_fact<S: Alter>(
     number: u32,
     place: u32,
 ) -> Result<usize, Error>
-    requires inside { IsTrusted (state S.Store tx.old.conn.now) → IsInside (state S.Store tx.old.conn.now) }
-    ensures same_reference { tx.new.conn.ghost_name ≡ tx.old.conn.ghost_name }
-    ensures before { IsTrusted (state S.Store tx.new.conn.now) → IsTrusted (state S.Store tx.old.conn.now) }
-    ensures lasts { Lasts (state S.Store tx.old.conn.now) (state S.Store tx.new.conn.now) }
-    ensures open { HasCleanDisk (state S.Store tx.new.conn.now) → IsTrusted (state S.Store tx.old.conn.now) → OnOk result (IsTrusted (state S.Store tx.new.conn.now)) }
-    ensures on { IsTrusted (state S.Store tx.new.conn.now) → OnOk result (WentOn (state S.Store tx.old.conn.now) (state S.Store tx.new.conn.now)) }
-    ensures added { IsTrusted (state S.Store tx.new.conn.now) → OnOk result (AddsFact (state S.Store tx.old.conn.now).now.trees (state S.Store tx.new.conn.now).now.trees (record { kind = kind; sender = sender; number = number; place = place })) }
-    ensures err { IsTrusted (state S.Store tx.new.conn.now) → OnErr result ((state S.Store tx.new.conn.now).committed ≡ (state S.Store tx.old.conn.now).committed) }
+    requires inside { BeginsInside S.Store tx.old.conn }
+    ensures steps { StepsWithin S.Store tx.old.conn tx.new.conn result }
+    ensures added { Yields S.Store tx.old.conn tx.new.conn result (λ db next _. AddsFact db next (record { kind = kind; sender = sender; number = number; place = place })) }
 {
     tx.execute(
         "INSERT INTO fact (kind, sender, number, place) VALUES (?1, ?2, ?3, ?4)",
@@ -110,14 +82,9 @@ fn add_fact<S: Alter>(
 
 /// Adds the number of the last delays.
 pub fn add_delays<S: Alter>(tx: &mut Transaction<'_, S>, number: u32) -> Result<usize, Error>
-    requires inside { IsTrusted (state S.Store tx.old.conn.now) → IsInside (state S.Store tx.old.conn.now) }
-    ensures same_reference { tx.new.conn.ghost_name ≡ tx.old.conn.ghost_name }
-    ensures before { IsTrusted (state S.Store tx.new.conn.now) → IsTrusted (state S.Store tx.old.conn.now) }
-    ensures lasts { Lasts (state S.Store tx.old.conn.now) (state S.Store tx.new.conn.now) }
-    ensures open { HasCleanDisk (state S.Store tx.new.conn.now) → IsTrusted (state S.Store tx.old.conn.now) → OnOk result (IsTrusted (state S.Store tx.new.conn.now)) }
-    ensures on { IsTrusted (state S.Store tx.new.conn.now) → OnOk result (WentOn (state S.Store tx.old.conn.now) (state S.Store tx.new.conn.now)) }
-    ensures added { IsTrusted (state S.Store tx.new.conn.now) → OnOk result (AddsDelays (state S.Store tx.old.conn.now).now.trees (state S.Store tx.new.conn.now).now.trees number) }
-    ensures err { IsTrusted (state S.Store tx.new.conn.now) → OnErr result ((state S.Store tx.new.conn.now).committed ≡ (state S.Store tx.old.conn.now).committed) }
+    requires inside { BeginsInside S.Store tx.old.conn }
+    ensures steps { StepsWithin S.Store tx.old.conn tx.new.conn result }
+    ensures added { Yields S.Store tx.old.conn tx.new.conn result (λ db next _. AddsDelays db next number) }
 {
     tx.execute(
         "INSERT INTO fact_delays (id, number) VALUES (1, ?1)",
@@ -130,15 +97,10 @@ fn found_fact<S: Alter>(
     tx: &mut Transaction<'_, S>,
     fact: &FactRow,
 ) -> Result<Option<i64>, KeepFault>
-    requires inside { IsTrusted (state S.Store tx.old.conn.now) → IsInside (state S.Store tx.old.conn.now) }
-    ensures same_reference { tx.new.conn.ghost_name ≡ tx.old.conn.ghost_name }
-    ensures before { IsTrusted (state S.Store tx.new.conn.now) → IsTrusted (state S.Store tx.old.conn.now) }
-    ensures lasts { Lasts (state S.Store tx.old.conn.now) (state S.Store tx.new.conn.now) }
-    ensures open { HasCleanDisk (state S.Store tx.new.conn.now) → IsTrusted (state S.Store tx.old.conn.now) → OnOk result (IsTrusted (state S.Store tx.new.conn.now)) }
-    ensures on { IsTrusted (state S.Store tx.new.conn.now) → OnOk result (WentOn (state S.Store tx.old.conn.now) (state S.Store tx.new.conn.now)) }
-    ensures same { IsTrusted (state S.Store tx.new.conn.now) → OnOk result ((state S.Store tx.new.conn.now).now ≡ (state S.Store tx.old.conn.now).now) }
-    ensures found { IsTrusted (state S.Store tx.new.conn.now) → IfOk result (λ id. IsFound (is_fact fact.now) ((state S.Store tx.old.conn.now).now.trees 8) id) }
-    ensures err { IsTrusted (state S.Store tx.new.conn.now) → OnErr result ((state S.Store tx.new.conn.now).committed ≡ (state S.Store tx.old.conn.now).committed) }
+    requires inside { BeginsInside S.Store tx.old.conn }
+    ensures steps { StepsWithin S.Store tx.old.conn tx.new.conn result }
+    ensures same { LeavesAll S.Store tx.old.conn tx.new.conn result }
+    ensures found { Yields S.Store tx.old.conn tx.new.conn result (λ db _ id. IsFound (is_fact fact.now) (db 8) id) }
     ensures bad { result ≢ Err (KeepFault.Store Cause.BadRow) }
 {
     let shown = fact_ids(tx, fact.kind, fact.sender, fact.number, fact.place)?;
@@ -148,14 +110,9 @@ fn found_fact<S: Alter>(
 
 /// Takes the one fact with a rowid out.
 fn take_one_fact<S: Alter>(tx: &mut Transaction<'_, S>, id: i64) -> Result<(), KeepFault>
-    requires inside { IsTrusted (state S.Store tx.old.conn.now) → IsInside (state S.Store tx.old.conn.now) }
-    ensures same_reference { tx.new.conn.ghost_name ≡ tx.old.conn.ghost_name }
-    ensures before { IsTrusted (state S.Store tx.new.conn.now) → IsTrusted (state S.Store tx.old.conn.now) }
-    ensures lasts { Lasts (state S.Store tx.old.conn.now) (state S.Store tx.new.conn.now) }
-    ensures open { HasCleanDisk (state S.Store tx.new.conn.now) → IsTrusted (state S.Store tx.old.conn.now) → OnOk result (IsTrusted (state S.Store tx.new.conn.now)) }
-    ensures on { IsTrusted (state S.Store tx.new.conn.now) → OnOk result (WentOn (state S.Store tx.old.conn.now) (state S.Store tx.new.conn.now)) }
-    ensures taken { IsTrusted (state S.Store tx.new.conn.now) → OnOk result (TakesFact (state S.Store tx.old.conn.now).now.trees (state S.Store tx.new.conn.now).now.trees id 1) }
-    ensures err { IsTrusted (state S.Store tx.new.conn.now) → OnErr result ((state S.Store tx.new.conn.now).committed ≡ (state S.Store tx.old.conn.now).committed) }
+    requires inside { BeginsInside S.Store tx.old.conn }
+    ensures steps { StepsWithin S.Store tx.old.conn tx.new.conn result }
+    ensures taken { Yields S.Store tx.old.conn tx.new.conn result (λ db next _. TakesFact db next id 1) }
     ensures bad { result ≢ Err (KeepFault.Store Cause.BadRow) }
 {
     let count = take_fact(tx, id)?;
@@ -165,14 +122,9 @@ fn take_one_fact<S: Alter>(tx: &mut Transaction<'_, S>, id: i64) -> Result<(), K
 
 /// Takes a fact out of the table of facts, if it is there.
 fn drop_fact<S: Alter>(tx: &mut Transaction<'_, S>, fact: &FactRow) -> Result<(), KeepFault>
-    requires inside { IsTrusted (state S.Store tx.old.conn.now) → IsInside (state S.Store tx.old.conn.now) }
-    ensures same_reference { tx.new.conn.ghost_name ≡ tx.old.conn.ghost_name }
-    ensures before { IsTrusted (state S.Store tx.new.conn.now) → IsTrusted (state S.Store tx.old.conn.now) }
-    ensures lasts { Lasts (state S.Store tx.old.conn.now) (state S.Store tx.new.conn.now) }
-    ensures open { HasCleanDisk (state S.Store tx.new.conn.now) → IsTrusted (state S.Store tx.old.conn.now) → OnOk result (IsTrusted (state S.Store tx.new.conn.now)) }
-    ensures on { IsTrusted (state S.Store tx.new.conn.now) → OnOk result (WentOn (state S.Store tx.old.conn.now) (state S.Store tx.new.conn.now)) }
-    ensures dropped { IsTrusted (state S.Store tx.new.conn.now) → OnOk result (DropsFact (state S.Store tx.old.conn.now).now.trees (state S.Store tx.new.conn.now).now.trees fact.now) }
-    ensures err { IsTrusted (state S.Store tx.new.conn.now) → OnErr result ((state S.Store tx.new.conn.now).committed ≡ (state S.Store tx.old.conn.now).committed) }
+    requires inside { BeginsInside S.Store tx.old.conn }
+    ensures steps { StepsWithin S.Store tx.old.conn tx.new.conn result }
+    ensures dropped { Yields S.Store tx.old.conn tx.new.conn result (λ db next _. DropsFact db next fact.now) }
     ensures bad { result ≢ Err (KeepFault.Store Cause.BadRow) }
 {
     let found = found_fact(tx, fact)?;
@@ -190,15 +142,10 @@ fn found_delays<S: Alter>(
     tx: &mut Transaction<'_, S>,
     number: u32,
 ) -> Result<Option<i64>, KeepFault>
-    requires inside { IsTrusted (state S.Store tx.old.conn.now) → IsInside (state S.Store tx.old.conn.now) }
-    ensures same_reference { tx.new.conn.ghost_name ≡ tx.old.conn.ghost_name }
-    ensures before { IsTrusted (state S.Store tx.new.conn.now) → IsTrusted (state S.Store tx.old.conn.now) }
-    ensures lasts { Lasts (state S.Store tx.old.conn.now) (state S.Store tx.new.conn.now) }
-    ensures open { HasCleanDisk (state S.Store tx.new.conn.now) → IsTrusted (state S.Store tx.old.conn.now) → OnOk result (IsTrusted (state S.Store tx.new.conn.now)) }
-    ensures on { IsTrusted (state S.Store tx.new.conn.now) → OnOk result (WentOn (state S.Store tx.old.conn.now) (state S.Store tx.new.conn.now)) }
-    ensures same { IsTrusted (state S.Store tx.new.conn.now) → OnOk result ((state S.Store tx.new.conn.now).now ≡ (state S.Store tx.old.conn.now).now) }
-    ensures found { IsTrusted (state S.Store tx.new.conn.now) → IfOk result (λ id. IsFound (is_delays number) ((state S.Store tx.old.conn.now).now.trees 10) id) }
-    ensures err { IsTrusted (state S.Store tx.new.conn.now) → OnErr result ((state S.Store tx.new.conn.now).committed ≡ (state S.Store tx.old.conn.now).committed) }
+    requires inside { BeginsInside S.Store tx.old.conn }
+    ensures steps { StepsWithin S.Store tx.old.conn tx.new.conn result }
+    ensures same { LeavesAll S.Store tx.old.conn tx.new.conn result }
+    ensures found { Yields S.Store tx.old.conn tx.new.conn result (λ db _ id. IsFound (is_delays number) (db 10) id) }
     ensures bad { result ≢ Err (KeepFault.Store Cause.BadRow) }
 {
     let shown = delays_ids(tx, number)?;
@@ -208,14 +155,9 @@ fn found_delays<S: Alter>(
 
 /// Takes the one row of delays with a rowid out.
 fn take_one_delays<S: Alter>(tx: &mut Transaction<'_, S>, id: i64) -> Result<(), KeepFault>
-    requires inside { IsTrusted (state S.Store tx.old.conn.now) → IsInside (state S.Store tx.old.conn.now) }
-    ensures same_reference { tx.new.conn.ghost_name ≡ tx.old.conn.ghost_name }
-    ensures before { IsTrusted (state S.Store tx.new.conn.now) → IsTrusted (state S.Store tx.old.conn.now) }
-    ensures lasts { Lasts (state S.Store tx.old.conn.now) (state S.Store tx.new.conn.now) }
-    ensures open { HasCleanDisk (state S.Store tx.new.conn.now) → IsTrusted (state S.Store tx.old.conn.now) → OnOk result (IsTrusted (state S.Store tx.new.conn.now)) }
-    ensures on { IsTrusted (state S.Store tx.new.conn.now) → OnOk result (WentOn (state S.Store tx.old.conn.now) (state S.Store tx.new.conn.now)) }
-    ensures taken { IsTrusted (state S.Store tx.new.conn.now) → OnOk result (TakesDelays (state S.Store tx.old.conn.now).now.trees (state S.Store tx.new.conn.now).now.trees id 1) }
-    ensures err { IsTrusted (state S.Store tx.new.conn.now) → OnErr result ((state S.Store tx.new.conn.now).committed ≡ (state S.Store tx.old.conn.now).committed) }
+    requires inside { BeginsInside S.Store tx.old.conn }
+    ensures steps { StepsWithin S.Store tx.old.conn tx.new.conn result }
+    ensures taken { Yields S.Store tx.old.conn tx.new.conn result (λ db next _. TakesDelays db next id 1) }
     ensures bad { result ≢ Err (KeepFault.Store Cause.BadRow) }
 {
     let count = take_delays(tx, id)?;
@@ -225,14 +167,9 @@ fn take_one_delays<S: Alter>(tx: &mut Transaction<'_, S>, id: i64) -> Result<(),
 
 /// Takes the delays under a number out of their table, if they are there.
 fn drop_delays<S: Alter>(tx: &mut Transaction<'_, S>, number: u32) -> Result<(), KeepFault>
-    requires inside { IsTrusted (state S.Store tx.old.conn.now) → IsInside (state S.Store tx.old.conn.now) }
-    ensures same_reference { tx.new.conn.ghost_name ≡ tx.old.conn.ghost_name }
-    ensures before { IsTrusted (state S.Store tx.new.conn.now) → IsTrusted (state S.Store tx.old.conn.now) }
-    ensures lasts { Lasts (state S.Store tx.old.conn.now) (state S.Store tx.new.conn.now) }
-    ensures open { HasCleanDisk (state S.Store tx.new.conn.now) → IsTrusted (state S.Store tx.old.conn.now) → OnOk result (IsTrusted (state S.Store tx.new.conn.now)) }
-    ensures on { IsTrusted (state S.Store tx.new.conn.now) → OnOk result (WentOn (state S.Store tx.old.conn.now) (state S.Store tx.new.conn.now)) }
-    ensures dropped { IsTrusted (state S.Store tx.new.conn.now) → OnOk result (DropsDelays (state S.Store tx.old.conn.now).now.trees (state S.Store tx.new.conn.now).now.trees number) }
-    ensures err { IsTrusted (state S.Store tx.new.conn.now) → OnErr result ((state S.Store tx.new.conn.now).committed ≡ (state S.Store tx.old.conn.now).committed) }
+    requires inside { BeginsInside S.Store tx.old.conn }
+    ensures steps { StepsWithin S.Store tx.old.conn tx.new.conn result }
+    ensures dropped { Yields S.Store tx.old.conn tx.new.conn result (λ db next _. DropsDelays db next number) }
     ensures bad { result ≢ Err (KeepFault.Store Cause.BadRow) }
 {
     let found = found_delays(tx, number)?;
@@ -251,14 +188,9 @@ fn drop_one<S: Alter>(
     release: u32,
     fact: &FactRow,
 ) -> Result<(), KeepFault>
-    requires inside { IsTrusted (state S.Store tx.old.conn.now) → IsInside (state S.Store tx.old.conn.now) }
-    ensures same_reference { tx.new.conn.ghost_name ≡ tx.old.conn.ghost_name }
-    ensures before { IsTrusted (state S.Store tx.new.conn.now) → IsTrusted (state S.Store tx.old.conn.now) }
-    ensures lasts { Lasts (state S.Store tx.old.conn.now) (state S.Store tx.new.conn.now) }
-    ensures open { HasCleanDisk (state S.Store tx.new.conn.now) → IsTrusted (state S.Store tx.old.conn.now) → OnOk result (IsTrusted (state S.Store tx.new.conn.now)) }
-    ensures on { IsTrusted (state S.Store tx.new.conn.now) → OnOk result (WentOn (state S.Store tx.old.conn.now) (state S.Store tx.new.conn.now)) }
-    ensures dropped { IsTrusted (state S.Store tx.new.conn.now) → OnOk result (DropsOne release (state S.Store tx.old.conn.now).now.trees (state S.Store tx.new.conn.now).now.trees fact.now) }
-    ensures err { IsTrusted (state S.Store tx.new.conn.now) → OnErr result ((state S.Store tx.new.conn.now).committed ≡ (state S.Store tx.old.conn.now).committed) }
+    requires inside { BeginsInside S.Store tx.old.conn }
+    ensures steps { StepsWithin S.Store tx.old.conn tx.new.conn result }
+    ensures dropped { Yields S.Store tx.old.conn tx.new.conn result (λ db next _. DropsOne release db next fact.now) }
     ensures bad { result ≢ Err (KeepFault.Store Cause.BadRow) }
 {
     if fact.kind != 8 {
@@ -281,14 +213,9 @@ fn add_one<S: Alter>(
     release: u32,
     fact: &FactRow,
 ) -> Result<usize, Error>
-    requires inside { IsTrusted (state S.Store tx.old.conn.now) → IsInside (state S.Store tx.old.conn.now) }
-    ensures same_reference { tx.new.conn.ghost_name ≡ tx.old.conn.ghost_name }
-    ensures before { IsTrusted (state S.Store tx.new.conn.now) → IsTrusted (state S.Store tx.old.conn.now) }
-    ensures lasts { Lasts (state S.Store tx.old.conn.now) (state S.Store tx.new.conn.now) }
-    ensures open { HasCleanDisk (state S.Store tx.new.conn.now) → IsTrusted (state S.Store tx.old.conn.now) → OnOk result (IsTrusted (state S.Store tx.new.conn.now)) }
-    ensures on { IsTrusted (state S.Store tx.new.conn.now) → OnOk result (WentOn (state S.Store tx.old.conn.now) (state S.Store tx.new.conn.now)) }
-    ensures added { IsTrusted (state S.Store tx.new.conn.now) → OnOk result (AddsOne release (state S.Store tx.old.conn.now).now.trees (state S.Store tx.new.conn.now).now.trees fact.now) }
-    ensures err { IsTrusted (state S.Store tx.new.conn.now) → OnErr result ((state S.Store tx.new.conn.now).committed ≡ (state S.Store tx.old.conn.now).committed) }
+    requires inside { BeginsInside S.Store tx.old.conn }
+    ensures steps { StepsWithin S.Store tx.old.conn tx.new.conn result }
+    ensures added { Yields S.Store tx.old.conn tx.new.conn result (λ db next _. AddsOne release db next fact.now) }
 {
     if fact.kind != 8 {
         let added = add_fact(tx, fact.kind, fact.sender, fact.number, fact.place)?;
@@ -304,14 +231,9 @@ pub fn drop_each<S: Alter>(
     release: u32,
     facts: &[FactRow],
 ) -> Result<(), KeepFault>
-    requires inside { IsTrusted (state S.Store tx.old.conn.now) → IsInside (state S.Store tx.old.conn.now) }
-    ensures same_reference { tx.new.conn.ghost_name ≡ tx.old.conn.ghost_name }
-    ensures before { IsTrusted (state S.Store tx.new.conn.now) → IsTrusted (state S.Store tx.old.conn.now) }
-    ensures lasts { Lasts (state S.Store tx.old.conn.now) (state S.Store tx.new.conn.now) }
-    ensures open { HasCleanDisk (state S.Store tx.new.conn.now) → IsTrusted (state S.Store tx.old.conn.now) → OnOk result (IsTrusted (state S.Store tx.new.conn.now)) }
-    ensures on { IsTrusted (state S.Store tx.new.conn.now) → OnOk result (WentOn (state S.Store tx.old.conn.now) (state S.Store tx.new.conn.now)) }
-    ensures dropped { IsTrusted (state S.Store tx.new.conn.now) → OnOk result (DropsEach release (state S.Store tx.old.conn.now).now.trees (state S.Store tx.new.conn.now).now.trees facts.now) }
-    ensures err { IsTrusted (state S.Store tx.new.conn.now) → OnErr result ((state S.Store tx.new.conn.now).committed ≡ (state S.Store tx.old.conn.now).committed) }
+    requires inside { BeginsInside S.Store tx.old.conn }
+    ensures steps { StepsWithin S.Store tx.old.conn tx.new.conn result }
+    ensures dropped { Yields S.Store tx.old.conn tx.new.conn result (λ db next _. DropsEach release db next facts.now) }
     ensures bad { result ≢ Err (KeepFault.Store Cause.BadRow) }
 {
     'facts: for fact in facts {
@@ -364,15 +286,10 @@ fn eight_values(facts: &[FactRow]) -> [[ValueRef<'static>; 4]; 8]
 
 /// Adds eight facts by one statement.
 fn add_eight<S: Alter>(tx: &mut Transaction<'_, S>, facts: &[FactRow]) -> Result<usize, Error>
-    requires inside { IsTrusted (state S.Store tx.old.conn.now) → IsInside (state S.Store tx.old.conn.now) }
+    requires inside { BeginsInside S.Store tx.old.conn }
     requires eight { length facts.now ≡ 8 }
-    ensures same_reference { tx.new.conn.ghost_name ≡ tx.old.conn.ghost_name }
-    ensures before { IsTrusted (state S.Store tx.new.conn.now) → IsTrusted (state S.Store tx.old.conn.now) }
-    ensures lasts { Lasts (state S.Store tx.old.conn.now) (state S.Store tx.new.conn.now) }
-    ensures open { HasCleanDisk (state S.Store tx.new.conn.now) → IsTrusted (state S.Store tx.old.conn.now) → OnOk result (IsTrusted (state S.Store tx.new.conn.now)) }
-    ensures on { IsTrusted (state S.Store tx.new.conn.now) → OnOk result (WentOn (state S.Store tx.old.conn.now) (state S.Store tx.new.conn.now)) }
-    ensures added { IsTrusted (state S.Store tx.new.conn.now) → OnOk result (AddsFacts (state S.Store tx.old.conn.now).now.trees (state S.Store tx.new.conn.now).now.trees facts.now) }
-    ensures err { IsTrusted (state S.Store tx.new.conn.now) → OnErr result ((state S.Store tx.new.conn.now).committed ≡ (state S.Store tx.old.conn.now).committed) }
+    ensures steps { StepsWithin S.Store tx.old.conn tx.new.conn result }
+    ensures added { Yields S.Store tx.old.conn tx.new.conn result (λ db next _. AddsFacts db next facts.now) }
 {
     let values = eight_values(facts);
     tx.execute(
@@ -394,16 +311,11 @@ fn add_first<S: Alter>(
     release: u32,
     facts: &[FactRow],
 ) -> Result<usize, Error>
-    requires inside { IsTrusted (state S.Store tx.old.conn.now) → IsInside (state S.Store tx.old.conn.now) }
+    requires inside { BeginsInside S.Store tx.old.conn }
     requires some { 0 < length facts.now }
-    ensures same_reference { tx.new.conn.ghost_name ≡ tx.old.conn.ghost_name }
-    ensures before { IsTrusted (state S.Store tx.new.conn.now) → IsTrusted (state S.Store tx.old.conn.now) }
-    ensures lasts { Lasts (state S.Store tx.old.conn.now) (state S.Store tx.new.conn.now) }
-    ensures open { HasCleanDisk (state S.Store tx.new.conn.now) → IsTrusted (state S.Store tx.old.conn.now) → OnOk result (IsTrusted (state S.Store tx.new.conn.now)) }
-    ensures on { IsTrusted (state S.Store tx.new.conn.now) → OnOk result (WentOn (state S.Store tx.old.conn.now) (state S.Store tx.new.conn.now)) }
+    ensures steps { StepsWithin S.Store tx.old.conn tx.new.conn result }
     ensures count { IfOk result (λ count. (0 < count) × (count ≤ length facts.now)) }
-    ensures added { IsTrusted (state S.Store tx.new.conn.now) → IfOk result (λ count. AddsEach release (state S.Store tx.old.conn.now).now.trees (state S.Store tx.new.conn.now).now.trees (take count facts.now)) }
-    ensures err { IsTrusted (state S.Store tx.new.conn.now) → OnErr result ((state S.Store tx.new.conn.now).committed ≡ (state S.Store tx.old.conn.now).committed) }
+    ensures added { Yields S.Store tx.old.conn tx.new.conn result (λ db next count. AddsEach release db next (take count facts.now)) }
 {
     if facts.len() >= 8 && are_no_delays(&facts[..8]) {
         add_eight(tx, &facts[..8])?;
@@ -419,14 +331,9 @@ pub fn add_each<S: Alter>(
     release: u32,
     facts: &[FactRow],
 ) -> Result<(), Error>
-    requires inside { IsTrusted (state S.Store tx.old.conn.now) → IsInside (state S.Store tx.old.conn.now) }
-    ensures same_reference { tx.new.conn.ghost_name ≡ tx.old.conn.ghost_name }
-    ensures before { IsTrusted (state S.Store tx.new.conn.now) → IsTrusted (state S.Store tx.old.conn.now) }
-    ensures lasts { Lasts (state S.Store tx.old.conn.now) (state S.Store tx.new.conn.now) }
-    ensures open { HasCleanDisk (state S.Store tx.new.conn.now) → IsTrusted (state S.Store tx.old.conn.now) → OnOk result (IsTrusted (state S.Store tx.new.conn.now)) }
-    ensures on { IsTrusted (state S.Store tx.new.conn.now) → OnOk result (WentOn (state S.Store tx.old.conn.now) (state S.Store tx.new.conn.now)) }
-    ensures added { IsTrusted (state S.Store tx.new.conn.now) → OnOk result (AddsEach release (state S.Store tx.old.conn.now).now.trees (state S.Store tx.new.conn.now).now.trees facts.now) }
-    ensures err { IsTrusted (state S.Store tx.new.conn.now) → OnErr result ((state S.Store tx.new.conn.now).committed ≡ (state S.Store tx.old.conn.now).committed) }
+    requires inside { BeginsInside S.Store tx.old.conn }
+    ensures steps { StepsWithin S.Store tx.old.conn tx.new.conn result }
+    ensures added { Yields S.Store tx.old.conn tx.new.conn result (λ db next _. AddsEach release db next facts.now) }
 {
     let mut at = 0;
     'facts: while at < facts.len() {

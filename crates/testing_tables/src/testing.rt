@@ -1,14 +1,13 @@
 //! The tables of testing: of their rows a finished run writes those that changed.
-ghost use Rattle.std.specs.Prelude.{◌≡◌, ◌≢◌, ◌≤◌, ◌<◌, ◌⊎◌, Err, map, length, IfOk, OnOk, OnErr};
+ghost use Rattle.std.specs.Prelude.{◌≡◌, ◌≢◌, ◌≤◌, ◌<◌, ◌⊎◌, Err, map, length, IfOk};
 ghost use Rattle.std.specs.List.{AllByRecursion};
 ghost use Rattle.std.specs.List.Sorted.{IsPermutation};
 ghost use Rattle.sqlite.specs.Held.{state};
 ghost use Rattle.sqlite.specs.Values.{bound};
 ghost use Rattle.sqlite.specs.Tree.{Trees};
-ghost use Rattle.sqlite.specs.State.{HasCleanDisk};
 ghost use Rattle.testing_model.specs.InOrder.{AreByName, AreByKey};
-ghost use Rattle.testing_tables.specs.Tables.{IsTrusted, Lasts};
-ghost use Rattle.testing_tables.specs.TableSteps.{IsInside, WentOn};
+ghost use Rattle.testing_tables.specs.Tables.{IsTrusted};
+ghost use Rattle.testing_tables.specs.StepsWithin.{StepsWithin, BeginsInside, Yields, LeavesAll};
 ghost use Rattle.testing_tables.specs.EntrySteps.{source_columns, entry_columns, TakesSource, AddsSource, AddsSources, source_parameters, FitsSource, SetsSources, TakesRow, AddsRow, AddsRows, row_parameters, FitsRow, SetsRows};
 ghost use Rattle.testing_tables.specs.Differences.{GoesOn, SourcesCompared, RowsCompared};
 
@@ -23,15 +22,10 @@ use testing_model::{RowIn, SourceIn};
 
 /// The rows of testing's sources, in any order.
 fn listed_sources<S: Alter>(tx: &mut Transaction<'_, S>) -> Result<Vec<Row>, Error>
-    requires inside { IsTrusted (state S.Store tx.old.conn.now) → IsInside (state S.Store tx.old.conn.now) }
-    ensures same_reference { tx.new.conn.ghost_name ≡ tx.old.conn.ghost_name }
-    ensures before { IsTrusted (state S.Store tx.new.conn.now) → IsTrusted (state S.Store tx.old.conn.now) }
-    ensures lasts { Lasts (state S.Store tx.old.conn.now) (state S.Store tx.new.conn.now) }
-    ensures open { HasCleanDisk (state S.Store tx.new.conn.now) → IsTrusted (state S.Store tx.old.conn.now) → OnOk result (IsTrusted (state S.Store tx.new.conn.now)) }
-    ensures on { IsTrusted (state S.Store tx.new.conn.now) → OnOk result (WentOn (state S.Store tx.old.conn.now) (state S.Store tx.new.conn.now)) }
-    ensures same { IsTrusted (state S.Store tx.new.conn.now) → OnOk result ((state S.Store tx.new.conn.now).now ≡ (state S.Store tx.old.conn.now).now) }
-    ensures rows { IsTrusted (state S.Store tx.new.conn.now) → IfOk result (λ rows. IsPermutation (map source_columns ((state S.Store tx.old.conn.now).now.trees 4)) rows.items) }
-    ensures err { IsTrusted (state S.Store tx.new.conn.now) → OnErr result ((state S.Store tx.new.conn.now).committed ≡ (state S.Store tx.old.conn.now).committed) }
+    requires inside { BeginsInside S.Store tx.old.conn }
+    ensures steps { StepsWithin S.Store tx.old.conn tx.new.conn result }
+    ensures same { LeavesAll S.Store tx.old.conn tx.new.conn result }
+    ensures rows { Yields S.Store tx.old.conn tx.new.conn result (λ db _ rows. IsPermutation (map source_columns (db 4)) rows.items) }
 {
     tx.query_all(
         "SELECT rowid, name, sender, number FROM testing_source",
@@ -50,28 +44,18 @@ fn sources_in_order(rows: Vec<Row>) -> Vec<Row>
 
 /// Takes the sources with a rowid out, and counts them.
 fn take_source<S: Alter>(tx: &mut Transaction<'_, S>, id: i64) -> Result<usize, Error>
-    requires inside { IsTrusted (state S.Store tx.old.conn.now) → IsInside (state S.Store tx.old.conn.now) }
-    ensures same_reference { tx.new.conn.ghost_name ≡ tx.old.conn.ghost_name }
-    ensures before { IsTrusted (state S.Store tx.new.conn.now) → IsTrusted (state S.Store tx.old.conn.now) }
-    ensures lasts { Lasts (state S.Store tx.old.conn.now) (state S.Store tx.new.conn.now) }
-    ensures open { HasCleanDisk (state S.Store tx.new.conn.now) → IsTrusted (state S.Store tx.old.conn.now) → OnOk result (IsTrusted (state S.Store tx.new.conn.now)) }
-    ensures on { IsTrusted (state S.Store tx.new.conn.now) → OnOk result (WentOn (state S.Store tx.old.conn.now) (state S.Store tx.new.conn.now)) }
-    ensures taken { IsTrusted (state S.Store tx.new.conn.now) → IfOk result (λ count. TakesSource (state S.Store tx.old.conn.now).now.trees (state S.Store tx.new.conn.now).now.trees id count) }
-    ensures err { IsTrusted (state S.Store tx.new.conn.now) → OnErr result ((state S.Store tx.new.conn.now).committed ≡ (state S.Store tx.old.conn.now).committed) }
+    requires inside { BeginsInside S.Store tx.old.conn }
+    ensures steps { StepsWithin S.Store tx.old.conn tx.new.conn result }
+    ensures taken { Yields S.Store tx.old.conn tx.new.conn result (λ db next count. TakesSource db next id count) }
 {
     tx.execute("DELETE FROM testing_source WHERE rowid = ?1", params![id])
 }
 
 /// Takes the one source with a rowid out.
 fn take_one_source<S: Alter>(tx: &mut Transaction<'_, S>, id: i64) -> Result<(), KeepFault>
-    requires inside { IsTrusted (state S.Store tx.old.conn.now) → IsInside (state S.Store tx.old.conn.now) }
-    ensures same_reference { tx.new.conn.ghost_name ≡ tx.old.conn.ghost_name }
-    ensures before { IsTrusted (state S.Store tx.new.conn.now) → IsTrusted (state S.Store tx.old.conn.now) }
-    ensures lasts { Lasts (state S.Store tx.old.conn.now) (state S.Store tx.new.conn.now) }
-    ensures open { HasCleanDisk (state S.Store tx.new.conn.now) → IsTrusted (state S.Store tx.old.conn.now) → OnOk result (IsTrusted (state S.Store tx.new.conn.now)) }
-    ensures on { IsTrusted (state S.Store tx.new.conn.now) → OnOk result (WentOn (state S.Store tx.old.conn.now) (state S.Store tx.new.conn.now)) }
-    ensures taken { IsTrusted (state S.Store tx.new.conn.now) → OnOk result (TakesSource (state S.Store tx.old.conn.now).now.trees (state S.Store tx.new.conn.now).now.trees id 1) }
-    ensures err { IsTrusted (state S.Store tx.new.conn.now) → OnErr result ((state S.Store tx.new.conn.now).committed ≡ (state S.Store tx.old.conn.now).committed) }
+    requires inside { BeginsInside S.Store tx.old.conn }
+    ensures steps { StepsWithin S.Store tx.old.conn tx.new.conn result }
+    ensures taken { Yields S.Store tx.old.conn tx.new.conn result (λ db next _. TakesSource db next id 1) }
     ensures bad { result ≢ Err (KeepFault.Store Cause.BadRow) }
 {
     let count = take_source(tx, id)?;
@@ -86,14 +70,9 @@ fn add_source<S: Alter>(
     sender: u32,
     number: u32,
 ) -> Result<usize, Error>
-    requires inside { IsTrusted (state S.Store tx.old.conn.now) → IsInside (state S.Store tx.old.conn.now) }
-    ensures same_reference { tx.new.conn.ghost_name ≡ tx.old.conn.ghost_name }
-    ensures before { IsTrusted (state S.Store tx.new.conn.now) → IsTrusted (state S.Store tx.old.conn.now) }
-    ensures lasts { Lasts (state S.Store tx.old.conn.now) (state S.Store tx.new.conn.now) }
-    ensures open { HasCleanDisk (state S.Store tx.new.conn.now) → IsTrusted (state S.Store tx.old.conn.now) → OnOk result (IsTrusted (state S.Store tx.new.conn.now)) }
-    ensures on { IsTrusted (state S.Store tx.new.conn.now) → OnOk result (WentOn (state S.Store tx.old.conn.now) (state S.Store tx.new.conn.now)) }
-    ensures added { IsTrusted (state S.Store tx.new.conn.now) → OnOk result (AddsSource (state S.Store tx.old.conn.now).now.trees (state S.Store tx.new.conn.now).now.trees name.now sender number) }
-    ensures err { IsTrusted (state S.Store tx.new.conn.now) → OnErr result ((state S.Store tx.new.conn.now).committed ≡ (state S.Store tx.old.conn.now).committed) }
+    requires inside { BeginsInside S.Store tx.old.conn }
+    ensures steps { StepsWithin S.Store tx.old.conn tx.new.conn result }
+    ensures added { Yields S.Store tx.old.conn tx.new.conn result (λ db next _. AddsSource db next name.now sender number) }
 {
     tx.execute(
         "INSERT INTO testing_source (name, sender, number) VALUES (?1, ?2, ?3)",
@@ -143,15 +122,10 @@ fn add_eight_sources<S: Alter>(
     tx: &mut Transaction<'_, S>,
     sources: &[SourceIn],
 ) -> Result<usize, Error>
-    requires inside { IsTrusted (state S.Store tx.old.conn.now) → IsInside (state S.Store tx.old.conn.now) }
+    requires inside { BeginsInside S.Store tx.old.conn }
     requires eight { length sources.now ≡ 8 }
-    ensures same_reference { tx.new.conn.ghost_name ≡ tx.old.conn.ghost_name }
-    ensures before { IsTrusted (state S.Store tx.new.conn.now) → IsTrusted (state S.Store tx.old.conn.now) }
-    ensures lasts { Lasts (state S.Store tx.old.conn.now) (state S.Store tx.new.conn.now) }
-    ensures open { HasCleanDisk (state S.Store tx.new.conn.now) → IsTrusted (state S.Store tx.old.conn.now) → OnOk result (IsTrusted (state S.Store tx.new.conn.now)) }
-    ensures on { IsTrusted (state S.Store tx.new.conn.now) → OnOk result (WentOn (state S.Store tx.old.conn.now) (state S.Store tx.new.conn.now)) }
-    ensures added { IsTrusted (state S.Store tx.new.conn.now) → OnOk result (AddsSources (state S.Store tx.old.conn.now).now.trees (state S.Store tx.new.conn.now).now.trees sources.now) }
-    ensures err { IsTrusted (state S.Store tx.new.conn.now) → OnErr result ((state S.Store tx.new.conn.now).committed ≡ (state S.Store tx.old.conn.now).committed) }
+    ensures steps { StepsWithin S.Store tx.old.conn tx.new.conn result }
+    ensures added { Yields S.Store tx.old.conn tx.new.conn result (λ db next _. AddsSources db next sources.now) }
 {
     let values = eight_source_values(sources);
     tx.execute(
@@ -167,17 +141,12 @@ fn change_source<S: Alter>(
     sources: &[SourceIn],
     at: Compared,
 ) -> Result<Compared, KeepFault>
-    requires inside { IsTrusted (state S.Store tx.old.conn.now) → IsInside (state S.Store tx.old.conn.now) }
+    requires inside { BeginsInside S.Store tx.old.conn }
     requires within { (at.shown ≤ length shown.now) × (at.entries ≤ length sources.now) }
     requires left { (at.shown < length shown.now) ⊎ (at.entries < length sources.now) }
-    ensures same_reference { tx.new.conn.ghost_name ≡ tx.old.conn.ghost_name }
-    ensures before { IsTrusted (state S.Store tx.new.conn.now) → IsTrusted (state S.Store tx.old.conn.now) }
-    ensures lasts { Lasts (state S.Store tx.old.conn.now) (state S.Store tx.new.conn.now) }
-    ensures open { HasCleanDisk (state S.Store tx.new.conn.now) → IsTrusted (state S.Store tx.old.conn.now) → OnOk result (IsTrusted (state S.Store tx.new.conn.now)) }
-    ensures on { IsTrusted (state S.Store tx.new.conn.now) → OnOk result (WentOn (state S.Store tx.old.conn.now) (state S.Store tx.new.conn.now)) }
+    ensures steps { StepsWithin S.Store tx.old.conn tx.new.conn result }
     ensures further { IfOk result (λ to. GoesOn (length shown.now) (length sources.now) at.shown at.entries to.shown to.entries) }
-    ensures compared { IsTrusted (state S.Store tx.new.conn.now) → IfOk result (λ to. (first : Trees) → SourcesCompared first (state S.Store tx.old.conn.now).now.trees shown.now sources.now at.shown at.entries → SourcesCompared first (state S.Store tx.new.conn.now).now.trees shown.now sources.now to.shown to.entries) }
-    ensures err { IsTrusted (state S.Store tx.new.conn.now) → OnErr result ((state S.Store tx.new.conn.now).committed ≡ (state S.Store tx.old.conn.now).committed) }
+    ensures compared { Yields S.Store tx.old.conn tx.new.conn result (λ db next to. (first : Trees) → SourcesCompared first db shown.now sources.now at.shown at.entries → SourcesCompared first next shown.now sources.now to.shown to.entries) }
     ensures bad { result ≢ Err (KeepFault.Store Cause.BadRow) }
 {
     match source_change(shown, sources, at)? {
@@ -212,17 +181,12 @@ fn change_source_or_more<S: Alter>(
     sources: &[SourceIn],
     at: Compared,
 ) -> Result<Compared, KeepFault>
-    requires inside { IsTrusted (state S.Store tx.old.conn.now) → IsInside (state S.Store tx.old.conn.now) }
+    requires inside { BeginsInside S.Store tx.old.conn }
     requires within { (at.shown ≤ length shown.now) × (at.entries ≤ length sources.now) }
     requires left { (at.shown < length shown.now) ⊎ (at.entries < length sources.now) }
-    ensures same_reference { tx.new.conn.ghost_name ≡ tx.old.conn.ghost_name }
-    ensures before { IsTrusted (state S.Store tx.new.conn.now) → IsTrusted (state S.Store tx.old.conn.now) }
-    ensures lasts { Lasts (state S.Store tx.old.conn.now) (state S.Store tx.new.conn.now) }
-    ensures open { HasCleanDisk (state S.Store tx.new.conn.now) → IsTrusted (state S.Store tx.old.conn.now) → OnOk result (IsTrusted (state S.Store tx.new.conn.now)) }
-    ensures on { IsTrusted (state S.Store tx.new.conn.now) → OnOk result (WentOn (state S.Store tx.old.conn.now) (state S.Store tx.new.conn.now)) }
+    ensures steps { StepsWithin S.Store tx.old.conn tx.new.conn result }
     ensures further { IfOk result (λ to. GoesOn (length shown.now) (length sources.now) at.shown at.entries to.shown to.entries) }
-    ensures compared { IsTrusted (state S.Store tx.new.conn.now) → IfOk result (λ to. (first : Trees) → SourcesCompared first (state S.Store tx.old.conn.now).now.trees shown.now sources.now at.shown at.entries → SourcesCompared first (state S.Store tx.new.conn.now).now.trees shown.now sources.now to.shown to.entries) }
-    ensures err { IsTrusted (state S.Store tx.new.conn.now) → OnErr result ((state S.Store tx.new.conn.now).committed ≡ (state S.Store tx.old.conn.now).committed) }
+    ensures compared { Yields S.Store tx.old.conn tx.new.conn result (λ db next to. (first : Trees) → SourcesCompared first db shown.now sources.now at.shown at.entries → SourcesCompared first next shown.now sources.now to.shown to.entries) }
     ensures bad { result ≢ Err (KeepFault.Store Cause.BadRow) }
 {
     if at.shown < shown.len() || sources.len() - at.entries < 8 {
@@ -242,16 +206,11 @@ fn change_sources<S: Alter>(
     shown: &[Row],
     sources: &[SourceIn],
 ) -> Result<(), KeepFault>
-    requires inside { IsTrusted (state S.Store tx.old.conn.now) → IsInside (state S.Store tx.old.conn.now) }
+    requires inside { BeginsInside S.Store tx.old.conn }
     requires shown { IsTrusted (state S.Store tx.old.conn.now) → IsPermutation (map source_columns ((state S.Store tx.old.conn.now).now.trees 4)) shown.now }
     requires ordered { AreByName sources.now }
-    ensures same_reference { tx.new.conn.ghost_name ≡ tx.old.conn.ghost_name }
-    ensures before { IsTrusted (state S.Store tx.new.conn.now) → IsTrusted (state S.Store tx.old.conn.now) }
-    ensures lasts { Lasts (state S.Store tx.old.conn.now) (state S.Store tx.new.conn.now) }
-    ensures open { HasCleanDisk (state S.Store tx.new.conn.now) → IsTrusted (state S.Store tx.old.conn.now) → OnOk result (IsTrusted (state S.Store tx.new.conn.now)) }
-    ensures on { IsTrusted (state S.Store tx.new.conn.now) → OnOk result (WentOn (state S.Store tx.old.conn.now) (state S.Store tx.new.conn.now)) }
-    ensures set { IsTrusted (state S.Store tx.new.conn.now) → OnOk result (SetsSources (state S.Store tx.old.conn.now).now.trees (state S.Store tx.new.conn.now).now.trees sources.now) }
-    ensures err { IsTrusted (state S.Store tx.new.conn.now) → OnErr result ((state S.Store tx.new.conn.now).committed ≡ (state S.Store tx.old.conn.now).committed) }
+    ensures steps { StepsWithin S.Store tx.old.conn tx.new.conn result }
+    ensures set { Yields S.Store tx.old.conn tx.new.conn result (λ db next _. SetsSources db next sources.now) }
     ensures bad { result ≢ Err (KeepFault.Store Cause.BadRow) }
 {
     let mut at = Compared {
@@ -269,15 +228,10 @@ pub fn set_sources<S: Alter>(
     tx: &mut Transaction<'_, S>,
     sources: &[SourceIn],
 ) -> Result<(), KeepFault>
-    requires inside { IsTrusted (state S.Store tx.old.conn.now) → IsInside (state S.Store tx.old.conn.now) }
+    requires inside { BeginsInside S.Store tx.old.conn }
     requires ordered { AreByName sources.now }
-    ensures same_reference { tx.new.conn.ghost_name ≡ tx.old.conn.ghost_name }
-    ensures before { IsTrusted (state S.Store tx.new.conn.now) → IsTrusted (state S.Store tx.old.conn.now) }
-    ensures lasts { Lasts (state S.Store tx.old.conn.now) (state S.Store tx.new.conn.now) }
-    ensures open { HasCleanDisk (state S.Store tx.new.conn.now) → IsTrusted (state S.Store tx.old.conn.now) → OnOk result (IsTrusted (state S.Store tx.new.conn.now)) }
-    ensures on { IsTrusted (state S.Store tx.new.conn.now) → OnOk result (WentOn (state S.Store tx.old.conn.now) (state S.Store tx.new.conn.now)) }
-    ensures set { IsTrusted (state S.Store tx.new.conn.now) → OnOk result (SetsSources (state S.Store tx.old.conn.now).now.trees (state S.Store tx.new.conn.now).now.trees sources.now) }
-    ensures err { IsTrusted (state S.Store tx.new.conn.now) → OnErr result ((state S.Store tx.new.conn.now).committed ≡ (state S.Store tx.old.conn.now).committed) }
+    ensures steps { StepsWithin S.Store tx.old.conn tx.new.conn result }
+    ensures set { Yields S.Store tx.old.conn tx.new.conn result (λ db next _. SetsSources db next sources.now) }
     ensures bad { result ≢ Err (KeepFault.Store Cause.BadRow) }
 {
     let listed = listed_sources(tx)?;
@@ -288,15 +242,10 @@ pub fn set_sources<S: Alter>(
 
 /// The rows of testing's rows, in any order.
 fn listed_rows<S: Alter>(tx: &mut Transaction<'_, S>) -> Result<Vec<Row>, Error>
-    requires inside { IsTrusted (state S.Store tx.old.conn.now) → IsInside (state S.Store tx.old.conn.now) }
-    ensures same_reference { tx.new.conn.ghost_name ≡ tx.old.conn.ghost_name }
-    ensures before { IsTrusted (state S.Store tx.new.conn.now) → IsTrusted (state S.Store tx.old.conn.now) }
-    ensures lasts { Lasts (state S.Store tx.old.conn.now) (state S.Store tx.new.conn.now) }
-    ensures open { HasCleanDisk (state S.Store tx.new.conn.now) → IsTrusted (state S.Store tx.old.conn.now) → OnOk result (IsTrusted (state S.Store tx.new.conn.now)) }
-    ensures on { IsTrusted (state S.Store tx.new.conn.now) → OnOk result (WentOn (state S.Store tx.old.conn.now) (state S.Store tx.new.conn.now)) }
-    ensures same { IsTrusted (state S.Store tx.new.conn.now) → OnOk result ((state S.Store tx.new.conn.now).now ≡ (state S.Store tx.old.conn.now).now) }
-    ensures rows { IsTrusted (state S.Store tx.new.conn.now) → IfOk result (λ rows. IsPermutation (map entry_columns ((state S.Store tx.old.conn.now).now.trees 6)) rows.items) }
-    ensures err { IsTrusted (state S.Store tx.new.conn.now) → OnErr result ((state S.Store tx.new.conn.now).committed ≡ (state S.Store tx.old.conn.now).committed) }
+    requires inside { BeginsInside S.Store tx.old.conn }
+    ensures steps { StepsWithin S.Store tx.old.conn tx.new.conn result }
+    ensures same { LeavesAll S.Store tx.old.conn tx.new.conn result }
+    ensures rows { Yields S.Store tx.old.conn tx.new.conn result (λ db _ rows. IsPermutation (map entry_columns (db 6)) rows.items) }
 {
     tx.query_all(
         "SELECT rowid, arch, name, sender, number, place FROM testing_row",
@@ -318,28 +267,18 @@ fn rows_in_order(rows: Vec<Row>) -> Vec<Row>
 
 /// Takes the rows with a rowid out, and counts them.
 fn take_row<S: Alter>(tx: &mut Transaction<'_, S>, id: i64) -> Result<usize, Error>
-    requires inside { IsTrusted (state S.Store tx.old.conn.now) → IsInside (state S.Store tx.old.conn.now) }
-    ensures same_reference { tx.new.conn.ghost_name ≡ tx.old.conn.ghost_name }
-    ensures before { IsTrusted (state S.Store tx.new.conn.now) → IsTrusted (state S.Store tx.old.conn.now) }
-    ensures lasts { Lasts (state S.Store tx.old.conn.now) (state S.Store tx.new.conn.now) }
-    ensures open { HasCleanDisk (state S.Store tx.new.conn.now) → IsTrusted (state S.Store tx.old.conn.now) → OnOk result (IsTrusted (state S.Store tx.new.conn.now)) }
-    ensures on { IsTrusted (state S.Store tx.new.conn.now) → OnOk result (WentOn (state S.Store tx.old.conn.now) (state S.Store tx.new.conn.now)) }
-    ensures taken { IsTrusted (state S.Store tx.new.conn.now) → IfOk result (λ count. TakesRow (state S.Store tx.old.conn.now).now.trees (state S.Store tx.new.conn.now).now.trees id count) }
-    ensures err { IsTrusted (state S.Store tx.new.conn.now) → OnErr result ((state S.Store tx.new.conn.now).committed ≡ (state S.Store tx.old.conn.now).committed) }
+    requires inside { BeginsInside S.Store tx.old.conn }
+    ensures steps { StepsWithin S.Store tx.old.conn tx.new.conn result }
+    ensures taken { Yields S.Store tx.old.conn tx.new.conn result (λ db next count. TakesRow db next id count) }
 {
     tx.execute("DELETE FROM testing_row WHERE rowid = ?1", params![id])
 }
 
 /// Takes the one row with a rowid out.
 fn take_one_row<S: Alter>(tx: &mut Transaction<'_, S>, id: i64) -> Result<(), KeepFault>
-    requires inside { IsTrusted (state S.Store tx.old.conn.now) → IsInside (state S.Store tx.old.conn.now) }
-    ensures same_reference { tx.new.conn.ghost_name ≡ tx.old.conn.ghost_name }
-    ensures before { IsTrusted (state S.Store tx.new.conn.now) → IsTrusted (state S.Store tx.old.conn.now) }
-    ensures lasts { Lasts (state S.Store tx.old.conn.now) (state S.Store tx.new.conn.now) }
-    ensures open { HasCleanDisk (state S.Store tx.new.conn.now) → IsTrusted (state S.Store tx.old.conn.now) → OnOk result (IsTrusted (state S.Store tx.new.conn.now)) }
-    ensures on { IsTrusted (state S.Store tx.new.conn.now) → OnOk result (WentOn (state S.Store tx.old.conn.now) (state S.Store tx.new.conn.now)) }
-    ensures taken { IsTrusted (state S.Store tx.new.conn.now) → OnOk result (TakesRow (state S.Store tx.old.conn.now).now.trees (state S.Store tx.new.conn.now).now.trees id 1) }
-    ensures err { IsTrusted (state S.Store tx.new.conn.now) → OnErr result ((state S.Store tx.new.conn.now).committed ≡ (state S.Store tx.old.conn.now).committed) }
+    requires inside { BeginsInside S.Store tx.old.conn }
+    ensures steps { StepsWithin S.Store tx.old.conn tx.new.conn result }
+    ensures taken { Yields S.Store tx.old.conn tx.new.conn result (λ db next _. TakesRow db next id 1) }
     ensures bad { result ≢ Err (KeepFault.Store Cause.BadRow) }
 {
     let count = take_row(tx, id)?;
@@ -356,14 +295,9 @@ fn add_row<S: Alter>(
     number: u32,
     place: u32,
 ) -> Result<usize, Error>
-    requires inside { IsTrusted (state S.Store tx.old.conn.now) → IsInside (state S.Store tx.old.conn.now) }
-    ensures same_reference { tx.new.conn.ghost_name ≡ tx.old.conn.ghost_name }
-    ensures before { IsTrusted (state S.Store tx.new.conn.now) → IsTrusted (state S.Store tx.old.conn.now) }
-    ensures lasts { Lasts (state S.Store tx.old.conn.now) (state S.Store tx.new.conn.now) }
-    ensures open { HasCleanDisk (state S.Store tx.new.conn.now) → IsTrusted (state S.Store tx.old.conn.now) → OnOk result (IsTrusted (state S.Store tx.new.conn.now)) }
-    ensures on { IsTrusted (state S.Store tx.new.conn.now) → OnOk result (WentOn (state S.Store tx.old.conn.now) (state S.Store tx.new.conn.now)) }
-    ensures added { IsTrusted (state S.Store tx.new.conn.now) → OnOk result (AddsRow (state S.Store tx.old.conn.now).now.trees (state S.Store tx.new.conn.now).now.trees arch name.now sender number place) }
-    ensures err { IsTrusted (state S.Store tx.new.conn.now) → OnErr result ((state S.Store tx.new.conn.now).committed ≡ (state S.Store tx.old.conn.now).committed) }
+    requires inside { BeginsInside S.Store tx.old.conn }
+    ensures steps { StepsWithin S.Store tx.old.conn tx.new.conn result }
+    ensures added { Yields S.Store tx.old.conn tx.new.conn result (λ db next _. AddsRow db next arch name.now sender number place) }
 {
     tx.execute(
         "INSERT INTO testing_row (arch, name, sender, number, place) VALUES (?1, ?2, ?3, ?4, ?5)",
@@ -417,15 +351,10 @@ fn eight_row_values(rows: &[RowIn]) -> [[ValueRef<'_>; 5]; 8]
 
 /// Adds eight rows by one statement.
 fn add_eight_rows<S: Alter>(tx: &mut Transaction<'_, S>, rows: &[RowIn]) -> Result<usize, Error>
-    requires inside { IsTrusted (state S.Store tx.old.conn.now) → IsInside (state S.Store tx.old.conn.now) }
+    requires inside { BeginsInside S.Store tx.old.conn }
     requires eight { length rows.now ≡ 8 }
-    ensures same_reference { tx.new.conn.ghost_name ≡ tx.old.conn.ghost_name }
-    ensures before { IsTrusted (state S.Store tx.new.conn.now) → IsTrusted (state S.Store tx.old.conn.now) }
-    ensures lasts { Lasts (state S.Store tx.old.conn.now) (state S.Store tx.new.conn.now) }
-    ensures open { HasCleanDisk (state S.Store tx.new.conn.now) → IsTrusted (state S.Store tx.old.conn.now) → OnOk result (IsTrusted (state S.Store tx.new.conn.now)) }
-    ensures on { IsTrusted (state S.Store tx.new.conn.now) → OnOk result (WentOn (state S.Store tx.old.conn.now) (state S.Store tx.new.conn.now)) }
-    ensures added { IsTrusted (state S.Store tx.new.conn.now) → OnOk result (AddsRows (state S.Store tx.old.conn.now).now.trees (state S.Store tx.new.conn.now).now.trees rows.now) }
-    ensures err { IsTrusted (state S.Store tx.new.conn.now) → OnErr result ((state S.Store tx.new.conn.now).committed ≡ (state S.Store tx.old.conn.now).committed) }
+    ensures steps { StepsWithin S.Store tx.old.conn tx.new.conn result }
+    ensures added { Yields S.Store tx.old.conn tx.new.conn result (λ db next _. AddsRows db next rows.now) }
 {
     let values = eight_row_values(rows);
     tx.execute(
@@ -441,17 +370,12 @@ fn change_row<S: Alter>(
     rows: &[RowIn],
     at: Compared,
 ) -> Result<Compared, KeepFault>
-    requires inside { IsTrusted (state S.Store tx.old.conn.now) → IsInside (state S.Store tx.old.conn.now) }
+    requires inside { BeginsInside S.Store tx.old.conn }
     requires within { (at.shown ≤ length shown.now) × (at.entries ≤ length rows.now) }
     requires left { (at.shown < length shown.now) ⊎ (at.entries < length rows.now) }
-    ensures same_reference { tx.new.conn.ghost_name ≡ tx.old.conn.ghost_name }
-    ensures before { IsTrusted (state S.Store tx.new.conn.now) → IsTrusted (state S.Store tx.old.conn.now) }
-    ensures lasts { Lasts (state S.Store tx.old.conn.now) (state S.Store tx.new.conn.now) }
-    ensures open { HasCleanDisk (state S.Store tx.new.conn.now) → IsTrusted (state S.Store tx.old.conn.now) → OnOk result (IsTrusted (state S.Store tx.new.conn.now)) }
-    ensures on { IsTrusted (state S.Store tx.new.conn.now) → OnOk result (WentOn (state S.Store tx.old.conn.now) (state S.Store tx.new.conn.now)) }
+    ensures steps { StepsWithin S.Store tx.old.conn tx.new.conn result }
     ensures further { IfOk result (λ to. GoesOn (length shown.now) (length rows.now) at.shown at.entries to.shown to.entries) }
-    ensures compared { IsTrusted (state S.Store tx.new.conn.now) → IfOk result (λ to. (first : Trees) → RowsCompared first (state S.Store tx.old.conn.now).now.trees shown.now rows.now at.shown at.entries → RowsCompared first (state S.Store tx.new.conn.now).now.trees shown.now rows.now to.shown to.entries) }
-    ensures err { IsTrusted (state S.Store tx.new.conn.now) → OnErr result ((state S.Store tx.new.conn.now).committed ≡ (state S.Store tx.old.conn.now).committed) }
+    ensures compared { Yields S.Store tx.old.conn tx.new.conn result (λ db next to. (first : Trees) → RowsCompared first db shown.now rows.now at.shown at.entries → RowsCompared first next shown.now rows.now to.shown to.entries) }
     ensures bad { result ≢ Err (KeepFault.Store Cause.BadRow) }
 {
     match row_change(shown, rows, at)? {
@@ -487,17 +411,12 @@ fn change_row_or_more<S: Alter>(
     rows: &[RowIn],
     at: Compared,
 ) -> Result<Compared, KeepFault>
-    requires inside { IsTrusted (state S.Store tx.old.conn.now) → IsInside (state S.Store tx.old.conn.now) }
+    requires inside { BeginsInside S.Store tx.old.conn }
     requires within { (at.shown ≤ length shown.now) × (at.entries ≤ length rows.now) }
     requires left { (at.shown < length shown.now) ⊎ (at.entries < length rows.now) }
-    ensures same_reference { tx.new.conn.ghost_name ≡ tx.old.conn.ghost_name }
-    ensures before { IsTrusted (state S.Store tx.new.conn.now) → IsTrusted (state S.Store tx.old.conn.now) }
-    ensures lasts { Lasts (state S.Store tx.old.conn.now) (state S.Store tx.new.conn.now) }
-    ensures open { HasCleanDisk (state S.Store tx.new.conn.now) → IsTrusted (state S.Store tx.old.conn.now) → OnOk result (IsTrusted (state S.Store tx.new.conn.now)) }
-    ensures on { IsTrusted (state S.Store tx.new.conn.now) → OnOk result (WentOn (state S.Store tx.old.conn.now) (state S.Store tx.new.conn.now)) }
+    ensures steps { StepsWithin S.Store tx.old.conn tx.new.conn result }
     ensures further { IfOk result (λ to. GoesOn (length shown.now) (length rows.now) at.shown at.entries to.shown to.entries) }
-    ensures compared { IsTrusted (state S.Store tx.new.conn.now) → IfOk result (λ to. (first : Trees) → RowsCompared first (state S.Store tx.old.conn.now).now.trees shown.now rows.now at.shown at.entries → RowsCompared first (state S.Store tx.new.conn.now).now.trees shown.now rows.now to.shown to.entries) }
-    ensures err { IsTrusted (state S.Store tx.new.conn.now) → OnErr result ((state S.Store tx.new.conn.now).committed ≡ (state S.Store tx.old.conn.now).committed) }
+    ensures compared { Yields S.Store tx.old.conn tx.new.conn result (λ db next to. (first : Trees) → RowsCompared first db shown.now rows.now at.shown at.entries → RowsCompared first next shown.now rows.now to.shown to.entries) }
     ensures bad { result ≢ Err (KeepFault.Store Cause.BadRow) }
 {
     if at.shown < shown.len() || rows.len() - at.entries < 8 {
@@ -517,16 +436,11 @@ fn change_rows<S: Alter>(
     shown: &[Row],
     rows: &[RowIn],
 ) -> Result<(), KeepFault>
-    requires inside { IsTrusted (state S.Store tx.old.conn.now) → IsInside (state S.Store tx.old.conn.now) }
+    requires inside { BeginsInside S.Store tx.old.conn }
     requires shown { IsTrusted (state S.Store tx.old.conn.now) → IsPermutation (map entry_columns ((state S.Store tx.old.conn.now).now.trees 6)) shown.now }
     requires ordered { AreByKey rows.now }
-    ensures same_reference { tx.new.conn.ghost_name ≡ tx.old.conn.ghost_name }
-    ensures before { IsTrusted (state S.Store tx.new.conn.now) → IsTrusted (state S.Store tx.old.conn.now) }
-    ensures lasts { Lasts (state S.Store tx.old.conn.now) (state S.Store tx.new.conn.now) }
-    ensures open { HasCleanDisk (state S.Store tx.new.conn.now) → IsTrusted (state S.Store tx.old.conn.now) → OnOk result (IsTrusted (state S.Store tx.new.conn.now)) }
-    ensures on { IsTrusted (state S.Store tx.new.conn.now) → OnOk result (WentOn (state S.Store tx.old.conn.now) (state S.Store tx.new.conn.now)) }
-    ensures set { IsTrusted (state S.Store tx.new.conn.now) → OnOk result (SetsRows (state S.Store tx.old.conn.now).now.trees (state S.Store tx.new.conn.now).now.trees rows.now) }
-    ensures err { IsTrusted (state S.Store tx.new.conn.now) → OnErr result ((state S.Store tx.new.conn.now).committed ≡ (state S.Store tx.old.conn.now).committed) }
+    ensures steps { StepsWithin S.Store tx.old.conn tx.new.conn result }
+    ensures set { Yields S.Store tx.old.conn tx.new.conn result (λ db next _. SetsRows db next rows.now) }
     ensures bad { result ≢ Err (KeepFault.Store Cause.BadRow) }
 {
     let mut at = Compared {
@@ -541,15 +455,10 @@ fn change_rows<S: Alter>(
 
 /// Puts these rows in place of the old ones: what is gone is taken out, and what is new is put in.
 pub fn set_rows<S: Alter>(tx: &mut Transaction<'_, S>, rows: &[RowIn]) -> Result<(), KeepFault>
-    requires inside { IsTrusted (state S.Store tx.old.conn.now) → IsInside (state S.Store tx.old.conn.now) }
+    requires inside { BeginsInside S.Store tx.old.conn }
     requires ordered { AreByKey rows.now }
-    ensures same_reference { tx.new.conn.ghost_name ≡ tx.old.conn.ghost_name }
-    ensures before { IsTrusted (state S.Store tx.new.conn.now) → IsTrusted (state S.Store tx.old.conn.now) }
-    ensures lasts { Lasts (state S.Store tx.old.conn.now) (state S.Store tx.new.conn.now) }
-    ensures open { HasCleanDisk (state S.Store tx.new.conn.now) → IsTrusted (state S.Store tx.old.conn.now) → OnOk result (IsTrusted (state S.Store tx.new.conn.now)) }
-    ensures on { IsTrusted (state S.Store tx.new.conn.now) → OnOk result (WentOn (state S.Store tx.old.conn.now) (state S.Store tx.new.conn.now)) }
-    ensures set { IsTrusted (state S.Store tx.new.conn.now) → OnOk result (SetsRows (state S.Store tx.old.conn.now).now.trees (state S.Store tx.new.conn.now).now.trees rows.now) }
-    ensures err { IsTrusted (state S.Store tx.new.conn.now) → OnErr result ((state S.Store tx.new.conn.now).committed ≡ (state S.Store tx.old.conn.now).committed) }
+    ensures steps { StepsWithin S.Store tx.old.conn tx.new.conn result }
+    ensures set { Yields S.Store tx.old.conn tx.new.conn result (λ db next _. SetsRows db next rows.now) }
     ensures bad { result ≢ Err (KeepFault.Store Cause.BadRow) }
 {
     let listed = listed_rows(tx)?;

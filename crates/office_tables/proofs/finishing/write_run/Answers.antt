@@ -9,7 +9,7 @@ pub returns-clause-done : goal.returns-clause-done
 returns-clause-done g c trusted =
     let third = c.in_ok-added.ensures.before trusted in
     let second = c.in_ok-change_facts.ensures.before third in
-    let first = c.in_ok-set_rows.ensures.before second in
+    let first = c.in_ok-set_rows.ensures.steps.before second in
     writes c.args.release (state g.S.Store c.args.tx.now.conn.now).now.trees (state g.S.Store c.set_sources.new.tx.conn.now).now.trees (state g.S.Store c.set_rows.new.tx.conn.now).now.trees
     (state g.S.Store c.change_facts.new.tx.conn.now).now.trees (state g.S.Store c.record_run.new.tx.conn.now).now.trees c.args.run c.args.done.now c.args.said.now
     (rw c.sources.ensures.entries at (c.in_ok-set_sources.ensures.set first)) (rw c.rows.ensures.entries at (c.in_ok-set_rows.ensures.set second)) (c.in_ok-change_facts.ensures.changed third)
@@ -79,19 +79,19 @@ pub returns-in_err-added-clause-done : goal.returns-in_err-added-clause-done
 returns-in_err-added-clause-done g c trusted = IfOk-from_err c.from_residual-in_err-added.result _ c.from_residual-in_err-added.ensures.0
 
 pub returns-in_err-set_rows-clause-lasts : goal.returns-in_err-set_rows-clause-lasts
-returns-in_err-set_rows-clause-lasts g c = lasts_then _ _ _ c.in_ok-set_sources.ensures.lasts c.in_err-set_rows.ensures.lasts
+returns-in_err-set_rows-clause-lasts g c = lasts_then _ _ _ c.in_ok-set_sources.ensures.steps.lasts c.in_err-set_rows.ensures.steps.lasts
 
 pub returns-in_err-change_facts-clause-lasts : goal.returns-in_err-change_facts-clause-lasts
-returns-in_err-change_facts-clause-lasts g c = lasts_then _ _ _ (lasts_then _ _ _ c.in_ok-set_sources.ensures.lasts c.in_ok-set_rows.ensures.lasts) c.in_err-change_facts.ensures.lasts
+returns-in_err-change_facts-clause-lasts g c = lasts_then _ _ _ (lasts_then _ _ _ c.in_ok-set_sources.ensures.steps.lasts c.in_ok-set_rows.ensures.steps.lasts) c.in_err-change_facts.ensures.lasts
 
 pub returns-in_err-added-clause-lasts : goal.returns-in_err-added-clause-lasts
-returns-in_err-added-clause-lasts g c = lasts_then _ _ _ (lasts_then _ _ _ (lasts_then _ _ _ c.in_ok-set_sources.ensures.lasts c.in_ok-set_rows.ensures.lasts) c.in_ok-change_facts.ensures.lasts) c.in_err-added.ensures.lasts
+returns-in_err-added-clause-lasts g c = lasts_then _ _ _ (lasts_then _ _ _ (lasts_then _ _ _ c.in_ok-set_sources.ensures.steps.lasts c.in_ok-set_rows.ensures.steps.lasts) c.in_ok-change_facts.ensures.lasts) c.in_err-added.ensures.lasts
 
 pub returns-clause-lasts : goal.returns-clause-lasts
-returns-clause-lasts g c = lasts_then _ _ _ (lasts_then _ _ _ (lasts_then _ _ _ c.in_ok-set_sources.ensures.lasts c.in_ok-set_rows.ensures.lasts) c.in_ok-change_facts.ensures.lasts) c.in_ok-added.ensures.lasts
+returns-clause-lasts g c = lasts_then _ _ _ (lasts_then _ _ _ (lasts_then _ _ _ c.in_ok-set_sources.ensures.steps.lasts c.in_ok-set_rows.ensures.steps.lasts) c.in_ok-change_facts.ensures.lasts) c.in_ok-added.ensures.lasts
 
 pub returns-clause-open : goal.returns-clause-open
-returns-clause-open g c clean trusted = c.in_ok-added.ensures.open clean (c.in_ok-change_facts.ensures.open (clean_before _ _ c.in_ok-added.ensures.lasts clean) (c.in_ok-set_rows.ensures.open (clean_before _ _ c.in_ok-change_facts.ensures.lasts (clean_before _ _ c.in_ok-added.ensures.lasts clean)) (c.in_ok-set_sources.ensures.open (clean_before _ _ c.in_ok-set_rows.ensures.lasts (clean_before _ _ c.in_ok-change_facts.ensures.lasts (clean_before _ _ c.in_ok-added.ensures.lasts clean))) trusted)))
+returns-clause-open g c clean trusted = c.in_ok-added.ensures.open clean (c.in_ok-change_facts.ensures.open (clean_before _ _ c.in_ok-added.ensures.lasts clean) (c.in_ok-set_rows.ensures.steps.stays (clean_before _ _ c.in_ok-change_facts.ensures.lasts (clean_before _ _ c.in_ok-added.ensures.lasts clean)) (c.in_ok-set_sources.ensures.steps.stays (clean_before _ _ c.in_ok-set_rows.ensures.steps.lasts (clean_before _ _ c.in_ok-change_facts.ensures.lasts (clean_before _ _ c.in_ok-added.ensures.lasts clean))) trusted)))
 
 pub returns-clause-on : goal.returns-clause-on
-returns-clause-on g c trusted = record { inside = (c.in_ok-added.ensures.on trusted).inside; committed = (c.in_ok-added.ensures.on trusted).committed ∙ (c.in_ok-change_facts.ensures.on (c.in_ok-added.ensures.before trusted)).committed ∙ (c.in_ok-set_rows.ensures.on (c.in_ok-change_facts.ensures.before (c.in_ok-added.ensures.before trusted))).committed ∙ (c.in_ok-set_sources.ensures.on (c.in_ok-set_rows.ensures.before (c.in_ok-change_facts.ensures.before (c.in_ok-added.ensures.before trusted)))).committed }
+returns-clause-on g c trusted = record { inside = (c.in_ok-added.ensures.on trusted).inside; committed = (c.in_ok-added.ensures.on trusted).committed ∙ (c.in_ok-change_facts.ensures.on (c.in_ok-added.ensures.before trusted)).committed ∙ (c.in_ok-set_rows.ensures.steps.on (c.in_ok-change_facts.ensures.before (c.in_ok-added.ensures.before trusted))).committed ∙ (c.in_ok-set_sources.ensures.steps.on (c.in_ok-set_rows.ensures.steps.before (c.in_ok-change_facts.ensures.before (c.in_ok-added.ensures.before trusted)))).committed }

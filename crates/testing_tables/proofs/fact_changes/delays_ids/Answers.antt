@@ -6,7 +6,9 @@ use Rattle.sqlite.specs.Held.{state}
 use Rattle.testing_tables.specs.Texts.{delays_ids_text}
 use Rattle.testing_tables.specs.FactSteps.{id_columns, is_delays}
 use Rattle.testing_tables.proofs.FactShows.{delays_ids_plain, shows_delays_ids}
-use Rattle.testing_tables.proofs.InsideLemmas.{AskedInside, inside_before, inside_same, inside_on, inside_rows, inside_err, inside_open}
+use Rattle.testing_tables.proofs.InsideLemmas.{AskedInside, inside_same, inside_rows}
+use Rattle.testing_tables.proofs.StateLemmas.{lasts_survived}
+use Rattle.testing_tables.proofs.WithinLemmas.{asked_within}
 use Rattle.testing_tables.proofs.fact_changes.delays_ids.Goals as goal
 
 asked : (g : _) (c : goal.After-query_all g) → AskedInside (λ r. r.items) delays_ids_text (Int (pos c.args.number) ∷ []) (state g.S.Store c.args.tx.now.conn.now) (state g.S.Store c.query_all.new.self.conn.now) c.query_all.result
@@ -17,14 +19,11 @@ asked g c = record {
   err = rw c.params-to_sql.ensures at c.query_all.ensures.err;
 }
 
-pub returns-clause-before : goal.returns-clause-before
-returns-clause-before g c trusted = inside_before _ _ _ _ _ _ (asked g c) trusted
+pub returns-clause-steps : goal.returns-clause-steps
+returns-clause-steps g c = asked_within _ _ _ _ _ _ (asked g c) c.query_all.ensures.same_reference delays_ids_plain.0 (lasts_survived _ _ c.query_all.ensures.survives) c.requires.inside
 
 pub returns-clause-same : goal.returns-clause-same
 returns-clause-same g c trusted = inside_same _ _ _ _ _ delays_ids_plain.0 c.requires.inside _ (asked g c) trusted
-
-pub returns-clause-on : goal.returns-clause-on
-returns-clause-on g c trusted = inside_on _ _ _ _ _ delays_ids_plain.0 c.requires.inside _ (asked g c) trusted
 
 pub returns-clause-rows : goal.returns-clause-rows
 returns-clause-rows g c trusted =
@@ -32,9 +31,3 @@ returns-clause-rows g c trusted =
     let new = state g.S.Store c.query_all.new.self.conn.now in
     inside_rows (λ r. r.items) delays_ids_text (Int (pos c.args.number) ∷ []) old new delays_ids_plain.0 c.requires.inside (λ (rows : List Row). IsPermutation (map id_columns (filter (is_delays c.args.number) (old.now.trees 10))) rows) c.query_all.result (asked g c) trusted
     (λ rows has h. shows_delays_ids c.args.number old new rows has h)
-
-pub returns-clause-err : goal.returns-clause-err
-returns-clause-err g c trusted = inside_err _ _ _ _ _ _ (asked g c) trusted
-
-pub returns-clause-open : goal.returns-clause-open
-returns-clause-open g c clean trusted = inside_open _ _ _ _ _ _ (asked g c) clean trusted

@@ -3,7 +3,9 @@ use Rattle.sqlite.specs.declared.types.Value.TheVariants.{Int}
 use Rattle.sqlite.specs.Held.{state}
 use Rattle.testing_tables.specs.Texts.{take_delays_text}
 use Rattle.testing_tables.specs.FactSteps.{TakesDelays}
-use Rattle.testing_tables.proofs.StepLemmas.{Stepped, step_counts_on, step_counts, step_open}
+use Rattle.testing_tables.proofs.StateLemmas.{lasts_survived}
+use Rattle.testing_tables.proofs.StepLemmas.{Stepped, step_counts}
+use Rattle.testing_tables.proofs.WithinLemmas.{stepped_within}
 use Rattle.testing_tables.proofs.FactWrites.{takes_delays}
 use Rattle.testing_tables.proofs.fact_changes.take_delays.Goals as goal
 
@@ -17,11 +19,11 @@ stepped g c =
       runs = rw (to_z-of_z fits) at (rw c.params-to_sql.ensures at c.execute.ensures.runs);
     }
 
-pub returns-clause-on : goal.returns-clause-on
-returns-clause-on g c trusted =
+pub returns-clause-steps : goal.returns-clause-steps
+returns-clause-steps g c =
     let old = state g.S.Store c.args.tx.now.conn.now in
     let new = state g.S.Store c.execute.new.self.conn.now in
-    step_counts_on _ _ old new (λ count. TakesDelays old.now.trees new.now.trees c.args.id count) c.execute.result (stepped g c) trusted c.requires.inside
+    stepped_within _ _ _ _ (λ count. TakesDelays old.now.trees new.now.trees c.args.id count) c.execute.result (stepped g c) c.execute.ensures.same_reference (λ idle. (c.execute.ensures.ended idle).1) (lasts_survived _ _ c.execute.ensures.survives) c.requires.inside
     (λ count inside h. takes_delays c.args.id old new count inside.schema h)
 
 pub returns-clause-taken : goal.returns-clause-taken
@@ -30,6 +32,3 @@ returns-clause-taken g c trusted =
     let new = state g.S.Store c.execute.new.self.conn.now in
     step_counts _ _ old new (λ count. TakesDelays old.now.trees new.now.trees c.args.id count) c.execute.result (stepped g c) trusted c.requires.inside
     (λ count inside h. takes_delays c.args.id old new count inside.schema h)
-
-pub returns-clause-open : goal.returns-clause-open
-returns-clause-open g c clean trusted = step_open _ _ _ _ c.execute.result (stepped g c) clean trusted

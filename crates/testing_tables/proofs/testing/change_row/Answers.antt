@@ -6,8 +6,8 @@ use Rattle.sqlite.specs.Held.{state}
 use Rattle.testing_tables.specs.Entries.{entry_in}
 use Rattle.testing_tables.specs.EntrySteps.{row_entry}
 use Rattle.testing_tables.specs.Differences.{Agrees}
-use Rattle.testing_tables.proofs.StateLemmas.{lasts_same}
 use Rattle.testing_tables.proofs.DifferenceLemmas.{rows_stay, row_leaves, row_comes}
+use Rattle.testing_tables.proofs.WithinLemmas.{none_within}
 use Rattle.testing_tables.proofs.testing.change_row.Goals as goal
 
 pub returns-in-Stays-clause-compared : goal.returns-in-Stays-clause-compared
@@ -40,23 +40,11 @@ returns-in_ok-add_row-in-Comes-clause-compared g c trusted first was =
     row_comes c.args.shown.now c.args.rows.now first (state g.S.Store c.args.tx.now.conn.now).now.trees (state g.S.Store c.add_row.new.tx.conn.now).now.trees c.args.at.shown c.args.at.entries c.index-rows-place.result c.as_str-name.result.now
     (slice_get_read c.args.rows.now (length c.args.rows.now) c.args.at.entries c.index-rows-place.result refl below c.index-rows-place.is) (c.as_str-name.ensures ∙ ap (λ (q : Binary). q.name) c.deref.ensures) (c.in_ok-add_row-in-Comes.ensures.added trusted) was
 
-pub returns-in_err-row_change-clause-open : goal.returns-in_err-row_change-clause-open
-returns-in_err-row_change-clause-open g c clean trusted = IfOk-from_err c.from_residual.result _ c.from_residual.ensures.0
-
-pub returns-in_err-row_change-clause-on : goal.returns-in_err-row_change-clause-on
-returns-in_err-row_change-clause-on g c trusted = IfOk-from_err c.from_residual.result _ c.from_residual.ensures.0
-
 pub returns-in_err-row_change-clause-further : goal.returns-in_err-row_change-clause-further
 returns-in_err-row_change-clause-further g c = IfOk-from_err c.from_residual.result _ c.from_residual.ensures.0
 
 pub returns-in_err-row_change-clause-compared : goal.returns-in_err-row_change-clause-compared
 returns-in_err-row_change-clause-compared g c trusted = IfOk-from_err c.from_residual.result _ c.from_residual.ensures.0
-
-pub returns-in_err-take_one_row-in-Leaves-clause-open : goal.returns-in_err-take_one_row-in-Leaves-clause-open
-returns-in_err-take_one_row-in-Leaves-clause-open g c clean trusted = IfOk-from_err c.from_residual-in_err-take_one_row-in-Leaves.result _ c.from_residual-in_err-take_one_row-in-Leaves.ensures.0
-
-pub returns-in_err-take_one_row-in-Leaves-clause-on : goal.returns-in_err-take_one_row-in-Leaves-clause-on
-returns-in_err-take_one_row-in-Leaves-clause-on g c trusted = IfOk-from_err c.from_residual-in_err-take_one_row-in-Leaves.result _ c.from_residual-in_err-take_one_row-in-Leaves.ensures.0
 
 pub returns-in_err-take_one_row-in-Leaves-clause-further : goal.returns-in_err-take_one_row-in-Leaves-clause-further
 returns-in_err-take_one_row-in-Leaves-clause-further g c = IfOk-from_err c.from_residual-in_err-take_one_row-in-Leaves.result _ c.from_residual-in_err-take_one_row-in-Leaves.ensures.0
@@ -64,26 +52,14 @@ returns-in_err-take_one_row-in-Leaves-clause-further g c = IfOk-from_err c.from_
 pub returns-in_err-take_one_row-in-Leaves-clause-compared : goal.returns-in_err-take_one_row-in-Leaves-clause-compared
 returns-in_err-take_one_row-in-Leaves-clause-compared g c trusted = IfOk-from_err c.from_residual-in_err-take_one_row-in-Leaves.result _ c.from_residual-in_err-take_one_row-in-Leaves.ensures.0
 
-pub returns-in_err-add_row-in-Comes-clause-open : goal.returns-in_err-add_row-in-Comes-clause-open
-returns-in_err-add_row-in-Comes-clause-open g c clean trusted = IfOk-from_err c.from_residual-in_err-add_row-in-Comes.result _ c.from_residual-in_err-add_row-in-Comes.ensures.0
-
-pub returns-in_err-add_row-in-Comes-clause-on : goal.returns-in_err-add_row-in-Comes-clause-on
-returns-in_err-add_row-in-Comes-clause-on g c trusted = IfOk-from_err c.from_residual-in_err-add_row-in-Comes.result _ c.from_residual-in_err-add_row-in-Comes.ensures.0
-
 pub returns-in_err-add_row-in-Comes-clause-further : goal.returns-in_err-add_row-in-Comes-clause-further
 returns-in_err-add_row-in-Comes-clause-further g c = IfOk-from_err c.from_residual-in_err-add_row-in-Comes.result _ c.from_residual-in_err-add_row-in-Comes.ensures.0
 
 pub returns-in_err-add_row-in-Comes-clause-compared : goal.returns-in_err-add_row-in-Comes-clause-compared
 returns-in_err-add_row-in-Comes-clause-compared g c trusted = IfOk-from_err c.from_residual-in_err-add_row-in-Comes.result _ c.from_residual-in_err-add_row-in-Comes.ensures.0
 
-pub returns-in-Stays-clause-lasts : goal.returns-in-Stays-clause-lasts
-returns-in-Stays-clause-lasts g c = lasts_same _
-
-pub returns-in-Stays-clause-open : goal.returns-in-Stays-clause-open
-returns-in-Stays-clause-open g c clean trusted = trusted
-
-pub returns-in-Stays-clause-on : goal.returns-in-Stays-clause-on
-returns-in-Stays-clause-on g c trusted = record { inside = c.requires.inside trusted; committed = refl }
+pub returns-in-Stays-clause-steps : goal.returns-in-Stays-clause-steps
+returns-in-Stays-clause-steps g c = none_within _ _ c.requires.inside
 
 pub returns-in-Stays-clause-further : goal.returns-in-Stays-clause-further
 returns-in-Stays-clause-further g c =

@@ -1,7 +1,7 @@
-use Rattle.std.proofs.Common.{refl, ◌∙◌, arith}
+use Rattle.std.proofs.Common.{true, arith}
 use Rattle.std.proofs.lemmas.Result.{IfOk-from_err}
 use Rattle.sqlite.specs.Held.{state}
-use Rattle.testing_tables.proofs.StateLemmas.{lasts_same, lasts_then, clean_before}
+use Rattle.testing_tables.proofs.WithinLemmas.{none_within, kept_within, failed_within, then_within}
 use Rattle.testing_tables.proofs.DifferenceLemmas.{rows_start, rows_end}
 use Rattle.testing_tables.proofs.testing.change_rows.Goals as goal
 
@@ -10,53 +10,29 @@ changes-preserved g c =
     let step = c.in_ok-at.ensures in
     let was = c.changes.invariant in
     record {
-      same = step.same_reference ∙ was.same;
-      lasts = lasts_then _ _ _ was.lasts step.lasts;
-      still = λ clean trusted. step.open clean (was.still (clean_before _ _ step.lasts clean) trusted);
+      steps = then_within _ was.steps (kept_within _ step.steps);
       within_shown = step.further.within_shown;
       within_new = step.further.within_new;
-      so_far = λ trusted.
-          let so = was.so_far (step.before trusted) in
-          let on = step.on trusted in
-          record {
-            before = so.before;
-            on = record { inside = on.inside; committed = on.committed ∙ so.on.committed };
-            changed = step.compared trusted (state g.S.Store c.args.tx.now.conn.now).now.trees so.changed;
-          };
+      changed = λ trusted. step.compared trusted (state g.S.Store c.args.tx.now.conn.now).now.trees (was.changed (step.steps.before trusted));
     }
-
-pub returns-in_err-at-clause-lasts : goal.returns-in_err-at-clause-lasts
-returns-in_err-at-clause-lasts g c = lasts_then _ _ _ c.changes.invariant.lasts c.in_err-at.ensures.lasts
-
-pub returns-clause-lasts : goal.returns-clause-lasts
-returns-clause-lasts g c = c.changes.invariant.lasts
-
-pub returns-clause-open : goal.returns-clause-open
-returns-clause-open g c clean trusted = c.changes.invariant.still clean trusted
 
 pub returns-clause-set : goal.returns-clause-set
 returns-clause-set g c trusted =
-    rows_end c.args.shown.now c.args.rows.now (state g.S.Store c.args.tx.now.conn.now).now.trees (state g.S.Store c.changes.tx.conn.now).now.trees c.changes.at.shown c.changes.at.entries c.requires.ordered (omega (arith, c.if-at-shown.false)) (omega (arith, c.if-at-rows.false)) (c.changes.invariant.so_far trusted).changed
+    rows_end c.args.shown.now c.args.rows.now (state g.S.Store c.args.tx.now.conn.now).now.trees (state g.S.Store c.changes.tx.conn.now).now.trees c.changes.at.shown c.changes.at.entries c.requires.ordered (omega (arith, c.if-at-shown.false)) (omega (arith, c.if-at-rows.false)) (c.changes.invariant.changed trusted)
 
 pub changes-init : goal.changes-init
 changes-init g c = record {
-  same = refl;
-  lasts = lasts_same _;
-  still = λ clean trusted. trusted;
+  steps = none_within _ true c.requires.inside;
   within_shown = omega arith;
   within_new = omega arith;
-  so_far = λ trusted. record {
-    before = trusted;
-    on = record { inside = c.requires.inside trusted; committed = refl };
-    changed = rows_start c.args.shown.now c.args.rows.now (state g.S.Store c.args.tx.now.conn.now).now.trees (c.requires.shown trusted);
-  };
+  changed = λ trusted. rows_start c.args.shown.now c.args.rows.now (state g.S.Store c.args.tx.now.conn.now).now.trees (c.requires.shown trusted);
 }
-
-pub returns-in_err-at-clause-open : goal.returns-in_err-at-clause-open
-returns-in_err-at-clause-open g c clean trusted = IfOk-from_err c.from_residual.result _ c.from_residual.ensures.0
-
-pub returns-in_err-at-clause-on : goal.returns-in_err-at-clause-on
-returns-in_err-at-clause-on g c trusted = IfOk-from_err c.from_residual.result _ c.from_residual.ensures.0
 
 pub returns-in_err-at-clause-set : goal.returns-in_err-at-clause-set
 returns-in_err-at-clause-set g c trusted = IfOk-from_err c.from_residual.result _ c.from_residual.ensures.0
+
+pub returns-clause-steps : goal.returns-clause-steps
+returns-clause-steps g c = kept_within _ c.changes.invariant.steps
+
+pub returns-in_err-at-clause-steps : goal.returns-in_err-at-clause-steps
+returns-in_err-at-clause-steps g c = then_within _ c.changes.invariant.steps (failed_within _ c.from_residual.ensures.0 c.in_err-at.ensures.steps)

@@ -1,12 +1,12 @@
-use Rattle.std.proofs.Common.{◌≡◌, map, sym, ap, subst, ◌∙◌}
+use Rattle.std.proofs.Common.{◌≡◌, map, sym, ap, subst}
 use Rattle.std.proofs.lemmas.Result.{IfOk-from_err}
 use Rattle.std.specs.List.Sorted.{IsPermutation}
 use Rattle.std.proofs.lemmas.List.Sorted.{IsPermutation-trans}
 use Rattle.sqlite.specs.Effect.{Database}
 use Rattle.sqlite.specs.Tree.{Trees}
 use Rattle.sqlite.specs.Held.{state}
-use Rattle.testing_tables.proofs.StateLemmas.{lasts_then, clean_before}
 use Rattle.testing_tables.specs.EntrySteps.{entry_columns}
+use Rattle.testing_tables.proofs.WithinLemmas.{failed_within, then_within}
 use Rattle.testing_tables.proofs.testing.set_rows.Goals as goal
 
 pub change_rows-requires-clause-shown : goal.change_rows-requires-clause-shown
@@ -18,32 +18,14 @@ change_rows-requires-clause-shown g c trusted =
     subst (λ (t : Trees). IsPermutation (map entry_columns (t 6)) c.as_slice.result.now) (sym same)
     (subst (IsPermutation (map entry_columns (old.now.trees 6))) (sym c.as_slice.ensures.value) there)
 
-pub returns-in_err-listed-clause-open : goal.returns-in_err-listed-clause-open
-returns-in_err-listed-clause-open g c clean trusted = IfOk-from_err c.from_residual.result _ c.from_residual.ensures.0
-
-pub returns-in_err-listed-clause-on : goal.returns-in_err-listed-clause-on
-returns-in_err-listed-clause-on g c trusted = IfOk-from_err c.from_residual.result _ c.from_residual.ensures.0
-
 pub returns-in_err-listed-clause-set : goal.returns-in_err-listed-clause-set
 returns-in_err-listed-clause-set g c trusted = IfOk-from_err c.from_residual.result _ c.from_residual.ensures.0
-
-pub returns-in_err-change_rows-clause-open : goal.returns-in_err-change_rows-clause-open
-returns-in_err-change_rows-clause-open g c clean trusted = IfOk-from_err c.from_residual-in_err-change_rows.result _ c.from_residual-in_err-change_rows.ensures.0
-
-pub returns-in_err-change_rows-clause-on : goal.returns-in_err-change_rows-clause-on
-returns-in_err-change_rows-clause-on g c trusted = IfOk-from_err c.from_residual-in_err-change_rows.result _ c.from_residual-in_err-change_rows.ensures.0
 
 pub returns-in_err-change_rows-clause-set : goal.returns-in_err-change_rows-clause-set
 returns-in_err-change_rows-clause-set g c trusted = IfOk-from_err c.from_residual-in_err-change_rows.result _ c.from_residual-in_err-change_rows.ensures.0
 
-pub returns-in_err-change_rows-clause-lasts : goal.returns-in_err-change_rows-clause-lasts
-returns-in_err-change_rows-clause-lasts g c = lasts_then _ _ _ c.in_ok-listed.ensures.lasts c.in_err-change_rows.ensures.lasts
+pub returns-in_err-change_rows-clause-steps : goal.returns-in_err-change_rows-clause-steps
+returns-in_err-change_rows-clause-steps g c = then_within _ c.in_ok-listed.ensures.steps (failed_within _ c.from_residual-in_err-change_rows.ensures.0 c.in_err-change_rows.ensures.steps)
 
-pub returns-clause-lasts : goal.returns-clause-lasts
-returns-clause-lasts g c = lasts_then _ _ _ c.in_ok-listed.ensures.lasts c.in_ok-change_rows.ensures.lasts
-
-pub returns-clause-open : goal.returns-clause-open
-returns-clause-open g c clean trusted = c.in_ok-change_rows.ensures.open clean (c.in_ok-listed.ensures.open (clean_before _ _ c.in_ok-change_rows.ensures.lasts clean) trusted)
-
-pub returns-clause-on : goal.returns-clause-on
-returns-clause-on g c trusted = record { inside = (c.in_ok-change_rows.ensures.on trusted).inside; committed = (c.in_ok-change_rows.ensures.on trusted).committed ∙ (c.in_ok-listed.ensures.on (c.in_ok-change_rows.ensures.before trusted)).committed }
+pub returns-clause-steps : goal.returns-clause-steps
+returns-clause-steps g c = then_within _ c.in_ok-listed.ensures.steps c.in_ok-change_rows.ensures.steps
