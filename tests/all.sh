@@ -4,7 +4,7 @@
 # Usage: tests/all.sh OFFICE [STEP [PARTS]]
 #
 # OFFICE is the built program, crates/office/out/office. With STEP only each STEPth growth, call and place is tried (1):
-# 23 is a sample. PARTS is the built program that judges itself, crates/office_rows/out/office_rows (see
+# 23 is a sample. PARTS is the built program that judges itself, crates/cases_program/out/cases_program (see
 # tests/memory/refused.py). What each check prints stands in a file of a new folder, whose name is told, and is printed
 # where the check failed. The exit status is 1 where one failed.
 set -u

@@ -21,9 +21,9 @@ from collections import defaultdict
 from pathlib import Path
 
 USERS = ['deb_version', 'deb_control', 'testing_install', 'testing_rules', 'office_mail', 'office_store',
-         'office_bags', 'office_checks', 'office_http', 'office_words', 'office_commands',
+         'office_core_queries', 'office_core_check', 'office_http', 'office_cli_words', 'office_cli',
          'office']
-INNER = {('office_replays', 'settle_behind')}
+INNER = {('office_core_replay', 'settle_behind')}
 STEPS = '-- Steps: no contract of a call that users make rests on this file.'
 CLAUSE = re.compile(r'\b(requires|ensures|before)\b\s*[\w-]*\s*$')
 ITEM = re.compile(r'(?P<pub>pub(?:\([a-z]+\))?\s+)?(?P<ghost>ghost\s+)?(?:unsafe\s+)?(?:const\s+(?=fn\b))?(?:(?P<kind>'
@@ -283,7 +283,7 @@ def table(tree, users, every):
         found = [d for f in tree.files.values() if crate in (f.crate, 'all') for d in f.definitions]
         whole, narrow, wide = (sum(d.count for d in found if d in s) for s in (found, users, every))
         if whole:
-            yield f'{crate:16}{whole:7}{narrow:7}{whole - narrow:7}{wide:12}{whole - wide:7}'
+            yield f'{crate:28}{whole:7}{narrow:7}{whole - narrow:7}{wide:12}{whole - wide:7}'
 
 def main():
     option, _, name = next((a for a in sys.argv[1:] if a.startswith('--')), '').partition('=')

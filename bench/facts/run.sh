@@ -10,7 +10,7 @@ trap 'rm -rf "$work"' EXIT
 # The proved program, beside copies of the crates that it stands on.
 crates=$("$top/bench/crates_below" office_mail testing_rules)
 for name in $crates; do grep "^$name:" "$top/crates.txt"; done > "$work/crates.txt"
-echo 'bench_facts: deb_version deb_control testing_items testing_model testing_rules office_mail jiff anyhow' >> "$work/crates.txt"
+echo 'bench_facts: deb_version deb_control testing_rules_items testing_rules_model testing_rules office_mail jiff anyhow' >> "$work/crates.txt"
 proved=$work/crates/bench_facts
 mkdir -p "$proved/src"
 cp "$here/program.rattle" "$proved/src/main.rt"

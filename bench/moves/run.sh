@@ -10,7 +10,7 @@ trap 'rm -rf "$work"' EXIT
 # The proved program, beside copies of the crates that it stands on.
 crates=$("$top/bench/crates_below" testing_rules)
 for name in $crates; do grep "^$name:" "$top/crates.txt"; done > "$work/crates.txt"
-echo 'bench_moves: deb_version deb_control testing_items testing_model testing_rules jiff anyhow' >> "$work/crates.txt"
+echo 'bench_moves: deb_version deb_control testing_rules_items testing_rules_model testing_rules jiff anyhow' >> "$work/crates.txt"
 proved=$work/crates/bench_moves
 mkdir -p "$proved/src" "$proved/proofs/one_arch"
 cp "$here/program.rattle" "$proved/src/main.rt"

@@ -1,11 +1,11 @@
-"""The rows of the rules in crates/library_rows, and what is due for them."""
+"""The rows of the rules in crates/cases_libraries, and what is due for them."""
 import os
 from datetime import date
 from judge import Suite, run
 from mail import SENDERS, Mail
 
 HERE = os.path.dirname(os.path.abspath(__file__))
-CRATE = os.path.join(HERE, "..", "..", "crates", "library_rows")
+CRATE = os.path.join(HERE, "..", "..", "crates", "cases_libraries")
 ROWS = os.path.join(CRATE, "data", "rule_rows")
 SUITES = os.path.join(CRATE, "data", "random_suites")
 DRAWN = os.path.join(CRATE, "data", "drawn_rows")

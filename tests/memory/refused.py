@@ -10,9 +10,9 @@ where anything was lost, else 0. Then the same bag with ample memory, over the s
 reports. A check of the store finds it whole, or ends with status 4 and no line. A store of schema 1 is opened so too:
 it is then of schema 1 or 2, and goes on by the delays that were kept.
 
-PARTS is the built program that judges itself, `crates/office_rows/out/office_rows`: started with the word `memory`, it
-prints a line `PART: right` for each of its parts that may be refused memory. Each of its growths is refused in turn too,
-and each run must print what it prints with ample memory, with the same status.
+PARTS is the built program that judges itself, `crates/cases_program/out/cases_program`: started with the word `memory`,
+it prints a line `PART: right` for each of its parts that may be refused memory. Each of its growths is refused in turn
+too, and each run must print what it prints with ample memory, with the same status.
 
 Exit status 0 where all was so. The environment's words ONLY (of memory, file, service, parts) and ROWS (part of a
 bag's name) choose some.

@@ -1,5 +1,5 @@
 #!/usr/bin/env python3
-"""Holds model.py against the statements, and the rows of crates/office_rows/stdout against both. Exit status 0 where
+"""Holds model.py against the statements, and the rows of crates/cases_program/stdout against both. Exit status 0 where
 all agree."""
 import sys
 sys.dont_write_bytecode = True

@@ -1,5 +1,5 @@
 #!/usr/bin/env python3
-"""Counts what the random rows are about, by what is due for them: counts.py [FILE], by itself of crates/office_rows.
+"""Counts what the random rows are about, by what is due for them: counts.py [FILE], by itself of crates/cases_program.
 Exit status 1 where something comes less than ten times."""
 import re
 import sys

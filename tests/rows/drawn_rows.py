@@ -3,15 +3,15 @@
 
 usage: drawn_rows.py [--check]
 
-It writes crates/library_rows/data/drawn_rows, and what is due for it, in crates/library_rows/stdout: behind what is due
-for the rows of stdin, and before what is due for the rules. With --check it writes nothing, and ends with status 1 if
-the files are others.
+It writes crates/cases_libraries/data/drawn_rows, and what is due for it, in crates/cases_libraries/stdout: behind what
+is due for the rows of stdin, and before what is due for the rules. With --check it writes nothing, and ends with status
+1 if the files are others.
 """
 import os
 import re
 import sys
 
-CRATE = os.path.join(os.path.dirname(os.path.abspath(__file__)), "../../crates/library_rows")
+CRATE = os.path.join(os.path.dirname(os.path.abspath(__file__)), "../../crates/cases_libraries")
 HEAD = "The drawn rows, and chains: see the head of stdin. tests/rows/drawn_rows.py writes this file.\n\n"
 FIRST = "=== a chain whose last package"
 

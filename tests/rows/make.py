@@ -1,5 +1,5 @@
 #!/usr/bin/env python3
-"""Writes into crates/office_rows/stdout what is due for each row of its stdin, before what is due for its parts."""
+"""Writes into crates/cases_program/stdout what is due for each row of its stdin, before what is due for its parts."""
 import os
 import sys
 sys.dont_write_bytecode = True

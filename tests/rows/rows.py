@@ -4,7 +4,7 @@ import re
 from model import Office, SENDERS
 
 HERE = os.path.dirname(os.path.abspath(__file__))
-CRATE = os.path.join(HERE, "..", "..", "crates", "office_rows")
+CRATE = os.path.join(HERE, "..", "..", "crates", "cases_program")
 # What the program prints behind the rows: its parts, each with `right`.
 PARTS = re.compile(r"\n((?:[a-z]+, [a-z ]+: right\n)+)\Z")
 LETTERS = {"n": "\n", "r": "\r", "f": "\xff", "x": "x" * 65498, "y": "y" * 8167}

@@ -1,8 +1,8 @@
 //! The office's program: it reads its arguments, and does what they ask for.
 #![tactic(auto)]
 
-use office_commands::run_command;
-use office_words::{
+use office_cli::run_command;
+use office_cli_words::{
     ArgsFault, WordsFault, args_status, as_texts, read_args, read_words, words_status,
 };
 use std::process::ExitCode;

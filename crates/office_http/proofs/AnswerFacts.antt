@@ -5,24 +5,24 @@ use Rattle.office_mail.specs.Kept.{Kept}
 use Rattle.office_mail.specs.Lists.{Lists}
 use Rattle.office_mail.specs.Runs.{IsReadyCount}
 use Rattle.office_mail.specs.declared.message.RunOrder.{RunOrder}
-use Rattle.office_orders.specs.Replies.{status_line}
-use Rattle.office_orders.specs.WaitingLines.{lack_line, awaited_lines, waiting_text}
-use Rattle.office_orders.specs.declared.waiting_lines.Awaited.{Awaited}
-use Rattle.office_orders.specs.declared.waiting_lines.Awaited.TheVariants.{Order, Mail}
-use Rattle.office_orders.specs.declared.waiting_lines.Lack.{Lack}
-use Rattle.office_requests.specs.declared.reply.Answer.{Answer}
-use Rattle.office_requests.specs.declared.reply.Answer.TheVariants.{Status, Told}
-use Rattle.office_requests.specs.declared.request.Action.{Action}
-use Rattle.office_requests.specs.declared.request.Action.TheVariants.{Deliver, Settle, Try}
-use Rattle.office_requests.specs.declared.request.Asked.{Asked}
-use Rattle.office_requests.specs.declared.request.Asked.TheVariants as asks
-use Rattle.office_requests.specs.declared.request.Page.{Page}
-use Rattle.office_requests.specs.declared.request.Page.TheVariants as page
-use Rattle.office_requests.specs.declared.request.Posted.{Posted}
-use Rattle.office_rules.specs.declared.Trial.{Trial}
-use Rattle.office_facts.specs.OfficeState.{OfficeState}
-use Rattle.office_orders.specs.Waiting.{Awaits, AwaitsBy}
-use Rattle.office_orders.proofs.WaitingFacts.{one_list}
+use Rattle.office_core_orders.specs.Replies.{status_line}
+use Rattle.office_core_orders.specs.WaitingLines.{lack_line, awaited_lines, waiting_text}
+use Rattle.office_core_orders.specs.declared.waiting_lines.Awaited.{Awaited}
+use Rattle.office_core_orders.specs.declared.waiting_lines.Awaited.TheVariants.{Order, Mail}
+use Rattle.office_core_orders.specs.declared.waiting_lines.Lack.{Lack}
+use Rattle.office_http_requests.specs.declared.reply.Answer.{Answer}
+use Rattle.office_http_requests.specs.declared.reply.Answer.TheVariants.{Status, Told}
+use Rattle.office_http_requests.specs.declared.request.Action.{Action}
+use Rattle.office_http_requests.specs.declared.request.Action.TheVariants.{Deliver, Settle, Try}
+use Rattle.office_http_requests.specs.declared.request.Asked.{Asked}
+use Rattle.office_http_requests.specs.declared.request.Asked.TheVariants as asks
+use Rattle.office_http_requests.specs.declared.request.Page.{Page}
+use Rattle.office_http_requests.specs.declared.request.Page.TheVariants as page
+use Rattle.office_http_requests.specs.declared.request.Posted.{Posted}
+use Rattle.office_core_outcome.specs.declared.Trial.{Trial}
+use Rattle.office_core_facts.specs.OfficeState.{OfficeState}
+use Rattle.office_core_orders.specs.Waiting.{Awaits, AwaitsBy}
+use Rattle.office_core_orders.proofs.WaitingFacts.{one_list}
 use Rattle.office_http.specs.Serve.{action_answer, body_of, page_answer, post_answer, answer_of, report_answer, Found, IsFound, IsFoundBy, IsFoundByPost, IsFoundFor}
 use Rattle.office_http.specs.Trials.{tried_answer}
 

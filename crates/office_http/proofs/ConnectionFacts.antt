@@ -2,15 +2,15 @@
 use Rattle.std.proofs.Common.{◌⊎◌, ⊎_elim, ℕ, List, [], ◌∷◌, Option, Some, None, Result, Ok, Err, IfOk, IfErr, refl, sym, subst}
 use Rattle.office_mail.specs.Kept.{Within}
 use Rattle.office_mail.proofs.KeptFacts.{kept_from-Within}
-use Rattle.office_orders.specs.declared.faults.StoreFault.{StoreFault}
-use Rattle.office_requests.specs.declared.request.Action.{Action}
-use Rattle.office_requests.specs.declared.request.Action.TheVariants.{Deliver, Settle, Try}
+use Rattle.office_core_orders.specs.declared.faults.StoreFault.{StoreFault}
+use Rattle.office_http_requests.specs.declared.request.Action.{Action}
+use Rattle.office_http_requests.specs.declared.request.Action.TheVariants.{Deliver, Settle, Try}
 use Rattle.office_http.specs.declared.serve.ServeFault.{ServeFault}
 use Rattle.office_http.specs.declared.serve.ServeFault.TheVariants.{Read, Write}
 use Rattle.office_http.specs.declared.serve.Served.{Served}
 use Rattle.office_http.specs.Serve.{kept_by, Does, IsServed, Serves, StopsServe}
-use Rattle.office_facts.specs.OfficeState.{OfficeState}
-use Rattle.office_replays.proofs.StandFacts.{Grows, grows_same}
+use Rattle.office_core_facts.specs.OfficeState.{OfficeState}
+use Rattle.office_core_replay.proofs.StandFacts.{Grows, grows_same}
 
 within_by : (s : OfficeState) (action : Action) (body : List ℕ) (fault : Option StoreFault) → Within s.kept (kept_by s action body fault)
 within_by s Deliver body None = kept_from-Within s.setup s.kept (body ∷ [])

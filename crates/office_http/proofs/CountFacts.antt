@@ -5,12 +5,12 @@ use Rattle.std.proofs.lemmas.Bool.Decides.{nat_tests}
 use Rattle.std.specs.List.{AllByRecursion, range_with_len}
 use Rattle.std.specs.FinMap.{get}
 use Rattle.office_mail.specs.Kept.{Kept}
-use Rattle.office_keeper.specs.declared.values.Letter.{Letter}
-use Rattle.office_keeper.specs.Content.{letter_at, letters_within}
+use Rattle.office_store_keeper.specs.declared.values.Letter.{Letter}
+use Rattle.office_store_keeper.specs.Content.{letter_at, letters_within}
 use Rattle.office_mail.specs.Lists.{Lists}
-use Rattle.office_orders.specs.Ready.{HasPlaces}
-use Rattle.office_bags.specs.declared.mail.MailCount.{MailCount}
-use Rattle.office_bags.specs.Mail.{letters_of, AreMailCounts, IsMailCount}
+use Rattle.office_core_orders.specs.Ready.{HasPlaces}
+use Rattle.office_core_queries.specs.declared.mail.MailCount.{MailCount}
+use Rattle.office_core_queries.specs.Mail.{letters_of, AreMailCounts, IsMailCount}
 use Rattle.office_http.specs.Serve.{unbroken_from, mail_count, mail_counts}
 
 module _ (kept : Kept) (sender : ℕ) where

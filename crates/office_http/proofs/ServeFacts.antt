@@ -16,50 +16,50 @@ use Rattle.office_mail.specs.Kept.{Kept, kept_from}
 use Rattle.office_mail.specs.Lists.{Lists}
 use Rattle.office_mail.specs.Runs.{IsReady, IsReadyCount}
 use Rattle.office_mail.proofs.KeptFacts.{kept_from-nil}
-use Rattle.office_orders.specs.declared.faults.DeliverFault.{DeliverFault}
-use Rattle.office_orders.specs.declared.faults.DeliverFault.TheVariants.{Mail, OtherText, Store}
-use Rattle.office_orders.specs.declared.faults.Held.{Held}
-use Rattle.office_orders.specs.declared.faults.Progress.{Progress}
-use Rattle.office_orders.specs.declared.faults.StoreFault.{StoreFault}
-use Rattle.office_orders.specs.declared.faults.StoreFault.TheVariants as fault
-use Rattle.office_orders.specs.declared.replies.Mark.{Mark}
-use Rattle.office_orders.specs.declared.replies.Mark.TheVariants.{Taken, LostForMemory, LostForStore}
-use Rattle.office_orders.specs.declared.waiting_lines.Awaited.TheVariants.{Order}
-use Rattle.office_requests.specs.declared.reply.Refusal.{Refusal}
-use Rattle.office_requests.specs.declared.reply.Refusal.TheVariants as refusal
-use Rattle.office_requests.specs.declared.reply.Answer.{Answer}
-use Rattle.office_requests.specs.declared.reply.Answer.TheVariants.{Refused, Delivered, Status, Told}
-use Rattle.office_requests.specs.declared.request.Action.{Action}
-use Rattle.office_requests.specs.declared.request.Action.TheVariants.{Deliver, Settle, Try}
-use Rattle.office_requests.specs.declared.request.Page.{Page}
-use Rattle.office_requests.specs.declared.request.Page.TheVariants as page
-use Rattle.office_requests.specs.declared.request.Posted.{Posted}
-use Rattle.office_requests.specs.declared.request.Asked.{Asked}
-use Rattle.office_requests.specs.declared.request.Asked.TheVariants as asks
+use Rattle.office_core_orders.specs.declared.faults.DeliverFault.{DeliverFault}
+use Rattle.office_core_orders.specs.declared.faults.DeliverFault.TheVariants.{Mail, OtherText, Store}
+use Rattle.office_core_orders.specs.declared.faults.Held.{Held}
+use Rattle.office_core_orders.specs.declared.faults.Progress.{Progress}
+use Rattle.office_core_orders.specs.declared.faults.StoreFault.{StoreFault}
+use Rattle.office_core_orders.specs.declared.faults.StoreFault.TheVariants as fault
+use Rattle.office_core_orders.specs.declared.replies.Mark.{Mark}
+use Rattle.office_core_orders.specs.declared.replies.Mark.TheVariants.{Taken, LostForMemory, LostForStore}
+use Rattle.office_core_orders.specs.declared.waiting_lines.Awaited.TheVariants.{Order}
+use Rattle.office_http_requests.specs.declared.reply.Refusal.{Refusal}
+use Rattle.office_http_requests.specs.declared.reply.Refusal.TheVariants as refusal
+use Rattle.office_http_requests.specs.declared.reply.Answer.{Answer}
+use Rattle.office_http_requests.specs.declared.reply.Answer.TheVariants.{Refused, Delivered, Status, Told}
+use Rattle.office_http_requests.specs.declared.request.Action.{Action}
+use Rattle.office_http_requests.specs.declared.request.Action.TheVariants.{Deliver, Settle, Try}
+use Rattle.office_http_requests.specs.declared.request.Page.{Page}
+use Rattle.office_http_requests.specs.declared.request.Page.TheVariants as page
+use Rattle.office_http_requests.specs.declared.request.Posted.{Posted}
+use Rattle.office_http_requests.specs.declared.request.Asked.{Asked}
+use Rattle.office_http_requests.specs.declared.request.Asked.TheVariants as asks
 use Rattle.office_http.specs.declared.serve.ServeFault.{ServeFault}
 use Rattle.office_http.specs.declared.serve.ServeFault.TheVariants.{Read, Write}
 use Rattle.office_http.specs.declared.serve.Served.{Served}
-use Rattle.office_requests.specs.Asked.{asked_of, body_size, is_head_method}
-use Rattle.office_replays.specs.Losses.{TextCounted, DeliveryCounted}
-use Rattle.office_bags.specs.Mail.{mail_text}
-use Rattle.office_bags.specs.RunLines.{runs_text}
-use Rattle.office_facts.specs.Outcome.{testing_text, testing_after}
-use Rattle.office_orders.specs.Replies.{reply_by, mark_of, if_taken}
-use Rattle.office_requests.specs.Reply.{continue_bytes, refused, reply_in, reply_bytes, HasPlace}
-use Rattle.office_requests.specs.Request.{body_room, head_room, BeginsWith}
-use Rattle.office_requests.specs.RequestSteps.{Came, IsHeadAt}
-use Rattle.office_facts.specs.OfficeState.{OfficeState}
-use Rattle.office_facts.specs.State.{answer_to, reports_at}
-use Rattle.office_orders.specs.Written.{AppendsFront}
-use Rattle.office_rules.specs.declared.Trial.TheVariants.{NoDate}
+use Rattle.office_http_requests.specs.Asked.{asked_of, body_size, is_head_method}
+use Rattle.office_core_replay.specs.Losses.{TextCounted, DeliveryCounted}
+use Rattle.office_core_queries.specs.Mail.{mail_text}
+use Rattle.office_core_queries.specs.RunLines.{runs_text}
+use Rattle.office_core_facts.specs.Outcome.{testing_text, testing_after}
+use Rattle.office_core_orders.specs.Replies.{reply_by, mark_of, if_taken}
+use Rattle.office_http_requests.specs.Reply.{continue_bytes, refused, reply_in, reply_bytes, HasPlace}
+use Rattle.office_http_requests.specs.Request.{body_room, head_room, BeginsWith}
+use Rattle.office_http_requests.specs.RequestSteps.{Came, IsHeadAt}
+use Rattle.office_core_facts.specs.OfficeState.{OfficeState}
+use Rattle.office_core_facts.specs.State.{answer_to, reports_at}
+use Rattle.office_core_orders.specs.Written.{AppendsFront}
+use Rattle.office_core_outcome.specs.declared.Trial.TheVariants.{NoDate}
 use Rattle.office_http.specs.Serve.{mail_counts, page_answer, refusal_for, report_answer, letter_answer, delivery_answer, by_fault, posted_body, post_answer, answer_of, waits_of, continued, kept_by, settles, Does, Exchange, Found, IsFoundByPost, IsFoundFor, IsUnread, IsServed, Moves, Replied, RepliedFront, Serves, IsAwaited, StopsBefore, StopsServe}
-use Rattle.office_reasons.specs.Why.{IsWhy}
+use Rattle.office_core_why.specs.Why.{IsWhy}
 use Rattle.office_http.specs.Trials.{hints_in, trial_answer}
 use Rattle.office_http.specs.ServeSteps.{answer_or, status_answer, text_answer, Tells, TellsAwaited, TellsTrial, Runs, Answers, ServesHead, ServesFront, StopsRequest}
-use Rattle.office_replays.proofs.ReplayFacts.{Leaves, reply_by-mark, delivery_counted, kept_after}
-use Rattle.office_replays.proofs.RiseFacts.{delivery_weaker, text_weaker}
-use Rattle.office_replays.specs.DeliverySteps.{Settles}
-use Rattle.office_orders.proofs.WrittenFacts.{front_after}
+use Rattle.office_core_replay.proofs.ReplayFacts.{Leaves, reply_by-mark, delivery_counted, kept_after}
+use Rattle.office_core_replay.proofs.RiseFacts.{delivery_weaker, text_weaker}
+use Rattle.office_core_replay.specs.DeliverySteps.{Settles}
+use Rattle.office_core_orders.proofs.WrittenFacts.{front_after}
 
 -- where nothing is found that the answer tells
 abbrev nothing : Found

@@ -3,15 +3,15 @@ use Rattle.std.proofs.Common.{◌≡◌, ℕ, ◌-◌, ◌≤◌, List, [], Opti
 use Rattle.office_mail.specs.Lists.{Lists}
 use Rattle.office_mail.specs.Kept.{kept_from}
 use Rattle.office_mail.proofs.KeptFacts.{kept_from-nil}
-use Rattle.office_keeper.specs.declared.keeping.Keeper.{Ghosts}
-use Rattle.office_facts.specs.OfficeState.{OfficeState}
-use Rattle.office_facts.specs.State.{IsOffice, IsSound, state_of}
-use Rattle.office_orders.specs.declared.faults.StoreFault.{StoreFault}
-use Rattle.office_requests.specs.declared.request.Action.{Action}
-use Rattle.office_requests.specs.declared.request.Action.TheVariants.{Deliver, Settle, Try}
-use Rattle.office_runs.specs.History.{Leads, Looked, coming}
-use Rattle.office_runs.specs.Preserves.{StoreRefused}
-use Rattle.office_runs.proofs.HistoryFacts.{came_leads}
+use Rattle.office_store_keeper.specs.declared.keeping.Keeper.{Ghosts}
+use Rattle.office_core_facts.specs.OfficeState.{OfficeState}
+use Rattle.office_core_facts.specs.State.{IsOffice, IsSound, state_of}
+use Rattle.office_core_orders.specs.declared.faults.StoreFault.{StoreFault}
+use Rattle.office_http_requests.specs.declared.request.Action.{Action}
+use Rattle.office_http_requests.specs.declared.request.Action.TheVariants.{Deliver, Settle, Try}
+use Rattle.office_core.specs.History.{Leads, Looked, coming}
+use Rattle.office_core.specs.Preserves.{StoreRefused}
+use Rattle.office_core.proofs.HistoryFacts.{came_leads}
 use Rattle.office_http.specs.Serve.{Does, delivered_by, kept_by}
 
 kept_by-is : (s : OfficeState) (action : Action) (body : List ℕ) (fault : Option StoreFault) → kept_by s action body fault ≡ kept_from s.setup s.kept (delivered_by (Some (action, body)) fault)

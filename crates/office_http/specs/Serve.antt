@@ -11,42 +11,42 @@ use Rattle.office_mail.specs.declared.message.MailFault.TheVariants as mail
 use Rattle.office_mail.specs.Kept.{Kept, kept_from}
 use Rattle.office_mail.specs.Lists.{Lists}
 use Rattle.office_mail.specs.Runs.{IsReady, IsReadyCount, greatest}
-use Rattle.office_keeper.specs.declared.values.Letter.{Letter as KeptLetter}
-use Rattle.office_orders.specs.declared.faults.DeliverFault.{DeliverFault}
-use Rattle.office_orders.specs.declared.faults.DeliverFault.TheVariants.{Mail, OtherText, Store}
-use Rattle.office_orders.specs.declared.faults.Held.{Held}
-use Rattle.office_orders.specs.declared.faults.StoreFault.{StoreFault}
-use Rattle.office_orders.specs.declared.faults.StoreFault.TheVariants as fault
-use Rattle.office_orders.specs.declared.waiting_lines.Awaited.{Awaited}
-use Rattle.office_orders.specs.WaitingLines.{waiting_text}
-use Rattle.office_requests.specs.declared.reply.Refusal.{Refusal}
-use Rattle.office_requests.specs.declared.reply.Refusal.TheVariants as refusal
-use Rattle.office_requests.specs.declared.reply.Answer.{Answer}
-use Rattle.office_requests.specs.declared.reply.Answer.TheVariants.{Refused, Delivered, Status, Told, Letter}
-use Rattle.office_requests.specs.declared.request.Action.{Action}
-use Rattle.office_requests.specs.declared.request.Action.TheVariants.{Deliver, Settle, Try}
-use Rattle.office_requests.specs.declared.request.Page.{Page}
-use Rattle.office_requests.specs.declared.request.Page.TheVariants as page
-use Rattle.office_requests.specs.declared.request.Asked.{Asked}
-use Rattle.office_requests.specs.declared.request.Asked.TheVariants as asks
+use Rattle.office_store_keeper.specs.declared.values.Letter.{Letter as KeptLetter}
+use Rattle.office_core_orders.specs.declared.faults.DeliverFault.{DeliverFault}
+use Rattle.office_core_orders.specs.declared.faults.DeliverFault.TheVariants.{Mail, OtherText, Store}
+use Rattle.office_core_orders.specs.declared.faults.Held.{Held}
+use Rattle.office_core_orders.specs.declared.faults.StoreFault.{StoreFault}
+use Rattle.office_core_orders.specs.declared.faults.StoreFault.TheVariants as fault
+use Rattle.office_core_orders.specs.declared.waiting_lines.Awaited.{Awaited}
+use Rattle.office_core_orders.specs.WaitingLines.{waiting_text}
+use Rattle.office_http_requests.specs.declared.reply.Refusal.{Refusal}
+use Rattle.office_http_requests.specs.declared.reply.Refusal.TheVariants as refusal
+use Rattle.office_http_requests.specs.declared.reply.Answer.{Answer}
+use Rattle.office_http_requests.specs.declared.reply.Answer.TheVariants.{Refused, Delivered, Status, Told, Letter}
+use Rattle.office_http_requests.specs.declared.request.Action.{Action}
+use Rattle.office_http_requests.specs.declared.request.Action.TheVariants.{Deliver, Settle, Try}
+use Rattle.office_http_requests.specs.declared.request.Page.{Page}
+use Rattle.office_http_requests.specs.declared.request.Page.TheVariants as page
+use Rattle.office_http_requests.specs.declared.request.Asked.{Asked}
+use Rattle.office_http_requests.specs.declared.request.Asked.TheVariants as asks
 use Rattle.office_http.specs.declared.serve.ServeFault.{ServeFault}
 use Rattle.office_http.specs.declared.serve.ServeFault.TheVariants.{Read, Write}
-use Rattle.office_rules.specs.declared.Trial.{Trial}
-use Rattle.office_rules.specs.Trial.{IsTrial}
-use Rattle.office_requests.specs.Asked.{asked_of, body_size, is_head_method}
-use Rattle.office_replays.specs.Losses.{TextCounted}
-use Rattle.office_bags.specs.declared.mail.MailCount.{MailCount}
-use Rattle.office_bags.specs.Mail.{letters_of, mail_text}
-use Rattle.office_bags.specs.RunLines.{runs_text}
-use Rattle.office_facts.specs.Outcome.{testing_text, testing_after}
-use Rattle.office_requests.specs.Reply.{refused, reply_in, reply_bytes, continue_bytes}
-use Rattle.office_requests.specs.Request.{BeginsWith, body_room, field_room, head_room}
-use Rattle.office_facts.specs.OfficeState.{OfficeState}
-use Rattle.office_facts.specs.State.{answer_to, reports_at}
-use Rattle.office_orders.specs.Waiting.{Awaits}
-use Rattle.office_orders.specs.Written.{AppendsFront}
+use Rattle.office_core_outcome.specs.declared.Trial.{Trial}
+use Rattle.office_core_outcome.specs.Trial.{IsTrial}
+use Rattle.office_http_requests.specs.Asked.{asked_of, body_size, is_head_method}
+use Rattle.office_core_replay.specs.Losses.{TextCounted}
+use Rattle.office_core_queries.specs.declared.mail.MailCount.{MailCount}
+use Rattle.office_core_queries.specs.Mail.{letters_of, mail_text}
+use Rattle.office_core_queries.specs.RunLines.{runs_text}
+use Rattle.office_core_facts.specs.Outcome.{testing_text, testing_after}
+use Rattle.office_http_requests.specs.Reply.{refused, reply_in, reply_bytes, continue_bytes}
+use Rattle.office_http_requests.specs.Request.{BeginsWith, body_room, field_room, head_room}
+use Rattle.office_core_facts.specs.OfficeState.{OfficeState}
+use Rattle.office_core_facts.specs.State.{answer_to, reports_at}
+use Rattle.office_core_orders.specs.Waiting.{Awaits}
+use Rattle.office_core_orders.specs.Written.{AppendsFront}
 use Rattle.office_http.specs.Trials.{hints_in, request_terms, tried_answer}
-use Rattle.office_reasons.specs.Why.{IsWhy}
+use Rattle.office_core_why.specs.Why.{IsWhy}
 
 -- how a fault of memory or of the store is told
 abbrev pub refusal_for : StoreFault → Refusal

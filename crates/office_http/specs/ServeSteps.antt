@@ -3,26 +3,26 @@
 use Rattle.std.specs.Prelude.{◌≡◌, ◌⊎◌, ◌≤◌, ◌+◌, ℕ, Bool, true, List, ◌++◌, length, Option, None, Result, Ok, Err}
 use Rattle.std.specs.Io.KnownBytes.{Appends, Consumes}
 use Rattle.office_mail.specs.Runs.{IsReadyCount}
-use Rattle.office_orders.specs.declared.faults.Progress.{Progress}
-use Rattle.office_orders.specs.declared.faults.StoreFault.{StoreFault}
-use Rattle.office_orders.specs.declared.faults.StoreFault.TheVariants as fault
-use Rattle.office_orders.specs.declared.waiting_lines.Awaited.{Awaited}
-use Rattle.office_orders.specs.WaitingLines.{waiting_text}
-use Rattle.office_requests.specs.declared.reply.Answer.{Answer}
-use Rattle.office_requests.specs.declared.reply.Answer.TheVariants.{Refused, Status, Told}
-use Rattle.office_requests.specs.declared.request.Action.{Action}
-use Rattle.office_requests.specs.declared.request.Page.{Page}
-use Rattle.office_requests.specs.declared.request.Asked.{Asked}
+use Rattle.office_core_orders.specs.declared.faults.Progress.{Progress}
+use Rattle.office_core_orders.specs.declared.faults.StoreFault.{StoreFault}
+use Rattle.office_core_orders.specs.declared.faults.StoreFault.TheVariants as fault
+use Rattle.office_core_orders.specs.declared.waiting_lines.Awaited.{Awaited}
+use Rattle.office_core_orders.specs.WaitingLines.{waiting_text}
+use Rattle.office_http_requests.specs.declared.reply.Answer.{Answer}
+use Rattle.office_http_requests.specs.declared.reply.Answer.TheVariants.{Refused, Status, Told}
+use Rattle.office_http_requests.specs.declared.request.Action.{Action}
+use Rattle.office_http_requests.specs.declared.request.Page.{Page}
+use Rattle.office_http_requests.specs.declared.request.Asked.{Asked}
 use Rattle.office_http.specs.declared.serve.ServeFault.{ServeFault}
 use Rattle.office_http.specs.declared.serve.ServeFault.TheVariants.{Read, Write}
-use Rattle.office_requests.specs.Asked.{body_size}
-use Rattle.office_replays.specs.Losses.{TextCounted}
-use Rattle.office_requests.specs.Request.{body_room}
-use Rattle.office_facts.specs.OfficeState.{OfficeState}
-use Rattle.office_orders.specs.Waiting.{Awaits}
-use Rattle.office_orders.specs.Written.{AppendsFront}
-use Rattle.office_rules.specs.declared.Trial.{Trial}
-use Rattle.office_rules.specs.Trial.{IsTrial}
+use Rattle.office_http_requests.specs.Asked.{body_size}
+use Rattle.office_core_replay.specs.Losses.{TextCounted}
+use Rattle.office_http_requests.specs.Request.{body_room}
+use Rattle.office_core_facts.specs.OfficeState.{OfficeState}
+use Rattle.office_core_orders.specs.Waiting.{Awaits}
+use Rattle.office_core_orders.specs.Written.{AppendsFront}
+use Rattle.office_core_outcome.specs.declared.Trial.{Trial}
+use Rattle.office_core_outcome.specs.Trial.{IsTrial}
 use Rattle.office_http.specs.Serve.{refusal_for, by_fault, page_answer, action_answer, posted_body, answer_of, waits_of, continued, Found, IsFound, IsFoundBy, IsFoundFor, Moves, Does, IsWhole, IsAwaited, StopsBefore, Exchange}
 use Rattle.office_http.specs.Trials.{request_terms, trial_answer}
 

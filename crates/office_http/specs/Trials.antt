@@ -4,17 +4,17 @@ use Rattle.std.specs.Str.{is_utf8}
 use Rattle.std.specs.Str.Lines.{lines}
 use Rattle.office_mail.specs.declared.message.MailFault.TheVariants as mail
 use Rattle.office_mail.specs.Lists.{Lists}
-use Rattle.office_orders.specs.declared.faults.DeliverFault.TheVariants.{Mail}
-use Rattle.office_orders.specs.Replies.{fault_words, name_at}
-use Rattle.office_requests.specs.declared.reply.Refusal.TheVariants as refusal
-use Rattle.office_requests.specs.declared.reply.Answer.{Answer}
-use Rattle.office_requests.specs.declared.reply.Answer.TheVariants.{Refused, Delivered, Told, BadHint}
-use Rattle.office_rules.specs.declared.RefusedHint.{RefusedHint}
-use Rattle.office_rules.specs.declared.Terms.{Terms}
-use Rattle.office_rules.specs.declared.Trial.{Trial}
-use Rattle.office_rules.specs.declared.Trial.TheVariants as trial
-use Rattle.office_rules.specs.Hints.{release}
-use Rattle.testing_reports.specs.Tried.{tried_text}
+use Rattle.office_core_orders.specs.declared.faults.DeliverFault.TheVariants.{Mail}
+use Rattle.office_core_orders.specs.Replies.{fault_words, name_at}
+use Rattle.office_http_requests.specs.declared.reply.Refusal.TheVariants as refusal
+use Rattle.office_http_requests.specs.declared.reply.Answer.{Answer}
+use Rattle.office_http_requests.specs.declared.reply.Answer.TheVariants.{Refused, Delivered, Told, BadHint}
+use Rattle.office_core_outcome.specs.declared.RefusedHint.{RefusedHint}
+use Rattle.office_core_outcome.specs.declared.Terms.{Terms}
+use Rattle.office_core_outcome.specs.declared.Trial.{Trial}
+use Rattle.office_core_outcome.specs.declared.Trial.TheVariants as trial
+use Rattle.office_core_outcome.specs.Hints.{release}
+use Rattle.testing_rules_reports.specs.Tried.{tried_text}
 
 -- a trial that a request asks for covers the mail of the release team alone, and has no day of its own
 abbrev pub request_terms : Terms

@@ -6,10 +6,10 @@ mod serve;
 pub mod service_laws;
 mod trials;
 
-pub use office_orders::{
+pub use office_core::Office;
+pub use office_core_orders::{
     Awaited, DeliverFault, Delivery, Held, Lack, Mark, Progress, StoreFault, Waiting, WriteFault,
     waiting_text,
 };
-pub use office_replays::{Replayed, Unwatched, Watcher, replay, replay_status, replay_watched};
-pub use office_runs::Office;
+pub use office_core_replay::{Replayed, Unwatched, Watcher, replay, replay_status, replay_watched};
 pub use serve::{ServeFault, Served, serve_one};

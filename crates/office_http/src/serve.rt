@@ -5,34 +5,34 @@ ghost use Rattle.httparse.specs.Grammar.{RequestHead};
 ghost use Rattle.httparse.specs.Spans.{IsRequestAt};
 ghost use Rattle.httparse.specs.declared.spans.HeaderSpan.{HeaderSpan};
 ghost use Rattle.office_mail.specs.Counts.{HasRisen};
-ghost use Rattle.office_requests.specs.Asked.{asked_of, body_size};
-ghost use Rattle.office_bags.specs.Mail.{mail_text};
-ghost use Rattle.office_runs.specs.Preserves.{Asks, Preserves, Holds, StoreRefused};
-ghost use Rattle.office_runs.specs.Laws.{RunsStand};
-ghost use Rattle.office_requests.specs.Reply.{continue_bytes, refused, reply_bytes, HasPlace};
-ghost use Rattle.office_requests.specs.Request.{body_room, head_room};
-ghost use Rattle.office_requests.specs.RequestSteps.{IsHeadAt};
+ghost use Rattle.office_http_requests.specs.Asked.{asked_of, body_size};
+ghost use Rattle.office_core_queries.specs.Mail.{mail_text};
+ghost use Rattle.office_core.specs.Preserves.{Asks, Preserves, Holds, StoreRefused};
+ghost use Rattle.office_core.specs.Laws.{RunsStand};
+ghost use Rattle.office_http_requests.specs.Reply.{continue_bytes, refused, reply_bytes, HasPlace};
+ghost use Rattle.office_http_requests.specs.Request.{body_room, head_room};
+ghost use Rattle.office_http_requests.specs.RequestSteps.{IsHeadAt};
 ghost use Rattle.office_http.specs.Serve.{mail_counts, refusal_for, report_answer, letter_answer, delivery_answer, waits_of, Does, StopsBefore, Serves, StopsServe};
-ghost use Rattle.office_reasons.specs.Why.{IsWhy};
+ghost use Rattle.office_core_why.specs.Why.{IsWhy};
 ghost use Rattle.office_http.specs.ServeSteps.{answer_or, status_answer, text_answer, Tells, TellsAwaited, Runs, Answers, StopsRequest, ServesHead};
-ghost use Rattle.office_facts.specs.State.{state_of};
-ghost use Rattle.office_orders.specs.Counted.{Counted};
-ghost use Rattle.office_orders.specs.Written.{AppendsFront};
+ghost use Rattle.office_core_facts.specs.State.{state_of};
+ghost use Rattle.office_core_orders.specs.Counted.{Counted};
+ghost use Rattle.office_core_orders.specs.Written.{AppendsFront};
 
 use crate::trials::try_body;
 use deb_control::Text;
 use httparse::spans::{EMPTY_HEADER_SPAN, HeaderSpan, RequestSpans};
-use office_bags::{MailCount, mail_counts, mail_text, runs_text};
-use office_keeper::{Keeper, MailText};
-use office_mail::{Feed, MailFault, ReadFailed, Setup, Sink};
-use office_orders::{DeliverFault, Held, Progress, StoreFault, WriteFault, waiting_text};
-use office_replays::settle_behind;
-use office_requests::routes::routes;
-use office_requests::{
+use office_core::Office;
+use office_core_orders::{DeliverFault, Held, Progress, StoreFault, WriteFault, waiting_text};
+use office_core_queries::{MailCount, mail_counts, mail_text, runs_text};
+use office_core_replay::settle_behind;
+use office_http_requests::routes::routes;
+use office_http_requests::{
     Action, Answer, Asked, BodyRead, FIELD_ROOM, HeadRead, Page, Posted, Refusal, asked_of,
     is_head_method, read_head, read_up_to, write_answer, write_continue,
 };
-use office_runs::Office;
+use office_mail::{Feed, MailFault, ReadFailed, Setup, Sink};
+use office_store_keeper::{Keeper, MailText};
 use std::alloc::Global;
 use thiserror::Error;
 

@@ -1,17 +1,17 @@
 //! What is true of what the service answers.
 ghost use Rattle.std.specs.Prelude.{◌≡◌, ◌-◌, ℕ, List, Option, length};
-ghost use Rattle.office_requests.specs.declared.request.Action.{Action};
-ghost use Rattle.office_requests.specs.declared.request.Asked.{Asked};
-ghost use Rattle.office_requests.specs.declared.request.Page.{Page};
-ghost use Rattle.office_requests.specs.declared.request.Posted.{Posted};
+ghost use Rattle.office_http_requests.specs.declared.request.Action.{Action};
+ghost use Rattle.office_http_requests.specs.declared.request.Asked.{Asked};
+ghost use Rattle.office_http_requests.specs.declared.request.Page.{Page};
+ghost use Rattle.office_http_requests.specs.declared.request.Posted.{Posted};
 ghost use Rattle.office_http.specs.Serve.{answer_of, Does, Found, IsFound, delivered_by};
-ghost use Rattle.office_facts.specs.OfficeState.{OfficeState};
-ghost use Rattle.office_facts.specs.State.{IsSound, state_of};
-ghost use Rattle.office_orders.specs.declared.faults.StoreFault.{StoreFault};
-ghost use Rattle.office_runs.specs.History.{Leads, Looked, coming};
-ghost use Rattle.office_runs.specs.Preserves.{StoreRefused};
+ghost use Rattle.office_core_facts.specs.OfficeState.{OfficeState};
+ghost use Rattle.office_core_facts.specs.State.{IsSound, state_of};
+ghost use Rattle.office_core_orders.specs.declared.faults.StoreFault.{StoreFault};
+ghost use Rattle.office_core.specs.History.{Leads, Looked, coming};
+ghost use Rattle.office_core.specs.Preserves.{StoreRefused};
 
-use office_keeper::Keeper;
+use office_store_keeper::Keeper;
 
 /// The answer to a request is a function of the request and of the office's state: what `serve_one` says of what is found
 /// leaves no other. What is told of a source, and of a trial, is what was found of it.

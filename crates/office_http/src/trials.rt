@@ -1,25 +1,25 @@
 //! Hints that a request tries before they are mailed.
 ghost use Rattle.std.specs.Prelude.{◌≡◌, ◌∷◌, [], IfErr, IfOk, slice_index_or};
-ghost use Rattle.office_facts.specs.State.{state_of};
+ghost use Rattle.office_core_facts.specs.State.{state_of};
 ghost use Rattle.office_http.specs.ServeSteps.{TellsTrial};
 ghost use Rattle.office_http.specs.Trials.{hints_in, refused_line, trial_answer};
-ghost use Rattle.office_orders.specs.Counted.{Counted};
-ghost use Rattle.office_orders.specs.Replies.{name_at};
-ghost use Rattle.office_requests.specs.Reply.{HasPlace};
-ghost use Rattle.office_runs.specs.Preserves.{Asks, Holds};
-ghost use Rattle.office_rules.specs.Hints.{release};
-ghost use Rattle.testing_reports.specs.LentLines.{lent_lines};
-ghost use Rattle.testing_reports.specs.Tried.{tried_text};
+ghost use Rattle.office_core_orders.specs.Counted.{Counted};
+ghost use Rattle.office_core_orders.specs.Replies.{name_at};
+ghost use Rattle.office_http_requests.specs.Reply.{HasPlace};
+ghost use Rattle.office_core.specs.Preserves.{Asks, Holds};
+ghost use Rattle.office_core_outcome.specs.Hints.{release};
+ghost use Rattle.testing_rules_reports.specs.LentLines.{lent_lines};
+ghost use Rattle.testing_rules_reports.specs.Tried.{tried_text};
 
 use deb_control::{NoMemory, Text};
-use office_keeper::Keeper;
+use office_core::Office;
+use office_core_orders::{DeliverFault, StoreFault, fault_words, name_at};
+use office_core_outcome::{RefusedHint, Terms, Trial, Tried, release_place, tried_text};
+use office_http_requests::{Answer, Refusal};
 use office_mail::Setup;
-use office_orders::{DeliverFault, StoreFault, fault_words, name_at};
-use office_requests::{Answer, Refusal};
-use office_rules::{RefusedHint, Terms, Trial, Tried, release_place, tried_text};
-use office_runs::Office;
+use office_store_keeper::Keeper;
 use std::alloc::{AllocError, Global};
-use testing_reports::lines_of;
+use testing_rules_reports::lines_of;
 
 /// Copies of texts.
 fn copies(alloc: Global, texts: &[&str]) -> Result<Vec<Text>, AllocError>

@@ -5,7 +5,7 @@ use Rattle.std.proofs.lemmas.List.{get_or_append_left, get_or_push, get_or_defau
 use Rattle.deb_control.specs.Binary.{binary_of}
 use Rattle.deb_control.specs.declared.binary.Binary.{Binary}
 use Rattle.deb_control.specs.declared.fault.BinaryFault.{BinaryFault}
-use Rattle.office_setup.specs.Steps.{Paragraph}
+use Rattle.office_mail_setup.specs.Steps.{Paragraph}
 use Rattle.office_mail.specs.Read.{of_binary, binary_in}
 use Rattle.office_mail.specs.BuildSteps.{AreRead}
 

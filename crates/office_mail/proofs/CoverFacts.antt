@@ -4,12 +4,12 @@ use Rattle.std.specs.Borrow.{Bor}
 use Rattle.std.specs.List.{filter, list_all}
 use Rattle.std.proofs.lemmas.List.{append_assoc, map_push, drop_more}
 use Rattle.deb_control.specs.Text.{is_white}
-use Rattle.office_setup.proofs.Each.{texts, nowhere}
+use Rattle.office_mail_setup.proofs.Each.{texts, nowhere}
 use Rattle.deb_control.specs.Relations.{◌>>=◌, items}
 use Rattle.office_mail.specs.Covers.{BadCovers, cover_in, covers_in, numbers_by_sender}
-use Rattle.testing_items.specs.Distinct.{is_distinct}
-use Rattle.office_setup.specs.Lists.{Lists}
-use Rattle.office_setup.specs.Steps.{needs, each_of}
+use Rattle.testing_rules_items.specs.Distinct.{is_distinct}
+use Rattle.office_mail_setup.specs.Lists.{Lists}
+use Rattle.office_mail_setup.specs.Steps.{needs, each_of}
 
 abbrev pub names : List (List ℕ × ℕ) → List (List ℕ)
 names cs = map (λ (c : List ℕ × ℕ). c.0) cs

@@ -1,10 +1,10 @@
 -- A group of items.
 use Rattle.std.proofs.Common.{◌≡◌, Bool, List, ℕ, map, Ok, sym, ap, ◌∙◌}
 use Rattle.deb_control.specs.Relations.{◌>>=◌}
-use Rattle.testing_items.specs.declared.item.HintItem.{HintItem}
-use Rattle.testing_items.specs.Distinct.{is_distinct}
+use Rattle.testing_rules_items.specs.declared.item.HintItem.{HintItem}
+use Rattle.testing_rules_items.specs.Distinct.{is_distinct}
 use Rattle.office_mail.specs.Hints.{BadHint, items_in, group_in}
-use Rattle.office_setup.specs.Steps.{needs}
+use Rattle.office_mail_setup.specs.Steps.{needs}
 
 abbrev names : List HintItem → List (List ℕ)
 names items = map (λ (i : HintItem). i.name) items

@@ -6,7 +6,7 @@ use Rattle.std.specs.Cmp.{tied_itself}
 use Rattle.std.specs.FinMap.{find, get, empty, get-empty}
 use Rattle.office_mail.specs.declared.message.Message.{Message}
 use Rattle.office_mail.specs.declared.message.MailFault.{MailFault}
-use Rattle.office_setup.specs.Lists.{Lists}
+use Rattle.office_mail_setup.specs.Lists.{Lists}
 use Rattle.office_mail.specs.Read.{read}
 use Rattle.office_mail.specs.Kept.{Place, place_cmp, place_of, placed_as, placed, kept_from}
 use Rattle.office_mail.specs.Laws.{CanTake, Delivers, IsOneOf, OneText, SameTexts}

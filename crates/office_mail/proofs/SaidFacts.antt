@@ -15,27 +15,27 @@ use Rattle.deb_control.specs.declared.fault.BinaryField.{BinaryField}
 use Rattle.deb_control.specs.declared.fault.BinaryField.TheVariants as binary
 use Rattle.deb_control.specs.declared.fault.BinaryFault.{BinaryFault}
 use Rattle.deb_control.specs.declared.fault.BinaryFault.TheVariants.{BadName, BadVersion}
-use Rattle.testing_items.specs.declared.item.Item.{Item}
-use Rattle.testing_items.specs.declared.item.Item.TheVariants as item
-use Rattle.office_setup.specs.declared.field.Field.TheVariants as field
-use Rattle.office_setup.specs.declared.kind.Kind.{Kind}
-use Rattle.office_setup.specs.declared.kind.Kind.TheVariants as kind
+use Rattle.testing_rules_items.specs.declared.item.Item.{Item}
+use Rattle.testing_rules_items.specs.declared.item.Item.TheVariants as item
+use Rattle.office_mail_setup.specs.declared.field.Field.TheVariants as field
+use Rattle.office_mail_setup.specs.declared.kind.Kind.{Kind}
+use Rattle.office_mail_setup.specs.declared.kind.Kind.TheVariants as kind
 use Rattle.office_mail.specs.declared.message.Body.{Body}
 use Rattle.office_mail.specs.declared.message.Body.TheVariants.{Run, Item as Saying}
 use Rattle.office_mail.specs.declared.message.Message.{Message}
 use Rattle.office_mail.specs.declared.message.MailFault.{MailFault}
 use Rattle.office_mail.specs.declared.message.MailFault.TheVariants.{TooLong, BadParagraph, UnknownSender, BadNumber, UnknownKind, WrongRole, TooManyParagraphs, UnknownArchitecture}
-use Rattle.office_setup.specs.declared.setup.Sender.{Sender}
-use Rattle.office_setup.specs.declared.setup.Role.{Role}
-use Rattle.office_setup.specs.declared.setup.Role.TheVariants.{Upload, Build, Bugs, Release, Runs}
-use Rattle.office_setup.specs.Lists.{Lists}
-use Rattle.office_setup.specs.Steps.{Paragraph, needs, given, each_of, whole, first_of, rest_of}
-use Rattle.office_setup.specs.Values.{number_in, days_in, day_in, package_in, version_in, urgency_in, severity_in}
+use Rattle.office_mail_setup.specs.declared.setup.Sender.{Sender}
+use Rattle.office_mail_setup.specs.declared.setup.Role.{Role}
+use Rattle.office_mail_setup.specs.declared.setup.Role.TheVariants.{Upload, Build, Bugs, Release, Runs}
+use Rattle.office_mail_setup.specs.Lists.{Lists}
+use Rattle.office_mail_setup.specs.Steps.{Paragraph, needs, given, each_of, whole, first_of, rest_of}
+use Rattle.office_mail_setup.specs.Values.{number_in, days_in, day_in, package_in, version_in, urgency_in, severity_in}
 use Rattle.office_mail.specs.Fields.{text_of, required, value_in, value_if_there}
-use Rattle.office_setup.specs.Kinds.{kind_named, may_send, has_role, role_needed}
+use Rattle.office_mail_setup.specs.Kinds.{kind_named, may_send, has_role, role_needed}
 use Rattle.office_mail.specs.Hints.{hint_in}
 use Rattle.office_mail.specs.Read.{read, paragraphs_say, message_of, has_fields_of, sender_from, sender_named, most_paragraphs, is_arch, is_arch_if_there, knows_arch, knows_archs, body_of, upload_of, drop_of, build_of, bug_of, hint_of, unhint_of, delays_of, order_of, binary_in, of_binary}
-use Rattle.office_setup.specs.Setup.{count_of, place_of_role, same_role, role_number}
+use Rattle.office_mail_setup.specs.Setup.{count_of, place_of_role, same_role, role_number}
 use Rattle.office_mail.specs.Said.{kind_of, knows_named, KeepsTo}
 
 same : {A E : Type 0} (r : Result A E) (a b : A) → r ≡ Ok a → r ≡ Ok b → a ≡ b

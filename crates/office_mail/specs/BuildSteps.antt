@@ -3,7 +3,7 @@
 use Rattle.std.specs.Prelude.{◌≡◌, ℕ, ◌<◌, ◌≤◌, List, length, slice_index_or, Ok}
 use Rattle.deb_control.specs.Binary.{binary_of}
 use Rattle.deb_control.specs.declared.binary.Binary.{Binary}
-use Rattle.office_setup.specs.Steps.{Paragraph}
+use Rattle.office_mail_setup.specs.Steps.{Paragraph}
 
 -- each of these binaries is what the paragraph at its place says
 pub record AreRead (paragraphs : List Paragraph) (binaries : List Binary) : Type 0 where

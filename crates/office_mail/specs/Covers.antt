@@ -3,16 +3,16 @@ use Rattle.std.specs.Prelude.{ℕ, Bool, not, ◌&&◌, if◌then◌else◌, Lis
 use Rattle.std.specs.List.{list_any}
 use Rattle.std.specs.Str.{bytes_eq}
 use Rattle.deb_control.specs.Relations.{◌>>=◌, items}
-use Rattle.office_setup.specs.declared.field.Field.TheVariants as field
-use Rattle.office_setup.specs.declared.setup.Sender.{Sender}
-use Rattle.office_setup.specs.declared.setup.Role.TheVariants.{Runs}
+use Rattle.office_mail_setup.specs.declared.field.Field.TheVariants as field
+use Rattle.office_mail_setup.specs.declared.setup.Sender.{Sender}
+use Rattle.office_mail_setup.specs.declared.setup.Role.TheVariants.{Runs}
 use Rattle.office_mail.specs.declared.message.MailFault.{MailFault}
 use Rattle.office_mail.specs.declared.message.MailFault.TheVariants.{BadValue}
-use Rattle.office_setup.specs.Lists.{Lists}
-use Rattle.office_setup.specs.Setup.{same_role}
-use Rattle.office_setup.specs.Steps.{needs, given, each_of}
-use Rattle.office_setup.specs.Values.{number_in, words}
-use Rattle.testing_items.specs.Distinct.{is_distinct}
+use Rattle.office_mail_setup.specs.Lists.{Lists}
+use Rattle.office_mail_setup.specs.Setup.{same_role}
+use Rattle.office_mail_setup.specs.Steps.{needs, given, each_of}
+use Rattle.office_mail_setup.specs.Values.{number_in, words}
+use Rattle.testing_rules_items.specs.Distinct.{is_distinct}
 
 abbrev pub BadCovers : MailFault
 BadCovers = BadValue field.Covers

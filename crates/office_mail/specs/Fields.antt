@@ -1,11 +1,11 @@
 -- What the fields of messages say, or which fault.
 use Rattle.std.specs.Prelude.{ℕ, Bool, true, List, [], ◌∷◌, Option, Some, None, Result, Ok}
 use Rattle.deb_control.specs.Relations.{◌>>=◌}
-use Rattle.office_setup.specs.declared.field.Field.{Field}
+use Rattle.office_mail_setup.specs.declared.field.Field.{Field}
 use Rattle.office_mail.specs.declared.message.MailFault.{MailFault}
 use Rattle.office_mail.specs.declared.message.MailFault.TheVariants.{MissingField, BadValue}
-use Rattle.office_setup.specs.Steps.{Paragraph, given}
-pub use Rattle.office_setup.specs.Fields.{field_name, text_of}
+use Rattle.office_mail_setup.specs.Steps.{Paragraph, given}
+pub use Rattle.office_mail_setup.specs.Fields.{field_name, text_of}
 
 -- the text of a field that must be there
 unfoldable pub required : Paragraph → Field → Result (List ℕ) MailFault

@@ -4,15 +4,15 @@ use Rattle.std.specs.List.{list_any, before_first, after_first}
 use Rattle.std.specs.Str.{bytes_eq}
 use Rattle.deb_version.specs.Characters as chars
 use Rattle.deb_control.specs.Relations.{◌>>=◌, is_package_name, is_version}
-use Rattle.testing_items.specs.declared.item.Hint.{Hint}
-use Rattle.testing_items.specs.declared.item.Hint.TheVariants.{Block, Unblock, Easy, AgeDays, Remove, BlockAll}
-use Rattle.testing_items.specs.declared.item.HintItem.{HintItem}
-use Rattle.office_setup.specs.declared.field.Field.TheVariants as field
+use Rattle.testing_rules_items.specs.declared.item.Hint.{Hint}
+use Rattle.testing_rules_items.specs.declared.item.Hint.TheVariants.{Block, Unblock, Easy, AgeDays, Remove, BlockAll}
+use Rattle.testing_rules_items.specs.declared.item.HintItem.{HintItem}
+use Rattle.office_mail_setup.specs.declared.field.Field.TheVariants as field
 use Rattle.office_mail.specs.declared.message.MailFault.{MailFault}
 use Rattle.office_mail.specs.declared.message.MailFault.TheVariants.{BadValue}
-use Rattle.office_setup.specs.Steps.{needs, given, each_of}
-use Rattle.office_setup.specs.Values.{days_in, words}
-use Rattle.testing_items.specs.Distinct.{is_distinct}
+use Rattle.office_mail_setup.specs.Steps.{needs, given, each_of}
+use Rattle.office_mail_setup.specs.Values.{days_in, words}
+use Rattle.testing_rules_items.specs.Distinct.{is_distinct}
 
 -- what stands in the place of a hint that is none
 abbrev pub BadHint : MailFault

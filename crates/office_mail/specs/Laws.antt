@@ -1,7 +1,7 @@
 -- When two lists of deliveries are as good as each other, and what later mail leaves alone.
 use Rattle.std.specs.Prelude.{◌≡◌, ℕ, ◌↔◌, ◌⊎◌, List, [], ◌∷◌, Some, None, Ok}
 use Rattle.office_mail.specs.declared.message.Message.{Message}
-use Rattle.office_setup.specs.Lists.{Lists}
+use Rattle.office_mail_setup.specs.Lists.{Lists}
 use Rattle.office_mail.specs.Kept.{Kept, Place, place_of}
 use Rattle.std.specs.FinMap.{get}
 use Rattle.office_mail.specs.Read.{read}

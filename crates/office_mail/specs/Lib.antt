@@ -1,10 +1,10 @@
-pub use Rattle.office_setup.specs.Calendar
-pub use Rattle.office_setup.specs.Kinds
-pub use Rattle.office_setup.specs.Lists
-pub use Rattle.office_setup.specs.Setup
-pub use Rattle.office_setup.specs.SetupAnswers
-pub use Rattle.office_setup.specs.Steps
-pub use Rattle.office_setup.specs.Values
+pub use Rattle.office_mail_setup.specs.Calendar
+pub use Rattle.office_mail_setup.specs.Kinds
+pub use Rattle.office_mail_setup.specs.Lists
+pub use Rattle.office_mail_setup.specs.Setup
+pub use Rattle.office_mail_setup.specs.SetupAnswers
+pub use Rattle.office_mail_setup.specs.Steps
+pub use Rattle.office_mail_setup.specs.Values
 pub mod Answers
 pub mod Covers
 pub mod Fields

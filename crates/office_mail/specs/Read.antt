@@ -10,25 +10,25 @@ use Rattle.deb_control.specs.declared.fault.BinaryField.{BinaryField}
 use Rattle.deb_control.specs.declared.fault.BinaryField.TheVariants as binary
 use Rattle.deb_control.specs.declared.fault.BinaryFault.{BinaryFault}
 use Rattle.deb_control.specs.declared.fault.BinaryFault.TheVariants as binary_fault
-use Rattle.testing_items.specs.declared.item.Item.{Item}
-use Rattle.testing_items.specs.declared.item.Item.TheVariants as item
-use Rattle.office_setup.specs.declared.field.Field.{Field}
-use Rattle.office_setup.specs.declared.field.Field.TheVariants as field
-use Rattle.office_setup.specs.declared.kind.Kind.{Kind}
-use Rattle.office_setup.specs.declared.kind.Kind.TheVariants as kind
+use Rattle.testing_rules_items.specs.declared.item.Item.{Item}
+use Rattle.testing_rules_items.specs.declared.item.Item.TheVariants as item
+use Rattle.office_mail_setup.specs.declared.field.Field.{Field}
+use Rattle.office_mail_setup.specs.declared.field.Field.TheVariants as field
+use Rattle.office_mail_setup.specs.declared.kind.Kind.{Kind}
+use Rattle.office_mail_setup.specs.declared.kind.Kind.TheVariants as kind
 use Rattle.office_mail.specs.declared.message.Body.{Body}
 use Rattle.office_mail.specs.declared.message.Body.TheVariants.{Run, Item as Saying}
 use Rattle.office_mail.specs.declared.message.RunOrder.{RunOrder}
 use Rattle.office_mail.specs.declared.message.Message.{Message}
 use Rattle.office_mail.specs.declared.message.MailFault.{MailFault}
 use Rattle.office_mail.specs.declared.message.MailFault.TheVariants.{TooLong, BadParagraph, MissingField, UnknownSender, BadNumber, UnknownKind, WrongRole, TooManyParagraphs, UnknownArchitecture, BadValue, NoMemory}
-use Rattle.office_setup.specs.declared.setup.Sender.{Sender}
-use Rattle.office_setup.specs.declared.setup.Role.{Role}
-use Rattle.office_setup.specs.Lists.{Lists}
-use Rattle.office_setup.specs.Steps.{Paragraph, needs, given, each_of, whole, first_of, rest_of}
-use Rattle.office_setup.specs.Values.{number_in, days_in, day_in, package_in, version_in, urgency_in, severity_in}
+use Rattle.office_mail_setup.specs.declared.setup.Sender.{Sender}
+use Rattle.office_mail_setup.specs.declared.setup.Role.{Role}
+use Rattle.office_mail_setup.specs.Lists.{Lists}
+use Rattle.office_mail_setup.specs.Steps.{Paragraph, needs, given, each_of, whole, first_of, rest_of}
+use Rattle.office_mail_setup.specs.Values.{number_in, days_in, day_in, package_in, version_in, urgency_in, severity_in}
 use Rattle.office_mail.specs.Fields.{text_of, required, has_fields, value_in, value_if_there}
-use Rattle.office_setup.specs.Kinds.{kind_named, may_send, fields_needed, binary_fields_needed}
+use Rattle.office_mail_setup.specs.Kinds.{kind_named, may_send, fields_needed, binary_fields_needed}
 use Rattle.office_mail.specs.Hints.{hint_in}
 use Rattle.office_mail.specs.Covers.{covers_in}
 

@@ -2,17 +2,17 @@
 use Rattle.std.specs.Prelude.{◌≡◌, ℕ, Bool, true, List, Some}
 use Rattle.std.specs.List.{list_all}
 use Rattle.deb_control.specs.declared.binary.Binary.{Binary}
-use Rattle.testing_items.specs.declared.item.Item.TheVariants as item
-use Rattle.office_setup.specs.declared.kind.Kind.{Kind}
-use Rattle.office_setup.specs.declared.kind.Kind.TheVariants as kind
+use Rattle.testing_rules_items.specs.declared.item.Item.TheVariants as item
+use Rattle.office_mail_setup.specs.declared.kind.Kind.{Kind}
+use Rattle.office_mail_setup.specs.declared.kind.Kind.TheVariants as kind
 use Rattle.office_mail.specs.declared.message.Body.{Body}
 use Rattle.office_mail.specs.declared.message.Body.TheVariants.{Run, Item as Saying}
 use Rattle.office_mail.specs.declared.message.Message.{Message}
-use Rattle.office_setup.specs.declared.setup.Role.{Role}
-use Rattle.office_setup.specs.Kinds.{role_needed}
-use Rattle.office_setup.specs.Lists.{Lists}
+use Rattle.office_mail_setup.specs.declared.setup.Role.{Role}
+use Rattle.office_mail_setup.specs.Kinds.{role_needed}
+use Rattle.office_mail_setup.specs.Lists.{Lists}
 use Rattle.office_mail.specs.Read.{is_arch}
-use Rattle.office_setup.specs.Setup.{count_of, place_of_role}
+use Rattle.office_mail_setup.specs.Setup.{count_of, place_of_role}
 
 -- the kind of what is said
 abbrev pub kind_of : Body → Kind

@@ -4,7 +4,7 @@ ghost use Rattle.deb_control.specs.Binary.{binary_of};
 ghost use Rattle.office_mail.specs.Answers.{Gives, GivesBy};
 ghost use Rattle.office_mail.specs.Read.{upload_of, drop_of, fault_of_binary, binary_in, build_of, bug_of, hint_of, unhint_of, delays_of, order_of, body_of, said, binary_field};
 ghost use Rattle.office_mail.specs.BuildSteps.{AreRead};
-ghost use Rattle.office_setup.specs.Steps.{each_of};
+ghost use Rattle.office_mail_setup.specs.Steps.{each_of};
 
 use crate::covers::covers_in;
 use crate::fields::{
@@ -13,9 +13,9 @@ use crate::fields::{
 use crate::hints::hint_in;
 use crate::message::{Body, MailFault, RunOrder};
 use deb_control::{Binary, BinaryFault, BinaryField, Paragraph, Text};
-use office_setup::{Field, Kind, Setup};
+use office_mail_setup::{Field, Kind, Setup};
 use std::alloc::Global;
-use testing_items::{Binaries, Item};
+use testing_rules_items::{Binaries, Item};
 
 /// What the paragraphs say, where the kind is known.
 #[tactic(auto, unfolding(crate::specs::Read::body_of))]

@@ -3,16 +3,16 @@ ghost use Rattle.std.specs.Prelude.{◌≡◌};
 ghost use Rattle.office_mail.specs.Answers.{Gives, GivesBy};
 ghost use Rattle.office_mail.specs.declared.message.MailFault.TheVariants as fault;
 ghost use Rattle.office_mail.specs.Fields.{required, has_fields, value_in, value_if_there};
-ghost use Rattle.office_setup.specs.Steps.{given};
-ghost use Rattle.office_setup.specs.Values.{number_in, days_in, day_in, package_in, version_in, urgency_in, severity_in};
+ghost use Rattle.office_mail_setup.specs.Steps.{given};
+ghost use Rattle.office_mail_setup.specs.Values.{number_in, days_in, day_in, package_in, version_in, urgency_in, severity_in};
 
 use crate::message::MailFault;
 use deb_control::{Paragraph, Text, is_package_name};
 use deb_version::{Version, VersionFault};
 use jiff_core::civil::Date;
-use office_setup::{Field, values};
+use office_mail_setup::{Field, values};
 use std::alloc::Global;
-use testing_items::{Severity, Urgency};
+use testing_rules_items::{Severity, Urgency};
 
 /// The text of a field that must be there.
 #[tactic(auto, unfolding(crate::specs::Fields::required))]

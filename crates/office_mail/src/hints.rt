@@ -2,18 +2,18 @@
 ghost use Rattle.std.specs.Prelude.{◌≡◌, map, true, false, IfOk, IfNone, IfSome};
 ghost use Rattle.std.specs.List.{list_any, before_first, after_first};
 ghost use Rattle.office_mail.specs.Answers.{Gives, GivesBy};
-ghost use Rattle.testing_items.specs.Distinct.{is_distinct};
+ghost use Rattle.testing_rules_items.specs.Distinct.{is_distinct};
 ghost use Rattle.office_mail.specs.Hints.{name_in, item_in, names_in, items_in, group_in, aged_in, all_in, hint_of, hint_in, is_slash};
-ghost use Rattle.office_setup.specs.Steps.{each_of};
-ghost use Rattle.testing_items.specs.declared.item.HintItem.{HintItem as HintItemValue};
+ghost use Rattle.office_mail_setup.specs.Steps.{each_of};
+ghost use Rattle.testing_rules_items.specs.declared.item.HintItem.{HintItem as HintItemValue};
 
 use crate::fields::version_from;
 use crate::message::MailFault;
 use deb_control::{Text, index_of, is_package_name, split_around};
-use office_setup::Field;
-use office_setup::values::{days_in, words};
+use office_mail_setup::Field;
+use office_mail_setup::values::{days_in, words};
 use std::alloc::{AllocError, Global};
-use testing_items::{Hint, HintItem, HintItems, Names, are_distinct};
+use testing_rules_items::{Hint, HintItem, HintItems, Names, are_distinct};
 
 const BAD_HINT: MailFault = MailFault::BadValue(Field::Hint);
 

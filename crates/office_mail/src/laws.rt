@@ -2,7 +2,7 @@
 ghost use Rattle.std.specs.Prelude.{◌≡◌, ◌∷◌, ℕ, List, Some, Ok};
 ghost use Rattle.std.specs.FinMap.{empty, get};
 ghost use Rattle.office_mail.specs.declared.message.Message.{Message};
-ghost use Rattle.office_setup.specs.Lists.{Lists};
+ghost use Rattle.office_mail_setup.specs.Lists.{Lists};
 ghost use Rattle.office_mail.specs.Kept.{Kept, Within, kept_from, place_of};
 ghost use Rattle.office_mail.specs.Read.{read};
 ghost use Rattle.office_mail.specs.Laws.{CanTake, Delivers, OneText, SameRun, SameTexts};

@@ -4,9 +4,9 @@ ghost use Rattle.office_mail.specs.declared.message.MailFault.TheVariants as fau
 
 use crate::texts::Numbers;
 use jiff_core::civil::Date;
-use office_setup::Field;
+use office_mail_setup::Field;
 use std::alloc::{AllocError, AllocFailed};
-use testing_items::Item;
+use testing_rules_items::Item;
 use thiserror::Error;
 
 /// Why a text is no message. The first that applies is given.

@@ -7,17 +7,17 @@ ghost use Rattle.deb_control.specs.Paragraphs.{reading};
 ghost use Rattle.office_mail.specs.declared.message.MailFault.TheVariants as fault;
 ghost use Rattle.office_mail.specs.Answers.{Gives, GivesBy};
 ghost use Rattle.office_mail.specs.Kept.{IsPlace, place_of};
-ghost use Rattle.office_setup.specs.Kinds.{binary_fields_needed};
+ghost use Rattle.office_mail_setup.specs.Kinds.{binary_fields_needed};
 ghost use Rattle.office_mail.specs.Read.{read, all_have, has_binaries, has_fields_of, sender_from, sender_named, most_paragraphs, is_arch, knows_arch, knows_archs, message_of, paragraphs_say};
 ghost use Rattle.office_mail.specs.Fields.{has_fields};
-ghost use Rattle.office_setup.specs.Steps.{each_of, whole, needs};
+ghost use Rattle.office_mail_setup.specs.Steps.{each_of, whole, needs};
 
 use crate::bodies::body_of;
 use crate::fields::{has_fields, required};
 use crate::message::{MailFault, Message};
 use deb_control::{Paragraph, ParagraphFault, Text};
-use office_setup::values::number_in;
-use office_setup::{Field, Kind, Role, Setup, all_paragraphs};
+use office_mail_setup::values::number_in;
+use office_mail_setup::{Field, Kind, Role, Setup, all_paragraphs};
 use std::alloc::Global;
 
 /// The message that a text is: its sender's place in the setup, its number, and what it says. Of the faults the

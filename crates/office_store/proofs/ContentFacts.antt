@@ -11,33 +11,33 @@ use Rattle.std.specs.declared.cmp.Ordering.TheVariants.{Less}
 use Rattle.std.specs.FinMap.{FinMap, put, empty, entries, from_entries, entries-insert, len-entries, len-empty}
 use Rattle.sqlite.specs.Tree.{Trees}
 use Rattle.sqlite_rules.specs.Lists.{Has}
-use Rattle.testing_items.specs.Words.{byte_cmp, arch_name}
-use Rattle.testing_model.specs.Moves.{row_cmp, row_key}
-use Rattle.testing_model.specs.InOrder.{AreByName, AreByKey, IsInOrder}
-use Rattle.testing_model.specs.declared.suite.SourceIn.{SourceIn}
-use Rattle.testing_model.specs.declared.suite.RowIn.{RowIn}
-use Rattle.testing_model.proofs.Orders.{text_order}
+use Rattle.testing_rules_items.specs.Words.{byte_cmp, arch_name}
+use Rattle.testing_rules_model.specs.Moves.{row_cmp, row_key}
+use Rattle.testing_rules_model.specs.InOrder.{AreByName, AreByKey, IsInOrder}
+use Rattle.testing_rules_model.specs.declared.suite.SourceIn.{SourceIn}
+use Rattle.testing_rules_model.specs.declared.suite.RowIn.{RowIn}
+use Rattle.testing_rules_model.proofs.Orders.{text_order}
 use Rattle.office_mail.specs.Lists.{Lists}
 use Rattle.office_mail.specs.Kept.{Kept, Place}
 use Rattle.office_mail.specs.declared.message.Message.{Message}
-use Rattle.office_keeper.specs.declared.values.Finished.{Finished}
-use Rattle.office_keeper.specs.Content.{reports_in, with_run}
-use Rattle.office_keeper.specs.FactSet.{AreHoldable, facts_after}
-use Rattle.office_keeper.specs.Provenance.{IsKept, GivesSource, IsArchPlace, GivesRow, IsGiven}
-use Rattle.office_tables.specs.Tables.{kept_rows, said_in, run_map}
-use Rattle.office_tables.specs.TableSteps.{Rows, AddsLetter}
+use Rattle.office_store_keeper.specs.declared.values.Finished.{Finished}
+use Rattle.office_store_keeper.specs.Content.{reports_in, with_run}
+use Rattle.office_store_keeper.specs.FactSet.{AreHoldable, facts_after}
+use Rattle.office_store_keeper.specs.Provenance.{IsKept, GivesSource, IsArchPlace, GivesRow, IsGiven}
+use Rattle.office_store_tables.specs.Tables.{kept_rows, said_in, run_map}
+use Rattle.office_store_tables.specs.TableSteps.{Rows, AddsLetter}
 use Rattle.sqlite.specs.Effect.{Database}
-use Rattle.office_tables.specs.Entries.{source_map, entry_map}
-use Rattle.office_tables.specs.EntrySteps.{source_entry, row_entry}
-use Rattle.office_tables.specs.FactTables.{facts_in}
-use Rattle.office_tables.specs.Finishing.{FinishesRun}
-use Rattle.office_tables.specs.TableContent.{own_by, message_by, message_at, source_as, source_by_message, source_at, is_arch_place, row_as, row_by_message, row_at, suite_in, reports_to, count_said, content_in, release_place}
-use Rattle.office_tables.proofs.MailLemmas.{empty_of}
-use Rattle.office_tables.proofs.SettingLemmas.{row_order}
-use Rattle.office_tables.proofs.EntryLists.{suite_of}
-use Rattle.office_tables.proofs.EntryValues.{read_has, source_keeps, row_keeps, all_back}
-use Rattle.office_tables.proofs.ReportFacts.{length_reports, one_run_more}
-use Rattle.office_tables.proofs.FactMoves.{holdable_stands}
+use Rattle.office_store_tables.specs.Entries.{source_map, entry_map}
+use Rattle.office_store_tables.specs.EntrySteps.{source_entry, row_entry}
+use Rattle.office_store_tables.specs.FactTables.{facts_in}
+use Rattle.office_store_tables.specs.Finishing.{FinishesRun}
+use Rattle.office_store_tables.specs.TableContent.{own_by, message_by, message_at, source_as, source_by_message, source_at, is_arch_place, row_as, row_by_message, row_at, suite_in, reports_to, count_said, content_in, release_place}
+use Rattle.office_store_tables.proofs.MailLemmas.{empty_of}
+use Rattle.office_store_tables.proofs.SettingLemmas.{row_order}
+use Rattle.office_store_tables.proofs.EntryLists.{suite_of}
+use Rattle.office_store_tables.proofs.EntryValues.{read_has, source_keeps, row_keeps, all_back}
+use Rattle.office_store_tables.proofs.ReportFacts.{length_reports, one_run_more}
+use Rattle.office_store_tables.proofs.FactMoves.{holdable_stands}
 
 -- ---- entries that are in order
 

@@ -3,16 +3,16 @@ use Rattle.std.proofs.Common.{◌≡◌, ◌≢◌, ◌⊎◌, inl, inr, length,
 use Rattle.sqlite.specs.Effect.{Database}
 use Rattle.sqlite.specs.State.{State}
 use Rattle.sqlite.specs.Tree.{Trees}
-use Rattle.testing_model.specs.Suite.{Suite}
+use Rattle.testing_rules_model.specs.Suite.{Suite}
 use Rattle.office_mail.specs.Lists.{Lists}
-use Rattle.office_keeper.specs.declared.faults.KeepFault.{KeepFault}
-use Rattle.office_keeper.specs.declared.faults.KeepFault.TheVariants.{Store}
-use Rattle.office_keeper.specs.declared.faults.Cause.TheVariants.{BadRow}
-use Rattle.office_tables.specs.TableContent.{content_in, count_said}
-use Rattle.office_tables.specs.Legible.{IsLegible}
-use Rattle.office_tables.specs.Tables.{run_map, said_in}
-use Rattle.office_tables.specs.TableSteps.{Same}
-use Rattle.office_tables.proofs.ReportFacts.{length_reports}
+use Rattle.office_store_keeper.specs.declared.faults.KeepFault.{KeepFault}
+use Rattle.office_store_keeper.specs.declared.faults.KeepFault.TheVariants.{Store}
+use Rattle.office_store_keeper.specs.declared.faults.Cause.TheVariants.{BadRow}
+use Rattle.office_store_tables.specs.TableContent.{content_in, count_said}
+use Rattle.office_store_tables.specs.Legible.{IsLegible}
+use Rattle.office_store_tables.specs.Tables.{run_map, said_in}
+use Rattle.office_store_tables.specs.TableSteps.{Same}
+use Rattle.office_store_tables.proofs.ReportFacts.{length_reports}
 use Rattle.office_store.specs.TablesState.{IsLegibleStore}
 
 -- tables that a call left as they were stay legible

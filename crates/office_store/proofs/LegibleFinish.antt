@@ -8,33 +8,33 @@ use Rattle.std.specs.FinMap.{get, get-insert, get-from_entries}
 use Rattle.sqlite.specs.Tree.{Trees}
 use Rattle.sqlite.specs.Effect.{Database}
 use Rattle.sqlite_rules.specs.Lists.{Has}
-use Rattle.testing_model.specs.InOrder.{IsInOrder}
-use Rattle.testing_model.specs.Suite.{Suite}
-use Rattle.testing_model.specs.declared.suite.SourceIn.{SourceIn}
-use Rattle.testing_model.specs.declared.suite.RowIn.{RowIn}
-use Rattle.testing_model.proofs.Orders.{text_order}
+use Rattle.testing_rules_model.specs.InOrder.{IsInOrder}
+use Rattle.testing_rules_model.specs.Suite.{Suite}
+use Rattle.testing_rules_model.specs.declared.suite.SourceIn.{SourceIn}
+use Rattle.testing_rules_model.specs.declared.suite.RowIn.{RowIn}
+use Rattle.testing_rules_model.proofs.Orders.{text_order}
 use Rattle.office_mail.specs.Lists.{Lists}
 use Rattle.office_mail.specs.Kept.{Kept, Place}
-use Rattle.office_keeper.specs.declared.values.Finished.{Finished}
-use Rattle.office_keeper.specs.declared.values.Reports.{Reports}
-use Rattle.office_tables.specs.declared.said.Said.{Said}
-use Rattle.office_keeper.specs.Content.{reports_in}
-use Rattle.office_keeper.specs.FactSet.{AreHoldable, facts_after}
-use Rattle.office_keeper.specs.Provenance.{IsGiven}
-use Rattle.office_tables.specs.Tables.{IsWhole, kept_rows, said_in, run_map}
-use Rattle.office_tables.specs.Entries.{source_map, entry_map}
-use Rattle.office_tables.specs.EntrySteps.{source_entry, row_entry}
-use Rattle.office_tables.specs.Finishing.{with_count, FinishesRun}
-use Rattle.office_tables.specs.TableContent.{source_at, row_at, count_said, content_in, release_place}
-use Rattle.office_tables.specs.Legible.{SaysOnce, AreReported, AreNamed, IsLegible}
-use Rattle.office_tables.proofs.LetterFacts.{nat_is}
-use Rattle.office_tables.proofs.SettingLemmas.{text_exact, row_order, row_exact}
-use Rattle.office_tables.proofs.EntryMaps.{from_first}
-use Rattle.office_tables.proofs.EntryValues.{has_map}
-use Rattle.office_tables.proofs.ReportFacts.{length_reports}
+use Rattle.office_store_keeper.specs.declared.values.Finished.{Finished}
+use Rattle.office_store_keeper.specs.declared.values.Reports.{Reports}
+use Rattle.office_store_tables.specs.declared.said.Said.{Said}
+use Rattle.office_store_keeper.specs.Content.{reports_in}
+use Rattle.office_store_keeper.specs.FactSet.{AreHoldable, facts_after}
+use Rattle.office_store_keeper.specs.Provenance.{IsGiven}
+use Rattle.office_store_tables.specs.Tables.{IsWhole, kept_rows, said_in, run_map}
+use Rattle.office_store_tables.specs.Entries.{source_map, entry_map}
+use Rattle.office_store_tables.specs.EntrySteps.{source_entry, row_entry}
+use Rattle.office_store_tables.specs.Finishing.{with_count, FinishesRun}
+use Rattle.office_store_tables.specs.TableContent.{source_at, row_at, count_said, content_in, release_place}
+use Rattle.office_store_tables.specs.Legible.{SaysOnce, AreReported, AreNamed, IsLegible}
+use Rattle.office_store_tables.proofs.LetterFacts.{nat_is}
+use Rattle.office_store_tables.proofs.SettingLemmas.{text_exact, row_order, row_exact}
+use Rattle.office_store_tables.proofs.EntryMaps.{from_first}
+use Rattle.office_store_tables.proofs.EntryValues.{has_map}
+use Rattle.office_store_tables.proofs.ReportFacts.{length_reports}
 use Rattle.office_store.specs.TablesState.{IsLegibleStore}
 use Rattle.office_store.proofs.ContentFacts.{sources_named, rows_named, testing_after}
-use Rattle.office_tables.proofs.FactMoves.{holdable_stands}
+use Rattle.office_store_tables.proofs.FactMoves.{holdable_stands}
 
 each_has : {X : Type 0} (P : X → Type 0) (xs : List X) (x : X) → AllByRecursion P xs → Has xs x → P x
 each_has P [] x all there = absurd there

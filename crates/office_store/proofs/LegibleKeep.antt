@@ -11,23 +11,23 @@ use Rattle.std.specs.FinMap.Entries.{below_all}
 use Rattle.sqlite.specs.Tree.{Trees, put_row}
 use Rattle.sqlite.specs.Effect.{Database}
 use Rattle.sqlite_rules.specs.Lists.{Has}
-use Rattle.testing_items.specs.Words.{byte_cmp}
-use Rattle.testing_model.specs.Moves.{row_cmp}
-use Rattle.testing_model.proofs.Orders.{text_order}
+use Rattle.testing_rules_items.specs.Words.{byte_cmp}
+use Rattle.testing_rules_model.specs.Moves.{row_cmp}
+use Rattle.testing_rules_model.proofs.Orders.{text_order}
 use Rattle.office_mail.specs.Lists.{Lists}
 use Rattle.office_mail.specs.Kept.{Kept, Place, place_cmp}
 use Rattle.office_mail.proofs.KeptFacts.{places_total, exact_places}
-use Rattle.office_keeper.specs.Content.{with_text}
-use Rattle.office_tables.specs.Tables.{letter_in, kept_rows, said_in, run_map}
-use Rattle.office_tables.specs.TableSteps.{Rows, AddsLetter}
-use Rattle.office_tables.specs.Entries.{source_map, entry_map}
-use Rattle.office_tables.specs.TableContent.{message_by, message_at, source_by_message, source_at, row_by_message, row_at, suite_in, reports_to, count_said, content_in, release_place}
-use Rattle.office_tables.specs.FactTables.{facts_in}
-use Rattle.office_tables.specs.Legible.{IsWhole, SaysOnce, AreReported, AreNamed, AreRead, IsLegible}
-use Rattle.office_tables.proofs.KeyedFacts.{tied}
-use Rattle.office_tables.proofs.KeepLemmas.{inserted}
-use Rattle.office_tables.proofs.SettingLemmas.{not_tied, row_order}
-use Rattle.office_tables.proofs.Whole.{whole_put}
+use Rattle.office_store_keeper.specs.Content.{with_text}
+use Rattle.office_store_tables.specs.Tables.{letter_in, kept_rows, said_in, run_map}
+use Rattle.office_store_tables.specs.TableSteps.{Rows, AddsLetter}
+use Rattle.office_store_tables.specs.Entries.{source_map, entry_map}
+use Rattle.office_store_tables.specs.TableContent.{message_by, message_at, source_by_message, source_at, row_by_message, row_at, suite_in, reports_to, count_said, content_in, release_place}
+use Rattle.office_store_tables.specs.FactTables.{facts_in}
+use Rattle.office_store_tables.specs.Legible.{IsWhole, SaysOnce, AreReported, AreNamed, AreRead, IsLegible}
+use Rattle.office_store_tables.proofs.KeyedFacts.{tied}
+use Rattle.office_store_tables.proofs.KeepLemmas.{inserted}
+use Rattle.office_store_tables.proofs.SettingLemmas.{not_tied, row_order}
+use Rattle.office_store_tables.proofs.Whole.{whole_put}
 
 -- ---- entries of a map
 

@@ -2,15 +2,15 @@
 use Rattle.std.proofs.Common.{◌≡◌, List, [], ◌∷◌, Result, Ok, Err, OnOk, OnErr, sym, ap, subst, ◌∙◌}
 use Rattle.sqlite.specs.Tree.{Trees}
 use Rattle.office_mail.specs.Lists.{Lists}
-use Rattle.office_keeper.specs.declared.values.NewLetter.{NewLetter}
-use Rattle.office_keeper.specs.Content.{Content}
-use Rattle.office_keeper.specs.NewMail.{AreFree, with_mail}
-use Rattle.office_tables.specs.Tables.{kept_rows, said_in, run_map}
-use Rattle.office_tables.specs.TableSteps.{Rows, rows_in, AddsLetters}
-use Rattle.office_tables.specs.TableContent.{reports_to, count_said, content_in, release_place}
-use Rattle.office_tables.specs.FactTables.{facts_in}
-use Rattle.office_tables.specs.Legible.{IsLegible}
-use Rattle.office_tables.proofs.KeepAllLemmas.{free_behind}
+use Rattle.office_store_keeper.specs.declared.values.NewLetter.{NewLetter}
+use Rattle.office_store_keeper.specs.Content.{Content}
+use Rattle.office_store_keeper.specs.NewMail.{AreFree, with_mail}
+use Rattle.office_store_tables.specs.Tables.{kept_rows, said_in, run_map}
+use Rattle.office_store_tables.specs.TableSteps.{Rows, rows_in, AddsLetters}
+use Rattle.office_store_tables.specs.TableContent.{reports_to, count_said, content_in, release_place}
+use Rattle.office_store_tables.specs.FactTables.{facts_in}
+use Rattle.office_store_tables.specs.Legible.{IsLegible}
+use Rattle.office_store_tables.proofs.KeepAllLemmas.{free_behind}
 use Rattle.office_store.proofs.LegibleKeep.{keep_legible, keep_content}
 
 -- the other tables stand

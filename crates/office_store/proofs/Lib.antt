@@ -1,3 +1,7 @@
+pub mod OpenLemmas
+pub mod RangeFacts
+pub mod MigrateLemmas
+pub mod MigratedContent
 pub mod ContentFacts
 pub mod LegibleKeep
 pub mod LegibleKeepAll

@@ -3,8 +3,8 @@ use Rattle.std.proofs.Common.{◌≡◌, ◌≤◌, ◌<◌, ℕ, List, length, 
 use Rattle.std.specs.FinMap.{get}
 use Rattle.deb_control.specs.Paragraphs.{reading}
 use Rattle.deb_control.specs.Relations.{◌>>=◌}
-use Rattle.office_setup.specs.declared.field.Field.TheVariants as field
-use Rattle.office_setup.specs.declared.kind.Kind.{Kind}
+use Rattle.office_mail_setup.specs.declared.field.Field.TheVariants as field
+use Rattle.office_mail_setup.specs.declared.kind.Kind.{Kind}
 use Rattle.office_mail.specs.declared.message.Message.{Message}
 use Rattle.office_mail.specs.declared.message.MailFault.{MailFault}
 use Rattle.office_mail.specs.declared.message.MailFault.TheVariants.{TooLong, BadParagraph, UnknownSender, BadNumber, UnknownKind, WrongRole, TooManyParagraphs, UnknownArchitecture}
@@ -15,9 +15,9 @@ use Rattle.office_mail.specs.Fields.{required}
 use Rattle.office_mail.specs.Kinds.{kind_named, may_send}
 use Rattle.office_mail.specs.Read.{read, paragraphs_say, message_of, has_fields_of, sender_named, most_paragraphs, knows_archs, body_of}
 use Rattle.office_mail.specs.Kept.{Kept, Place, place_of, placed_as}
-use Rattle.office_setup.proofs.NumberFacts.{number_range}
-use Rattle.office_keeper.specs.Provenance.{AreOwnTexts}
-use Rattle.office_tables.specs.TableSteps.{AreSmall}
+use Rattle.office_mail_setup.proofs.NumberFacts.{number_range}
+use Rattle.office_store_keeper.specs.Provenance.{AreOwnTexts}
+use Rattle.office_store_tables.specs.TableSteps.{AreSmall}
 
 ok_same : {A E : Type 0} (a b : A) → ◌≡◌ {A = Result A E} (Ok a) (Ok b) → a ≡ b
 ok_same a b e = cc

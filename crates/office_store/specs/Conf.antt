@@ -2,8 +2,8 @@
 use Rattle.std.specs.Prelude.{ℕ, List, take}
 use Rattle.office_store.specs.declared.conf.ConfFault.{ConfFault}
 use Rattle.office_store.specs.declared.conf.ConfFault.TheVariants.{Refused, Unreadable}
-use Rattle.office_setup.specs.declared.setup.SetupFault.{SetupFault}
-use Rattle.office_setup.specs.declared.setup.SetupFault.TheVariants.{BadParagraph, MissingField, BadArchitecture, BadSender, BadRoles, TooMany, NoMemory}
+use Rattle.office_mail_setup.specs.declared.setup.SetupFault.{SetupFault}
+use Rattle.office_mail_setup.specs.declared.setup.SetupFault.TheVariants.{BadParagraph, MissingField, BadArchitecture, BadSender, BadRoles, TooMany, NoMemory}
 
 -- of a file no more is read than one byte beyond the longest setup
 unfoldable pub front : List ℕ → List ℕ

@@ -10,9 +10,9 @@ use Rattle.sqlite_disk.specs.declared.Disk.{Ghosts}
 use Rattle.office_mail.specs.Lists.{Lists}
 use Rattle.office_store.specs.Opening.{IsOpened, IsAlone, IsTakeable}
 use Rattle.office_store.specs.Tables.{IsTrusted}
-use Rattle.office_keeper.specs.declared.faults.Cause.TheVariants.{BadRow, Sqlite}
-use Rattle.office_opening.specs.declared.opening.OpenFault.{OpenFault}
-use Rattle.office_opening.specs.declared.opening.OpenFault.TheVariants as opening
+use Rattle.office_store_keeper.specs.declared.faults.Cause.TheVariants.{BadRow, Sqlite}
+use Rattle.office_store.specs.declared.opening.OpenFault.{OpenFault}
+use Rattle.office_store.specs.declared.opening.OpenFault.TheVariants as opening
 use Rattle.office_store.specs.declared.store.StoreFault.{StoreFault}
 use Rattle.office_store.specs.declared.store.StoreFault.TheVariants as fault
 

@@ -2,10 +2,10 @@
 use Rattle.std.specs.Prelude.{◌≡◌, ℕ, Option, IfSome, refl}
 use Rattle.std.specs.Coded.{Coded, code_by, coded×, coded_ℕ, coded_option}
 use Rattle.sqlite.specs.Tree.{Trees}
-use Rattle.testing_model.specs.Suite.{Suite}
+use Rattle.testing_rules_model.specs.Suite.{Suite}
 use Rattle.office_mail.specs.Lists.{Lists}
-use Rattle.office_tables.specs.TableContent.{content_in}
-use Rattle.office_tables.specs.Legible.{IsLegible}
+use Rattle.office_store_tables.specs.TableContent.{content_in}
+use Rattle.office_store_tables.specs.Legible.{IsLegible}
 
 pub record TablesState (C : Type 0) : Type 0 where
   -- the connection, with what its tables hold

@@ -4,24 +4,24 @@ ghost use Rattle.std.specs.List.{list_all};
 ghost use Rattle.std.specs.Str.{IsUtf8};
 ghost use Rattle.sqlite.specs.Held.{state};
 ghost use Rattle.sqlite.specs.State.{HasCleanDisk};
-ghost use Rattle.testing_model.specs.InOrder.{IsInOrder};
-ghost use Rattle.office_keeper.specs.Provenance.{KnowsArchs};
-ghost use Rattle.office_tables.specs.Entries.{source_map, entry_map};
-ghost use Rattle.office_tables.specs.Finishing.{FinishesRun};
-ghost use Rattle.office_tables.specs.Legible.{IsWhole, AreNamed, SaysOnce};
-ghost use Rattle.office_tables.specs.TableContent.{is_arch_place, release_place, suite_in};
-ghost use Rattle.office_tables.specs.TableSteps.{Same};
-ghost use Rattle.office_tables.specs.Tables.{IsTrusted, IsOurs, Lasts, kept_rows};
+ghost use Rattle.testing_rules_model.specs.InOrder.{IsInOrder};
+ghost use Rattle.office_store_keeper.specs.Provenance.{KnowsArchs};
+ghost use Rattle.office_store_tables.specs.Entries.{source_map, entry_map};
+ghost use Rattle.office_store_tables.specs.Finishing.{FinishesRun};
+ghost use Rattle.office_store_tables.specs.Legible.{IsWhole, AreNamed, SaysOnce};
+ghost use Rattle.office_store_tables.specs.TableContent.{is_arch_place, release_place, suite_in};
+ghost use Rattle.office_store_tables.specs.TableSteps.{Same};
+ghost use Rattle.office_store_tables.specs.Tables.{IsTrusted, IsOurs, Lasts, kept_rows};
 
 use deb_control::NoMemory;
-use office_keeper::{Cause, Finished, KeepFault};
 use office_mail::Setup;
-use office_tables::{entries, finishing};
+use office_store_keeper::{Cause, Finished, KeepFault};
+use office_store_tables::{entries, finishing};
 use sqlite::{Alter, Connection};
 use std::alloc::Global;
-use testing_items::{ALL, Archs};
-use testing_model::RowIn;
-use testing_suites::Testing;
+use testing_rules_items::{ALL, Archs};
+use testing_rules_model::RowIn;
+use testing_rules_suites::Testing;
 
 /// Whether a row is of a listed architecture or of `all`.
 fn is_listed(archs: &Archs, row: &RowIn) -> bool

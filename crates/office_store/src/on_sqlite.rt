@@ -2,20 +2,20 @@
 ghost use Rattle.std.specs.Prelude.{◌≡◌, None};
 ghost use Rattle.sqlite.specs.Held.{state};
 ghost use Rattle.sqlite.specs.State.{HasCleanDisk};
-ghost use Rattle.office_tables.specs.TableContent.{content_in};
-ghost use Rattle.office_tables.specs.Tables.{IsTrusted, IsOurs};
-ghost use Rattle.office_keeper.specs.Keeping.{Counted};
+ghost use Rattle.office_store_tables.specs.TableContent.{content_in};
+ghost use Rattle.office_store_tables.specs.Tables.{IsTrusted, IsOurs};
+ghost use Rattle.office_store_keeper.specs.Keeping.{Counted};
 ghost use Rattle.office_store.specs.TablesState.{IsLegibleStore};
 
 use crate::in_memory;
-use office_keeper::{Finished, KeepFault, Keeper, Letter, MailText, NewLetter, Reports};
 use office_mail::Setup;
-use office_tables::{entries, fact_rows, finishing, mail, runs};
+use office_store_keeper::{Finished, KeepFault, Keeper, Letter, MailText, NewLetter, Reports};
+use office_store_tables::{entries, fact_rows, finishing, mail, runs};
 use sqlite::{Alter, Connection};
 use std::alloc::Global;
 use std::marker::Model;
-use testing_model::FactRows;
-use testing_suites::Testing;
+use testing_rules_model::FactRows;
+use testing_rules_suites::Testing;
 
 /// The office's tables over a connection. The testing that a run leaves stays in memory for the next run, with the suites
 /// that speed it; a store that was just opened has none there, and reads its tables.
@@ -29,10 +29,10 @@ pub struct Tables<S: Alter> {
 
 impl<S: Alter> Model for Tables<S> {
     ghost use Rattle.sqlite.specs.Held.{Held, held_code, state};
-    ghost use Rattle.office_tables.specs.Tables.{IsTrusted, IsOurs};
+    ghost use Rattle.office_store_tables.specs.Tables.{IsTrusted, IsOurs};
     ghost use Rattle.office_store.specs.TablesState.{TablesState, coded_state};
-    ghost use Rattle.office_setup.specs.contracts.setup.Setup as setup_of;
-    ghost use Rattle.testing_suites.specs.contracts.suite.Testing as testing_of;
+    ghost use Rattle.office_mail_setup.specs.contracts.setup.Setup as setup_of;
+    ghost use Rattle.testing_rules_suites.specs.contracts.suite.Testing as testing_of;
 
     ghost Value = { TablesState (Held S) };
 

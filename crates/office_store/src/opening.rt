@@ -1,61 +1,270 @@
-//! The keeper over an office's tables in a database, fresh or kept.
-ghost use Rattle.std.specs.Prelude.{◌≡◌, None, IfOk, IfErr, OnOk};
+//! Opening an office's tables in a database, fresh or kept.
+ghost use Rattle.std.specs.Prelude.{◌≡◌, ◌≢◌, ◌⊎◌, false, IsTrue, Some, None, Err, IfOk, IfErr, OnOk, OnErr};
+ghost use Rattle.std.specs.Option.{option_copied};
+ghost use Rattle.sqlite.specs.Order.{column};
 ghost use Rattle.sqlite.specs.Held.{state};
 ghost use Rattle.sqlite.specs.State.{HasCleanDisk};
-ghost use Rattle.office_tables.specs.Layout.{HasEachBefore};
-ghost use Rattle.office_tables.specs.Tables.{IsTrusted, Endures};
-ghost use Rattle.office_tables.specs.Unchanged.{IsAsItWas};
-ghost use Rattle.office_opening.specs.Opening.{IsOpened, IsKeptForOther, IsUnknown, IsUnreadable, IsAlone, IsTakeable};
-ghost use Rattle.office_keeper.specs.declared.faults.Cause.TheVariants.{BadRow};
+ghost use Rattle.office_mail.specs.Lists.{Lists};
+ghost use Rattle.office_store_tables.specs.Tables.{IsTrusted, IsOurs, number_in, text_in, Endures, Lasts};
+ghost use Rattle.office_store_tables.specs.TableSteps.{Same};
+ghost use Rattle.office_store.specs.Opening.{open_fault, text_by, shown_office, text_of_one, kept_text, lists_by, IsKeptFor, IsOpened, IsKeptForOther, IsUnknown, IsUnreadable, IsAlone, IsTakeable};
+ghost use Rattle.office_store_tables.specs.Creating.{IsBlank};
+ghost use Rattle.office_store_tables.specs.Layout.{no_schema, has_none, HasEachBefore};
+ghost use Rattle.office_store_tables.specs.Fresh.{IsEmptyFor};
+ghost use Rattle.office_store_tables.specs.SetupText.{setup_text as text_of};
+ghost use Rattle.office_store_tables.specs.Unchanged.{IsAsItWas};
+ghost use Rattle.office_store.specs.declared.opening.OpenFault.TheVariants as fault;
+ghost use Rattle.office_store_keeper.specs.declared.faults.Cause.TheVariants.{BadRow};
 
-use crate::on_sqlite::Tables;
-use office_mail::Setup;
-use office_opening::{OpenFault, prepare};
-use sqlite::{Alter, Connection};
-use std::alloc::Global;
+use crate::among::{has_each, has_each_before};
+use crate::migrating::migrate;
+use office_mail::{Setup, SetupFault};
+use office_store_keeper::{Cause, KeepFault};
+use office_store_tables::layout::{has_none, has_tables, has_tables_before, is_fresh};
+use office_store_tables::runs::office_rows;
+use office_store_tables::schema;
+use office_store_tables::setup_text::{same_setup, setup_text};
+use sqlite::types::ValueRef;
+use sqlite::{Alter, Connection, Error, Row};
+use std::alloc::{AllocError, Global};
 
-impl<S: Alter> Tables<S> {
-    /// The office's tables in a database. One that has none of them gets them, with this setup, no mail and no run; one
-    /// that was made for this setup goes on as it was left. One of schema 1 that was made for this setup is migrated, all
-    /// or nothing: it gets the seventh table, with the last delays that its finished runs cover, and the schema's number
-    /// 2. Tables, views and indexes of other names don't count, and stay. `OtherSetup` comes where the database was made
-    /// for other architectures or senders, by names, roles or order. `UnknownSchema` comes where it has some of the
-    /// office's seven tables, or a view or an index of such a name, but wasn't made for any setup: it has neither all
-    /// seven, column by column, nor all but `fact_delays`, or the office's table hasn't just one row, with id 1, the
-    /// schema's number, which is 2 for seven tables and 1 for six, and a text that is a setup. `Store` with `BadRow` comes
-    /// where a store of schema 1 lacks an order of its finished runs, or one of them, or a text of the release team up to
-    /// their cover, isn't a message of its own sender and number. A connection in a transaction is refused by `Store`. A
-    /// refusal hands the connection back and leaves the database as it was.
-    ///
-    /// Where other tables, views or indexes stand there too, nothing is promised of what is kept, only that each call
-    /// returns: such a connection gets a limit of 2^64-1 on the steps of a statement, and with one it isn't trusted.
-    pub fn open(
-        alloc: Global,
-        conn: Connection<S>,
-        setup: &Setup,
-    ) -> Result<Tables<S>, (OpenFault, Connection<S>)>
-        ensures opened { IfOk result (λ tables. IsTrusted (state S.Store tables.conn) → IsOpened setup.now (state S.Store conn).now (state S.Store tables.conn).now) }
-        ensures before { IfOk result (λ tables. IsTrusted (state S.Store tables.conn) → IsTrusted (state S.Store conn)) }
-        ensures stays { IfOk result (λ tables. HasCleanDisk (state S.Store tables.conn) → IsTrusted (state S.Store conn) → IsAlone (state S.Store conn).now → IsTrusted (state S.Store tables.conn)) }
-        ensures lasts { IfOk result (λ tables. Endures (state S.Store conn) (state S.Store tables.conn)) }
-        ensures shut { IfErr result (λ refused. Endures (state S.Store conn) (state S.Store refused.1)) }
-        ensures takes { OnOk result (IsTakeable (state S.Store conn).now.schema) }
-        ensures setup { IfOk result (λ tables. tables.setup ≡ setup.now) }
-        ensures count { IfOk result (λ tables. tables.refusals ≡ 0) }
-        ensures memory { IfOk result (λ tables. tables.in_memory ≡ None) }
-        ensures err { IfErr result (λ refused. IsTrusted (state S.Store refused.1) → IsAsItWas (state S.Store conn) (state S.Store refused.1)) }
-        ensures other { IfErr result (λ refused. IsTrusted (state S.Store refused.1) → refused.0 ≡ OpenFault.OtherSetup → IsKeptForOther setup.now (state S.Store conn).now) }
-        ensures unknown { IfErr result (λ refused. IsTrusted (state S.Store refused.1) → refused.0 ≡ OpenFault.UnknownSchema → IsUnknown (state S.Store conn).now) }
-        ensures six { IfErr result (λ refused. refused.0 ≡ OpenFault.Store BadRow → HasEachBefore (state S.Store conn).now.schema) }
-        ensures bad { IfErr result (λ refused. IsTrusted (state S.Store refused.1) → refused.0 ≡ OpenFault.Store BadRow → IsUnreadable setup.now (state S.Store conn).now) }
-    {
-        let Ok(copy) = setup.copy(alloc) else {
-            return Err((OpenFault::NoMemory, conn));
-        };
-        let mut conn = conn;
-        match prepare(alloc, &mut conn, setup) {
-            Ok(()) => Ok(Tables::over(alloc, conn, copy)),
-            Err(fault) => Err((fault, conn)),
+/// Why an office's tables couldn't be opened.
+#[derive(Clone, Copy, Debug, PartialEq, Eq)]
+pub enum OpenFault {
+    NoMemory,
+    /// The database's own refusal.
+    Store(Cause),
+    /// The database was made for a setup with other architectures or senders, by names, roles or order.
+    OtherSetup,
+    /// The database has some of the office's tables, but wasn't made for an office that this program reads.
+    UnknownSchema,
+}
+
+impl From<KeepFault> for OpenFault {
+    ghost from_gives = { λ fault e. e ≡ open_fault fault };
+
+    fn from(fault: KeepFault) -> OpenFault {
+        match fault {
+            KeepFault::NoMemory => OpenFault::NoMemory,
+            KeepFault::Store(cause) => OpenFault::Store(cause),
         }
     }
+}
+
+impl From<AllocError> for OpenFault {
+    ghost from_gives = { λ _ e. e ≡ fault.NoMemory };
+
+    fn from(_e: AllocError) -> OpenFault {
+        OpenFault::NoMemory
+    }
+}
+
+impl From<Error> for OpenFault {
+    ghost from_gives = { λ _ e. (e ≢ fault.OtherSetup) × (e ≢ fault.UnknownSchema) × (e ≢ fault.Store BadRow) };
+
+    fn from(error: Error) -> OpenFault {
+        OpenFault::from(KeepFault::from(error))
+    }
+}
+
+/// The number from 0 in a column, or none.
+pub(crate) fn number_at(row: &Row, at: usize) -> Option<u64>
+    ensures { result ≡ number_in (column row.now at) }
+{
+    match row.get_ref(at) {
+        Ok(ValueRef::Int(n)) => u64::try_from(n).ok(),
+        _ => None,
+    }
+}
+
+/// The text in a column, or none.
+fn text_at<'a>(row: &'a Row, at: usize) -> Option<&'a [u8]>
+    ensures { option_copied result ≡ text_in (column row.now at) }
+{
+    match row.get_ref(at) {
+        Ok(ValueRef::Text(text)) => Some(text),
+        _ => None,
+    }
+}
+
+/// The setup's text in a row of the office, or none where the row isn't one of the schema of this number.
+fn row_text<'a>(row: &'a Row, expected: u64) -> Option<&'a [u8]>
+    ensures { option_copied result ≡ text_by expected (shown_office row.now) }
+{
+    let id = number_at(row, 0)?;
+    let schema = number_at(row, 1)?;
+    let setup = text_at(row, 2)?;
+    let finished = number_at(row, 3)?;
+    if id == 1 && schema == expected && finished <= 4_294_967_295 {
+        Some(setup)
+    } else {
+        None
+    }
+}
+
+/// The setup's text in the only row, or none.
+fn only_text<'a>(rows: &'a [Row], expected: u64) -> Option<&'a [u8]>
+    ensures { option_copied result ≡ text_of_one expected shown_office rows.now }
+{
+    match rows {
+        [row] => row_text(row, expected),
+        _ => None,
+    }
+}
+
+/// The setup that a text is, or none.
+fn setup_of(alloc: Global, text: &[u8]) -> Result<Option<Setup>, OpenFault>
+    ensures value { IfOk result (λ setup. setup ≡ lists_by (Some text.now)) }
+    ensures err { IfErr result (λ e. e ≡ OpenFault.NoMemory) }
+{
+    match Setup::parse(alloc, text) {
+        Ok(setup) => Ok(Some(setup)),
+        Err(SetupFault::NoMemory) => Err(OpenFault::NoMemory),
+        Err(_) => Ok(None),
+    }
+}
+
+/// The setup that the only row of the office keeps, or none.
+fn kept_setup(alloc: Global, rows: &[Row], expected: u64) -> Result<Option<Setup>, OpenFault>
+    ensures value { IfOk result (λ setup. setup ≡ lists_by (text_of_one expected shown_office rows.now)) }
+    ensures err { IfErr result (λ e. e ≡ OpenFault.NoMemory) }
+{
+    match only_text(rows, expected) {
+        Some(text) => setup_of(alloc, text),
+        None => Ok(None),
+    }
+}
+
+/// Whether the rows of the office are those of one with this setup, of the schema of this number.
+pub(crate) fn judge(
+    alloc: Global,
+    rows: &[Row],
+    expected: u64,
+    setup: &Setup,
+) -> Result<(), OpenFault>
+    ensures ok { OnOk result (lists_by (text_of_one expected shown_office rows.now) ≡ Some setup.now) }
+    ensures other { result ≡ Err OpenFault.OtherSetup → (kept : Lists) × (lists_by (text_of_one expected shown_office rows.now) ≡ Some kept) × (kept ≢ setup.now) }
+    ensures unknown { result ≡ Err OpenFault.UnknownSchema → lists_by (text_of_one expected shown_office rows.now) ≡ None }
+    ensures bad { result ≢ Err (OpenFault.Store BadRow) }
+{
+    match kept_setup(alloc, rows, expected)? {
+        None => Err(OpenFault::UnknownSchema),
+        Some(kept) => same_or_other(alloc, &kept, setup),
+    }
+}
+
+/// Whether a kept setup is this one.
+fn same_or_other(alloc: Global, kept: &Setup, setup: &Setup) -> Result<(), OpenFault>
+    ensures ok { OnOk result (kept.now ≡ setup.now) }
+    ensures other { result ≡ Err OpenFault.OtherSetup → kept.now ≢ setup.now }
+    ensures known { result ≢ Err OpenFault.UnknownSchema }
+    ensures bad { result ≢ Err (OpenFault.Store BadRow) }
+{
+    if same_setup(alloc, kept, setup)? {
+        Ok(())
+    } else {
+        Err(OpenFault::OtherSetup)
+    }
+}
+
+/// Goes on over the office's tables, where they are kept for this setup.
+fn go_on<S: Alter>(alloc: Global, conn: &mut Connection<S>, setup: &Setup) -> Result<(), OpenFault>
+    requires ours { IsTrusted (state S.Store conn.old) → IsOurs (state S.Store conn.old) }
+    ensures before { IsTrusted (state S.Store conn.new) → IsTrusted (state S.Store conn.old) }
+    ensures lasts { Lasts (state S.Store conn.old) (state S.Store conn.new) }
+    ensures open { HasCleanDisk (state S.Store conn.new) → IsTrusted (state S.Store conn.old) → OnOk result (IsTrusted (state S.Store conn.new)) }
+    ensures same { IsTrusted (state S.Store conn.new) → Same (state S.Store conn.old) (state S.Store conn.new) }
+    ensures kept { IsTrusted (state S.Store conn.new) → OnOk result (lists_by (kept_text ((state S.Store conn.new).now.trees 0)) ≡ Some setup.now) }
+    ensures other { IsTrusted (state S.Store conn.new) → result ≡ Err OpenFault.OtherSetup → (kept : Lists) × (lists_by (kept_text ((state S.Store conn.new).now.trees 0)) ≡ Some kept) × (kept ≢ setup.now) }
+    ensures unknown { IsTrusted (state S.Store conn.new) → result ≡ Err OpenFault.UnknownSchema → lists_by (kept_text ((state S.Store conn.new).now.trees 0)) ≡ None }
+    ensures bad { result ≢ Err (OpenFault.Store BadRow) }
+{
+    let rows = office_rows(conn)?;
+    judge(alloc, rows.as_slice(), 2, setup)
+}
+
+/// Makes the office's tables in a database that has none of them.
+fn begin<S: Alter>(alloc: Global, conn: &mut Connection<S>, setup: &Setup) -> Result<(), OpenFault>
+    requires fresh { IsTrusted (state S.Store conn.old) → (state S.Store conn.old).now.schema ≡ no_schema }
+    ensures before { IsTrusted (state S.Store conn.new) → IsTrusted (state S.Store conn.old) }
+    ensures lasts { Lasts (state S.Store conn.old) (state S.Store conn.new) }
+    ensures open { HasCleanDisk (state S.Store conn.new) → IsTrusted (state S.Store conn.old) → OnOk result (IsTrusted (state S.Store conn.new)) }
+    ensures ours { IsTrusted (state S.Store conn.new) → OnOk result (IsOurs (state S.Store conn.new)) }
+    ensures blank { IsTrusted (state S.Store conn.new) → OnOk result (IsBlank (state S.Store conn.new).now.trees (record { schema = 2; setup = text_of setup.now; finished = 0 })) }
+    ensures kept { IsTrusted (state S.Store conn.new) → OnOk result (IsKeptFor setup.now (state S.Store conn.new).now) }
+    ensures fresh { IsTrusted (state S.Store conn.new) → OnOk result (IsEmptyFor setup.now (state S.Store conn.new).now.trees) }
+    ensures err { IsTrusted (state S.Store conn.new) → OnErr result (IsAsItWas (state S.Store conn.old) (state S.Store conn.new)) }
+    ensures own { (result ≢ Err OpenFault.OtherSetup) × (result ≢ Err OpenFault.UnknownSchema) }
+    ensures bad { result ≢ Err (OpenFault.Store BadRow) }
+{
+    let text = setup_text(alloc, setup)?;
+    schema::create(conn, text.as_str())?;
+    Ok(())
+}
+
+/// Makes the office's tables beside others, or finds or migrates them there.
+///
+/// What a statement does to the seven tables is proved where no others stand beside them. So nothing may be promised here
+/// of what is kept. Each such promise asks that the connection is trusted, and one with a limit on the steps of a
+/// statement isn't: that is why a limit is set. It is 2^64-1 steps, which no statement reaches, so that each statement
+/// does what it does without one.
+fn prepare_among<S: Alter>(
+    alloc: Global,
+    conn: &mut Connection<S>,
+    setup: &Setup,
+) -> Result<(), OpenFault>
+    ensures endures { Endures (state S.Store conn.old) (state S.Store conn.new) }
+    ensures before { IsTrusted (state S.Store conn.new) → conn.new ≡ conn.old }
+    ensures apart { IsTrusted (state S.Store conn.new) → result ≡ Err OpenFault.UnknownSchema ⊎ (result ≡ Err OpenFault.NoMemory) }
+    ensures takes { OnOk result (IsTakeable (state S.Store conn.old).now.schema) }
+    ensures leaves { result ≡ Err OpenFault.UnknownSchema → has_none (state S.Store conn.old).now.schema ≡ false }
+    ensures bad { result ≡ Err (OpenFault.Store BadRow) → HasEachBefore (state S.Store conn.old).now.schema }
+{
+    if has_none(conn.schema()) {
+        conn.set_step_limit(Some(u64::MAX));
+        return begin(alloc, conn, setup);
+    }
+    if has_each_before(alloc, conn.schema())? {
+        conn.set_step_limit(Some(u64::MAX));
+        return migrate(alloc, conn, setup);
+    }
+    if !has_each(alloc, conn.schema())? {
+        return Err(OpenFault::UnknownSchema);
+    }
+    conn.set_step_limit(Some(u64::MAX));
+    go_on(alloc, conn, setup)
+}
+
+/// Makes, finds or migrates the office's tables.
+#[tactic(auto, using(office_store_tables::proofs::SchemaLemmas::each, office_store_tables::proofs::SchemaLemmas::each_before))]
+pub fn prepare<S: Alter>(
+    alloc: Global,
+    conn: &mut Connection<S>,
+    setup: &Setup,
+) -> Result<(), OpenFault>
+    ensures before { IsTrusted (state S.Store conn.new) → IsTrusted (state S.Store conn.old) }
+    ensures endures { Endures (state S.Store conn.old) (state S.Store conn.new) }
+    ensures open { HasCleanDisk (state S.Store conn.new) → IsTrusted (state S.Store conn.old) → IsAlone (state S.Store conn.old).now → OnOk result (IsTrusted (state S.Store conn.new)) }
+    ensures takes { OnOk result (IsTakeable (state S.Store conn.old).now.schema) }
+    ensures ours { IsTrusted (state S.Store conn.new) → OnOk result (IsOurs (state S.Store conn.new)) }
+    ensures opened { IsTrusted (state S.Store conn.new) → OnOk result (IsOpened setup.now (state S.Store conn.old).now (state S.Store conn.new).now) }
+    ensures err { IsTrusted (state S.Store conn.new) → OnErr result (IsAsItWas (state S.Store conn.old) (state S.Store conn.new)) }
+    ensures other { IsTrusted (state S.Store conn.new) → result ≡ Err OpenFault.OtherSetup → IsKeptForOther setup.now (state S.Store conn.old).now }
+    ensures unknown { IsTrusted (state S.Store conn.new) → result ≡ Err OpenFault.UnknownSchema → IsUnknown (state S.Store conn.old).now }
+    ensures six { result ≡ Err (OpenFault.Store BadRow) → HasEachBefore (state S.Store conn.old).now.schema }
+    ensures bad { IsTrusted (state S.Store conn.new) → result ≡ Err (OpenFault.Store BadRow) → IsUnreadable setup.now (state S.Store conn.old).now }
+{
+    if !conn.is_autocommit() {
+        return Err(OpenFault::Store(Cause::Sqlite(Error::InvalidQuery)));
+    }
+    if is_fresh(conn.schema()) {
+        return begin(alloc, conn, setup);
+    }
+    if has_tables(alloc, conn.schema())? {
+        return go_on(alloc, conn, setup);
+    }
+    if has_tables_before(alloc, conn.schema())? {
+        return migrate(alloc, conn, setup);
+    }
+    prepare_among(alloc, conn, setup)
 }

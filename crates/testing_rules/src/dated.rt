@@ -1,18 +1,18 @@
 //! The calls that take a date. Their callers give a civil date of jiff; the rules below keep jiff_core's, which it holds.
 
 ghost use Rattle.std.specs.Prelude.{◌≡◌, IfOk, string_bytes};
-ghost use Rattle.testing_model.specs.Covered.{Covered};
-ghost use Rattle.testing_model.specs.Excuses.{excuses_of};
-ghost use Rattle.testing_model.specs.StandsFor.{StandsFor};
-ghost use Rattle.testing_reports.specs.Reports as texts;
+ghost use Rattle.testing_rules_model.specs.Covered.{Covered};
+ghost use Rattle.testing_rules_model.specs.Excuses.{excuses_of};
+ghost use Rattle.testing_rules_model.specs.StandsFor.{StandsFor};
+ghost use Rattle.testing_rules_reports.specs.Reports as texts;
 
 use deb_version::NoMemory;
 use jiff::civil::Date;
 use std::alloc::Global;
-use testing_facts::Facts;
-use testing_items::Archs;
-use testing_model::{Excuses, Update};
-use testing_suites::Testing;
+use testing_rules_facts::Facts;
+use testing_rules_items::Archs;
+use testing_rules_model::{Excuses, Update};
+use testing_rules_suites::Testing;
 
 /// The excuses of a run, whose date is given, over the messages that the facts stand for.
 pub fn excuses(
@@ -24,7 +24,7 @@ pub fn excuses(
 ) -> Result<Excuses, NoMemory>
     ensures { IfOk result (λ es. (s : Covered) → StandsFor facts.now s testing.now → es ≡ excuses_of archs.now s testing.now date) }
 {
-    testing_excuses::excuses(alloc, archs, facts, testing, date.to_plain())
+    testing_rules_excuses::excuses(alloc, archs, facts, testing, date.to_plain())
 }
 
 /// The report on a run's excuses.
@@ -37,7 +37,7 @@ pub fn excuses_text(
 ) -> Result<String, NoMemory>
     ensures { IfOk result (λ t. string_bytes t ≡ texts.excuses_text archs.now run date excuses.now) }
 {
-    testing_reports::excuses_text(alloc, archs, run, date.to_plain(), excuses)
+    testing_rules_reports::excuses_text(alloc, archs, run, date.to_plain(), excuses)
 }
 
 /// The report on a run's decisions.
@@ -50,5 +50,5 @@ pub fn update_text(
 ) -> Result<String, NoMemory>
     ensures { IfOk result (λ t. string_bytes t ≡ texts.update_text archs.now run date update.now) }
 {
-    testing_reports::update_text(alloc, archs, run, date.to_plain(), update)
+    testing_rules_reports::update_text(alloc, archs, run, date.to_plain(), update)
 }

@@ -5,7 +5,7 @@
 mod dated;
 
 pub use dated::{excuses, excuses_text, update_text};
-pub use testing_laws::{
+pub use testing_rules_laws::{
     ALL, Archs, Binaries, BugIn, BuildIn, Decision, Delays, DelaysIn, DropIn, Excuse, Excuses,
     FactChanges, FactRow, FactRows, Facts, HasSources, Hint, HintIn, HintItem, HintItems, Item,
     Moved, MovedItems, Names, Offender, Reason, Reasons, RowIn, Severity, SharedBinary, SourceIn,

@@ -1,8 +1,8 @@
 use Rattle.std.proofs.Common.{drop}
 use Rattle.std.proofs.lemmas.Result.{err_from_is_err_and}
-use Rattle.office_requests.specs.declared.request.Asked.TheVariants as asks
-use Rattle.office_runs.specs.Preserves.{StoreRefused}
-use Rattle.office_facts.specs.State.{state_of}
+use Rattle.office_http_requests.specs.declared.request.Asked.TheVariants as asks
+use Rattle.office_core.specs.Preserves.{StoreRefused}
+use Rattle.office_core_facts.specs.State.{state_of}
 use Rattle.office_http.proofs.ServeFacts.{whole_answers, broken_answers, short_answers, short_body, post_body, few_body, stopped_writing, stopped_body}
 use Rattle.office_http.proofs.serve.answer_post.Goals as goal
 

@@ -1,9 +1,9 @@
 use Rattle.std.proofs.Common.{◌≡◌, [], false, drop, inl, refl, sym, ◌∙◌, arith}
 use Rattle.std.proofs.lemmas.Result.{on_err_weaker}
 use Rattle.std.proofs.KnownBytes.{Appends-nil, Consumes-nil}
-use Rattle.office_runs.specs.Preserves.{StoreRefused}
-use Rattle.office_facts.specs.State.{state_of}
-use Rattle.office_runs.proofs.CarryFacts.{state_asked}
+use Rattle.office_core.specs.Preserves.{StoreRefused}
+use Rattle.office_core_facts.specs.State.{state_of}
+use Rattle.office_core.proofs.CarryFacts.{state_asked}
 use Rattle.office_http.proofs.ServeFacts.{short_answers, refused_answers, told_answers, post_size, stopped_post}
 use Rattle.office_http.proofs.serve.answer_request.Goals as goal
 

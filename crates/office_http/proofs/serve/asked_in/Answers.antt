@@ -1,8 +1,8 @@
 use Rattle.std.proofs.Common.{◌≤◌, sym, subst}
-use Rattle.office_requests.specs.Asked.{body_size}
-use Rattle.office_requests.specs.Request.{body_room}
-use Rattle.office_requests.specs.declared.request.Asked.{Asked}
-use Rattle.office_requests.proofs.SizeFacts.{body_fits}
+use Rattle.office_http_requests.specs.Asked.{body_size}
+use Rattle.office_http_requests.specs.Request.{body_room}
+use Rattle.office_http_requests.specs.declared.request.Asked.{Asked}
+use Rattle.office_http_requests.proofs.SizeFacts.{body_fits}
 use Rattle.office_http.proofs.serve.asked_in.Goals as goal
 
 pub returns-in-Ok-asked_of-clause-fits : goal.returns-in-Ok-asked_of-clause-fits

@@ -1,7 +1,7 @@
 use Rattle.std.proofs.Common.{◌≡◌, ℕ, ap, ◌∙◌}
 use Rattle.office_mail.specs.Lists.{Lists}
-use Rattle.office_orders.specs.declared.waiting_lines.Waiting.{Waiting}
-use Rattle.office_orders.specs.WaitingLines.{waiting_text}
+use Rattle.office_core_orders.specs.declared.waiting_lines.Waiting.{Waiting}
+use Rattle.office_core_orders.specs.WaitingLines.{waiting_text}
 use Rattle.office_http.proofs.serve.awaited_text.Goals as goal
 
 pub returns-clause-tells : goal.returns-clause-tells

@@ -1,7 +1,7 @@
-use Rattle.office_runs.specs.Preserves.{StoreRefused}
-use Rattle.office_facts.specs.State.{state_of}
-use Rattle.office_runs.proofs.CarryFacts.{carries_delivery, holds_first, holds_next, refused_first, refused_next}
-use Rattle.office_replays.proofs.ReplayFacts.{leaves_call}
+use Rattle.office_core.specs.Preserves.{StoreRefused}
+use Rattle.office_core_facts.specs.State.{state_of}
+use Rattle.office_core.proofs.CarryFacts.{carries_delivery, holds_first, holds_next, refused_first, refused_next}
+use Rattle.office_core_replay.proofs.ReplayFacts.{leaves_call}
 use Rattle.office_http.proofs.ServeFacts.{delivered, place_delivery}
 use Rattle.office_http.proofs.serve.deliver_and_settle.Goals as goal
 

@@ -1,7 +1,7 @@
 use Rattle.std.proofs.lemmas.Result.{err_from_is_err_and}
-use Rattle.office_requests.specs.declared.reply.Refusal.TheVariants as refusal
-use Rattle.office_runs.specs.Preserves.{StoreRefused}
-use Rattle.office_facts.specs.State.{state_of}
+use Rattle.office_http_requests.specs.declared.reply.Refusal.TheVariants as refusal
+use Rattle.office_core.specs.Preserves.{StoreRefused}
+use Rattle.office_core_facts.specs.State.{state_of}
 use Rattle.office_http.proofs.ServeFacts.{replied_head, stopped_head, stopped_reading, unread_ok, unread_err}
 use Rattle.office_http.proofs.serve.serve_connection.Goals as goal
 

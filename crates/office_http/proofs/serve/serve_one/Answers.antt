@@ -1,7 +1,7 @@
-use Rattle.office_runs.specs.Preserves.{StoreRefused}
-use Rattle.office_facts.specs.State.{state_of}
+use Rattle.office_core.specs.Preserves.{StoreRefused}
+use Rattle.office_core_facts.specs.State.{state_of}
 use Rattle.office_http.proofs.ConnectionFacts.{grows_connection}
-use Rattle.office_replays.proofs.StandFacts.{stand_after}
+use Rattle.office_core_replay.proofs.StandFacts.{stand_after}
 use Rattle.office_http.proofs.serve.serve_one.Goals as goal
 
 pub returns-clause-runs : goal.returns-clause-runs

@@ -1,6 +1,6 @@
-use Rattle.office_runs.specs.Preserves.{StoreRefused}
-use Rattle.office_facts.specs.State.{state_of}
-use Rattle.office_runs.proofs.CarryFacts.{risen}
+use Rattle.office_core.specs.Preserves.{StoreRefused}
+use Rattle.office_core_facts.specs.State.{state_of}
+use Rattle.office_core.proofs.CarryFacts.{risen}
 use Rattle.office_http.proofs.ServeFacts.{settled, place_status}
 use Rattle.office_http.proofs.serve.settle.Goals as goal
 

@@ -1,6 +1,6 @@
-use Rattle.office_runs.specs.Preserves.{StoreRefused}
-use Rattle.office_facts.specs.State.{state_of}
-use Rattle.office_runs.proofs.CarryFacts.{risen}
+use Rattle.office_core.specs.Preserves.{StoreRefused}
+use Rattle.office_core_facts.specs.State.{state_of}
+use Rattle.office_core.proofs.CarryFacts.{risen}
 use Rattle.office_http.proofs.ServeFacts.{told_status, told_testing, told_excuses, told_update, told_waiting, told_runs, told_kept, told_letter, told_why, place_status, place_text, place_report, place_letter}
 use Rattle.office_http.proofs.serve.tell.Goals as goal
 

@@ -2,9 +2,9 @@ use Rattle.std.proofs.Common.{List, ℕ, IfOk, subst}
 use Rattle.std.proofs.lemmas.Bool.{false_from_ne_true}
 use Rattle.std.proofs.lemmas.Str.{IsUtf8-from_is_utf8, is_utf8-from_IsUtf8}
 use Rattle.std.specs.Str.{is_utf8}
-use Rattle.office_runs.specs.Preserves.{StoreRefused}
-use Rattle.office_facts.specs.State.{state_of}
-use Rattle.office_runs.proofs.CarryFacts.{risen, state_asked}
+use Rattle.office_core.specs.Preserves.{StoreRefused}
+use Rattle.office_core_facts.specs.State.{state_of}
+use Rattle.office_core.proofs.CarryFacts.{risen, state_asked}
 use Rattle.office_http.specs.ServeSteps.{TellsTrial}
 use Rattle.office_http.specs.Trials.{hints_in}
 use Rattle.office_http.proofs.ServeFacts.{place_or, tried, tried_bad}

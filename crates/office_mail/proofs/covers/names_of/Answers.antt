@@ -1,7 +1,7 @@
 use Rattle.std.proofs.Common.{ℕ, List, refl}
 use Rattle.std.specs.Borrow.{Bor}
 use Rattle.office_mail.specs.declared.covers.Cover.{Cover}
-use Rattle.office_setup.proofs.Each.{seen_more}
+use Rattle.office_mail_setup.proofs.Each.{seen_more}
 use Rattle.office_mail.proofs.Views.{no_cover}
 use Rattle.office_mail.proofs.covers.names_of.Goals as goal
 

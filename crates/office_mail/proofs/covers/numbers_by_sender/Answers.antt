@@ -1,7 +1,7 @@
 use Rattle.std.proofs.Common.{get_or, ap, ◌∙◌}
-use Rattle.office_setup.specs.declared.setup.Sender.{Sender}
+use Rattle.office_mail_setup.specs.declared.setup.Sender.{Sender}
 use Rattle.office_mail.specs.Covers.{number_for}
-use Rattle.office_setup.proofs.Each.{kept_more}
+use Rattle.office_mail_setup.proofs.Each.{kept_more}
 use Rattle.office_mail.proofs.Views.{stated_covers}
 use Rattle.office_mail.proofs.covers.numbers_by_sender.Goals as goal
 

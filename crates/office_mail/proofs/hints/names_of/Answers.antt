@@ -1,7 +1,7 @@
 use Rattle.std.proofs.Common.{ℕ, List, ap, ◌∙◌}
 use Rattle.std.specs.Borrow.{Bor}
-use Rattle.testing_items.specs.declared.item.HintItem.{HintItem}
-use Rattle.office_setup.proofs.Each.{shown_more}
+use Rattle.testing_rules_items.specs.declared.item.HintItem.{HintItem}
+use Rattle.office_mail_setup.proofs.Each.{shown_more}
 use Rattle.office_mail.proofs.hints.names_of.Goals as goal
 
 pub items-preserved : goal.items-preserved

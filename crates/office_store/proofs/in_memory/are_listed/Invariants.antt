@@ -1,7 +1,7 @@
 use Rattle.std.proofs.Common.{◌≡◌, drop}
 use Rattle.std.specs.List.{list_all}
-use Rattle.testing_model.specs.declared.suite.RowIn.{RowIn}
-use Rattle.office_tables.specs.TableContent.{is_arch_place}
+use Rattle.testing_rules_model.specs.declared.suite.RowIn.{RowIn}
+use Rattle.office_store_tables.specs.TableContent.{is_arch_place}
 use Rattle.office_store.proofs.in_memory.are_listed.Given as goal
 
 -- the rest decides

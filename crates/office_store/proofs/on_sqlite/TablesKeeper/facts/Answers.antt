@@ -1,9 +1,9 @@
 use Rattle.std.proofs.Common.{◌≡◌, IfOk, sym, subst}
 use Rattle.sqlite.specs.Effect.{Database}
 use Rattle.sqlite.specs.Held.{state}
-use Rattle.office_keeper.specs.FactSet.{rows_in}
-use Rattle.office_tables.specs.TableContent.{content_in}
-use Rattle.office_tables.specs.Legible.{IsLegible}
+use Rattle.office_store_keeper.specs.FactSet.{rows_in}
+use Rattle.office_store_tables.specs.TableContent.{content_in}
+use Rattle.office_store_tables.specs.Legible.{IsLegible}
 use Rattle.office_store.specs.TablesState.{IsLegibleStore}
 use Rattle.office_store.proofs.KeeperFacts.{legible_same, store_same, value_before, never_bad}
 use Rattle.office_store.proofs.on_sqlite.TablesKeeper.facts.Goals as goal

@@ -1,9 +1,9 @@
 use Rattle.std.proofs.Common.{sym, subst}
 use Rattle.sqlite.specs.Held.{state}
-use Rattle.office_tables.specs.Legible.{IsLegible}
+use Rattle.office_store_tables.specs.Legible.{IsLegible}
 use Rattle.office_store.specs.TablesState.{IsLegibleStore}
 use Rattle.office_store.proofs.KeeperFacts.{legible_same, store_same, never_bad}
-use Rattle.office_tables.proofs.Whole.{not_crowded}
+use Rattle.office_store_tables.proofs.Whole.{not_crowded}
 use Rattle.office_store.proofs.on_sqlite.TablesKeeper.find.Goals as goal
 
 pub returns-clause-legible : goal.returns-clause-legible

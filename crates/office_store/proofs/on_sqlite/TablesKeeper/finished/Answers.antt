@@ -1,7 +1,7 @@
 use Rattle.std.proofs.Common.{◌≡◌, length, IfOk, subst}
 use Rattle.sqlite.specs.Effect.{Database}
 use Rattle.sqlite.specs.Held.{state}
-use Rattle.office_tables.specs.TableContent.{content_in}
+use Rattle.office_store_tables.specs.TableContent.{content_in}
 use Rattle.office_store.specs.TablesState.{IsLegibleStore}
 use Rattle.office_store.proofs.KeeperFacts.{store_same, value_before, count_is}
 use Rattle.office_store.proofs.on_sqlite.TablesKeeper.finished.Goals as goal

@@ -1,12 +1,12 @@
 use Rattle.std.proofs.Common.{◌≡◌, ℕ, List, None, OnOk, sym, subst}
 use Rattle.std.specs.FinMap.{get, insert}
 use Rattle.sqlite.specs.Held.{state}
-use Rattle.office_keeper.specs.Content.{with_text}
-use Rattle.office_tables.specs.TableContent.{content_in}
+use Rattle.office_store_keeper.specs.Content.{with_text}
+use Rattle.office_store_tables.specs.TableContent.{content_in}
 use Rattle.office_store.specs.TablesState.{IsLegibleStore}
-use Rattle.office_tables.specs.Tables.{IsTrusted, kept_rows}
-use Rattle.office_tables.specs.TableSteps.{AddsLetter}
-use Rattle.office_tables.proofs.KeepLemmas.{inserted_on}
+use Rattle.office_store_tables.specs.Tables.{IsTrusted, kept_rows}
+use Rattle.office_store_tables.specs.TableSteps.{AddsLetter}
+use Rattle.office_store_tables.proofs.KeepLemmas.{inserted_on}
 use Rattle.office_store.proofs.KeeperFacts.{still_held}
 use Rattle.office_store.proofs.LegibleKeep.{keep_legible_on, keep_testing_on, keep_content_on}
 use Rattle.office_store.proofs.on_sqlite.TablesKeeper.keep.Goals as goal

@@ -1,12 +1,12 @@
 use Rattle.std.proofs.Common.{◌≡◌, sym, ap, subst}
 use Rattle.sqlite.specs.Effect.{Database}
 use Rattle.sqlite.specs.Held.{state}
-use Rattle.office_keeper.specs.Content.{Content}
-use Rattle.office_keeper.specs.NewMail.{AreFree, with_letters, with_mail}
-use Rattle.office_tables.specs.TableContent.{content_in}
+use Rattle.office_store_keeper.specs.Content.{Content}
+use Rattle.office_store_keeper.specs.NewMail.{AreFree, with_letters, with_mail}
+use Rattle.office_store_tables.specs.TableContent.{content_in}
 use Rattle.office_store.specs.TablesState.{IsLegibleStore}
-use Rattle.office_tables.specs.Tables.{IsTrusted, kept_rows}
-use Rattle.office_tables.proofs.KeepAllLemmas.{all_inserted}
+use Rattle.office_store_tables.specs.Tables.{IsTrusted, kept_rows}
+use Rattle.office_store_tables.proofs.KeepAllLemmas.{all_inserted}
 use Rattle.office_store.proofs.KeeperFacts.{still_held}
 use Rattle.office_store.proofs.LegibleKeepAll.{when_ok, when_err, keep_all_content, keep_all_legible, all_leave_reports, all_leave_facts}
 use Rattle.office_store.proofs.on_sqlite.TablesKeeper.keep_all.Goals as goal

@@ -1,14 +1,14 @@
 use Rattle.std.proofs.Common.{IfOk, sym, subst}
 use Rattle.sqlite.specs.Effect.{Database}
 use Rattle.sqlite.specs.Held.{state}
-use Rattle.office_keeper.specs.Content.{IsNextNumber}
-use Rattle.office_keeper.specs.Provenance.{AreOwnTexts}
-use Rattle.office_tables.specs.Legible.{IsLegible}
+use Rattle.office_store_keeper.specs.Content.{IsNextNumber}
+use Rattle.office_store_keeper.specs.Provenance.{AreOwnTexts}
+use Rattle.office_store_tables.specs.Legible.{IsLegible}
 use Rattle.office_store.specs.TablesState.{IsLegibleStore}
-use Rattle.office_tables.specs.Tables.{kept_rows}
+use Rattle.office_store_tables.specs.Tables.{kept_rows}
 use Rattle.office_store.proofs.KeeperFacts.{legible_same, store_same, value_before, never_bad}
 use Rattle.office_store.proofs.NumberFacts.{own_small}
-use Rattle.office_tables.proofs.Whole.{not_crowded}
+use Rattle.office_store_tables.proofs.Whole.{not_crowded}
 use Rattle.office_store.proofs.on_sqlite.TablesKeeper.next_number.Goals as goal
 
 pub returns-clause-next : goal.returns-clause-next

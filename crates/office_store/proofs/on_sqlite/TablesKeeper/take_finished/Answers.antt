@@ -1,12 +1,12 @@
 use Rattle.std.proofs.Common.{◌≡◌, ◌+◌, ◌++◌, ◌∷◌, [], length, OnOk, sym, subst, arith}
 use Rattle.sqlite.specs.Held.{state}
-use Rattle.office_keeper.specs.Content.{reports_in, with_run}
-use Rattle.office_keeper.specs.Provenance.{IsGiven}
-use Rattle.office_keeper.specs.FactSet.{AreHoldable, facts_after}
-use Rattle.office_tables.specs.TableContent.{content_in}
-use Rattle.office_tables.specs.Legible.{IsLegible}
+use Rattle.office_store_keeper.specs.Content.{reports_in, with_run}
+use Rattle.office_store_keeper.specs.Provenance.{IsGiven}
+use Rattle.office_store_keeper.specs.FactSet.{AreHoldable, facts_after}
+use Rattle.office_store_tables.specs.TableContent.{content_in}
+use Rattle.office_store_tables.specs.Legible.{IsLegible}
 use Rattle.office_store.specs.TablesState.{IsLegibleStore}
-use Rattle.office_tables.specs.Tables.{IsTrusted}
+use Rattle.office_store_tables.specs.Tables.{IsTrusted}
 use Rattle.office_store.proofs.ContentFacts.{reports_on, facts_on, content_on}
 use Rattle.office_store.proofs.KeeperFacts.{never_bad}
 use Rattle.office_store.proofs.LegibleFinish.{finish_store_on}

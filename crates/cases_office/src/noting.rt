@@ -1,0 +1,196 @@
+//! A store in memory that notes which mail it is asked for between the ends of two runs.
+ghost use Rattle.std.specs.Prelude.{⊤};
+ghost use Rattle.office_store_keeper.specs.MemoryState.{content_of};
+
+use crate::office_over::REOPEN;
+use crate::sitting::{setup_in, sit};
+use office_http::Office;
+use office_mail::Setup;
+use office_store::{Finished, KeepFault, Keeper, Letter, MailText, Plain, Reports};
+use std::alloc::{AllocError, Global};
+use testing_rules_model::FactRows;
+use testing_rules_suites::Testing;
+
+/// The least number of each sender that was asked for: the greatest `u32` where none was.
+type Least = [u32; 16];
+
+/// Nothing was asked for.
+const NONE: Least = [u32::MAX; 16];
+
+/// What a store was asked for on the way to a run's end: before it was asked for its rows of facts, where it was, and
+/// since then.
+#[derive(Clone, Copy)]
+struct Notes {
+    counted: Least,
+    asked: Least,
+}
+
+/// It was asked for nothing.
+const NOTHING: Notes = Notes {
+    counted: NONE,
+    asked: NONE,
+};
+
+/// A store in memory, what it was asked for since a run was finished, and what for on the way to that run's end.
+#[derive(Drop)]
+pub struct Noting {
+    plain: Plain,
+    now: Notes,
+    before: Notes,
+}
+
+/// Notes a number of a sender.
+fn note(least: &mut Least, sender: u32, number: u32) {
+    if let Some(known) = least.get_mut(sender as usize) {
+        if number < *known {
+            *known = number;
+        }
+    }
+}
+
+impl Keeper for Noting {
+    ghost is_clean = { λ _. ⊤ };
+
+    ghost is_trusted = { λ _. ⊤ };
+
+    ghost setup = { λ n. n.plain.setup };
+
+    ghost content = { λ n. content_of n.plain };
+
+    ghost is_legible = { λ _. ⊤ };
+
+    ghost refusals = { λ _. 0 };
+
+    ghost disk_faults = { λ _. 0 };
+
+    fn find(&mut self, sender: u32, number: u32) -> Result<Option<MailText>, KeepFault> {
+        note(&mut self.now.asked, sender, number);
+        self.plain.find(sender, number)
+    }
+
+    fn keep(&mut self, sender: u32, number: u32, text: &MailText) -> Result<(), KeepFault> {
+        self.plain.keep(sender, number, text)
+    }
+
+    fn finished(&mut self) -> Result<u32, KeepFault> {
+        self.plain.finished()
+    }
+
+    fn load(&mut self, sender: u32, from: u32, to: u32) -> Result<Vec<Letter>, KeepFault> {
+        note(&mut self.now.asked, sender, from);
+        self.plain.load(sender, from, to)
+    }
+
+    fn next_number(&mut self, sender: u32, from: u32) -> Result<Option<u32>, KeepFault> {
+        note(&mut self.now.asked, sender, from);
+        self.plain.next_number(sender, from)
+    }
+
+    fn finish(&mut self, run: u32, done: &Finished) -> Result<(), KeepFault> {
+        self.before = self.now;
+        self.now = NOTHING;
+        self.plain.finish(run, done)
+    }
+
+    fn reports(&mut self, run: u32) -> Result<Option<Reports>, KeepFault> {
+        self.plain.reports(run)
+    }
+
+    fn testing(&mut self) -> Result<Testing, KeepFault> {
+        self.plain.testing()
+    }
+
+    fn facts(&mut self) -> Result<FactRows, KeepFault> {
+        self.now = Notes {
+            counted: self.now.asked,
+            asked: NONE,
+        };
+        self.plain.facts()
+    }
+}
+
+/// Adds what comes of a row in an office in memory, which is made anew over its store where the row says so; and then,
+/// of each sender that was asked for on the way to the end of the last run, the least number.
+pub fn put_in_noting(alloc: Global, row: &str, came: &mut String) -> Result<(), AllocError> {
+    match Setup::parse(alloc, setup_in(row).as_bytes()) {
+        Ok(setup) => put_over_noting(alloc, setup, row, came),
+        Err(_) => Err(AllocError),
+    }
+}
+
+/// The same with a setup.
+fn put_over_noting(
+    alloc: Global,
+    setup: Setup,
+    row: &str,
+    came: &mut String,
+) -> Result<(), AllocError> {
+    match Plain::new(alloc, &setup) {
+        Ok(plain) => {
+            let noting = Noting {
+                plain,
+                now: NOTHING,
+                before: NOTHING,
+            };
+            let (noting, sat) = sit_in_turn(alloc, Office::new(alloc, setup, noting), row, came);
+            let told = put_notes(&noting.before, came);
+            drop(noting);
+            sat.and(told)
+        }
+        Err(_) => {
+            drop(setup);
+            Err(AllocError)
+        }
+    }
+}
+
+/// Takes the steps of each sitting in an office that knows nothing yet, each over the store of the one before. The last
+/// one's store is given back.
+fn sit_in_turn<K: Keeper>(
+    alloc: Global,
+    office: Office<K>,
+    row: &str,
+    came: &mut String,
+) -> (K, Result<(), AllocError>) {
+    let mut office = office;
+    let mut all = Ok(());
+    for sitting in row.split(REOPEN) {
+        let (anew, sat) = sit_anew(alloc, office, sitting, came);
+        office = anew;
+        all = all.and(sat);
+    }
+    (office.into_keeper(), all)
+}
+
+/// Takes a sitting's steps in an office that knows nothing yet, over the store of another.
+fn sit_anew<K: Keeper>(
+    alloc: Global,
+    office: Office<K>,
+    sitting: &str,
+    came: &mut String,
+) -> (Office<K>, Result<(), AllocError>) {
+    match office.setup().copy(alloc) {
+        Ok(setup) => {
+            let mut anew = Office::new(alloc, setup, office.into_keeper());
+            let sat = sit(alloc, &mut anew, sitting, came);
+            (anew, sat)
+        }
+        Err(_) => (office, Err(AllocError)),
+    }
+}
+
+/// Adds the least number of each sender that was asked for.
+fn put_notes(notes: &Notes, came: &mut String) -> Result<(), AllocError> {
+    put_least("counted", &notes.counted, came)?;
+    put_least("asked", &notes.asked, came)
+}
+
+/// Adds the least number of each sender, by its place, behind a word.
+fn put_least(word: &str, least: &Least, came: &mut String) -> Result<(), AllocError> {
+    for (sender, number) in least.iter().enumerate() {
+        if *number < u32::MAX {
+            write!(came, "{word} sender {sender} from {number}\n")?;
+        }
+    }
+    Ok(())
+}

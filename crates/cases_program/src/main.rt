@@ -1,0 +1,94 @@
+//! Rows and parts of the whole office. Worked rows come from standard input, and random ones from a file; behind them
+//! stand the parts in which one thing fails, each of which says `right` or what is wrong, and those of the program's
+//! own calls. With ample memory each part says right. Whoever runs the program may refuse one growth of memory: a part
+//! in which one thing fails then says right, too.
+//!
+//! With words, only the parts whose names begin with one of them are tried, and no row is read.
+#![tactic(auto)]
+
+mod client;
+mod rows;
+mod sentences;
+mod words;
+
+use cases_faults::{Met, parts, said_of};
+use rows::show_rows;
+use std::process::ExitCode;
+use words::{is_chosen, read_words};
+
+/// A part of the program's own calls.
+#[derive(Clone, Copy)]
+enum Call {
+    StoreFaults,
+    MissingSetup,
+    Client,
+}
+
+/// These parts, in turn.
+static CALLS: [(&str, Call); 3] = [
+    ("commands, the faults of a store", Call::StoreFaults),
+    ("commands, a setup that is missing", Call::MissingSetup),
+    ("commands, a client on loopback", Call::Client),
+];
+
+/// What is said of a part of the program's own calls.
+fn said_of_call(rt: &HostRuntime, call: Call) -> &'static str {
+    let tried = match call {
+        Call::StoreFaults => sentences::try_store_faults(rt.alloc()),
+        Call::MissingSetup => sentences::try_missing_setup(rt),
+        Call::Client => client::try_client(rt),
+    };
+    match tried {
+        Ok(()) => "right",
+        Err(Met::Wrong(what)) => what,
+        Err(Met::NoMemory) => "refused memory",
+    }
+}
+
+/// Tells what is said of a part, and whether that is that it isn't right. A line takes no memory.
+fn tell(rt: &HostRuntime, name: &str, said: &str) -> u8 {
+    let _ = println!(rt; "{name}: {said}");
+    if said == "right" { 0 } else { 1 }
+}
+
+/// Tries the parts that these words ask for, and says how many weren't right.
+fn try_parts(rt: &HostRuntime, words: &[String]) -> u8 {
+    let mut wrong = 0u8;
+    for (name, part) in parts() {
+        if is_chosen(words, name) {
+            wrong = wrong.saturating_add(tell(rt, name, said_of(rt.alloc(), *part)));
+        }
+    }
+    for (name, call) in &CALLS {
+        if is_chosen(words, name) {
+            wrong = wrong.saturating_add(tell(rt, name, said_of_call(rt, *call)));
+        }
+    }
+    wrong
+}
+
+/// Shows the rows, if no word was given. What is returned is how often something was wrong.
+fn show_without(rt: &HostRuntime, words: &[String]) -> u8 {
+    if words.is_empty() && show_rows(rt).is_err() {
+        let _ = println!(rt; "the rows can't be read or shown");
+        return 1;
+    }
+    0
+}
+
+fn main(rt: HostRuntime) -> ExitCode {
+    let read = match read_words(&rt) {
+        Err(_) => read_words(&rt),
+        read => read,
+    };
+    match read {
+        Ok(words) => {
+            let wrong = show_without(&rt, &words);
+            ExitCode::from(wrong.saturating_add(try_parts(&rt, &words)))
+        }
+        Err(_) => {
+            let _ = println!(rt; "the words can't be read");
+            ExitCode::from(1)
+        }
+    }
+}

@@ -1,7 +1,0 @@
-use Rattle.std.proofs.Common.{◌≡◌}
-use Rattle.office_bags.specs.Listing.{stated_to}
-use Rattle.office_bags.proofs.covers.stated_covers.Given as goal
-
--- what is stated for the senders so far
-abbrev pub invariant-senders : goal.invariant-senders
-invariant-senders l = l.stated.items ≡ stated_to l.covers l.sender

@@ -1,8 +1,0 @@
-use Rattle.std.proofs.Common.{◌≡◌, ◌++◌, string_bytes, take}
-use Rattle.std.specs.List.{flat_map}
-use Rattle.office_bags.specs.Listing.{spaced}
-use Rattle.office_bags.proofs.hints.push_names.Given as goal
-
--- the text so far
-abbrev pub invariant-loop-name : goal.invariant-loop-name
-invariant-loop-name l = string_bytes l.text ≡ string_bytes l.fn.text ++ flat_map spaced (take l.name-index l.names)

@@ -1,5 +1,0 @@
-use Rattle.office_checks.proofs.EarlierFacts.{told_after}
-use Rattle.office_checks.proofs.earlier.told_after_run.Goals as goal
-
-pub returns : goal.returns
-returns c = told_after

@@ -1,0 +1,38 @@
+-- Steps: no contract of a call that users make rests on this file.
+-- What is told without a run, and its exit status.
+use Rattle.std.specs.Prelude.{◌≡◌, ◌⊎◌, ◌<◌, ℕ, List, Option, Some, None, option_map, length}
+use Rattle.office_core_facts.specs.Outcome.{testing_after, testing_text}
+use Rattle.office_core_facts.specs.OfficeState.{OfficeState}
+use Rattle.office_core_facts.specs.State.{reports_at}
+use Rattle.office_cli_words.specs.declared.reports.Report.{Report}
+use Rattle.office_cli_words.specs.declared.reports.Report.TheVariants.{Testing, Excuses, Update}
+use Rattle.office_core_queries.specs.declared.mail.MailCount.{MailCount}
+use Rattle.office_core_queries.specs.Mail.{AreMailCounts, mail_text}
+use Rattle.office_core_orders.specs.declared.waiting_lines.Awaited.{Awaited}
+use Rattle.office_core_orders.specs.declared.waiting_lines.Awaited.TheVariants.{Order, Mail}
+use Rattle.office_cli.specs.declared.reasons.Asked.{Asked}
+use Rattle.office_cli.specs.declared.reasons.Asked.TheVariants.{Last, Earlier, Unfinished}
+
+-- the text of a report in an office's state, none where its run isn't finished
+abbrev pub report_text : OfficeState → Report → Option (List ℕ)
+report_text state Testing = Some (testing_text state.setup state.finished (testing_after state.setup state.kept state.finished))
+report_text state (Excuses run) = option_map (λ reports. reports.excuses) (reports_at state run)
+report_text state (Update run) = option_map (λ reports. reports.updates) (reports_at state run)
+
+-- 0 where a run waits for its order, 1 where it waits for mail
+abbrev pub status_of_awaited : Awaited → ℕ
+status_of_awaited Order = 0
+status_of_awaited (Mail lacks) = 1
+
+-- a text tells how much mail an office keeps of each sender
+pub record TellsMail (state : OfficeState) (text : List ℕ) : Type 0 where
+  pub counts : List MailCount
+  pub counted : AreMailCounts state.kept (length state.setup.senders) counts
+  pub text_is : text ≡ mail_text state.setup counts
+
+-- The run that is asked about, where so many are finished: the last finished one, where it or none is named; an earlier one;
+-- or one that isn't finished.
+abbrev pub IsAsked : ℕ → Option ℕ → Asked → Type 0
+IsAsked finished run (Last k) = (k ≡ finished) × ((run ≡ None) ⊎ (run ≡ Some k))
+IsAsked finished run (Earlier k) = (run ≡ Some k) × (k < finished)
+IsAsked finished run Unfinished = (k : ℕ) × (run ≡ Some k) × (finished < k)

@@ -1,0 +1,84 @@
+//! What is asked of an office about its runs and its mail.
+
+ghost use Rattle.std.specs.Prelude.{◌≡◌, IfOk};
+ghost use Rattle.office_cli.specs.Told.{TellsMail};
+ghost use Rattle.office_core.specs.Preserves.{Asks, Holds};
+ghost use Rattle.office_core_facts.specs.State.{state_of};
+
+use crate::telling::{print_text, refuse, refuse_output};
+use deb_control::Text;
+use office_core_orders::StoreFault;
+use office_core_queries::{AskFault, export, mail_counts, mail_text, runs_text, write_list};
+use office_http::Office;
+use office_mail::ToWrite;
+use office_store::Keeper;
+use std::io::{BufWriter, Write};
+
+/// What is asked of an office, which changes nothing.
+#[derive(Clone, Copy, Debug, PartialEq, Eq)]
+pub enum Question {
+    /// Its finished runs.
+    Runs,
+    /// How much mail it keeps of each sender.
+    Mail,
+    /// Each message that it keeps.
+    List,
+    /// A bag of all its mail.
+    Export,
+}
+
+/// Prints the answer to a question, and gives the exit status.
+pub fn tell_answer<K: Keeper>(rt: &HostRuntime, office: &mut Office<K>, question: Question) -> u8 {
+    match question {
+        Question::Runs => tell_text(rt, runs_text(office)),
+        Question::Mail => tell_text(rt, counted_text(office)),
+        Question::List => tell_list(rt, office),
+        Question::Export => tell_export(rt, office),
+    }
+}
+
+/// Prints a text, and gives the exit status.
+fn tell_text(rt: &HostRuntime, text: Result<Text, StoreFault>) -> u8 {
+    match text {
+        Ok(text) => print_text(rt, &text, 0),
+        Err(fault) => refuse(rt, fault),
+    }
+}
+
+/// The text that tells how much mail is kept of each sender.
+fn counted_text<K: Keeper>(office: &mut Office<K>) -> Result<Text, StoreFault>
+    ensures text { Holds K.Keeper office.old office.new → IfOk result (λ text. TellsMail (state_of K.Keeper office.old) text) }
+    ensures asks { Asks K.Keeper office.old office.new }
+{
+    let counts = mail_counts(office)?;
+    Ok(mail_text(office.alloc(), office.setup(), &counts)?)
+}
+
+/// Prints each message that is kept, and gives the exit status. Where it fails, what was had before is printed.
+fn tell_list<K: Keeper>(rt: &HostRuntime, office: &mut Office<K>) -> u8 {
+    let Ok(mut output) = BufWriter::new(rt.alloc(), rt.stdout()) else {
+        return refuse(rt, StoreFault::NoMemory);
+    };
+    let written = write_list(office, &mut ToWrite::new(&mut output));
+    end_output(rt, &mut output, written)
+}
+
+/// Prints a bag of all kept mail, and gives the exit status. Where it fails, what was had before is printed.
+fn tell_export<K: Keeper>(rt: &HostRuntime, office: &mut Office<K>) -> u8 {
+    let Ok(mut output) = BufWriter::new(rt.alloc(), rt.stdout()) else {
+        return refuse(rt, StoreFault::NoMemory);
+    };
+    let written = export(office, &mut ToWrite::new(&mut output));
+    end_output(rt, &mut output, written)
+}
+
+/// Prints what a writer still holds, and gives the exit status.
+fn end_output<W: Write>(rt: &HostRuntime, output: &mut W, written: Result<(), AskFault>) -> u8 {
+    let flushed = output.flush();
+    match written {
+        Ok(()) if flushed.is_ok() => 0,
+        Ok(()) | Err(AskFault::Write) => refuse_output(rt),
+        Err(AskFault::NoMemory) => refuse(rt, StoreFault::NoMemory),
+        Err(AskFault::Store) => refuse(rt, StoreFault::Store),
+    }
+}

@@ -1,0 +1,213 @@
+//! Why sources stand where a run left them.
+
+ghost use Rattle.std.specs.Prelude.{◌≡◌, IfOk};
+ghost use Rattle.office_cli.specs.Told.{IsAsked};
+ghost use Rattle.office_core_facts.specs.State.{IsSound, state_of};
+
+use crate::tasks::{
+    end_store, find_file, out_of_memory, replay_to, tell_setup, tell_store, tell_unfound,
+};
+use crate::telling::{print_text, refuse};
+use deb_control::Text;
+use office_core_check::{office_after, why_of_run};
+use office_http::{Office, StoreFault};
+use office_mail::Setup;
+use office_store::{Keeper, Plain, open_store, read_setup};
+use sqlite::Unknown;
+use std::io;
+
+/// The exit status where the run isn't finished, or says nothing of a source.
+const SILENT: u8 = 1;
+
+/// The run that is asked about, beside the finished ones.
+#[derive(Drop)]
+pub enum Asked {
+    /// The last finished one, which is asked about where none is named.
+    Last { run: u32 },
+    /// An earlier one.
+    Earlier { run: u32 },
+    /// One that isn't finished.
+    Unfinished,
+}
+
+/// Tells why sources stand where a run left them, for the setup in a file, over the store in another or over the bag on
+/// standard input, and gives the exit status. Without a run it is the last finished one.
+pub fn why_for(
+    rt: &HostRuntime,
+    conf: &str,
+    db: Option<&str>,
+    run: Option<u32>,
+    sources: &[&str],
+) -> u8 {
+    match read_setup(rt, conf) {
+        Ok(setup) => match db {
+            Some(path) => why_stored(rt, path, setup, run, sources),
+            None => why_in_memory(rt, setup, run, sources),
+        },
+        Err(fault) => tell_setup(rt, conf, &fault),
+    }
+}
+
+/// The same over the store in a file.
+fn why_stored(
+    rt: &HostRuntime,
+    path: &str,
+    setup: Setup,
+    run: Option<u32>,
+    sources: &[&str],
+) -> u8 {
+    if let Err(fault) = find_file(rt, path) {
+        return tell_unfound(rt, path, fault);
+    }
+    let Ok(copy) = setup.copy(rt.alloc()) else {
+        return out_of_memory(rt);
+    };
+    match open_store(rt, path, Unknown, &setup) {
+        Ok(tables) => {
+            let office = Office::new(rt.alloc(), setup, tables);
+            let (tables, status) = tell_why(rt, &copy, office, run, sources);
+            end_store(rt, path, tables, status)
+        }
+        Err(fault) => tell_store(rt, path, &fault),
+    }
+}
+
+/// The same over the bag on standard input. Where the bag is refused or mail was lost, that alone is told.
+fn why_in_memory(rt: &HostRuntime, setup: Setup, run: Option<u32>, sources: &[&str]) -> u8 {
+    let Ok(copy) = setup.copy(rt.alloc()) else {
+        return out_of_memory(rt);
+    };
+    match Plain::new(rt.alloc(), &setup) {
+        Ok(plain) => {
+            let mut office = Office::new(rt.alloc(), setup, plain);
+            match replay_to(rt, &mut office, &mut io::sink()) {
+                0 => {
+                    let (_plain, status) = tell_why(rt, &copy, office, run, sources);
+                    status
+                }
+                status => status,
+            }
+        }
+        Err(_) => out_of_memory(rt),
+    }
+}
+
+/// Prints why sources stand where a run of an office left them, and gives the office's store with the exit status.
+fn tell_why<K: Keeper>(
+    rt: &HostRuntime,
+    setup: &Setup,
+    office: Office<K>,
+    run: Option<u32>,
+    sources: &[&str],
+) -> (K, u8) {
+    let mut office = office;
+    match asked_run(&mut office, run) {
+        Ok(Asked::Earlier { run }) => {
+            let mut keeper = office.into_keeper();
+            let status = tell_earlier(rt, setup, &mut keeper, run, sources);
+            (keeper, status)
+        }
+        asked => {
+            let status = tell_last(rt, &mut office, asked, sources);
+            (office.into_keeper(), status)
+        }
+    }
+}
+
+/// The run that is asked about.
+fn asked_run<K: Keeper>(office: &mut Office<K>, run: Option<u32>) -> Result<Asked, StoreFault>
+    ensures asked { K.is_trusted office.new → IsSound K.Keeper office.old → IfOk result (IsAsked (state_of K.Keeper office.old).finished run) }
+    // Nothing is finished and nothing else changes.
+    ensures same { K.is_trusted office.new → K.content office.new ≡ K.content office.old }
+{
+    let finished = office.finished()?;
+    Ok(asked_of(finished, run))
+}
+
+/// The run that is asked about, where so many are finished.
+fn asked_of(finished: u32, run: Option<u32>) -> Asked
+    ensures { IsAsked finished run result }
+{
+    match run {
+        Some(run) if run < finished => Asked::Earlier { run },
+        Some(run) if run > finished => Asked::Unfinished,
+        _ => Asked::Last { run: finished },
+    }
+}
+
+/// Prints what is told of sources for the last finished run, and gives the exit status. Nothing is printed for a run that
+/// isn't finished.
+fn tell_last<K: Keeper>(
+    rt: &HostRuntime,
+    office: &mut Office<K>,
+    asked: Result<Asked, StoreFault>,
+    sources: &[&str],
+) -> u8 {
+    match asked {
+        Ok(Asked::Last { run }) => tell_sources(rt, office, run, sources),
+        Ok(_) => SILENT,
+        Err(fault) => refuse(rt, fault),
+    }
+}
+
+/// Prints what is told of sources for an earlier run of a store, over an office in memory that is as that run left it, and
+/// gives the exit status.
+fn tell_earlier<K: Keeper>(
+    rt: &HostRuntime,
+    setup: &Setup,
+    keeper: &mut K,
+    run: u32,
+    sources: &[&str],
+) -> u8 {
+    match office_after(rt.alloc(), setup, keeper, run) {
+        Ok(Some(office)) => {
+            let mut office = office;
+            tell_sources(rt, &mut office, run, sources)
+        }
+        Ok(None) => {
+            let _ = eprintln!(rt;
+                "office: the store isn't what its mail gives: office check tells where"
+            );
+            SILENT
+        }
+        Err(fault) => refuse(rt, fault),
+    }
+}
+
+/// Prints why each source stands where a run left it, by an office of which that is the last finished run, and gives
+/// the exit status.
+fn tell_sources<K: Keeper>(
+    rt: &HostRuntime,
+    office: &mut Office<K>,
+    run: u32,
+    sources: &[&str],
+) -> u8 {
+    let mut status = 0;
+    for source in sources {
+        match tell_source(rt, office, run, source) {
+            0 => {}
+            SILENT => status = SILENT,
+            failed => return failed,
+        }
+    }
+    status
+}
+
+/// Prints why a source stands where a run left it, by an office of which that is the last finished run, and gives the
+/// exit status. Nothing is printed where no run is finished.
+fn tell_source<K: Keeper>(rt: &HostRuntime, office: &mut Office<K>, run: u32, source: &str) -> u8 {
+    match why_of_run(office, run, source) {
+        Ok(Some(text)) => print_text(rt, &text, status_of(&text)),
+        Ok(None) => SILENT,
+        Err(fault) => refuse(rt, fault),
+    }
+}
+
+/// The exit status for a text on a source, whose first line says nothing of it.
+fn status_of(text: &Text) -> u8 {
+    if text.as_str().lines().count() > 1 {
+        0
+    } else {
+        SILENT
+    }
+}

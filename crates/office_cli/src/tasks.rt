@@ -1,0 +1,298 @@
+//! What the program's words ask for: a comparison, the version, why sources stand where a run left them, a trial of
+//! hints, or a task over a store.
+
+use crate::asking::{Question, tell_answer};
+use crate::checking::tell_check;
+use crate::noted::Noted;
+use crate::reasons::why_for;
+use crate::service::{serve, service_status};
+use crate::teller::Teller;
+use crate::telling::{tell_report, tell_version, tell_waiting};
+use crate::trials::try_for;
+use office_cli_words::{Report, Words, compare, refuse_report};
+use office_http::{Office, Replayed, WriteFault, replay_status, replay_watched};
+use office_mail::{Bag, BagFault, FromRead, Setup, ToWrite};
+use office_store::{
+    ConfFault, Keeper, Plain, StoreFault, Tables, close_store, conf_status, open_store, read_setup,
+    store_status,
+};
+use sqlite::{File, FileStore, Unknown};
+use std::io::{BufWriter, Write};
+use std::{fs, io, mem};
+
+/// The exit status where memory ran out.
+const FAILED: u8 = 4;
+
+/// What is done in an office, once its store is there.
+#[derive(Clone, Copy)]
+enum Task {
+    /// The bag on standard input is replayed.
+    Replay,
+    /// So many connections are served on a port.
+    Serve { port: u32, connections: u32 },
+    /// What the first run that isn't ready waits for is told.
+    Waiting,
+    /// The same, once the bag on standard input is delivered.
+    BagWaiting,
+    /// A report is told.
+    Report(Report),
+    /// A question is answered.
+    Answer(Question),
+}
+
+/// Does what words ask for, and gives the exit status.
+pub fn run_command(rt: &HostRuntime, words: Words) -> u8 {
+    match words {
+        Words::Compare { v1, op, v2 } => compare(rt, v1, op, v2),
+        Words::Replay { conf, db } => run_for(rt, conf, db, Task::Replay),
+        Words::Serve {
+            conf,
+            port,
+            db,
+            connections,
+        } => run_for(rt, conf, db, Task::Serve { port, connections }),
+        Words::Waiting { conf, db: None } => run_for(rt, conf, None, Task::BagWaiting),
+        Words::Waiting { conf, db } => run_for(rt, conf, db, Task::Waiting),
+        Words::Report { conf, db, report } => run_for(rt, conf, Some(db), Task::Report(report)),
+        Words::UnknownReport { run, report } => refuse_report(rt, run, report),
+        Words::Runs { conf, db } => answer_for(rt, conf, db, Question::Runs),
+        Words::Mail { conf, db, list } => answer_for(rt, conf, db, mail_question(list)),
+        Words::Export { conf, db } => answer_for(rt, conf, db, Question::Export),
+        Words::Check { conf, db } => check_for(rt, conf, db),
+        Words::Why {
+            conf,
+            db,
+            run,
+            sources,
+        } => why_for(rt, conf, db, run, &sources),
+        Words::Try {
+            conf,
+            db,
+            day,
+            all,
+            hints,
+        } => try_for(rt, conf, db, day, all, &hints),
+        Words::Version => tell_version(rt),
+    }
+}
+
+/// What is asked about mail: each message of it, or counts.
+fn mail_question(list: bool) -> Question {
+    if list { Question::List } else { Question::Mail }
+}
+
+/// Answers a question for the setup in a file, from the store in another.
+fn answer_for(rt: &HostRuntime, conf: &str, db: &str, question: Question) -> u8 {
+    run_for(rt, conf, Some(db), Task::Answer(question))
+}
+
+pub(crate) fn out_of_memory(rt: &HostRuntime) -> u8 {
+    let _ = eprintln!(rt; "office: out of memory");
+    FAILED
+}
+
+/// Does a task for the setup in a file, over the store in a file or in memory.
+fn run_for(rt: &HostRuntime, conf: &str, db: Option<&str>, task: Task) -> u8 {
+    match read_setup(rt, conf) {
+        Ok(setup) => match db {
+            Some(path) => run_stored(rt, path, setup, task),
+            None => run_in_memory(rt, setup, task),
+        },
+        Err(fault) => tell_setup(rt, conf, &fault),
+    }
+}
+
+/// Checks the store in a file for the setup in another.
+fn check_for(rt: &HostRuntime, conf: &str, db: &str) -> u8 {
+    match read_setup(rt, conf) {
+        Ok(setup) => check_stored(rt, db, &setup),
+        Err(fault) => tell_setup(rt, conf, &fault),
+    }
+}
+
+/// Says on standard error why the setup in a file is refused, and gives the exit status.
+pub(crate) fn tell_setup(rt: &HostRuntime, conf: &str, fault: &ConfFault) -> u8 {
+    let _ = eprintln!(rt; "office: {conf}: {fault}");
+    conf_status(fault)
+}
+
+/// Looks whether a file is there.
+pub(crate) fn find_file(rt: &HostRuntime, path: &str) -> io::Result<()> {
+    fs::open(rt, path).map(drop)
+}
+
+/// Looks whether the file is there that a task tells of. Only a replay and a service make one.
+fn look_at(rt: &HostRuntime, path: &str, task: Task) -> io::Result<()> {
+    match task {
+        Task::Waiting | Task::Report(_) | Task::Answer(_) => find_file(rt, path),
+        Task::Replay | Task::Serve { .. } | Task::BagWaiting => Ok(()),
+    }
+}
+
+/// Says on standard error why a store's file can't be read, and gives the exit status.
+pub(crate) fn tell_unfound(rt: &HostRuntime, path: &str, fault: io::Error) -> u8 {
+    let _ = eprintln!(rt; "office: {path}: the file can't be read: {fault}");
+    FAILED
+}
+
+/// Does a task in an office whose store is in a file.
+fn run_stored(rt: &HostRuntime, path: &str, setup: Setup, task: Task) -> u8 {
+    if let Err(fault) = look_at(rt, path, task) {
+        return tell_unfound(rt, path, fault);
+    }
+    match open_store(rt, path, Unknown, &setup) {
+        Ok(tables) => {
+            let mut office = Office::new(rt.alloc(), setup, tables);
+            let status = run_over(rt, &mut office, task);
+            end_store(rt, path, office.into_keeper(), status)
+        }
+        Err(fault) => tell_store(rt, path, &fault),
+    }
+}
+
+/// Checks the store in a file.
+fn check_stored(rt: &HostRuntime, path: &str, setup: &Setup) -> u8 {
+    if let Err(fault) = find_file(rt, path) {
+        return tell_unfound(rt, path, fault);
+    }
+    match open_store(rt, path, Unknown, setup) {
+        Ok(tables) => {
+            let mut tables = tables;
+            let status = tell_check(rt, setup, &mut tables);
+            end_store(rt, path, tables, status)
+        }
+        Err(fault) => tell_store(rt, path, &fault),
+    }
+}
+
+/// Closes the store of a task that ended with a status, and gives the exit status.
+pub(crate) fn end_store(
+    rt: &HostRuntime,
+    path: &str,
+    tables: Tables<FileStore<File>>,
+    status: u8,
+) -> u8 {
+    match close_store(tables) {
+        Ok(()) => status,
+        Err(fault) => tell_store(rt, path, &fault),
+    }
+}
+
+/// Says on standard error what a store in a file was refused for, and gives the exit status.
+pub(crate) fn tell_store(rt: &HostRuntime, path: &str, fault: &StoreFault) -> u8 {
+    let _ = eprintln!(rt; "office: {path}: {fault}");
+    store_status(fault)
+}
+
+/// Does a task in an office whose store is in memory. The process ends behind it, which gives back all memory at once, so
+/// the office's values aren't let go one by one.
+fn run_in_memory(rt: &HostRuntime, setup: Setup, task: Task) -> u8 {
+    match Plain::new(rt.alloc(), &setup) {
+        Ok(plain) => {
+            let mut office = Office::new(rt.alloc(), setup, plain);
+            let status = run_over(rt, &mut office, task);
+            mem::forget(office);
+            status
+        }
+        Err(_) => out_of_memory(rt),
+    }
+}
+
+/// Does a task in an office.
+fn run_over<K: Keeper>(rt: &HostRuntime, office: &mut Office<K>, task: Task) -> u8 {
+    match task {
+        Task::Replay => replay_over(rt, office),
+        Task::Serve { port, connections } => serve_over(rt, office, port, connections),
+        Task::Waiting => tell_waiting(rt, office),
+        Task::BagWaiting => deliver_and_tell(rt, office),
+        Task::Report(report) => tell_report(rt, office, report),
+        Task::Answer(question) => tell_answer(rt, office, question),
+    }
+}
+
+/// Replays the bag on standard input in an office, and prints what came of it.
+fn replay_over<K: Keeper>(rt: &HostRuntime, office: &mut Office<K>) -> u8 {
+    let Ok(mut output) = BufWriter::new(rt.alloc(), rt.stdout()) else {
+        return out_of_memory(rt);
+    };
+    replay_to(rt, office, &mut output)
+}
+
+/// Delivers the bag on standard input, and tells what the first run that isn't ready waits for. Where the bag is refused
+/// or mail was lost, that alone is told.
+fn deliver_and_tell<K: Keeper>(rt: &HostRuntime, office: &mut Office<K>) -> u8 {
+    match replay_to(rt, office, &mut io::sink()) {
+        0 => tell_waiting(rt, office),
+        status => status,
+    }
+}
+
+/// Replays the bag on standard input in an office, and gives the exit status.
+pub(crate) fn replay_to<K: Keeper, W: Write>(
+    rt: &HostRuntime,
+    office: &mut Office<K>,
+    output: &mut W,
+) -> u8 {
+    let mut writer = ToWrite::new(&mut *output);
+    let mut input = Noted::new(rt.stdin());
+    let mut bag = Bag::new(rt.alloc(), FromRead::new(&mut input));
+    let mut replayed = replay_watched(office, &mut bag, &mut writer, &mut Teller::new(rt));
+    drop(bag);
+    if output.flush().is_err() {
+        replayed = Err(WriteFault);
+    }
+    tell_replay(rt, &replayed, input.fault());
+    replay_status(&replayed)
+}
+
+/// Serves so many connections on a port, over an office.
+fn serve_over<K: Keeper>(
+    rt: &HostRuntime,
+    office: &mut Office<K>,
+    port: u32,
+    connections: u32,
+) -> u8 {
+    let served = serve(rt, office, port, connections);
+    if let Err(fault) = &served {
+        let _ = eprintln!(rt; "office: 127.0.0.1:{port}: {fault}");
+    }
+    service_status(&served)
+}
+
+/// Says on standard error what was refused, where something was.
+fn tell_replay(
+    rt: &HostRuntime,
+    replayed: &Result<Replayed, WriteFault>,
+    unread: Option<io::Error>,
+) {
+    let _ = match replayed {
+        Err(_) => eprintln!(rt; "office: standard output: a write failed"),
+        Ok(replayed) => {
+            if let Some(fault) = replayed.bag {
+                tell_bag(rt, fault, unread);
+            }
+            if replayed.lost {
+                eprintln!(rt;
+                    "office: memory ran out or the store failed, and mail or a text was lost: deliver the same bag again"
+                )
+            } else {
+                Ok(())
+            }
+        }
+    };
+}
+
+/// Says on standard error why a bag was refused, and why a read failed, where one did.
+fn tell_bag(rt: &HostRuntime, fault: BagFault, unread: Option<io::Error>) {
+    let _ = match (fault, unread) {
+        (BagFault::ReadFault, Some(unread)) => {
+            eprintln!(rt; "office: standard input: the bag is refused: a read failed: {unread}")
+        }
+        (BagFault::ReadFault, None) => {
+            eprintln!(rt;
+                "office: standard input: the bag is refused: 1,000,000 reads didn't reach its end"
+            )
+        }
+        _ => eprintln!(rt; "office: standard input: the bag is refused: {fault}"),
+    };
+}

@@ -1,0 +1,117 @@
+//! Tells on standard error which messages of a bag were refused, and how far a replay is.
+
+use deb_control::{Paragraph, Paragraphs};
+use office_core_orders::fault_words;
+use office_http::{DeliverFault, Held, Progress, StoreFault, Watcher};
+use office_mail::MailFault;
+use std::io::IsTerminal;
+use std::time::{Duration, Instant};
+
+/// After how many milliseconds a terminal is told again how far a replay is.
+const PACE: u64 = 1_000;
+
+/// How many bytes of a field's value are told at most.
+const ROOM: usize = 64;
+
+/// Tells on standard error which message of a bag was refused, and why; and where standard error is a terminal, about
+/// once a second, how many messages were answered and how many runs are finished.
+#[derive(Drop)]
+pub struct Teller<'a> {
+    rt: &'a HostRuntime,
+    messages: u64,
+    finished: u32,
+    /// When the pace was told, where standard error is a terminal.
+    told: Option<Instant>,
+}
+
+impl<'a> Teller<'a> {
+    /// No message was answered yet.
+    pub fn new(rt: &'a HostRuntime) -> Teller<'a> {
+        let told = if rt.stderr().is_terminal() {
+            Instant::now(rt).ok()
+        } else {
+            None
+        };
+        Teller {
+            rt,
+            messages: 0,
+            finished: 0,
+            told,
+        }
+    }
+
+    /// Tells which message was refused, and the reply.
+    fn tell_refusal(&self, text: &[u8], fault: DeliverFault) {
+        let (rt, place) = (self.rt, self.messages);
+        let (word, field) = fault_words(fault);
+        let mut reader = Paragraphs::new(rt.alloc(), text);
+        let first = reader.next().unwrap_or(None);
+        let _ = match first.as_ref().and_then(sender_and_number) {
+            Some((sender, number)) => eprintln!(rt;
+                "office: standard input: message {place}, {sender} {number}: refused {word}{field}"
+            ),
+            None => eprintln!(rt; "office: standard input: message {place}: refused {word}{field}"),
+        };
+    }
+
+    /// Tells how far the replay is, if that was told long enough ago.
+    fn tell_pace(&mut self) {
+        let Some(told) = self.told else {
+            return;
+        };
+        let Ok(now) = Instant::now(self.rt) else {
+            return;
+        };
+        if now.duration_since(told) >= Duration::from_millis(PACE) {
+            let _ = eprintln!(self.rt;
+                "office: standard input: {} messages so far, {} runs finished",
+                self.messages, self.finished
+            );
+            self.told = Some(now);
+        }
+    }
+}
+
+impl Watcher for Teller<'_> {
+    fn delivered(&mut self, text: &[u8], reply: &Result<Held, DeliverFault>) {
+        self.messages = self.messages.saturating_add(1);
+        if let Err(fault) = reply {
+            if !is_loss(*fault) {
+                self.tell_refusal(text, *fault);
+            }
+        }
+        self.tell_pace();
+    }
+
+    fn settled(&mut self, settled: &Result<Progress, StoreFault>) {
+        if let Ok(progress) = settled {
+            self.finished = progress.finished;
+        }
+    }
+}
+
+/// Whether a message was lost, of which the end of the replay tells.
+fn is_loss(fault: DeliverFault) -> bool {
+    matches!(
+        fault,
+        DeliverFault::Store | DeliverFault::Mail(MailFault::NoMemory)
+    )
+}
+
+/// The sender and the number of a message, where its first paragraph has both in plain letters.
+fn sender_and_number<'a>(first: &Paragraph<'a>) -> Option<(&'a str, &'a str)> {
+    let sender = plain_field(first, "From")?;
+    let number = plain_field(first, "Number")?;
+    Some((sender, number))
+}
+
+/// A field's value, where it is short and has visible letters of ASCII alone: a terminal shows it as it is.
+fn plain_field<'a>(paragraph: &Paragraph<'a>, name: &str) -> Option<&'a str> {
+    let value = paragraph.field(name)?;
+    let is_plain = value.bytes().all(|byte| byte.is_ascii_graphic());
+    if is_plain && !value.is_empty() && value.len() <= ROOM {
+        Some(value)
+    } else {
+        None
+    }
+}

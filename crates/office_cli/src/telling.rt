@@ -1,0 +1,108 @@
+//! What is told without a run: a report of an earlier run, what the first run that isn't ready waits for, the version.
+
+ghost use Rattle.std.specs.Prelude.{◌≡◌, IfOk};
+ghost use Rattle.office_cli.specs.Told.{report_text, status_of_awaited};
+ghost use Rattle.office_core_facts.specs.State.{IsSound, state_of};
+
+use deb_control::Text;
+use office_cli_words::Report;
+use office_core_orders::{Awaited, Waiting, waiting_text};
+use office_http::{Office, StoreFault};
+use office_store::Keeper;
+
+/// The exit status where memory, the store or standard output failed.
+const FAILED: u8 = 4;
+
+/// The exit status where a run isn't finished, or waits for mail.
+const MISSING: u8 = 1;
+
+/// The program's version.
+const VERSION: &str = "0.10.0";
+
+/// The kit by which the program is proved and built.
+const KIT: &str = "rattle-kit-13f";
+
+/// Prints the program's version and its kit, and gives the exit status.
+pub fn tell_version(rt: &HostRuntime) -> u8 {
+    match println!(rt; "office {VERSION}\nproved and built by {KIT}") {
+        Ok(()) => 0,
+        Err(_) => refuse_output(rt),
+    }
+}
+
+/// Prints a report of an earlier run, or testing, and gives the exit status. Nothing is printed where that run isn't
+/// finished.
+pub fn tell_report<K: Keeper>(rt: &HostRuntime, office: &mut Office<K>, report: Report) -> u8 {
+    match report_text(office, report) {
+        Ok(Some(text)) => print_text(rt, &text, 0),
+        Ok(None) => MISSING,
+        Err(fault) => refuse(rt, fault),
+    }
+}
+
+/// The text of a report, none where its run isn't finished.
+fn report_text<K: Keeper>(
+    office: &mut Office<K>,
+    report: Report,
+) -> Result<Option<Text>, StoreFault>
+    ensures text { K.is_trusted office.new → IsSound K.Keeper office.old → IfOk result (λ text. text ≡ report_text (state_of K.Keeper office.old) report) }
+    // Nothing is finished and nothing else changes.
+    ensures same { K.is_trusted office.new → K.content office.new ≡ K.content office.old }
+{
+    match report {
+        Report::Testing => Ok(Some(office.testing_text()?)),
+        Report::Excuses(run) => office.excuses_text(run),
+        Report::Update(run) => office.update_text(run),
+    }
+}
+
+/// Prints what the first run that isn't ready waits for, and gives the exit status.
+pub fn tell_waiting<K: Keeper>(rt: &HostRuntime, office: &mut Office<K>) -> u8 {
+    match office.waiting() {
+        Ok(waiting) => print_waiting(rt, office, &waiting),
+        Err(fault) => refuse(rt, fault),
+    }
+}
+
+/// Prints what a run waits for, and gives the exit status.
+fn print_waiting<K: Keeper>(rt: &HostRuntime, office: &Office<K>, waiting: &Waiting) -> u8 {
+    match waiting_text(rt.alloc(), office.setup(), waiting) {
+        Ok(text) => print_text(rt, &text, waiting_status(&waiting.awaited)),
+        Err(_) => refuse(rt, StoreFault::NoMemory),
+    }
+}
+
+/// The exit status of what a run waits for: 0 where that is its order, 1 where it is mail.
+fn waiting_status(awaited: &Awaited) -> u8
+    ensures { result ≡ status_of_awaited awaited.now }
+{
+    match awaited {
+        Awaited::Order => 0,
+        Awaited::Mail(_) => MISSING,
+    }
+}
+
+/// Prints a text, and gives the exit status: the one that is handed over, unless standard output failed.
+pub(crate) fn print_text(rt: &HostRuntime, text: &Text, status: u8) -> u8 {
+    match print!(rt; "{}", text.as_str()) {
+        Ok(()) => status,
+        Err(_) => refuse_output(rt),
+    }
+}
+
+/// Says on standard error that memory ran out or the store failed, and gives the exit status.
+pub(crate) fn refuse(rt: &HostRuntime, fault: StoreFault) -> u8 {
+    let _ = match fault {
+        StoreFault::NoMemory => eprintln!(rt; "office: out of memory"),
+        StoreFault::Store => {
+            eprintln!(rt; "office: the store failed: see to the disk, and start again")
+        }
+    };
+    FAILED
+}
+
+/// Says on standard error that standard output failed, and gives the exit status.
+pub(crate) fn refuse_output(rt: &HostRuntime) -> u8 {
+    let _ = eprintln!(rt; "office: standard output: a write failed");
+    FAILED
+}

@@ -1,0 +1,474 @@
+//! The program's command as clap sees it, with its help texts.
+
+ghost use Rattle.std.specs.Prelude.{◌≡◌, IfOk, false, true};
+ghost use Rattle.clap.specs.Words.{App, Rule, app_of, new_app, rule_of, with_rule, with_subcommand};
+ghost use Rattle.office_cli_words.specs.Program as program;
+
+use clap::builder::ValueParser;
+use clap::{Arg, ArgAction, Command};
+use std::alloc::{AllocError, Global};
+
+const ABOUT: &str = "Decides which Debian source packages migrate from unstable to testing.";
+
+const AFTER: &str =
+    "office --version tells the version. Each command has its own help: office compare --help, office replay --help,
+office serve --help, office waiting --help, office report --help, office runs --help, office mail --help,
+office export --help, office check --help, office why --help, office try --help.
+
+Exit status: 0 done, or the comparison is true; 1 the comparison is false, an ordered run waits for mail, the run of a
+report isn't finished, the store isn't what its mail gives, the run says nothing of a source, or hints change nothing;
+2 usage, or help was asked for; 3 a version, the setup, the bag or a hint was refused; 4 memory, a file, the store, the
+socket or the output failed.";
+
+const COMPARE: &str =
+    "Compares two versions as Debian Policy 5.6.12 orders them: status 0 true, 1 false";
+
+const AFTER_COMPARE: &str = "Example: office compare 1.0~rc1 lt 1.0
+
+Nothing is printed: the answer is the exit status. A version that begins with a hyphen stands behind --,
+as in office compare -- -1 lt 1.";
+
+const OPERATOR: &str =
+    "lt, le, eq, ge or gt: whether V1 is less than V2, at most V2, the same version, at least V2, or greater than V2";
+
+const REPLAY: &str =
+    "Delivers the messages of a bag on standard input, finishes the runs that are ready, and prints what came of it";
+
+const AFTER_REPLAY: &str = "Example: office replay --conf examples/setup.conf < examples/first.bag
+
+A bag has each message behind a line 'mail N', N being its length in bytes. Without --db the mail is kept in
+memory and is gone at the end.";
+
+const SERVE: &str = "Takes mail and tells reports over HTTP on 127.0.0.1";
+
+const AFTER_SERVE: &str = "Example: office serve --conf examples/setup.conf --port 8080
+         curl --data-binary @MESSAGE http://127.0.0.1:8080/mail
+         curl http://127.0.0.1:8080/status
+
+Prints 'listening N' once it takes connections, and serves one after the other. Without --db the mail is kept
+in memory and is gone at the end.";
+
+const WAITING: &str = "Tells what the first run that isn't ready waits for: its order, or mail";
+
+const AFTER_WAITING: &str = "Example: office waiting --conf examples/setup.conf < examples/first.bag
+
+Without --db the messages of a bag on standard input are delivered first, to an office in memory. With it the
+store in the file is looked at, and standard input isn't read. Status 0: the run's order is awaited; 1: the run is
+ordered, and waits for mail.";
+
+const REPORT: &str = "Tells a report of an earlier run, or testing, from the store in a file";
+
+const AFTER_REPORT: &str =
+    "Examples: office report 3 excuses --conf examples/setup.conf --db store.db
+          office report 3 update --conf examples/setup.conf --db store.db
+          office report testing --conf examples/setup.conf --db store.db
+
+No run is finished by it. Status 1, and nothing is printed: that run isn't finished.";
+
+const RUN: &str = "The number of a finished run, from 1 on, or testing";
+
+const TOLD: &str = "excuses or update, behind the number of a run";
+
+const RUNS: &str = "Tells each finished run, from the store in a file";
+
+const AFTER_RUNS: &str = "Example: office runs --conf examples/setup.conf --db store.db
+
+A line for each run: run K DATE excuses E candidates C accept A easy G remove M wait W, which are counts of lines of
+its two reports.";
+
+const MAIL: &str = "Tells how much mail of each sender the store in a file keeps";
+
+const AFTER_MAIL: &str = "Examples: office mail --conf examples/setup.conf --db store.db
+          office mail --conf examples/setup.conf --db store.db --list
+
+A line for each sender: mail SENDER COUNT kept, 1 to U, greatest G, where U is the last number up to which nothing
+is missing, and G the greatest number.";
+
+const LIST: &str =
+    "Tells each message instead, by sender and number: its kind, and what it is about";
+
+const EXPORT: &str = "Writes the mail that the store in a file keeps as a bag";
+
+const AFTER_EXPORT: &str =
+    "Example: office export --conf examples/setup.conf --db store.db > store.bag
+
+The messages stand by sender and number. An office that replays the bag has the same runs.";
+
+const CHECK: &str =
+    "Makes each run anew from the mail that the store in a file keeps, and tells whether the store is the same";
+
+const AFTER_CHECK: &str = "Example: office check --conf examples/setup.conf --db store.db
+
+Prints one line: whole F runs, or the first difference: mail SENDER NUMBER, a kept text that is no message of that
+sender and number; run K mail, where not all that the run covers is kept; run K excuses or run K update, a report
+that differs; testing; facts. Nothing is changed. Status 1: a difference.";
+
+const WHY: &str = "Tells why a source stands where the last run left it, or an earlier one";
+
+const AFTER_WHY: &str = "Examples: office why libgreet --conf examples/setup.conf --db store.db
+          office why libgreet greeter --run 2 --conf examples/setup.conf < examples/archive.bag
+
+For each source a line why RUN SOURCE, then its excuse, where each reason comes from, and each line of the run's update
+that names it: that it moves, that it waits and for what, or that another one waits for a package of its name; and of a
+source that waits, what shows that it can't move alone. An earlier run is made anew, in memory, from the same mail.
+Status 1: the run isn't finished, or nothing is told of one of the sources.";
+
+const SOURCE: &str = "The name of a source";
+
+const RUN_TOLD: &str = "The number of a finished run; without it the last one";
+
+const TRY: &str = "Tells what the next run would decide with hints that aren't mailed yet";
+
+const AFTER_TRY: &str =
+    "Example: office try 'unblock libgreet/2.0-1' --conf examples/setup.conf --db store.db
+
+Prints a line for each hint with the number that it would have, and then what the next run would say less (-) and
+more (+) of excuses, update and testing than without the hints. Nothing is kept. Status 1: nothing changes; 3: a hint
+is refused.";
+
+const HINT: &str = "A hint, as in the Hint field of a message";
+
+const DAY: &str = "The day of the run, as 2025-03-20; without it that of the last run";
+
+const ALL: &str =
+    "Covers all mail that is kept without a gap, and not only what the last run covered";
+
+const SETUP: &str =
+    "The file of the setup: the architectures, and the senders of mail with their roles";
+
+const STORE: &str = "The file that keeps mail, reports and testing; it is made where there is none";
+
+const LOOKED_AT: &str = "The file of a store that is there";
+
+/// `--conf SETUP`, which is needed.
+fn conf_option<'a>(alloc: Global) -> Arg<'a>
+    ensures rule { rule_of result ≡ program.conf }
+    ensures local { result.global ≡ false }
+{
+    Arg::new(alloc, "conf")
+        .long("conf")
+        .value_name("SETUP")
+        .help(SETUP)
+        .required(true)
+}
+
+/// `--db FILE`.
+fn db_option<'a>(alloc: Global, help: &'a str) -> Arg<'a>
+    ensures rule { rule_of result ≡ program.db }
+    ensures local { result.global ≡ false }
+{
+    Arg::new(alloc, "db")
+        .long("db")
+        .value_name("FILE")
+        .help(help)
+}
+
+/// `--db FILE`, which is needed.
+fn stored_option<'a>(alloc: Global) -> Arg<'a>
+    ensures rule { rule_of result ≡ program.stored }
+    ensures local { result.global ≡ false }
+{
+    db_option(alloc, LOOKED_AT).required(true)
+}
+
+/// `--list`.
+fn list_option<'a>(alloc: Global) -> Arg<'a>
+    ensures rule { rule_of result ≡ program.listed }
+    ensures local { result.global ≡ false }
+{
+    Arg::new(alloc, "list")
+        .long("list")
+        .help(LIST)
+        .action(ArgAction::SetTrue)
+}
+
+/// `--port PORT`, from 1 to 65,535.
+fn port_option<'a>(alloc: Global) -> Arg<'a>
+    ensures rule { rule_of result ≡ program.port }
+    ensures local { result.global ≡ false }
+{
+    Arg::new(alloc, "port")
+        .long("port")
+        .value_name("PORT")
+        .help("The port of 127.0.0.1, from 1 to 65535")
+        .required(true)
+        .value_parser(ValueParser::unsigned(1, 65_535))
+}
+
+/// `--connections COUNT`, from 0 to 1,000,000.
+fn connections_option<'a>(alloc: Global) -> Arg<'a>
+    ensures rule { rule_of result ≡ program.connections }
+    ensures local { result.global ≡ false }
+{
+    Arg::new(alloc, "connections")
+        .long("connections")
+        .value_name("COUNT")
+        .help("How many connections are served before the service ends, from 0 to 1000000")
+        .value_parser(ValueParser::unsigned(0, 1_000_000))
+        .default_value("1000000")
+}
+
+/// A value that is needed, by its place.
+fn place<'a>(alloc: Global, id: &'a str, help: &'a str) -> Arg<'a>
+    ensures rule { rule_of result ≡ program.place id.entry.now }
+    ensures local { result.global ≡ false }
+{
+    Arg::new(alloc, id).help(help).required(true)
+}
+
+/// The same, of which more may stand behind it.
+fn places<'a>(alloc: Global, id: &'a str, help: &'a str) -> Arg<'a>
+    ensures rule { rule_of result ≡ program.places id.entry.now }
+    ensures local { result.global ≡ false }
+{
+    place(alloc, id, help).action(ArgAction::Append)
+}
+
+/// `--run RUN`, from 1 to 999,999,999.
+fn run_option<'a>(alloc: Global) -> Arg<'a>
+    ensures rule { rule_of result ≡ program.run }
+    ensures local { result.global ≡ false }
+{
+    Arg::new(alloc, "run")
+        .long("run")
+        .value_name("RUN")
+        .help(RUN_TOLD)
+        .value_parser(ValueParser::unsigned(1, 999_999_999))
+}
+
+/// `--day DAY`.
+fn day_option<'a>(alloc: Global) -> Arg<'a>
+    ensures rule { rule_of result ≡ program.day }
+    ensures local { result.global ≡ false }
+{
+    Arg::new(alloc, "day")
+        .long("day")
+        .value_name("DAY")
+        .help(DAY)
+}
+
+/// `--all`.
+fn all_option<'a>(alloc: Global) -> Arg<'a>
+    ensures rule { rule_of result ≡ program.all }
+    ensures local { result.global ≡ false }
+{
+    Arg::new(alloc, "all")
+        .long("all")
+        .help(ALL)
+        .action(ArgAction::SetTrue)
+}
+
+/// The report of a run, by its place, which may be left out.
+fn told_place<'a>(alloc: Global) -> Arg<'a>
+    ensures rule { rule_of result ≡ program.told }
+    ensures local { result.global ≡ false }
+{
+    Arg::new(alloc, "REPORT").help(TOLD)
+}
+
+/// A command with one argument more. If the command couldn't be made, that is passed on.
+fn with_arg<'a>(
+    command: Result<Command<'a>, AllocError>,
+    arg: Arg<'a>,
+) -> Result<Command<'a>, AllocError>
+    requires { arg.global ≡ false }
+    ensures { (app : App) → (added : Rule) → rule_of arg.entry ≡ added → IfOk command.entry (λ c. app_of c ≡ app) → IfOk result (λ c. app_of c ≡ with_rule app added) }
+{
+    match command {
+        Ok(command) => command.arg(arg),
+        Err(fault) => {
+            drop(arg);
+            Err(fault)
+        }
+    }
+}
+
+/// A command with one subcommand more. If the subcommand couldn't be made, that is passed on.
+#[tactic(auto, using(crate::proofs::Plain::adds_part))]
+fn with_part<'a>(
+    whole: Command<'a>,
+    part: Result<Command<'a>, AllocError>,
+) -> Result<Command<'a>, AllocError>
+    ensures { (added : App) → added.top.is_plain ≡ true → IfOk part.entry (λ c. app_of c ≡ added) → IfOk result (λ c. app_of c ≡ with_subcommand (app_of whole.entry) added.top) }
+{
+    match part {
+        Ok(part) => whole.subcommand(part),
+        Err(fault) => {
+            drop(whole);
+            Err(fault)
+        }
+    }
+}
+
+/// The same of a command that perhaps couldn't be made itself.
+fn with_command<'a>(
+    whole: Result<Command<'a>, AllocError>,
+    part: Result<Command<'a>, AllocError>,
+) -> Result<Command<'a>, AllocError>
+    ensures { (app : App) → (added : App) → added.top.is_plain ≡ true → IfOk whole.entry (λ c. app_of c ≡ app) → IfOk part.entry (λ c. app_of c ≡ added) → IfOk result (λ c. app_of c ≡ with_subcommand app added.top) }
+{
+    match whole {
+        Ok(whole) => with_part(whole, part),
+        Err(fault) => {
+            drop(part);
+            Err(fault)
+        }
+    }
+}
+
+/// A command without arguments.
+fn named<'a>(
+    alloc: Global,
+    name: &'a str,
+    about: &'a str,
+    after: &'a str,
+) -> Result<Command<'a>, AllocError>
+    ensures { IfOk result (λ c. app_of c ≡ new_app name.entry.now) }
+{
+    Ok(Command::new(alloc, name).about(about).after_help(after))
+}
+
+/// `compare V1 OP V2`.
+fn compare_command<'a>(alloc: Global) -> Result<Command<'a>, AllocError>
+    ensures { IfOk result (λ c. app_of c ≡ program.compare) }
+{
+    let bare = named(alloc, "compare", COMPARE, AFTER_COMPARE);
+    let one = with_arg(bare, place(alloc, "V1", "A version"));
+    let two = with_arg(one, place(alloc, "OP", OPERATOR));
+    with_arg(two, place(alloc, "V2", "Another version"))
+}
+
+/// `replay --conf SETUP [--db FILE]`.
+fn replay_command<'a>(alloc: Global) -> Result<Command<'a>, AllocError>
+    ensures { IfOk result (λ c. app_of c ≡ program.replay) }
+{
+    let bare = named(alloc, "replay", REPLAY, AFTER_REPLAY);
+    let one = with_arg(bare, conf_option(alloc));
+    with_arg(one, db_option(alloc, STORE))
+}
+
+/// `serve --conf SETUP --port PORT [--db FILE] [--connections COUNT]`.
+fn serve_command<'a>(alloc: Global) -> Result<Command<'a>, AllocError>
+    ensures { IfOk result (λ c. app_of c ≡ program.serve) }
+{
+    let bare = named(alloc, "serve", SERVE, AFTER_SERVE);
+    let one = with_arg(bare, conf_option(alloc));
+    let two = with_arg(one, port_option(alloc));
+    let three = with_arg(two, db_option(alloc, STORE));
+    with_arg(three, connections_option(alloc))
+}
+
+/// `waiting --conf SETUP [--db FILE]`.
+fn waiting_command<'a>(alloc: Global) -> Result<Command<'a>, AllocError>
+    ensures { IfOk result (λ c. app_of c ≡ program.waiting) }
+{
+    let bare = named(alloc, "waiting", WAITING, AFTER_WAITING);
+    let one = with_arg(bare, conf_option(alloc));
+    with_arg(one, db_option(alloc, LOOKED_AT))
+}
+
+/// `report RUN [REPORT] --conf SETUP --db FILE`.
+fn report_command<'a>(alloc: Global) -> Result<Command<'a>, AllocError>
+    ensures { IfOk result (λ c. app_of c ≡ program.report) }
+{
+    let bare = named(alloc, "report", REPORT, AFTER_REPORT);
+    let one = with_arg(bare, place(alloc, "RUN", RUN));
+    let two = with_arg(one, told_place(alloc));
+    let three = with_arg(two, conf_option(alloc));
+    with_arg(three, stored_option(alloc))
+}
+
+/// `NAME --conf SETUP --db FILE`.
+fn looking_command<'a>(
+    alloc: Global,
+    name: &'a str,
+    about: &'a str,
+    after: &'a str,
+) -> Result<Command<'a>, AllocError>
+    ensures { IfOk result (λ c. app_of c ≡ program.looking name.entry.now) }
+{
+    let bare = named(alloc, name, about, after);
+    let one = with_arg(bare, conf_option(alloc));
+    with_arg(one, stored_option(alloc))
+}
+
+/// `mail --conf SETUP --db FILE [--list]`.
+fn mail_command<'a>(alloc: Global) -> Result<Command<'a>, AllocError>
+    ensures { IfOk result (λ c. app_of c ≡ program.mail) }
+{
+    let looking = looking_command(alloc, "mail", MAIL, AFTER_MAIL);
+    with_arg(looking, list_option(alloc))
+}
+
+/// `why SOURCE.. --conf SETUP [--db FILE] [--run RUN]`.
+fn why_command<'a>(alloc: Global) -> Result<Command<'a>, AllocError>
+    ensures { IfOk result (λ c. app_of c ≡ program.why) }
+{
+    let bare = named(alloc, "why", WHY, AFTER_WHY);
+    let one = with_arg(bare, places(alloc, "SOURCE", SOURCE));
+    let two = with_arg(one, conf_option(alloc));
+    let three = with_arg(two, db_option(alloc, LOOKED_AT));
+    with_arg(three, run_option(alloc))
+}
+
+/// `try HINT.. --conf SETUP [--db FILE] [--day DAY] [--all]`.
+fn try_command<'a>(alloc: Global) -> Result<Command<'a>, AllocError>
+    ensures { IfOk result (λ c. app_of c ≡ program.tries) }
+{
+    let bare = named(alloc, "try", TRY, AFTER_TRY);
+    let one = with_arg(bare, places(alloc, "HINT", HINT));
+    let two = with_arg(one, conf_option(alloc));
+    let three = with_arg(two, db_option(alloc, LOOKED_AT));
+    let four = with_arg(three, day_option(alloc));
+    with_arg(four, all_option(alloc))
+}
+
+/// The command without its subcommands.
+fn bare_command<'a>(alloc: Global) -> Command<'a>
+    ensures { app_of result ≡ program.bare }
+{
+    Command::new(alloc, "office")
+        .about(ABOUT)
+        .after_help(AFTER)
+        .subcommand_required(true)
+        .arg_required_else_help(true)
+        .disable_help_subcommand(true)
+}
+
+/// The command that only compares, replays and serves.
+fn command_of_three<'a>(alloc: Global) -> Result<Command<'a>, AllocError>
+    ensures { IfOk result (λ c. app_of c ≡ program.of_three) }
+{
+    let one = with_command(Ok(bare_command(alloc)), compare_command(alloc));
+    let two = with_command(one, replay_command(alloc));
+    with_command(two, serve_command(alloc))
+}
+
+/// The command that tells, besides, what a run waits for and each report.
+fn command_of_five<'a>(alloc: Global) -> Result<Command<'a>, AllocError>
+    ensures { IfOk result (λ c. app_of c ≡ program.of_five) }
+{
+    let four = with_command(command_of_three(alloc), waiting_command(alloc));
+    with_command(four, report_command(alloc))
+}
+
+/// The command that also tells runs and mail, exports mail, and checks a store.
+fn command_of_nine<'a>(alloc: Global) -> Result<Command<'a>, AllocError>
+    ensures { IfOk result (λ c. app_of c ≡ program.of_nine) }
+{
+    let runs = looking_command(alloc, "runs", RUNS, AFTER_RUNS);
+    let six = with_command(command_of_five(alloc), runs);
+    let seven = with_command(six, mail_command(alloc));
+    let export = looking_command(alloc, "export", EXPORT, AFTER_EXPORT);
+    let eight = with_command(seven, export);
+    let check = looking_command(alloc, "check", CHECK, AFTER_CHECK);
+    with_command(eight, check)
+}
+
+/// The program's command.
+pub(crate) fn office_command<'a>(alloc: Global) -> Result<Command<'a>, AllocError>
+    ensures { IfOk result (λ c. app_of c ≡ program.office) }
+{
+    let ten = with_command(command_of_nine(alloc), why_command(alloc));
+    with_command(ten, try_command(alloc))
+}

@@ -1,0 +1,229 @@
+//! What was given to each command.
+
+ghost use Rattle.std.specs.Prelude.{◌≡◌, map, option_map, IfOk};
+ghost use Rattle.clap.specs.Words.{all_of, first_of, found_of, rows_of, subcommand_rows_of};
+ghost use Rattle.office_cli_words.specs.Asked.{ToCheck, ToExport, ToTellRuns, asked, asked_by, command_in, compare_in, is_set, mail_in, number_of, replay_in, report_in, report_of, serve_in, asked_report, stored_in, try_in, waiting_in, why_in};
+
+use crate::Words;
+use crate::reports::{number_in, report_of};
+use clap::ArgMatches;
+use std::alloc::{AllocError, Global};
+
+/// The text given under a name.
+fn text_of<'a>(given: &ArgMatches<'a>, name: &str) -> Option<&'a str>
+    ensures { option_map (λ text. text.now) result ≡ first_of name.now (rows_of (found_of given.now)) }
+{
+    given.get_str(name)
+}
+
+/// The texts given under a name.
+fn texts_of<'a>(
+    alloc: Global,
+    given: &ArgMatches<'a>,
+    name: &str,
+) -> Result<Option<Vec<&'a str>>, AllocError>
+    ensures { IfOk result (λ texts. option_map (λ all. map (λ text. text.now) all.items) texts ≡ all_of name.now (rows_of (found_of given.now))) }
+{
+    match given.get_strs(name) {
+        Some(texts) => Ok(Some(copied(alloc, texts)?)),
+        None => Ok(None),
+    }
+}
+
+/// The same texts, in a list of their own.
+fn copied<'a>(alloc: Global, texts: &[&'a str]) -> Result<Vec<&'a str>, AllocError>
+    ensures { IfOk result (λ copy. copy.items ≡ texts.now) }
+{
+    let mut copy = Vec::with_capacity(alloc, texts.len())?;
+    copy.extend_from_slice(texts)?;
+    Ok(copy)
+}
+
+/// The number given under a name.
+fn number_of(given: &ArgMatches, name: &str) -> Option<u32>
+    ensures { result ≡ number_of name.now (rows_of (found_of given.now)) }
+{
+    match text_of(given, name) {
+        Some(text) => number_in(text),
+        None => None,
+    }
+}
+
+/// Whether a flag is set, which clap tells as the text `true`.
+fn is_set(given: &ArgMatches, name: &str) -> bool
+    ensures { result ≡ is_set name.now (rows_of (found_of given.now)) }
+{
+    match text_of(given, name) {
+        Some(value) => value == "true",
+        None => false,
+    }
+}
+
+fn compare_words<'a>(given: &ArgMatches<'a>) -> Option<Words<'a>>
+    ensures { option_map asked result ≡ compare_in (rows_of (found_of given.now)) }
+{
+    let v1 = text_of(given, "V1")?;
+    let op = text_of(given, "OP")?;
+    let v2 = text_of(given, "V2")?;
+    Some(Words::Compare { v1, op, v2 })
+}
+
+fn replay_words<'a>(given: &ArgMatches<'a>) -> Option<Words<'a>>
+    ensures { option_map asked result ≡ replay_in (rows_of (found_of given.now)) }
+{
+    let conf = text_of(given, "conf")?;
+    Some(Words::Replay {
+        conf,
+        db: text_of(given, "db"),
+    })
+}
+
+fn serve_words<'a>(given: &ArgMatches<'a>) -> Option<Words<'a>>
+    ensures { option_map asked result ≡ serve_in (rows_of (found_of given.now)) }
+{
+    let conf = text_of(given, "conf")?;
+    let port = number_of(given, "port")?;
+    let connections = number_of(given, "connections")?;
+    Some(Words::Serve {
+        conf,
+        port,
+        db: text_of(given, "db"),
+        connections,
+    })
+}
+
+fn waiting_words<'a>(given: &ArgMatches<'a>) -> Option<Words<'a>>
+    ensures { option_map asked result ≡ waiting_in (rows_of (found_of given.now)) }
+{
+    let conf = text_of(given, "conf")?;
+    Some(Words::Waiting {
+        conf,
+        db: text_of(given, "db"),
+    })
+}
+
+/// What two words ask for that name a report of the store in a file.
+fn asked_report<'a>(conf: &'a str, db: &'a str, run: &'a str, word: Option<&'a str>) -> Words<'a>
+    ensures { asked result ≡ asked_report conf.now db.now run.now (option_map (λ text. text.now) word.entry) (report_of run.now (option_map (λ text. text.now) word.entry)) }
+{
+    match report_of(run, word) {
+        Some(report) => Words::Report { conf, db, report },
+        None => Words::UnknownReport { run, report: word },
+    }
+}
+
+fn report_words<'a>(given: &ArgMatches<'a>) -> Option<Words<'a>>
+    ensures { option_map asked result ≡ report_in (rows_of (found_of given.now)) }
+{
+    let conf = text_of(given, "conf")?;
+    let db = text_of(given, "db")?;
+    let run = text_of(given, "RUN")?;
+    Some(asked_report(conf, db, run, text_of(given, "REPORT")))
+}
+
+fn runs_words<'a>(given: &ArgMatches<'a>) -> Option<Words<'a>>
+    ensures { option_map asked result ≡ stored_in ToTellRuns (rows_of (found_of given.now)) }
+{
+    let conf = text_of(given, "conf")?;
+    let db = text_of(given, "db")?;
+    Some(Words::Runs { conf, db })
+}
+
+fn mail_words<'a>(given: &ArgMatches<'a>) -> Option<Words<'a>>
+    ensures { option_map asked result ≡ mail_in (rows_of (found_of given.now)) }
+{
+    let conf = text_of(given, "conf")?;
+    let db = text_of(given, "db")?;
+    Some(Words::Mail {
+        conf,
+        db,
+        list: is_set(given, "list"),
+    })
+}
+
+fn export_words<'a>(given: &ArgMatches<'a>) -> Option<Words<'a>>
+    ensures { option_map asked result ≡ stored_in ToExport (rows_of (found_of given.now)) }
+{
+    let conf = text_of(given, "conf")?;
+    let db = text_of(given, "db")?;
+    Some(Words::Export { conf, db })
+}
+
+fn check_words<'a>(given: &ArgMatches<'a>) -> Option<Words<'a>>
+    ensures { option_map asked result ≡ stored_in ToCheck (rows_of (found_of given.now)) }
+{
+    let conf = text_of(given, "conf")?;
+    let db = text_of(given, "db")?;
+    Some(Words::Check { conf, db })
+}
+
+fn why_words<'a>(alloc: Global, given: &ArgMatches<'a>) -> Result<Option<Words<'a>>, AllocError>
+    ensures { IfOk result (λ words. option_map asked words ≡ why_in (rows_of (found_of given.now))) }
+{
+    let Some(conf) = text_of(given, "conf") else {
+        return Ok(None);
+    };
+    match texts_of(alloc, given, "SOURCE")? {
+        Some(sources) => Ok(Some(Words::Why {
+            conf,
+            db: text_of(given, "db"),
+            run: number_of(given, "run"),
+            sources,
+        })),
+        None => Ok(None),
+    }
+}
+
+fn try_words<'a>(alloc: Global, given: &ArgMatches<'a>) -> Result<Option<Words<'a>>, AllocError>
+    ensures { IfOk result (λ words. option_map asked words ≡ try_in (rows_of (found_of given.now))) }
+{
+    let Some(conf) = text_of(given, "conf") else {
+        return Ok(None);
+    };
+    match texts_of(alloc, given, "HINT")? {
+        Some(hints) => Ok(Some(Words::Try {
+            conf,
+            db: text_of(given, "db"),
+            day: text_of(given, "day"),
+            all: is_set(given, "all"),
+            hints,
+        })),
+        None => Ok(None),
+    }
+}
+
+fn command_words<'a>(
+    alloc: Global,
+    name: &str,
+    given: &ArgMatches<'a>,
+) -> Result<Option<Words<'a>>, AllocError>
+    ensures { IfOk result (λ words. option_map asked words ≡ command_in name.now (rows_of (found_of given.now))) }
+{
+    match name {
+        "compare" => Ok(compare_words(given)),
+        "replay" => Ok(replay_words(given)),
+        "serve" => Ok(serve_words(given)),
+        "waiting" => Ok(waiting_words(given)),
+        "report" => Ok(report_words(given)),
+        "runs" => Ok(runs_words(given)),
+        "mail" => Ok(mail_words(given)),
+        "export" => Ok(export_words(given)),
+        "check" => Ok(check_words(given)),
+        "why" => why_words(alloc, given),
+        "try" => try_words(alloc, given),
+        _ => Ok(None),
+    }
+}
+
+/// What is asked by the command that the words name and what they give it.
+pub(crate) fn asked_words<'a>(
+    alloc: Global,
+    matches: &ArgMatches<'a>,
+) -> Result<Option<Words<'a>>, AllocError>
+    ensures { IfOk result (λ words. option_map asked words ≡ asked_by (subcommand_rows_of matches.now)) }
+{
+    match matches.subcommand() {
+        Some((name, given)) => command_words(alloc, name, given),
+        None => Ok(None),
+    }
+}

@@ -1,0 +1,18 @@
+use Rattle.std.proofs.Common.{◌≡◌, length, take}
+use Rattle.office_core_facts.specs.Cached.{AreRead}
+use Rattle.office_core.specs.GatherSteps.{ArePlaced, Gathers}
+use Rattle.office_core.specs.Together.{AreHeldHere}
+use Rattle.office_core.specs.Asked.{AreFreeFrom}
+use Rattle.office_core_orders.proofs.LookFacts.{Looked}
+use Rattle.office_core.proofs.gathering.gather_all.Given as goal
+
+abbrev pub invariant-texts : goal.invariant-texts
+invariant-texts g l = record {
+  gathers : g.K.Keeper.is_trusted l.keeper → Gathers l.setup (g.K.Keeper.content l.fn.keeper).kept l.block.letters.items l.block.replies.items (take l.text-index l.texts);
+  asked : g.K.Keeper.is_trusted l.keeper → AreFreeFrom (g.K.Keeper.content l.fn.keeper).kept l.asked.items;
+  each : length l.block.replies.items ≡ l.text-index;
+  placed : ArePlaced l.setup l.block.letters.items;
+  places : AreHeldHere l.setup l.block.replies.items;
+  cache : AreRead l.setup l.fn.cache → AreRead l.setup l.cache;
+  looks : Looked g.K.Keeper l.fn.keeper l.keeper;
+}

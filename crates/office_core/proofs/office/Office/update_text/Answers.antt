@@ -1,0 +1,14 @@
+use Rattle.std.proofs.Common.{ap, ◌∙◌}
+use Rattle.std.specs.Option.{option_map}
+use Rattle.office_store_keeper.specs.Content.{item_from_one}
+use Rattle.office_store_keeper.specs.declared.values.Reports.{Reports}
+use Rattle.office_core_facts.proofs.ReportFacts.{reports_at-is}
+use Rattle.office_core.proofs.office.Office.update_text.Goals as goal
+
+pub returns-clause-text : goal.returns-clause-text
+returns-clause-text g c = λ trusted sound.
+    let keeper = g.K.Keeper in
+    let old = c.args.self.now in
+    c.update_in.ensures
+    ∙ ap (option_map (λ (r : Reports). r.updates))
+    (c.in_ok-reports.ensures.value trusted ∙ ap (λ k. item_from_one c.args.run (keeper.content k).reports) c.self.view_is ∙ reports_at-is (keeper.setup old) (keeper.content old) c.args.run sound.1)

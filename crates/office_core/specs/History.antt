@@ -1,0 +1,153 @@
+-- The history of an office: what came to it and what it did, step by step, and what is true after any list of steps.
+use Rattle.std.specs.Prelude.{◌≡◌, ℕ, ◌+◌, ◌≤◌, ◌↔◌, Bool, true, false, List, [], ◌∷◌, ◌++◌, length, map, flat_map, replicate, Some, Result, Ok, Err}
+use Rattle.std.specs.FinMap.{get, empty}
+use Rattle.office_mail.specs.Kept.{kept_from, place_of}
+use Rattle.office_mail.specs.Laws.{Delivers, OneText}
+use Rattle.office_mail.specs.Lists.{Lists}
+use Rattle.office_mail.specs.Read.{read}
+use Rattle.office_mail.specs.Runs.{IsReady, IsReadyCount, orders_to, latest_day}
+use Rattle.office_mail.specs.declared.message.Message.{Message}
+use Rattle.office_store_keeper.specs.Content.{Content}
+use Rattle.office_core_orders.specs.Replies.{mark_of}
+use Rattle.office_core_orders.specs.declared.faults.DeliverFault.{DeliverFault}
+use Rattle.office_core_orders.specs.declared.faults.Held.{Held}
+use Rattle.office_core_orders.specs.declared.faults.StoreFault.{StoreFault}
+use Rattle.office_core_orders.specs.declared.replies.Mark.{Mark}
+use Rattle.office_core_orders.specs.declared.replies.Mark.TheVariants.{Taken, LostForMemory, LostForStore}
+use Rattle.office_core_orders.specs.declared.faults.Progress.{Progress}
+use Rattle.office_core.specs.Laws.{RunsStand}
+use Rattle.office_core_facts.specs.Outcome.{Outcome, covered_items, outcome_on, reports_from, reports_to, testing_after}
+
+-- one step
+pub data Step : Type 0 where
+  -- a text came, and was held
+  Took : List ℕ → Step
+  -- a text came, and was refused
+  Refused : List ℕ → Step
+  -- a text never came, or was answered NoMemory or Store
+  Lost : List ℕ → Step
+  -- a settle finished the next run
+  Finished : Step
+  -- a settle answered Ok
+  Settled : Step
+  -- a settle answered a fault
+  Stopped : Step
+  -- the office was asked, or nothing was done
+  Looked : Step
+
+-- the same mail, reports and testing
+pub record Same (old new : Content) : Type 0 where
+  pub kept : new.kept ≡ old.kept
+  pub reports : new.reports ≡ old.reports
+  pub testing : new.testing ≡ old.testing
+
+-- the text is kept where it is a message whose number was free, and the reports and testing stay
+pub record Takes (setup : Lists) (text : List ℕ) (old new : Content) : Type 0 where
+  pub kept : new.kept ≡ kept_from setup old.kept (text ∷ [])
+  pub reports : new.reports ≡ old.reports
+  pub testing : new.testing ≡ old.testing
+
+-- what the promotion rules give for the next run: from its day, its covered messages and the testing that is there
+abbrev pub by_rules : Lists → Content → Outcome
+by_rules setup c = let k : ℕ = length c.reports + 1 in outcome_on setup k (latest_day (orders_to setup c.kept k)) (covered_items setup c.kept k) c.testing
+
+-- the next run was ready; its reports and testing are what the rules give, and the mail stays
+pub record FinishesNext (setup : Lists) (old new : Content) : Type 0 where
+  pub ready : IsReady setup old.kept (length old.reports + 1)
+  pub kept : new.kept ≡ old.kept
+  pub reports : new.reports ≡ old.reports ++ reports_from (by_rules setup old) ∷ []
+  pub testing : new.testing ≡ (by_rules setup old).testing
+
+-- what a step does: of a refused text nothing is to be kept, and where a settle answers Ok exactly the ready runs are finished
+abbrev pub Does : Lists → Step → Content → Content → Type 0
+Does setup (Took text) old new = Takes setup text old new
+Does setup (Refused text) old new = Takes setup text old new × Same old new
+Does setup (Lost text) old new = Same old new
+Does setup Finished old new = FinishesNext setup old new
+Does setup Settled old new = Same old new × IsReadyCount setup old.kept (length old.reports)
+Does setup Stopped old new = Same old new
+Does setup Looked old new = Same old new
+
+-- the steps, one after another, lead from one content to another
+unfoldable pub Leads : Lists → Content → List Step → Content → Type 0
+Leads setup old [] new = new ≡ old
+Leads setup old (s ∷ ss) new = (between : Content) × Does setup s old between × Leads setup between ss new
+
+-- the texts that came and weren't lost, in order: losses leave gaps, repeats stand twice
+abbrev pub text_in : Step → List (List ℕ)
+text_in (Took text) = text ∷ []
+text_in (Refused text) = text ∷ []
+text_in (Lost text) = []
+text_in Finished = []
+text_in Settled = []
+text_in Stopped = []
+text_in Looked = []
+
+abbrev pub texts_in : List Step → List (List ℕ)
+texts_in steps = flat_map text_in steps
+
+-- whether the office is settled: a settle answered Ok, and nothing was held since
+abbrev pub settled_by : Bool → Step → Bool
+settled_by was (Took text) = false
+settled_by was (Refused text) = was
+settled_by was (Lost text) = was
+settled_by was Finished = false
+settled_by was Settled = true
+settled_by was Stopped = was
+settled_by was Looked = was
+
+abbrev pub settled_from : Bool → List Step → Bool
+settled_from was [] = was
+settled_from was (s ∷ ss) = settled_from (settled_by was s) ss
+
+abbrev pub is_settled : List Step → Bool
+is_settled steps = settled_from false steps
+
+-- what the headline says of an office to which these texts came
+pub record IsByRules (setup : Lists) (texts : List (List ℕ)) (content : Content) : Type 0 where
+  -- kept is, of each sender and number, the first message that came
+  pub kept : content.kept ≡ kept_from setup empty texts
+  -- and so each message that came, once, where no sender gives one number two texts
+  pub all : OneText setup texts → (text : List ℕ) (m : Message) → Delivers setup texts text m ↔ ((get content.kept (place_of m) ≡ Some text) × (read setup text ≡ Ok m))
+  -- each finished run is ready
+  pub ready : IsReady setup content.kept (length content.reports)
+  -- both reports of every finished run, and testing, are what the promotion rules give for that run's covered messages
+  pub reports : content.reports ≡ reports_to setup content.kept (length content.reports)
+  pub testing : content.testing ≡ testing_after setup content.kept (length content.reports)
+
+-- what two offices have in common to which the same texts came, in any order and with any repeats
+pub record Agree (xs ys : List Step) (a b : Content) : Type 0 where
+  -- the mail is the same
+  pub kept : a.kept ≡ b.kept
+  -- what the one has finished is the beginning of what the other has
+  pub runs : length a.reports ≤ length b.reports → RunsStand a b
+  -- settled offices have finished the same
+  pub settled : is_settled xs ≡ true → is_settled ys ≡ true → (a.reports ≡ b.reports) × (a.testing ≡ b.testing)
+
+-- a delivery with its answer, as a step
+abbrev pub refusal : Mark → List ℕ → Step
+refusal Taken text = Refused text
+refusal LostForMemory text = Lost text
+refusal LostForStore text = Lost text
+
+abbrev pub delivery : List ℕ → Result Held DeliverFault → Step
+delivery text (Ok held) = Took text
+delivery text (Err fault) = refusal (mark_of (Err fault)) text
+
+-- deliveries with their answers
+abbrev pub deliveries : List (List ℕ) → List (Result Held DeliverFault) → List Step
+deliveries [] answers = []
+deliveries (t ∷ ts) [] = []
+deliveries (t ∷ ts) (a ∷ rest) = delivery t a ∷ deliveries ts rest
+
+-- a settle that finished so many runs, with its answer, as steps
+abbrev pub answer_step : Result Progress StoreFault → Step
+answer_step (Ok progress) = Settled
+answer_step (Err fault) = Stopped
+
+abbrev pub settling : ℕ → Result Progress StoreFault → List Step
+settling n answer = replicate n Finished ++ answer_step answer ∷ []
+
+-- texts that came, so many runs that finished, and a last step
+abbrev pub coming : List (List ℕ) → ℕ → Step → List Step
+coming texts n last = map (λ text. Took text) texts ++ (replicate n Finished ++ last ∷ [])

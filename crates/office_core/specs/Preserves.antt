@@ -1,0 +1,32 @@
+-- What a call on an office leaves of what is known of its store.
+use Rattle.std.specs.Prelude.{◌≡◌, ℕ, ◌≤◌, false, min}
+use Rattle.office_mail.specs.Counts.{HasRisen, most}
+use Rattle.office_store_keeper.specs.declared.keeping.Keeper.{Ghosts}
+use Rattle.office_core_orders.specs.StaysTrusted.{StaysTrusted}
+use Rattle.office_core_facts.specs.State.{IsSound}
+
+-- a count didn't fall, unless it was above the greatest
+abbrev pub HasNotFallen : ℕ → ℕ → Type 0
+HasNotFallen before after = min before most ≤ after
+
+-- the store held what an office leaves before a call, and is still trusted after it
+abbrev pub Holds : {K : Type 0} → Ghosts K → K → K → Type 0
+Holds keeper old new = keeper.is_trusted new × IsSound keeper old
+
+-- the store refused in between, and counted it
+abbrev pub StoreRefused : {K : Type 0} → Ghosts K → K → K → Type 0
+StoreRefused keeper old new = HasRisen (keeper.refusals old) (keeper.refusals new)
+
+-- A store that is trusted after a call was so before it, and holds what an office leaves if it did before; its setup stays,
+-- and its count of refusals doesn't fall. Where nobody else writes it, it stays trusted unless its disk failed.
+pub record Preserves {K : Type 0} (keeper : Ghosts K) (old new : K) : Type 0 where
+  pub before : keeper.is_trusted new → keeper.is_trusted old
+  pub sound : keeper.is_trusted new → IsSound keeper old → IsSound keeper new
+  pub setup : keeper.setup new ≡ keeper.setup old
+  pub refusals : HasNotFallen (keeper.refusals old) (keeper.refusals new)
+  pub lasts : StaysTrusted keeper old new false
+
+-- a call that leaves what is kept
+pub record Asks {K : Type 0} (keeper : Ghosts K) (old new : K) : Type 0 where
+  pub carries : Preserves keeper old new
+  pub same : keeper.is_trusted new → keeper.content new ≡ keeper.content old

@@ -1,0 +1,86 @@
+//! What is true of every store, and of every office whatever mail comes and in whatever order.
+ghost use Rattle.std.specs.Prelude.{◌≡◌, ◌+◌, ◌-◌, ◌≤◌, ◌↔◌, ℕ, List, [], ◌∷◌, ◌++◌, true, length, Contains, Some, None};
+ghost use Rattle.std.specs.FinMap.{get};
+ghost use Rattle.office_mail.specs.Kept.{Kept, Within, kept_from};
+ghost use Rattle.office_mail.specs.Laws.{OneText, SameTexts};
+ghost use Rattle.office_mail.specs.Lists.{Lists};
+ghost use Rattle.office_mail.specs.Runs.{IsReady, IsReadyCount, order_at};
+ghost use Rattle.office_mail.specs.Setup.{count_of};
+ghost use Rattle.office_mail.specs.declared.message.RunOrder.{RunOrder};
+ghost use Rattle.office_mail_setup.specs.declared.setup.Role.TheVariants.{Release};
+ghost use Rattle.office_store_keeper.specs.Content.{Content, item_from_one, no_content};
+ghost use Rattle.office_store_keeper.specs.LastDelays.{GetsLast};
+ghost use Rattle.office_core_orders.specs.declared.waiting_lines.Lack.{Lack};
+ghost use Rattle.office_core.specs.History.{Step, Looked, Settled, Leads, IsByRules, Agree, coming, is_settled, texts_in};
+ghost use Rattle.office_core.specs.Laws.{RunsStand, TookTexts};
+ghost use Rattle.office_core.specs.Migrated.{IsOfficeBefore};
+ghost use Rattle.office_core_facts.specs.Outcome.{outcome_of, reports_to};
+ghost use Rattle.office_core_facts.specs.State.{IsOffice, IsSound};
+ghost use Rattle.office_core_orders.specs.Waiting.{AreLacks};
+
+use office_store_keeper::Keeper;
+
+/// An office begins with a store that keeps nothing.
+pub fn empty_is_sound<K: Keeper>()
+    ensures { (store : K) → K.is_legible store → K.content store ≡ no_content → IsSound K.Keeper store }
+{}
+
+/// The headline: after any list of deliveries, with losses, repeats and reorderings, in which no sender gives one number two
+/// texts, testing and both reports of every finished run are what the promotion rules give for that run's covered messages,
+/// each taken once in its sender's order; a settled office has finished exactly the ready runs; only finishing a run changes
+/// testing. A list of steps is any history: deliveries, settles and questions from an empty office on.
+pub fn headline()
+    ensures rules { (setup : Lists) (steps : List Step) (office : Content) → Leads setup no_content steps office → IsByRules setup (texts_in steps) office }
+    // Neither order nor repeats matter: offices to which the same texts came agree.
+    ensures order { (setup : Lists) (xs ys : List Step) (a b : Content) → Leads setup no_content xs a → Leads setup no_content ys b → OneText setup (texts_in xs) → SameTexts setup (texts_in xs) (texts_in ys) → Agree xs ys a b }
+    ensures settled { (setup : Lists) (steps : List Step) (office : Content) → Leads setup no_content steps office → is_settled steps ≡ true → IsReadyCount setup office.kept (length office.reports) }
+    ensures only { (setup : Lists) (steps : List Step) (old new : Content) → Leads setup old steps new → RunsStand old new }
+{}
+
+/// What a call leads to, and then another, the two lead to together; a call that changes nothing is a step too.
+pub fn steps_follow()
+    ensures twice { (setup : Lists) (xs ys : List Step) (a b c : Content) → Leads setup a xs b → Leads setup b ys c → Leads setup a (xs ++ ys) c }
+    ensures looked { (setup : Lists) (old new : Content) → new ≡ old → Leads setup old (Looked ∷ []) new }
+    // Whatever takes one office to another with these texts more and no run less, as a whole replay does, is such steps.
+    ensures came { (setup : Lists) (texts : List (List ℕ)) (old new : Content) → IsOffice setup old → IsOffice setup new → new.kept ≡ kept_from setup old.kept texts → length old.reports ≤ length new.reports → Leads setup old (coming texts (length new.reports - length old.reports) Looked) new }
+    // The last of them is a settle that answered Ok, if exactly the ready runs are finished.
+    ensures settled { (setup : Lists) (texts : List (List ℕ)) (old new : Content) → IsOffice setup old → IsOffice setup new → new.kept ≡ kept_from setup old.kept texts → length old.reports ≤ length new.reports → IsReadyCount setup new.kept (length new.reports) → Leads setup old (coming texts (length new.reports - length old.reports) Settled) new }
+{}
+
+/// Of two offices to which the same well-formed texts came, in any order and with any repeats,
+/// and no sender gave one number two texts, each run that both have finished has the same two reports.
+pub fn same_texts()
+    ensures each { (setup : Lists) (xs ys : List (List ℕ)) (a b : Content) (k : ℕ) → TookTexts setup xs a → TookTexts setup ys b → SameTexts setup xs ys → k ≤ length a.reports → k ≤ length b.reports → item_from_one k a.reports ≡ item_from_one k b.reports }
+    // Where as many runs are finished in both, all reports are the same, and so is testing.
+    ensures same { (setup : Lists) (xs ys : List (List ℕ)) (a b : Content) → TookTexts setup xs a → TookTexts setup ys b → SameTexts setup xs ys → length a.reports ≡ length b.reports → (a.reports ≡ b.reports) × (a.testing ≡ b.testing) }
+    // Offices that have finished all ready runs, as one does that has settled, have finished as many.
+    ensures settled { (setup : Lists) (xs ys : List (List ℕ)) (a b : Content) → TookTexts setup xs a → TookTexts setup ys b → SameTexts setup xs ys → IsReadyCount setup a.kept (length a.reports) → IsReadyCount setup b.kept (length b.reports) → (a.reports ≡ b.reports) × (a.testing ≡ b.testing) }
+{}
+
+/// Later mail changes nothing of a run that is ready: neither its reports nor the testing that it leaves.
+pub fn runs_stay()
+    ensures outcome { (setup : Lists) (small large : Kept) (k : ℕ) → Within small large → IsReady setup small k → outcome_of setup large k ≡ outcome_of setup small k }
+    ensures reports { (setup : Lists) (small large : Kept) (k : ℕ) → Within small large → IsReady setup small k → reports_to setup large k ≡ reports_to setup small k }
+    // So an office that went on, with more mail and more runs, has the reports that it had, and the same testing unless it finished a run.
+    ensures office { (setup : Lists) (old new : Content) → IsOffice setup old → IsOffice setup new → Within old.kept new.kept → length old.reports ≤ length new.reports → RunsStand old new }
+{}
+
+/// What an office of schema 1 left, once it has the row of the last delays that the finished runs cover, is what an office
+/// leaves: its rows of facts are those of facts that stand for all covered mail.
+pub fn migrated_is_office()
+    ensures { (setup : Lists) (old new : Content) → count_of Release setup.senders ≡ 1 → IsOfficeBefore setup old → GetsLast setup old new → IsOffice setup new }
+{}
+
+/// Behind a ready run the next one, whose order is kept, is ready exactly where no sender lacks anything by that order.
+pub fn lacks_say_why()
+    ensures why { (setup : Lists) (kept : Kept) (n : ℕ) (order : RunOrder) (lacks : List Lack) → IsReady setup kept n → order_at setup kept (n + 1) ≡ Some order → AreLacks kept order (length setup.senders) lacks → (lacks ≡ []) ↔ IsReady setup kept (n + 1) }
+    // What the senders lack is one list, by the kept mail and the order.
+    ensures one { (kept : Kept) (order : RunOrder) (n : ℕ) (xs ys : List Lack) → AreLacks kept order n xs → AreLacks kept order n ys → xs ≡ ys }
+{}
+
+/// Each number that is lacking must come: no mail that holds all of the kept mail, but lacks that number, makes the run ready.
+pub fn lacks_are_needed()
+    ensures mail { (setup : Lists) (small large : Kept) (n : ℕ) (order : RunOrder) (lacks : List Lack) (lack : Lack) → Within small large → order_at setup small (n + 1) ≡ Some order → AreLacks small order (length setup.senders) lacks → Contains lacks lack → get large (lack.sender, lack.number) ≡ None → IsReady setup large (n + 1) → ⊥ }
+    // So must an order that isn't kept.
+    ensures order { (setup : Lists) (kept : Kept) (n : ℕ) → order_at setup kept (n + 1) ≡ None → IsReady setup kept (n + 1) → ⊥ }
+{}

@@ -1,0 +1,408 @@
+//! The office: what it takes, finishes and reports.
+#![tactic(auto, using(office_core_orders::proofs::LastFacts::lasting))]
+
+ghost use Rattle.std.specs.Prelude.{is_ok, ◌≡◌, ◌+◌, ◌-◌, ◌≤◌, ◌<◌, ◌∷◌, [], None, IfOk, IfSome, OnOk, OnErr, length};
+ghost use Rattle.std.specs.FinMap.{get};
+ghost use Rattle.std.specs.Option.{option_map};
+ghost use Rattle.testing_rules_laws.specs.Watched.{AllWatchedWork};
+ghost use Rattle.office_mail.specs.Kept.{kept_from};
+ghost use Rattle.office_mail.specs.Runs.{IsReady, IsReadyCount};
+ghost use Rattle.office_store_keeper.specs.Content.{IsNextNumber};
+ghost use Rattle.office_store_keeper.specs.Provenance.{AreOwnTexts};
+ghost use Rattle.office_core_orders.specs.Counted.{Counted, CountedDelivery};
+ghost use Rattle.office_core.specs.History.{Leads, deliveries, delivery, settling};
+ghost use Rattle.office_core.specs.Together.{AreHeldHere, answers_to};
+ghost use Rattle.office_core_orders.specs.StaysTrusted.{StaysTrusted};
+ghost use Rattle.office_core_facts.specs.Outcome.{testing_after, testing_text};
+ghost use Rattle.office_core_facts.specs.State.{IsSound, KeepsFacts, state_of, answer_to, AnswersDelivery, reports_at};
+ghost use Rattle.office_core_orders.specs.Waiting.{Awaits, AwaitsSome};
+ghost use Rattle.office_core_why.specs.Why.{IsWhy};
+ghost use Rattle.office_core_outcome.specs.Trial.{IsTrial};
+
+use crate::counting::{count_replies, count_reply};
+use crate::gathering::{Reply, keep_texts};
+use crate::posting::deliver;
+use crate::runs::settle;
+use crate::texts::kept_testing_text;
+use deb_control::Text;
+use office_core_facts::covered::KnownFacts;
+use office_core_facts::message_cache::MessageCache;
+use office_core_orders::ready::ready_count;
+use office_core_orders::waiting::waiting;
+use office_core_orders::{DeliverFault, Held, Progress, StoreFault, Waiting, stored};
+use office_core_outcome::{Terms, Trial, try_hints};
+use office_core_why::why_text;
+use office_mail::{RunOrder, Setup};
+use office_store_keeper::{Keeper, MailText, Reports};
+use std::alloc::Global;
+use std::marker::Model;
+
+/// An office over a store, of which its contracts speak. Beside it stand for each sender how many numbers are known to be
+/// kept, the run orders that were read, the facts of the mail that the last run covered, and what was read of mail since.
+#[derive(Drop)]
+pub struct Office<K: Keeper> {
+    alloc: Global,
+    setup: Setup,
+    keeper: K,
+    counts: Vec<u32>,
+    orders: Vec<RunOrder>,
+    known: Option<KnownFacts>,
+    cache: MessageCache,
+}
+
+impl<K: Keeper> Model for Office<K> {
+    ghost use Rattle.std.specs.Prelude.{◌≡◌, IfSome};
+    ghost use Rattle.office_core_facts.specs.Cached.{AreRead};
+    ghost use Rattle.office_core_facts.specs.Known.{AreKnown};
+    ghost use Rattle.office_core_orders.specs.Ready.{IsCounted};
+
+    ghost Value = { K };
+
+    ghost view = { λ a. a.keeper };
+
+    ghost invariant = { λ a. (K.setup a.keeper ≡ a.setup)
+        × (K.is_trusted a.keeper → IsCounted a.setup (K.content a.keeper) a.counts.items a.orders.items)
+        × (K.is_trusted a.keeper → IfSome a.known (λ known. AreKnown a.setup (K.content a.keeper) known))
+        × (AreRead a.setup a.cache) };
+}
+
+impl<K: Keeper> Office<K> {
+    /// An office with this setup, over a store that was made for its lists. It takes no memory.
+    pub fn new(alloc: Global, setup: Setup, keeper: K) -> Office<K>
+        requires lists { K.setup keeper ≡ setup }
+        ensures { result ≡ keeper }
+    {
+        Office {
+            alloc,
+            setup,
+            keeper,
+            counts: Vec::new(alloc),
+            orders: Vec::new(alloc),
+            known: None,
+            cache: MessageCache::new(alloc),
+        }
+    }
+
+    /// The store, unchanged.
+    pub fn into_keeper(self) -> K
+        ensures { result ≡ self }
+    {
+        let Office {
+            alloc: _,
+            setup: _,
+            keeper,
+            counts: _,
+            orders: _,
+            known,
+            cache,
+        } = self;
+        drop(known);
+        drop(cache);
+        keeper
+    }
+
+    /// The setup.
+    pub fn setup(&self) -> &Setup
+        ensures setup { result.now ≡ K.setup self.now }
+        ensures own_texts { IsSound K.Keeper self.now → AreOwnTexts (K.setup self.now) (K.content self.now).kept }
+    {
+        &self.setup
+    }
+
+    /// The allocator that the office was made with.
+    pub fn alloc(&self) -> Global {
+        self.alloc
+    }
+
+    /// How many runs are finished. It fails for want of memory or of the store alone.
+    pub fn finished(&mut self) -> Result<u32, StoreFault>
+        ensures finished { K.is_trusted self.new → IsSound K.Keeper self.old → IfOk result (λ n. n ≡ (state_of K.Keeper self.old).finished) }
+        ensures ready { K.is_trusted self.new → IsSound K.Keeper self.old → IsReady (K.setup self.old) (K.content self.old).kept (state_of K.Keeper self.old).finished }
+        ensures same { K.is_trusted self.new → K.content self.new ≡ K.content self.old }
+        ensures setup { K.setup self.new ≡ K.setup self.old }
+        ensures sound { K.is_trusted self.new → IsSound K.Keeper self.old → IsSound K.Keeper self.new }
+        ensures before { K.is_trusted self.new → K.is_trusted self.old }
+        ensures lasts { StaysTrusted K.Keeper self.old self.new (is_ok result) }
+        ensures counted { Counted (K.refusals self.old) (K.refusals self.new) result }
+    {
+        stored::finished(&mut self.keeper)
+    }
+
+    /// Takes a text, and keeps it where it is a message and its sender's number is free. The kept
+    /// text again has the same answer and changes nothing.
+    ///
+    /// Refused is a text that is no message, for the first cause that applies, and with `OtherText` a
+    /// message under whose sender and number another text is kept. Neither takes a number, and nothing
+    /// changes, also where memory runs out or the store fails.
+    pub fn deliver(&mut self, text: &[u8]) -> Result<Held, DeliverFault>
+        // The answer is a function of the text and of what is kept, unless memory ran out or the store failed.
+        ensures step { K.is_trusted self.new → IsSound K.Keeper self.old → Leads (K.setup self.old) (K.content self.old) (delivery text.now result ∷ []) (K.content self.new) }
+        ensures answer { K.is_trusted self.new → IsSound K.Keeper self.old → AnswersDelivery result (answer_to (K.setup self.old) (K.content self.old).kept text.now) }
+        ensures kept { K.is_trusted self.new → IsSound K.Keeper self.old → OnOk result ((K.content self.new).kept ≡ kept_from (K.setup self.old) (K.content self.old).kept (text.now ∷ [])) }
+        ensures finished { K.is_trusted self.new → IsSound K.Keeper self.old → (state_of K.Keeper self.new).finished ≡ (state_of K.Keeper self.old).finished }
+        // No delivery changes testing or a report.
+        ensures testing { K.is_trusted self.new → IsSound K.Keeper self.old → (K.content self.new).testing ≡ (K.content self.old).testing }
+        ensures reports { K.is_trusted self.new → IsSound K.Keeper self.old → (K.content self.new).reports ≡ (K.content self.old).reports }
+        ensures err { K.is_trusted self.new → IsSound K.Keeper self.old → OnErr result (K.content self.new ≡ K.content self.old) }
+        ensures setup { K.setup self.new ≡ K.setup self.old }
+        ensures place { IfOk result (λ held. held.sender < length (K.setup self.old).senders) }
+        ensures sound { K.is_trusted self.new → IsSound K.Keeper self.old → IsSound K.Keeper self.new }
+        ensures before { K.is_trusted self.new → K.is_trusted self.old }
+        ensures lasts { StaysTrusted K.Keeper self.old self.new (is_ok result) }
+        ensures counted { CountedDelivery (K.refusals self.old) (K.refusals self.new) result }
+    {
+        let reply = deliver(
+            self.alloc,
+            &self.setup,
+            &mut self.keeper,
+            &mut self.cache,
+            text,
+        );
+        count_reply(&mut self.counts, &reply);
+        reply
+    }
+
+    /// How many texts the store keeps best together.
+    pub fn keeps_together(&self) -> usize {
+        self.keeper.keeps_together()
+    }
+
+    /// Takes texts in order, as `deliver` takes each, and keeps them together: the answer to each text. There is none where
+    /// the store keeps them best one by one. Then nothing changes, and neither does it where memory runs out or the store
+    /// fails.
+    pub fn deliver_together(&mut self, texts: &[MailText]) -> Result<Option<Vec<Reply>>, StoreFault>
+        ensures steps { K.is_trusted self.new → IsSound K.Keeper self.old → IfOk result (λ replies. IfSome replies (λ rs. Leads (K.setup self.old) (K.content self.old) (deliveries texts.now rs.items) (K.content self.new))) }
+        ensures answers { K.is_trusted self.new → IsSound K.Keeper self.old → IfOk result (λ replies. IfSome replies (λ rs. rs.items ≡ answers_to (K.setup self.old) (K.content self.old).kept texts.now)) }
+        ensures kept { K.is_trusted self.new → IsSound K.Keeper self.old → IfOk result (λ replies. IfSome replies (λ rs. (K.content self.new).kept ≡ kept_from (K.setup self.old) (K.content self.old).kept texts.now)) }
+        ensures none { K.is_trusted self.new → IsSound K.Keeper self.old → IfOk result (λ replies. replies ≡ None → K.content self.new ≡ K.content self.old) }
+        ensures err { K.is_trusted self.new → IsSound K.Keeper self.old → OnErr result (K.content self.new ≡ K.content self.old) }
+        ensures finished { K.is_trusted self.new → IsSound K.Keeper self.old → (state_of K.Keeper self.new).finished ≡ (state_of K.Keeper self.old).finished }
+        ensures testing { K.is_trusted self.new → IsSound K.Keeper self.old → (K.content self.new).testing ≡ (K.content self.old).testing }
+        ensures reports { K.is_trusted self.new → IsSound K.Keeper self.old → (K.content self.new).reports ≡ (K.content self.old).reports }
+        ensures each { IfOk result (λ replies. IfSome replies (λ rs. length rs.items ≡ length texts.now)) }
+        ensures places { IfOk result (λ replies. IfSome replies (λ rs. AreHeldHere (K.setup self.old) rs.items)) }
+        ensures setup { K.setup self.new ≡ K.setup self.old }
+        ensures sound { K.is_trusted self.new → IsSound K.Keeper self.old → IsSound K.Keeper self.new }
+        ensures before { K.is_trusted self.new → K.is_trusted self.old }
+        ensures lasts { StaysTrusted K.Keeper self.old self.new (is_ok result) }
+        ensures counted { Counted (K.refusals self.old) (K.refusals self.new) result }
+    {
+        let replies = keep_texts(
+            self.alloc,
+            &self.setup,
+            &mut self.keeper,
+            &mut self.cache,
+            texts,
+        );
+        count_replies(&mut self.counts, &replies);
+        replies
+    }
+
+    /// Finishes the runs that are ready, in order. `Ok` means that none is left. It fails for want of
+    /// memory or of the store alone.
+    pub fn settle(&mut self) -> Result<Progress, StoreFault>
+        ensures steps { K.is_trusted self.new → IsSound K.Keeper self.old → Leads (K.setup self.old) (K.content self.old) (settling (length (K.content self.new).reports - length (K.content self.old).reports) result) (K.content self.new) }
+        ensures ready { K.is_trusted self.new → IsSound K.Keeper self.old → IfOk result (λ progress. IsReadyCount (K.setup self.old) (K.content self.old).kept progress.ready) }
+        ensures finished { K.is_trusted self.new → IsSound K.Keeper self.old → IfOk result (λ progress. (progress.finished ≡ progress.ready) × ((state_of K.Keeper self.new).finished ≡ progress.ready)) }
+
+        // On a fault some of the ready runs, the first ones, may have finished.
+        ensures kept { K.is_trusted self.new → IsSound K.Keeper self.old → (K.content self.new).kept ≡ (K.content self.old).kept }
+        ensures grows { K.is_trusted self.new → IsSound K.Keeper self.old → (state_of K.Keeper self.old).finished ≤ (state_of K.Keeper self.new).finished }
+        ensures only_ready { K.is_trusted self.new → IsSound K.Keeper self.old → IsReady (K.setup self.old) (K.content self.old).kept (state_of K.Keeper self.new).finished }
+        // In every state all watched rows of testing are installable.
+        ensures watched { K.is_trusted self.new → IsSound K.Keeper self.old → AllWatchedWork (K.setup self.new).archs (testing_after (K.setup self.new) (K.content self.new).kept (state_of K.Keeper self.new).finished).rows }
+        // Also on a fault the kept rows of facts are those of facts that stand for what the last finished run covers, with
+        // exactly the uploads that count beside the testing that it left.
+        ensures facts { K.is_trusted self.new → IsSound K.Keeper self.old → KeepsFacts (K.setup self.new) (K.content self.new) }
+        ensures setup { K.setup self.new ≡ K.setup self.old }
+        ensures sound { K.is_trusted self.new → IsSound K.Keeper self.old → IsSound K.Keeper self.new }
+        ensures before { K.is_trusted self.new → K.is_trusted self.old }
+        ensures lasts { StaysTrusted K.Keeper self.old self.new (is_ok result) }
+        ensures counted { Counted (K.refusals self.old) (K.refusals self.new) result }
+    {
+        let finished = settle(
+            self.alloc,
+            &self.setup,
+            &mut self.keeper,
+            &mut self.counts,
+            &mut self.orders,
+            &mut self.known,
+            &mut self.cache,
+        )?;
+        Ok(Progress {
+            ready: finished,
+            finished,
+        })
+    }
+
+    /// How many runs are ready, and how many are finished. It fails for want of memory or of the store alone.
+    pub fn status(&mut self) -> Result<Progress, StoreFault>
+        ensures ready { K.is_trusted self.new → IsSound K.Keeper self.old → IfOk result (λ progress. IsReadyCount (K.setup self.old) (K.content self.old).kept progress.ready) }
+        ensures finished { K.is_trusted self.new → IsSound K.Keeper self.old → IfOk result (λ progress. progress.finished ≡ (state_of K.Keeper self.old).finished) }
+        ensures same { K.is_trusted self.new → K.content self.new ≡ K.content self.old }
+        ensures setup { K.setup self.new ≡ K.setup self.old }
+        ensures sound { K.is_trusted self.new → IsSound K.Keeper self.old → IsSound K.Keeper self.new }
+        ensures before { K.is_trusted self.new → K.is_trusted self.old }
+        ensures lasts { StaysTrusted K.Keeper self.old self.new (is_ok result) }
+        ensures counted { Counted (K.refusals self.old) (K.refusals self.new) result }
+    {
+        let finished = stored::finished(&mut self.keeper)?;
+        let ready = ready_count(
+            self.alloc,
+            &self.setup,
+            &mut self.keeper,
+            &mut self.counts,
+            finished,
+        )?;
+        Ok(Progress { ready, finished })
+    }
+
+    /// How many runs are ready and finished, and what the first run that isn't ready waits for. It fails for want of memory
+    /// or of the store alone.
+    pub fn waiting(&mut self) -> Result<Waiting, StoreFault>
+        ensures ready { K.is_trusted self.new → IsSound K.Keeper self.old → IfOk result (λ waiting. IsReadyCount (K.setup self.old) (K.content self.old).kept waiting.progress.ready) }
+        ensures finished { K.is_trusted self.new → IsSound K.Keeper self.old → IfOk result (λ waiting. waiting.progress.finished ≡ (state_of K.Keeper self.old).finished) }
+        ensures awaited { K.is_trusted self.new → IsSound K.Keeper self.old → IfOk result (λ waiting. Awaits (K.setup self.old) (K.content self.old).kept (waiting.progress.ready + 1) waiting.awaited) }
+        // Where the order is kept, mail of a sender is lacking: a run that waits for nothing is ready.
+        ensures some { K.is_trusted self.new → IsSound K.Keeper self.old → IfOk result (λ waiting. AwaitsSome waiting.awaited) }
+        ensures same { K.is_trusted self.new → K.content self.new ≡ K.content self.old }
+        ensures setup { K.setup self.new ≡ K.setup self.old }
+        ensures sound { K.is_trusted self.new → IsSound K.Keeper self.old → IsSound K.Keeper self.new }
+        ensures before { K.is_trusted self.new → K.is_trusted self.old }
+        ensures lasts { StaysTrusted K.Keeper self.old self.new (is_ok result) }
+        ensures counted { Counted (K.refusals self.old) (K.refusals self.new) result }
+    {
+        waiting(self.alloc, &self.setup, &mut self.keeper, &mut self.counts)
+    }
+
+    /// What the next run would decide if these hints were covered too, beside what it would decide without them. Nothing is
+    /// kept, and no run is finished. It fails for want of memory or of the store alone.
+    pub fn try_hints(&mut self, hints: &[Text], terms: Terms) -> Result<Trial, StoreFault>
+        ensures tried { K.is_trusted self.new → IsSound K.Keeper self.old → IfOk result (IsTrial (K.setup self.old) (K.content self.old).kept (state_of K.Keeper self.old).finished terms hints.now) }
+        ensures same { K.is_trusted self.new → K.content self.new ≡ K.content self.old }
+        ensures setup { K.setup self.new ≡ K.setup self.old }
+        ensures sound { K.is_trusted self.new → IsSound K.Keeper self.old → IsSound K.Keeper self.new }
+        ensures before { K.is_trusted self.new → K.is_trusted self.old }
+        ensures lasts { StaysTrusted K.Keeper self.old self.new (is_ok result) }
+        ensures counted { Counted (K.refusals self.old) (K.refusals self.new) result }
+    {
+        try_hints(
+            self.alloc,
+            &self.setup,
+            &mut self.keeper,
+            &mut self.known,
+            hints,
+            terms,
+        )
+    }
+
+    /// The text of testing, as the last finished run left it. It fails for want of memory or of the store alone.
+    pub fn testing_text(&mut self) -> Result<Text, StoreFault>
+        ensures text { K.is_trusted self.new → IsSound K.Keeper self.old → IfOk result (λ text. text ≡ testing_text (K.setup self.old) (state_of K.Keeper self.old).finished (testing_after (K.setup self.old) (K.content self.old).kept (state_of K.Keeper self.old).finished)) }
+        ensures same { K.is_trusted self.new → K.content self.new ≡ K.content self.old }
+        ensures setup { K.setup self.new ≡ K.setup self.old }
+        ensures sound { K.is_trusted self.new → IsSound K.Keeper self.old → IsSound K.Keeper self.new }
+        ensures before { K.is_trusted self.new → K.is_trusted self.old }
+        ensures lasts { StaysTrusted K.Keeper self.old self.new (is_ok result) }
+        ensures counted { Counted (K.refusals self.old) (K.refusals self.new) result }
+    {
+        let finished = stored::finished(&mut self.keeper)?;
+        kept_testing_text(self.alloc, &self.setup, &mut self.keeper, finished)
+    }
+
+    /// The excuses of a run, none of a run that isn't finished. It fails for want of memory or of the store alone.
+    pub fn excuses_text(&mut self, run: u32) -> Result<Option<Text>, StoreFault>
+        ensures text { K.is_trusted self.new → IsSound K.Keeper self.old → IfOk result (λ text. text ≡ option_map (λ reports. reports.excuses) (reports_at (state_of K.Keeper self.old) run)) }
+        ensures same { K.is_trusted self.new → K.content self.new ≡ K.content self.old }
+        ensures setup { K.setup self.new ≡ K.setup self.old }
+        ensures sound { K.is_trusted self.new → IsSound K.Keeper self.old → IsSound K.Keeper self.new }
+        ensures before { K.is_trusted self.new → K.is_trusted self.old }
+        ensures lasts { StaysTrusted K.Keeper self.old self.new (is_ok result) }
+        ensures counted { Counted (K.refusals self.old) (K.refusals self.new) result }
+    {
+        let reports = stored::reports(&mut self.keeper, run)?;
+        Ok(excuses_in(reports))
+    }
+
+    /// The update of a run, none of a run that isn't finished. It fails for want of memory or of the store alone.
+    pub fn update_text(&mut self, run: u32) -> Result<Option<Text>, StoreFault>
+        ensures text { K.is_trusted self.new → IsSound K.Keeper self.old → IfOk result (λ text. text ≡ option_map (λ reports. reports.updates) (reports_at (state_of K.Keeper self.old) run)) }
+        ensures same { K.is_trusted self.new → K.content self.new ≡ K.content self.old }
+        ensures setup { K.setup self.new ≡ K.setup self.old }
+        ensures sound { K.is_trusted self.new → IsSound K.Keeper self.old → IsSound K.Keeper self.new }
+        ensures before { K.is_trusted self.new → K.is_trusted self.old }
+        ensures lasts { StaysTrusted K.Keeper self.old self.new (is_ok result) }
+        ensures counted { Counted (K.refusals self.old) (K.refusals self.new) result }
+    {
+        let reports = stored::reports(&mut self.keeper, run)?;
+        Ok(update_in(reports))
+    }
+
+    /// Why a source stands where the last finished run left it, none where no run is finished. It fails for want of memory
+    /// or of the store alone.
+    pub fn why_text(&mut self, source: &str) -> Result<Option<Text>, StoreFault>
+        ensures why { K.is_trusted self.new → IsSound K.Keeper self.old → IfOk result (IsWhy (K.setup self.old) (K.content self.old).kept (state_of K.Keeper self.old).finished source.now) }
+        ensures same { K.is_trusted self.new → K.content self.new ≡ K.content self.old }
+        ensures setup { K.setup self.new ≡ K.setup self.old }
+        ensures sound { K.is_trusted self.new → IsSound K.Keeper self.old → IsSound K.Keeper self.new }
+        ensures before { K.is_trusted self.new → K.is_trusted self.old }
+        ensures lasts { StaysTrusted K.Keeper self.old self.new (is_ok result) }
+        ensures counted { Counted (K.refusals self.old) (K.refusals self.new) result }
+    {
+        why_text(
+            self.alloc,
+            &self.setup,
+            &mut self.keeper,
+            &mut self.known,
+            source,
+        )
+    }
+
+    /// The least kept number of a sender from `from` on, or none. The sender is told by its place in the setup. It fails
+    /// for want of memory or of the store alone.
+    pub fn next_number(&mut self, sender: u32, from: u32) -> Result<Option<u32>, StoreFault>
+        ensures next { K.is_trusted self.new → IfOk result (λ number. IsNextNumber (K.content self.old).kept sender from number) }
+        ensures same { K.is_trusted self.new → K.content self.new ≡ K.content self.old }
+        ensures setup { K.setup self.new ≡ K.setup self.old }
+        ensures sound { K.is_trusted self.new → IsSound K.Keeper self.old → IsSound K.Keeper self.new }
+        ensures before { K.is_trusted self.new → K.is_trusted self.old }
+        ensures lasts { StaysTrusted K.Keeper self.old self.new (is_ok result) }
+        ensures counted { Counted (K.refusals self.old) (K.refusals self.new) result }
+    {
+        stored::next_number(&mut self.keeper, sender, from)
+    }
+
+    /// The kept text of a sender's number, or none. The sender is told by its place in the setup. It fails for want of
+    /// memory or of the store alone.
+    pub fn kept_text(&mut self, sender: u32, number: u32) -> Result<Option<MailText>, StoreFault>
+        ensures text { K.is_trusted self.new → IfOk result (λ text. text ≡ get (K.content self.old).kept (sender, number)) }
+        ensures same { K.is_trusted self.new → K.content self.new ≡ K.content self.old }
+        ensures setup { K.setup self.new ≡ K.setup self.old }
+        ensures sound { K.is_trusted self.new → IsSound K.Keeper self.old → IsSound K.Keeper self.new }
+        ensures before { K.is_trusted self.new → K.is_trusted self.old }
+        ensures lasts { StaysTrusted K.Keeper self.old self.new (is_ok result) }
+        ensures counted { Counted (K.refusals self.old) (K.refusals self.new) result }
+    {
+        stored::find(&mut self.keeper, sender, number)
+    }
+}
+
+/// The excuses of two reports.
+fn excuses_in(reports: Option<Reports>) -> Option<Text>
+    ensures { result ≡ option_map (λ reports. reports.excuses) reports }
+{
+    match reports {
+        Some(reports) => Some(reports.excuses),
+        None => None,
+    }
+}
+
+/// The update of two reports.
+fn update_in(reports: Option<Reports>) -> Option<Text>
+    ensures { result ≡ option_map (λ reports. reports.updates) reports }
+{
+    match reports {
+        Some(reports) => Some(reports.updates),
+        None => None,
+    }
+}

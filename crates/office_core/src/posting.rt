@@ -1,0 +1,129 @@
+//! One delivery: a message finds its place free, its own text there, or another.
+#![tactic(auto, using(office_core_orders::proofs::LastFacts::lasting))]
+
+ghost use Rattle.std.specs.Prelude.{is_ok, ◌≡◌, ◌<◌, ◌∷◌, ◌⊎◌, [], Ok, Err, IfOk, IfErr, OnOk, OnErr, bytes_eq, length, if◌then◌else◌};
+ghost use Rattle.std.specs.FinMap.{get};
+ghost use Rattle.office_mail.specs.Kept.{kept_from, place_of, IsPlace, Within};
+ghost use Rattle.office_mail.specs.Lists.{Lists};
+ghost use Rattle.office_mail.specs.Read.{read};
+ghost use Rattle.office_core_orders.specs.Counted.{CountedDelivery};
+ghost use Rattle.office_core_orders.specs.StaysTrusted.{StaysTrusted};
+ghost use Rattle.office_core_facts.specs.Cached.{AreRead};
+ghost use Rattle.office_core_facts.specs.State.{AnswersDelivery, IsOffice, answer_at, answer_to};
+
+use office_core_facts::message_cache::MessageCache;
+use office_core_orders::{DeliverFault, Held, stored};
+use office_mail::{MailFault, Message, Setup, read_message};
+use office_store_keeper::{Keeper, MailText};
+use std::alloc::Global;
+
+/// What is answered where a text is kept already.
+pub fn compare(held: Held, kept: &MailText, text: &[u8]) -> Result<Held, DeliverFault>
+    ensures { result ≡ (if bytes_eq kept.now text.now then Ok held else Err DeliverFault.OtherText) }
+{
+    if kept.as_slice() == text {
+        Ok(held)
+    } else {
+        Err(DeliverFault::OtherText)
+    }
+}
+
+/// Keeps a message under its sender and number where they are free.
+fn post<K: Keeper>(
+    setup: &Setup,
+    keeper: &mut K,
+    message: &Message,
+    text: &MailText,
+) -> Result<Held, DeliverFault>
+    requires read { read setup.now text.now ≡ Ok message.now }
+    requires place { IsPlace setup.now (place_of message.now) }
+    ensures answer { K.is_trusted keeper.new → AnswersDelivery result (answer_at text.now message.now (get (K.content keeper.old).kept (place_of message.now))) }
+    ensures kept { K.is_trusted keeper.new → OnOk result ((K.content keeper.new).kept ≡ kept_from setup.now (K.content keeper.old).kept (text.now ∷ [])) }
+    ensures within { K.is_trusted keeper.new → Within (K.content keeper.old).kept (K.content keeper.new).kept }
+    ensures reports { K.is_trusted keeper.new → (K.content keeper.new).reports ≡ (K.content keeper.old).reports }
+    ensures facts { K.is_trusted keeper.new → (K.content keeper.new).facts ≡ (K.content keeper.old).facts }
+    ensures testing { K.is_trusted keeper.new → K.is_legible keeper.old → (K.content keeper.new).testing ≡ (K.content keeper.old).testing }
+    ensures office { K.is_trusted keeper.new → K.is_legible keeper.old → IsOffice setup.now (K.content keeper.old) → IsOffice setup.now (K.content keeper.new) }
+    ensures err { K.is_trusted keeper.new → OnErr result (K.content keeper.new ≡ K.content keeper.old) }
+    ensures held { IfOk result (λ held. held.sender ≡ message.now.sender) }
+    ensures setup { K.setup keeper.new ≡ K.setup keeper.old }
+    ensures before { K.is_trusted keeper.new → K.is_trusted keeper.old }
+    ensures legible { K.is_trusted keeper.new → K.is_legible keeper.old → K.is_legible keeper.new }
+    ensures lasts { StaysTrusted K.Keeper keeper.old keeper.new (is_ok result) }
+    ensures counted { CountedDelivery (K.refusals keeper.old) (K.refusals keeper.new) result }
+{
+    let held = Held {
+        sender: message.sender,
+        number: message.number,
+    };
+    match stored::find(keeper, held.sender, held.number)? {
+        Some(kept) => compare(held, &kept, text.as_slice()),
+        None => {
+            stored::keep(keeper, held.sender, held.number, text)?;
+            Ok(held)
+        }
+    }
+}
+
+/// A message that was read of a text is cached if it is held, for the run that covers it.
+pub fn hold(cache: &mut MessageCache, held: bool, text: &MailText, message: Message)
+    ensures { (setup : Lists) → read setup text.now ≡ Ok message → AreRead setup cache.old → AreRead setup cache.new }
+{
+    if held {
+        cache.put(text, message);
+    } else {
+        drop(message);
+    }
+}
+
+/// The message that a text is, with a copy of the text that others may share from here on.
+fn read_shared(alloc: Global, setup: &Setup, text: &[u8]) -> Result<(Message, MailText), MailFault>
+    ensures message { IfOk result (λ it. read setup.now text.now ≡ Ok it.0) }
+    ensures text { IfOk result (λ it. it.1 ≡ text.now) }
+    ensures place { IfOk result (λ it. IsPlace setup.now (place_of it.0)) }
+    ensures fault { IfErr result (λ fault. (read setup.now text.now ≡ Err fault) ⊎ (fault ≡ MailFault.NoMemory)) }
+{
+    let message = read_message(alloc, setup, text)?;
+    match MailText::shared(alloc, text) {
+        Ok(text) => Ok((message, text)),
+        Err(_) => {
+            drop(message);
+            Err(MailFault::NoMemory)
+        }
+    }
+}
+
+/// Takes a text: keeps it where it is a message whose sender and number are free. What was read of it is cached then.
+pub fn deliver<K: Keeper>(
+    alloc: Global,
+    setup: &Setup,
+    keeper: &mut K,
+    cache: &mut MessageCache,
+    text: &[u8],
+) -> Result<Held, DeliverFault>
+    ensures answer { K.is_trusted keeper.new → AnswersDelivery result (answer_to setup.now (K.content keeper.old).kept text.now) }
+    ensures kept { K.is_trusted keeper.new → OnOk result ((K.content keeper.new).kept ≡ kept_from setup.now (K.content keeper.old).kept (text.now ∷ [])) }
+    ensures within { K.is_trusted keeper.new → Within (K.content keeper.old).kept (K.content keeper.new).kept }
+    ensures reports { K.is_trusted keeper.new → (K.content keeper.new).reports ≡ (K.content keeper.old).reports }
+    ensures facts { K.is_trusted keeper.new → (K.content keeper.new).facts ≡ (K.content keeper.old).facts }
+    ensures testing { K.is_trusted keeper.new → K.is_legible keeper.old → (K.content keeper.new).testing ≡ (K.content keeper.old).testing }
+    ensures office { K.is_trusted keeper.new → K.is_legible keeper.old → IsOffice setup.now (K.content keeper.old) → IsOffice setup.now (K.content keeper.new) }
+    ensures err { K.is_trusted keeper.new → OnErr result (K.content keeper.new ≡ K.content keeper.old) }
+    ensures place { IfOk result (λ held. held.sender < length setup.now.senders) }
+    ensures cache { AreRead setup.now cache.old → AreRead setup.now cache.new }
+    ensures setup { K.setup keeper.new ≡ K.setup keeper.old }
+    ensures before { K.is_trusted keeper.new → K.is_trusted keeper.old }
+    ensures legible { K.is_trusted keeper.new → K.is_legible keeper.old → K.is_legible keeper.new }
+    ensures lasts { StaysTrusted K.Keeper keeper.old keeper.new (is_ok result) }
+    ensures counted { CountedDelivery (K.refusals keeper.old) (K.refusals keeper.new) result }
+{
+    match read_shared(alloc, setup, text) {
+        Ok((message, text)) => {
+            let answer = post(setup, keeper, &message, &text);
+            hold(cache, answer.is_ok(), &text, message);
+            drop(text);
+            answer
+        }
+        Err(fault) => Err(DeliverFault::Mail(fault)),
+    }
+}

@@ -1,0 +1,86 @@
+-- Steps: no contract of a call that users make rests on this file.
+-- What a store holds, compared with what an office made anew holds.
+use Rattle.std.specs.Prelude.{◌≡◌, ◌≢◌, ℕ, ◌+◌, ◌≤◌, Bool, true, false, length, Option, Some, None, option_map}
+use Rattle.office_mail.specs.Kept.{Kept}
+use Rattle.office_mail.specs.Lists.{Lists}
+use Rattle.office_mail.specs.Runs.{IsReady}
+use Rattle.office_store_keeper.specs.Content.{Content, item_from_one}
+use Rattle.office_store_keeper.specs.FactSet.{rows_in}
+use Rattle.office_store_keeper.specs.MemoryState.{content_of}
+use Rattle.office_store_keeper.specs.declared.values.Reports.{Reports}
+use Rattle.office_core_facts.specs.State.{IsOffice}
+use Rattle.office_core_check.specs.Earlier.{HoldsAfter}
+use Rattle.office_core_check.specs.Reading.{IsFront}
+use Rattle.office_core_check.specs.Whole.{IsForeign, excuses_at, update_at}
+use Rattle.office_core_check.specs.declared.memory.Bounded.{Bounded}
+use Rattle.office_core_check.specs.declared.Checked.{Checked}
+use Rattle.office_core_check.specs.declared.Checked.TheVariants.{Whole, Differs}
+use Rattle.office_core_check.specs.declared.Difference.{Difference}
+use Rattle.office_core_check.specs.declared.Difference.TheVariants.{Mail, RunMail, Excuses, Update, Testing, Facts}
+
+-- the store in memory of an office made anew holds what an office leaves
+abbrev pub IsAnew : Bounded → Type 0
+IsAnew store = IsOffice store.plain.setup (content_of store.plain)
+
+-- the mail of a sender is taken, behind that of the earlier ones; or a text of it isn't a message of its place
+abbrev pub IsTaken : Lists → Kept → ℕ → Kept → Option ℕ → Type 0
+IsTaken setup kept sender front None = IsFront kept (sender + 1) 0 front
+IsTaken setup kept sender front (Some number) = IsForeign setup kept (sender, number)
+
+-- why no office with so many finished runs is made anew of a store's mail: a text isn't a message of its place, or a run isn't ready
+abbrev pub IsUnmade : Lists → Kept → ℕ → Difference → Type 0
+IsUnmade setup kept runs (Mail sender number) = IsForeign setup kept (sender, number)
+IsUnmade setup kept runs (RunMail run) = (1 ≤ run) × (run ≤ runs) × ((front : Kept) × IsFront kept (length setup.senders) 0 front × (IsReady setup front run → ⊥))
+IsUnmade setup kept runs _ = ⊥
+
+-- all mail of the setup's senders is taken, or a text of it isn't a message of its place
+abbrev pub IsAllTaken : Lists → Kept → Kept → Option Difference → Type 0
+IsAllTaken setup kept front None = IsFront kept (length setup.senders) 0 front
+IsAllTaken setup kept front (Some difference) = (runs : ℕ) → IsUnmade setup kept runs difference
+
+-- one of so many runs isn't ready
+abbrev pub IsShort : Lists → Kept → ℕ → Difference → Type 0
+IsShort setup kept runs (RunMail run) = (1 ≤ run) × (run ≤ runs) × (IsReady setup kept run → ⊥)
+IsShort setup kept runs _ = ⊥
+
+-- an office made anew took this front of a store's mail, which is all of the setup's senders; or why no office is made of that mail
+abbrev pub IsMade : Lists → Kept → ℕ → Kept → Option Difference → Type 0
+IsMade setup kept runs front None = IsFront kept (length setup.senders) 0 front
+IsMade setup kept runs front (Some difference) = IsUnmade setup kept runs difference
+
+-- an office made anew took all of a store's mail and finished the runs up to this one; or the store isn't what an office leaves
+abbrev pub IsMadeAfter : Lists → Content → ℕ → Bounded → Bool → Type 0
+IsMadeAfter setup content run office true = HoldsAfter setup content.kept run office
+IsMadeAfter setup content run office false = IsOffice setup content → ⊥
+
+-- how the reports of a run differ, if they do
+abbrev pub IsRunDifference : ℕ → Option Reports → Option Reports → Option Difference → Type 0
+IsRunDifference run these those None = these ≡ those
+IsRunDifference run these those (Some (Excuses k)) = (k ≡ run) × (option_map (λ r. r.excuses) these ≢ option_map (λ r. r.excuses) those)
+IsRunDifference run these those (Some (Update k)) = (k ≡ run) × (option_map (λ r. r.updates) these ≢ option_map (λ r. r.updates) those)
+IsRunDifference run these those (Some _) = ⊥
+
+-- a difference between what two stores hold of so many runs
+abbrev pub IsUnlike : Content → Content → ℕ → Difference → Type 0
+IsUnlike these those runs (Mail sender number) = ⊥
+IsUnlike these those runs (RunMail run) = ⊥
+IsUnlike these those runs (Excuses run) = (1 ≤ run) × (run ≤ runs) × (excuses_at run these.reports ≢ excuses_at run those.reports)
+IsUnlike these those runs (Update run) = (1 ≤ run) × (run ≤ runs) × (update_at run these.reports ≢ update_at run those.reports)
+IsUnlike these those runs Testing = these.testing ≢ those.testing
+IsUnlike these those runs Facts = (these.testing ≡ those.testing) × (rows_in these.facts ≢ rows_in those.facts)
+
+-- the reports of so many runs are the same, or there is a difference
+abbrev pub AreRunsCompared : Content → Content → ℕ → Option Difference → Type 0
+AreRunsCompared these those runs None = (k : ℕ) → 1 ≤ k → k ≤ runs → item_from_one k these.reports ≡ item_from_one k those.reports
+AreRunsCompared these those runs (Some difference) = IsUnlike these those runs difference
+
+-- all is the same, or there is a difference
+abbrev pub IsCompared : Content → Content → ℕ → Option Difference → Type 0
+IsCompared these those runs None =
+    ((k : ℕ) → 1 ≤ k → k ≤ runs → item_from_one k these.reports ≡ item_from_one k those.reports) × (these.testing ≡ those.testing) × (rows_in these.facts ≡ rows_in those.facts)
+IsCompared these those runs (Some difference) = IsUnlike these those runs difference
+
+-- what is found of a store that holds so many runs, by the first difference, if there is one
+abbrev pub found_by : ℕ → Option Difference → Checked
+found_by runs None = Whole runs
+found_by runs (Some difference) = Differs difference

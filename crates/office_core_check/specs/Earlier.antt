@@ -1,0 +1,34 @@
+-- The office in memory that is as an earlier run of a store left it. That there is one is this office's own.
+use Rattle.std.specs.Prelude.{◌≡◌, ℕ, List, length, Option, Some, None}
+use Rattle.office_mail.specs.Kept.{Kept}
+use Rattle.office_mail.specs.Lists.{Lists}
+use Rattle.office_store_keeper.specs.Content.{Content}
+use Rattle.office_store_keeper.specs.MemoryState.{content_of}
+use Rattle.office_core_facts.specs.State.{IsOffice}
+use Rattle.office_core_why.specs.Why.{IsWhyAfter}
+use Rattle.office_core_check.specs.Whole.{IsFinished}
+use Rattle.office_core_check.specs.declared.memory.Bounded.{Bounded}
+
+-- an office holds what one of this setup leaves that took this mail and finished exactly the runs up to run k
+pub record HoldsAfter (setup : Lists) (kept : Kept) (k : ℕ) (office : Bounded) : Type 0 where
+  pub setup_is : office.plain.setup ≡ setup
+  pub kept_is : (content_of office.plain).kept ≡ kept
+  pub finished : length (content_of office.plain).reports ≡ k
+  pub sound : IsOffice office.plain.setup (content_of office.plain)
+
+-- The office as a run of a store left it, over all mail that the store keeps. There is none of a run that isn't finished. Of a finished one
+-- there is none only if the store isn't what an office leaves.
+abbrev pub IsAfter : Lists → Content → ℕ → Option Bounded → Type 0
+IsAfter setup content run None = IsFinished content run → IsOffice setup content → ⊥
+IsAfter setup content run (Some office) = IsFinished content run × HoldsAfter setup content.kept run office
+
+-- What an office with so many finished runs tells of a source for a run: why the source stands where that run left it.
+-- Nothing is told of another run than the last finished one, nor where no run is finished.
+abbrev pub IsToldOfRun : Lists → Kept → ℕ → ℕ → List ℕ → Option (List ℕ) → Type 0
+IsToldOfRun setup kept finished run source None = run ≡ finished → run ≡ 0
+IsToldOfRun setup kept finished run source (Some text) = (run ≡ finished) × IsWhyAfter setup kept run source text
+
+-- why a source stands where a run left it
+abbrev pub IsToldAfter : Lists → Kept → ℕ → List ℕ → Option (List ℕ) → Type 0
+IsToldAfter setup kept run source None = ⊥
+IsToldAfter setup kept run source (Some text) = IsWhyAfter setup kept run source text

@@ -1,0 +1,31 @@
+-- The line that tells what a check of a store found, and the exit status.
+use Rattle.std.specs.Prelude.{ℕ, List, [], ◌∷◌, ◌++◌, codes, decimal}
+use Rattle.office_mail.specs.Lists.{Lists}
+use Rattle.office_core_orders.specs.Replies.{name_at}
+use Rattle.office_core_check.specs.declared.Checked.{Checked}
+use Rattle.office_core_check.specs.declared.Checked.TheVariants.{Whole, Differs}
+use Rattle.office_core_check.specs.declared.Difference.{Difference}
+use Rattle.office_core_check.specs.declared.Difference.TheVariants.{Mail, RunMail, Excuses, Update, Testing, Facts}
+
+-- a difference in words
+abbrev pub difference_words : Lists → Difference → List ℕ
+difference_words setup (Mail sender number) = codes "mail " ++ name_at setup sender ++ 32 ∷ decimal number
+difference_words setup (RunMail run) = codes "run " ++ decimal run ++ codes " mail"
+difference_words setup (Excuses run) = codes "run " ++ decimal run ++ codes " excuses"
+difference_words setup (Update run) = codes "run " ++ decimal run ++ codes " update"
+difference_words setup Testing = codes "testing"
+difference_words setup Facts = codes "facts"
+
+-- what was found, in words
+abbrev pub checked_words : Lists → Checked → List ℕ
+checked_words setup (Whole runs) = codes "whole " ++ decimal runs ++ codes " runs"
+checked_words setup (Differs difference) = difference_words setup difference
+
+-- the line that tells it
+unfoldable pub checked_text : Lists → Checked → List ℕ
+checked_text setup checked = checked_words setup checked ++ 10 ∷ []
+
+-- the exit status: 0 where the store is whole, 1 where it isn't
+abbrev pub status_of_check : Checked → ℕ
+status_of_check (Whole runs) = 0
+status_of_check (Differs difference) = 1

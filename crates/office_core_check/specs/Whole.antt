@@ -1,0 +1,47 @@
+-- What a check finds of a store: that it holds what an office leaves, or where it doesn't. That a store is checked is this office's own.
+use Rattle.std.specs.Prelude.{◌≡◌, ◌≢◌, ℕ, ◌<◌, ◌≤◌, List, length, Option, Some, IsSome, option_map}
+use Rattle.std.specs.FinMap.{get}
+use Rattle.office_mail.specs.Kept.{Kept, Place, placed}
+use Rattle.office_mail.specs.Lists.{Lists}
+use Rattle.office_mail.specs.Runs.{IsReady}
+use Rattle.office_store_keeper.specs.Content.{Content, item_from_one}
+use Rattle.office_store_keeper.specs.declared.values.Reports.{Reports}
+use Rattle.office_core_facts.specs.Outcome.{reports_of, testing_after}
+use Rattle.office_core_facts.specs.State.{IsOffice, KeepsFacts}
+use Rattle.office_core_check.specs.declared.Checked.{Checked}
+use Rattle.office_core_check.specs.declared.Checked.TheVariants.{Whole, Differs}
+use Rattle.office_core_check.specs.declared.Difference.{Difference}
+use Rattle.office_core_check.specs.declared.Difference.TheVariants.{Mail, RunMail, Excuses, Update, Testing, Facts}
+
+-- all kept mail is of senders of the setup
+abbrev pub AreOfSenders : Lists → Kept → Type 0
+AreOfSenders setup kept = (p : Place) → IsSome (get kept p) → p.0 < length setup.senders
+
+-- the text that is kept at a place isn't a message of that place
+abbrev pub IsForeign : Lists → Kept → Place → Type 0
+IsForeign setup kept p = (text : List ℕ) × (get kept p ≡ Some text) × (placed setup text ≢ Some (p, text))
+
+-- the excuses of a run, and its update, of some reports
+abbrev pub excuses_at : ℕ → List Reports → Option (List ℕ)
+excuses_at run reports = option_map (λ r. r.excuses) (item_from_one run reports)
+
+abbrev pub update_at : ℕ → List Reports → Option (List ℕ)
+update_at run reports = option_map (λ r. r.updates) (item_from_one run reports)
+
+-- a run is one of the finished ones
+abbrev pub IsFinished : Content → ℕ → Type 0
+IsFinished content run = (1 ≤ run) × (run ≤ length content.reports)
+
+-- where a store doesn't hold what an office with its mail leaves: by a text, a run that isn't ready, a report, testing, or the facts
+abbrev pub IsDifference : Lists → Content → Difference → Type 0
+IsDifference setup content (Mail sender number) = IsForeign setup content.kept (sender, number)
+IsDifference setup content (RunMail run) = IsFinished content run × (IsReady setup content.kept run → ⊥)
+IsDifference setup content (Excuses run) = IsFinished content run × (excuses_at run content.reports ≢ Some (reports_of setup content.kept run).excuses)
+IsDifference setup content (Update run) = IsFinished content run × (update_at run content.reports ≢ Some (reports_of setup content.kept run).updates)
+IsDifference setup content Testing = content.testing ≢ testing_after setup content.kept (length content.reports)
+IsDifference setup content Facts = KeepsFacts setup content → ⊥
+
+-- what is found of a store
+abbrev pub IsFound : Lists → Content → Checked → Type 0
+IsFound setup content (Whole runs) = (runs ≡ length content.reports) × IsOffice setup content
+IsFound setup content (Differs difference) = IsDifference setup content difference

@@ -1,0 +1,107 @@
+//! Whether a store holds what an office leaves.
+#![tactic(auto, using(office_core_orders::proofs::LastFacts::lasting))]
+
+ghost use Rattle.std.specs.Prelude.{◌≡◌, None, IfOk, is_ok, length};
+ghost use Rattle.office_store_keeper.specs.MemoryState.{content_of};
+ghost use Rattle.office_core_orders.specs.Counted.{Counted};
+ghost use Rattle.office_core_orders.specs.ReadsStore.{ReadsStore};
+ghost use Rattle.office_core_orders.specs.StaysTrusted.{StaysTrusted};
+ghost use Rattle.office_core_facts.specs.State.{IsOffice};
+ghost use Rattle.office_core_check.specs.Comparing.{IsAnew, IsMade, found_by};
+ghost use Rattle.office_core_check.specs.Reading.{IsFront};
+ghost use Rattle.office_core_check.specs.Whole.{AreOfSenders, IsFound};
+ghost use Rattle.office_core_check.specs.declared.Checked.TheVariants.{Whole};
+
+use crate::comparing::{compare, in_memory};
+use crate::delivering::{make_anew, new_office};
+use crate::memory::Bounded;
+use crate::{Checked, Difference};
+use office_core::Office;
+use office_core_orders::StoreFault;
+use office_mail::Setup;
+use office_store_keeper::Keeper;
+use std::alloc::Global;
+
+/// What is found of a store that holds so many runs, by the first difference, if there is one.
+fn checked_by(runs: u32, difference: Option<Difference>) -> Checked
+    ensures { result ≡ found_by runs difference }
+{
+    match difference {
+        Some(difference) => Checked::Differs(difference),
+        None => Checked::Whole { runs },
+    }
+}
+
+/// What is found of a store that holds so many runs, beside an office made anew that took its mail. It wants memory where that
+/// office finished fewer.
+fn check_made<K: Keeper>(
+    keeper: &mut K,
+    made: &mut Bounded,
+    runs: u32,
+) -> Result<Checked, StoreFault>
+    ensures found { K.is_trusted keeper.new → IsAnew made.old → IsMade made.old.plain.setup (K.content keeper.old).kept runs (content_of made.old.plain).kept None → runs ≡ length (K.content keeper.old).reports →
+        AreOfSenders made.old.plain.setup (K.content keeper.old).kept → IfOk result (IsFound made.old.plain.setup (K.content keeper.old)) }
+    ensures looks { ReadsStore K.Keeper keeper.old keeper.new result }
+{
+    if in_memory(made.finished())? != runs {
+        return Err(StoreFault::NoMemory);
+    }
+    let difference = compare(keeper, made, runs)?;
+    Ok(checked_by(runs, difference))
+}
+
+/// What is found of a store that holds so many runs, beside what was made anew of its mail, or by why nothing was.
+fn check_beside<K: Keeper>(
+    keeper: &mut K,
+    made: &mut Bounded,
+    unmade: Option<Difference>,
+    runs: u32,
+) -> Result<Checked, StoreFault>
+    ensures found { K.is_trusted keeper.new → IsAnew made.old → IsMade made.old.plain.setup (K.content keeper.old).kept runs (content_of made.old.plain).kept unmade → runs ≡ length (K.content keeper.old).reports →
+        AreOfSenders made.old.plain.setup (K.content keeper.old).kept → IfOk result (IsFound made.old.plain.setup (K.content keeper.old)) }
+    ensures looks { ReadsStore K.Keeper keeper.old keeper.new result }
+{
+    match unmade {
+        Some(difference) => Ok(Checked::Differs(difference)),
+        None => check_made(keeper, made, runs),
+    }
+}
+
+/// What is found of a store that holds so many runs, beside an office made anew of its mail.
+fn check_anew<K: Keeper>(
+    keeper: &mut K,
+    office: Office<Bounded>,
+    runs: u32,
+) -> Result<Checked, StoreFault>
+    ensures found { K.is_trusted keeper.new → IsAnew office → IsFront (K.content keeper.old).kept 0 0 (content_of office.plain).kept → runs ≡ length (K.content keeper.old).reports →
+        AreOfSenders office.plain.setup (K.content keeper.old).kept → IfOk result (IsFound office.plain.setup (K.content keeper.old)) }
+    ensures looks { ReadsStore K.Keeper keeper.old keeper.new result }
+{
+    let mut office = office;
+    let unmade = make_anew(keeper, &mut office, runs);
+    let mut made = office.into_keeper();
+    check_beside(keeper, &mut made, unmade?, runs)
+}
+
+/// Makes all finished runs of a store anew, in memory, from the mail that it keeps, and finds where it differs first from what
+/// an office leaves that took this mail: a text that isn't a message of its sender and number, a run that isn't ready, the
+/// reports of each run, testing, or the rows of facts. The store stays as it is.
+///
+/// It fails for want of memory or of the store alone.
+pub fn check<K: Keeper>(alloc: Global, setup: &Setup, keeper: &mut K) -> Result<Checked, StoreFault>
+    requires lists { K.setup keeper.old ≡ setup.now }
+    // What an office leaves is found whole.
+    ensures whole { K.is_trusted keeper.new → IsOffice setup.now (K.content keeper.old) → IfOk result (λ checked. checked ≡ Whole (length (K.content keeper.old).reports)) }
+    // Of a store whose mail is of senders of the setup what is found is so: whole is only what an office leaves.
+    ensures found { K.is_trusted keeper.new → AreOfSenders setup.now (K.content keeper.old).kept → IfOk result (IsFound setup.now (K.content keeper.old)) }
+    ensures same { K.is_trusted keeper.new → K.content keeper.new ≡ K.content keeper.old }
+    ensures setup { K.setup keeper.new ≡ K.setup keeper.old }
+    ensures before { K.is_trusted keeper.new → K.is_trusted keeper.old }
+    ensures legible { K.is_trusted keeper.new → K.is_legible keeper.old → K.is_legible keeper.new }
+    ensures lasts { StaysTrusted K.Keeper keeper.old keeper.new (is_ok result) }
+    ensures counted { Counted (K.refusals keeper.old) (K.refusals keeper.new) result }
+{
+    let runs = keeper.finished()?;
+    let office = new_office(alloc, setup, runs)?;
+    check_anew(keeper, office, runs)
+}

@@ -1,0 +1,146 @@
+//! An office in memory as an earlier run of a store left it, and what offices tell of a run.
+#![tactic(auto, using(office_core_orders::proofs::LastFacts::lasting))]
+
+ghost use Rattle.std.specs.Prelude.{◌≡◌, ◌↔◌, ◌≤◌, ℕ, List, Option, Some, IsTrue, is_ok, IfOk, IfErr, OnOk, length};
+ghost use Rattle.office_mail.specs.Lists.{Lists};
+ghost use Rattle.office_store_keeper.specs.Content.{Content};
+ghost use Rattle.office_store_keeper.specs.MemoryState.{content_of};
+ghost use Rattle.office_core_orders.specs.Counted.{Counted};
+ghost use Rattle.office_core_orders.specs.declared.faults.StoreFault.TheVariants as fault;
+ghost use Rattle.office_core_orders.specs.ReadsStore.{ReadsStore};
+ghost use Rattle.office_core_orders.specs.StaysTrusted.{StaysTrusted};
+ghost use Rattle.office_core_facts.specs.State.{IsSound, state_of};
+ghost use Rattle.office_core_check.specs.Comparing.{IsAnew, IsMadeAfter};
+ghost use Rattle.office_core_check.specs.Earlier.{IsAfter, IsToldAfter, IsToldOfRun};
+ghost use Rattle.office_core_check.specs.Reading.{IsFront};
+ghost use Rattle.office_core_check.specs.Whole.{AreOfSenders, IsFinished};
+ghost use Rattle.office_core_check.specs.declared.memory.Bounded.{Bounded};
+
+use crate::delivering::{make_anew, new_office};
+use crate::memory::Bounded;
+use deb_control::Text;
+use office_core::Office;
+use office_core_orders::StoreFault;
+use office_mail::Setup;
+use office_store_keeper::Keeper;
+use std::alloc::Global;
+
+/// Whether a run is one of so many finished ones.
+fn is_finished(run: u32, finished: u32) -> bool
+    ensures { IsTrue result ↔ ((1 ≤ run) × (run ≤ finished)) }
+{
+    1 <= run && run <= finished
+}
+
+/// Looks whether an office made anew has finished so many runs. It wants memory where it hasn't.
+fn has_finished(office: &mut Office<Bounded>, runs: u32) -> Result<(), StoreFault>
+    ensures all { IsAnew office.old → OnOk result (length (content_of office.new.plain).reports ≡ runs) }
+    ensures same { content_of office.new.plain ≡ content_of office.old.plain }
+    ensures setup { office.new.plain.setup ≡ office.old.plain.setup }
+    ensures fault { IfErr result (λ f. f ≡ fault.NoMemory) }
+{
+    match office.finished() {
+        Ok(finished) if finished == runs => Ok(()),
+        _ => Err(StoreFault::NoMemory),
+    }
+}
+
+/// Delivers the kept mail of a store to an office made anew, which finishes its first runs up to this one, and gives whether
+/// an office can. It wants memory where fewer are finished.
+fn make_after<K: Keeper>(
+    keeper: &mut K,
+    office: &mut Office<Bounded>,
+    run: u32,
+) -> Result<bool, StoreFault>
+    ensures made { K.is_trusted keeper.new → IsAnew office.old → IsFront (K.content keeper.old).kept 0 0 (content_of office.old.plain).kept → IsFinished (K.content keeper.old) run →
+        AreOfSenders office.old.plain.setup (K.content keeper.old).kept → IfOk result (IsMadeAfter office.old.plain.setup (K.content keeper.old) run office.new) }
+    ensures looks { ReadsStore K.Keeper keeper.old keeper.new result }
+{
+    let difference = make_anew(keeper, office, run)?;
+    if difference.is_some() {
+        return Ok(false);
+    }
+    has_finished(office, run)?;
+    Ok(true)
+}
+
+/// An office made anew, once it took the kept mail of a store and finished its first runs up to this one; none where no
+/// office does that.
+fn made_after<K: Keeper>(
+    keeper: &mut K,
+    office: Office<Bounded>,
+    run: u32,
+) -> Result<Option<Office<Bounded>>, StoreFault>
+    ensures after { K.is_trusted keeper.new → IsAnew office → IsFront (K.content keeper.old).kept 0 0 (content_of office.plain).kept → IsFinished (K.content keeper.old) run →
+        AreOfSenders office.plain.setup (K.content keeper.old).kept → IfOk result (IsAfter office.plain.setup (K.content keeper.old) run) }
+    ensures looks { ReadsStore K.Keeper keeper.old keeper.new result }
+{
+    let mut office = office;
+    if make_after(keeper, &mut office, run)? {
+        Ok(Some(office))
+    } else {
+        Ok(None)
+    }
+}
+
+/// An office in memory as a finished run of a store left it: with the same setup, it took all mail that the store keeps, and
+/// finished exactly the runs up to this one. There is none where the run isn't finished, nor where the store isn't what an
+/// office with its mail leaves and no office can take that mail and finish so many runs. The store stays as it is.
+///
+/// It fails for want of memory or of the store alone.
+pub fn office_after<K: Keeper>(
+    alloc: Global,
+    setup: &Setup,
+    keeper: &mut K,
+    run: u32,
+) -> Result<Option<Office<Bounded>>, StoreFault>
+    // An office keeps mail of senders of its setup alone.
+    ensures after { K.is_trusted keeper.new → AreOfSenders setup.now (K.content keeper.old).kept → IfOk result (IsAfter setup.now (K.content keeper.old) run) }
+    ensures same { K.is_trusted keeper.new → K.content keeper.new ≡ K.content keeper.old }
+    ensures setup { K.setup keeper.new ≡ K.setup keeper.old }
+    ensures before { K.is_trusted keeper.new → K.is_trusted keeper.old }
+    ensures legible { K.is_trusted keeper.new → K.is_legible keeper.old → K.is_legible keeper.new }
+    ensures lasts { StaysTrusted K.Keeper keeper.old keeper.new (is_ok result) }
+    ensures counted { Counted (K.refusals keeper.old) (K.refusals keeper.new) result }
+{
+    let finished = keeper.finished()?;
+    if is_finished(run, finished) {
+        let office = new_office(alloc, setup, run)?;
+        made_after(keeper, office, run)
+    } else {
+        Ok(None)
+    }
+}
+
+/// Why a source stands where a run left it, by an office of which that is the last finished run. Nothing is told by any
+/// other office, nor where no run is finished: so the last run of a store is told over the store, and an earlier one
+/// over what `office_after` gives.
+///
+/// It fails for want of memory or of the store alone.
+pub fn why_of_run<K: Keeper>(
+    office: &mut Office<K>,
+    run: u32,
+    source: &str,
+) -> Result<Option<Text>, StoreFault>
+    ensures why { K.is_trusted office.new → IsSound K.Keeper office.old → IfOk result (IsToldOfRun (K.setup office.old) (K.content office.old).kept (state_of K.Keeper office.old).finished run source.now) }
+    ensures same { K.is_trusted office.new → K.content office.new ≡ K.content office.old }
+    ensures setup { K.setup office.new ≡ K.setup office.old }
+    ensures sound { K.is_trusted office.new → IsSound K.Keeper office.old → IsSound K.Keeper office.new }
+    ensures before { K.is_trusted office.new → K.is_trusted office.old }
+    ensures lasts { StaysTrusted K.Keeper office.old office.new (is_ok result) }
+    ensures counted { Counted (K.refusals office.old) (K.refusals office.new) result }
+{
+    let finished = office.finished()?;
+    if finished == run {
+        office.why_text(source)
+    } else {
+        Ok(None)
+    }
+}
+
+/// What an office that is as a run left it tells of a source for that run is why the source stands where that run left
+/// it.
+pub fn told_after_run()
+    ensures { (setup : Lists) (content : Content) (run : ℕ) (office : Bounded) (source : List ℕ) (text : Option (List ℕ)) → IsAfter setup content run (Some office) →
+        IsToldOfRun office.plain.setup (content_of office.plain).kept (length (content_of office.plain).reports) run source text → IsToldAfter setup content.kept run source text }
+{}

@@ -1,0 +1,18 @@
+use Rattle.std.proofs.Common.{◌-◌, ◌≤◌, get_or, take}
+use Rattle.testing_rules_model.specs.declared.fact_row.FactRow.{FactRow}
+use Rattle.testing_rules_model.specs.FactLists.{FactLists}
+use Rattle.office_mail.specs.Kept.{Kept}
+use Rattle.office_core_facts.specs.Known.{said_all}
+use Rattle.office_core_facts.specs.Taking.{AreLettersOf, HavePutBack}
+use Rattle.office_core_facts.proofs.restoring.put_letters.Given as goal
+
+abbrev pub invariant-messages : goal.invariant-messages
+invariant-messages l = record {
+  from : l.start ≤ l.place;
+  within : l.place ≤ l.end;
+  back : (kept : Kept) (d : FactRow) (first : FactLists) → AreLettersOf kept (get_or l.rows l.start d).sender l.letters
+      → HavePutBack (said_all l.setup kept) (take l.start l.rows) first l.fn.facts → HavePutBack (said_all l.setup kept) (take l.place l.rows) first l.facts;
+}
+
+abbrev pub decreases-messages : goal.decreases-messages
+decreases-messages l = l.end - l.place

@@ -1,0 +1,32 @@
+use Rattle.std.proofs.Common.{◌≡◌, ◌+◌, ◌++◌, List, ap, subst, ◌∙◌, arith}
+use Rattle.std.proofs.lemmas.Result.{on_ok_weaker}
+use Rattle.testing_rules_model.specs.Covered.{Covered}
+use Rattle.office_store_keeper.specs.declared.values.Letter.{Letter}
+use Rattle.office_store_keeper.specs.Content.{Content, letters_within}
+use Rattle.office_core_facts.specs.Taking.{TookAgain}
+use Rattle.office_core_facts.specs.Walk.{said_by, said_in}
+use Rattle.office_core_facts.proofs.SaidLetters.{letters_own, said_block}
+use Rattle.office_core_facts.proofs.retaking.retake_block.Goals as goal
+
+pub returns-clause-again : goal.returns-clause-again
+returns-clause-again g c = λ trusted.
+    let setup = c.args.setup.now in
+    let content : Content = g.K.Keeper.content c.args.keeper.now in
+    let letters : List Letter = c.deref.result.now in
+    let loaded : letters ≡ letters_within content.kept c.args.sender (c.args.done + 1) c.args.end = c.deref.ensures.value ∙ c.in_ok-letters.ensures.loaded trusted in
+    on_ok_weaker c.retake_letters.result
+    (λ again first s h.
+    let before : Covered = said_by setup content.kept c.args.sender c.args.done ++ s in
+    subst (λ (l : Covered). TookAgain c.args.names.now l first c.retake_letters.new.facts)
+    (ap (λ (ls : List Letter). said_in setup c.args.sender ls before) loaded ∙ said_block setup content.kept c.args.sender c.args.done c.args.end s (omega (arith, c.requires.on)))
+    (again first before h))
+    c.retake_letters.ensures.again
+
+pub returns-clause-way : goal.returns-clause-way
+returns-clause-way g c = λ trusted.
+    let content : Content = g.K.Keeper.content c.args.keeper.now in
+    let letters : List Letter = c.deref.result.now in
+    let loaded : letters ≡ letters_within content.kept c.args.sender (c.args.done + 1) c.args.end = c.deref.ensures.value ∙ c.in_ok-letters.ensures.loaded trusted in
+    on_ok_weaker c.retake_letters.result
+    (λ way was. way content (letters_own content.kept c.args.sender (c.args.done + 1) c.args.end letters loaded) was)
+    c.retake_letters.ensures.way

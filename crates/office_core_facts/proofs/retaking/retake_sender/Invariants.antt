@@ -1,0 +1,22 @@
+use Rattle.std.proofs.Common.{◌≤◌, ◌-◌, ◌++◌}
+use Rattle.testing_rules_model.specs.Covered.{Covered}
+use Rattle.testing_rules_model.specs.FactLists.{FactLists}
+use Rattle.office_core_facts.specs.Known.{AreUnderWay}
+use Rattle.office_core_facts.specs.Taking.{TookAgain}
+use Rattle.office_core_facts.specs.Walk.{said_by}
+use Rattle.office_core_orders.proofs.LookFacts.{Looked}
+use Rattle.office_core_facts.proofs.retaking.retake_sender.Given as goal
+
+abbrev pub invariant-loads : goal.invariant-loads
+invariant-loads g l =
+    let trusted = g.K.Keeper.is_trusted in
+    let content = g.K.Keeper.content in
+    record {
+      within : l.done ≤ l.cover;
+      again : trusted l.keeper → (first : FactLists) (s : Covered) → TookAgain l.names s first l.fn.facts → TookAgain l.names (said_by l.setup (content l.fn.keeper).kept l.sender l.done ++ s) first l.facts;
+      way : trusted l.keeper → AreUnderWay l.setup (content l.fn.keeper) l.fn.facts → AreUnderWay l.setup (content l.fn.keeper) l.facts;
+      looks : Looked g.K.Keeper l.fn.keeper l.keeper;
+    }
+
+abbrev pub decreases-loads : goal.decreases-loads
+decreases-loads g l = l.cover - l.done

@@ -1,0 +1,77 @@
+//! What is known of the finished runs, in a copy that is taken on as far as covers go: what is known stays as it is.
+#![tactic(auto, using(office_core_orders::proofs::LastFacts::lasting))]
+
+ghost use Rattle.std.specs.Prelude.{◌≡◌, ◌≤◌, ◌<◌, ℕ, IfOk, IfErr, IfSome, length, slice_index};
+ghost use Rattle.testing_rules_model.specs.StandsFor.{StandsFor};
+ghost use Rattle.office_mail.specs.Runs.{cover_of, orders_to};
+ghost use Rattle.office_core_orders.specs.ReadsStore.{ReadsStore};
+ghost use Rattle.office_core_facts.specs.Known.{AreKnown};
+ghost use Rattle.office_core_facts.specs.State.{IsOffice};
+ghost use Rattle.office_core_facts.specs.Walk.{said_within};
+
+use crate::covered::{KnownFacts, is_covered};
+use crate::finished::{facts_within, take_to};
+use deb_control::NoMemory;
+use office_core_orders::StoreFault;
+use office_mail::{RunOrder, Setup};
+use office_store_keeper::Keeper;
+use std::alloc::Global;
+
+/// A copy of what is known.
+fn copy_known(alloc: Global, known: &KnownFacts) -> Result<KnownFacts, NoMemory>
+    ensures facts { IfOk result (λ copy. copy.facts ≡ known.now.facts) }
+    ensures taken { IfOk result (λ copy. copy.taken.items ≡ known.now.taken.items) }
+{
+    let mut taken = Vec::new(alloc);
+    taken.extend_from_slice(&known.taken)?;
+    let facts = known.facts.copy()?;
+    Ok(KnownFacts { facts, taken })
+}
+
+/// A copy of what is known of the finished runs, taken on up to these covers. Where what is known goes further than these
+/// orders cover, it is what the store keeps, taken on so.
+fn copied_to<K: Keeper>(
+    alloc: Global,
+    setup: &Setup,
+    keeper: &mut K,
+    known: &KnownFacts,
+    orders: &[RunOrder],
+    covers: &[u32],
+) -> Result<KnownFacts, StoreFault>
+    requires ahead { (s : ℕ) → s < length setup.now.senders → cover_of orders.now s ≤ slice_index covers.now s }
+    ensures stand { K.is_trusted keeper.new → IsOffice setup.now (K.content keeper.old) → orders.now ≡ orders_to setup.now (K.content keeper.old).kept (length (K.content keeper.old).reports)
+        → AreKnown setup.now (K.content keeper.old) known.now
+        → IfOk result (λ left. StandsFor left.facts (said_within setup.now (K.content keeper.old).kept (slice_index covers.now) (length setup.now.senders)) (K.content keeper.old).testing) }
+    ensures looks { ReadsStore K.Keeper keeper.old keeper.new result }
+{
+    if !is_covered(&known.taken, orders) {
+        return facts_within(alloc, setup, keeper, orders, covers);
+    }
+    let mut copy = copy_known(alloc, known)?;
+    take_to(alloc, setup, keeper, &mut copy, covers)?;
+    Ok(copy)
+}
+
+/// The facts up to these covers, which aren't below those of the finished runs, of which these are the orders: by a copy of
+/// what is known of these runs, or else by what the store keeps.
+///
+/// It fails for want of memory or of the store alone.
+pub fn known_to<K: Keeper>(
+    alloc: Global,
+    setup: &Setup,
+    keeper: &mut K,
+    known: &Option<KnownFacts>,
+    orders: &[RunOrder],
+    covers: &[u32],
+) -> Result<KnownFacts, StoreFault>
+    requires ahead { (s : ℕ) → s < length setup.now.senders → cover_of orders.now s ≤ slice_index covers.now s }
+    ensures stand { K.is_trusted keeper.new → IsOffice setup.now (K.content keeper.old) → orders.now ≡ orders_to setup.now (K.content keeper.old).kept (length (K.content keeper.old).reports)
+        → IfSome known.now (λ known. AreKnown setup.now (K.content keeper.old) known)
+        → IfOk result (λ left. StandsFor left.facts (said_within setup.now (K.content keeper.old).kept (slice_index covers.now) (length setup.now.senders)) (K.content keeper.old).testing) }
+    ensures looks { ReadsStore K.Keeper keeper.old keeper.new result }
+{
+    match known {
+        Some(known) => copied_to(alloc, setup, keeper, known, orders, covers),
+        None => facts_within(alloc, setup, keeper, orders, covers),
+    }
+}

@@ -1,0 +1,396 @@
+//! The facts of a run's covered messages: taken from the store, on from those of the run before.
+#![tactic(auto, using(office_core_orders::proofs::LastFacts::lasting))]
+
+ghost use Rattle.std.specs.Prelude.{◌≡◌, ◌≢◌, ℕ, ◌+◌, ◌<◌, ◌≤◌, ◌++◌, [], Contains, Some, IsTrue, IfOk, IfErr, IfSome, OnOk, length, option_to_list, slice_index};
+ghost use Rattle.std.specs.FinMap.{get};
+ghost use Rattle.testing_rules_model.specs.FactLists.{no_facts};
+ghost use Rattle.testing_rules_model.specs.FactRows.{rows_of};
+ghost use Rattle.testing_rules_model.specs.declared.facts.UploadIn.{UploadIn};
+ghost use Rattle.testing_rules_model.specs.Covered.{Covered, CoveredItem, upload_of};
+ghost use Rattle.testing_rules_model.specs.StandsFor.{StandsFor, StandsForNone};
+ghost use Rattle.testing_rules_facts.specs.Uploads.{AreByMessage};
+ghost use Rattle.testing_rules_model.specs.Suite.{Suite};
+ghost use Rattle.office_mail.specs.Runs.{cover_of, orders_to};
+ghost use Rattle.office_store_keeper.specs.Content.{Content};
+ghost use Rattle.office_store_keeper.specs.FactSet.{rows_in};
+ghost use Rattle.office_core_facts.specs.Cached.{AreRead};
+ghost use Rattle.office_core_facts.specs.Known.{AreKnown, AreUnderWay, said_all};
+ghost use Rattle.office_core_orders.specs.ReadsStore.{ReadsStore};
+ghost use Rattle.office_core_facts.specs.Outcome.{item_at};
+ghost use Rattle.office_core_orders.specs.Ready.{FirstOrders};
+ghost use Rattle.office_core_facts.specs.State.{IsOffice};
+ghost use Rattle.office_core_facts.specs.Taking.{AreLettersOf, HavePutBack};
+ghost use Rattle.office_core_facts.specs.Walk.{said_by, said_in, said_within};
+
+use crate::message_cache::MessageCache;
+use crate::restoring::put_back;
+use crate::taking::{cover_of, take_body};
+use office_core_orders::orders::make_room;
+use office_core_orders::stored::{BLOCK, block_end};
+use office_core_orders::{StoreFault, stored};
+use office_mail::{MailFault, RunOrder, Setup};
+use office_store_keeper::{Keeper, Letter};
+use std::alloc::Global;
+use testing_rules_facts::Facts;
+use testing_rules_model::FactRow;
+
+/// Facts of what each sender says up to a number, and these numbers: 0 for a sender that has none.
+#[derive(Drop)]
+pub struct KnownFacts {
+    pub facts: Facts,
+    pub taken: Vec<u32>,
+}
+
+/// The facts of the messages that these orders cover. What was known before is taken over, or else what the store
+/// keeps, so that each message is taken by the facts once and not at each run. What is cached of it is taken out.
+pub fn facts<K: Keeper>(
+    alloc: Global,
+    setup: &Setup,
+    keeper: &mut K,
+    cache: &mut MessageCache,
+    before: Option<KnownFacts>,
+    orders: &[RunOrder],
+) -> Result<KnownFacts, StoreFault>
+    requires known { K.is_trusted keeper.old → IfSome before (λ known. AreKnown setup.now (K.content keeper.old) known) }
+    requires cache { AreRead setup.now cache.old }
+    ensures taken { IfOk result (λ known. (s : ℕ) → s < length setup.now.senders → slice_index known.taken.items s ≡ cover_of orders.now s) }
+    ensures way { K.is_trusted keeper.new → IfOk result (λ known. AreUnderWay setup.now (K.content keeper.old) known.facts) }
+    ensures stand { K.is_trusted keeper.new → IsOffice setup.now (K.content keeper.old) → FirstOrders setup.now (K.content keeper.old).kept orders.now → length orders.now ≡ length (K.content keeper.old).reports + 1
+        → IfOk result (λ known. StandsFor known.facts (said_within setup.now (K.content keeper.old).kept (cover_of orders.now) (length setup.now.senders)) (K.content keeper.old).testing) }
+    ensures cache { AreRead setup.now cache.new }
+    ensures looks { ReadsStore K.Keeper keeper.old keeper.new result }
+{
+    let mut known = known_before(alloc, setup, keeper, before, orders)?;
+    'senders: for sender in 0..setup.senders().len() {
+        let cover = cover_of(orders, sender);
+        take_on(
+            alloc,
+            setup,
+            keeper,
+            cache,
+            &mut known,
+            sender as u32,
+            cover,
+        )?;
+    }
+    Ok(known)
+}
+
+/// What is known of the finished runs: that of the run before, where it goes no further than these orders cover, and
+/// else what the store keeps.
+fn known_before<K: Keeper>(
+    alloc: Global,
+    setup: &Setup,
+    keeper: &mut K,
+    before: Option<KnownFacts>,
+    orders: &[RunOrder],
+) -> Result<KnownFacts, StoreFault>
+    requires known { K.is_trusted keeper.old → IfSome before (λ known. AreKnown setup.now (K.content keeper.old) known) }
+    ensures within { IfOk result (λ known. (s : ℕ) → slice_index known.taken.items s ≤ cover_of orders.now s) }
+    ensures way { K.is_trusted keeper.new → IfOk result (λ known. AreUnderWay setup.now (K.content keeper.old) known.facts) }
+    ensures stand { K.is_trusted keeper.new → IsOffice setup.now (K.content keeper.old) → FirstOrders setup.now (K.content keeper.old).kept orders.now → length orders.now ≡ length (K.content keeper.old).reports + 1
+        → IfOk result (λ known. StandsFor known.facts (said_within setup.now (K.content keeper.old).kept (slice_index known.taken.items) (length setup.now.senders)) (K.content keeper.old).testing) }
+    ensures looks { ReadsStore K.Keeper keeper.old keeper.new result }
+{
+    match known_within(before, orders) {
+        Some(known) => Ok(known),
+        None => begin(alloc, setup, keeper, orders),
+    }
+}
+
+/// What is known, where it goes no further than these orders cover: so it is from one run to the next, which covers
+/// more.
+fn known_within(before: Option<KnownFacts>, orders: &[RunOrder]) -> Option<KnownFacts>
+    ensures same { IfSome result (λ known. before ≡ Some known) }
+    ensures within { IfSome result (λ known. (s : ℕ) → slice_index known.taken.items s ≤ cover_of orders.now s) }
+{
+    let known = before?;
+    if is_covered(&known.taken, orders) {
+        Some(known)
+    } else {
+        drop(known);
+        None
+    }
+}
+
+/// What the store keeps of the finished runs, whose orders are all but the last of these. Where its rows aren't what
+/// kept mail says, nothing is known.
+fn begin<K: Keeper>(
+    alloc: Global,
+    setup: &Setup,
+    keeper: &mut K,
+    orders: &[RunOrder],
+) -> Result<KnownFacts, StoreFault>
+    ensures within { IfOk result (λ known. (s : ℕ) → slice_index known.taken.items s ≤ cover_of orders.now s) }
+    ensures way { K.is_trusted keeper.new → IfOk result (λ known. AreUnderWay setup.now (K.content keeper.old) known.facts) }
+    ensures stand { K.is_trusted keeper.new → IsOffice setup.now (K.content keeper.old) → FirstOrders setup.now (K.content keeper.old).kept orders.now → length orders.now ≡ length (K.content keeper.old).reports + 1
+        → IfOk result (λ known. StandsFor known.facts (said_within setup.now (K.content keeper.old).kept (slice_index known.taken.items) (length setup.now.senders)) (K.content keeper.old).testing) }
+    ensures looks { ReadsStore K.Keeper keeper.old keeper.new result }
+{
+    finished_facts(
+        alloc,
+        setup,
+        keeper,
+        &orders[..orders.len().saturating_sub(1)],
+    )
+}
+
+/// What is known of the finished runs, of which these are the orders: the facts whose rows the store keeps. Where these
+/// aren't what kept mail says, nothing is known.
+pub(crate) fn finished_facts<K: Keeper>(
+    alloc: Global,
+    setup: &Setup,
+    keeper: &mut K,
+    orders: &[RunOrder],
+) -> Result<KnownFacts, StoreFault>
+    ensures within { IfOk result (λ known. (s : ℕ) → slice_index known.taken.items s ≤ cover_of orders.now s) }
+    ensures way { K.is_trusted keeper.new → IfOk result (λ known. AreUnderWay setup.now (K.content keeper.old) known.facts) }
+    ensures stand { K.is_trusted keeper.new → IsOffice setup.now (K.content keeper.old) → orders.now ≡ orders_to setup.now (K.content keeper.old).kept (length (K.content keeper.old).reports)
+        → IfOk result (λ known. StandsFor known.facts (said_within setup.now (K.content keeper.old).kept (slice_index known.taken.items) (length setup.now.senders)) (K.content keeper.old).testing) }
+    ensures looks { ReadsStore K.Keeper keeper.old keeper.new result }
+{
+    let rows = stored::facts(keeper)?;
+    let facts = put_back(alloc, setup, keeper, rows.as_slice())?;
+    Ok(known_by(alloc, setup, orders, rows.as_slice(), facts)?)
+}
+
+/// What is known by rows of facts that were put back: the facts, where they have all of these rows, and else nothing,
+/// so that all of the rows have left. It fails for want of memory alone.
+fn known_by(
+    alloc: Global,
+    setup: &Setup,
+    orders: &[RunOrder],
+    rows: &[FactRow],
+    facts: Facts,
+) -> Result<KnownFacts, StoreFault>
+    ensures within { IfOk result (λ known. (s : ℕ) → slice_index known.taken.items s ≤ cover_of orders.now s) }
+    ensures way { IfOk result (λ known. (content : Content) → rows.now ≡ rows_in content.facts → HavePutBack (said_all setup.now content.kept) rows.now no_facts facts
+        → AreUnderWay setup.now content known.facts) }
+    ensures stand { IfOk result (λ known. (content : Content) → rows.now ≡ rows_in content.facts → HavePutBack (said_all setup.now content.kept) rows.now no_facts facts
+        → IsOffice setup.now content → orders.now ≡ orders_to setup.now content.kept (length content.reports)
+        → StandsFor known.facts (said_within setup.now content.kept (slice_index known.taken.items) (length setup.now.senders)) content.testing) }
+    ensures no_store { IfErr result (λ fault. fault ≡ StoreFault.NoMemory) }
+{
+    if has_all(&facts, rows) {
+        Ok(known_at(alloc, setup, orders, facts)?)
+    } else {
+        drop(facts);
+        Ok(known_without(alloc, rows)?)
+    }
+}
+
+/// Facts that are known of the runs of these orders. It fails for want of memory alone.
+pub(crate) fn known_at(
+    alloc: Global,
+    setup: &Setup,
+    orders: &[RunOrder],
+    facts: Facts,
+) -> Result<KnownFacts, StoreFault>
+    ensures same { IfOk result (λ known. known.facts ≡ facts) }
+    ensures by_message { IfOk result (λ known. AreByMessage known.facts.uploads) }
+    ensures taken { IfOk result (λ known. (s : ℕ) → s < length setup.now.senders → slice_index known.taken.items s ≡ cover_of orders.now s) }
+    ensures within { IfOk result (λ known. (s : ℕ) → slice_index known.taken.items s ≤ cover_of orders.now s) }
+    ensures no_store { IfErr result (λ fault. fault ≡ StoreFault.NoMemory) }
+{
+    let _ = facts.uploads();
+    match covers(alloc, setup, orders) {
+        Ok(taken) => Ok(KnownFacts { facts, taken }),
+        Err(fault) => {
+            drop(facts);
+            Err(fault)
+        }
+    }
+}
+
+/// Whether the facts have as many rows as these.
+pub fn has_all(facts: &Facts, rows: &[FactRow]) -> bool
+    ensures { IsTrue result → length (rows_of facts.now) ≡ length rows.now }
+{
+    facts.count() == rows.len() as u128
+}
+
+/// The covers of these orders, sender by sender. It fails for want of memory alone.
+pub fn covers(alloc: Global, setup: &Setup, orders: &[RunOrder]) -> Result<Vec<u32>, StoreFault>
+    ensures covers { IfOk result (λ taken. (s : ℕ) → s < length setup.now.senders → slice_index taken.items s ≡ cover_of orders.now s) }
+    ensures within { IfOk result (λ taken. (s : ℕ) → slice_index taken.items s ≤ cover_of orders.now s) }
+    ensures no_store { IfErr result (λ fault. fault ≡ StoreFault.NoMemory) }
+{
+    let mut taken = Vec::new(alloc);
+    'senders: for sender in 0..setup.senders().len() {
+        taken.push(cover_of(orders, sender))?;
+    }
+    Ok(taken)
+}
+
+/// Nothing is known, and all of these rows have left. It fails for want of memory alone.
+pub fn known_without(alloc: Global, rows: &[FactRow]) -> Result<KnownFacts, StoreFault>
+    ensures facts { IfOk result (λ known. known.facts ≡ record no_facts { left = rows.now }) }
+    ensures none { IfOk result (λ known. StandsForNone known.facts) }
+    ensures by_message { IfOk result (λ known. AreByMessage known.facts.uploads) }
+    ensures taken { IfOk result (λ known. known.taken.items ≡ []) }
+    ensures no_store { IfErr result (λ fault. fault ≡ StoreFault.NoMemory) }
+{
+    let facts = Facts::without(alloc, rows)?;
+    let _ = facts.uploads();
+    Ok(KnownFacts {
+        facts,
+        taken: Vec::new(alloc),
+    })
+}
+
+/// Whether none of these numbers is greater than what the orders cover of its sender.
+pub(crate) fn is_covered(taken: &[u32], orders: &[RunOrder]) -> bool
+    ensures { IsTrue result → (s : ℕ) → slice_index taken.now s ≤ cover_of orders.now s }
+{
+    'senders: for sender in 0..taken.len() {
+        if taken[sender] > cover_of(orders, sender) {
+            return false;
+        }
+    }
+    true
+}
+
+/// What a sender says is known on up to its cover.
+pub fn take_on<K: Keeper>(
+    alloc: Global,
+    setup: &Setup,
+    keeper: &mut K,
+    cache: &mut MessageCache,
+    known: &mut KnownFacts,
+    sender: u32,
+    cover: u32,
+) -> Result<(), StoreFault>
+    requires within { slice_index known.old.taken.items sender ≤ cover }
+    requires cache { AreRead setup.now cache.old }
+    ensures stand { K.is_trusted keeper.new → OnOk result ((t : Suite) → let kept = (K.content keeper.old).kept in let n = length setup.now.senders in
+        sender < n → StandsFor known.old.facts (said_within setup.now kept (slice_index known.old.taken.items) n) t → StandsFor known.new.facts (said_within setup.now kept (slice_index known.new.taken.items) n) t) }
+    ensures way { K.is_trusted keeper.new → OnOk result (AreUnderWay setup.now (K.content keeper.old) known.old.facts → AreUnderWay setup.now (K.content keeper.old) known.new.facts) }
+    ensures taken { OnOk result (slice_index known.new.taken.items sender ≡ cover) }
+    ensures others { (s : ℕ) → s ≢ sender → slice_index known.new.taken.items s ≡ slice_index known.old.taken.items s }
+    ensures cache { AreRead setup.now cache.new }
+    ensures looks { ReadsStore K.Keeper keeper.old keeper.new result }
+{
+    make_room(&mut known.taken, sender)?;
+    let place = sender as usize;
+    let taken = known.taken[place];
+    take_sender(
+        alloc,
+        setup,
+        keeper,
+        cache,
+        &mut known.facts,
+        sender,
+        taken,
+        cover,
+    )?;
+    known.taken[place] = cover;
+    Ok(())
+}
+
+/// The facts, which took what a sender says up to a number, take what it says on up to its cover.
+fn take_sender<K: Keeper>(
+    alloc: Global,
+    setup: &Setup,
+    keeper: &mut K,
+    cache: &mut MessageCache,
+    facts: &mut Facts,
+    sender: u32,
+    taken: u32,
+    cover: u32,
+) -> Result<(), StoreFault>
+    requires within { taken ≤ cover }
+    requires cache { AreRead setup.now cache.old }
+    ensures taken { K.is_trusted keeper.new → OnOk result ((s : Covered) (t : Suite) → StandsFor facts.old (said_by setup.now (K.content keeper.old).kept sender taken ++ s) t → StandsFor facts.new (said_by setup.now (K.content keeper.old).kept sender cover ++ s) t) }
+    ensures way { K.is_trusted keeper.new → OnOk result (AreUnderWay setup.now (K.content keeper.old) facts.old → AreUnderWay setup.now (K.content keeper.old) facts.new) }
+    ensures cache { AreRead setup.now cache.new }
+    ensures looks { ReadsStore K.Keeper keeper.old keeper.new result }
+{
+    let mut taken = taken;
+    'loads: while taken < cover {
+        let end = block_end(taken, BLOCK, cover);
+        take_block(alloc, setup, keeper, cache, facts, sender, taken, end)?;
+        taken = end;
+    }
+    Ok(())
+}
+
+/// The facts, which took what a sender says up to a number, take what it says on up to another.
+fn take_block<K: Keeper>(
+    alloc: Global,
+    setup: &Setup,
+    keeper: &mut K,
+    cache: &mut MessageCache,
+    facts: &mut Facts,
+    sender: u32,
+    taken: u32,
+    end: u32,
+) -> Result<(), StoreFault>
+    requires on { taken < end }
+    requires block { end ≤ taken + 256 }
+    requires cache { AreRead setup.now cache.old }
+    ensures taken { K.is_trusted keeper.new → OnOk result ((s : Covered) (t : Suite) → StandsFor facts.old (said_by setup.now (K.content keeper.old).kept sender taken ++ s) t → StandsFor facts.new (said_by setup.now (K.content keeper.old).kept sender end ++ s) t) }
+    ensures way { K.is_trusted keeper.new → OnOk result (AreUnderWay setup.now (K.content keeper.old) facts.old → AreUnderWay setup.now (K.content keeper.old) facts.new) }
+    ensures cache { AreRead setup.now cache.new }
+    ensures looks { ReadsStore K.Keeper keeper.old keeper.new result }
+{
+    let letters = stored::load(keeper, sender, taken + 1, end)?;
+    take_letters(alloc, setup, cache, facts, sender, &letters)
+}
+
+/// The facts take what letters of a sender say. It fails for want of memory alone.
+pub fn take_letters(
+    alloc: Global,
+    setup: &Setup,
+    cache: &mut MessageCache,
+    facts: &mut Facts,
+    sender: u32,
+    letters: &[Letter],
+) -> Result<(), StoreFault>
+    requires cache { AreRead setup.now cache.old }
+    ensures taken { OnOk result ((s : Covered) (t : Suite) → StandsFor facts.old s t → StandsFor facts.new (said_in setup.now sender letters.now s) t) }
+    ensures way { OnOk result ((content : Content) → AreLettersOf content.kept sender letters.now → AreUnderWay setup.now content facts.old → AreUnderWay setup.now content facts.new) }
+    ensures cache { AreRead setup.now cache.new }
+    ensures no_store { IfErr result (λ fault. fault ≡ StoreFault.NoMemory) }
+{
+    'letters: for letter in letters {
+        let text = letter.text.as_slice();
+        take_text(alloc, setup, cache, facts, sender, letter.number, text)?;
+    }
+    Ok(())
+}
+
+/// The facts take what a text says under its sender and number. It is read if its message isn't cached. It fails for
+/// want of memory alone.
+pub(crate) fn take_text(
+    alloc: Global,
+    setup: &Setup,
+    cache: &mut MessageCache,
+    facts: &mut Facts,
+    sender: u32,
+    number: u32,
+    text: &[u8],
+) -> Result<(), StoreFault>
+    requires cache { AreRead setup.now cache.old }
+    ensures taken { OnOk result ((s : Covered) (t : Suite) → StandsFor facts.old s t → StandsFor facts.new (option_to_list (item_at setup.now ((sender, number), text.now)) ++ s) t) }
+    ensures kept { OnOk result ((u : UploadIn) → Contains facts.old.uploads u → Contains facts.new.uploads u) }
+    ensures there { OnOk result ((m : CoveredItem) (u : UploadIn) → item_at setup.now ((sender, number), text.now) ≡ Some m → upload_of m ≡ Some u → Contains facts.new.uploads u) }
+    ensures way { OnOk result ((content : Content) → get content.kept (sender, number) ≡ Some text.now → AreUnderWay setup.now content facts.old → AreUnderWay setup.now content facts.new) }
+    ensures cache { AreRead setup.now cache.new }
+    ensures no_store { IfErr result (λ fault. fault ≡ StoreFault.NoMemory) }
+{
+    match cache.message(alloc, setup, sender, number, text) {
+        Ok(message) => take_body(facts, sender, number, message.body),
+        Err(fault) => no_message(fault),
+    }
+}
+
+/// A refused text says nothing, but for want of memory.
+fn no_message(fault: MailFault) -> Result<(), StoreFault>
+    ensures none { OnOk result (fault ≡ MailFault.NoMemory → ⊥) }
+    ensures no_store { IfErr result (λ fault. fault ≡ StoreFault.NoMemory) }
+{
+    match fault {
+        MailFault::NoMemory => Err(StoreFault::NoMemory),
+        _ => Ok(()),
+    }
+}

@@ -1,0 +1,244 @@
+//! The facts of a run go with the testing that it leaves: uploads are taken again, since testing lost their source or has
+//! it in a lower version.
+#![tactic(auto, using(office_core_orders::proofs::LastFacts::lasting))]
+
+ghost use Rattle.std.specs.Prelude.{◌≡◌, ◌+◌, ◌<◌, ◌≤◌, ◌++◌, ℕ, Some, IsTrue, IfOk, IfErr, OnOk, Contains, length, option_to_list, slice_index};
+ghost use Rattle.std.specs.FinMap.{get};
+ghost use Rattle.testing_rules_model.specs.Covered.{Covered, CoveredItem, upload_of};
+ghost use Rattle.testing_rules_model.specs.FactDifference.{IsDifference};
+ghost use Rattle.testing_rules_model.specs.FactLists.{FactLists};
+ghost use Rattle.testing_rules_model.specs.KeptFacts.{KeptFacts};
+ghost use Rattle.testing_rules_model.specs.StandsFor.{StandsFor};
+ghost use Rattle.testing_rules_model.specs.declared.facts.UploadIn.{UploadIn};
+ghost use Rattle.office_mail_setup.specs.declared.setup.Role.TheVariants.{Release as TheRelease};
+ghost use Rattle.office_mail.specs.Kept.{Place};
+ghost use Rattle.office_mail.specs.Setup.{count_of};
+ghost use Rattle.office_store_keeper.specs.Content.{Content};
+ghost use Rattle.office_store_keeper.specs.FactSet.{AreHoldable, facts_after};
+ghost use Rattle.office_store_keeper.specs.Provenance.{AreOwnTexts};
+ghost use Rattle.office_core_facts.specs.Known.{AreUnderWay};
+ghost use Rattle.office_core_facts.specs.Outcome.{item_at};
+ghost use Rattle.testing_rules_facts.specs.Restored.{said};
+ghost use Rattle.office_core_orders.specs.ReadsStore.{ReadsStore};
+ghost use Rattle.office_core_facts.specs.Taking.{AreLettersOf, TookAgain};
+ghost use Rattle.office_core_facts.specs.Walk.{said_by, said_in, said_within};
+
+use crate::covered::take_text;
+use crate::message_cache::MessageCache;
+use crate::restoring::item_in;
+use deb_control::Text;
+use office_core_orders::stored::{BLOCK, block_end};
+use office_core_orders::{StoreFault, stored};
+use office_mail::Setup;
+use office_store_keeper::{Keeper, Letter};
+use std::alloc::Global;
+use testing_rules_facts::Facts;
+use testing_rules_items::Item;
+use testing_rules_laws::fallen;
+use testing_rules_model::FactChanges;
+use testing_rules_suites::Testing;
+
+/// The facts of a run go with the testing that it leaves: the uploads of the sources that fell are taken again, and none is
+/// kept that doesn't count there. What changed of their rows is told.
+pub fn go_with<K: Keeper>(
+    alloc: Global,
+    setup: &Setup,
+    keeper: &mut K,
+    facts: &mut Facts,
+    taken: &[u32],
+    before: &Testing,
+    after: &Testing,
+) -> Result<FactChanges, StoreFault>
+    ensures way { K.is_trusted keeper.new → AreUnderWay setup.now (K.content keeper.old) facts.old → OnOk result (AreUnderWay setup.now (K.content keeper.old) facts.new) }
+    ensures difference { IfOk result (λ changes. IsDifference facts.new.came facts.new.left changes.put changes.gone) }
+    ensures held { K.is_trusted keeper.new → AreUnderWay setup.now (K.content keeper.old) facts.old → AreOwnTexts setup.now (K.content keeper.old).kept
+        → IfOk result (λ changes. AreHoldable setup.now (facts_after changes (K.content keeper.old).facts)) }
+    ensures kept { K.is_trusted keeper.new → StandsFor facts.old (said_within setup.now (K.content keeper.old).kept (slice_index taken.now) (length setup.now.senders)) before.now
+        → OnOk result (KeptFacts facts.new (said_within setup.now (K.content keeper.old).kept (slice_index taken.now) (length setup.now.senders)) after.now) }
+    ensures looks { ReadsStore K.Keeper keeper.old keeper.new result }
+{
+    has_release(setup);
+    retake(alloc, setup, keeper, facts, taken, before, after)?;
+    facts.trim(after);
+    let changes = facts.changes()?;
+    Ok(changes)
+}
+
+/// The release team has one sender.
+fn has_release(setup: &Setup)
+    ensures { count_of TheRelease setup.now.senders ≡ 1 }
+{
+    let _ = setup.archs();
+}
+
+/// The facts take the uploads of the sources that fell again, of what each sender says up to its number. So they stand
+/// beside the testing after, which lost these sources, or has them in a lower version. Where none fell nothing is read.
+fn retake<K: Keeper>(
+    alloc: Global,
+    setup: &Setup,
+    keeper: &mut K,
+    facts: &mut Facts,
+    taken: &[u32],
+    before: &Testing,
+    after: &Testing,
+) -> Result<(), StoreFault>
+    ensures way { K.is_trusted keeper.new → OnOk result (AreUnderWay setup.now (K.content keeper.old) facts.old → AreUnderWay setup.now (K.content keeper.old) facts.new) }
+    ensures stands { K.is_trusted keeper.new → OnOk result (let s : Covered = said_within setup.now (K.content keeper.old).kept (slice_index taken.now) (length setup.now.senders) in
+        StandsFor facts.old s before.now → StandsFor facts.new s after.now) }
+    ensures looks { ReadsStore K.Keeper keeper.old keeper.new result }
+{
+    let sources = fallen(alloc, before, after)?;
+    let names = sources.as_slice();
+    if names.is_empty() {
+        return Ok(());
+    }
+    retake_all(alloc, setup, keeper, facts, taken, names)
+}
+
+/// The facts take the uploads of these names again, sender by sender.
+fn retake_all<K: Keeper>(
+    alloc: Global,
+    setup: &Setup,
+    keeper: &mut K,
+    facts: &mut Facts,
+    taken: &[u32],
+    names: &[Text],
+) -> Result<(), StoreFault>
+    ensures way { K.is_trusted keeper.new → OnOk result (AreUnderWay setup.now (K.content keeper.old) facts.old → AreUnderWay setup.now (K.content keeper.old) facts.new) }
+    ensures again { K.is_trusted keeper.new → OnOk result (TookAgain names.now (said_within setup.now (K.content keeper.old).kept (slice_index taken.now) (length setup.now.senders)) facts.old facts.new) }
+    ensures looks { ReadsStore K.Keeper keeper.old keeper.new result }
+{
+    'senders: for sender in 0..setup.senders().len() {
+        let cover = number_at(taken, sender);
+        retake_sender(alloc, setup, keeper, facts, sender as u32, cover, names)?;
+    }
+    Ok(())
+}
+
+/// The number at a place, 0 where there is none.
+fn number_at(numbers: &[u32], place: usize) -> u32
+    ensures { result ≡ slice_index numbers.now place }
+{
+    numbers.get(place).copied().unwrap_or(0)
+}
+
+/// The facts take the uploads of these names again, of what a sender says up to a number.
+fn retake_sender<K: Keeper>(
+    alloc: Global,
+    setup: &Setup,
+    keeper: &mut K,
+    facts: &mut Facts,
+    sender: u32,
+    cover: u32,
+    names: &[Text],
+) -> Result<(), StoreFault>
+    ensures way { K.is_trusted keeper.new → OnOk result (AreUnderWay setup.now (K.content keeper.old) facts.old → AreUnderWay setup.now (K.content keeper.old) facts.new) }
+    ensures again { K.is_trusted keeper.new → OnOk result ((first : FactLists) (s : Covered) → TookAgain names.now s first facts.old → TookAgain names.now (said_by setup.now (K.content keeper.old).kept sender cover ++ s) first facts.new) }
+    ensures looks { ReadsStore K.Keeper keeper.old keeper.new result }
+{
+    let mut done = 0;
+    'loads: while done < cover {
+        let end = block_end(done, BLOCK, cover);
+        retake_block(alloc, setup, keeper, facts, sender, done, end, names)?;
+        done = end;
+    }
+    Ok(())
+}
+
+/// The same of what a sender says behind a number up to another.
+fn retake_block<K: Keeper>(
+    alloc: Global,
+    setup: &Setup,
+    keeper: &mut K,
+    facts: &mut Facts,
+    sender: u32,
+    done: u32,
+    end: u32,
+    names: &[Text],
+) -> Result<(), StoreFault>
+    requires on { done < end }
+    requires block { end ≤ done + 256 }
+    ensures way { K.is_trusted keeper.new → OnOk result (AreUnderWay setup.now (K.content keeper.old) facts.old → AreUnderWay setup.now (K.content keeper.old) facts.new) }
+    ensures again { K.is_trusted keeper.new → OnOk result ((first : FactLists) (s : Covered) → TookAgain names.now (said_by setup.now (K.content keeper.old).kept sender done ++ s) first facts.old
+        → TookAgain names.now (said_by setup.now (K.content keeper.old).kept sender end ++ s) first facts.new) }
+    ensures looks { ReadsStore K.Keeper keeper.old keeper.new result }
+{
+    let letters = stored::load(keeper, sender, done + 1, end)?;
+    retake_letters(alloc, setup, facts, sender, &letters, names)
+}
+
+/// The facts take the uploads of these names among letters of a sender again. It fails for want of memory alone.
+fn retake_letters(
+    alloc: Global,
+    setup: &Setup,
+    facts: &mut Facts,
+    sender: u32,
+    letters: &[Letter],
+    names: &[Text],
+) -> Result<(), StoreFault>
+    ensures way { OnOk result ((content : Content) → AreLettersOf content.kept sender letters.now → AreUnderWay setup.now content facts.old → AreUnderWay setup.now content facts.new) }
+    ensures again { OnOk result ((first : FactLists) (s : Covered) → TookAgain names.now s first facts.old → TookAgain names.now (said_in setup.now sender letters.now s) first facts.new) }
+    ensures no_store { IfErr result (λ fault. fault ≡ StoreFault.NoMemory) }
+{
+    'letters: for letter in letters {
+        let text = letter.text.as_slice();
+        retake_text(alloc, setup, facts, sender, letter.number, text, names)?;
+    }
+    Ok(())
+}
+
+/// The facts take a text again, where it is an upload of one of these names. It fails for want of memory alone.
+fn retake_text(
+    alloc: Global,
+    setup: &Setup,
+    facts: &mut Facts,
+    sender: u32,
+    number: u32,
+    text: &[u8],
+    names: &[Text],
+) -> Result<(), StoreFault>
+    ensures way { OnOk result ((content : Content) → get content.kept (sender, number) ≡ Some text.now → AreUnderWay setup.now content facts.old → AreUnderWay setup.now content facts.new) }
+    ensures again { OnOk result ((first : FactLists) (s : Covered) → TookAgain names.now s first facts.old → TookAgain names.now (option_to_list (item_at setup.now ((sender, number), text.now)) ++ s) first facts.new) }
+    ensures no_store { IfErr result (λ fault. fault ≡ StoreFault.NoMemory) }
+{
+    let named = is_named(alloc, setup, text, names)?;
+    if !named {
+        return Ok(());
+    }
+    let mut nothing = MessageCache::new(alloc);
+    take_text(alloc, setup, &mut nothing, facts, sender, number, text)?;
+    Ok(())
+}
+
+/// Whether a text is an upload of one of these names. It fails for want of memory alone.
+fn is_named(alloc: Global, setup: &Setup, text: &[u8], names: &[Text]) -> Result<bool, StoreFault>
+    ensures named { IfOk result (λ named. (p : Place) (m : CoveredItem) (u : UploadIn) → item_at setup.now (p, text.now) ≡ Some m → upload_of m ≡ Some u → Contains names.now u.source → IsTrue named) }
+    ensures no_store { IfErr result (λ fault. fault ≡ StoreFault.NoMemory) }
+{
+    let item = item_in(alloc, setup, text)?;
+    let named = is_upload_of(&item, names);
+    drop(item);
+    Ok(named)
+}
+
+/// Whether an item is an upload of one of these names.
+fn is_upload_of(item: &Item, names: &[Text]) -> bool
+    ensures { (sender number : ℕ) (u : UploadIn) → upload_of (said sender number item.now) ≡ Some u → Contains names.now u.source → IsTrue result }
+{
+    match item {
+        Item::Upload { source, .. } => has_name(names, source.as_str()),
+        _ => false,
+    }
+}
+
+/// Whether the name is among these.
+fn has_name(names: &[Text], name: &str) -> bool
+    ensures { Contains names.now name.now → IsTrue result }
+{
+    'names: for other in names {
+        if other.as_str() == name {
+            return true;
+        }
+    }
+    false
+}

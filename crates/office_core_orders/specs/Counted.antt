@@ -1,0 +1,34 @@
+-- How the refusals of a store are counted.
+use Rattle.std.specs.Prelude.{◌≡◌, ℕ, Result, Ok, Err}
+use Rattle.office_mail.specs.Counts.{HasRisen}
+use Rattle.office_store_keeper.specs.declared.faults.KeepFault.{KeepFault}
+use Rattle.office_store_keeper.specs.declared.faults.KeepFault.TheVariants as keep
+use Rattle.office_mail.specs.declared.message.MailFault.TheVariants as mail
+use Rattle.office_core_orders.specs.declared.faults.StoreFault.{StoreFault}
+use Rattle.office_core_orders.specs.declared.faults.StoreFault.TheVariants.{NoMemory, Store}
+use Rattle.office_core_orders.specs.declared.faults.DeliverFault.{DeliverFault}
+use Rattle.office_core_orders.specs.declared.faults.DeliverFault.TheVariants as deliver
+use Rattle.office_core_orders.specs.declared.faults.Held.{Held}
+
+-- how a fault of a store is told
+abbrev pub told : KeepFault → StoreFault
+told keep.NoMemory = NoMemory
+told (keep.Store cause) = Store
+
+-- the same as the answer to a delivery
+abbrev pub told_sender : StoreFault → DeliverFault
+told_sender NoMemory = deliver.Mail mail.NoMemory
+told_sender Store = deliver.Store
+
+-- the count rose where the store failed, and stays otherwise
+abbrev pub Counted : {T : Type 0} → ℕ → ℕ → Result T StoreFault → Type 0
+Counted before after (Ok value) = after ≡ before
+Counted before after (Err NoMemory) = after ≡ before
+Counted before after (Err Store) = HasRisen before after
+
+-- the same of a delivery
+abbrev pub CountedDelivery : ℕ → ℕ → Result Held DeliverFault → Type 0
+CountedDelivery before after (Ok held) = after ≡ before
+CountedDelivery before after (Err (deliver.Mail fault)) = after ≡ before
+CountedDelivery before after (Err deliver.OtherText) = after ≡ before
+CountedDelivery before after (Err deliver.Store) = HasRisen before after

@@ -1,0 +1,57 @@
+-- What a trial is told.
+use Rattle.std.proofs.Common.{◌≡◌, ℕ, ◌+◌, List, length, Option, Some, None, ap, ◌∙◌}
+use Rattle.jiff_core.specs.declared.civil.date.Date.{Date}
+use Rattle.testing_rules_model.specs.Covered.{Covered}
+use Rattle.testing_rules_model.specs.Suite.{Suite}
+use Rattle.office_mail.specs.Lists.{Lists}
+use Rattle.office_mail.specs.Kept.{Kept}
+use Rattle.office_mail.specs.Runs.{latest_day, orders_to}
+use Rattle.office_store_keeper.specs.Content.{Content}
+use Rattle.office_store_keeper.specs.declared.values.Letter.{Letter}
+use Rattle.office_core_facts.specs.Outcome.{outcome, testing_after}
+use Rattle.office_core_facts.specs.State.{IsOffice}
+use Rattle.testing_rules_reports.specs.declared.telling.Decided.{Decided}
+use Rattle.testing_rules_reports.specs.declared.telling.Tried.{Tried}
+use Rattle.office_core_outcome.specs.declared.RefusedHint.{RefusedHint}
+use Rattle.office_core_outcome.specs.declared.Terms.{Terms}
+use Rattle.office_core_outcome.specs.declared.Trial.{Trial}
+use Rattle.office_core_outcome.specs.declared.Trial.TheVariants.{Told, Refused}
+use Rattle.office_core_outcome.specs.Hints.{first_refused, release, hint_letters, with_letters}
+use Rattle.office_core_outcome.specs.Trial.{AreTrialCovers, IsTrial, decided, items_within, told_on, trial_date, tried, unless_refused}
+
+module _ (setup : Lists) (content : Content) (date : Date) (covers : ℕ → ℕ) (hints : List (List ℕ)) (letters : List Letter) (run first : ℕ) (plain hinted : Decided) (office : IsOffice setup content)
+    (lettered : letters ≡ hint_letters setup (covers (release setup)) hints) (next : run ≡ length content.reports + 1) (behind : first ≡ covers (release setup) + 1) where
+  abbrev mail : Covered
+  mail = items_within setup content.kept covers
+
+  abbrev over : Covered → ℕ → Suite → Decided
+  over s r t = decided setup r (outcome setup r date s t)
+
+  moved : (s : Covered) → over s run content.testing ≡ over s (length content.reports + 1) (testing_after setup content.kept (length content.reports))
+  moved s = ap (λ (r : ℕ). over s r content.testing) next ∙ ap (over s (length content.reports + 1)) office.testing_is
+
+  pub tried_is : plain ≡ over mail run content.testing → hinted ≡ over (with_letters setup (release setup) letters mail) run content.testing
+      → ◌≡◌ {A = Tried} (record { run = run; date = date; first = first; without = plain; with = hinted }) (tried setup content.kept (length content.reports) date covers hints)
+  tried_is one two =
+      let e_one = one ∙ moved mail in
+      let e_two = two ∙ ap (λ (ls : List Letter). over (with_letters setup (release setup) ls mail) run content.testing) lettered ∙ moved (with_letters setup (release setup) (hint_letters setup (covers (release setup)) hints) mail) in
+      λ i. record { run = next i; date = date; first = behind i; without = e_one i; with = e_two i }
+
+-- a trial whose hints are refused
+pub told_refused : (setup : Lists) (kept : Kept) (k : ℕ) (date : Date) (covers : ℕ → ℕ) (hints : List (List ℕ)) (refused : RefusedHint) → Some refused ≡ first_refused setup (covers (release setup)) 0 hints
+    → Refused refused ≡ told_on setup kept k (Some date) covers hints
+told_refused setup kept k date covers hints refused e = ap (λ (o : Option RefusedHint). unless_refused o (tried setup kept k date covers hints)) e
+
+-- and one whose hints are tried
+pub told_tried : (setup : Lists) (kept : Kept) (k : ℕ) (date : Date) (covers : ℕ → ℕ) (hints : List (List ℕ)) (t : Tried) → None ≡ first_refused setup (covers (release setup)) 0 hints → t ≡ tried setup kept k date covers hints
+    → Told t ≡ told_on setup kept k (Some date) covers hints
+told_tried setup kept k date covers hints t e is = ap Told is ∙ ap (λ (o : Option RefusedHint). unless_refused o (tried setup kept k date covers hints)) e
+
+-- a trial over these covers, with this date
+pub is_trial : (setup : Lists) (kept : Kept) (k : ℕ) (terms : Terms) (hints : List (List ℕ)) (covers : ℕ → ℕ) (day : Option Date) (trial : Trial) → AreTrialCovers setup kept k terms.all covers
+    → trial ≡ told_on setup kept k day covers hints → day ≡ trial_date (latest_day (orders_to setup kept k)) terms.day → IsTrial setup kept k terms hints trial
+is_trial setup kept k terms hints covers day trial are told is = record {
+  covers = covers;
+  are = are;
+  told = told ∙ ap (λ (d : Option Date). told_on setup kept k d covers hints) is;
+}

@@ -1,0 +1,17 @@
+use Rattle.std.proofs.Common.{◌≡◌, ℕ, ap, subst, ◌∙◌}
+use Rattle.std.proofs.lemmas.Result.{on_ok_weaker}
+use Rattle.testing_rules_laws.specs.Covered.{Covered}
+use Rattle.testing_rules_laws.specs.StandsFor.{StandsFor}
+use Rattle.office_core_facts.specs.Walk.{said_in}
+use Rattle.office_core_outcome.specs.Hints.{release}
+use Rattle.office_core_outcome.proofs.HintFacts.{letters_said}
+use Rattle.office_core_outcome.proofs.deciding.take_all.Goals as goal
+
+pub returns-clause-taken : goal.returns-clause-taken
+returns-clause-taken c =
+    let setup = c.args.setup.now in
+    let letters = c.args.letters.now in
+    on_ok_weaker c.take_letters.result
+    (λ taken s t h. subst (λ (l : Covered). StandsFor c.take_letters.new.facts l t)
+    (ap (λ (r : ℕ). said_in setup r letters s) c.release_place-place.ensures ∙ letters_said setup (release setup) letters s) (taken s t h))
+    c.take_letters.ensures.taken

@@ -1,0 +1,102 @@
+//! Hints as messages of the release team.
+
+ghost use Rattle.std.specs.Prelude.{◌≡◌, ◌≤◌, ◌+◌, ◌++◌, ◌∷◌, [], None, Some, IfOk, OnOk, IfErr, length};
+ghost use Rattle.office_mail.specs.Read.{read};
+ghost use Rattle.office_core_outcome.specs.Hints.{release, hint_text, hint_letter, hint_letters, refusal_in, hint_refusal, first_refused};
+
+use crate::{RefusedHint, release_place};
+use deb_control::Text;
+use office_core_orders::{StoreFault, name_at};
+use office_mail::{MailFault, Setup, read_message};
+use office_store_keeper::{Letter, MailText};
+use std::alloc::{AllocError, Global};
+
+/// The greatest number of a message.
+const GREATEST: u32 = 999_999_999;
+
+/// The message of a hint.
+#[tactic(auto, unfolding(crate::specs::Hints::hint_text))]
+fn hint_letter(alloc: Global, setup: &Setup, number: u32, hint: &str) -> Result<Letter, AllocError>
+    ensures { IfOk result (λ letter. letter ≡ hint_letter setup.now number hint.now) }
+{
+    let name = name_at(setup, release_place(setup));
+    let text = format!(in alloc; "From: {name}\nNumber: {number}\nKind: hint\nHint: {hint}\n")?;
+    Ok(Letter {
+        number,
+        text: MailText::of(text.into_bytes()),
+    })
+}
+
+/// Why a text is refused, if it is. It fails for want of memory alone.
+fn refusal_in(alloc: Global, setup: &Setup, text: &[u8]) -> Result<Option<MailFault>, StoreFault>
+    ensures refusal { IfOk result (λ refusal. refusal ≡ refusal_in (read setup.now text.now)) }
+    ensures no_store { IfErr result (λ fault. fault ≡ StoreFault.NoMemory) }
+{
+    match read_message(alloc, setup, text) {
+        Ok(message) => {
+            drop(message);
+            Ok(None)
+        }
+        Err(fault) => refused_for(fault),
+    }
+}
+
+/// A refusal, but for want of memory.
+fn refused_for(fault: MailFault) -> Result<Option<MailFault>, StoreFault>
+    ensures refusal { IfOk result (λ refusal. (refusal ≡ Some fault) × (fault ≡ MailFault.NoMemory → ⊥)) }
+    ensures no_store { IfErr result (λ fault. fault ≡ StoreFault.NoMemory) }
+{
+    match fault {
+        MailFault::NoMemory => Err(StoreFault::NoMemory),
+        _ => Ok(Some(fault)),
+    }
+}
+
+/// Takes the message of a hint, whose number comes behind this one, or tells why it is refused. It fails for want of
+/// memory alone.
+#[tactic(auto, unfolding(crate::specs::Hints::hint_refusal))]
+fn take_hint(
+    alloc: Global,
+    setup: &Setup,
+    letters: &mut Vec<Letter>,
+    number: u32,
+    hint: &str,
+) -> Result<Option<MailFault>, StoreFault>
+    ensures refusal { IfOk result (λ refusal. refusal ≡ hint_refusal setup.now (number + 1) hint.now) }
+    ensures few { IfOk result (λ refusal. refusal ≡ None → number + 1 ≤ 999_999_999) }
+    ensures letters { IfOk result (λ refusal. refusal ≡ None → letters.new.items ≡ letters.old.items ++ hint_letters setup.now number (hint.now ∷ [])) }
+    ensures no_store { IfErr result (λ fault. fault ≡ StoreFault.NoMemory) }
+{
+    if number >= GREATEST {
+        return Ok(Some(MailFault::BadNumber));
+    }
+    let letter = hint_letter(alloc, setup, number + 1, hint)?;
+    let refusal = refusal_in(alloc, setup, letter.text.as_slice())?;
+    letters.push(letter)?;
+    Ok(refusal)
+}
+
+/// Takes the messages of hints, whose numbers go on behind this one, up to the first that is refused. It fails for want of
+/// memory alone.
+pub(crate) fn take_hints(
+    alloc: Global,
+    setup: &Setup,
+    letters: &mut Vec<Letter>,
+    number: u32,
+    hints: &[Text],
+) -> Result<Option<RefusedHint>, StoreFault>
+    ensures refused { IfOk result (λ refused. refused ≡ first_refused setup.now number 0 hints.now) }
+    ensures letters { IfOk result (λ refused. refused ≡ None → letters.new.items ≡ letters.old.items ++ hint_letters setup.now number hints.now) }
+    ensures no_store { IfErr result (λ fault. fault ≡ StoreFault.NoMemory) }
+{
+    let mut last = number;
+    let mut place = 0;
+    'hints: for hint in hints {
+        if let Some(fault) = take_hint(alloc, setup, letters, last, hint.as_str())? {
+            return Ok(Some(RefusedHint { place, fault }));
+        }
+        last += 1;
+        place += 1;
+    }
+    Ok(None)
+}

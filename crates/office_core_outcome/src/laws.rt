@@ -1,0 +1,28 @@
+//! What is true of every trial of hints.
+ghost use Rattle.std.specs.Prelude.{◌≡◌, ◌<◌, ℕ, ◌+◌, Bool, List, Option, Some, length};
+ghost use Rattle.jiff_core.specs.declared.civil.date.Date.{Date};
+ghost use Rattle.office_mail.specs.Kept.{Kept};
+ghost use Rattle.office_mail.specs.Lists.{Lists};
+ghost use Rattle.office_mail.specs.Runs.{IsReady, latest_day, orders_to};
+ghost use Rattle.office_core_facts.specs.Outcome.{outcome_of};
+ghost use Rattle.office_core_orders.specs.Ready.{HasPlaces};
+ghost use Rattle.office_core_outcome.specs.Hints.{release};
+ghost use Rattle.office_core_outcome.specs.NextRun.{HasCome};
+ghost use Rattle.office_core_outcome.specs.Trial.{AreTrialCovers, IsTrial, decided, trial_date, tried};
+ghost use Rattle.office_core_outcome.specs.declared.Terms.{Terms};
+ghost use Rattle.office_core_outcome.specs.declared.Trial.{Trial};
+
+/// A tried hint is a promise: where the messages of the hints have come under their numbers, and the order of the next run
+/// has the date of the trial, and covers what it did and the hints, that run decides what the trial was told of it. Other
+/// mail that has come, which the order doesn't cover, changes nothing.
+pub fn try_is_next_run()
+    ensures next { (setup : Lists) (kept late : Kept) (k : ℕ) (all : Bool) (day : Option Date) (date : Date) (covers : ℕ → ℕ) (hints : List (List ℕ)) → IsReady setup kept k → AreTrialCovers setup kept k all covers
+        → trial_date (latest_day (orders_to setup kept k)) day ≡ Some date → HasPlaces setup late → HasCome setup kept late k date covers hints
+        → decided setup (k + 1) (outcome_of setup late (k + 1)) ≡ (tried setup kept k date covers hints).with }
+{}
+
+/// A trial is told one thing: what an office keeps, the terms and the hints leave no other. Every setup has a release team.
+pub fn trials_have_one_end()
+    ensures { (setup : Lists) (kept : Kept) (k : ℕ) (terms : Terms) (hints : List (List ℕ)) (x y : Trial) → HasPlaces setup kept → release setup < length setup.senders
+        → IsTrial setup kept k terms hints x → IsTrial setup kept k terms hints y → x ≡ y }
+{}

@@ -1,0 +1,45 @@
+//! A run by the rules over facts: testing as it leaves it, and its two reports; and what the next run would decide if some
+//! hints were covered too. Nothing is kept.
+#![tactic(auto)]
+
+mod counting;
+mod covers;
+mod deciding;
+mod hints;
+pub mod laws;
+mod release;
+mod rules;
+mod trying;
+
+use jiff_core::civil::Date;
+use office_mail::MailFault;
+pub use release::release_place;
+pub use rules::{RunOutcome, run_beside};
+pub use testing_rules_reports::{Decided, Tried, has_changes, tried_text};
+pub use trying::try_hints;
+
+/// What a trial takes beside the hints: a day, if one is given, and whether all mail of all senders is covered that is
+/// kept without a gap.
+#[derive(Clone, Copy, Debug, PartialEq, Eq)]
+pub struct Terms {
+    pub day: Option<Date>,
+    pub all: bool,
+}
+
+/// A hint that is refused, by its place among the hints, and why.
+#[derive(Clone, Copy, Debug, PartialEq, Eq)]
+pub struct RefusedHint {
+    pub place: usize,
+    pub fault: MailFault,
+}
+
+/// What a trial of hints is told.
+#[derive(Drop)]
+pub enum Trial {
+    /// What the next run would decide.
+    Told(Tried),
+    /// No run is finished, and no day is given.
+    NoDate,
+    /// A hint is refused.
+    Refused(RefusedHint),
+}

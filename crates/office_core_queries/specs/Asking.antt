@@ -1,0 +1,42 @@
+-- What a question to an office leaves of its store, and what it counts.
+use Rattle.std.specs.Prelude.{◌≡◌, ℕ, Result, Ok, Err, is_ok}
+use Rattle.office_mail.specs.Counts.{HasRisen}
+use Rattle.office_store_keeper.specs.declared.keeping.Keeper.{Ghosts}
+use Rattle.office_core_orders.specs.declared.faults.StoreFault.{StoreFault}
+use Rattle.office_core_orders.specs.Counted.{Counted}
+use Rattle.office_core.specs.Preserves.{Asks}
+use Rattle.office_core_orders.specs.StaysTrusted.{StaysTrusted}
+use Rattle.office_core_queries.specs.declared.faults.AskFault.{AskFault}
+use Rattle.office_core_queries.specs.declared.faults.AskFault.TheVariants.{NoMemory, Store, Write}
+
+-- What is kept stays, and the store counts what it refuses. Where nobody else writes it, it stays trusted unless the disk failed.
+pub record AsksOffice {K T : Type 0} (keeper : Ghosts K) (old new : K) (result : Result T StoreFault) : Type 0 where
+  pub asks : Asks keeper old new
+  pub lasts : StaysTrusted keeper old new (is_ok result)
+  pub counted : Counted (keeper.refusals old) (keeper.refusals new) result
+
+-- how a fault of the store is told beside those of a writer
+abbrev pub told : StoreFault → AskFault
+told StoreFault.NoMemory = NoMemory
+told StoreFault.Store = Store
+
+-- the store counts what it refuses and the writer what it fails, and neither counts anything else
+abbrev pub CountsBoth : {T : Type 0} → ℕ → ℕ → ℕ → ℕ → Result T AskFault → Type 0
+CountsBoth before after failed fails (Ok value) = (after ≡ before) × (fails ≡ failed)
+CountsBoth before after failed fails (Err NoMemory) = (after ≡ before) × (fails ≡ failed)
+CountsBoth before after failed fails (Err Store) = HasRisen before after × (fails ≡ failed)
+CountsBoth before after failed fails (Err Write) = (after ≡ before) × HasRisen failed fails
+
+-- the same of a call that asks no store
+abbrev pub CountsWrites : {T : Type 0} → ℕ → ℕ → Result T AskFault → Type 0
+CountsWrites failed fails (Ok value) = fails ≡ failed
+CountsWrites failed fails (Err NoMemory) = fails ≡ failed
+CountsWrites failed fails (Err Store) = ⊥
+CountsWrites failed fails (Err Write) = HasRisen failed fails
+
+-- What is kept stays, and each fault is counted where it was met. Where nobody else writes the store, it stays trusted unless its
+-- disk failed.
+pub record AsksBoth {K T : Type 0} (keeper : Ghosts K) (old new : K) (failed fails : ℕ) (result : Result T AskFault) : Type 0 where
+  pub asks : Asks keeper old new
+  pub lasts : StaysTrusted keeper old new (is_ok result)
+  pub counted : CountsBoth (keeper.refusals old) (keeper.refusals new) failed fails result

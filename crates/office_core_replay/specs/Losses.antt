@@ -1,0 +1,65 @@
+-- What a replay lost for want of memory or by the store.
+use Rattle.std.specs.Prelude.{◌≡◌, ⊤, ℕ, ◌+◌, List, [], ◌∷◌, length, Option, Some, None, Bool, true, false, ◌||◌}
+use Rattle.std.specs.List.{AllByRecursion}
+use Rattle.office_mail.specs.declared.bag.BagFault.{BagFault}
+use Rattle.office_mail.specs.declared.bag.BagFault.TheVariants as bag
+use Rattle.office_mail.specs.Runs.{IsReadyCount}
+use Rattle.office_core_orders.specs.declared.faults.StoreFault.{StoreFault}
+use Rattle.office_core_orders.specs.declared.faults.StoreFault.TheVariants.{NoMemory, Store}
+use Rattle.office_core_orders.specs.declared.replies.Delivery.{Delivery}
+use Rattle.office_core_orders.specs.declared.replies.Mark.{Mark}
+use Rattle.office_core_orders.specs.declared.replies.Mark.TheVariants.{Taken, LostForMemory, LostForStore}
+use Rattle.office_core_facts.specs.OfficeState.{OfficeState}
+use Rattle.office_core_replay.specs.Output.{Marks, ReportMarks}
+
+-- whether a text is missing
+abbrev pub is_missing : Option StoreFault → Bool
+is_missing None = false
+is_missing (Some fault) = true
+
+-- whether a report of one of these runs is
+abbrev pub is_report_missing : List ReportMarks → Bool
+is_report_missing [] = false
+is_report_missing (mark ∷ marks) = (is_missing mark.0 || is_missing mark.1) || is_report_missing marks
+
+-- whether a text of the end is
+abbrev pub has_refusal : Marks → Bool
+has_refusal marks = (is_missing marks.status || (is_missing marks.count || is_report_missing marks.reports)) || is_missing marks.testing
+
+-- whether the bag ended for want of memory
+abbrev pub is_short : Option BagFault → Bool
+is_short None = false
+is_short (Some bag.BadHeader) = false
+is_short (Some bag.Truncated) = false
+is_short (Some bag.ReadFault) = false
+is_short (Some bag.NoMemory) = true
+
+-- The marks are those of an end: a ready count that is printed is that of the mail, and each run after
+-- run k has its two marks.
+pub record MarksEnd (s : OfficeState) (k ready : ℕ) (marks : Marks) : Type 0 where
+  pub ready_is : marks.status ≡ None → IsReadyCount s.setup s.kept ready
+  pub runs : marks.count ≡ None → k + length marks.reports ≡ s.finished
+
+-- What the store loses it counts: a delivery is lost by it only where this is so (its count of refusals rose) ..
+abbrev pub DeliveryCounted : Type 0 → Mark → Type 0
+DeliveryCounted rose Taken = ⊤
+DeliveryCounted rose LostForMemory = ⊤
+DeliveryCounted rose LostForStore = rose
+
+-- .. and so is a text
+abbrev pub TextCounted : Type 0 → Option StoreFault → Type 0
+TextCounted rose None = ⊤
+TextCounted rose (Some NoMemory) = ⊤
+TextCounted rose (Some Store) = rose
+
+abbrev pub ReportsCounted : Type 0 → List ReportMarks → Type 0
+ReportsCounted rose reports = AllByRecursion (λ mark. TextCounted rose mark.0 × TextCounted rose mark.1) reports
+
+abbrev pub DeliveriesCounted : Type 0 → List Delivery → Type 0
+DeliveriesCounted rose deliveries = AllByRecursion (λ d. DeliveryCounted rose d.mark) deliveries
+
+pub record MarksCounted (rose : Type 0) (marks : Marks) : Type 0 where
+  pub status : TextCounted rose marks.status
+  pub count : TextCounted rose marks.count
+  pub reports : ReportsCounted rose marks.reports
+  pub testing : TextCounted rose marks.testing

@@ -1,0 +1,272 @@
+//! Replays of bags of mail.
+ghost use Rattle.std.specs.Prelude.{◌≡◌, ◌≤◌, ◌+◌, ◌⊎◌, [], false, Some, IfOk, OnOk, OnErr, IfErr, is_ok};
+ghost use Rattle.std.specs.Io.KnownBytes.{Appends};
+ghost use Rattle.office_mail.specs.Counts.{HasRisen};
+ghost use Rattle.office_mail.specs.BagSteps.{ReadFails, CountsEach};
+ghost use Rattle.office_core.specs.Preserves.{Preserves, Holds, StoreRefused};
+ghost use Rattle.office_core_replay.specs.Delivered.{DeliversFront};
+ghost use Rattle.office_core_replay.specs.DeliverySteps.{DeliversAll, DeliversOne, DeliversOneFront, Settles};
+ghost use Rattle.office_core.specs.Laws.{RunsStand};
+ghost use Rattle.office_core_replay.specs.Losses.{is_short};
+ghost use Rattle.office_core_replay.specs.Replay.{Replays, ReplaysAll, ReplaysFront, StopsEarly, StopsReplay, status_of};
+ghost use Rattle.office_core_facts.specs.State.{state_of};
+ghost use Rattle.office_core_orders.specs.Replies.{mark_of};
+
+use crate::blocks::deliver_all;
+use crate::ending::{either, write_bag, write_end, write_refusal};
+use crate::watching::{Unwatched, Watcher};
+use office_core::Office;
+use office_core_orders::{DeliverFault, Held, Mark, WriteFault, write_reply};
+use office_mail::{Bag, BagFault, Feed, MailFault, Sink};
+use office_store_keeper::Keeper;
+
+/// What an answer says of a delivery.
+fn mark_of(reply: &Result<Held, DeliverFault>) -> Mark
+    ensures { result ≡ mark_of reply.now }
+{
+    match reply {
+        Err(DeliverFault::Mail(MailFault::NoMemory)) => Mark::LostForMemory,
+        Err(DeliverFault::Store) => Mark::LostForStore,
+        _ => Mark::Taken,
+    }
+}
+
+/// Settles behind a delivery that is held. A fault of that settle is told by nobody: the next one goes on.
+pub fn settle_behind<K: Keeper>(office: &mut Office<K>, reply: &Result<Held, DeliverFault>)
+    ensures carries { Preserves K.Keeper office.old office.new }
+    ensures settles { Holds K.Keeper office.old office.new → Settles (state_of K.Keeper office.old) (state_of K.Keeper office.new) (is_ok reply.now) (StoreRefused K.Keeper office.old office.new) }
+{
+    settle_watched(office, reply, &mut Unwatched);
+}
+
+/// The same, of which a watcher is told.
+fn settle_watched<K: Keeper, V: Watcher>(
+    office: &mut Office<K>,
+    reply: &Result<Held, DeliverFault>,
+    watcher: &mut V,
+)
+    ensures carries { Preserves K.Keeper office.old office.new }
+    ensures settles { Holds K.Keeper office.old office.new → Settles (state_of K.Keeper office.old) (state_of K.Keeper office.new) (is_ok reply.now) (StoreRefused K.Keeper office.old office.new) }
+{
+    if reply.is_ok() {
+        let settled = office.settle();
+        watcher.settled(&settled);
+    }
+}
+
+/// Delivers a text, writes the line that answers it, and settles where it is held.
+pub(crate) fn deliver_one<K: Keeper, W: Sink, V: Watcher>(
+    office: &mut Office<K>,
+    text: &[u8],
+    writer: &mut W,
+    watcher: &mut V,
+) -> Result<Mark, WriteFault>
+    ensures carries { Preserves K.Keeper office.old office.new }
+    ensures ok { Holds K.Keeper office.old office.new → IfOk result (λ mark. DeliversOne (state_of K.Keeper office.old) (state_of K.Keeper office.new) text.now mark (W.written writer.old) (W.written writer.new) (StoreRefused K.Keeper office.old office.new)) }
+    // What a writer that fails leaves: the text may be kept, and a front of the line was written.
+    ensures front { Holds K.Keeper office.old office.new → OnErr result (DeliversOneFront (state_of K.Keeper office.old) (state_of K.Keeper office.new) text.now (W.written writer.old) (W.written writer.new) (StoreRefused K.Keeper office.old office.new)) }
+    ensures cause { OnErr result (HasRisen (W.failures writer.old) (W.failures writer.new)) }
+    ensures clean { OnOk result (W.failures writer.new ≡ W.failures writer.old) }
+{
+    let reply = office.deliver(text);
+    watcher.delivered(text, &reply);
+    write_reply(office.setup(), &reply, writer)?;
+    settle_watched(office, &reply, watcher);
+    Ok(mark_of(&reply))
+}
+
+/// How a bag ended, and whether a delivery was lost.
+#[derive(Clone, Copy)]
+pub(crate) struct Delivered {
+    pub(crate) end: Option<BagFault>,
+    pub(crate) lost: bool,
+}
+
+/// Delivers the messages of a bag one by one, up to its end.
+pub(crate) fn deliver_each<K: Keeper, R: Feed, W: Sink, V: Watcher>(
+    office: &mut Office<K>,
+    bag: &mut Bag<R>,
+    writer: &mut W,
+    watcher: &mut V,
+) -> Result<Delivered, WriteFault>
+    requires { bag.old.ended ≡ false }
+    ensures carries { Preserves K.Keeper office.old office.new }
+    ensures all { Holds K.Keeper office.old office.new → IfOk result (λ delivered. DeliversAll (state_of K.Keeper office.old) (state_of K.Keeper office.new) bag.old bag.new (W.written writer.old) (W.written writer.new) delivered.end delivered.lost (StoreRefused K.Keeper office.old office.new)) }
+    ensures front { Holds K.Keeper office.old office.new → OnErr result (DeliversFront (state_of K.Keeper office.old) (state_of K.Keeper office.new) bag.old bag.new (W.written writer.old) (W.written writer.new) (StoreRefused K.Keeper office.old office.new)) }
+
+    // A read failed exactly where the bag is refused for it, but for the last of the reads.
+    ensures read_cause { IfOk result (λ delivered. delivered.end ≡ Some BagFault.ReadFault → ReadFails bag.old bag.new) }
+    ensures read_clean { IfOk result (λ delivered. (delivered.end ≡ Some BagFault.ReadFault) ⊎ (bag.new.failures ≡ bag.old.failures)) }
+    ensures reads { bag.new.reads ≤ 1_000_000 }
+    ensures calls { bag.new.calls + bag.old.reads ≤ bag.old.calls + bag.new.reads }
+    ensures counts { CountsEach bag.old bag.new }
+
+    ensures cause { OnErr result (HasRisen (W.failures writer.old) (W.failures writer.new)) }
+    ensures clean { OnOk result (W.failures writer.new ≡ W.failures writer.old) }
+{
+    let mut lost = false;
+    loop {
+        match bag.next() {
+            Ok(Some(text)) => {
+                let mark = deliver_one(office, &text, writer, watcher)?;
+                lost = lost || mark.is_lost();
+            }
+            Ok(None) => return Ok(Delivered { end: None, lost }),
+            Err(fault) => {
+                let end = Some(fault);
+                return Ok(Delivered { end, lost });
+            }
+        }
+    }
+}
+
+/// What a replay came to: why the bag was refused, and whether anything was lost for want of memory
+/// or by the store.
+#[derive(Clone, Copy, Debug, PartialEq, Eq)]
+pub struct Replayed {
+    pub bag: Option<BagFault>,
+    pub lost: bool,
+}
+
+/// Delivers the messages of a bag that hasn't ended, settles, and writes the answers, the status, the
+/// reports of the runs that it finished, and testing. It fails only where the writer failed or took no
+/// byte; what was delivered before stays. The bag is lent, so that what was read of its reader, how often
+/// that was asked and whether it failed is said of the bag that the caller still has.
+pub fn replay<K: Keeper, R: Feed, W: Sink>(
+    office: &mut Office<K>,
+    bag: &mut Bag<R>,
+    writer: &mut W,
+) -> Result<Replayed, WriteFault>
+    requires { bag.old.ended ≡ false }
+    // A store that is trusted was so before, and holds an office's state as before. What the replay makes of it is known
+    // while it is trusted; what it lost is lost by the store only where that counted a refusal.
+    ensures carries { Preserves K.Keeper office.old office.new }
+    ensures ok { Holds K.Keeper office.old office.new → IfOk result (λ replayed. Replays (state_of K.Keeper office.old) (state_of K.Keeper office.new) bag.old bag.new (W.written writer.old) (W.written writer.new) replayed (StoreRefused K.Keeper office.old office.new)) }
+    ensures err { Holds K.Keeper office.old office.new → OnErr result (StopsReplay (state_of K.Keeper office.old) (state_of K.Keeper office.new) bag.old bag.new (W.written writer.old) (W.written writer.new) (StoreRefused K.Keeper office.old office.new)) }
+
+    // The runs that were finished stand: their reports, and testing unless one more was finished.
+    ensures runs { Holds K.Keeper office.old office.new → RunsStand (K.content office.old) (K.content office.new) }
+
+    // A read failed exactly where the bag is refused for it, but for the last of the reads.
+    ensures read_cause { IfOk result (λ replayed. replayed.bag ≡ Some BagFault.ReadFault → ReadFails bag.old bag.new) }
+    ensures read_clean { IfOk result (λ replayed. (replayed.bag ≡ Some BagFault.ReadFault) ⊎ (bag.new.failures ≡ bag.old.failures)) }
+
+    // At most 1,000,000 reads are made, of at most 8,192 bytes each. Each that is counted was a call of the reader.
+    ensures reads { bag.old.reads ≤ 1_000_000 → bag.new.reads ≤ 1_000_000 }
+    ensures calls { bag.new.calls + bag.old.reads ≤ bag.old.calls + bag.new.reads }
+    ensures counts { CountsEach bag.old bag.new }
+
+    ensures cause { OnErr result (HasRisen (W.failures writer.old) (W.failures writer.new)) }
+    ensures clean { OnOk result (W.failures writer.new ≡ W.failures writer.old) }
+{
+    replay_watched(office, bag, writer, &mut Unwatched)
+}
+
+/// The same, where a watcher is told each delivery.
+pub fn replay_watched<K: Keeper, R: Feed, W: Sink, V: Watcher>(
+    office: &mut Office<K>,
+    bag: &mut Bag<R>,
+    writer: &mut W,
+    watcher: &mut V,
+) -> Result<Replayed, WriteFault>
+    requires { bag.old.ended ≡ false }
+    ensures carries { Preserves K.Keeper office.old office.new }
+    ensures ok { Holds K.Keeper office.old office.new → IfOk result (λ replayed. Replays (state_of K.Keeper office.old) (state_of K.Keeper office.new) bag.old bag.new (W.written writer.old) (W.written writer.new) replayed (StoreRefused K.Keeper office.old office.new)) }
+    ensures err { Holds K.Keeper office.old office.new → OnErr result (StopsReplay (state_of K.Keeper office.old) (state_of K.Keeper office.new) bag.old bag.new (W.written writer.old) (W.written writer.new) (StoreRefused K.Keeper office.old office.new)) }
+    ensures runs { Holds K.Keeper office.old office.new → RunsStand (K.content office.old) (K.content office.new) }
+    ensures read_cause { IfOk result (λ replayed. replayed.bag ≡ Some BagFault.ReadFault → ReadFails bag.old bag.new) }
+    ensures read_clean { IfOk result (λ replayed. (replayed.bag ≡ Some BagFault.ReadFault) ⊎ (bag.new.failures ≡ bag.old.failures)) }
+    ensures reads { bag.old.reads ≤ 1_000_000 → bag.new.reads ≤ 1_000_000 }
+    ensures calls { bag.new.calls + bag.old.reads ≤ bag.old.calls + bag.new.reads }
+    ensures counts { CountsEach bag.old bag.new }
+    ensures cause { OnErr result (HasRisen (W.failures writer.old) (W.failures writer.new)) }
+    ensures clean { OnOk result (W.failures writer.new ≡ W.failures writer.old) }
+{
+    replay_bag(office, bag, writer, watcher)
+}
+
+/// Delivers the messages of a bag, if the count of finished runs is to be had.
+fn replay_bag<K: Keeper, R: Feed, W: Sink, V: Watcher>(
+    office: &mut Office<K>,
+    bag: &mut Bag<R>,
+    writer: &mut W,
+    watcher: &mut V,
+) -> Result<Replayed, WriteFault>
+    requires { bag.old.ended ≡ false }
+    ensures carries { Preserves K.Keeper office.old office.new }
+    ensures ok { Holds K.Keeper office.old office.new → IfOk result (λ replayed. Replays (state_of K.Keeper office.old) (state_of K.Keeper office.new) bag.old bag.new (W.written writer.old) (W.written writer.new) replayed (StoreRefused K.Keeper office.old office.new)) }
+    ensures err { Holds K.Keeper office.old office.new → OnErr result (StopsReplay (state_of K.Keeper office.old) (state_of K.Keeper office.new) bag.old bag.new (W.written writer.old) (W.written writer.new) (StoreRefused K.Keeper office.old office.new)) }
+    ensures read_cause { IfOk result (λ replayed. replayed.bag ≡ Some BagFault.ReadFault → ReadFails bag.old bag.new) }
+    ensures read_clean { IfOk result (λ replayed. (replayed.bag ≡ Some BagFault.ReadFault) ⊎ (bag.new.failures ≡ bag.old.failures)) }
+    ensures reads { bag.old.reads ≤ 1_000_000 → bag.new.reads ≤ 1_000_000 }
+    ensures calls { bag.new.calls + bag.old.reads ≤ bag.old.calls + bag.new.reads }
+    ensures counts { CountsEach bag.old bag.new }
+    ensures cause { OnErr result (HasRisen (W.failures writer.old) (W.failures writer.new)) }
+    ensures clean { OnOk result (W.failures writer.new ≡ W.failures writer.old) }
+{
+    match office.finished() {
+        Ok(before) => replay_from(office, before, bag, writer, watcher),
+        Err(fault) => {
+            write_refusal(fault, writer)?;
+            Ok(Replayed {
+                bag: None,
+                lost: true,
+            })
+        }
+    }
+}
+
+/// The same, where this count of runs is finished.
+fn replay_from<K: Keeper, R: Feed, W: Sink, V: Watcher>(
+    office: &mut Office<K>,
+    before: u32,
+    bag: &mut Bag<R>,
+    writer: &mut W,
+    watcher: &mut V,
+) -> Result<Replayed, WriteFault>
+    requires { bag.old.ended ≡ false }
+    ensures carries { Preserves K.Keeper office.old office.new }
+    ensures ok { Holds K.Keeper office.old office.new → before ≡ (state_of K.Keeper office.old).finished → IfOk result (λ replayed. ReplaysAll (state_of K.Keeper office.old) (state_of K.Keeper office.new) bag.old bag.new (W.written writer.old) (W.written writer.new) replayed (StoreRefused K.Keeper office.old office.new)) }
+    ensures err { Holds K.Keeper office.old office.new → before ≡ (state_of K.Keeper office.old).finished → OnErr result (StopsEarly (state_of K.Keeper office.old) (state_of K.Keeper office.new) bag.old bag.new (W.written writer.old) (W.written writer.new) (StoreRefused K.Keeper office.old office.new)
+        ⊎ ReplaysFront (state_of K.Keeper office.old) (state_of K.Keeper office.new) bag.old bag.new (W.written writer.old) (W.written writer.new) (StoreRefused K.Keeper office.old office.new)) }
+    ensures read_cause { IfOk result (λ replayed. replayed.bag ≡ Some BagFault.ReadFault → ReadFails bag.old bag.new) }
+    ensures read_clean { IfOk result (λ replayed. (replayed.bag ≡ Some BagFault.ReadFault) ⊎ (bag.new.failures ≡ bag.old.failures)) }
+    ensures reads { bag.new.reads ≤ 1_000_000 }
+    ensures calls { bag.new.calls + bag.old.reads ≤ bag.old.calls + bag.new.reads }
+    ensures counts { CountsEach bag.old bag.new }
+    ensures cause { OnErr result (HasRisen (W.failures writer.old) (W.failures writer.new)) }
+    ensures clean { OnOk result (W.failures writer.new ≡ W.failures writer.old) }
+{
+    let delivered = deliver_all(office, bag, writer, watcher)?;
+    let settled = office.settle().is_ok();
+    write_bag(delivered.end, writer)?;
+    let missing = write_end(office, before, writer)?;
+    let bag_lost = either(delivered.lost, is_short(delivered.end));
+    Ok(Replayed {
+        bag: delivered.end,
+        lost: either(either(bag_lost, !settled), missing),
+    })
+}
+
+/// Whether a bag ended for want of memory.
+fn is_short(end: Option<BagFault>) -> bool
+    ensures { result ≡ is_short end }
+{
+    match end {
+        Some(BagFault::NoMemory) => true,
+        _ => false,
+    }
+}
+
+/// The exit status of a replay: 4 where its output failed or anything was lost, else 3 where the bag
+/// was refused, else 0.
+pub fn replay_status(replayed: &Result<Replayed, WriteFault>) -> u8
+    ensures { result ≡ status_of replayed.now }
+{
+    match replayed {
+        Err(_) => 4,
+        Ok(replayed) if replayed.lost => 4,
+        Ok(replayed) if replayed.bag.is_some() => 3,
+        Ok(_) => 0,
+    }
+}

@@ -1,0 +1,90 @@
+-- Why a source stands where the last finished run left it. That a source is told by itself is this office's own; what is told are the rules
+-- of the run (Debian Developer's Reference 5.13.2).
+use Rattle.std.specs.Prelude.{◌≡◌, ◌⊎◌, ℕ, Bool, true, false, List, [], ◌++◌, map, filter, Option, Some, None}
+use Rattle.jiff_core.specs.declared.civil.date.Date.{Date}
+use Rattle.testing_rules_items.specs.Words.{Text}
+use Rattle.testing_rules_model.specs.declared.excuse.Excuse.{Excuse}
+use Rattle.testing_rules_model.specs.declared.facts.BugIn.{BugIn}
+use Rattle.testing_rules_model.specs.declared.facts.HintIn.{HintIn}
+use Rattle.testing_rules_model.specs.declared.facts.UploadIn.{UploadIn}
+use Rattle.testing_rules_model.specs.declared.suite.RowIn.{RowIn}
+use Rattle.testing_rules_model.specs.Covered.{Covered}
+use Rattle.testing_rules_model.specs.Excuses.{excuses_of, testing_version}
+use Rattle.testing_rules_model.specs.Moves.{source_in}
+use Rattle.testing_rules_model.specs.Suite.{Suite}
+use Rattle.testing_rules_model.specs.Unstable.{bug_states, in_force, is_of_source, unstable_rows, unstable_sources}
+use Rattle.testing_rules_model.specs.Updates.{offender_alone}
+use Rattle.testing_rules_excuses.specs.Lines.{IsOriginText}
+use Rattle.testing_rules_excuses.specs.Said.{SaidLists}
+use Rattle.testing_rules_excuses.specs.States.{excuse_of}
+use Rattle.testing_rules_refusals.specs.Alone.{IsToldAlone}
+use Rattle.office_mail_setup.specs.Lists.{Lists}
+use Rattle.office_mail.specs.Kept.{Kept}
+use Rattle.office_mail.specs.Runs.{latest_day, orders_to}
+use Rattle.office_store_keeper.specs.declared.values.Reports.{Reports}
+use Rattle.office_core_facts.specs.Outcome.{covered_items, reports_of, testing_after}
+use Rattle.testing_rules_reports.specs.Sources.{source_text, waits_in}
+
+-- unstable as messages give it: its sources and rows, the states of bugs, and the hints in force
+pub record Unstable : Type 0 where
+  pub sources : List UploadIn
+  pub rows : List RowIn
+  pub bugs : List BugIn
+  pub hints : List HintIn
+
+abbrev pub unstable_in : List Text → Covered → Unstable
+unstable_in archs s = record { sources = unstable_sources s; rows = unstable_rows archs s; bugs = bug_states s; hints = in_force s }
+
+-- the names of the senders
+abbrev pub sender_names : Lists → List Text
+sender_names setup = map (λ sender. sender.name) setup.senders
+
+-- what is said of an unstable source beside a testing
+abbrev pub said_in : Unstable → Suite → UploadIn → SaidLists
+said_in unstable t u = record { rows = filter (is_of_source u) unstable.rows; bugs = unstable.bugs; hints = unstable.hints; testing = testing_version t u.source }
+
+-- The lines on where the reasons come from that keep a source out: its upload, and what gave each reason of its excuse. There are none of a
+-- source that unstable hasn't.
+abbrev pub AreOrigins : List Text → List Text → Unstable → Suite → Option Excuse → Option UploadIn → Text → Type 0
+AreOrigins senders archs unstable t excuse None text = text ≡ []
+AreOrigins senders archs unstable t excuse (Some u) text = IsOriginText senders archs (said_in unstable t u) u excuse text
+
+-- The lines on why a source can't move alone: those of a list that shows it, or none where the move breaks nothing (Debian Developer's
+-- Reference 5.13.2). There are none of a source that has no excuse.
+abbrev pub IsRefused : List Text → Unstable → Suite → List Excuse → Option Excuse → Text → Type 0
+IsRefused archs unstable t excuses None text = text ≡ []
+IsRefused archs unstable t excuses (Some e) text =
+    IsToldAlone archs unstable.sources unstable.rows excuses t e text
+    ⊎ ((offender_alone archs unstable.sources unstable.rows t e ≡ None) × (text ≡ []))
+
+-- they are told of a source that waits, and of no other
+abbrev pub IsRefusedWhere : Bool → List Text → Unstable → Suite → List Excuse → Option Excuse → Text → Type 0
+IsRefusedWhere true archs unstable t excuses excuse text = IsRefused archs unstable t excuses excuse text
+IsRefusedWhere false archs unstable t excuses excuse text = text ≡ []
+
+-- What is told of a source, by a run's reports, and the unstable, the testing and the excuses that it left: what the reports say of it, where
+-- the reasons come from behind its excuse, and at the end why it can't move alone.
+pub record IsToldBy (senders archs : List Text) (unstable : Unstable) (t : Suite) (excuses : List Excuse) (run : ℕ) (reports : Reports) (source text : Text) : Type 0 where
+  pub origins : Text
+  pub refusal : Text
+  pub come : AreOrigins senders archs unstable t (excuse_of excuses source) (source_in unstable.sources source) origins
+  pub refused : IsRefusedWhere (waits_in source reports.updates) archs unstable t excuses (excuse_of excuses source) refusal
+  pub is : text ≡ source_text run source reports.excuses reports.updates origins ++ refusal
+
+-- the same over covered messages and the testing that a run of this date left: the excuses are those of the messages beside that testing
+abbrev pub IsToldOf : List Text → List Text → Covered → Suite → ℕ → Date → Reports → Text → Text → Type 0
+IsToldOf senders archs s t run date reports source text = IsToldBy senders archs (unstable_in archs s) t (excuses_of archs s t date) run reports source text
+
+abbrev pub IsTold : Lists → Covered → Suite → ℕ → Date → Reports → Text → Text → Type 0
+IsTold setup s t run date reports source text = IsToldOf (sender_names setup) setup.archs s t run date reports source text
+
+-- the same of run k, which was on this day
+pub record IsWhyAfter (setup : Lists) (kept : Kept) (k : ℕ) (source text : Text) : Type 0 where
+  pub date : Date
+  pub dated : latest_day (orders_to setup kept k) ≡ Some date
+  pub told : IsTold setup (covered_items setup kept k) (testing_after setup kept k) k date (reports_of setup kept k) source text
+
+-- why a source stands where run k left it, which is the last finished one; none where no run is finished
+abbrev pub IsWhy : Lists → Kept → ℕ → Text → Option Text → Type 0
+IsWhy setup kept k source None = k ≡ 0
+IsWhy setup kept k source (Some text) = IsWhyAfter setup kept k source text

@@ -1,0 +1,239 @@
+//! What is told of a source, by the facts and the testing that a run left.
+
+ghost use Rattle.std.specs.Prelude.{◌≡◌, ◌++◌, [], Some, IfOk, option_copied};
+ghost use Rattle.testing_rules_model.specs.Covered.{Covered};
+ghost use Rattle.testing_rules_model.specs.Excuses as rules;
+ghost use Rattle.testing_rules_model.specs.Moves as moves;
+ghost use Rattle.testing_rules_model.specs.StandsFor.{StandsFor};
+ghost use Rattle.testing_rules_excuses.specs.Lines.{IsOriginText};
+ghost use Rattle.testing_rules_excuses.specs.States as states;
+ghost use Rattle.testing_rules_reports.specs.Sources as lines;
+ghost use Rattle.office_core_why.specs.Telling.{unstable_of};
+ghost use Rattle.office_core_why.specs.Why.{AreOrigins, IsRefused, IsRefusedWhere, IsTold, IsToldBy, IsToldOf, said_in, sender_names};
+
+use deb_control::{NoMemory, Text};
+use jiff_core::civil::Date;
+use office_mail::Setup;
+use office_store_keeper::Reports;
+use std::alloc::Global;
+use testing_rules_excuses::{excuse_of, excuses, origin_lines, said_of};
+use testing_rules_facts::{Facts, source_in};
+use testing_rules_items::Archs;
+use testing_rules_model::{Excuse, UploadIn};
+use testing_rules_refusals::why_waits;
+use testing_rules_reports::{source_text, waits_in};
+use testing_rules_suites::Testing;
+
+/// The names of the senders.
+fn sender_names(alloc: Global, setup: &Setup) -> Result<Vec<Text>, NoMemory>
+    ensures { IfOk result (λ names. names.items ≡ sender_names setup.now) }
+{
+    let senders = setup.senders();
+    let mut names = Vec::new(alloc);
+    for sender in senders {
+        names.push(sender.name.copy(alloc)?)?;
+    }
+    Ok(names)
+}
+
+/// A text without a line.
+fn no_lines(alloc: Global) -> Text
+    ensures { result ≡ [] }
+{
+    Text::from_string(String::new(alloc))
+}
+
+/// Where the reasons come from that keep a source of unstable out.
+fn origins_of(
+    alloc: Global,
+    senders: &[Text],
+    archs: &Archs,
+    facts: &Facts,
+    testing: &Testing,
+    upload: &UploadIn,
+    excuse: Option<&Excuse>,
+) -> Result<Text, NoMemory>
+    ensures { IfOk result (λ text. IsOriginText senders.now archs.now (said_in (unstable_of archs.now facts.now) testing.now upload.now) upload.now (option_copied excuse.entry) text) }
+{
+    let said = said_of(alloc, archs, facts, testing, upload)?;
+    origin_lines(alloc, senders, archs, &said, upload, excuse)
+}
+
+/// Where the reasons come from that keep a source out; no line of a source that unstable hasn't.
+fn origins_in(
+    alloc: Global,
+    senders: &[Text],
+    archs: &Archs,
+    facts: &Facts,
+    testing: &Testing,
+    excuses: &[Excuse],
+    source: &str,
+) -> Result<Text, NoMemory>
+    ensures { IfOk result (λ text. AreOrigins senders.now archs.now (unstable_of archs.now facts.now) testing.now (states.excuse_of excuses.now source.now) (moves.source_in facts.now.sources source.now) text) }
+{
+    let excuse = excuse_of(excuses, source);
+    match source_in(facts.sources(), source) {
+        Some(upload) => origins_of(alloc, senders, archs, facts, testing, upload, excuse),
+        None => Ok(no_lines(alloc)),
+    }
+}
+
+/// Why the source of an excuse can't move alone; no line where the move breaks nothing.
+fn refusal_of(
+    alloc: Global,
+    archs: &Archs,
+    facts: &Facts,
+    testing: &mut Testing,
+    excuses: &[Excuse],
+    excuse: &Excuse,
+) -> Result<Text, NoMemory>
+    ensures told { IfOk result (λ text. IsRefused archs.now (unstable_of archs.now facts.now) testing.old excuses.now (Some excuse.now) text) }
+    ensures same { testing.new ≡ testing.old }
+{
+    match why_waits(alloc, archs, facts, excuses, excuse, testing)? {
+        Some(text) => Ok(text),
+        None => Ok(no_lines(alloc)),
+    }
+}
+
+/// Why a source can't move alone; no line of one that has no excuse.
+fn refusal_in(
+    alloc: Global,
+    archs: &Archs,
+    facts: &Facts,
+    testing: &mut Testing,
+    excuses: &[Excuse],
+    source: &str,
+) -> Result<Text, NoMemory>
+    ensures told { IfOk result (λ text. IsRefused archs.now (unstable_of archs.now facts.now) testing.old excuses.now (states.excuse_of excuses.now source.now) text) }
+    ensures same { testing.new ≡ testing.old }
+{
+    match excuse_of(excuses, source) {
+        Some(excuse) => refusal_of(alloc, archs, facts, testing, excuses, excuse),
+        None => Ok(no_lines(alloc)),
+    }
+}
+
+/// Why a source that waits by an update can't move alone; no line of any other.
+fn refusal_by(
+    alloc: Global,
+    archs: &Archs,
+    facts: &Facts,
+    testing: &mut Testing,
+    excuses: &[Excuse],
+    update: &str,
+    source: &str,
+) -> Result<Text, NoMemory>
+    ensures told { IfOk result (λ text. IsRefusedWhere (lines.waits_in source.now update.now) archs.now (unstable_of archs.now facts.now) testing.old excuses.now (states.excuse_of excuses.now source.now) text) }
+    ensures same { testing.new ≡ testing.old }
+{
+    let waits = waits_in(alloc, source, update)?;
+    if waits {
+        refusal_in(alloc, archs, facts, testing, excuses, source)
+    } else {
+        Ok(no_lines(alloc))
+    }
+}
+
+/// What the reports of a run say of a source, with the lines on where the reasons come from.
+fn with_origins(
+    alloc: Global,
+    run: u32,
+    reports: &Reports,
+    source: &str,
+    origins: &Text,
+) -> Result<Text, NoMemory>
+    ensures { IfOk result (λ text. text ≡ lines.source_text run source.now reports.now.excuses reports.now.updates origins.now) }
+{
+    let (excuses, update) = (reports.excuses.as_str(), reports.updates.as_str());
+    source_text(alloc, run, source, excuses, update, origins.as_str())
+}
+
+/// The same, with the lines on why the source can't move alone.
+fn with_reasons(
+    alloc: Global,
+    run: u32,
+    reports: &Reports,
+    source: &str,
+    origins: &Text,
+    refusal: &Text,
+) -> Result<Text, NoMemory>
+    ensures { IfOk result (λ text. text ≡ lines.source_text run source.now reports.now.excuses reports.now.updates origins.now ++ refusal.now) }
+{
+    let said = with_origins(alloc, run, reports, source, origins)?;
+    let text = format!(in alloc; "{}{}", said.as_str(), refusal.as_str())?;
+    Ok(Text::from_string(text))
+}
+
+/// What is told of a source by the excuses that a run left.
+fn told_by(
+    alloc: Global,
+    senders: &[Text],
+    archs: &Archs,
+    facts: &Facts,
+    testing: &mut Testing,
+    excuses: &[Excuse],
+    run: u32,
+    reports: &Reports,
+    source: &str,
+) -> Result<Text, NoMemory>
+    ensures told { IfOk result (λ text. IsToldBy senders.now archs.now (unstable_of archs.now facts.now) testing.old excuses.now run reports.now source.now text) }
+    ensures same { testing.new ≡ testing.old }
+{
+    let update = reports.updates.as_str();
+    let origins = origins_in(alloc, senders, archs, facts, testing, excuses, source)?;
+    let refusal = refusal_by(alloc, archs, facts, testing, excuses, update, source)?;
+    with_reasons(alloc, run, reports, source, &origins, &refusal)
+}
+
+/// What is told of a source after a run of a date, whose senders have these names, over the messages that the facts stand
+/// for.
+fn told_of(
+    alloc: Global,
+    senders: &[Text],
+    archs: &Archs,
+    facts: &Facts,
+    testing: &mut Testing,
+    run: u32,
+    date: Date,
+    reports: &Reports,
+    source: &str,
+) -> Result<Text, NoMemory>
+    ensures told { IfOk result (λ text. (s : Covered) → StandsFor facts.now s testing.old → IsToldOf senders.now archs.now s testing.old run date reports.now source.now text) }
+    ensures same { testing.new ≡ testing.old }
+{
+    let excuses = excuses(alloc, archs, facts, testing, date)?;
+    told_by(
+        alloc,
+        senders,
+        archs,
+        facts,
+        testing,
+        excuses.as_slice(),
+        run,
+        reports,
+        source,
+    )
+}
+
+/// What is told of a source after a run of a date by its reports and the testing that it left, over the messages that the
+/// facts stand for.
+pub(crate) fn told_after(
+    alloc: Global,
+    setup: &Setup,
+    facts: &Facts,
+    testing: &mut Testing,
+    run: u32,
+    date: Date,
+    reports: &Reports,
+    source: &str,
+) -> Result<Text, NoMemory>
+    ensures told { IfOk result (λ text. (s : Covered) → StandsFor facts.now s testing.old → IsTold setup.now s testing.old run date reports.now source.now text) }
+    ensures same { testing.new ≡ testing.old }
+{
+    let senders = sender_names(alloc, setup)?;
+    let archs = setup.archs();
+    told_of(
+        alloc, &senders, archs, facts, testing, run, date, reports, source,
+    )
+}

@@ -1,0 +1,216 @@
+//! Why a source stands where the last finished run of an office left it.
+#![tactic(auto, using(office_core_orders::proofs::LastFacts::lasting))]
+
+ghost use Rattle.std.specs.Prelude.{is_ok, ◌≡◌, Some, IfOk, IfErr, IfSome, length};
+ghost use Rattle.testing_rules_model.specs.Covered.{Covered};
+ghost use Rattle.testing_rules_model.specs.StandsFor.{StandsFor};
+ghost use Rattle.office_store_keeper.specs.Content.{item_from_one};
+ghost use Rattle.office_core_orders.specs.Counted.{Counted};
+ghost use Rattle.office_core_orders.specs.ReadsStore.{ReadsStore};
+ghost use Rattle.office_core_orders.specs.Ready.{FirstOrders};
+ghost use Rattle.office_core_orders.specs.StaysTrusted.{StaysTrusted};
+ghost use Rattle.office_core_facts.specs.Known.{AreKnown};
+ghost use Rattle.office_core_facts.specs.Outcome.{covered_items};
+ghost use Rattle.office_core_facts.specs.State.{IsOffice};
+ghost use Rattle.office_core_why.specs.Why.{IsWhy};
+ghost use Rattle.office_core_why.specs.Telling.{IsToldWith};
+
+use crate::told::told_after;
+use deb_control::Text;
+use jiff_core::civil::Date;
+use office_core_facts::covered::{KnownFacts, covers};
+use office_core_facts::finished::{facts_within, finished_orders, remember};
+use office_core_orders::{StoreFault, stored};
+use office_mail::{RunOrder, Setup, latest_day};
+use office_store_keeper::{Keeper, Reports};
+use std::alloc::Global;
+use testing_rules_facts::Facts;
+use testing_rules_suites::Testing;
+
+/// What is told of a source by the reports of a run and the testing that it left, over the messages that the facts stand for.
+/// It fails for want of memory alone.
+fn told_beside(
+    alloc: Global,
+    setup: &Setup,
+    facts: &Facts,
+    testing: &mut Testing,
+    run: u32,
+    date: Date,
+    reports: &Reports,
+    source: &str,
+) -> Result<Option<Text>, StoreFault>
+    ensures told { IfOk result (λ found. (s : Covered) → StandsFor facts.now s testing.old → IsToldWith setup.now s testing.old run date (Some reports.now) source.now found) }
+    ensures same { testing.new ≡ testing.old }
+    ensures no_store { IfErr result (λ fault. fault ≡ StoreFault.NoMemory) }
+{
+    let text = told_after(alloc, setup, facts, testing, run, date, reports, source)?;
+    Ok(Some(text))
+}
+
+/// The same over the testing that is kept, which is given back with what speeds the next run.
+fn tell_by<K: Keeper>(
+    alloc: Global,
+    setup: &Setup,
+    keeper: &mut K,
+    facts: &Facts,
+    run: u32,
+    date: Date,
+    reports: &Reports,
+    source: &str,
+) -> Result<Option<Text>, StoreFault>
+    ensures told { K.is_trusted keeper.new → K.is_legible keeper.old → IfOk result (λ found. (s : Covered) → StandsFor facts.now s (K.content keeper.old).testing
+        → IsToldWith setup.now s (K.content keeper.old).testing run date (Some reports.now) source.now found) }
+    ensures looks { ReadsStore K.Keeper keeper.old keeper.new result }
+{
+    let mut testing = stored::next_testing(keeper)?;
+    let told = told_beside(
+        alloc,
+        setup,
+        facts,
+        &mut testing,
+        run,
+        date,
+        reports,
+        source,
+    );
+    keeper.give_back(testing);
+    told
+}
+
+/// The same by the reports that the store keeps of the run. Nothing is told where it keeps none.
+fn tell<K: Keeper>(
+    alloc: Global,
+    setup: &Setup,
+    keeper: &mut K,
+    facts: &Facts,
+    run: u32,
+    date: Date,
+    source: &str,
+) -> Result<Option<Text>, StoreFault>
+    ensures told { K.is_trusted keeper.new → K.is_legible keeper.old → IfOk result (λ found. (s : Covered) → StandsFor facts.now s (K.content keeper.old).testing
+        → IsToldWith setup.now s (K.content keeper.old).testing run date (item_from_one run (K.content keeper.old).reports) source.now found) }
+    ensures looks { ReadsStore K.Keeper keeper.old keeper.new result }
+{
+    match stored::reports(keeper, run)? {
+        Some(reports) => tell_by(alloc, setup, keeper, facts, run, date, &reports, source),
+        None => Ok(None),
+    }
+}
+
+/// What is told of a source after the finished runs, of which these are the orders, where nothing is known of their mail: it
+/// is taken from the store.
+fn tell_unknown<K: Keeper>(
+    alloc: Global,
+    setup: &Setup,
+    keeper: &mut K,
+    orders: &[RunOrder],
+    run: u32,
+    date: Date,
+    source: &str,
+) -> Result<Option<Text>, StoreFault>
+    ensures told { K.is_trusted keeper.new → K.is_legible keeper.old → IsOffice setup.now (K.content keeper.old) → FirstOrders setup.now (K.content keeper.old).kept orders.now → length orders.now ≡ length (K.content keeper.old).reports
+        → IfOk result (IsToldWith setup.now (covered_items setup.now (K.content keeper.old).kept (length (K.content keeper.old).reports)) (K.content keeper.old).testing run date (item_from_one run (K.content keeper.old).reports) source.now) }
+    ensures looks { ReadsStore K.Keeper keeper.old keeper.new result }
+{
+    let covers = covers(alloc, setup, orders)?;
+    let known = facts_within(alloc, setup, keeper, orders, &covers)?;
+    let told = tell(alloc, setup, keeper, &known.facts, run, date, source);
+    drop(known);
+    told
+}
+
+/// The same by what is known, or else from the store.
+fn tell_known<K: Keeper>(
+    alloc: Global,
+    setup: &Setup,
+    keeper: &mut K,
+    known: &Option<KnownFacts>,
+    orders: &[RunOrder],
+    run: u32,
+    date: Date,
+    source: &str,
+) -> Result<Option<Text>, StoreFault>
+    ensures told { K.is_trusted keeper.new → K.is_legible keeper.old → IsOffice setup.now (K.content keeper.old) → FirstOrders setup.now (K.content keeper.old).kept orders.now → length orders.now ≡ length (K.content keeper.old).reports
+        → IfSome known.now (λ known. AreKnown setup.now (K.content keeper.old) known)
+        → IfOk result (IsToldWith setup.now (covered_items setup.now (K.content keeper.old).kept (length (K.content keeper.old).reports)) (K.content keeper.old).testing run date (item_from_one run (K.content keeper.old).reports) source.now) }
+    ensures looks { ReadsStore K.Keeper keeper.old keeper.new result }
+{
+    match known {
+        Some(known) => tell(alloc, setup, keeper, &known.facts, run, date, source),
+        None => tell_unknown(alloc, setup, keeper, orders, run, date, source),
+    }
+}
+
+/// Why a source stands where the last finished run left it, which was on this day; these are the orders of the finished
+/// runs.
+fn why_on<K: Keeper>(
+    alloc: Global,
+    setup: &Setup,
+    keeper: &mut K,
+    known: &mut Option<KnownFacts>,
+    orders: &[RunOrder],
+    run: u32,
+    date: Date,
+    source: &str,
+) -> Result<Option<Text>, StoreFault>
+    ensures known { K.is_trusted keeper.new → FirstOrders setup.now (K.content keeper.old).kept orders.now → run ≡ length (K.content keeper.old).reports
+        → IfSome known.old (λ known. AreKnown setup.now (K.content keeper.old) known) → IfSome known.new (λ known. AreKnown setup.now (K.content keeper.old) known) }
+    ensures told { K.is_trusted keeper.new → K.is_legible keeper.old → IsOffice setup.now (K.content keeper.old) → FirstOrders setup.now (K.content keeper.old).kept orders.now → length orders.now ≡ length (K.content keeper.old).reports → run ≡ length (K.content keeper.old).reports
+        → IfSome known.old (λ known. AreKnown setup.now (K.content keeper.old) known)
+        → IfOk result (IsToldWith setup.now (covered_items setup.now (K.content keeper.old).kept (length (K.content keeper.old).reports)) (K.content keeper.old).testing run date (item_from_one run (K.content keeper.old).reports) source.now) }
+    ensures looks { ReadsStore K.Keeper keeper.old keeper.new result }
+{
+    remember(alloc, setup, keeper, known, orders, run)?;
+    tell_known(alloc, setup, keeper, known, orders, run, date, source)
+}
+
+/// The same on the day of the latest of these orders, none where there is no order.
+fn why_after<K: Keeper>(
+    alloc: Global,
+    setup: &Setup,
+    keeper: &mut K,
+    known: &mut Option<KnownFacts>,
+    orders: &[RunOrder],
+    run: u32,
+    source: &str,
+) -> Result<Option<Text>, StoreFault>
+    ensures known { K.is_trusted keeper.new → FirstOrders setup.now (K.content keeper.old).kept orders.now → run ≡ length (K.content keeper.old).reports
+        → IfSome known.old (λ known. AreKnown setup.now (K.content keeper.old) known) → IfSome known.new (λ known. AreKnown setup.now (K.content keeper.old) known) }
+    ensures why { K.is_trusted keeper.new → K.is_legible keeper.old → IsOffice setup.now (K.content keeper.old) → FirstOrders setup.now (K.content keeper.old).kept orders.now → length orders.now ≡ length (K.content keeper.old).reports → run ≡ length (K.content keeper.old).reports
+        → IfSome known.old (λ known. AreKnown setup.now (K.content keeper.old) known)
+        → IfOk result (IsWhy setup.now (K.content keeper.old).kept (length (K.content keeper.old).reports) source.now) }
+    ensures looks { ReadsStore K.Keeper keeper.old keeper.new result }
+{
+    match latest_day(orders) {
+        Some(date) => why_on(alloc, setup, keeper, known, orders, run, date, source),
+        None => Ok(None),
+    }
+}
+
+/// Why a source stands where the last finished run of an office with this store left it, none where no run is finished: the
+/// lines of the run's reports that are of the source; where the reasons come from that keep it out; and of a source that
+/// waits, what shows that it can't move alone. What is known of the mail is used, or else recalled from the store and known
+/// from then on.
+///
+/// It fails for want of memory or of the store alone.
+pub fn why_text<K: Keeper>(
+    alloc: Global,
+    setup: &Setup,
+    keeper: &mut K,
+    known: &mut Option<KnownFacts>,
+    source: &str,
+) -> Result<Option<Text>, StoreFault>
+    requires known { K.is_trusted keeper.old → IfSome known.old (λ known. AreKnown setup.now (K.content keeper.old) known) }
+    ensures why { K.is_trusted keeper.new → K.is_legible keeper.old → IsOffice setup.now (K.content keeper.old) → IfOk result (IsWhy setup.now (K.content keeper.old).kept (length (K.content keeper.old).reports) source.now) }
+    ensures known { K.is_trusted keeper.new → IfSome known.new (λ known. AreKnown setup.now (K.content keeper.new) known) }
+    ensures same { K.is_trusted keeper.new → K.content keeper.new ≡ K.content keeper.old }
+    ensures setup { K.setup keeper.new ≡ K.setup keeper.old }
+    ensures before { K.is_trusted keeper.new → K.is_trusted keeper.old }
+    ensures legible { K.is_trusted keeper.new → K.is_legible keeper.old → K.is_legible keeper.new }
+    ensures lasts { StaysTrusted K.Keeper keeper.old keeper.new (is_ok result) }
+    ensures counted { Counted (K.refusals keeper.old) (K.refusals keeper.new) result }
+{
+    let finished = stored::finished(keeper)?;
+    let orders = finished_orders(alloc, setup, keeper, finished)?;
+    why_after(alloc, setup, keeper, known, &orders, finished, source)
+}

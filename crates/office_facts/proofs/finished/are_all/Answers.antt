@@ -1,5 +1,0 @@
-use Rattle.std.proofs.Common.{rules}
-use Rattle.office_facts.proofs.finished.are_all.Goals as goal
-
-pub returns : goal.returns
-returns c = search rules

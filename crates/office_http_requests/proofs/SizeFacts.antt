@@ -1,0 +1,98 @@
+-- How long a body may be.
+use Rattle.std.proofs.Common.{◌≡◌, ℕ, ◌≤◌, Bool, true, false, ◌&&◌, ◌==◌, ◌+◌, nat_le, List, [], ◌∷◌, take, drop, map, codes, Option, Some, None, refl, cond, arith}
+use Rattle.std.proofs.lemmas.Bool.Decides.{nat_tests}
+use Rattle.std.specs.Str.{bytes_eq}
+use Rattle.std.specs.Str.Parse.{digits_value}
+use Rattle.httparse.specs.Grammar.{RequestHead}
+use Rattle.httparse.specs.Spans.{name_and_value}
+use Rattle.deb_control.specs.Relations.{is_package_name}
+use Rattle.office_mail.specs.Lists.{Lists}
+use Rattle.office_http_requests.specs.Routes.{route_of}
+use Rattle.office_http_requests.specs.declared.routes.Route.{Route}
+use Rattle.office_http_requests.specs.declared.routes.Route.TheVariants as route
+use Rattle.office_http_requests.specs.declared.reply.Refusal.{Refusal}
+use Rattle.office_http_requests.specs.declared.reply.Refusal.TheVariants.{NoRoute, OnlyGet, OnlyPost}
+use Rattle.office_http_requests.specs.declared.request.Stated.{Stated}
+use Rattle.office_http_requests.specs.declared.request.Stated.TheVariants.{Absent, Bad, TooLong, Exactly}
+use Rattle.office_http_requests.specs.declared.request.Framing.{Framing}
+use Rattle.office_http_requests.specs.declared.request.Action.{Action}
+use Rattle.office_http_requests.specs.declared.request.Action.TheVariants.{Deliver, Settle, Try}
+use Rattle.office_http_requests.specs.declared.request.Page.{Page}
+use Rattle.office_http_requests.specs.declared.request.Page.TheVariants.{Status, Testing, Excuses, Update, Waiting, Runs, Kept, Why}
+use Rattle.office_http_requests.specs.declared.request.Asked.{Asked}
+use Rattle.office_http_requests.specs.declared.request.Asked.TheVariants.{Refused, Tell}
+use Rattle.office_http_requests.specs.Asked.{Line, are_digits, number_stated, stated, values_named, framing_of, posted_length, posted_by, post_asked, tell_asked, asked_at, asked_by, asked_of, letter_by, path_of, plain_number, sender_place, slash_at, body_size}
+use Rattle.office_http_requests.specs.Request.{body_room}
+
+abbrev stated_size : Stated → ℕ
+stated_size Absent = 0
+stated_size Bad = 0
+stated_size TooLong = 0
+stated_size (Exactly n) = n
+
+chosen : (a b : Bool) (n : ℕ) → nat_le n 65_536 ≡ b → stated_size (cond a (cond b (Exactly n) TooLong) Bad) ≤ body_room
+chosen false b n e = omega arith
+chosen true false n e = omega arith
+chosen true true n e = grind (arith, nat_tests)
+
+number_fits : (value : List ℕ) → stated_size (number_stated value) ≤ body_room
+unfolding number_stated
+number_fits value = chosen (are_digits value) (nat_le (digits_value 10 value) 65_536) (digits_value 10 value) refl
+
+stated_fits : (values : List (List ℕ)) → stated_size (stated values) ≤ body_room
+stated_fits [] = omega arith
+stated_fits (v ∷ []) = number_fits v
+stated_fits (v ∷ w ∷ values) = omega arith
+
+framing_fits : (lines : List Line) → stated_size (framing_of lines).length ≤ body_room
+unfolding framing_of
+framing_fits lines = stated_fits (values_named (codes "content-length") lines)
+
+length_fits : (action : Action) (s : Stated) (coded waits : Bool) → stated_size s ≤ body_room → body_size (posted_by action waits (posted_length action s coded)) ≤ body_room
+length_fits Settle Absent true waits h = omega arith
+length_fits Settle Absent false waits h = omega arith
+length_fits Deliver Absent coded waits h = omega arith
+length_fits Try Absent coded waits h = omega arith
+length_fits action Bad coded waits h = omega arith
+length_fits action TooLong true waits h = omega arith
+length_fits action TooLong false waits h = omega arith
+length_fits action (Exactly n) true waits h = omega arith
+length_fits action (Exactly n) false waits h = h
+
+if_fits : (b : Bool) (a : Asked) (r : Refusal) → body_size a ≤ body_room → body_size (cond b a (Refused r)) ≤ body_room
+if_fits true a r h = h
+if_fits false a r h = omega arith
+
+post_fits : (action : Action) (method : List ℕ) (minor : ℕ) (framing : Framing) → stated_size framing.length ≤ body_room → body_size (post_asked action method minor framing) ≤ body_room
+post_fits action method minor framing h =
+    if_fits (bytes_eq method (codes "POST")) (posted_by action (minor == 1 && framing.waits) (posted_length action framing.length framing.coded)) OnlyPost
+    (length_fits action framing.length framing.coded (minor == 1 && framing.waits) h)
+
+tell_fits : (page : Page) (method : List ℕ) → body_size (tell_asked page method) ≤ body_room
+tell_fits page method = if_fits (bytes_eq method (codes "GET")) (Tell page) OnlyGet (omega arith)
+
+letter_fits : (sender : Option ℕ) (number : ℕ) → body_size (letter_by sender number) ≤ body_room
+letter_fits None number = omega arith
+letter_fits (Some sender) number = omega arith
+
+asked_fits : (setup : Lists) (o : Option Route) (method path : List ℕ) (minor : ℕ) (framing : Framing) → stated_size framing.length ≤ body_room → body_size (asked_at setup o method path minor framing) ≤ body_room
+asked_fits setup None method path minor framing h = omega arith
+asked_fits setup (Some route.Mail) method path minor framing h = post_fits Deliver method minor framing h
+asked_fits setup (Some route.Settle) method path minor framing h = post_fits Settle method minor framing h
+asked_fits setup (Some route.Status) method path minor framing h = tell_fits Status method
+asked_fits setup (Some route.Testing) method path minor framing h = tell_fits Testing method
+asked_fits setup (Some route.Excuses) method path minor framing h = tell_fits _ method
+asked_fits setup (Some route.Update) method path minor framing h = tell_fits _ method
+asked_fits setup (Some route.Waiting) method path minor framing h = tell_fits Waiting method
+asked_fits setup (Some route.Runs) method path minor framing h = tell_fits Runs method
+asked_fits setup (Some route.Kept) method path minor framing h = tell_fits Kept method
+asked_fits setup (Some route.Letter) method path minor framing h =
+    let text = drop 6 path in
+    if_fits (bytes_eq method (codes "GET")) (letter_by (sender_place setup (take (slash_at text) text)) (plain_number (drop (slash_at text + 1) text))) OnlyGet (letter_fits (sender_place setup (take (slash_at text) text)) (plain_number (drop (slash_at text + 1) text)))
+asked_fits setup (Some route.Why) method path minor framing h = if_fits (is_package_name (drop 5 path)) (tell_asked (Why (drop 5 path)) method) NoRoute (tell_fits (Why (drop 5 path)) method)
+asked_fits setup (Some route.Try) method path minor framing h = post_fits Try method minor framing h
+
+-- no body that is read is longer than 65,536 bytes
+pub body_fits : (setup : Lists) (head : RequestHead) → body_size (asked_of setup head) ≤ body_room
+unfolding asked_of asked_by
+body_fits setup head = asked_fits setup (route_of (path_of head.target)) head.method (path_of head.target) head.minor (framing_of (map name_and_value head.fields)) (framing_fits (map name_and_value head.fields))

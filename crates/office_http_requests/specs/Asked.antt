@@ -1,0 +1,202 @@
+-- What a request asks for, by its head.
+use Rattle.std.specs.Prelude.{ℕ, ◌^◌, Bool, true, false, ◌&&◌, ◌==◌, nat_le, nat_lt, if◌then◌else◌, List, [], ◌∷◌, drop, take, length, ◌+◌, map, codes, Option, Some, None, Result, Ok, Err, unwrap_or}
+use Rattle.std.specs.List.{list_all, list_any, before_first, position}
+use Rattle.std.specs.Option.{option_map}
+use Rattle.std.specs.Char.{is_ascii_digit}
+use Rattle.std.specs.Str.{bytes_eq, str_eq_ignore_ascii_case}
+use Rattle.std.specs.Str.Parse.{digits_value}
+use Rattle.httparse.specs.Grammar.{RequestHead}
+use Rattle.httparse.specs.Spans.{name_and_value}
+use Rattle.matchit.specs.Rows.{RowsOf}
+use Rattle.matchit.specs.Router.{RouteOf}
+use Rattle.deb_control.specs.Relations.{is_package_name}
+use Rattle.office_mail.specs.Lists.{Lists}
+use Rattle.office_mail.specs.Read.{sender_named}
+use Rattle.office_mail_setup.specs.declared.setup.Role.{Role}
+use Rattle.office_http_requests.specs.Routes.{route_in, route_of}
+use Rattle.office_http_requests.specs.declared.routes.Route.{Route}
+use Rattle.office_http_requests.specs.declared.routes.Route.TheVariants as route
+use Rattle.office_http_requests.specs.declared.reply.Refusal.{Refusal}
+use Rattle.office_http_requests.specs.declared.reply.Refusal.TheVariants.{BadRequest, NoRoute, NoMessage, OnlyGet, OnlyPost, LengthRequired}
+use Rattle.office_http_requests.specs.declared.reply.Refusal.TheVariants as refusal
+use Rattle.office_http_requests.specs.declared.request.Stated.{Stated}
+use Rattle.office_http_requests.specs.declared.request.Stated.TheVariants.{Absent, Bad, TooLong, Exactly}
+use Rattle.office_http_requests.specs.declared.request.Framing.{Framing}
+use Rattle.office_http_requests.specs.declared.request.Action.{Action}
+use Rattle.office_http_requests.specs.declared.request.Action.TheVariants.{Deliver, Settle, Try}
+use Rattle.office_http_requests.specs.declared.request.Page.{Page}
+use Rattle.office_http_requests.specs.declared.request.Page.TheVariants.{Status, Testing, Excuses, Update, Waiting, Runs, Kept, Letter, Why}
+use Rattle.office_http_requests.specs.declared.request.Asked.{Asked}
+use Rattle.office_http_requests.specs.declared.request.Asked.TheVariants.{Refused, Tell, Post}
+
+-- a name and a value
+abbrev pub Line : Type 0
+Line = List ℕ × List ℕ
+
+-- the values of the fields of a name, which is compared without regard to case (RFC 9110, section 5.1)
+abbrev pub values_named : List ℕ → List Line → List (List ℕ)
+values_named name [] = []
+values_named name (line ∷ lines) = if str_eq_ignore_ascii_case line.0 name then line.1 ∷ values_named name lines else values_named name lines
+
+-- decimal digits alone, at least one
+unfoldable pub are_digits : List ℕ → Bool
+are_digits [] = false
+are_digits (c ∷ cs) = list_all is_ascii_digit (c ∷ cs)
+
+-- the number that digits spell, where it has at most 32 bits
+unfoldable pub number_under : List ℕ → Option ℕ
+number_under text = if nat_lt (digits_value 10 text) (2 ^ 32) then Some (digits_value 10 text) else None
+
+-- the length that one value states: at most 65,536 is read
+unfoldable pub number_stated : List ℕ → Stated
+number_stated value =
+    if are_digits value then (if nat_le (digits_value 10 value) 65_536 then Exactly (digits_value 10 value) else TooLong) else Bad
+
+-- the length that the values of Content-Length state: several are bad
+abbrev pub stated : List (List ℕ) → Stated
+stated [] = Absent
+stated (value ∷ []) = number_stated value
+stated (value ∷ another ∷ values) = Bad
+
+abbrev pub is_there : List (List ℕ) → Bool
+is_there [] = false
+is_there (value ∷ values) = true
+
+-- a client that waits before it sends the body (RFC 9110, section 10.1.1)
+abbrev pub is_continue : List ℕ → Bool
+is_continue value = str_eq_ignore_ascii_case value (codes "100-continue")
+
+-- what the fields say of the body
+unfoldable pub framing_of : List Line → Framing
+framing_of lines = record {
+  length = stated (values_named (codes "content-length") lines);
+  coded = is_there (values_named (codes "transfer-encoding") lines);
+  waits = list_any is_continue (values_named (codes "expect") lines);
+}
+
+-- the same with one more value, and with one more field: no public contract cites these
+abbrev pub with_value : Stated → List ℕ → Stated
+with_value Absent value = number_stated value
+with_value Bad value = Bad
+with_value TooLong value = Bad
+with_value (Exactly n) value = Bad
+
+abbrev pub length_with : Stated → Line → Stated
+length_with stated line = if str_eq_ignore_ascii_case line.0 (codes "content-length") then with_value stated line.1 else stated
+
+abbrev pub waits_with : Bool → Line → Bool
+waits_with waits line = if str_eq_ignore_ascii_case line.0 (codes "expect") && is_continue line.1 then true else waits
+
+abbrev pub with_field : Framing → Line → Framing
+with_field framing line = record {
+  length = length_with framing.length line;
+  coded = if str_eq_ignore_ascii_case line.0 (codes "transfer-encoding") then true else framing.coded;
+  waits = waits_with framing.waits line;
+}
+
+-- the target up to its query
+abbrev pub is_query : ℕ → Bool
+is_query c = c == 63
+
+unfoldable pub path_of : List ℕ → List ℕ
+path_of target = before_first is_query target
+
+abbrev pub has_leading_zero : List ℕ → Bool
+has_leading_zero [] = false
+has_leading_zero (c ∷ cs) = c == 48
+
+abbrev pub number_or_zero : List ℕ → ℕ
+number_or_zero text = if are_digits text then unwrap_or (number_under text) 0 else 0
+
+-- the number that digits without a leading zero spell; 0, which is no run's and no message's, for any other text
+unfoldable pub plain_number : List ℕ → ℕ
+plain_number text = if has_leading_zero text then 0 else number_or_zero text
+
+-- The length of the body: one that is stated as a number, and not beside a transfer coding. A settle may leave it out.
+abbrev pub absent_length : Action → Bool → Result ℕ Refusal
+absent_length Settle coded = if coded then Err LengthRequired else Ok 0
+absent_length Deliver coded = Err LengthRequired
+absent_length Try coded = Err LengthRequired
+
+abbrev pub posted_length : Action → Stated → Bool → Result ℕ Refusal
+posted_length action Absent coded = absent_length action coded
+posted_length action Bad coded = Err BadRequest
+posted_length action TooLong coded = if coded then Err BadRequest else Err refusal.TooLong
+posted_length action (Exactly n) coded = if coded then Err BadRequest else Ok n
+
+-- 100 Continue is of HTTP/1.1
+abbrev pub posted_by : Action → Bool → Result ℕ Refusal → Asked
+posted_by action waits (Ok n) = Post (record { action = action; length = n; waits = waits })
+posted_by action waits (Err refusal) = Refused refusal
+
+-- on a route that takes POST, and on one that takes GET
+abbrev pub post_asked : Action → List ℕ → ℕ → Framing → Asked
+post_asked action method minor framing =
+    if bytes_eq method (codes "POST") then posted_by action (minor == 1 && framing.waits) (posted_length action framing.length framing.coded) else Refused OnlyPost
+
+abbrev pub tell_asked : Page → List ℕ → Asked
+tell_asked page method = if bytes_eq method (codes "GET") then Tell page else Refused OnlyGet
+
+-- a text in two parts: up to its first slash, and behind it
+abbrev pub is_slash : ℕ → Bool
+is_slash c = c == 47
+
+abbrev pub slash_at : List ℕ → ℕ
+slash_at text = unwrap_or (position is_slash text) (length text)
+
+-- the place of the sender of this name
+abbrev pub sender_place : Lists → List ℕ → Option ℕ
+sender_place setup name = option_map (λ (sender : ℕ × Role). sender.0) (sender_named setup name)
+
+-- the kept text of a sender's number; a name of no sender is refused
+abbrev pub letter_by : Option ℕ → ℕ → Asked
+letter_by None number = Refused NoMessage
+letter_by (Some sender) number = Tell (Letter sender number)
+
+-- what a GET asks for by a sender's name and a number, with a slash between them
+abbrev pub letter_asked : Lists → List ℕ → List ℕ → Asked
+letter_asked setup text method =
+    if bytes_eq method (codes "GET") then letter_by (sender_place setup (take (slash_at text) text)) (plain_number (drop (slash_at text + 1) text)) else Refused OnlyGet
+
+-- what a GET asks for by the name of a source (Debian Policy 5.6.1); any other text there is the path of nothing
+abbrev pub why_asked : List ℕ → List ℕ → Asked
+why_asked name method = if is_package_name name then tell_asked (Why name) method else Refused NoRoute
+
+-- By the route of the path. A report names its run behind the second slash, a kept text its sender there, and then its
+-- number; what is told of a source names the source there.
+abbrev pub asked_at : Lists → Option Route → List ℕ → List ℕ → ℕ → Framing → Asked
+asked_at setup None method path minor framing = Refused NoRoute
+asked_at setup (Some route.Mail) method path minor framing = post_asked Deliver method minor framing
+asked_at setup (Some route.Settle) method path minor framing = post_asked Settle method minor framing
+asked_at setup (Some route.Status) method path minor framing = tell_asked Status method
+asked_at setup (Some route.Testing) method path minor framing = tell_asked Testing method
+asked_at setup (Some route.Excuses) method path minor framing = tell_asked (Excuses (plain_number (drop 9 path))) method
+asked_at setup (Some route.Update) method path minor framing = tell_asked (Update (plain_number (drop 8 path))) method
+asked_at setup (Some route.Waiting) method path minor framing = tell_asked Waiting method
+asked_at setup (Some route.Runs) method path minor framing = tell_asked Runs method
+asked_at setup (Some route.Kept) method path minor framing = tell_asked Kept method
+asked_at setup (Some route.Letter) method path minor framing = letter_asked setup (drop 6 path) method
+asked_at setup (Some route.Why) method path minor framing = why_asked (drop 5 path) method
+asked_at setup (Some route.Try) method path minor framing = post_asked Try method minor framing
+
+unfoldable pub asked_by : Lists → List ℕ → List ℕ → ℕ → Framing → Asked
+asked_by setup method target minor framing = asked_at setup (route_of (path_of target)) method (path_of target) minor framing
+
+-- What a head asks for of an office with this setup: its path is routed, then come its method and what its fields say of
+-- the body.
+unfoldable pub asked_of : Lists → RequestHead → Asked
+asked_of setup head = asked_by setup head.method head.target head.minor (framing_of (map name_and_value head.fields))
+
+-- the same by another table of routes
+abbrev pub asked_by_table : RowsOf (RouteOf Route) → Lists → RequestHead → Asked
+asked_by_table routes setup head = asked_at setup (route_in routes (path_of head.target)) head.method (path_of head.target) head.minor (framing_of (map name_and_value head.fields))
+
+-- whether the reply goes without its body
+abbrev pub is_head_method : RequestHead → Bool
+is_head_method head = bytes_eq head.method (codes "HEAD")
+
+-- how many bytes of a body are read
+abbrev pub body_size : Asked → ℕ
+body_size (Refused r) = 0
+body_size (Tell page) = 0
+body_size (Post p) = p.length

@@ -1,0 +1,350 @@
+//! Replies: what they say, and how they are written (RFC 9112, section 4). They take no memory.
+ghost use Rattle.std.specs.Prelude.{◌≡◌, Ok, Err, ◌≤◌, ◌<◌, ◌+◌, ◌++◌, ◌∷◌, ℕ, List, [], OnOk, OnErr, IfOk, length, decimal, codes, unwrap_or, if◌then◌else◌, true};
+ghost use Rattle.std.specs.Io.KnownBytes.{Appends};
+ghost use Rattle.http.specs.StatusCode.{reason_phrase};
+ghost use Rattle.office_mail.specs.Counts.{HasRisen};
+ghost use Rattle.office_http_requests.specs.Reply.{Reply, refusal_code, refusal_name, refusal_allow, refused, fault_code, accepted, bad_request, reply_in, reply_bytes, front_bytes, continue_bytes, HasPlace};
+ghost use Rattle.office_core_orders.specs.Replies.{status_line};
+ghost use Rattle.office_core_orders.specs.Written.{AppendsFront, joined};
+
+use deb_control::Text;
+use http::StatusCode;
+use office_core_orders::{
+    DeliverFault, Digits, Held, Progress, WriteFault, fault_words, write_all, write_parts,
+};
+use office_mail::{MailFault, Setup, Sink};
+use office_store_keeper::MailText;
+
+/// Why a request is refused.
+#[derive(Clone, Copy, Debug, PartialEq, Eq)]
+pub enum Refusal {
+    BadRequest,
+    NoRoute,
+    NoRun,
+    /// No text is kept under that sender's number, or there is no such sender.
+    NoMessage,
+    /// The path takes GET alone.
+    OnlyGet,
+    /// The path takes POST alone.
+    OnlyPost,
+    LengthRequired,
+    TooLong,
+    HeadTooLarge,
+    NoMemory,
+    Store,
+}
+
+impl Refusal {
+    /// How it is told.
+    fn name(self) -> &'static str
+        ensures name { result.now ≡ refusal_name self }
+        ensures short { length result.now < 20 }
+    {
+        match self {
+            Refusal::BadRequest => "BadRequest",
+            Refusal::NoRoute => "NoRoute",
+            Refusal::NoRun => "NoRun",
+            Refusal::NoMessage => "NoMessage",
+            Refusal::OnlyGet => "MethodNotAllowed",
+            Refusal::OnlyPost => "MethodNotAllowed",
+            Refusal::LengthRequired => "LengthRequired",
+            Refusal::TooLong => "TooLong",
+            Refusal::HeadTooLarge => "HeadTooLarge",
+            Refusal::NoMemory => "NoMemory",
+            Refusal::Store => "Store",
+        }
+    }
+
+    /// Its status code (RFC 9110, section 15; RFC 6585, section 5).
+    fn status(self) -> StatusCode
+        ensures { result ≡ refusal_code self }
+    {
+        match self {
+            Refusal::BadRequest => StatusCode::BAD_REQUEST,
+            Refusal::NoRoute => StatusCode::NOT_FOUND,
+            Refusal::NoRun => StatusCode::NOT_FOUND,
+            Refusal::NoMessage => StatusCode::NOT_FOUND,
+            Refusal::OnlyGet => StatusCode::METHOD_NOT_ALLOWED,
+            Refusal::OnlyPost => StatusCode::METHOD_NOT_ALLOWED,
+            Refusal::LengthRequired => StatusCode::LENGTH_REQUIRED,
+            Refusal::TooLong => StatusCode::PAYLOAD_TOO_LARGE,
+            Refusal::HeadTooLarge => StatusCode::REQUEST_HEADER_FIELDS_TOO_LARGE,
+            Refusal::NoMemory => StatusCode::SERVICE_UNAVAILABLE,
+            Refusal::Store => StatusCode::INTERNAL_SERVER_ERROR,
+        }
+    }
+
+    /// The field that names the method that the path takes (RFC 9110, section 10.2.1).
+    fn allow(self) -> &'static str
+        ensures { result.now ≡ refusal_allow self }
+    {
+        match self {
+            Refusal::OnlyGet => "Allow: GET\r\n",
+            Refusal::OnlyPost => "Allow: POST\r\n",
+            _ => "",
+        }
+    }
+}
+
+/// What a request comes to.
+#[derive(Drop)]
+pub enum Answer {
+    Refused(Refusal),
+    /// The answer to a delivery.
+    Delivered(Result<Held, DeliverFault>),
+    Status(Progress),
+    Told(Text),
+    /// A kept text, byte for byte.
+    Letter(MailText),
+    /// Why a hint is refused.
+    BadHint(Text),
+}
+
+/// The status code for a delivery that is refused.
+fn delivery_status(fault: DeliverFault) -> StatusCode
+    ensures { result ≡ fault_code fault }
+{
+    match fault {
+        DeliverFault::Mail(MailFault::TooLong) => StatusCode::PAYLOAD_TOO_LARGE,
+        DeliverFault::Mail(MailFault::NoMemory) => StatusCode::SERVICE_UNAVAILABLE,
+        DeliverFault::Mail(_) => StatusCode::BAD_REQUEST,
+        DeliverFault::OtherText => StatusCode::CONFLICT,
+        DeliverFault::Store => StatusCode::INTERNAL_SERVER_ERROR,
+    }
+}
+
+/// The phrase of a status code.
+fn phrase_of(status: &StatusCode) -> &str
+    ensures { result.now ≡ unwrap_or (reason_phrase status.now) [] }
+{
+    match status.canonical_reason() {
+        Some(phrase) => phrase,
+        None => "",
+    }
+}
+
+/// Writes what stands before the body: the status line, the fields and the empty line.
+#[tactic(auto, unfolding(crate::specs::Reply::front_bytes))]
+fn write_front<W: Sink>(
+    status: StatusCode,
+    allow: &str,
+    size: usize,
+    writer: &mut W,
+) -> Result<(), WriteFault>
+    ensures ok { OnOk result (Appends (W.written writer.old) (W.written writer.new) (front_bytes status allow.now size)) }
+    ensures err { OnErr result (AppendsFront (W.written writer.old) (W.written writer.new) (front_bytes status allow.now size)) }
+    ensures cause { OnErr result (HasRisen (W.failures writer.old) (W.failures writer.new)) }
+    ensures clean { OnOk result (W.failures writer.new ≡ W.failures writer.old) }
+{
+    let code = Digits::of(u64::from(status.as_u16()));
+    let phrase = phrase_of(&status);
+    let digits = Digits::of(size as u64);
+    let parts = [
+        b"HTTP/1.1 ".as_slice(),
+        code.as_slice(),
+        b" ".as_slice(),
+        phrase.as_bytes(),
+        b"\r\nContent-Type: text/plain; charset=utf-8\r\nContent-Length: ".as_slice(),
+        digits.as_slice(),
+        b"\r\nConnection: close\r\n".as_slice(),
+        allow.as_bytes(),
+        b"\r\n".as_slice(),
+    ];
+    write_parts(writer, &parts)
+}
+
+/// Writes a reply, whose body has that length, or a front of it. It gives the status code.
+fn write_whole<W: Sink>(
+    status: StatusCode,
+    allow: &str,
+    body: &[&[u8]],
+    size: usize,
+    is_head: bool,
+    writer: &mut W,
+) -> Result<u16, WriteFault>
+    requires { size ≡ length (joined body.now) }
+    ensures ok { OnOk result (Appends (W.written writer.old) (W.written writer.new) (reply_bytes (record { code = status; allow = allow.now; body = joined body.now }) is_head)) }
+    ensures code { IfOk result (λ code. code ≡ status) }
+    ensures err { OnErr result (AppendsFront (W.written writer.old) (W.written writer.new) (reply_bytes (record { code = status; allow = allow.now; body = joined body.now }) is_head)) }
+    ensures cause { OnErr result (HasRisen (W.failures writer.old) (W.failures writer.new)) }
+    ensures clean { OnOk result (W.failures writer.new ≡ W.failures writer.old) }
+{
+    write_front(status, allow, size, writer)?;
+    write_parts(writer, shown(body, is_head))?;
+    Ok(status.as_u16())
+}
+
+/// The body, which a HEAD doesn't get.
+fn shown<'a, 'b>(body: &'a [&'b [u8]], is_head: bool) -> &'a [&'b [u8]]
+    ensures { joined result.now ≡ (if is_head then [] else joined body.now) }
+{
+    if is_head { &[] } else { body }
+}
+
+fn write_refused<W: Sink>(
+    refusal: Refusal,
+    is_head: bool,
+    writer: &mut W,
+) -> Result<u16, WriteFault>
+    ensures ok { OnOk result (Appends (W.written writer.old) (W.written writer.new) (reply_bytes (refused refusal) is_head)) }
+    ensures code { IfOk result (λ code. code ≡ refusal_code refusal) }
+    ensures err { OnErr result (AppendsFront (W.written writer.old) (W.written writer.new) (reply_bytes (refused refusal) is_head)) }
+    ensures cause { OnErr result (HasRisen (W.failures writer.old) (W.failures writer.new)) }
+    ensures clean { OnOk result (W.failures writer.new ≡ W.failures writer.old) }
+{
+    let name = refusal.name();
+    let body = [b"refused ".as_slice(), name.as_bytes(), b"\n".as_slice()];
+    let size = name.len() + 9;
+    write_whole(
+        refusal.status(),
+        refusal.allow(),
+        &body,
+        size,
+        is_head,
+        writer,
+    )
+}
+
+#[tactic(auto, unfolding(office_core_orders::specs::Replies::reply_line))]
+fn write_held<W: Sink>(
+    setup: &Setup,
+    held: Held,
+    is_head: bool,
+    writer: &mut W,
+) -> Result<u16, WriteFault>
+    requires { held.sender < length setup.now.senders }
+    ensures ok { OnOk result (Appends (W.written writer.old) (W.written writer.new) (reply_bytes (reply_in setup.now (Answer.Delivered (Ok held))) is_head)) }
+    ensures code { IfOk result (λ code. code ≡ 200) }
+    ensures err { OnErr result (AppendsFront (W.written writer.old) (W.written writer.new) (reply_bytes (reply_in setup.now (Answer.Delivered (Ok held))) is_head)) }
+    ensures cause { OnErr result (HasRisen (W.failures writer.old) (W.failures writer.new)) }
+    ensures clean { OnOk result (W.failures writer.new ≡ W.failures writer.old) }
+{
+    let digits = Digits::of(u64::from(held.number));
+    let name = setup.senders()[held.sender as usize].name.as_str();
+    let body = [
+        b"held ".as_slice(),
+        name.as_bytes(),
+        b" ".as_slice(),
+        digits.as_slice(),
+        b"\n".as_slice(),
+    ];
+    let size = name.len() + (digits.len() + 7);
+    write_whole(StatusCode::OK, "", &body, size, is_head, writer)
+}
+
+#[tactic(auto, unfolding(office_core_orders::specs::Replies::reply_line))]
+fn write_fault<W: Sink>(
+    setup: &Setup,
+    fault: DeliverFault,
+    is_head: bool,
+    writer: &mut W,
+) -> Result<u16, WriteFault>
+    ensures ok { OnOk result (Appends (W.written writer.old) (W.written writer.new) (reply_bytes (reply_in setup.now (Answer.Delivered (Err fault))) is_head)) }
+    ensures code { IfOk result (λ code. code ≡ fault_code fault) }
+    ensures err { OnErr result (AppendsFront (W.written writer.old) (W.written writer.new) (reply_bytes (reply_in setup.now (Answer.Delivered (Err fault))) is_head)) }
+    ensures cause { OnErr result (HasRisen (W.failures writer.old) (W.failures writer.new)) }
+    ensures clean { OnOk result (W.failures writer.new ≡ W.failures writer.old) }
+{
+    let (word, field) = fault_words(fault);
+    let body = [
+        b"refused ".as_slice(),
+        word.as_bytes(),
+        field.as_bytes(),
+        b"\n".as_slice(),
+    ];
+    let size = field.len() + (word.len() + 9);
+    write_whole(delivery_status(fault), "", &body, size, is_head, writer)
+}
+
+fn write_progress<W: Sink>(
+    progress: Progress,
+    is_head: bool,
+    writer: &mut W,
+) -> Result<u16, WriteFault>
+    ensures ok { OnOk result (Appends (W.written writer.old) (W.written writer.new) (reply_bytes (accepted (status_line progress.ready progress.finished)) is_head)) }
+    ensures code { IfOk result (λ code. code ≡ 200) }
+    ensures err { OnErr result (AppendsFront (W.written writer.old) (W.written writer.new) (reply_bytes (accepted (status_line progress.ready progress.finished)) is_head)) }
+    ensures cause { OnErr result (HasRisen (W.failures writer.old) (W.failures writer.new)) }
+    ensures clean { OnOk result (W.failures writer.new ≡ W.failures writer.old) }
+{
+    let ready = Digits::of(u64::from(progress.ready));
+    let finished = Digits::of(u64::from(progress.finished));
+    let body = [
+        b"ready ".as_slice(),
+        ready.as_slice(),
+        b" finished ".as_slice(),
+        finished.as_slice(),
+        b"\n".as_slice(),
+    ];
+    let size = ready.len() + (finished.len() + 17);
+    write_whole(StatusCode::OK, "", &body, size, is_head, writer)
+}
+
+fn write_text<W: Sink>(text: &[u8], is_head: bool, writer: &mut W) -> Result<u16, WriteFault>
+    ensures ok { OnOk result (Appends (W.written writer.old) (W.written writer.new) (reply_bytes (accepted text.now) is_head)) }
+    ensures code { IfOk result (λ code. code ≡ 200) }
+    ensures err { OnErr result (AppendsFront (W.written writer.old) (W.written writer.new) (reply_bytes (accepted text.now) is_head)) }
+    ensures cause { OnErr result (HasRisen (W.failures writer.old) (W.failures writer.new)) }
+    ensures clean { OnOk result (W.failures writer.new ≡ W.failures writer.old) }
+{
+    let body = [text];
+    write_whole(StatusCode::OK, "", &body, text.len(), is_head, writer)
+}
+
+fn write_bad_hint<W: Sink>(text: &[u8], is_head: bool, writer: &mut W) -> Result<u16, WriteFault>
+    ensures ok { OnOk result (Appends (W.written writer.old) (W.written writer.new) (reply_bytes (bad_request text.now) is_head)) }
+    ensures code { IfOk result (λ code. code ≡ 400) }
+    ensures err { OnErr result (AppendsFront (W.written writer.old) (W.written writer.new) (reply_bytes (bad_request text.now) is_head)) }
+    ensures cause { OnErr result (HasRisen (W.failures writer.old) (W.failures writer.new)) }
+    ensures clean { OnOk result (W.failures writer.new ≡ W.failures writer.old) }
+{
+    let body = [text];
+    write_whole(
+        StatusCode::BAD_REQUEST,
+        "",
+        &body,
+        text.len(),
+        is_head,
+        writer,
+    )
+}
+
+/// Writes the reply to what a request comes to, or a front of it. It gives the status code.
+pub fn write_answer<W: Sink>(
+    setup: &Setup,
+    answer: &Answer,
+    is_head: bool,
+    writer: &mut W,
+) -> Result<u16, WriteFault>
+    requires { HasPlace setup.now answer.now }
+    ensures ok { OnOk result (Appends (W.written writer.old) (W.written writer.new) (reply_bytes (reply_in setup.now answer.now) is_head)) }
+    ensures code { IfOk result (λ code. code ≡ (reply_in setup.now answer.now).code) }
+    ensures err { OnErr result (AppendsFront (W.written writer.old) (W.written writer.new) (reply_bytes (reply_in setup.now answer.now) is_head)) }
+    ensures cause { OnErr result (HasRisen (W.failures writer.old) (W.failures writer.new)) }
+    ensures clean { OnOk result (W.failures writer.new ≡ W.failures writer.old) }
+{
+    match answer {
+        Answer::Refused(refusal) => write_refused(*refusal, is_head, writer),
+        Answer::Delivered(Ok(held)) => write_held(setup, *held, is_head, writer),
+        Answer::Delivered(Err(fault)) => write_fault(setup, *fault, is_head, writer),
+        Answer::Status(progress) => write_progress(*progress, is_head, writer),
+        Answer::Told(text) => write_text(text.as_str().as_bytes(), is_head, writer),
+        Answer::Letter(text) => write_text(text.as_slice(), is_head, writer),
+        Answer::BadHint(text) => write_bad_hint(text.as_str().as_bytes(), is_head, writer),
+    }
+}
+
+/// Writes `100 Continue` where a client waits for it (RFC 9110, section 15.2.1).
+#[tactic(auto, unfolding(crate::specs::Reply::continue_bytes))]
+pub fn write_continue<W: Sink>(waits: bool, writer: &mut W) -> Result<(), WriteFault>
+    ensures ok { OnOk result (Appends (W.written writer.old) (W.written writer.new) (if waits then continue_bytes else [])) }
+    ensures err { OnErr result (AppendsFront (W.written writer.old) (W.written writer.new) continue_bytes) }
+    ensures waits { OnErr result (waits ≡ true) }
+    ensures cause { OnErr result (HasRisen (W.failures writer.old) (W.failures writer.new)) }
+    ensures clean { OnOk result (W.failures writer.new ≡ W.failures writer.old) }
+{
+    if waits {
+        return write_all(writer, b"HTTP/1.1 100 Continue\r\n\r\n");
+    }
+    Ok(())
+}

@@ -1,0 +1,429 @@
+//! What a request asks for, by its head.
+ghost use Rattle.std.specs.Prelude.{◌≡◌, true, if◌then◌else◌, ◌+◌, ◌<◌, ◌≤◌, ◌∷◌, ◌++◌, [], ℕ, List, length, drop, map, All, IfOk, Option, Some, None, codes, IsUtf8};
+ghost use Rattle.std.specs.Char.{is_ascii_digit};
+ghost use Rattle.std.specs.List.{list_all, position, before_first};
+ghost use Rattle.std.specs.Str.{str_eq_ignore_ascii_case, bytes_eq};
+ghost use Rattle.httparse.specs.Grammar.{RequestHead};
+ghost use Rattle.httparse.specs.Spans.{IsHeaderWithin, IsRequestWithin, IsRequestAt, header_bytes};
+ghost use Rattle.office_http_requests.specs.Asked.{are_digits, number_under, number_stated, with_value, length_with, waits_with, with_field, framing_of, is_query, path_of, has_leading_zero, number_or_zero, plain_number, absent_length, posted_length, post_asked, tell_asked, asked_at, asked_by, asked_of, is_head_method};
+ghost use Rattle.office_http_requests.specs.Routes.{office_routes, route_of};
+ghost use Rattle.office_http_requests.specs.Request.{field_room};
+
+use crate::letters::letter_asked;
+use crate::reply::Refusal;
+use crate::routes::{Route, find_route};
+use crate::sources::why_asked;
+use deb_control::Text;
+use httparse::spans::{HeaderSpan, RequestSpans};
+use matchit::Router;
+use office_mail::Setup;
+use std::alloc::{AllocError, Global};
+use std::cmp::min;
+
+/// The greatest length of a body.
+pub const BODY_ROOM: u32 = 65_536;
+
+/// What the fields say of a body's length.
+#[derive(Clone, Copy, Debug, PartialEq, Eq)]
+pub enum Stated {
+    Absent,
+    /// Several lengths, or one that isn't digits alone.
+    Bad,
+    TooLong,
+    Exactly(u32),
+}
+
+/// What the fields of a head say of the body (RFC 9110, sections 8.6 and 10.1.1; RFC 9112, section 6.1).
+#[derive(Clone, Copy, Debug, PartialEq, Eq)]
+pub struct Framing {
+    pub length: Stated,
+    /// A transfer coding is named.
+    pub coded: bool,
+    /// The client waits for `100 Continue`.
+    pub waits: bool,
+}
+
+/// What a POST is for.
+#[derive(Clone, Copy, Debug, PartialEq, Eq)]
+pub enum Action {
+    Deliver,
+    Settle,
+    /// Tries the hints in the lines of the body.
+    Try,
+}
+
+/// A POST: what it is for, how long its body is, and whether the client waits for `100 Continue`.
+#[derive(Clone, Copy, Debug, PartialEq, Eq)]
+pub struct Posted {
+    pub action: Action,
+    pub length: u32,
+    pub waits: bool,
+}
+
+/// A text that the office tells.
+#[derive(Debug, Drop)]
+pub enum Page {
+    Status,
+    Testing,
+    Excuses(u32),
+    Update(u32),
+    /// What the first run that isn't ready waits for.
+    Waiting,
+    /// The finished runs.
+    Runs,
+    /// How many numbers of each sender are kept.
+    Kept,
+    /// The kept text of a number of a sender, who is told by its place in the setup.
+    Letter { sender: u32, number: u32 },
+    /// What is told of the source of a name.
+    Why(Text),
+}
+
+/// What a request asks for.
+#[derive(Debug, Drop)]
+pub enum Asked {
+    Refused(Refusal),
+    Tell(Page),
+    Post(Posted),
+}
+
+fn are_digits(text: &[u8]) -> bool
+    ensures { result ≡ list_all is_ascii_digit text.now }
+{
+    text.iter().all(|c| c.is_ascii_digit())
+}
+
+/// Whether a text is decimal digits alone.
+#[tactic(auto, unfolding(crate::specs::Asked::are_digits))]
+fn is_number(text: &[u8]) -> bool
+    ensures { result ≡ are_digits text.now }
+{
+    match text {
+        [_, ..] => are_digits(text),
+        [] => false,
+    }
+}
+
+/// The number that digits spell, none where it has more than 32 bits.
+fn number_under(text: &[u8]) -> Option<u32>
+    requires { are_digits text.now ≡ true }
+    ensures { result ≡ number_under text.now }
+{
+    let Ok(digits) = str::from_utf8(text) else {
+        return None;
+    };
+    match u32::from_str_radix(digits, 10) {
+        Ok(number) => Some(number),
+        Err(_) => None,
+    }
+}
+
+/// The length that one field states.
+fn number_stated(value: &[u8]) -> Stated
+    ensures { result ≡ number_stated value.now }
+{
+    if !is_number(value) {
+        return Stated::Bad;
+    }
+    match number_under(value) {
+        Some(length) if length <= BODY_ROOM => Stated::Exactly(length),
+        _ => Stated::TooLong,
+    }
+}
+
+/// What is stated where one more field states a length.
+fn with_value(stated: Stated, value: &[u8]) -> Stated
+    ensures { result ≡ with_value stated value.now }
+{
+    match stated {
+        Stated::Absent => number_stated(value),
+        Stated::Bad => Stated::Bad,
+        Stated::TooLong => Stated::Bad,
+        Stated::Exactly(_) => Stated::Bad,
+    }
+}
+
+/// Whether two words are the same but for the case of letters.
+fn is_word(word: &[u8], other: &[u8]) -> bool
+    ensures { result ≡ str_eq_ignore_ascii_case word.now other.now }
+{
+    word.eq_ignore_ascii_case(other)
+}
+
+/// The length that is stated where one more field stands there.
+fn length_with(stated: Stated, name: &[u8], value: &[u8]) -> Stated
+    ensures { result ≡ length_with stated (name.now, value.now) }
+{
+    if is_word(name, b"content-length") {
+        with_value(stated, value)
+    } else {
+        stated
+    }
+}
+
+/// Whether a transfer coding is named, where one more field stands there.
+fn coded_with(coded: bool, name: &[u8]) -> bool
+    ensures { result ≡ (if str_eq_ignore_ascii_case name.now (codes "transfer-encoding") then true else coded) }
+{
+    if is_word(name, b"transfer-encoding") {
+        true
+    } else {
+        coded
+    }
+}
+
+/// Whether the client waits, where one more field stands there.
+fn waits_with(waits: bool, name: &[u8], value: &[u8]) -> bool
+    ensures { result ≡ waits_with waits (name.now, value.now) }
+{
+    if is_word(name, b"expect") && is_word(value, b"100-continue") {
+        true
+    } else {
+        waits
+    }
+}
+
+/// What is said where one more field stands there.
+fn with_field(framing: Framing, name: &[u8], value: &[u8]) -> Framing
+    ensures { result ≡ with_field framing (name.now, value.now) }
+{
+    Framing {
+        length: length_with(framing.length, name, value),
+        coded: coded_with(framing.coded, name),
+        waits: waits_with(framing.waits, name, value),
+    }
+}
+
+/// What these fields say.
+fn framing_of(seen: &[u8], headers: &[HeaderSpan]) -> Framing
+    requires { All (IsHeaderWithin (length seen.now)) headers.now }
+    ensures { result ≡ framing_of (map (header_bytes seen.now) headers.now) }
+{
+    let mut framing = Framing {
+        length: Stated::Absent,
+        coded: false,
+        waits: false,
+    };
+    for header in headers {
+        framing = with_field(framing, header.name.of(seen), header.value.of(seen));
+    }
+    framing
+}
+
+fn query_start(target: &[u8]) -> Option<usize>
+    ensures { result ≡ position is_query target.now }
+{
+    target.iter().position(|c| *c == b'?')
+}
+
+/// The target up to its query.
+#[tactic(auto, unfolding(crate::specs::Asked::path_of))]
+fn path_of(target: &str) -> &str
+    ensures { result.now ≡ path_of target.now }
+{
+    match query_start(target.as_bytes()) {
+        Some(end) => target.split_at(end).0,
+        None => target,
+    }
+}
+
+fn has_leading_zero(text: &[u8]) -> bool
+    ensures { result ≡ has_leading_zero text.now }
+{
+    matches!(text, [b'0', ..])
+}
+
+/// The number that digits spell, 0 for any other text.
+fn number_or_zero(text: &[u8]) -> u32
+    ensures { result ≡ number_or_zero text.now }
+{
+    if is_number(text) {
+        number_under(text).unwrap_or(0)
+    } else {
+        0
+    }
+}
+
+/// The number that digits without a leading zero spell, 0 for any other text.
+#[tactic(auto, unfolding(crate::specs::Asked::plain_number))]
+pub(crate) fn plain_number(text: &[u8]) -> u32
+    ensures { result ≡ plain_number text.now }
+{
+    if has_leading_zero(text) {
+        0
+    } else {
+        number_or_zero(text)
+    }
+}
+
+/// What stands behind the front of a path.
+pub(crate) fn behind(path: &str, front: usize) -> &[u8]
+    ensures { result.now ≡ drop front path.now }
+{
+    let bytes = path.as_bytes();
+    let (_, rest) = bytes.split_at(min(front, bytes.len()));
+    rest
+}
+
+/// The run that a path names behind its first part.
+fn run_in(path: &str, front: usize) -> u32
+    ensures { result ≡ plain_number (drop front path.now) }
+{
+    plain_number(behind(path, front))
+}
+
+/// The length where none is stated: only a settle without a transfer coding may leave it out.
+fn absent_length(action: Action, coded: bool) -> Result<u32, Refusal>
+    ensures { result ≡ absent_length action coded }
+{
+    match action {
+        Action::Settle => {
+            if coded {
+                Err(Refusal::LengthRequired)
+            } else {
+                Ok(0)
+            }
+        }
+        Action::Deliver => Err(Refusal::LengthRequired),
+        Action::Try => Err(Refusal::LengthRequired),
+    }
+}
+
+/// The length of the body that is read.
+fn posted_length(action: Action, length: Stated, coded: bool) -> Result<u32, Refusal>
+    ensures { result ≡ posted_length action length coded }
+{
+    match length {
+        Stated::Absent => absent_length(action, coded),
+        Stated::Bad => Err(Refusal::BadRequest),
+        Stated::TooLong => {
+            if coded {
+                Err(Refusal::BadRequest)
+            } else {
+                Err(Refusal::TooLong)
+            }
+        }
+        Stated::Exactly(length) => {
+            if coded {
+                Err(Refusal::BadRequest)
+            } else {
+                Ok(length)
+            }
+        }
+    }
+}
+
+/// What is asked for on a route that takes POST.
+fn post_asked(action: Action, method: &[u8], minor: u8, framing: Framing) -> Asked
+    ensures { result ≡ post_asked action method.now minor framing }
+{
+    if method != b"POST".as_slice() {
+        return Asked::Refused(Refusal::OnlyPost);
+    }
+    match posted_length(action, framing.length, framing.coded) {
+        Ok(length) => Asked::Post(Posted {
+            action,
+            length,
+            waits: minor == 1 && framing.waits,
+        }),
+        Err(refusal) => Asked::Refused(refusal),
+    }
+}
+
+/// What is asked for on a route that takes GET.
+pub(crate) fn tell_asked(page: Page, method: &[u8]) -> Asked
+    ensures { result ≡ tell_asked page method.now }
+{
+    if method == b"GET".as_slice() {
+        return Asked::Tell(page);
+    }
+    drop(page);
+    Asked::Refused(Refusal::OnlyGet)
+}
+
+/// What is asked for on a route. It fails for want of memory alone.
+fn asked_at(
+    alloc: Global,
+    setup: &Setup,
+    route: Route,
+    method: &[u8],
+    path: &str,
+    minor: u8,
+    framing: Framing,
+) -> Result<Asked, AllocError>
+    ensures { IfOk result (λ asked. asked ≡ asked_at setup.now (Some route) method.now path.now minor framing) }
+{
+    match route {
+        Route::Mail => Ok(post_asked(Action::Deliver, method, minor, framing)),
+        Route::Settle => Ok(post_asked(Action::Settle, method, minor, framing)),
+        Route::Status => Ok(tell_asked(Page::Status, method)),
+        Route::Testing => Ok(tell_asked(Page::Testing, method)),
+        Route::Excuses => Ok(tell_asked(Page::Excuses(run_in(path, 9)), method)),
+        Route::Update => Ok(tell_asked(Page::Update(run_in(path, 8)), method)),
+        Route::Waiting => Ok(tell_asked(Page::Waiting, method)),
+        Route::Runs => Ok(tell_asked(Page::Runs, method)),
+        Route::Kept => Ok(tell_asked(Page::Kept, method)),
+        Route::Letter => Ok(letter_asked(setup, behind(path, 6), method)),
+        Route::Why => why_asked(alloc, path, method),
+        Route::Try => Ok(post_asked(Action::Try, method, minor, framing)),
+    }
+}
+
+/// What is asked for, by the parts of the head. It fails for want of memory alone.
+#[tactic(auto, unfolding(crate::specs::Asked::asked_by))]
+fn asked_by(
+    alloc: Global,
+    router: &Router<Route>,
+    setup: &Setup,
+    method: &[u8],
+    target: &str,
+    minor: u8,
+    framing: Framing,
+) -> Result<Asked, AllocError>
+    requires { router.now ≡ office_routes }
+    ensures { IfOk result (λ asked. asked ≡ asked_by setup.now method.now target.now minor framing) }
+{
+    let path = path_of(target);
+    match find_route(router, path) {
+        Some(route) => asked_at(alloc, setup, route, method, path, minor, framing),
+        None => Ok(Asked::Refused(Refusal::NoRoute)),
+    }
+}
+
+/// What the head of a request asks for of an office with this setup. It fails for want of memory alone.
+#[tactic(auto, unfolding(crate::specs::Asked::asked_of))]
+pub fn asked_of(
+    alloc: Global,
+    router: &Router<Route>,
+    setup: &Setup,
+    seen: &[u8],
+    spans: RequestSpans,
+    headers: &[HeaderSpan],
+) -> Result<Asked, AllocError>
+    requires table { router.now ≡ office_routes }
+    requires within { IsRequestWithin seen.now headers.now spans }
+    ensures { IfOk result (λ asked. (head : RequestHead) → IsRequestAt seen.now headers.now spans head → asked ≡ asked_of setup.now head) }
+{
+    let framing = framing_of(seen, &headers[..spans.headers]);
+    let Ok(target) = str::from_utf8(spans.path.of(seen)) else {
+        return Ok(Asked::Refused(Refusal::BadRequest));
+    };
+    asked_by(
+        alloc,
+        router,
+        setup,
+        spans.method.of(seen),
+        target,
+        spans.version,
+        framing,
+    )
+}
+
+/// Whether the method is HEAD, whose reply has no body (RFC 9110, section 9.3.2).
+pub fn is_head_method(seen: &[u8], spans: RequestSpans) -> bool
+    requires ordered { spans.method.start ≤ spans.method.end }
+    requires within { spans.method.end ≤ length seen.now }
+    ensures { (headers : List HeaderSpan) (head : RequestHead) → IsRequestAt seen.now headers spans head → result ≡ is_head_method head }
+{
+    spans.method.of(seen) == b"HEAD".as_slice()
+}

@@ -1,0 +1,94 @@
+-- The values of fields: numbers, days, names, versions, urgencies and severities.
+use Rattle.std.specs.Prelude.{◌≡◌, ℕ, Bool, true, false, not, ◌&&◌, ◌||◌, ◌==◌, nat_le, if◌then◌else◌, List, [], ◌∷◌, length, take, drop, slice_index, codes, Option, Some, None}
+use Rattle.std.specs.List.{list_all, filter, slice_split, before_first}
+use Rattle.std.specs.Char.{is_ascii_digit}
+use Rattle.std.specs.Str.{bytes_eq, str_eq_ignore_ascii_case}
+use Rattle.std.specs.Str.Parse.{digits_value}
+use Rattle.deb_version.specs.Characters as chars
+use Rattle.deb_control.specs.Text.{is_white}
+use Rattle.deb_control.specs.Paragraphs.{not_empty}
+use Rattle.deb_control.specs.Relations.{is_package_name, is_version}
+use Rattle.jiff_core.specs.declared.civil.date.Date.{Date}
+use Rattle.office_mail_setup.specs.Calendar.{day_if_real}
+use Rattle.testing_rules_items.specs.declared.item.Urgency.{Urgency}
+use Rattle.testing_rules_items.specs.declared.item.Urgency.TheVariants.{Low, Medium, High, Emergency, Critical}
+use Rattle.testing_rules_items.specs.declared.item.Severity.{Severity}
+use Rattle.testing_rules_items.specs.declared.item.Severity.TheVariants as severity
+
+-- the value, where it passes
+abbrev pub some_if : {A : Type 0} → Bool → A → Option A
+some_if passes value = if passes then Some value else None
+
+-- a number: decimal digits without a leading zero
+unfoldable pub is_number : List ℕ → Bool
+is_number [] = false
+is_number (c ∷ cs) = list_all is_ascii_digit (c ∷ cs) && (not (c == chars.digit_zero) || length cs == 0)
+
+-- the number that a text spells, where it is from low to high
+unfoldable pub number_in : ℕ → ℕ → List ℕ → Option ℕ
+number_in low high text =
+    some_if (is_number text && nat_le low (digits_value 10 text) && nat_le (digits_value 10 text) high) (digits_value 10 text)
+
+-- a number of days
+abbrev pub days_in : List ℕ → Option ℕ
+days_in text = number_in 0 9_999 text
+
+-- the words of a text, which white separates
+unfoldable pub words : List ℕ → List (List ℕ)
+words text = filter not_empty (slice_split is_white text)
+
+-- four digits, a hyphen, two digits, a hyphen and two digits
+unfoldable pub is_day_form : List ℕ → Bool
+is_day_form text =
+    length text == 10 && slice_index text 4 == chars.hyphen && slice_index text 7 == chars.hyphen
+    && list_all is_ascii_digit (take 4 text) && list_all is_ascii_digit (take 2 (drop 5 text)) && list_all is_ascii_digit (take 2 (drop 8 text))
+
+-- which has these parts
+pub record DayForm (text : List ℕ) : Type 0 where
+  pub size : length text ≡ 10
+  pub year : list_all is_ascii_digit (take 4 text) ≡ true
+  pub month : list_all is_ascii_digit (take 2 (drop 5 text)) ≡ true
+  pub day : list_all is_ascii_digit (take 2 (drop 8 text)) ≡ true
+
+-- the day that a text spells as YYYY-MM-DD: a real one, from 1970-01-01 to 9999-12-31 (ISO 8601)
+unfoldable pub day_in : List ℕ → Option Date
+day_in text =
+    if is_day_form text
+    then day_if_real (digits_value 10 (take 4 text)) (digits_value 10 (take 2 (drop 5 text))) (digits_value 10 (take 2 (drop 8 text)))
+    else None
+
+-- a package name (Debian Policy 5.6.1) and a version (Debian Policy 5.6.12) are their own values
+abbrev pub package_in : List ℕ → Option (List ℕ)
+package_in text = some_if (is_package_name text) text
+
+abbrev pub version_in : List ℕ → Option (List ℕ)
+version_in text = some_if (is_version text) text
+
+-- an urgency (Debian Policy 5.6.17), without regard to ASCII case
+unfoldable pub urgency_named : List ℕ → Option Urgency
+urgency_named word =
+    if str_eq_ignore_ascii_case word (codes "low") then Some Low
+    else if str_eq_ignore_ascii_case word (codes "medium") then Some Medium
+    else if str_eq_ignore_ascii_case word (codes "high") then Some High
+    else if str_eq_ignore_ascii_case word (codes "emergency") then Some Emergency
+    else if str_eq_ignore_ascii_case word (codes "critical") then Some Critical
+    else None
+
+-- it goes to the first space or tab, behind which any commentary may stand, or to the end
+abbrev pub ends_urgency : ℕ → Bool
+ends_urgency c = c == chars.space || c == chars.tab
+
+unfoldable pub urgency_in : List ℕ → Option Urgency
+urgency_in text = urgency_named (before_first ends_urgency text)
+
+-- a bug's severity
+unfoldable pub severity_in : List ℕ → Option Severity
+severity_in text =
+    if bytes_eq text (codes "critical") then Some severity.Critical
+    else if bytes_eq text (codes "grave") then Some severity.Grave
+    else if bytes_eq text (codes "serious") then Some severity.Serious
+    else if bytes_eq text (codes "important") then Some severity.Important
+    else if bytes_eq text (codes "normal") then Some severity.Normal
+    else if bytes_eq text (codes "minor") then Some severity.Minor
+    else if bytes_eq text (codes "wishlist") then Some severity.Wishlist
+    else None

@@ -1,4 +1,0 @@
-pub mod OpenLemmas
-pub mod RangeFacts
-pub mod MigrateLemmas
-pub mod MigratedContent

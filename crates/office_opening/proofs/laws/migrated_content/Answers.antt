@@ -1,8 +1,0 @@
-use Rattle.office_opening.proofs.MigratedContent.{gets_last, legible_on}
-use Rattle.office_opening.proofs.laws.migrated_content.Goals as goal
-
-pub returns-clause-content : goal.returns-clause-content
-returns-clause-content c = gets_last
-
-pub returns-clause-legible : goal.returns-clause-legible
-returns-clause-legible c = legible_on

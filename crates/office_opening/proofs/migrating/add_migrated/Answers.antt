@@ -1,4 +1,0 @@
-use Rattle.office_opening.proofs.migrating.add_migrated.Goals as goal
-
-pub returns-clause-added : goal.returns-clause-added
-returns-clause-added g c trusted = c.add_office.ensures.added trusted

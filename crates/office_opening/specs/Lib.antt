@@ -1,3 +1,0 @@
-pub mod Migrating
-pub mod MigratingSteps
-pub mod Opening

@@ -1,8 +1,0 @@
-use Rattle.std.proofs.Common.{◌∙◌, sym}
-use Rattle.office_replays.proofs.ReplayFacts.{settles_call}
-use Rattle.office_replays.proofs.replays.settle_watched.Goals as goal
-
-pub returns-then-is_ok-clause-settles : goal.returns-then-is_ok-clause-settles
-returns-then-is_ok-clause-settles g c =
-    let e = c.settle-settled.ensures in
-    λ h. settles_call g.K.Keeper c.args.office.now c.settle-settled.new.self c.settle-settled.result _ (e.ready h.0 h.1) (e.finished h.0 h.1) (e.kept h.0 h.1) (e.grows h.0 h.1) e.setup (e.sound h.0 h.1) e.counted (sym c.is_ok.ensures.value ∙ c.if-is_ok.true)

@@ -1,5 +1,0 @@
-use Rattle.office_rules.proofs.OneFacts.{one_trial}
-use Rattle.office_rules.proofs.laws.trials_have_one_end.Goals as goal
-
-pub returns : goal.returns
-returns c = one_trial

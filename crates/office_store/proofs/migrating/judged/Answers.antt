@@ -1,0 +1,23 @@
+use Rattle.std.proofs.Common.{◌≡◌, sym, ap, ◌∙◌}
+use Rattle.sqlite.specs.Held.{state}
+use Rattle.office_store.specs.Opening.{lists_by, text_of_one, shown_office, text_before}
+use Rattle.office_store_tables.specs.Tables.{IsTrusted}
+use Rattle.office_store.proofs.MigrateLemmas.{judges_on, shown_before}
+use Rattle.office_store.proofs.migrating.judged.Goals as goal
+
+-- what is shown is what the table says
+said : (g : _) (c : goal.After-drop-rows g) → IsTrusted (state g.S.Store c.office_rows.new.tx.conn.now) → lists_by (text_of_one 1 shown_office c.as_slice.result.now) ≡ lists_by (text_before ((state g.S.Store c.args.tx.now.conn.now).now.trees 0))
+said g c trusted =
+    ap (λ rows. lists_by (text_of_one 1 shown_office rows)) c.as_slice.ensures.value ∙ shown_before ((state g.S.Store c.args.tx.now.conn.now).now.trees 0) c.in_ok-rows.rows.items (c.in_ok-rows.ensures.rows trusted)
+
+pub returns-clause-judged : goal.returns-clause-judged
+returns-clause-judged g c trusted =
+    judges_on c.args.setup.now ((state g.S.Store c.args.tx.now.conn.now).now.trees 0) c.in_ok-rows.rows.items c.count_judged.result (c.in_ok-rows.ensures.rows trusted) (rw c.as_slice.ensures.value at c.count_judged.ensures.ok)
+
+pub returns-clause-other : goal.returns-clause-other
+returns-clause-other g c trusted failed =
+    let other = c.count_judged.ensures.other failed in
+    (other.0, sym (said g c trusted) ∙ other.1, other.2)
+
+pub returns-clause-unknown : goal.returns-clause-unknown
+returns-clause-unknown g c trusted failed = sym (said g c trusted) ∙ c.count_judged.ensures.unknown failed

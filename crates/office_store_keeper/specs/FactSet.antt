@@ -1,0 +1,53 @@
+-- The kept facts: a set of rows, each of which names the message that gives a fact. That facts are kept as rows is this office's own.
+use Rattle.std.specs.Prelude.{◌≡◌, ◌≤◌, ◌⊎◌, ℕ, ⊤, Bool, is_some, if◌then◌else◌, List, [], ◌∷◌, map, IsSome}
+use Rattle.std.specs.List.{list_any}
+use Rattle.std.specs.FinMap.{FinMap, get, insert, remove, keys, from_entries}
+use Rattle.testing_rules_model.specs.declared.fact_row.FactRow.{FactRow}
+use Rattle.testing_rules_model.specs.declared.fact_row.FactChanges.{FactChanges}
+use Rattle.testing_rules_model.specs.FactRows.{is_row, row_order}
+pub use Rattle.testing_rules_model.specs.FactRows.{IsFactRow}
+use Rattle.office_mail.specs.Lists.{Lists}
+use Rattle.office_mail_setup.specs.declared.setup.Role.TheVariants.{Release}
+use Rattle.office_mail.specs.Setup.{place_of_role}
+
+abbrev pub FactSet : Type 0
+FactSet = FinMap row_order ⊤
+
+-- a set has a row
+abbrev pub HasRow : FactSet → FactRow → Type 0
+HasRow facts r = IsSome (get facts r)
+
+-- how often: once or not
+abbrev pub count_in : FactSet → FactRow → ℕ
+count_in facts r = if is_some (get facts r) then 1 else 0
+
+-- the rows of a set, by kind, sender, number and place
+abbrev pub rows_in : FactSet → List FactRow
+rows_in facts = keys facts
+
+-- whether a row is one of these
+abbrev pub is_among : FactRow → List FactRow → Bool
+is_among r rows = list_any (is_row r) rows
+
+-- the set of these rows
+abbrev pub set_of_rows : List FactRow → FactSet
+set_of_rows rows = from_entries (map (λ r. (r, tt)) rows)
+
+-- a set without these rows, and one with these
+abbrev pub without_rows : List FactRow → FactSet → FactSet
+without_rows [] facts = facts
+without_rows (r ∷ rs) facts = without_rows rs (remove facts r)
+
+abbrev pub with_rows : List FactRow → FactSet → FactSet
+with_rows [] facts = facts
+with_rows (r ∷ rs) facts = with_rows rs (insert facts r tt)
+
+-- the old rows without those that are gone, then with those that are put
+abbrev pub facts_after : FactChanges → FactSet → FactSet
+facts_after changes facts = with_rows changes.put (without_rows changes.gone facts)
+
+-- Rows that an office's tables have a place for: of the eight kinds, and at most one on delays, of the release team.
+pub record AreHoldable (setup : Lists) (facts : FactSet) : Type 0 where
+  pub each : (r : FactRow) → HasRow facts r → IsFactRow r
+  pub release : (r : FactRow) → HasRow facts r → r.kind ≡ 8 → r.sender ≡ place_of_role Release setup.senders
+  pub one : (r s : FactRow) → HasRow facts r → HasRow facts s → r.kind ≡ 8 → s.kind ≡ 8 → r ≡ s

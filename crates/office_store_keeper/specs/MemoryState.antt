@@ -1,0 +1,50 @@
+-- The state of the store in memory.
+use Rattle.std.specs.Prelude.{◌≡◌, ◌≤◌, ◌<◌, ◌+◌, ℕ, not, List, length, slice_index_or}
+use Rattle.std.specs.List.{filter}
+use Rattle.std.specs.FinMap.{from_entries}
+use Rattle.std.specs.declared.cmp.Ordering.TheVariants.{Greater}
+use Rattle.office_mail.specs.Lists.{Lists}
+use Rattle.office_mail.specs.Kept.{Kept, Place}
+use Rattle.testing_rules_model.specs.Suite.{Suite}
+use Rattle.testing_rules_model.specs.declared.fact_row.FactRow.{FactRow}
+use Rattle.testing_rules_model.specs.FactRows.{row_order}
+use Rattle.office_store_keeper.specs.declared.values.Letter.{Letter}
+use Rattle.office_store_keeper.specs.declared.values.Reports.{Reports}
+use Rattle.office_store_keeper.specs.Content.{Content}
+use Rattle.office_store_keeper.specs.FactSet.{is_among, set_of_rows}
+use Rattle.office_store_keeper.specs.Provenance.{KnowsArchs}
+
+pub record MemoryState : Type 0 where
+  -- the setup that it was made for
+  pub setup : Lists
+  -- the texts with their places, by place
+  pub mail : List (Place × List ℕ)
+  pub runs : List Reports
+  pub testing : Suite
+  -- the rows of facts, in any order
+  pub facts : List FactRow
+
+-- the texts at their places
+abbrev pub kept_in : List (Place × List ℕ) → Kept
+kept_in mail = from_entries mail
+
+-- a text at a place of its sender, with its number
+abbrev pub letter_of : Place × List ℕ → Letter
+letter_of e = record { number = e.0.1; text = e.1 }
+
+-- the rows that aren't among those that are gone
+abbrev pub rows_left : List FactRow → List FactRow → List FactRow
+rows_left gone rows = filter (λ r. not (is_among r gone)) rows
+
+-- a row lies above the one before a place among rows, if there is one before
+abbrev pub IsAbove : FactRow → List FactRow → ℕ → Type 0
+IsAbove r rows place = (k : ℕ) (d : FactRow) → k + 1 ≡ place → (k < length rows) × (row_order r (slice_index_or rows k d) ≡ Greater)
+
+-- what the store in memory holds
+abbrev pub content_of : MemoryState → Content
+content_of s = record { kept = kept_in s.mail; reports = s.runs; testing = s.testing; facts = set_of_rows s.facts }
+
+-- runs can be numbered, and testing has architectures of the setup
+pub record IsMemoryState (setup : Lists) (runs : List Reports) (testing : Suite) : Type 0 where
+  pub few : length runs ≤ 4_294_967_295
+  pub known : KnowsArchs setup.archs testing.rows

@@ -1,0 +1,121 @@
+//! The kept facts as a list of rows, in any order.
+ghost use Rattle.std.specs.Prelude.{◌≡◌, ◌≤◌, ◌<◌, ◌++◌, ◌∷◌, [], length, slice_index_or, IfOk, IsTrue, OnOk};
+ghost use Rattle.std.specs.List.Sorted.{IsBinarySearchResult, IsSearchInRange, IsSorted};
+ghost use Rattle.std.specs.declared.cmp.Ordering.TheVariants.{Less};
+ghost use Rattle.testing_rules_model.specs.FactRows.{row_order};
+ghost use Rattle.testing_rules_model.specs.declared.fact_row.FactRow.{FactRow as ARow};
+ghost use Rattle.office_store_keeper.specs.FactSet.{facts_after, is_among, rows_in, set_of_rows};
+ghost use Rattle.office_store_keeper.specs.MemoryState.{IsAbove, rows_left};
+
+use deb_control::NoMemory;
+use std::alloc::Global;
+use std::cmp::Ordering;
+use testing_rules_model::{FactChanges, FactRow, FactRows};
+
+/// These rows in order.
+fn sorted(alloc: Global, rows: &[FactRow]) -> Result<Vec<FactRow>, NoMemory>
+    ensures order { IfOk result (λ sorted. IsSorted row_order sorted.items) }
+    ensures same { IfOk result (λ sorted. (r : ARow) → is_among r sorted.items ≡ is_among r rows.now) }
+{
+    let mut sorted = Vec::from_slice(alloc, rows)?;
+    sorted.sort_unstable();
+    Ok(sorted)
+}
+
+/// These rows by kind, sender, number and place, each once.
+pub fn rows_in_order(alloc: Global, rows: &[FactRow]) -> Result<FactRows, NoMemory>
+    ensures { IfOk result (λ given. given ≡ rows_in (set_of_rows rows.now)) }
+{
+    let mut once = sorted(alloc, rows)?;
+    once.dedup();
+    Ok(FactRows::of(once))
+}
+
+/// How a row lies to the one at a place among rows. Where there is none it lies below.
+fn order_at(rows: &[FactRow], row: &FactRow, place: usize) -> Ordering
+    ensures at { place < length rows.now → (d : ARow) → result ≡ row_order row.now (slice_index_or rows.now place d) }
+    ensures past { length rows.now ≤ place → result ≡ Less }
+{
+    match rows.get(place) {
+        Some(other) => row.cmp(other),
+        None => Ordering::Less,
+    }
+}
+
+/// Whether a row lies above the one before a place among rows. Where there is none it does.
+fn is_above(rows: &[FactRow], row: &FactRow, place: usize) -> bool
+    ensures { IsTrue result → IsAbove row.now rows.now place }
+{
+    match place.checked_sub(1) {
+        Some(before) => order_at(rows, row, before) == Ordering::Greater,
+        None => true,
+    }
+}
+
+/// The place of a row among those that are gone, or where it belongs. The guessed place is tried first.
+fn place_near(gone: &[FactRow], row: &FactRow, guess: usize) -> Result<usize, usize>
+    ensures bound { IsSearchInRange result (length gone.now) }
+    ensures position { IsBinarySearchResult (λ y. row_order y row.now) gone.now result }
+{
+    match order_at(gone, row, guess) {
+        Ordering::Equal => Ok(guess),
+        Ordering::Less if is_above(gone, row, guess) => Err(guess),
+        _ => gone.binary_search(row),
+    }
+}
+
+/// Puts a row behind those that are left, if it isn't among those that are gone. It answers the place among those where
+/// the next row may be. The guessed place is tried first.
+fn put_if_left(
+    left: &mut Vec<FactRow>,
+    gone: &[FactRow],
+    row: &FactRow,
+    guess: usize,
+) -> Result<usize, NoMemory>
+    requires { IsSorted row_order gone.now }
+    ensures { OnOk result (left.new.items ≡ left.old.items ++ rows_left gone.now (row.now ∷ [])) }
+{
+    match place_near(gone, row, guess) {
+        Ok(place) => Ok(place + 1),
+        Err(place) => {
+            left.push(*row)?;
+            Ok(place)
+        }
+    }
+}
+
+/// Puts the rows that aren't among those that are gone behind those that are left.
+fn put_remaining(
+    left: &mut Vec<FactRow>,
+    rows: &[FactRow],
+    gone: &[FactRow],
+) -> Result<(), NoMemory>
+    requires { IsSorted row_order gone.now }
+    ensures { OnOk result (left.new.items ≡ left.old.items ++ rows_left gone.now rows.now) }
+{
+    if gone.is_empty() {
+        left.extend_from_slice(rows)?;
+        return Ok(());
+    }
+    let mut guess = 0;
+    'rows: for row in rows {
+        guess = put_if_left(left, gone, row, guess)?;
+    }
+    Ok(())
+}
+
+/// The rows without those that are gone, and those that are put behind them.
+pub fn rows_after(
+    alloc: Global,
+    rows: &[FactRow],
+    changes: &FactChanges,
+) -> Result<Vec<FactRow>, NoMemory>
+    ensures { IfOk result (λ new. set_of_rows new.items ≡ facts_after changes.now (set_of_rows rows.now)) }
+{
+    let gone = sorted(alloc, changes.gone.as_slice())?;
+    let put = changes.put.as_slice();
+    let mut new = Vec::with_capacity(alloc, rows.len().saturating_add(put.len()))?;
+    put_remaining(&mut new, rows, &gone)?;
+    new.extend_from_slice(put)?;
+    Ok(new)
+}

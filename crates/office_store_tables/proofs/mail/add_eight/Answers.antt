@@ -1,0 +1,35 @@
+use Rattle.std.proofs.Common.{ap}
+use Rattle.std.specs.List.{flat_map}
+use Rattle.sqlite.specs.Values.{bound}
+use Rattle.sqlite.specs.Held.{state}
+use Rattle.office_store_testing_tables.specs.Texts.{keep_eight_text}
+use Rattle.office_store_testing_tables.specs.TableSteps.{letter_parameters, AddsLetters}
+use Rattle.office_store_testing_tables.proofs.Eights.{flattened}
+use Rattle.office_store_testing_tables.proofs.StepLemmas.{Stepped, step_went, step_gives, step_open}
+use Rattle.office_store_testing_tables.proofs.KeepLemmas.{keeps_eight}
+use Rattle.office_store_tables.proofs.mail.add_eight.Goals as goal
+
+stepped : (g : _) (c : goal.After-execute g) → Stepped keep_eight_text (flat_map letter_parameters c.args.letters.now) (state g.S.Store c.args.tx.now.conn.now) (state g.S.Store c.execute.new.self.conn.now) c.execute.result
+stepped g c = record {
+  clean = c.execute.ensures.survives.clean;
+  limit = c.execute.ensures.survives.limit;
+  ended = λ idle. (_, (c.execute.ensures.ended idle).0);
+  runs = rw (ap bound c.as_flattened.ensures.value, flattened _ _ _ _ c.eight_values-values.ensures) at c.execute.ensures.runs;
+}
+
+pub returns-clause-on : goal.returns-clause-on
+returns-clause-on g c trusted =
+    let old = state g.S.Store c.args.tx.now.conn.now in
+    let new = state g.S.Store c.execute.new.self.conn.now in
+    step_went _ _ old new (AddsLetters old.now.trees new.now.trees c.args.letters.now) c.execute.result (stepped g c) trusted c.requires.inside
+    (λ count inside h. keeps_eight old new count inside.schema c.args.letters.now c.requires.eight h)
+
+pub returns-clause-added : goal.returns-clause-added
+returns-clause-added g c trusted =
+    let old = state g.S.Store c.args.tx.now.conn.now in
+    let new = state g.S.Store c.execute.new.self.conn.now in
+    step_gives _ _ old new (AddsLetters old.now.trees new.now.trees c.args.letters.now) c.execute.result (stepped g c) trusted c.requires.inside
+    (λ count inside h. keeps_eight old new count inside.schema c.args.letters.now c.requires.eight h)
+
+pub returns-clause-open : goal.returns-clause-open
+returns-clause-open g c clean trusted = step_open _ _ _ _ c.execute.result (stepped g c) clean trusted

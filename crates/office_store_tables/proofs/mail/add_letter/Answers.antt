@@ -1,0 +1,33 @@
+use Rattle.std.proofs.Common.{◌∷◌, [], pos}
+use Rattle.sqlite.specs.declared.types.Value.TheVariants.{Int, Blob}
+use Rattle.sqlite.specs.Held.{state}
+use Rattle.office_store_testing_tables.specs.Texts.{keep_text}
+use Rattle.office_store_testing_tables.specs.TableSteps.{AddsLetter}
+use Rattle.office_store_testing_tables.proofs.StepLemmas.{Stepped, step_went, step_gives, step_open}
+use Rattle.office_store_testing_tables.proofs.KeepLemmas.{keeps}
+use Rattle.office_store_tables.proofs.mail.add_letter.Goals as goal
+
+stepped : (g : _) (c : goal.After-execute g) → Stepped keep_text (Int (pos c.args.sender) ∷ Int (pos c.args.number) ∷ Blob c.args.text.now ∷ []) (state g.S.Store c.args.tx.now.conn.now) (state g.S.Store c.execute.new.self.conn.now) c.execute.result
+stepped g c = record {
+  clean = c.execute.ensures.survives.clean;
+  limit = c.execute.ensures.survives.limit;
+  ended = λ idle. (_, (c.execute.ensures.ended idle).0);
+  runs = rw (c.params-to_sql.ensures, c.params-to_sql-2.ensures, c.params-to_sql-3.ensures) at c.execute.ensures.runs;
+}
+
+pub returns-clause-on : goal.returns-clause-on
+returns-clause-on g c trusted =
+    let old = state g.S.Store c.args.tx.now.conn.now in
+    let new = state g.S.Store c.execute.new.self.conn.now in
+    step_went _ _ old new (AddsLetter old.now.trees new.now.trees c.args.sender c.args.number c.args.text.now) c.execute.result (stepped g c) trusted c.requires.inside
+    (λ count inside h. keeps c.args.sender c.args.number c.args.text.now old new count inside.schema h)
+
+pub returns-clause-added : goal.returns-clause-added
+returns-clause-added g c trusted =
+    let old = state g.S.Store c.args.tx.now.conn.now in
+    let new = state g.S.Store c.execute.new.self.conn.now in
+    step_gives _ _ old new (AddsLetter old.now.trees new.now.trees c.args.sender c.args.number c.args.text.now) c.execute.result (stepped g c) trusted c.requires.inside
+    (λ count inside h. keeps c.args.sender c.args.number c.args.text.now old new count inside.schema h)
+
+pub returns-clause-open : goal.returns-clause-open
+returns-clause-open g c clean trusted = step_open _ _ _ _ c.execute.result (stepped g c) clean trusted

@@ -1,0 +1,17 @@
+pub mod Finishing
+pub use Rattle.office_store_testing_tables.specs.Layout
+pub use Rattle.office_store_testing_tables.specs.Texts
+pub use Rattle.office_store_testing_tables.specs.Tables
+pub use Rattle.office_store_testing_tables.specs.TableSteps
+pub use Rattle.office_store_testing_tables.specs.Entries
+pub use Rattle.office_store_testing_tables.specs.EntrySteps
+pub use Rattle.office_store_testing_tables.specs.FactTables
+pub use Rattle.office_store_testing_tables.specs.TableContent
+pub use Rattle.office_store_testing_tables.specs.Legible
+pub use Rattle.office_store_testing_tables.specs.FactSteps
+pub mod LayoutSteps
+pub mod SetupText
+pub mod Creating
+pub mod CreatingSteps
+pub mod Fresh
+pub mod Unchanged

@@ -1,0 +1,13 @@
+//! The tables of an office in sqlite: how they are made and recognized, the text of the setup that they keep, and the calls
+//! that read and change them.
+#![tactic(auto)]
+
+pub mod fact_changes;
+pub mod finishing;
+pub mod layout;
+pub mod mail;
+pub mod runs;
+pub mod schema;
+pub mod setup_text;
+
+pub use office_store_testing_tables::{entries, fact_rows, said};

@@ -1,0 +1,223 @@
+//! The table of mail.
+ghost use Rattle.std.specs.Prelude.{◌≡◌, ◌≢◌, ◌≤◌, ◌<◌, ◌∷◌, [], List, ℕ, Some, Err, pos, map, take, length, IfOk, OnOk, OnErr};
+ghost use Rattle.office_store_keeper.specs.Content.{IsNextNumber};
+ghost use Rattle.sqlite.specs.declared.types.Value.TheVariants.{Int, Blob};
+ghost use Rattle.sqlite.specs.Held.{state};
+ghost use Rattle.sqlite.specs.Values.{bound};
+ghost use Rattle.sqlite.specs.State.{HasCleanDisk};
+ghost use Rattle.office_store_testing_tables.specs.Tables.{IsTrusted, IsOurs, kept_rows, Lasts};
+ghost use Rattle.office_store_testing_tables.specs.TableSteps.{IsInside, WentOn, Same, AddsLetter, AddsLetters, letter_parameters, AreSmall, IsCrowded, IsOnlyNumber, ShowsLeast};
+
+use office_store_keeper::{Cause, KeepFault, NewLetter};
+use office_store_testing_tables::mail::letter_in;
+pub use office_store_testing_tables::mail::{by_number, find, letters_in, load};
+use sqlite::types::{ToSql, ValueRef};
+use sqlite::{Alter, Connection, Error, Row, Transaction, params};
+
+/// The row of mail with this sender's place and the least number from one on, if there is one.
+fn least_from<S: Alter>(conn: &mut Connection<S>, sender: u32, from: u32) -> Result<Vec<Row>, Error>
+    requires ours { IsTrusted (state S.Store conn.old) → IsOurs (state S.Store conn.old) }
+    ensures before { IsTrusted (state S.Store conn.new) → IsTrusted (state S.Store conn.old) }
+    ensures lasts { Lasts (state S.Store conn.old) (state S.Store conn.new) }
+    ensures open { HasCleanDisk (state S.Store conn.new) → IsTrusted (state S.Store conn.old) → OnOk result (IsTrusted (state S.Store conn.new)) }
+    ensures same { IsTrusted (state S.Store conn.new) → Same (state S.Store conn.old) (state S.Store conn.new) }
+    ensures rows { IsTrusted (state S.Store conn.new) → IfOk result (λ rows. ShowsLeast sender from ((state S.Store conn.new).now.trees 1) rows.items) }
+{
+    conn.query_all(
+        "SELECT sender, number, body FROM mail WHERE sender = ?1 AND number >= ?2 ORDER BY number LIMIT 1",
+        params![sender, from],
+    )
+}
+
+/// The number of the only letter, if there is one.
+fn only_number(rows: &[Row], sender: u32) -> Result<Option<u32>, KeepFault>
+    ensures ok { IfOk result (λ number. IsOnlyNumber sender number rows.now) }
+    ensures none { result ≡ Err (KeepFault.Store Cause.BadRow) → rows.now ≢ [] }
+    ensures one { result ≡ Err (KeepFault.Store Cause.BadRow) → (number : ℕ) (text : List ℕ) → number < 4_294_967_296 → rows.now ≢ (Int (pos sender) ∷ Int (pos number) ∷ Blob text ∷ []) ∷ [] }
+{
+    match rows {
+        [] => Ok(None),
+        [row] => {
+            let letter = letter_in(row, sender)?;
+            Ok(Some(letter.number))
+        }
+        _ => Err(KeepFault::Store(Cause::BadRow)),
+    }
+}
+
+/// The least kept number of a sender from one number on, or none. Its row is read whole: one without a text is no letter.
+pub fn next_number<S: Alter>(
+    conn: &mut Connection<S>,
+    sender: u32,
+    from: u32,
+) -> Result<Option<u32>, KeepFault>
+    requires ours { IsTrusted (state S.Store conn.old) → IsOurs (state S.Store conn.old) }
+    ensures before { IsTrusted (state S.Store conn.new) → IsTrusted (state S.Store conn.old) }
+    ensures lasts { Lasts (state S.Store conn.old) (state S.Store conn.new) }
+    ensures open { HasCleanDisk (state S.Store conn.new) → IsTrusted (state S.Store conn.old) → OnOk result (IsTrusted (state S.Store conn.new)) }
+    ensures same { IsTrusted (state S.Store conn.new) → Same (state S.Store conn.old) (state S.Store conn.new) }
+    ensures next { IsTrusted (state S.Store conn.new) → IfOk result (λ number. IsNextNumber (kept_rows ((state S.Store conn.new).now.trees 1)) sender from number) }
+    ensures bad { IsTrusted (state S.Store conn.new) → result ≡ Err (KeepFault.Store Cause.BadRow) → AreSmall (kept_rows ((state S.Store conn.new).now.trees 1)) → IsCrowded ((state S.Store conn.new).now.trees 1) }
+{
+    let rows = least_from(conn, sender, from)?;
+    only_number(rows.as_slice(), sender)
+}
+
+/// Adds one text to the mail.
+fn add_letter<S: Alter>(
+    tx: &mut Transaction<'_, S>,
+    sender: u32,
+    number: u32,
+    text: &[u8],
+) -> Result<usize, Error>
+    requires inside { IsTrusted (state S.Store tx.old.conn.now) → IsInside (state S.Store tx.old.conn.now) }
+    ensures same_reference { tx.new.conn.ghost_name ≡ tx.old.conn.ghost_name }
+    ensures before { IsTrusted (state S.Store tx.new.conn.now) → IsTrusted (state S.Store tx.old.conn.now) }
+    ensures lasts { Lasts (state S.Store tx.old.conn.now) (state S.Store tx.new.conn.now) }
+    ensures open { HasCleanDisk (state S.Store tx.new.conn.now) → IsTrusted (state S.Store tx.old.conn.now) → OnOk result (IsTrusted (state S.Store tx.new.conn.now)) }
+    ensures on { IsTrusted (state S.Store tx.new.conn.now) → OnOk result (WentOn (state S.Store tx.old.conn.now) (state S.Store tx.new.conn.now)) }
+    ensures added { IsTrusted (state S.Store tx.new.conn.now) → OnOk result (AddsLetter (state S.Store tx.old.conn.now).now.trees (state S.Store tx.new.conn.now).now.trees sender number text.now) }
+    ensures err { IsTrusted (state S.Store tx.new.conn.now) → OnErr result ((state S.Store tx.new.conn.now).committed ≡ (state S.Store tx.old.conn.now).committed) }
+{
+    tx.execute(
+        "INSERT INTO mail (sender, number, body) VALUES (?1, ?2, ?3)",
+        params![sender, number, text],
+    )
+}
+
+/// Keeps one text under a free number.
+pub fn keep<S: Alter>(
+    conn: &mut Connection<S>,
+    sender: u32,
+    number: u32,
+    text: &[u8],
+) -> Result<(), KeepFault>
+    requires ours { IsTrusted (state S.Store conn.old) → IsOurs (state S.Store conn.old) }
+    ensures before { IsTrusted (state S.Store conn.new) → IsTrusted (state S.Store conn.old) }
+    ensures lasts { Lasts (state S.Store conn.old) (state S.Store conn.new) }
+    ensures open { HasCleanDisk (state S.Store conn.new) → IsTrusted (state S.Store conn.old) → OnOk result (IsTrusted (state S.Store conn.new)) }
+    ensures ours { IsTrusted (state S.Store conn.new) → IsOurs (state S.Store conn.new) }
+    ensures kept { IsTrusted (state S.Store conn.new) → OnOk result (AddsLetter (state S.Store conn.old).now.trees (state S.Store conn.new).now.trees sender number text.now) }
+    ensures err { IsTrusted (state S.Store conn.new) → OnErr result ((state S.Store conn.new).now ≡ (state S.Store conn.old).now) }
+    ensures bad { result ≢ Err (KeepFault.Store Cause.BadRow) }
+{
+    if !conn.is_autocommit() {
+        return Err(KeepFault::Store(Cause::Sqlite(Error::InvalidQuery)));
+    }
+    let mut tx = conn.transaction();
+    let _added = add_letter(&mut tx, sender, number, text)?;
+    tx.commit()?;
+    Ok(())
+}
+
+/// The values of a letter's columns.
+fn values_of(letter: &NewLetter) -> [ValueRef<'_>; 3]
+    ensures { bound result ≡ letter_parameters letter.now }
+{
+    let text = letter.text.as_slice();
+    [
+        letter.sender.to_sql(),
+        letter.number.to_sql(),
+        text.to_sql(),
+    ]
+}
+
+/// The values of eight letters' columns, letter by letter.
+fn eight_values(letters: &[NewLetter]) -> [[ValueRef<'_>; 3]; 8]
+    requires { length letters.now ≡ 8 }
+    ensures { map bound result ≡ map letter_parameters letters.now }
+{
+    match letters {
+        [first, second, third, fourth, fifth, sixth, seventh, eighth] => [
+            values_of(first),
+            values_of(second),
+            values_of(third),
+            values_of(fourth),
+            values_of(fifth),
+            values_of(sixth),
+            values_of(seventh),
+            values_of(eighth),
+        ],
+        _ => unreachable!(),
+    }
+}
+
+/// Adds eight texts to the mail by one statement.
+fn add_eight<S: Alter>(tx: &mut Transaction<'_, S>, letters: &[NewLetter]) -> Result<usize, Error>
+    requires inside { IsTrusted (state S.Store tx.old.conn.now) → IsInside (state S.Store tx.old.conn.now) }
+    requires eight { length letters.now ≡ 8 }
+    ensures same_reference { tx.new.conn.ghost_name ≡ tx.old.conn.ghost_name }
+    ensures before { IsTrusted (state S.Store tx.new.conn.now) → IsTrusted (state S.Store tx.old.conn.now) }
+    ensures lasts { Lasts (state S.Store tx.old.conn.now) (state S.Store tx.new.conn.now) }
+    ensures open { HasCleanDisk (state S.Store tx.new.conn.now) → IsTrusted (state S.Store tx.old.conn.now) → OnOk result (IsTrusted (state S.Store tx.new.conn.now)) }
+    ensures on { IsTrusted (state S.Store tx.new.conn.now) → OnOk result (WentOn (state S.Store tx.old.conn.now) (state S.Store tx.new.conn.now)) }
+    ensures added { IsTrusted (state S.Store tx.new.conn.now) → OnOk result (AddsLetters (state S.Store tx.old.conn.now).now.trees (state S.Store tx.new.conn.now).now.trees letters.now) }
+    ensures err { IsTrusted (state S.Store tx.new.conn.now) → OnErr result ((state S.Store tx.new.conn.now).committed ≡ (state S.Store tx.old.conn.now).committed) }
+{
+    let values = eight_values(letters);
+    tx.execute(
+        "INSERT INTO mail (sender, number, body) VALUES (?1, ?2, ?3), (?4, ?5, ?6), (?7, ?8, ?9), (?10, ?11, ?12), (?13, ?14, ?15), (?16, ?17, ?18), (?19, ?20, ?21), (?22, ?23, ?24)",
+        values.as_flattened(),
+    )
+}
+
+/// Adds the first of these texts to the mail, and says how many: eight by one statement, or one where there are fewer.
+fn add_first<S: Alter>(tx: &mut Transaction<'_, S>, letters: &[NewLetter]) -> Result<usize, Error>
+    requires inside { IsTrusted (state S.Store tx.old.conn.now) → IsInside (state S.Store tx.old.conn.now) }
+    requires some { 0 < length letters.now }
+    ensures same_reference { tx.new.conn.ghost_name ≡ tx.old.conn.ghost_name }
+    ensures before { IsTrusted (state S.Store tx.new.conn.now) → IsTrusted (state S.Store tx.old.conn.now) }
+    ensures lasts { Lasts (state S.Store tx.old.conn.now) (state S.Store tx.new.conn.now) }
+    ensures open { HasCleanDisk (state S.Store tx.new.conn.now) → IsTrusted (state S.Store tx.old.conn.now) → OnOk result (IsTrusted (state S.Store tx.new.conn.now)) }
+    ensures on { IsTrusted (state S.Store tx.new.conn.now) → OnOk result (WentOn (state S.Store tx.old.conn.now) (state S.Store tx.new.conn.now)) }
+    ensures count { IfOk result (λ count. (0 < count) × (count ≤ length letters.now)) }
+    ensures added { IsTrusted (state S.Store tx.new.conn.now) → IfOk result (λ count. AddsLetters (state S.Store tx.old.conn.now).now.trees (state S.Store tx.new.conn.now).now.trees (take count letters.now)) }
+    ensures err { IsTrusted (state S.Store tx.new.conn.now) → OnErr result ((state S.Store tx.new.conn.now).committed ≡ (state S.Store tx.old.conn.now).committed) }
+{
+    if letters.len() >= 8 {
+        add_eight(tx, &letters[..8])?;
+        return Ok(8);
+    }
+    let letter = &letters[0];
+    add_letter(tx, letter.sender, letter.number, letter.text.as_slice())?;
+    Ok(1)
+}
+
+/// Adds these texts to the mail.
+fn add_letters<S: Alter>(tx: &mut Transaction<'_, S>, letters: &[NewLetter]) -> Result<(), Error>
+    requires inside { IsTrusted (state S.Store tx.old.conn.now) → IsInside (state S.Store tx.old.conn.now) }
+    ensures same_reference { tx.new.conn.ghost_name ≡ tx.old.conn.ghost_name }
+    ensures before { IsTrusted (state S.Store tx.new.conn.now) → IsTrusted (state S.Store tx.old.conn.now) }
+    ensures lasts { Lasts (state S.Store tx.old.conn.now) (state S.Store tx.new.conn.now) }
+    ensures open { HasCleanDisk (state S.Store tx.new.conn.now) → IsTrusted (state S.Store tx.old.conn.now) → OnOk result (IsTrusted (state S.Store tx.new.conn.now)) }
+    ensures on { IsTrusted (state S.Store tx.new.conn.now) → OnOk result (WentOn (state S.Store tx.old.conn.now) (state S.Store tx.new.conn.now)) }
+    ensures added { IsTrusted (state S.Store tx.new.conn.now) → OnOk result (AddsLetters (state S.Store tx.old.conn.now).now.trees (state S.Store tx.new.conn.now).now.trees letters.now) }
+    ensures err { IsTrusted (state S.Store tx.new.conn.now) → OnErr result ((state S.Store tx.new.conn.now).committed ≡ (state S.Store tx.old.conn.now).committed) }
+{
+    let mut at = 0;
+    'letters: while at < letters.len() {
+        let count = add_first(tx, &letters[at..])?;
+        at += count;
+    }
+    Ok(())
+}
+
+/// Keeps these texts under free numbers, in one transaction: all of them, or none.
+pub fn keep_all<S: Alter>(conn: &mut Connection<S>, letters: &[NewLetter]) -> Result<(), KeepFault>
+    requires ours { IsTrusted (state S.Store conn.old) → IsOurs (state S.Store conn.old) }
+    ensures before { IsTrusted (state S.Store conn.new) → IsTrusted (state S.Store conn.old) }
+    ensures lasts { Lasts (state S.Store conn.old) (state S.Store conn.new) }
+    ensures open { HasCleanDisk (state S.Store conn.new) → IsTrusted (state S.Store conn.old) → OnOk result (IsTrusted (state S.Store conn.new)) }
+    ensures ours { IsTrusted (state S.Store conn.new) → IsOurs (state S.Store conn.new) }
+    ensures kept { IsTrusted (state S.Store conn.new) → OnOk result (AddsLetters (state S.Store conn.old).now.trees (state S.Store conn.new).now.trees letters.now) }
+    ensures err { IsTrusted (state S.Store conn.new) → OnErr result ((state S.Store conn.new).now ≡ (state S.Store conn.old).now) }
+    ensures bad { result ≢ Err (KeepFault.Store Cause.BadRow) }
+{
+    if !conn.is_autocommit() {
+        return Err(KeepFault::Store(Cause::Sqlite(Error::InvalidQuery)));
+    }
+    let mut tx = conn.transaction();
+    add_letters(&mut tx, letters)?;
+    tx.commit()?;
+    Ok(())
+}

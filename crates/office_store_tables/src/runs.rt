@@ -1,0 +1,257 @@
+//! The tables of the office and of its finished runs.
+ghost use Rattle.std.specs.Prelude.{◌≡◌, ◌≢◌, ◌<◌, ℕ, Err, ◌∷◌, [], Some, pos, map, filter, IfOk, OnOk, OnErr};
+ghost use Rattle.std.specs.List.Sorted.{IsPermutation};
+ghost use Rattle.std.specs.FinMap.{get};
+ghost use Rattle.std.specs.Str.{IsUtf8};
+ghost use Rattle.office_store_testing_tables.specs.Legible.{SaysOnce, AreReported};
+ghost use Rattle.office_store_keeper.specs.Content.{item_from_one};
+ghost use Rattle.office_store_testing_tables.specs.TableContent.{reports_to, count_said};
+ghost use Rattle.office_store_testing_tables.specs.declared.said.Said.{Said as SaidNow};
+ghost use Rattle.office_store_keeper.specs.declared.values.Reports.{Reports as ReportsNow};
+ghost use Rattle.sqlite.specs.Order.{column};
+ghost use Rattle.sqlite.specs.declared.types.Value.TheVariants.{Int, Text as Words};
+ghost use Rattle.sqlite.specs.Held.{state};
+ghost use Rattle.sqlite.specs.State.{HasCleanDisk};
+ghost use Rattle.office_store_testing_tables.specs.Tables.{IsTrusted, IsOurs, said_in as said_rows, run_map, Lasts};
+ghost use Rattle.office_store_testing_tables.specs.TableSteps.{Same, IsInside, WentOn, IsOnlyOffice, IsOnlyRun, AddsRun, Silences, SaysMore, RecordsRun, office_columns, is_run, run_columns};
+
+use deb_control::Text;
+use office_store_keeper::{Cause, KeepFault, Reports};
+use office_store_testing_tables::faults::unread;
+use office_store_testing_tables::said::Said;
+use office_store_testing_tables::shown::number_in;
+use sqlite::{Alter, Connection, Error, Row, Transaction, params};
+
+/// What a row of the office says, whose id is 1.
+fn said_in(row: &Row) -> Result<Said, KeepFault>
+    ensures bad { result ≡ Err (KeepFault.Store Cause.BadRow) → (said : SaidNow) → said.schema < 4_294_967_296 → said.finished < 4_294_967_296 → IsUtf8 said.setup → row.now ≢ Int (pos 1) ∷ Int (pos said.schema) ∷ Words said.setup ∷ Int (pos said.finished) ∷ [] }
+    ensures ok { IfOk result (λ said. (column row.now 0 ≡ Int (pos 1)) × (column row.now 1 ≡ Int (pos said.schema)) × (column row.now 2 ≡ Words said.setup) × (column row.now 3 ≡ Int (pos said.finished))) }
+{
+    let id = number_in(row, 0)?;
+    if id != 1 {
+        return Err(KeepFault::Store(Cause::BadRow));
+    }
+    let schema = number_in(row, 1)?;
+    let finished = number_in(row, 3)?;
+    let setup: String = row.get(2).map_err(unread)?;
+    Ok(Said {
+        schema,
+        setup: Text::from_string(setup),
+        finished,
+    })
+}
+
+/// What the only row says.
+fn only_said(rows: &[Row]) -> Result<Said, KeepFault>
+    ensures ok { IfOk result (λ said. IsOnlyOffice said rows.now) }
+    ensures bad { result ≡ Err (KeepFault.Store Cause.BadRow) → (said : SaidNow) → said.schema < 4_294_967_296 → said.finished < 4_294_967_296 → IsUtf8 said.setup → rows.now ≢ (Int (pos 1) ∷ Int (pos said.schema) ∷ Words said.setup ∷ Int (pos said.finished) ∷ []) ∷ [] }
+{
+    match rows {
+        [row] => said_in(row),
+        _ => Err(KeepFault::Store(Cause::BadRow)),
+    }
+}
+
+/// The rows of the office, in any order.
+pub fn office_rows<S: Alter>(conn: &mut Connection<S>) -> Result<Vec<Row>, Error>
+    requires ours { IsTrusted (state S.Store conn.old) → IsOurs (state S.Store conn.old) }
+    ensures before { IsTrusted (state S.Store conn.new) → IsTrusted (state S.Store conn.old) }
+    ensures lasts { Lasts (state S.Store conn.old) (state S.Store conn.new) }
+    ensures open { HasCleanDisk (state S.Store conn.new) → IsTrusted (state S.Store conn.old) → OnOk result (IsTrusted (state S.Store conn.new)) }
+    ensures same { IsTrusted (state S.Store conn.new) → Same (state S.Store conn.old) (state S.Store conn.new) }
+    ensures rows { IsTrusted (state S.Store conn.new) → IfOk result (λ rows. IsPermutation (map office_columns ((state S.Store conn.new).now.trees 0)) rows.items) }
+{
+    conn.query_all("SELECT id, schema, setup, finished FROM office", &[])
+}
+
+/// What the office says of itself.
+pub(crate) fn said<S: Alter>(conn: &mut Connection<S>) -> Result<Said, KeepFault>
+    requires ours { IsTrusted (state S.Store conn.old) → IsOurs (state S.Store conn.old) }
+    ensures before { IsTrusted (state S.Store conn.new) → IsTrusted (state S.Store conn.old) }
+    ensures lasts { Lasts (state S.Store conn.old) (state S.Store conn.new) }
+    ensures open { HasCleanDisk (state S.Store conn.new) → IsTrusted (state S.Store conn.old) → OnOk result (IsTrusted (state S.Store conn.new)) }
+    ensures same { IsTrusted (state S.Store conn.new) → Same (state S.Store conn.old) (state S.Store conn.new) }
+    ensures value { IsTrusted (state S.Store conn.new) → IfOk result (λ said. said_rows ((state S.Store conn.new).now.trees 0) ≡ Some said) }
+    ensures bad { IsTrusted (state S.Store conn.new) → SaysOnce ((state S.Store conn.new).now.trees 0) → result ≢ Err (KeepFault.Store Cause.BadRow) }
+{
+    let rows = office_rows(conn)?;
+    only_said(rows.as_slice())
+}
+
+/// How many runs are finished.
+pub fn finished<S: Alter>(conn: &mut Connection<S>) -> Result<u32, KeepFault>
+    requires ours { IsTrusted (state S.Store conn.old) → IsOurs (state S.Store conn.old) }
+    ensures before { IsTrusted (state S.Store conn.new) → IsTrusted (state S.Store conn.old) }
+    ensures lasts { Lasts (state S.Store conn.old) (state S.Store conn.new) }
+    ensures open { HasCleanDisk (state S.Store conn.new) → IsTrusted (state S.Store conn.old) → OnOk result (IsTrusted (state S.Store conn.new)) }
+    ensures same { IsTrusted (state S.Store conn.new) → Same (state S.Store conn.old) (state S.Store conn.new) }
+    ensures value { IsTrusted (state S.Store conn.new) → IfOk result (λ n. n ≡ count_said (said_rows ((state S.Store conn.new).now.trees 0))) }
+    ensures bad { IsTrusted (state S.Store conn.new) → SaysOnce ((state S.Store conn.new).now.trees 0) → result ≢ Err (KeepFault.Store Cause.BadRow) }
+{
+    let said = said(conn)?;
+    Ok(said.finished)
+}
+
+/// The reports in the row of a run.
+fn reports_in(row: &Row, run: u32) -> Result<Reports, KeepFault>
+    ensures bad { result ≡ Err (KeepFault.Store Cause.BadRow) → (reports : ReportsNow) → IsUtf8 reports.excuses → IsUtf8 reports.updates → row.now ≢ Int (pos run) ∷ Words reports.excuses ∷ Words reports.updates ∷ [] }
+    ensures ok { IfOk result (λ r. (column row.now 0 ≡ Int (pos run)) × (column row.now 1 ≡ Words r.excuses) × (column row.now 2 ≡ Words r.updates)) }
+{
+    let number = number_in(row, 0)?;
+    if number != run {
+        return Err(KeepFault::Store(Cause::BadRow));
+    }
+    let excuses: String = row.get(1).map_err(unread)?;
+    let updates: String = row.get(2).map_err(unread)?;
+    Ok(Reports {
+        excuses: Text::from_string(excuses),
+        updates: Text::from_string(updates),
+    })
+}
+
+/// The reports of the only row, if there is one.
+fn only_reports(rows: &[Row], run: u32) -> Result<Option<Reports>, KeepFault>
+    ensures ok { IfOk result (λ reports. IsOnlyRun run reports rows.now) }
+    ensures none { result ≡ Err (KeepFault.Store Cause.BadRow) → rows.now ≢ [] }
+    ensures one { result ≡ Err (KeepFault.Store Cause.BadRow) → (reports : ReportsNow) → IsUtf8 reports.excuses → IsUtf8 reports.updates → rows.now ≢ (Int (pos run) ∷ Words reports.excuses ∷ Words reports.updates ∷ []) ∷ [] }
+{
+    match rows {
+        [] => Ok(None),
+        [row] => Ok(Some(reports_in(row, run)?)),
+        _ => Err(KeepFault::Store(Cause::BadRow)),
+    }
+}
+
+/// The rows of this run, in any order.
+fn run_rows<S: Alter>(conn: &mut Connection<S>, run: u32) -> Result<Vec<Row>, Error>
+    requires ours { IsTrusted (state S.Store conn.old) → IsOurs (state S.Store conn.old) }
+    ensures before { IsTrusted (state S.Store conn.new) → IsTrusted (state S.Store conn.old) }
+    ensures lasts { Lasts (state S.Store conn.old) (state S.Store conn.new) }
+    ensures open { HasCleanDisk (state S.Store conn.new) → IsTrusted (state S.Store conn.old) → OnOk result (IsTrusted (state S.Store conn.new)) }
+    ensures same { IsTrusted (state S.Store conn.new) → Same (state S.Store conn.old) (state S.Store conn.new) }
+    ensures rows { IsTrusted (state S.Store conn.new) → IfOk result (λ rows. IsPermutation (map run_columns (filter (is_run run) ((state S.Store conn.new).now.trees 3))) rows.items) }
+{
+    conn.query_all(
+        "SELECT number, excuses, updates FROM run WHERE number = ?1",
+        params![run],
+    )
+}
+
+/// The reports that stand under a run's number, or none.
+fn recorded<S: Alter>(conn: &mut Connection<S>, run: u32) -> Result<Option<Reports>, KeepFault>
+    requires ours { IsTrusted (state S.Store conn.old) → IsOurs (state S.Store conn.old) }
+    ensures before { IsTrusted (state S.Store conn.new) → IsTrusted (state S.Store conn.old) }
+    ensures lasts { Lasts (state S.Store conn.old) (state S.Store conn.new) }
+    ensures open { HasCleanDisk (state S.Store conn.new) → IsTrusted (state S.Store conn.old) → OnOk result (IsTrusted (state S.Store conn.new)) }
+    ensures same { IsTrusted (state S.Store conn.new) → Same (state S.Store conn.old) (state S.Store conn.new) }
+    ensures value { IsTrusted (state S.Store conn.new) → IfOk result (λ reports. reports ≡ get (run_map ((state S.Store conn.new).now.trees 3)) run) }
+    ensures bad { IsTrusted (state S.Store conn.new) → (finished : ℕ) → AreReported ((state S.Store conn.new).now.trees 3) finished → result ≢ Err (KeepFault.Store Cause.BadRow) }
+{
+    let rows = run_rows(conn, run)?;
+    only_reports(rows.as_slice(), run)
+}
+
+/// The two reports of a finished run; none of another.
+pub fn reports<S: Alter>(conn: &mut Connection<S>, run: u32) -> Result<Option<Reports>, KeepFault>
+    requires ours { IsTrusted (state S.Store conn.old) → IsOurs (state S.Store conn.old) }
+    ensures before { IsTrusted (state S.Store conn.new) → IsTrusted (state S.Store conn.old) }
+    ensures lasts { Lasts (state S.Store conn.old) (state S.Store conn.new) }
+    ensures open { HasCleanDisk (state S.Store conn.new) → IsTrusted (state S.Store conn.old) → OnOk result (IsTrusted (state S.Store conn.new)) }
+    ensures same { IsTrusted (state S.Store conn.new) → Same (state S.Store conn.old) (state S.Store conn.new) }
+    ensures bad { IsTrusted (state S.Store conn.new) → (once : SaysOnce ((state S.Store conn.new).now.trees 0)) → AreReported ((state S.Store conn.new).now.trees 3) once.said.finished → result ≢ Err (KeepFault.Store Cause.BadRow) }
+    ensures value { IsTrusted (state S.Store conn.new) → IfOk result (λ reports. reports ≡ item_from_one run (reports_to (run_map ((state S.Store conn.new).now.trees 3)) (count_said (said_rows ((state S.Store conn.new).now.trees 0))))) }
+{
+    if run == 0 {
+        return Ok(None);
+    }
+    let finished = finished(conn)?;
+    if finished < run {
+        return Ok(None);
+    }
+    match recorded(conn, run)? {
+        Some(reports) => Ok(Some(reports)),
+        None => Err(KeepFault::Store(Cause::BadRow)),
+    }
+}
+
+/// Adds the reports of a run.
+fn add_run<S: Alter>(
+    tx: &mut Transaction<'_, S>,
+    number: u32,
+    excuses: &str,
+    updates: &str,
+) -> Result<usize, Error>
+    requires inside { IsTrusted (state S.Store tx.old.conn.now) → IsInside (state S.Store tx.old.conn.now) }
+    ensures same_reference { tx.new.conn.ghost_name ≡ tx.old.conn.ghost_name }
+    ensures before { IsTrusted (state S.Store tx.new.conn.now) → IsTrusted (state S.Store tx.old.conn.now) }
+    ensures lasts { Lasts (state S.Store tx.old.conn.now) (state S.Store tx.new.conn.now) }
+    ensures open { HasCleanDisk (state S.Store tx.new.conn.now) → IsTrusted (state S.Store tx.old.conn.now) → OnOk result (IsTrusted (state S.Store tx.new.conn.now)) }
+    ensures on { IsTrusted (state S.Store tx.new.conn.now) → OnOk result (WentOn (state S.Store tx.old.conn.now) (state S.Store tx.new.conn.now)) }
+    ensures added { IsTrusted (state S.Store tx.new.conn.now) → OnOk result (AddsRun (state S.Store tx.old.conn.now).now.trees (state S.Store tx.new.conn.now).now.trees number (record { excuses = excuses.now; updates = updates.now })) }
+    ensures err { IsTrusted (state S.Store tx.new.conn.now) → OnErr result ((state S.Store tx.new.conn.now).committed ≡ (state S.Store tx.old.conn.now).committed) }
+{
+    tx.execute(
+        "INSERT INTO run (number, excuses, updates) VALUES (?1, ?2, ?3)",
+        params![number, excuses, updates],
+    )
+}
+
+/// Takes out what the office says of itself.
+pub fn clear_office<S: Alter>(tx: &mut Transaction<'_, S>) -> Result<usize, Error>
+    requires inside { IsTrusted (state S.Store tx.old.conn.now) → IsInside (state S.Store tx.old.conn.now) }
+    ensures same_reference { tx.new.conn.ghost_name ≡ tx.old.conn.ghost_name }
+    ensures before { IsTrusted (state S.Store tx.new.conn.now) → IsTrusted (state S.Store tx.old.conn.now) }
+    ensures lasts { Lasts (state S.Store tx.old.conn.now) (state S.Store tx.new.conn.now) }
+    ensures open { HasCleanDisk (state S.Store tx.new.conn.now) → IsTrusted (state S.Store tx.old.conn.now) → OnOk result (IsTrusted (state S.Store tx.new.conn.now)) }
+    ensures on { IsTrusted (state S.Store tx.new.conn.now) → OnOk result (WentOn (state S.Store tx.old.conn.now) (state S.Store tx.new.conn.now)) }
+    ensures cleared { IsTrusted (state S.Store tx.new.conn.now) → OnOk result (Silences (state S.Store tx.old.conn.now).now.trees (state S.Store tx.new.conn.now).now.trees) }
+    ensures err { IsTrusted (state S.Store tx.new.conn.now) → OnErr result ((state S.Store tx.new.conn.now).committed ≡ (state S.Store tx.old.conn.now).committed) }
+{
+    tx.execute("DELETE FROM office", &[])
+}
+
+/// Puts in what the office says of itself.
+pub fn add_office<S: Alter>(
+    tx: &mut Transaction<'_, S>,
+    schema: u32,
+    setup: &str,
+    finished: u32,
+) -> Result<usize, Error>
+    requires inside { IsTrusted (state S.Store tx.old.conn.now) → IsInside (state S.Store tx.old.conn.now) }
+    ensures same_reference { tx.new.conn.ghost_name ≡ tx.old.conn.ghost_name }
+    ensures before { IsTrusted (state S.Store tx.new.conn.now) → IsTrusted (state S.Store tx.old.conn.now) }
+    ensures lasts { Lasts (state S.Store tx.old.conn.now) (state S.Store tx.new.conn.now) }
+    ensures open { HasCleanDisk (state S.Store tx.new.conn.now) → IsTrusted (state S.Store tx.old.conn.now) → OnOk result (IsTrusted (state S.Store tx.new.conn.now)) }
+    ensures on { IsTrusted (state S.Store tx.new.conn.now) → OnOk result (WentOn (state S.Store tx.old.conn.now) (state S.Store tx.new.conn.now)) }
+    ensures added { IsTrusted (state S.Store tx.new.conn.now) → OnOk result (SaysMore (state S.Store tx.old.conn.now).now.trees (state S.Store tx.new.conn.now).now.trees (record { schema = schema; setup = setup.now; finished = finished })) }
+    ensures err { IsTrusted (state S.Store tx.new.conn.now) → OnErr result ((state S.Store tx.new.conn.now).committed ≡ (state S.Store tx.old.conn.now).committed) }
+{
+    tx.execute(
+        "INSERT INTO office (id, schema, setup, finished) VALUES (1, ?1, ?2, ?3)",
+        params![schema, setup, finished],
+    )
+}
+
+/// Puts a run into the tables of runs and of the office.
+pub(crate) fn record_run<S: Alter>(
+    tx: &mut Transaction<'_, S>,
+    number: u32,
+    excuses: &str,
+    updates: &str,
+    schema: u32,
+    setup: &str,
+) -> Result<usize, Error>
+    requires inside { IsTrusted (state S.Store tx.old.conn.now) → IsInside (state S.Store tx.old.conn.now) }
+    ensures same_reference { tx.new.conn.ghost_name ≡ tx.old.conn.ghost_name }
+    ensures before { IsTrusted (state S.Store tx.new.conn.now) → IsTrusted (state S.Store tx.old.conn.now) }
+    ensures lasts { Lasts (state S.Store tx.old.conn.now) (state S.Store tx.new.conn.now) }
+    ensures open { HasCleanDisk (state S.Store tx.new.conn.now) → IsTrusted (state S.Store tx.old.conn.now) → OnOk result (IsTrusted (state S.Store tx.new.conn.now)) }
+    ensures on { IsTrusted (state S.Store tx.new.conn.now) → OnOk result (WentOn (state S.Store tx.old.conn.now) (state S.Store tx.new.conn.now)) }
+    ensures done { IsTrusted (state S.Store tx.new.conn.now) → OnOk result (RecordsRun (state S.Store tx.old.conn.now).now.trees (state S.Store tx.new.conn.now).now.trees number (record { excuses = excuses.now; updates = updates.now }) (record { schema = schema; setup = setup.now; finished = number })) }
+    ensures err { IsTrusted (state S.Store tx.new.conn.now) → OnErr result ((state S.Store tx.new.conn.now).committed ≡ (state S.Store tx.old.conn.now).committed) }
+{
+    let _reports = add_run(tx, number, excuses, updates)?;
+    let _old = clear_office(tx)?;
+    let added = add_office(tx, schema, setup, number)?;
+    Ok(added)
+}

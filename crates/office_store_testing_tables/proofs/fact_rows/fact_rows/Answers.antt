@@ -1,0 +1,33 @@
+use Rattle.std.proofs.Common.{[], List, map, sym, subst}
+use Rattle.std.specs.List.Sorted.{IsPermutation}
+use Rattle.sqlite.specs.Order.{Row}
+use Rattle.sqlite.specs.Tree.{Trees}
+use Rattle.sqlite.specs.Effect.{Database}
+use Rattle.sqlite.specs.Held.{state}
+use Rattle.office_store_testing_tables.specs.Texts.{facts_text}
+use Rattle.office_store_testing_tables.specs.FactSteps.{fact_columns}
+use Rattle.office_store_testing_tables.proofs.StateLemmas.{Asked, asked_before, asked_same, asked_rows, asked_open}
+use Rattle.office_store_testing_tables.proofs.FactShows.{shows_facts, facts_plain}
+use Rattle.office_store_testing_tables.proofs.fact_rows.fact_rows.Goals as goal
+
+asked : (g : _) (c : goal.After-query_all g) → Asked (λ r. r.items) facts_text [] (state g.S.Store c.args.conn.now) (state g.S.Store c.query_all.new.self) c.query_all.result
+asked g c = record { clean = c.query_all.ensures.survives.clean; limit = c.query_all.ensures.survives.limit; ok = c.query_all.ensures.ok; err = c.query_all.ensures.err }
+
+pub returns-clause-before : goal.returns-clause-before
+returns-clause-before g c trusted = asked_before _ _ _ _ _ _ (asked g c) trusted
+
+pub returns-clause-open : goal.returns-clause-open
+returns-clause-open g c clean trusted = asked_open _ _ _ _ _ _ (asked g c) clean trusted
+
+pub returns-clause-same : goal.returns-clause-same
+returns-clause-same g c trusted = asked_same _ _ _ _ _ _ (asked g c) facts_plain.0 (c.requires.ours (asked_before _ _ _ _ _ _ (asked g c) trusted)) trusted
+
+pub returns-clause-rows : goal.returns-clause-rows
+returns-clause-rows g c trusted =
+    let ours = c.requires.ours (asked_before _ _ _ _ _ _ (asked g c) trusted) in
+    let same = asked_same _ _ _ _ _ _ (asked g c) facts_plain.0 ours trusted in
+    let old = state g.S.Store c.args.conn.now in
+    let new = state g.S.Store c.query_all.new.self in
+    let found = λ (db : Trees) (rows : List Row). IsPermutation (map fact_columns (db 8)) rows in
+    asked_rows (λ r. r.items) facts_text [] old new (found new.now.trees) c.query_all.result (asked g c) trusted
+    (λ rows h. subst (λ (d : Database). found d.trees rows) (sym same.now) (shows_facts old new rows ours.schema h))

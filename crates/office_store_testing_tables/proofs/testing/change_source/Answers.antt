@@ -1,0 +1,85 @@
+use Rattle.std.proofs.Common.{◌<◌, length, refl, subst, arith, SFits, w64, rules, to_z-of_z}
+use Rattle.std.proofs.lemmas.Result.{IfOk-from_err}
+use Rattle.std.proofs.lemmas.Option.{slice_get_read, slice_get_within}
+use Rattle.sqlite.specs.Held.{state}
+use Rattle.office_store_testing_tables.specs.Entries.{source_in}
+use Rattle.office_store_testing_tables.specs.EntrySteps.{source_entry}
+use Rattle.office_store_testing_tables.specs.Differences.{Agrees}
+use Rattle.office_store_testing_tables.proofs.DifferenceLemmas.{sources_stay, source_leaves, source_comes}
+use Rattle.office_store_testing_tables.proofs.WithinLemmas.{none_within}
+use Rattle.office_store_testing_tables.proofs.testing.change_source.Goals as goal
+
+pub returns-in-Stays-clause-compared : goal.returns-in-Stays-clause-compared
+returns-in-Stays-clause-compared g c trusted first was =
+    let a = subst (Agrees source_in source_entry c.args.shown.now c.args.sources.now c.args.at.shown c.args.at.entries) c.in-Stays.is c.in_ok-source_change.ensures.next in
+    sources_stay c.args.shown.now c.args.sources.now first (state g.S.Store c.args.tx.now.conn.now).now.trees c.args.at.shown c.args.at.entries a.0 a.1 a.2 a.3 a.4 was
+
+pub returns-in_ok-take_one_source-in-Leaves-clause-further : goal.returns-in_ok-take_one_source-in-Leaves-clause-further
+returns-in_ok-take_one_source-in-Leaves-clause-further g c =
+    let a = subst (Agrees source_in source_entry c.args.shown.now c.args.sources.now c.args.at.shown c.args.at.entries) c.in-Leaves.is c.in_ok-source_change.ensures.next in
+    let below : c.args.at.shown < length c.args.shown.now = slice_get_within c.args.shown.now c.args.at.shown a.0 a.1 in
+    record {
+      shown = omega arith;
+      new = omega arith;
+      either = omega arith;
+      within_shown = omega (arith, below);
+      within_new = c.requires.within.1;
+    }
+
+pub returns-in_ok-take_one_source-in-Leaves-clause-compared : goal.returns-in_ok-take_one_source-in-Leaves-clause-compared
+returns-in_ok-take_one_source-in-Leaves-clause-compared g c trusted first was =
+    let fits : SFits w64 c.in-Leaves.id = search rules in
+    let a = subst (Agrees source_in source_entry c.args.shown.now c.args.sources.now c.args.at.shown c.args.at.entries) c.in-Leaves.is c.in_ok-source_change.ensures.next in
+    source_leaves c.args.shown.now c.args.sources.now first (state g.S.Store c.args.tx.now.conn.now).now.trees (state g.S.Store c.take_one_source.new.tx.conn.now).now.trees c.args.at.shown c.args.at.entries a.0 c.in-Leaves.id a.1 a.2
+    (rw (to_z-of_z fits) at (c.in_ok-take_one_source-in-Leaves.ensures.taken trusted)) was
+
+pub returns-in_ok-add_source-in-Comes-clause-compared : goal.returns-in_ok-add_source-in-Comes-clause-compared
+returns-in_ok-add_source-in-Comes-clause-compared g c trusted first was =
+    let below = subst (Agrees source_in source_entry c.args.shown.now c.args.sources.now c.args.at.shown c.args.at.entries) c.in-Comes.is c.in_ok-source_change.ensures.next in
+    source_comes c.args.shown.now c.args.sources.now first (state g.S.Store c.args.tx.now.conn.now).now.trees (state g.S.Store c.add_source.new.tx.conn.now).now.trees c.args.at.shown c.args.at.entries c.index-sources-place.result c.as_str.result.now
+    (slice_get_read c.args.sources.now (length c.args.sources.now) c.args.at.entries c.index-sources-place.result refl below c.index-sources-place.is) c.as_str.ensures (c.in_ok-add_source-in-Comes.ensures.added trusted) was
+
+pub returns-in_err-source_change-clause-further : goal.returns-in_err-source_change-clause-further
+returns-in_err-source_change-clause-further g c = IfOk-from_err c.from_residual.result _ c.from_residual.ensures.0
+
+pub returns-in_err-source_change-clause-compared : goal.returns-in_err-source_change-clause-compared
+returns-in_err-source_change-clause-compared g c trusted = IfOk-from_err c.from_residual.result _ c.from_residual.ensures.0
+
+pub returns-in_err-take_one_source-in-Leaves-clause-further : goal.returns-in_err-take_one_source-in-Leaves-clause-further
+returns-in_err-take_one_source-in-Leaves-clause-further g c = IfOk-from_err c.from_residual-in_err-take_one_source-in-Leaves.result _ c.from_residual-in_err-take_one_source-in-Leaves.ensures.0
+
+pub returns-in_err-take_one_source-in-Leaves-clause-compared : goal.returns-in_err-take_one_source-in-Leaves-clause-compared
+returns-in_err-take_one_source-in-Leaves-clause-compared g c trusted = IfOk-from_err c.from_residual-in_err-take_one_source-in-Leaves.result _ c.from_residual-in_err-take_one_source-in-Leaves.ensures.0
+
+pub returns-in_err-add_source-in-Comes-clause-further : goal.returns-in_err-add_source-in-Comes-clause-further
+returns-in_err-add_source-in-Comes-clause-further g c = IfOk-from_err c.from_residual-in_err-add_source-in-Comes.result _ c.from_residual-in_err-add_source-in-Comes.ensures.0
+
+pub returns-in_err-add_source-in-Comes-clause-compared : goal.returns-in_err-add_source-in-Comes-clause-compared
+returns-in_err-add_source-in-Comes-clause-compared g c trusted = IfOk-from_err c.from_residual-in_err-add_source-in-Comes.result _ c.from_residual-in_err-add_source-in-Comes.ensures.0
+
+pub returns-in-Stays-clause-steps : goal.returns-in-Stays-clause-steps
+returns-in-Stays-clause-steps g c = none_within _ _ c.requires.inside
+
+pub returns-in-Stays-clause-further : goal.returns-in-Stays-clause-further
+returns-in-Stays-clause-further g c =
+    let a = subst (Agrees source_in source_entry c.args.shown.now c.args.sources.now c.args.at.shown c.args.at.entries) c.in-Stays.is c.in_ok-source_change.ensures.next in
+    let below : c.args.at.shown < length c.args.shown.now = slice_get_within c.args.shown.now c.args.at.shown a.0 a.2 in
+    let under : c.args.at.entries < length c.args.sources.now = slice_get_within c.args.sources.now c.args.at.entries a.1 a.3 in
+    record {
+      shown = omega arith;
+      new = omega arith;
+      either = omega arith;
+      within_shown = omega (arith, below);
+      within_new = omega (arith, under);
+    }
+
+pub returns-in_ok-add_source-in-Comes-clause-further : goal.returns-in_ok-add_source-in-Comes-clause-further
+returns-in_ok-add_source-in-Comes-clause-further g c =
+    let below : c.args.at.entries < length c.args.sources.now = subst (Agrees source_in source_entry c.args.shown.now c.args.sources.now c.args.at.shown c.args.at.entries) c.in-Comes.is c.in_ok-source_change.ensures.next in
+    record {
+      shown = omega arith;
+      new = omega arith;
+      either = omega arith;
+      within_shown = c.requires.within.0;
+      within_new = omega (arith, below);
+    }

@@ -1,0 +1,48 @@
+-- The tables of facts, and what they say.
+use Rattle.std.specs.Prelude.{◌&&◌, ◌||◌, ◌==◌, ◌++◌, nat_le, if◌then◌else◌, Bool, ℕ, ℤ, List, filter_map, Option, Some, None, ⊤}
+use Rattle.std.specs.FinMap.{from_entries}
+use Rattle.sqlite.specs.Order.{Row, column}
+use Rattle.testing_rules_model.specs.declared.fact_row.FactRow.{FactRow}
+use Rattle.office_store_keeper.specs.FactSet.{FactSet}
+use Rattle.office_store_testing_tables.specs.Tables.{number_in, small_in}
+use Rattle.office_store_testing_tables.specs.Entries.{integer_in}
+
+-- a fact, as an entry of a set
+abbrev pub fact_entry : FactRow → FactRow × ⊤
+fact_entry fact = (fact, tt)
+
+-- whether the table of facts may have a row of this kind with this place
+abbrev pub may_stand : ℕ → ℕ → Bool
+may_stand kind place = nat_le 1 kind && (nat_le kind 7 && ((kind == 3) || (place == 0)))
+
+abbrev pub fact_of : FactRow → Option (FactRow × ⊤)
+fact_of fact = if may_stand fact.kind fact.place then Some (fact_entry fact) else None
+
+abbrev pub fact_by : Option ℤ → Option ℕ → Option ℕ → Option ℕ → Option ℕ → Option (FactRow × ⊤)
+fact_by None kind sender number place = None
+fact_by (Some rowid) None sender number place = None
+fact_by (Some rowid) (Some kind) None number place = None
+fact_by (Some rowid) (Some kind) (Some sender) None place = None
+fact_by (Some rowid) (Some kind) (Some sender) (Some number) None = None
+fact_by (Some rowid) (Some kind) (Some sender) (Some number) (Some place) = fact_of (record { kind = kind; sender = sender; number = number; place = place })
+
+-- what a row of the table of facts says
+unfoldable pub fact_in : Row → Option (FactRow × ⊤)
+fact_in row = fact_by (integer_in (column row 0)) (small_in (column row 1)) (small_in (column row 2)) (small_in (column row 3)) (small_in (column row 4))
+
+-- the fact of the delays under a number of the release team, which has this place
+abbrev pub delays_of : ℕ → ℕ → FactRow
+delays_of release number = record { kind = 8; sender = release; number = number; place = 0 }
+
+abbrev pub delays_by : ℕ → Option ℕ → Option ℕ → Option (FactRow × ⊤)
+delays_by release None number = None
+delays_by release (Some id) None = None
+delays_by release (Some id) (Some number) = if id == 1 then Some (fact_entry (delays_of release number)) else None
+
+-- what a row of the table of the last delays says, whose id is 1
+unfoldable pub delays_in : ℕ → Row → Option (FactRow × ⊤)
+delays_in release row = delays_by release (number_in (column row 0)) (small_in (column row 2))
+
+-- the facts that the rows of both tables say
+unfoldable pub facts_in : ℕ → List Row → List Row → FactSet
+facts_in release facts delays = from_entries (filter_map fact_in facts ++ filter_map (delays_in release) delays)

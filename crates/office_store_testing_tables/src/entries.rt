@@ -1,0 +1,593 @@
+//! Testing, read back: each entry of its tables by the kept message that gave it.
+ghost use Rattle.std.specs.Prelude.{◌≡◌, ◌≢◌, ◌<◌, ◌⊎◌, [], IsTrue, Ok, Err, Some, None, map, length, IfOk, IfSome, OnOk, ◌&&◌};
+ghost use Rattle.std.specs.Option.{option_copied};
+ghost use Rattle.std.specs.Str.{bytes_eq};
+ghost use Rattle.testing_rules_items.specs.Words.{arch_name};
+ghost use Rattle.std.specs.List.{AllByRecursion};
+ghost use Rattle.std.specs.List.Sorted.{IsPermutation};
+ghost use Rattle.sqlite.specs.Held.{state};
+ghost use Rattle.sqlite.specs.State.{HasCleanDisk};
+ghost use Rattle.std.specs.FinMap.{get};
+ghost use Rattle.office_mail.specs.Kept.{Kept};
+ghost use Rattle.office_mail.specs.Read.{read};
+ghost use Rattle.office_store_keeper.specs.Provenance.{IsArchPlace, KnowsArchs, upload_in, binary_in};
+ghost use Rattle.office_store_testing_tables.specs.Tables.{IsTrusted, IsOurs, kept_rows, Lasts};
+ghost use Rattle.office_store_testing_tables.specs.TableSteps.{IsCrowded, Same};
+ghost use Rattle.office_store_testing_tables.specs.Legible.{IsWhole, AreNamed};
+ghost use Rattle.office_store_testing_tables.specs.Entries.{source_map, entry_map};
+ghost use Rattle.office_store_testing_tables.specs.EntrySteps.{source_columns, entry_columns};
+ghost use Rattle.office_store_testing_tables.specs.Loaded.{AreLettersOf};
+ghost use Rattle.office_store_testing_tables.specs.Nearby.{IsKeptAt, read_binary, brought};
+ghost use Rattle.office_store_testing_tables.specs.TableContent.{own_by, message_at as kept_message, source_as, source_of, row_as, row_of, is_arch_place, ReadsEach, put_all_sources, put_all_rows, IsGathered, suite_in};
+
+use crate::loaded::{Block, loaded_text, no_block};
+use crate::mail;
+use crate::nearby::{Columns, Listed, bring, message_place};
+use crate::shown::{RowEntry, row_entry, source_entry};
+use deb_control::{Binary, NoMemory};
+use office_mail::{Body, MailFault, Message, Setup, read_message};
+use office_store_keeper::{Cause, KeepFault};
+use sqlite::{Alter, Connection, Error, Row};
+use std::alloc::Global;
+use std::cmp::Ordering;
+use testing_rules_items::{ALL, Archs, Item};
+use testing_rules_model::{RowIn, SharedBinary, SourceIn};
+use testing_rules_suites::Testing;
+
+/// Where the place of its upload stands in a shown row of testing's sources.
+const UPLOAD: Columns = Columns {
+    sender: 2,
+    number: 3,
+};
+
+/// Where the place of its build stands in a shown row of testing's rows.
+const BUILD: Columns = Columns {
+    sender: 3,
+    number: 4,
+};
+
+/// A message, where it is of this sender and number.
+fn own(message: Message, sender: u32, number: u32) -> Result<Message, KeepFault>
+    ensures ok { IfOk result (λ own. own_by sender number (Ok message) ≡ Some own) }
+    ensures bad { result ≡ Err (KeepFault.Store Cause.BadRow) → own_by sender number (Ok message) ≡ None }
+{
+    if message.sender != sender || message.number != number {
+        return Err(KeepFault::Store(Cause::BadRow));
+    }
+    Ok(message)
+}
+
+/// What a text that is no message is told as.
+fn unlike(fault: MailFault) -> KeepFault
+    ensures { result ≡ KeepFault.Store Cause.BadRow → fault ≢ MailFault.NoMemory }
+{
+    match fault {
+        MailFault::NoMemory => KeepFault::NoMemory,
+        _ => KeepFault::Store(Cause::BadRow),
+    }
+}
+
+/// The message that a text is, where it is of this sender and number.
+pub fn own_message(
+    alloc: Global,
+    setup: &Setup,
+    text: &[u8],
+    sender: u32,
+    number: u32,
+) -> Result<Message, KeepFault>
+    ensures ok { IfOk result (λ message. own_by sender number (read setup.now text.now) ≡ Some message) }
+    ensures bad { result ≡ Err (KeepFault.Store Cause.BadRow) → own_by sender number (read setup.now text.now) ≡ None }
+{
+    match read_message(alloc, setup, text) {
+        Ok(message) => own(message, sender, number),
+        Err(fault) => Err(unlike(fault)),
+    }
+}
+
+/// The message that is kept at a place.
+#[tactic(auto, unfolding(crate::specs::TableContent::message_at))]
+fn message_at<S: Alter>(
+    alloc: Global,
+    conn: &mut Connection<S>,
+    setup: &Setup,
+    sender: u32,
+    number: u32,
+) -> Result<Message, KeepFault>
+    requires ours { IsTrusted (state S.Store conn.old) → IsOurs (state S.Store conn.old) }
+    ensures before { IsTrusted (state S.Store conn.new) → IsTrusted (state S.Store conn.old) }
+    ensures lasts { Lasts (state S.Store conn.old) (state S.Store conn.new) }
+    ensures open { HasCleanDisk (state S.Store conn.new) → IsTrusted (state S.Store conn.old) → OnOk result (IsTrusted (state S.Store conn.new)) }
+    ensures same { IsTrusted (state S.Store conn.new) → Same (state S.Store conn.old) (state S.Store conn.new) }
+    ensures ok { IsTrusted (state S.Store conn.new) → IfOk result (λ message. kept_message setup.now (kept_rows ((state S.Store conn.new).now.trees 1)) sender number ≡ Some message) }
+    ensures bad { IsTrusted (state S.Store conn.new) → result ≡ Err (KeepFault.Store Cause.BadRow) → IsCrowded ((state S.Store conn.new).now.trees 1) ⊎ (kept_message setup.now (kept_rows ((state S.Store conn.new).now.trees 1)) sender number ≡ None) }
+{
+    match mail::find(conn, sender, number)? {
+        None => Err(KeepFault::Store(Cause::BadRow)),
+        Some(text) => own_message(alloc, setup, text.as_slice(), sender, number),
+    }
+}
+
+/// What a text that is kept at a place says.
+#[tactic(auto, unfolding(crate::specs::TableContent::message_at))]
+fn said_there(
+    alloc: Global,
+    setup: &Setup,
+    text: &[u8],
+    sender: u32,
+    number: u32,
+) -> Result<Message, KeepFault>
+    ensures ok { IfOk result (λ message. (kept : Kept) → get kept (sender, number) ≡ Some text.now → kept_message setup.now kept sender number ≡ Some message) }
+    ensures bad { result ≡ Err (KeepFault.Store Cause.BadRow) → (kept : Kept) → get kept (sender, number) ≡ Some text.now → kept_message setup.now kept sender number ≡ None }
+{
+    own_message(alloc, setup, text, sender, number)
+}
+
+/// The message that is kept at a place, by the text that was loaded where there is one.
+fn message_near<S: Alter>(
+    alloc: Global,
+    conn: &mut Connection<S>,
+    setup: &Setup,
+    block: &mut Block,
+    listed: Listed<'_>,
+    sender: u32,
+    number: u32,
+) -> Result<Message, KeepFault>
+    requires ours { IsTrusted (state S.Store conn.old) → IsOurs (state S.Store conn.old) }
+    requires block { IsTrusted (state S.Store conn.old) → AreLettersOf (kept_rows ((state S.Store conn.old).now.trees 1)) block.old.sender block.old.letters.items }
+    ensures before { IsTrusted (state S.Store conn.new) → IsTrusted (state S.Store conn.old) }
+    ensures lasts { Lasts (state S.Store conn.old) (state S.Store conn.new) }
+    ensures open { HasCleanDisk (state S.Store conn.new) → IsTrusted (state S.Store conn.old) → OnOk result (IsTrusted (state S.Store conn.new)) }
+    ensures same { IsTrusted (state S.Store conn.new) → Same (state S.Store conn.old) (state S.Store conn.new) }
+    ensures block { IsTrusted (state S.Store conn.new) → OnOk result (AreLettersOf (kept_rows ((state S.Store conn.new).now.trees 1)) block.new.sender block.new.letters.items) }
+    ensures ok { IsTrusted (state S.Store conn.new) → IfOk result (λ message. kept_message setup.now (kept_rows ((state S.Store conn.new).now.trees 1)) sender number ≡ Some message) }
+    ensures bad { IsTrusted (state S.Store conn.new) → result ≡ Err (KeepFault.Store Cause.BadRow) → IsCrowded ((state S.Store conn.new).now.trees 1) ⊎ (kept_message setup.now (kept_rows ((state S.Store conn.new).now.trees 1)) sender number ≡ None) }
+{
+    bring(alloc, conn, block, listed, sender, number)?;
+    match loaded_text(block, sender, number) {
+        Some(text) => said_there(alloc, setup, text, sender, number),
+        None => message_at(alloc, conn, setup, sender, number),
+    }
+}
+
+/// A message that was read, and the place at which it is kept.
+#[derive(Drop)]
+struct KeptAt {
+    sender: u32,
+    number: u32,
+    message: Message,
+}
+
+/// Whether the message read last is kept at this place.
+fn is_last(last: &Option<KeptAt>, sender: u32, number: u32) -> bool
+    ensures { IsTrue result → IsKeptAt sender number last.now }
+{
+    match last {
+        Some(kept) => kept.sender == sender && kept.number == number,
+        None => false,
+    }
+}
+
+/// Keeps a message that was read at a place in place of the one before.
+fn keep_last(last: &mut Option<KeptAt>, sender: u32, number: u32, message: Message)
+    ensures { last.new ≡ Some (record { sender = sender; number = number; message = message }) }
+{
+    *last = Some(KeptAt {
+        sender,
+        number,
+        message,
+    });
+}
+
+/// Reads the message that is kept at a place, unless it is the one read last.
+fn read_once<S: Alter>(
+    alloc: Global,
+    conn: &mut Connection<S>,
+    setup: &Setup,
+    block: &mut Block,
+    listed: Listed<'_>,
+    last: &mut Option<KeptAt>,
+    sender: u32,
+    number: u32,
+) -> Result<(), KeepFault>
+    requires ours { IsTrusted (state S.Store conn.old) → IsOurs (state S.Store conn.old) }
+    requires block { IsTrusted (state S.Store conn.old) → AreLettersOf (kept_rows ((state S.Store conn.old).now.trees 1)) block.old.sender block.old.letters.items }
+    requires last { IsTrusted (state S.Store conn.old) → IfSome last.old (λ kept. kept_message setup.now (kept_rows ((state S.Store conn.old).now.trees 1)) kept.sender kept.number ≡ Some kept.message) }
+    ensures before { IsTrusted (state S.Store conn.new) → IsTrusted (state S.Store conn.old) }
+    ensures lasts { Lasts (state S.Store conn.old) (state S.Store conn.new) }
+    ensures open { HasCleanDisk (state S.Store conn.new) → IsTrusted (state S.Store conn.old) → OnOk result (IsTrusted (state S.Store conn.new)) }
+    ensures same { IsTrusted (state S.Store conn.new) → Same (state S.Store conn.old) (state S.Store conn.new) }
+    ensures block { IsTrusted (state S.Store conn.new) → OnOk result (AreLettersOf (kept_rows ((state S.Store conn.new).now.trees 1)) block.new.sender block.new.letters.items) }
+    ensures place { OnOk result (IsKeptAt sender number last.new) }
+    ensures held { IsTrusted (state S.Store conn.new) → OnOk result (IfSome last.new (λ kept. kept_message setup.now (kept_rows ((state S.Store conn.new).now.trees 1)) kept.sender kept.number ≡ Some kept.message)) }
+    ensures bad { IsTrusted (state S.Store conn.new) → result ≡ Err (KeepFault.Store Cause.BadRow) → IsCrowded ((state S.Store conn.new).now.trees 1) ⊎ (kept_message setup.now (kept_rows ((state S.Store conn.new).now.trees 1)) sender number ≡ None) }
+{
+    if is_last(last, sender, number) {
+        return Ok(());
+    }
+    let message = message_near(alloc, conn, setup, block, listed, sender, number)?;
+    keep_last(last, sender, number, message);
+    Ok(())
+}
+
+/// The source that an upload brings.
+fn source_brought(message: Message, sender: u32, number: u32) -> Option<SourceIn>
+    ensures { result ≡ brought sender number (upload_in message.body) }
+{
+    match message.body {
+        Body::Item(
+            Item::Upload {
+                source,
+                version,
+                ..
+            },
+        ) => Some(SourceIn {
+            name: source,
+            version,
+            sender,
+            number,
+        }),
+        _ => None,
+    }
+}
+
+/// The source that an upload names, where it is of this name.
+fn source_named(message: Message, name: &[u8], sender: u32, number: u32) -> Option<SourceIn>
+    ensures { result ≡ source_as name.now sender number (upload_in message.body) }
+{
+    let source = source_brought(message, sender, number)?;
+    if source.name.as_str().as_bytes() == name {
+        Some(source)
+    } else {
+        None
+    }
+}
+
+/// The source that a shown row names.
+fn source_at<S: Alter>(
+    alloc: Global,
+    conn: &mut Connection<S>,
+    setup: &Setup,
+    block: &mut Block,
+    listed: Listed<'_>,
+    row: &Row,
+) -> Result<SourceIn, KeepFault>
+    requires ours { IsTrusted (state S.Store conn.old) → IsOurs (state S.Store conn.old) }
+    requires block { IsTrusted (state S.Store conn.old) → AreLettersOf (kept_rows ((state S.Store conn.old).now.trees 1)) block.old.sender block.old.letters.items }
+    ensures before { IsTrusted (state S.Store conn.new) → IsTrusted (state S.Store conn.old) }
+    ensures lasts { Lasts (state S.Store conn.old) (state S.Store conn.new) }
+    ensures open { HasCleanDisk (state S.Store conn.new) → IsTrusted (state S.Store conn.old) → OnOk result (IsTrusted (state S.Store conn.new)) }
+    ensures same { IsTrusted (state S.Store conn.new) → Same (state S.Store conn.old) (state S.Store conn.new) }
+    ensures block { IsTrusted (state S.Store conn.new) → OnOk result (AreLettersOf (kept_rows ((state S.Store conn.new).now.trees 1)) block.new.sender block.new.letters.items) }
+    ensures ok { IsTrusted (state S.Store conn.new) → IfOk result (λ source. source_of setup.now (kept_rows ((state S.Store conn.new).now.trees 1)) row.now ≡ Some source) }
+    ensures bad { IsTrusted (state S.Store conn.new) → result ≡ Err (KeepFault.Store Cause.BadRow) → row.now ≡ source_columns row.now → IsCrowded ((state S.Store conn.new).now.trees 1) ⊎ (source_of setup.now (kept_rows ((state S.Store conn.new).now.trees 1)) row.now ≡ None) }
+{
+    let (name, sender, number) = source_entry(row)?;
+    let message = message_near(alloc, conn, setup, block, listed, sender, number)?;
+    match source_named(message, name, sender, number) {
+        Some(source) => Ok(source),
+        None => Err(KeepFault::Store(Cause::BadRow)),
+    }
+}
+
+/// The rows of testing's sources, in any order.
+fn source_rows<S: Alter>(conn: &mut Connection<S>) -> Result<Vec<Row>, Error>
+    requires ours { IsTrusted (state S.Store conn.old) → IsOurs (state S.Store conn.old) }
+    ensures before { IsTrusted (state S.Store conn.new) → IsTrusted (state S.Store conn.old) }
+    ensures lasts { Lasts (state S.Store conn.old) (state S.Store conn.new) }
+    ensures open { HasCleanDisk (state S.Store conn.new) → IsTrusted (state S.Store conn.old) → OnOk result (IsTrusted (state S.Store conn.new)) }
+    ensures same { IsTrusted (state S.Store conn.new) → Same (state S.Store conn.old) (state S.Store conn.new) }
+    ensures rows { IsTrusted (state S.Store conn.new) → IfOk result (λ rows. IsPermutation (map source_columns ((state S.Store conn.new).now.trees 4)) rows.items) }
+{
+    conn.query_all(
+        "SELECT rowid, name, sender, number FROM testing_source",
+        &[],
+    )
+}
+
+/// The sources that these rows name.
+fn sources_at<S: Alter>(
+    alloc: Global,
+    conn: &mut Connection<S>,
+    setup: &Setup,
+    rows: &[Row],
+) -> Result<Vec<SourceIn>, KeepFault>
+    requires ours { IsTrusted (state S.Store conn.old) → IsOurs (state S.Store conn.old) }
+    ensures before { IsTrusted (state S.Store conn.new) → IsTrusted (state S.Store conn.old) }
+    ensures lasts { Lasts (state S.Store conn.old) (state S.Store conn.new) }
+    ensures open { HasCleanDisk (state S.Store conn.new) → IsTrusted (state S.Store conn.old) → OnOk result (IsTrusted (state S.Store conn.new)) }
+    ensures same { IsTrusted (state S.Store conn.new) → Same (state S.Store conn.old) (state S.Store conn.new) }
+    ensures ok { IsTrusted (state S.Store conn.new) → IfOk result (λ sources. map (source_of setup.now (kept_rows ((state S.Store conn.new).now.trees 1))) rows.now ≡ map Some sources.items) }
+    ensures bad { IsTrusted (state S.Store conn.new) → result ≡ Err (KeepFault.Store Cause.BadRow) → ReadsEach source_columns (source_of setup.now (kept_rows ((state S.Store conn.new).now.trees 1))) rows.now → IsCrowded ((state S.Store conn.new).now.trees 1) }
+{
+    let mut sources = Vec::new(alloc);
+    let mut block = no_block(alloc);
+    let columns = UPLOAD;
+    let listed = Listed { rows, columns };
+    'rows: for row in rows {
+        let source = source_at(alloc, conn, setup, &mut block, listed, row)?;
+        sources.push(source)?;
+    }
+    Ok(sources)
+}
+
+/// These sources by name, so that each goes into a suite behind those before it. Nothing rests on their order.
+fn by_name(sources: Vec<SourceIn>) -> Vec<SourceIn>
+    ensures { IsPermutation sources.items result.items }
+{
+    let mut sorted = sources;
+    sorted.sort_unstable_by(|source, other| order_sources(source, other));
+    sorted
+}
+
+/// The order of sources, by name.
+fn order_sources(source: &SourceIn, other: &SourceIn) -> Ordering {
+    source.name.as_str().cmp(other.name.as_str())
+}
+
+/// Puts these sources into a suite, one by one.
+fn put_sources(testing: &mut Testing, sources: Vec<SourceIn>) -> Result<(), NoMemory>
+    ensures ok { OnOk result (testing.new ≡ record { sources = put_all_sources sources.items testing.old.sources; rows = testing.old.rows }) }
+{
+    'sources: for source in sources {
+        testing.set_source(source)?;
+    }
+    Ok(())
+}
+
+/// The binary of a build at a place, of which the first is 1.
+fn binary_at(message: &Message, place: u32) -> Option<&Binary>
+    ensures { option_copied result ≡ binary_in place message.now.body }
+{
+    match &message.body {
+        Body::Item(Item::Build(binaries)) => {
+            if place == 0 {
+                None
+            } else {
+                binaries.as_slice().get(place as usize - 1)
+            }
+        }
+        _ => None,
+    }
+}
+
+/// Whether a binary is of this name, and of the architecture at this place.
+fn is_named(archs: &Archs, arch: u32, binary: &Binary, name: &[u8]) -> bool
+    ensures { result ≡ (is_arch_place archs.now arch && (bytes_eq binary.now.name name.now && bytes_eq (arch_name archs.now arch) binary.now.architecture)) }
+{
+    let listed = arch < archs.len() || arch == ALL;
+    listed
+        && (binary.name.as_str().as_bytes() == name
+            && archs.name(arch) == binary.architecture.as_str())
+}
+
+/// The row that a binary gives for an entry, where it is of that name and architecture.
+fn row_in(
+    alloc: Global,
+    archs: &Archs,
+    binary: Option<&Binary>,
+    entry: &RowEntry<'_>,
+) -> Result<Option<RowIn>, NoMemory>
+    ensures named { IfOk result (λ row. row ≡ row_as archs.now entry.now.arch entry.now.name.now entry.now.sender entry.now.number entry.now.place (option_copied binary.entry)) }
+{
+    let Some(binary) = binary else {
+        return Ok(None);
+    };
+    if !is_named(archs, entry.arch, binary, entry.name) {
+        return Ok(None);
+    }
+    Ok(Some(RowIn {
+        arch: entry.arch,
+        binary: SharedBinary::copy_of(alloc, binary)?,
+        sender: entry.sender,
+        number: entry.number,
+        place: entry.place,
+    }))
+}
+
+/// The binary at a place of the message read last, where that is a build.
+fn binary_read(last: &Option<KeptAt>, place: u32) -> Option<&Binary>
+    ensures { option_copied result ≡ read_binary place last.now }
+{
+    match last {
+        Some(kept) => binary_at(&kept.message, place),
+        None => None,
+    }
+}
+
+/// The row that the message read last gives for an entry, where it has a binary of that name and architecture at its
+/// place.
+fn row_named(
+    alloc: Global,
+    archs: &Archs,
+    last: &Option<KeptAt>,
+    entry: &RowEntry<'_>,
+) -> Result<Option<RowIn>, NoMemory>
+    ensures named { IfOk result (λ row. row ≡ row_as archs.now entry.now.arch entry.now.name.now entry.now.sender entry.now.number entry.now.place (read_binary entry.now.place last.now)) }
+{
+    row_in(alloc, archs, binary_read(last, entry.place), entry)
+}
+
+/// The row of testing that a shown row names. The message read last is read no more.
+fn row_at<S: Alter>(
+    alloc: Global,
+    conn: &mut Connection<S>,
+    setup: &Setup,
+    block: &mut Block,
+    listed: Listed<'_>,
+    row: &Row,
+    last: &mut Option<KeptAt>,
+) -> Result<RowIn, KeepFault>
+    requires ours { IsTrusted (state S.Store conn.old) → IsOurs (state S.Store conn.old) }
+    requires block { IsTrusted (state S.Store conn.old) → AreLettersOf (kept_rows ((state S.Store conn.old).now.trees 1)) block.old.sender block.old.letters.items }
+    requires last { IsTrusted (state S.Store conn.old) → IfSome last.old (λ kept. kept_message setup.now (kept_rows ((state S.Store conn.old).now.trees 1)) kept.sender kept.number ≡ Some kept.message) }
+    ensures before { IsTrusted (state S.Store conn.new) → IsTrusted (state S.Store conn.old) }
+    ensures lasts { Lasts (state S.Store conn.old) (state S.Store conn.new) }
+    ensures open { HasCleanDisk (state S.Store conn.new) → IsTrusted (state S.Store conn.old) → OnOk result (IsTrusted (state S.Store conn.new)) }
+    ensures same { IsTrusted (state S.Store conn.new) → Same (state S.Store conn.old) (state S.Store conn.new) }
+    ensures block { IsTrusted (state S.Store conn.new) → OnOk result (AreLettersOf (kept_rows ((state S.Store conn.new).now.trees 1)) block.new.sender block.new.letters.items) }
+    ensures known { IfOk result (λ given. IsArchPlace setup.now.archs given.arch) }
+    ensures ok { IsTrusted (state S.Store conn.new) → IfOk result (λ given. row_of setup.now (kept_rows ((state S.Store conn.new).now.trees 1)) row.now ≡ Some given) }
+    ensures held { IsTrusted (state S.Store conn.new) → OnOk result (IfSome last.new (λ kept. kept_message setup.now (kept_rows ((state S.Store conn.new).now.trees 1)) kept.sender kept.number ≡ Some kept.message)) }
+    ensures bad { IsTrusted (state S.Store conn.new) → result ≡ Err (KeepFault.Store Cause.BadRow) → row.now ≡ entry_columns row.now → IsCrowded ((state S.Store conn.new).now.trees 1) ⊎ (row_of setup.now (kept_rows ((state S.Store conn.new).now.trees 1)) row.now ≡ None) }
+{
+    let entry = row_entry(row)?;
+    let (sender, number) = (entry.sender, entry.number);
+    read_once(alloc, conn, setup, block, listed, last, sender, number)?;
+    match row_named(alloc, setup.archs(), last, &entry)? {
+        Some(given) => Ok(given),
+        None => Err(KeepFault::Store(Cause::BadRow)),
+    }
+}
+
+/// The rows of testing's rows, in any order.
+fn entry_rows<S: Alter>(conn: &mut Connection<S>) -> Result<Vec<Row>, Error>
+    requires ours { IsTrusted (state S.Store conn.old) → IsOurs (state S.Store conn.old) }
+    ensures before { IsTrusted (state S.Store conn.new) → IsTrusted (state S.Store conn.old) }
+    ensures lasts { Lasts (state S.Store conn.old) (state S.Store conn.new) }
+    ensures open { HasCleanDisk (state S.Store conn.new) → IsTrusted (state S.Store conn.old) → OnOk result (IsTrusted (state S.Store conn.new)) }
+    ensures same { IsTrusted (state S.Store conn.new) → Same (state S.Store conn.old) (state S.Store conn.new) }
+    ensures rows { IsTrusted (state S.Store conn.new) → IfOk result (λ rows. IsPermutation (map entry_columns ((state S.Store conn.new).now.trees 6)) rows.items) }
+{
+    conn.query_all(
+        "SELECT rowid, arch, name, sender, number, place FROM testing_row",
+        &[],
+    )
+}
+
+/// These rows, those of one message side by side. Nothing rests on their order.
+fn by_message(rows: Vec<Row>, columns: Columns) -> Vec<Row>
+    ensures { IsPermutation rows.items result.items }
+{
+    let mut sorted = rows;
+    sorted.sort_unstable_by_key(|row| message_place(row, columns));
+    sorted
+}
+
+/// The rows of testing that these rows of the table name, with what was loaded and read before.
+fn read_rows<S: Alter>(
+    alloc: Global,
+    conn: &mut Connection<S>,
+    setup: &Setup,
+    rows: &[Row],
+    block: &mut Block,
+    last: &mut Option<KeptAt>,
+) -> Result<Vec<RowIn>, KeepFault>
+    requires ours { IsTrusted (state S.Store conn.old) → IsOurs (state S.Store conn.old) }
+    requires block { IsTrusted (state S.Store conn.old) → AreLettersOf (kept_rows ((state S.Store conn.old).now.trees 1)) block.old.sender block.old.letters.items }
+    requires last { IsTrusted (state S.Store conn.old) → IfSome last.old (λ kept. kept_message setup.now (kept_rows ((state S.Store conn.old).now.trees 1)) kept.sender kept.number ≡ Some kept.message) }
+    ensures before { IsTrusted (state S.Store conn.new) → IsTrusted (state S.Store conn.old) }
+    ensures lasts { Lasts (state S.Store conn.old) (state S.Store conn.new) }
+    ensures open { HasCleanDisk (state S.Store conn.new) → IsTrusted (state S.Store conn.old) → OnOk result (IsTrusted (state S.Store conn.new)) }
+    ensures same { IsTrusted (state S.Store conn.new) → Same (state S.Store conn.old) (state S.Store conn.new) }
+    ensures known { IfOk result (λ given. AllByRecursion (λ r. IsArchPlace setup.now.archs r.arch) given.items) }
+    ensures ok { IsTrusted (state S.Store conn.new) → IfOk result (λ given. map (row_of setup.now (kept_rows ((state S.Store conn.new).now.trees 1))) rows.now ≡ map Some given.items) }
+    ensures bad { IsTrusted (state S.Store conn.new) → result ≡ Err (KeepFault.Store Cause.BadRow) → ReadsEach entry_columns (row_of setup.now (kept_rows ((state S.Store conn.new).now.trees 1))) rows.now → IsCrowded ((state S.Store conn.new).now.trees 1) }
+{
+    let mut given = Vec::new(alloc);
+    let columns = BUILD;
+    let listed = Listed { rows, columns };
+    'rows: for row in rows {
+        let one = row_at(alloc, conn, setup, block, listed, row, last)?;
+        given.push(one)?;
+    }
+    Ok(given)
+}
+
+/// The rows of testing that these rows of the table name.
+fn rows_at<S: Alter>(
+    alloc: Global,
+    conn: &mut Connection<S>,
+    setup: &Setup,
+    rows: &[Row],
+) -> Result<Vec<RowIn>, KeepFault>
+    requires ours { IsTrusted (state S.Store conn.old) → IsOurs (state S.Store conn.old) }
+    ensures before { IsTrusted (state S.Store conn.new) → IsTrusted (state S.Store conn.old) }
+    ensures lasts { Lasts (state S.Store conn.old) (state S.Store conn.new) }
+    ensures open { HasCleanDisk (state S.Store conn.new) → IsTrusted (state S.Store conn.old) → OnOk result (IsTrusted (state S.Store conn.new)) }
+    ensures same { IsTrusted (state S.Store conn.new) → Same (state S.Store conn.old) (state S.Store conn.new) }
+    ensures known { IfOk result (λ given. AllByRecursion (λ r. IsArchPlace setup.now.archs r.arch) given.items) }
+    ensures ok { IsTrusted (state S.Store conn.new) → IfOk result (λ given. map (row_of setup.now (kept_rows ((state S.Store conn.new).now.trees 1))) rows.now ≡ map Some given.items) }
+    ensures bad { IsTrusted (state S.Store conn.new) → result ≡ Err (KeepFault.Store Cause.BadRow) → ReadsEach entry_columns (row_of setup.now (kept_rows ((state S.Store conn.new).now.trees 1))) rows.now → IsCrowded ((state S.Store conn.new).now.trees 1) }
+{
+    let mut block = no_block(alloc);
+    let mut last = None;
+    read_rows(alloc, conn, setup, rows, &mut block, &mut last)
+}
+
+/// These rows by architecture and name, so that each goes into a suite behind those before it. Nothing rests on their
+/// order.
+fn by_key(rows: Vec<RowIn>) -> Vec<RowIn>
+    ensures { IsPermutation rows.items result.items }
+{
+    let mut sorted = rows;
+    sorted.sort_unstable_by(|row, other| order_rows(row, other));
+    sorted
+}
+
+/// The order of rows, by architecture and name.
+fn order_rows(row: &RowIn, other: &RowIn) -> Ordering {
+    let names = row.binary.name.as_str().cmp(other.binary.name.as_str());
+    row.arch.cmp(&other.arch).then(names)
+}
+
+/// Puts these rows into a suite, one by one.
+fn put_rows(testing: &mut Testing, rows: Vec<RowIn>) -> Result<(), NoMemory>
+    ensures ok { OnOk result (testing.new ≡ record { sources = testing.old.sources; rows = put_all_rows rows.items testing.old.rows }) }
+{
+    'rows: for row in rows {
+        testing.set_row(row)?;
+    }
+    Ok(())
+}
+
+/// Puts these sources and rows into a suite. Where two of them have one key, the tables are no office's.
+fn gather(testing: &mut Testing, sources: Vec<SourceIn>, rows: Vec<RowIn>) -> Result<(), KeepFault>
+    requires empty { (testing.old.sources ≡ []) × (testing.old.rows ≡ []) }
+    ensures ok { OnOk result (IsGathered sources.items rows.items testing.new) }
+    ensures bad { result ≡ Err (KeepFault.Store Cause.BadRow) → length (put_all_sources sources.items []) ≡ length sources.items → length (put_all_rows rows.items []) ≢ length rows.items }
+{
+    let count = sources.len();
+    let more = rows.len();
+    put_sources(testing, sources)?;
+    put_rows(testing, rows)?;
+    if testing.sources().len() != count || testing.rows().len() != more {
+        return Err(KeepFault::Store(Cause::BadRow));
+    }
+    Ok(())
+}
+
+/// The suite of these sources and rows.
+fn gathered(alloc: Global, sources: Vec<SourceIn>, rows: Vec<RowIn>) -> Result<Testing, KeepFault>
+    ensures ok { IfOk result (λ testing. IsGathered sources.items rows.items testing) }
+    ensures bad { result ≡ Err (KeepFault.Store Cause.BadRow) → length (put_all_sources sources.items []) ≡ length sources.items → length (put_all_rows rows.items []) ≢ length rows.items }
+{
+    let mut testing = Testing::new(alloc);
+    gather(&mut testing, sources, rows)?;
+    Ok(testing)
+}
+
+/// Testing, as its entries and the kept mail name it.
+pub fn testing<S: Alter>(
+    alloc: Global,
+    conn: &mut Connection<S>,
+    setup: &Setup,
+) -> Result<Testing, KeepFault>
+    requires ours { IsTrusted (state S.Store conn.old) → IsOurs (state S.Store conn.old) }
+    ensures before { IsTrusted (state S.Store conn.new) → IsTrusted (state S.Store conn.old) }
+    ensures lasts { Lasts (state S.Store conn.old) (state S.Store conn.new) }
+    ensures open { HasCleanDisk (state S.Store conn.new) → IsTrusted (state S.Store conn.old) → OnOk result (IsTrusted (state S.Store conn.new)) }
+    ensures same { IsTrusted (state S.Store conn.new) → Same (state S.Store conn.old) (state S.Store conn.new) }
+    ensures bad { IsTrusted (state S.Store conn.new) → IsWhole (kept_rows ((state S.Store conn.new).now.trees 1)) ((state S.Store conn.new).now.trees 1) → AreNamed setup.now (state S.Store conn.new).now.trees → result ≢ Err (KeepFault.Store Cause.BadRow) }
+    ensures known { IfOk result (λ testing. KnowsArchs setup.now.archs testing.rows) }
+    ensures value { IsTrusted (state S.Store conn.new) → IfOk result (λ testing. testing ≡ suite_in setup.now (kept_rows ((state S.Store conn.new).now.trees 1)) (source_map ((state S.Store conn.new).now.trees 4)) (entry_map ((state S.Store conn.new).now.trees 6))) }
+{
+    let named = source_rows(conn)?;
+    let uploads = by_message(named, UPLOAD);
+    let read = sources_at(alloc, conn, setup, uploads.as_slice())?;
+    let sources = by_name(read);
+    let found = entry_rows(conn)?;
+    let listed = by_message(found, BUILD);
+    let given = rows_at(alloc, conn, setup, listed.as_slice())?;
+    let rows = by_key(given);
+    gathered(alloc, sources, rows)
+}

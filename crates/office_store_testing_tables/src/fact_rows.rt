@@ -1,0 +1,181 @@
+//! The tables of facts, read back.
+ghost use Rattle.std.specs.Prelude.{◌≡◌, ◌≢◌, ◌<◌, ◌∷◌, ◌++◌, [], ℤ, ℕ, true, Err, Some, None, pos, map, option_to_list, IfOk, OnOk};
+ghost use Rattle.std.specs.List.Sorted.{IsPermutation};
+ghost use Rattle.sqlite.specs.Order.{column};
+ghost use Rattle.sqlite.specs.declared.types.Value.TheVariants.{Int};
+ghost use Rattle.sqlite.specs.Held.{state};
+ghost use Rattle.sqlite.specs.State.{HasCleanDisk};
+ghost use Rattle.office_store_keeper.specs.FactSet.{rows_in as rows_in_set, set_of_rows};
+ghost use Rattle.office_store_testing_tables.specs.Tables.{IsTrusted, IsOurs, Lasts};
+ghost use Rattle.office_store_testing_tables.specs.TableSteps.{Same};
+ghost use Rattle.office_store_testing_tables.specs.TableContent.{ReadsEach, release_place};
+ghost use Rattle.office_store_testing_tables.specs.Legible.{AreRead};
+ghost use Rattle.office_store_testing_tables.specs.FactTables.{fact_entry, may_stand, fact_in, delays_of, facts_in};
+ghost use Rattle.office_store_testing_tables.specs.FactSteps.{fact_columns, delays_columns, shown_delays, IsOnlyDelays};
+
+use crate::shown::{number_in, rowid_in};
+use deb_control::NoMemory;
+use office_mail::{Role, Setup};
+use office_store_keeper::{Cause, KeepFault, rows_in_order};
+use sqlite::{Alter, Connection, Error, Row};
+use std::alloc::Global;
+use testing_rules_model::{FactRow, FactRows};
+
+/// The place of the release team.
+pub fn release_place(setup: &Setup) -> u32
+    ensures { result ≡ release_place setup.now }
+{
+    let senders = setup.senders();
+    let mut place = 0;
+    'senders: for sender in senders {
+        if matches!(sender.role, Role::Release) {
+            return place;
+        }
+        place += 1;
+    }
+    place
+}
+
+/// Whether the table of facts may have a row of this kind with this place.
+fn may_stand(kind: u32, place: u32) -> bool
+    ensures { result ≡ may_stand kind place }
+{
+    1 <= kind && (kind <= 7 && (kind == 3 || place == 0))
+}
+
+/// The four numbers in a shown row of facts.
+fn fact_numbers(row: &Row) -> Result<FactRow, KeepFault>
+    ensures ok { IfOk result (λ fact. may_stand fact.kind fact.place ≡ true → fact_in row.now ≡ Some (fact_entry fact)) }
+    ensures is { IfOk result (λ fact. (column row.now 1 ≡ Int (pos fact.kind)) × (column row.now 4 ≡ Int (pos fact.place))) }
+    ensures bad { result ≡ Err (KeepFault.Store Cause.BadRow) → (id : ℤ) (kind sender number place : ℕ) → kind < 4_294_967_296 → sender < 4_294_967_296 → number < 4_294_967_296 → place < 4_294_967_296 → row.now ≢ Int id ∷ Int (pos kind) ∷ Int (pos sender) ∷ Int (pos number) ∷ Int (pos place) ∷ [] }
+{
+    let _rowid = rowid_in(row)?;
+    let kind = number_in(row, 1)?;
+    let sender = number_in(row, 2)?;
+    let number = number_in(row, 3)?;
+    let place = number_in(row, 4)?;
+    Ok(FactRow {
+        kind,
+        sender,
+        number,
+        place,
+    })
+}
+
+/// What a shown row of facts says.
+fn fact_said(row: &Row) -> Result<FactRow, KeepFault>
+    ensures ok { IfOk result (λ fact. fact_in row.now ≡ Some (fact_entry fact)) }
+    ensures bad { result ≡ Err (KeepFault.Store Cause.BadRow) → row.now ≡ fact_columns row.now → fact_in row.now ≡ None }
+{
+    let fact = fact_numbers(row)?;
+    if !may_stand(fact.kind, fact.place) {
+        return Err(KeepFault::Store(Cause::BadRow));
+    }
+    Ok(fact)
+}
+
+/// What these rows of facts say, in their order.
+fn facts_said(alloc: Global, rows: &[Row]) -> Result<Vec<FactRow>, KeepFault>
+    ensures ok { IfOk result (λ facts. map fact_in rows.now ≡ map Some (map fact_entry facts.items)) }
+    ensures bad { result ≡ Err (KeepFault.Store Cause.BadRow) → ReadsEach fact_columns fact_in rows.now → ⊥ }
+{
+    let mut facts = Vec::new(alloc);
+    'rows: for row in rows {
+        let fact = fact_said(row)?;
+        facts.push(fact)?;
+    }
+    Ok(facts)
+}
+
+/// The number in a shown row of the last delays, whose id is 1.
+fn delays_number(row: &Row) -> Result<u32, KeepFault>
+    ensures ok { IfOk result (λ number. (release : ℕ) → shown_delays release row.now ≡ Some (fact_entry (delays_of release number))) }
+    ensures bad { result ≡ Err (KeepFault.Store Cause.BadRow) → (number : ℕ) → number < 4_294_967_296 → row.now ≢ Int (pos 1) ∷ Int (pos number) ∷ [] }
+{
+    let id = number_in(row, 0)?;
+    if id != 1 {
+        return Err(KeepFault::Store(Cause::BadRow));
+    }
+    let number = number_in(row, 1)?;
+    Ok(number)
+}
+
+/// The fact that the only row of the last delays says, if there is one.
+fn delays_said(rows: &[Row], release: u32) -> Result<Option<FactRow>, KeepFault>
+    ensures ok { IfOk result (λ fact. IsOnlyDelays release fact rows.now) }
+    ensures none { result ≡ Err (KeepFault.Store Cause.BadRow) → rows.now ≢ [] }
+    ensures one { result ≡ Err (KeepFault.Store Cause.BadRow) → (number : ℕ) → number < 4_294_967_296 → rows.now ≢ (Int (pos 1) ∷ Int (pos number) ∷ []) ∷ [] }
+{
+    match rows {
+        [] => Ok(None),
+        [row] => Ok(Some(FactRow {
+            kind: 8,
+            sender: release,
+            number: delays_number(row)?,
+            place: 0,
+        })),
+        _ => Err(KeepFault::Store(Cause::BadRow)),
+    }
+}
+
+/// The rows of facts, in any order.
+fn fact_rows<S: Alter>(conn: &mut Connection<S>) -> Result<Vec<Row>, Error>
+    requires ours { IsTrusted (state S.Store conn.old) → IsOurs (state S.Store conn.old) }
+    ensures before { IsTrusted (state S.Store conn.new) → IsTrusted (state S.Store conn.old) }
+    ensures lasts { Lasts (state S.Store conn.old) (state S.Store conn.new) }
+    ensures open { HasCleanDisk (state S.Store conn.new) → IsTrusted (state S.Store conn.old) → OnOk result (IsTrusted (state S.Store conn.new)) }
+    ensures same { IsTrusted (state S.Store conn.new) → Same (state S.Store conn.old) (state S.Store conn.new) }
+    ensures rows { IsTrusted (state S.Store conn.new) → IfOk result (λ rows. IsPermutation (map fact_columns ((state S.Store conn.new).now.trees 8)) rows.items) }
+{
+    conn.query_all("SELECT rowid, kind, sender, number, place FROM fact", &[])
+}
+
+/// The rows of the last delays, in any order.
+fn delays_rows<S: Alter>(conn: &mut Connection<S>) -> Result<Vec<Row>, Error>
+    requires ours { IsTrusted (state S.Store conn.old) → IsOurs (state S.Store conn.old) }
+    ensures before { IsTrusted (state S.Store conn.new) → IsTrusted (state S.Store conn.old) }
+    ensures lasts { Lasts (state S.Store conn.old) (state S.Store conn.new) }
+    ensures open { HasCleanDisk (state S.Store conn.new) → IsTrusted (state S.Store conn.old) → OnOk result (IsTrusted (state S.Store conn.new)) }
+    ensures same { IsTrusted (state S.Store conn.new) → Same (state S.Store conn.old) (state S.Store conn.new) }
+    ensures rows { IsTrusted (state S.Store conn.new) → IfOk result (λ rows. IsPermutation (map delays_columns ((state S.Store conn.new).now.trees 10)) rows.items) }
+{
+    conn.query_all("SELECT id, number FROM fact_delays", &[])
+}
+
+/// These facts and that of the delays, if there is one, in order and each once.
+fn in_order(
+    alloc: Global,
+    facts: Vec<FactRow>,
+    delays: Option<FactRow>,
+) -> Result<FactRows, NoMemory>
+    ensures { IfOk result (λ rows. rows ≡ rows_in_set (set_of_rows (facts.items ++ option_to_list delays))) }
+{
+    let mut all = facts;
+    if let Some(fact) = delays {
+        all.push(fact)?;
+    }
+    rows_in_order(alloc, all.as_slice())
+}
+
+/// The facts that the tables keep, in order.
+pub fn facts<S: Alter>(
+    alloc: Global,
+    conn: &mut Connection<S>,
+    setup: &Setup,
+) -> Result<FactRows, KeepFault>
+    requires ours { IsTrusted (state S.Store conn.old) → IsOurs (state S.Store conn.old) }
+    ensures before { IsTrusted (state S.Store conn.new) → IsTrusted (state S.Store conn.old) }
+    ensures lasts { Lasts (state S.Store conn.old) (state S.Store conn.new) }
+    ensures open { HasCleanDisk (state S.Store conn.new) → IsTrusted (state S.Store conn.old) → OnOk result (IsTrusted (state S.Store conn.new)) }
+    ensures same { IsTrusted (state S.Store conn.new) → Same (state S.Store conn.old) (state S.Store conn.new) }
+    ensures bad { IsTrusted (state S.Store conn.new) → AreRead (release_place setup.now) ((state S.Store conn.new).now.trees 8) ((state S.Store conn.new).now.trees 10) → result ≢ Err (KeepFault.Store Cause.BadRow) }
+    ensures value { IsTrusted (state S.Store conn.new) → IfOk result (λ rows. rows ≡ rows_in_set (facts_in (release_place setup.now) ((state S.Store conn.new).now.trees 8) ((state S.Store conn.new).now.trees 10))) }
+{
+    let release = release_place(setup);
+    let shown = fact_rows(conn)?;
+    let facts = facts_said(alloc, shown.as_slice())?;
+    let last = delays_rows(conn)?;
+    let delays = delays_said(last.as_slice(), release)?;
+    let rows = in_order(alloc, facts, delays)?;
+    Ok(rows)
+}

@@ -1,0 +1,87 @@
+//! Texts of mail that are loaded together. Entries of testing that are read by their messages mostly name messages that
+//! are kept side by side.
+ghost use Rattle.std.specs.Prelude.{◌≡◌, Err, Some, OnOk};
+ghost use Rattle.sqlite.specs.Held.{state};
+ghost use Rattle.sqlite.specs.State.{HasCleanDisk};
+ghost use Rattle.office_store_testing_tables.specs.Tables.{IsTrusted, IsOurs, kept_rows, Lasts};
+ghost use Rattle.office_store_testing_tables.specs.TableSteps.{IsCrowded, Same};
+ghost use Rattle.office_store_testing_tables.specs.Loaded.{AreLettersOf};
+
+use crate::loaded::{Block, loaded_text};
+use crate::mail;
+use crate::shown::number_in;
+use office_store_keeper::{Cause, KeepFault};
+use sqlite::{Alter, Connection, Row};
+use std::alloc::Global;
+
+/// So many numbers of a sender are loaded at once, at most.
+const BLOCK: u32 = 256;
+
+/// In which columns of a shown row the place of its message stands.
+#[derive(Clone, Copy)]
+pub struct Columns {
+    pub sender: usize,
+    pub number: usize,
+}
+
+/// Shown rows in the order of the messages that they name.
+#[derive(Clone, Copy)]
+pub struct Listed<'a> {
+    pub rows: &'a [Row],
+    pub columns: Columns,
+}
+
+/// The place of the message that a shown row names, 0 for a number that doesn't read.
+pub fn message_place(row: &Row, columns: Columns) -> (u32, u32) {
+    (
+        number_in(row, columns.sender).unwrap_or(0),
+        number_in(row, columns.number).unwrap_or(0),
+    )
+}
+
+/// The last number to load together with this one: the last of a block that the rows name, where they are at least a
+/// quarter as many as the numbers up to it. Nothing rests on it.
+fn last_wanted(listed: Listed<'_>, sender: u32, number: u32) -> u32 {
+    let from = (sender, number);
+    let to = (sender, number.saturating_add(BLOCK));
+    let rows = listed.rows;
+    let start = rows.partition_point(|row| message_place(row, listed.columns) < from);
+    let end = rows.partition_point(|row| message_place(row, listed.columns) < to);
+    let last = match rows.get(end.saturating_sub(1)) {
+        Some(row) => message_place(row, listed.columns).1,
+        None => number,
+    };
+    let span = last.saturating_sub(number);
+    if span < BLOCK && span as usize / 4 <= end.saturating_sub(start) {
+        number.max(last)
+    } else {
+        number
+    }
+}
+
+/// Loads the text of a place, with those near it that the rows name, unless it was loaded.
+pub fn bring<S: Alter>(
+    alloc: Global,
+    conn: &mut Connection<S>,
+    block: &mut Block,
+    listed: Listed<'_>,
+    sender: u32,
+    number: u32,
+) -> Result<(), KeepFault>
+    requires ours { IsTrusted (state S.Store conn.old) → IsOurs (state S.Store conn.old) }
+    requires block { IsTrusted (state S.Store conn.old) → AreLettersOf (kept_rows ((state S.Store conn.old).now.trees 1)) block.old.sender block.old.letters.items }
+    ensures before { IsTrusted (state S.Store conn.new) → IsTrusted (state S.Store conn.old) }
+    ensures lasts { Lasts (state S.Store conn.old) (state S.Store conn.new) }
+    ensures open { HasCleanDisk (state S.Store conn.new) → IsTrusted (state S.Store conn.old) → OnOk result (IsTrusted (state S.Store conn.new)) }
+    ensures same { IsTrusted (state S.Store conn.new) → Same (state S.Store conn.old) (state S.Store conn.new) }
+    ensures block { IsTrusted (state S.Store conn.new) → OnOk result (AreLettersOf (kept_rows ((state S.Store conn.new).now.trees 1)) block.new.sender block.new.letters.items) }
+    ensures bad { IsTrusted (state S.Store conn.new) → result ≡ Err (KeepFault.Store Cause.BadRow) → IsCrowded ((state S.Store conn.new).now.trees 1) }
+{
+    if loaded_text(block, sender, number).is_some() {
+        return Ok(());
+    }
+    let last = last_wanted(listed, sender, number);
+    let letters = mail::load(alloc, conn, sender, number, last)?;
+    *block = Block { sender, letters };
+    Ok(())
+}

@@ -1,0 +1,47 @@
+//! Rows that are found, and taken out, by their rowids.
+ghost use Rattle.std.specs.Prelude.{◌≡◌, ◌≢◌, Err, IfOk, OnOk};
+ghost use Rattle.sqlite.specs.Order.{column};
+ghost use Rattle.sqlite.specs.declared.types.Value.TheVariants.{Int};
+ghost use Rattle.office_store_testing_tables.specs.FactSteps.{IsOnlyId};
+
+use office_store_keeper::{Cause, KeepFault};
+use sqlite::{Constraint, Error, ErrorCode, Row};
+
+/// What a key that stands twice is told as. SQLite lets none stand twice.
+fn stands_twice(constraint: Constraint) -> KeepFault
+    ensures { result ≢ KeepFault.Store Cause.BadRow }
+{
+    KeepFault::from(Error::SqliteFailure(ErrorCode::ConstraintViolation(constraint)))
+}
+
+/// The rowid that is shown.
+pub fn id_in(row: &Row) -> Result<i64, KeepFault>
+    ensures ok { IfOk result (λ id. column row.now 0 ≡ Int id) }
+    ensures bad { result ≢ Err (KeepFault.Store Cause.BadRow) }
+{
+    Ok(row.get(0)?)
+}
+
+/// The only rowid, if there is one.
+pub fn only_id(rows: &[Row]) -> Result<Option<i64>, KeepFault>
+    ensures ok { IfOk result (λ id. IsOnlyId id rows.now) }
+    ensures bad { result ≢ Err (KeepFault.Store Cause.BadRow) }
+{
+    match rows {
+        [] => Ok(None),
+        [row] => Ok(Some(id_in(row)?)),
+        _ => Err(stands_twice(Constraint::Unique)),
+    }
+}
+
+/// A row was taken out alone.
+pub fn alone(count: usize) -> Result<(), KeepFault>
+    ensures ok { OnOk result (count ≡ 1) }
+    ensures bad { result ≢ Err (KeepFault.Store Cause.BadRow) }
+{
+    if count == 1 {
+        Ok(())
+    } else {
+        Err(stands_twice(Constraint::PrimaryKey))
+    }
+}

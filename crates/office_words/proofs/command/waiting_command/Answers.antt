@@ -1,4 +1,0 @@
-use Rattle.office_words.proofs.command.waiting_command.Goals as goal
-
-pub returns : goal.returns
-returns c = c.with_arg.ensures _ _ c.db_option.ensures.rule (c.with_arg-one.ensures _ _ c.conf_option.ensures.rule c.named-bare.ensures)

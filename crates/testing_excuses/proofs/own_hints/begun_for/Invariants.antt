@@ -1,9 +1,0 @@
-use Rattle.std.proofs.Common.{◌≡◌, Some, None, cond, take}
-use Rattle.testing_items.specs.Words.{Text}
-use Rattle.testing_excuses.specs.BySource.{slot_at, is_among}
-use Rattle.testing_excuses.specs.OwnHints.{started}
-use Rattle.testing_excuses.proofs.own_hints.begun_for.Given as goal
-
--- those so far
-abbrev pub invariant-loop-source : goal.invariant-loop-source
-invariant-loop-source l = (q : Text) → slot_at l.groups q ≡ cond (is_among (take l.source-index l.news) q) (Some (started l.all_out)) None

@@ -1,5 +1,0 @@
-use Rattle.std.proofs.Common.{rules}
-use Rattle.testing_excuses.proofs.reasons.affects.Goals as goal
-
-pub returns-then-is_found : goal.returns-then-is_found
-returns-then-is_found c = search rules

@@ -1,9 +1,0 @@
-use Rattle.std.proofs.Common.{◌∙◌, sym, ◌==◌, ◌&&◌}
-use Rattle.testing_model.specs.declared.suite.RowIn.{RowIn}
-use Rattle.testing_model.specs.JudgedRows.{row_of}
-use Rattle.testing_model.specs.Unstable.{is_of_source}
-use Rattle.testing_items.proofs.Tests.{list_any-map}
-use Rattle.testing_excuses.proofs.reasons.has_row_on.Goals as goal
-
-pub returns : goal.returns
-returns c = c.one_on.ensures ∙ sym (list_any-map (λ (r : RowIn). (r.arch == c.args.arch) && is_of_source c.args.upload.now r) row_of c.args.rows.now)

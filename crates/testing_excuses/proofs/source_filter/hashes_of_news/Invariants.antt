@@ -1,7 +1,0 @@
-use Rattle.std.proofs.Common.{◌≡◌, take}
-use Rattle.testing_excuses.specs.SourceFilter.{newer_hashes}
-use Rattle.testing_excuses.proofs.source_filter.hashes_of_news.Given as goal
-
--- those so far
-abbrev pub invariant-loop-source : goal.invariant-loop-source
-invariant-loop-source l = l.hashes.items ≡ newer_hashes (take l.source-index l.news)

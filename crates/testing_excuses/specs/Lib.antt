@@ -1,4 +1,0 @@
-pub mod BySource
-pub mod LentUploads
-pub mod OwnHints
-pub mod SourceFilter

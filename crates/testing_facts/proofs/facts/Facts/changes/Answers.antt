@@ -1,5 +1,0 @@
-use Rattle.std.proofs.Common.{rules}
-use Rattle.testing_facts.proofs.facts.Facts.changes.Goals as goal
-
-pub returns : goal.returns
-returns c = search rules

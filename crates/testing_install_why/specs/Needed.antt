@@ -1,0 +1,23 @@
+-- Steps: no contract of a call that users make rests on this file.
+-- Which steps of an order one step needs.
+use Rattle.std.specs.Prelude.{◌≡◌, ℕ, ◌≤◌, Bool, true, List, length, Some}
+use Rattle.std.specs.List.{slice_get}
+use Rattle.deb_control.specs.declared.binary.Binary.{Binary}
+use Rattle.deb_control.specs.declared.relation.Clause.{Clause}
+use Rattle.testing_install.specs.Closed.{marked}
+use Rattle.testing_install_why.specs.declared.Step.{Step}
+use Rattle.testing_install_why.specs.Bearers.{IsBearer}
+use Rattle.testing_install_why.specs.Steps.{IsClauseOf}
+
+-- the earlier steps whose rows meet the clause of this one are marked too, and no other mark is new
+pub record IsMarkedFor (rows : List Binary) (order : List Step) (old new : List Bool) (number : ℕ) : Type 0 where
+  pub long : length new ≡ length old
+  pub grown : (n : ℕ) → marked old n ≡ true → marked new n ≡ true
+  pub above : (n : ℕ) → number ≤ n → marked new n ≡ marked old n
+  pub done : (step : Step) (clause : Clause) (m : ℕ) → slice_get order number ≡ Some step → IsClauseOf rows step clause → IsBearer rows order number clause m → marked new m ≡ true
+
+-- the last step is marked, and so is what each marked step from the number on needs
+pub record IsNeeded (rows : List Binary) (order : List Step) (needed : List Bool) (last number : ℕ) : Type 0 where
+  pub long : length needed ≡ length order
+  pub ends : marked needed last ≡ true
+  pub done : (n : ℕ) (step : Step) (clause : Clause) (m : ℕ) → number ≤ n → n ≤ last → slice_get order n ≡ Some step → marked needed n ≡ true → IsClauseOf rows step clause → IsBearer rows order n clause m → marked needed m ≡ true

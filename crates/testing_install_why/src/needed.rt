@@ -1,0 +1,93 @@
+ghost use Rattle.std.specs.Prelude.{◌≡◌, ◌<◌, List, length, Some, IfOk};
+ghost use Rattle.std.specs.List.{slice_get};
+ghost use Rattle.deb_control.specs.declared.binary.Binary.{Binary};
+ghost use Rattle.testing_install_why.specs.Certificate.{IsCertificate};
+ghost use Rattle.testing_install_why.specs.Needed.{IsMarkedFor, IsNeeded};
+ghost use Rattle.testing_install_why.specs.Steps.{AreSteps};
+ghost use Rattle.testing_install_why.specs.declared.Step.{Step as TheStep};
+
+use crate::Step;
+use crate::chain::{clause_of, row_of};
+use deb_version::NoMemory;
+use std::alloc::Global;
+use testing_install::{Suite, meets};
+
+// Marks the steps before this one whose rows meet its clause.
+fn mark_bearers(suite: &Suite, order: &[Step], needed: &mut [bool], number: usize)
+    requires number { number < length order.now }
+    requires steps { AreSteps suite.now.rows order.now }
+    requires long { length needed.old ≡ length order.now }
+    ensures { IsMarkedFor suite.now.rows order.now needed.old needed.new number }
+{
+    let clause = clause_of(suite, order[number]);
+    for earlier in 0..number {
+        let step = order[earlier];
+        if meets(row_of(suite, step), clause) {
+            needed[earlier] = true;
+        }
+    }
+}
+
+// Which steps this one needs, itself among them.
+fn needed_by(
+    alloc: Global,
+    suite: &Suite,
+    order: &[Step],
+    last: usize,
+) -> Result<Vec<bool>, NoMemory>
+    requires last { last < length order.now }
+    requires steps { AreSteps suite.now.rows order.now }
+    ensures { IfOk result (λ needed. IsNeeded suite.now.rows order.now needed.items last 0) }
+{
+    let mut needed = vec![in alloc; false; order.len()]?;
+    needed[last] = true;
+    let mut number = last + 1;
+    while number > 0 {
+        number -= 1;
+        if needed[number] {
+            mark_bearers(suite, order, &mut needed, number);
+        }
+    }
+    Ok(needed)
+}
+
+// The needed steps, in the order's order, up to the last.
+fn picked(
+    alloc: Global,
+    order: &[Step],
+    needed: &[bool],
+    last: usize,
+) -> Result<Vec<Step>, NoMemory>
+    requires last { last < length order.now }
+    requires long { length needed.now ≡ length order.now }
+    ensures { IfOk result (λ steps. (rows : List Binary) → IsNeeded rows order.now needed.now last 0
+        → (step : TheStep) → slice_get order.now last ≡ Some step → IsCertificate rows order.now step steps.items) }
+{
+    let mut steps = Vec::new(alloc);
+    for number in 0..last {
+        if needed[number] {
+            let step = order[number];
+            steps.push(step)?;
+        }
+    }
+    let step = order[last];
+    steps.push(step)?;
+    Ok(steps)
+}
+
+/// The part of an order that shows that the row of one step isn't installable: that step stands last, and each row that
+/// is there and meets a step's clause stands before that step. The one error is want of memory.
+pub fn certificate_of(
+    alloc: Global,
+    suite: &Suite,
+    order: &[Step],
+    last: usize,
+) -> Result<Vec<Step>, NoMemory>
+    requires last { last < length order.now }
+    requires steps { AreSteps suite.now.rows order.now }
+    ensures { IfOk result (λ steps. (step : TheStep) → slice_get order.now last ≡ Some step
+        → IsCertificate suite.now.rows order.now step steps.items) }
+{
+    let needed = needed_by(alloc, suite, order, last)?;
+    picked(alloc, order, &needed, last)
+}

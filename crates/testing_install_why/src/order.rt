@@ -1,0 +1,140 @@
+//! A groundless list over some rows of a suite.
+
+ghost use Rattle.std.specs.Prelude.{◌≡◌, ℕ, ◌<◌, Bool, true, false, Some, length, IfOk, OnOk, IfSome, IfNone, Contains};
+ghost use Rattle.std.specs.List.{All, count_by, slice_get};
+ghost use Rattle.deb_control.specs.declared.binary.Binary.{Binary as TheBinary};
+ghost use Rattle.testing_install.specs.Closed.{IsMet, marked};
+ghost use Rattle.testing_install.specs.Satisfies.{meets as does_meet};
+ghost use Rattle.testing_install_why.specs.Order.{IsGroundless, IsReaching, Refutes};
+ghost use Rattle.testing_install_why.specs.Steps.{AreSteps};
+ghost use Rattle.testing_install_why.specs.Taking.{FailsAt, IsHeldAt, IsOrder};
+
+use crate::Step;
+use deb_control::{Binary, Clause};
+use deb_version::NoMemory;
+use std::alloc::Global;
+use testing_install::{Suite, meets};
+
+/// The places of the rows that bear a name of the clause, among them each row that meets it.
+pub fn named_by(alloc: Global, suite: &Suite, clause: &Clause) -> Result<Vec<usize>, NoMemory>
+    ensures within { IfOk result (λ places. All (λ k. k < length suite.now.rows) places.items) }
+    ensures complete { IfOk result (λ places. (k : ℕ) (row : TheBinary) → slice_get suite.now.rows k ≡ Some row
+        → does_meet row clause.now ≡ true → Contains places.items k) }
+{
+    let mut places = Vec::new(alloc);
+    for alternative in clause.as_slice() {
+        places.extend_from_slice(suite.bearers(alternative.name.as_str()))?;
+    }
+    Ok(places)
+}
+
+// One of the rows at the places is left and meets the clause.
+fn is_met_at(suite: &Suite, left: &[bool], places: &[usize], clause: &Clause) -> bool
+    requires left { length left.now ≡ length suite.now.rows }
+    requires places { All (λ k. k < length suite.now.rows) places.now }
+    ensures yes { result ≡ true → IsMet suite.now.rows (marked left.now) clause.now }
+    ensures no { result ≡ false → (k : ℕ) (row : TheBinary) → Contains places.now k → slice_get suite.now.rows k ≡ Some row
+        → marked left.now k ≡ true → does_meet row clause.now ≡ true → ⊥ }
+{
+    for place in places {
+        if left[*place] && meets(suite.binary(*place), clause) {
+            return true;
+        }
+    }
+    false
+}
+
+// Some row that is left meets the clause.
+fn is_met(alloc: Global, suite: &Suite, left: &[bool], clause: &Clause) -> Result<bool, NoMemory>
+    requires { length left.now ≡ length suite.now.rows }
+    ensures yes { IfOk result (λ met. met ≡ true → IsMet suite.now.rows (marked left.now) clause.now) }
+    ensures no { IfOk result (λ met. met ≡ false → IsMet suite.now.rows (marked left.now) clause.now → ⊥) }
+{
+    let places = named_by(alloc, suite, clause)?;
+    let met = is_met_at(suite, left, &places, clause);
+    Ok(met)
+}
+
+// The first clause of the package that no row that is left meets, by its number.
+fn unmet(
+    alloc: Global,
+    suite: &Suite,
+    left: &[bool],
+    binary: &Binary,
+) -> Result<Option<usize>, NoMemory>
+    requires { length left.now ≡ length suite.now.rows }
+    ensures some { IfOk result (λ found. IfSome found (λ need. FailsAt suite.now.rows (marked left.now) binary.now.clauses need)) }
+    ensures none { IfOk result (λ found. IfNone found (All (IsMet suite.now.rows (marked left.now)) binary.now.clauses)) }
+{
+    for (need, clause) in binary.clauses.as_slice().iter().enumerate() {
+        if !is_met(alloc, suite, left, clause)? {
+            return Ok(Some(need));
+        }
+    }
+    Ok(None)
+}
+
+// Takes each row at the places out that has such a clause, and says whether it took any.
+fn sweep(
+    alloc: Global,
+    suite: &Suite,
+    places: &[usize],
+    left: &mut [bool],
+    steps: &mut Vec<Step>,
+) -> Result<bool, NoMemory>
+    requires left { length left.old ≡ length suite.now.rows }
+    requires places { All (λ k. k < length suite.now.rows) places.now }
+    ensures held { IfOk result (λ took. took ≡ false → All (IsHeldAt suite.now.rows (marked left.new)) places.now) }
+    ensures fewer { IfOk result (λ took. took ≡ true → count_by (λ b. b) left.new < count_by (λ b. b) left.old) }
+    ensures order { OnOk result ((there : ℕ → Bool) → IsOrder suite.now.rows there left.old steps.old.items
+        → IsOrder suite.now.rows there left.new steps.new.items) }
+{
+    let mut took = false;
+    for place in places {
+        if left[*place] {
+            if let Some(need) = unmet(alloc, suite, left, suite.binary(*place))? {
+                steps.push(Step {
+                    place: *place,
+                    need,
+                })?;
+                left[*place] = false;
+                took = true;
+            }
+        }
+    }
+    Ok(took)
+}
+
+// Sweeps until a sweep takes none.
+fn take_out(
+    alloc: Global,
+    suite: &Suite,
+    places: &[usize],
+    left: &mut [bool],
+    steps: &mut Vec<Step>,
+) -> Result<(), NoMemory>
+    requires left { length left.old ≡ length suite.now.rows }
+    requires places { All (λ k. k < length suite.now.rows) places.now }
+    ensures held { OnOk result (All (IsHeldAt suite.now.rows (marked left.new)) places.now) }
+    ensures order { OnOk result ((there : ℕ → Bool) → IsOrder suite.now.rows there left.old steps.old.items
+        → IsOrder suite.now.rows there left.new steps.new.items) }
+{
+    while sweep(alloc, suite, places, left, steps)? {}
+    Ok(())
+}
+
+/// A groundless list of rows at the places. A row is taken out, one after the other, if it has a clause that no row meets
+/// which is left. If each row that bears on them stands at one of the places or is installable, the list has each row at
+/// them that is there and isn't installable. The one error is want of memory.
+pub fn order_over(alloc: Global, suite: &Suite, places: &[usize]) -> Result<Vec<Step>, NoMemory>
+    requires { All (λ k. k < length suite.now.rows) places.now }
+    ensures groundless { IfOk result (λ steps. IsGroundless suite.now.rows (marked suite.now.there) steps.items) }
+    ensures complete { IfOk result (λ steps. IsReaching suite.now.rows (marked suite.now.there) places.now
+        → All (Refutes suite.now.rows (marked suite.now.there) steps.items) places.now) }
+    ensures steps { IfOk result (λ steps. AreSteps suite.now.rows steps.items) }
+{
+    let mut left = Vec::from_slice(alloc, suite.there())?;
+    let mut steps = Vec::new(alloc);
+    take_out(alloc, suite, places, &mut left, &mut steps)?;
+    Ok(steps)
+}

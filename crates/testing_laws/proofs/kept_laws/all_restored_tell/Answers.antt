@@ -1,5 +1,0 @@
-use Rattle.testing_laws.proofs.Said.{all_restored_tell}
-use Rattle.testing_laws.proofs.kept_laws.all_restored_tell.Goals as goal
-
-pub returns : goal.returns
-returns c = all_restored_tell

@@ -1,5 +1,0 @@
-use Rattle.testing_facts.proofs.Shifting.{entry_shifts}
-use Rattle.testing_laws.proofs.kept_laws.entry_shifts.Goals as goal
-
-pub returns : goal.returns
-returns c = entry_shifts

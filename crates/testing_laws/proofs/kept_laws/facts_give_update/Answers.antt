@@ -1,5 +1,0 @@
-use Rattle.testing_laws.proofs.Giving.{facts_give_update}
-use Rattle.testing_laws.proofs.kept_laws.facts_give_update.Goals as goal
-
-pub returns : goal.returns
-returns c = facts_give_update

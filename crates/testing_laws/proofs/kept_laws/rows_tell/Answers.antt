@@ -1,5 +1,0 @@
-use Rattle.testing_laws.proofs.Telling.{rows_tell}
-use Rattle.testing_laws.proofs.kept_laws.rows_tell.Goals as goal
-
-pub returns : goal.returns
-returns c = rows_tell

@@ -1,5 +1,0 @@
-use Rattle.testing_laws.proofs.Telling.{stands_are_said}
-use Rattle.testing_laws.proofs.kept_laws.stands_are_said.Goals as goal
-
-pub returns : goal.returns
-returns c = stands_are_said

@@ -1,5 +1,0 @@
-use Rattle.testing_facts.proofs.Shifting.{takes_log}
-use Rattle.testing_laws.proofs.kept_laws.takes_log.Goals as goal
-
-pub returns : goal.returns
-returns c = takes_log

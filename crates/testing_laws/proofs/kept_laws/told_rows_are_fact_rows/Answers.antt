@@ -1,5 +1,0 @@
-use Rattle.testing_laws.proofs.Once.{told_rows_are_fact_rows}
-use Rattle.testing_laws.proofs.kept_laws.told_rows_are_fact_rows.Goals as goal
-
-pub returns : goal.returns
-returns c = told_rows_are_fact_rows

@@ -1,5 +1,0 @@
-use Rattle.testing_laws.proofs.BesideTesting.{trim_keeps}
-use Rattle.testing_laws.proofs.kept_laws.trim_keeps.Goals as goal
-
-pub returns : goal.returns
-returns c = trim_keeps

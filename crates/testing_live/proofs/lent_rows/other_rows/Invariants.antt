@@ -1,8 +1,0 @@
-use Rattle.std.proofs.Common.{◌≡◌, take, filter, not}
-use Rattle.testing_model.specs.JudgedRows.{lent}
-use Rattle.testing_model.specs.Moves.{is_row_of}
-use Rattle.testing_live.proofs.lent_rows.other_rows.Given as goal
-
--- those so far
-abbrev pub invariant-loop-row : goal.invariant-loop-row
-invariant-loop-row l = lent l.kept.items ≡ filter (λ r. not (is_row_of l.group r)) (lent (take l.row-index l.rows))

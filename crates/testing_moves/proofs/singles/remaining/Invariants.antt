@@ -1,8 +1,0 @@
-use Rattle.std.proofs.Common.{◌≡◌, take, filter}
-use Rattle.testing_moves.specs.LentItems.{lent_excuses}
-use Rattle.testing_model.specs.Updates.{is_remaining}
-use Rattle.testing_moves.proofs.singles.remaining.Given as goal
-
--- those so far
-abbrev pub invariant-loop-excuse : goal.invariant-loop-excuse
-invariant-loop-excuse l = lent_excuses l.candidates.items ≡ filter (is_remaining l.testing.suite) (take l.excuse-index l.excuses)

@@ -1,5 +1,0 @@
-use Rattle.std.proofs.Common.{rules}
-use Rattle.testing_order.proofs.select.upload_order.Goals as goal
-
-pub returns : goal.returns
-returns c = search rules

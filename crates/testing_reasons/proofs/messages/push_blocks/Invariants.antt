@@ -1,7 +1,0 @@
-use Rattle.std.proofs.Common.{◌≡◌, ◌++◌, take, map}
-use Rattle.testing_reasons.specs.Origins.{origin_of, from_blocks}
-use Rattle.testing_reasons.proofs.messages.push_blocks.Given as goal
-
--- those so far
-abbrev pub invariant-loop-hint : goal.invariant-loop-hint
-invariant-loop-hint l = map origin_of l.origins.items ≡ map origin_of l.fn.origins.items ++ from_blocks l.upload (take l.hint-index l.hints)

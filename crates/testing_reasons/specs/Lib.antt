@@ -1,6 +1,0 @@
-pub mod Days
-pub mod Lines
-pub mod Origins
-pub mod Said
-pub mod States
-pub mod Telling

@@ -1,5 +1,0 @@
-use Rattle.testing_refusals.proofs.Moving.{waits_so}
-use Rattle.testing_refusals.proofs.laws.told_as_the_run_says.Goals as goal
-
-pub returns : goal.returns
-returns c = waits_so

@@ -1,9 +1,0 @@
-use Rattle.std.proofs.Common.{◌≡◌, ◌++◌, string_bytes, take}
-use Rattle.std.specs.List.{flat_map}
-use Rattle.testing_model.specs.JudgedRows.{lent}
-use Rattle.testing_refusals.specs.Lines.{leaves_line}
-use Rattle.testing_refusals.proofs.lines.push_leaving.Given as goal
-
--- the text so far
-abbrev pub invariant-loop-row : goal.invariant-loop-row
-invariant-loop-row l = string_bytes l.text ≡ string_bytes l.fn.text ++ flat_map leaves_line (lent (take l.row-index l.rows))

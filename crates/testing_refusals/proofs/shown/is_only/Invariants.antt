@@ -1,6 +1,0 @@
-use Rattle.testing_model.specs.JudgedRows.{lent}
-use Rattle.testing_refusals.specs.Shown.{AreOnlyAt}
-use Rattle.testing_refusals.proofs.shown.is_only.Given as goal
-
-abbrev pub invariant-loop-place : goal.invariant-loop-place
-invariant-loop-place l = AreOnlyAt (lent l.rows) l.name l.only l.place

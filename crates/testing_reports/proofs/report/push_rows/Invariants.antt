@@ -1,8 +1,0 @@
-use Rattle.std.proofs.Common.{◌≡◌, ◌++◌, string_bytes, take}
-use Rattle.std.specs.List.{flat_map}
-use Rattle.testing_reports.specs.Reports.{row_line}
-use Rattle.testing_reports.proofs.report.push_rows.Given as goal
-
--- the text so far
-abbrev pub invariant-loop-row : goal.invariant-loop-row
-invariant-loop-row l = string_bytes l.text ≡ string_bytes l.fn.text ++ flat_map (row_line l.archs) (take l.row-index l.rows)

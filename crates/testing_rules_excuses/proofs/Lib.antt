@@ -1,0 +1,10 @@
+pub mod Grounds
+pub mod HintGroups
+pub mod LentGroups
+pub mod NewsGroups
+pub mod OwnHints
+pub mod OwnPart
+pub mod Wanting
+pub mod Finding
+pub mod Last
+pub mod OneText

@@ -1,0 +1,17 @@
+use Rattle.std.proofs.Common.{arith, ◌∙◌, ◌||◌, sym, ap, Some, None, [], cond, take}
+use Rattle.std.specs.Str.{bytes_eq}
+use Rattle.testing_rules_excuses.specs.declared.by_source.News.{News}
+use Rattle.testing_rules_excuses.specs.BySource.{slot_at, is_among}
+use Rattle.testing_rules_excuses.proofs.NewsGroups.{opened, among-more}
+use Rattle.testing_rules_excuses.proofs.by_source.groups_for.Goals as goal
+
+pub loop-source-preserved : goal.loop-source-preserved
+loop-source-preserved g c = λ q.
+    let news = c.args.news.now in
+    let i = c.loop-source.source-index in
+    let d = c.source-item.result in
+    let old = slot_at c.loop-source.groups q in
+    let named = c.as_str.ensures ∙ ap (λ (n : News). n.upload.now.source) c.source-item.is in
+    opened [] (is_among (take i news) q) (bytes_eq q c.as_str.result.now) old (slot_at c.open.new.groups q) (c.loop-source.invariant q) (c.in_ok-open.ensures q)
+    ∙ ap (λ s. cond (is_among (take i news) q || bytes_eq q s) (Some []) None) named
+    ∙ ap (λ b. cond b (Some []) None) (sym (among-more news i d (omega arith) q))

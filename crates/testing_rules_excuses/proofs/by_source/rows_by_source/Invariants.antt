@@ -1,0 +1,9 @@
+use Rattle.std.proofs.Common.{◌≡◌, Some, None, cond, take, filter}
+use Rattle.std.specs.Str.{bytes_eq}
+use Rattle.testing_rules_items.specs.Words.{Text}
+use Rattle.testing_rules_excuses.specs.BySource.{slot_at, is_among}
+use Rattle.testing_rules_excuses.proofs.by_source.rows_by_source.Given as goal
+
+-- those so far
+abbrev pub invariant-loop-row : goal.invariant-loop-row
+invariant-loop-row l = (q : Text) → slot_at l.groups q ≡ cond (is_among l.news q) (Some (filter (λ x. bytes_eq q x.binary.now.source) (take l.row-index l.rows))) None

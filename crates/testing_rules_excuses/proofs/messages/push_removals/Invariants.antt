@@ -1,0 +1,8 @@
+use Rattle.std.proofs.Common.{◌≡◌, ◌++◌, take, map}
+use Rattle.std.specs.Option.{option_copied}
+use Rattle.testing_rules_excuses.specs.Origins.{origin_of, from_removals}
+use Rattle.testing_rules_excuses.proofs.messages.push_removals.Given as goal
+
+-- those so far
+abbrev pub invariant-loop-hint : goal.invariant-loop-hint
+invariant-loop-hint l = map origin_of l.origins.items ≡ map origin_of l.fn.origins.items ++ from_removals l.upload (option_copied l.testing) (take l.hint-index l.hints)

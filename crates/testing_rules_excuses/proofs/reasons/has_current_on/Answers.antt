@@ -1,0 +1,9 @@
+use Rattle.std.proofs.Common.{◌∙◌, sym, ◌==◌, ◌&&◌}
+use Rattle.testing_rules_model.specs.declared.suite.RowIn.{RowIn}
+use Rattle.testing_rules_model.specs.JudgedRows.{row_of}
+use Rattle.testing_rules_model.specs.Unstable.{is_current}
+use Rattle.testing_rules_items.proofs.Tests.{list_any-map}
+use Rattle.testing_rules_excuses.proofs.reasons.has_current_on.Goals as goal
+
+pub returns : goal.returns
+returns c = c.one_current_on.ensures ∙ sym (list_any-map (λ (r : RowIn). (r.arch == c.args.arch) && is_current c.args.upload.now r) row_of c.args.rows.now)

@@ -1,0 +1,23 @@
+//! Why a source may move to testing, or may not yet; where the reasons come from that keep it out, and how it stands with
+//! a row of unstable.
+#![tactic(auto)]
+
+mod by_source;
+mod days;
+mod excusing;
+pub mod laws;
+mod messages;
+mod near;
+mod own_hints;
+mod readiness;
+mod reasons;
+mod saying;
+mod source_filter;
+mod states;
+mod telling;
+
+pub use excusing::excuses;
+pub use messages::{Origin, age_hint, origins};
+pub use saying::{Said, said_of};
+pub use states::{State, excuse_of, state_of};
+pub use telling::origin_lines;

@@ -1,0 +1,147 @@
+//! The uploads of the facts, without those that don't count beside a testing. It takes no memory.
+
+ghost use Rattle.std.specs.Prelude.{◌≡◌, ◌+◌, ◌<◌, ◌≤◌, ◌++◌, IsTrue, not, filter, length, map, option_copied, option_map, slice_index_or, vec_len, vec_capacity};
+ghost use Rattle.std.specs.List.Sorted.{IsBinarySearchResult, IsSearchInRange};
+ghost use Rattle.std.specs.declared.cmp.Ordering.TheVariants.{Equal};
+ghost use Rattle.testing_rules_items.specs.Words.{byte_cmp};
+ghost use Rattle.testing_rules_model.specs.Excuses.{entry_of, is_news};
+ghost use Rattle.testing_rules_model.specs.FactRows.{upload_row};
+ghost use Rattle.testing_rules_model.specs.InOrder.{AreByName};
+ghost use Rattle.testing_rules_model.specs.KeptFacts.{counts_beside};
+ghost use Rattle.testing_rules_model.specs.declared.suite.SourceIn.{SourceIn as Source};
+ghost use Rattle.testing_rules_fact_order.specs.Trimming.{with_sources};
+
+use crate::rows::upload_row;
+use deb_version::Version;
+use std::cmp::Ordering;
+use testing_rules_model::{FactRow, SourceIn, UploadIn};
+
+/// Where the sources have the name, or else where it belongs.
+fn place_of_name(sources: &[SourceIn], name: &str) -> Result<usize, usize>
+    ensures bound { IsSearchInRange result (length sources.now) }
+    ensures found { IsBinarySearchResult (λ s. byte_cmp s.name name.now) sources.now result }
+{
+    sources.binary_search_by(
+        |source: &SourceIn| -> Ordering
+            ensures { result ≡ byte_cmp source.now.name name.entry.now }
+        { source.name.as_str().cmp(name) },
+    )
+}
+
+/// The source at the place has the name.
+fn is_at(sources: &[SourceIn], name: &str, place: usize) -> bool
+    ensures within { IsTrue result → place < length sources.now }
+    ensures named { IsTrue result → (d : Source) → byte_cmp (slice_index_or sources.now place d).name name.now ≡ Equal }
+{
+    match sources.get(place) {
+        Some(source) => source.name.as_str() == name,
+        None => false,
+    }
+}
+
+/// Where the sources have the name, or else where it belongs. The guessed place is tried first, and then the next one.
+fn place_near(sources: &[SourceIn], name: &str, guess: usize) -> Result<usize, usize>
+    ensures bound { IsSearchInRange result (length sources.now) }
+    ensures found { IsBinarySearchResult (λ s. byte_cmp s.name name.now) sources.now result }
+{
+    if is_at(sources, name, guess) {
+        return Ok(guess);
+    }
+    let next = guess.saturating_add(1);
+    if is_at(sources, name, next) {
+        return Ok(next);
+    }
+    place_of_name(sources, name)
+}
+
+/// The version of a name, by where the name was found among the sources, or where it belongs.
+fn version_found<'a>(
+    sources: &'a [SourceIn],
+    name: &str,
+    place: Result<usize, usize>,
+) -> Option<&'a Version>
+    requires order { AreByName sources.now }
+    requires bound { IsSearchInRange place (length sources.now) }
+    requires found { IsBinarySearchResult (λ s. byte_cmp s.name name.now) sources.now place }
+    ensures { option_copied result ≡ option_map (λ s. s.version) (entry_of sources.now name.now) }
+{
+    match place {
+        Ok(place) => Some(&sources[place].version),
+        Err(_place) => None,
+    }
+}
+
+/// Where the name next to one that was found, or belongs, at a place may stand.
+fn next_place(place: Result<usize, usize>) -> usize {
+    match place {
+        Ok(place) => place.saturating_add(1),
+        Err(place) => place,
+    }
+}
+
+/// Whether the version is above testing's, or testing has none.
+fn is_news(testing: Option<&Version>, version: &Version) -> bool
+    ensures { result ≡ is_news (option_copied testing.entry) version.now }
+{
+    match testing {
+        Some(other) => version.order(other).is_gt(),
+        None => true,
+    }
+}
+
+/// Whether the upload counts beside a testing of these sources, by where they have its name, or where it belongs.
+fn counts_at(sources: &[SourceIn], upload: &UploadIn, place: Result<usize, usize>) -> bool
+    requires order { AreByName sources.now }
+    requires bound { IsSearchInRange place (length sources.now) }
+    requires found { IsBinarySearchResult (λ s. byte_cmp s.name upload.now.source) sources.now place }
+    ensures { result ≡ counts_beside (with_sources sources.now) upload.now }
+{
+    is_news(
+        version_found(sources, upload.source.as_str(), place),
+        &upload.version,
+    )
+}
+
+/// Whether the upload counts beside a testing of these sources.
+fn counts(sources: &[SourceIn], upload: &UploadIn) -> bool
+    requires { AreByName sources.now }
+    ensures { result ≡ counts_beside (with_sources sources.now) upload.now }
+{
+    let place = place_of_name(sources, upload.source.as_str());
+    counts_at(sources, upload, place)
+}
+
+/// Notes the rows of the uploads that don't count. There is room for all. Each upload's source is tried first next to
+/// that of the upload before: mostly their names are close.
+fn note_uncounted(uploads: &[UploadIn], left: &mut Vec<FactRow>, sources: &[SourceIn])
+    requires order { AreByName sources.now }
+    requires room { vec_len left.old + length uploads.now ≤ vec_capacity left.old }
+    ensures left { left.new.items ≡ left.old.items ++ map upload_row (filter (λ u. not (counts_beside (with_sources sources.now) u)) uploads.now) }
+    ensures capacity { vec_capacity left.old ≤ vec_capacity left.new }
+{
+    let mut guess = 0;
+    'uploads: for upload in uploads {
+        let place = place_near(sources, upload.source.as_str(), guess);
+        guess = next_place(place);
+        if !counts_at(sources, upload, place) {
+            let _ = left.push(upload_row(upload));
+        }
+    }
+}
+
+/// Leaves the uploads that count alone, and notes the rows of the others.
+pub fn trim_uploads(uploads: &mut Vec<UploadIn>, left: &mut Vec<FactRow>, sources: &[SourceIn])
+    requires order { AreByName sources.now }
+    requires room { vec_len left.old + vec_len uploads.old ≤ vec_capacity left.old }
+    ensures uploads { uploads.new.items ≡ filter (counts_beside (with_sources sources.now)) uploads.old.items }
+    ensures left { left.new.items ≡ left.old.items ++ map upload_row (filter (λ u. not (counts_beside (with_sources sources.now) u)) uploads.old.items) }
+    ensures capacity { vec_capacity left.old ≤ vec_capacity left.new }
+{
+    note_uncounted(uploads, left, sources);
+    uploads.retain(
+        |upload: &UploadIn| -> bool
+            requires { AreByName sources.now }
+            ensures { result ≡ counts_beside (with_sources sources.entry.now) upload.now }
+        { counts(sources, upload) },
+    );
+}

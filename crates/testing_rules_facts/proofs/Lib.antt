@@ -1,0 +1,17 @@
+pub mod Blocking
+pub mod Cancelling
+pub mod Elsewhere
+pub mod EveryPassing
+pub mod Guesses
+pub mod Joins
+pub mod KeptUploads
+pub mod KeyMembers
+pub mod KeyShifts
+pub mod KeySlots
+pub mod PutSlots
+pub mod Saying
+pub mod ShiftLists
+pub mod Shifting
+pub mod Slotting
+pub mod Steps
+pub use Rattle.testing_rules_fact_order.proofs.Netting

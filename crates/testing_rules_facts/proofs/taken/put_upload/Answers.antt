@@ -1,0 +1,15 @@
+use Rattle.std.proofs.Common.{◌∙◌, ap}
+use Rattle.testing_rules_model.specs.WithMessage.{with_upload}
+use Rattle.testing_rules_model.specs.Boxed.{unboxed}
+use Rattle.testing_rules_facts.proofs.Slotting.{box_slot_in, box_slotted_is}
+use Rattle.testing_rules_facts.proofs.taken.put_upload.Goals as goal
+
+pub put_at-requires-clause-slot : goal.put_at-requires-clause-slot
+put_at-requires-clause-slot c =
+    let xs = c.args.sources.now.items in
+    box_slot_in xs c.args.upload.value (with_upload c.args.upload.value (unboxed xs)) c.step_of_upload-step.result.slot (rw (c.deref.ensures.value, c.deref-2.ensures) at c.step_of_upload-step.ensures.slot)
+
+pub returns-clause-items : goal.returns-clause-items
+returns-clause-items c =
+    let xs = c.args.sources.now.items in
+    ap unboxed c.put_at.ensures.items ∙ box_slotted_is xs c.args.upload (with_upload c.args.upload.value (unboxed xs)) c.step_of_upload-step.result.slot (rw (c.deref.ensures.value, c.deref-2.ensures) at c.step_of_upload-step.ensures.slot)

@@ -1,0 +1,56 @@
+-- Facts put back, row by row, each with the item of the message that it names. That facts are kept as rows is this office's own.
+use Rattle.std.specs.Prelude.{ℕ, ◌==◌, ◌&&◌, if◌then◌else◌, List, find, Option, Some, None}
+pub use Rattle.testing_rules_fact_order.specs.Entries.{placed_at}
+use Rattle.testing_rules_items.specs.declared.item.Item.{Item}
+use Rattle.testing_rules_model.specs.declared.facts.BuildIn.{BuildIn}
+use Rattle.testing_rules_model.specs.declared.facts.DelaysIn.{DelaysIn}
+use Rattle.testing_rules_model.specs.FactLists.{FactLists}
+use Rattle.testing_rules_model.specs.Covered.{CoveredItem, upload_of, drop_of, bug_of, hint_of, unhint_of, delays_of, builds_of}
+use Rattle.testing_rules_model.specs.WithMessage.{with_upload, with_build, with_greatest, with_bug, with_hint, with_unhint, with_delays}
+use Rattle.testing_rules_model.specs.declared.fact_row.FactRow.{FactRow}
+use Rattle.testing_rules_fact_order.specs.Uploads.{with_kept}
+
+-- a message by its parts
+abbrev pub said : ℕ → ℕ → Item → CoveredItem
+said sender number item = record { sender = sender; number = number; item = item }
+
+-- a row, with the item of the message that it names
+abbrev pub Given : Type 0
+Given = FactRow × Item
+
+-- the message
+abbrev pub message_of : Given → CoveredItem
+message_of x = said x.0.sender x.0.number x.1
+
+-- what a row of a kind without places gives, where its message says something of that kind
+abbrev pub given_of : {B : Type 0} → ℕ → (CoveredItem → Option B) → Given → Option B
+given_of kind says x = if (x.0.kind == kind) && (x.0.place == 0) then says (message_of x) else None
+
+-- what a row of a build gives: the binary of its paragraph
+abbrev pub build_given : Given → Option BuildIn
+build_given x = if x.0.kind == 3 then find (λ b. b.place == x.0.place) (builds_of (message_of x)) else None
+
+-- put in, where there is something
+abbrev pub put_given : {A : Type 0} → (A → List A → List A) → Option A → List A → List A
+put_given put None xs = xs
+put_given put (Some x) xs = put x xs
+
+-- the last delays, with those that are put back, where there are any
+abbrev pub last_given : Option DelaysIn → Option DelaysIn → Option DelaysIn
+last_given None last = last
+last_given (Some d) last = with_delays d last
+
+-- facts with one row put back
+abbrev pub restored : Given → FactLists → FactLists
+restored x f = record {
+  sources = put_given with_upload (given_of 1 upload_of x) f.sources;
+  uploads = put_given with_kept (given_of 2 upload_of x) f.uploads;
+  rows = put_given with_build (build_given x) f.rows;
+  drops = put_given with_greatest (given_of 4 drop_of x) f.drops;
+  bugs = put_given with_bug (given_of 5 bug_of x) f.bugs;
+  hints = put_given with_hint (given_of 6 hint_of x) f.hints;
+  unhints = put_given with_unhint (given_of 7 unhint_of x) f.unhints;
+  delays = last_given (given_of 8 delays_of x) f.delays;
+  came = f.came;
+  left = f.left;
+}

@@ -1,0 +1,34 @@
+-- Steps: no contract of a call that users make rests on this file.
+-- Where a list takes an element, and what that does to the facts' rows.
+use Rattle.std.specs.Prelude.{◌≡◌, ◌<◌, ◌≤◌, List, length, slice_set}
+use Rattle.std.specs.List.{insert}
+use Rattle.std.specs.declared.cmp.Ordering.{Ordering}
+use Rattle.testing_rules_facts.specs.declared.taken.Slot.{Slot}
+use Rattle.testing_rules_facts.specs.declared.taken.Slot.TheVariants.{Over, Before, Nowhere}
+use Rattle.testing_rules_facts.specs.declared.taken.Step.{Step}
+use Rattle.testing_rules_facts.specs.ElementShifts.{IsShift}
+use Rattle.testing_rules_model.specs.WithMessage.{put_first}
+use Rattle.testing_rules_model.specs.declared.fact_row.FactRow.{FactRow}
+
+-- the list with the element in it has it over the one at this place, or before it, or is as it was
+abbrev pub IsSlotFor : {A : Type 0} → List A → A → List A → Slot → Type 0
+IsSlotFor xs x put (Over i) = (i < length xs) × (put ≡ slice_set xs i x)
+IsSlotFor xs x put (Before i) = (i ≤ length xs) × (put ≡ insert xs i x)
+IsSlotFor xs x put Nowhere = put ≡ xs
+
+-- the slot is one of the list
+abbrev pub IsSlotIn : {A : Type 0} → List A → Slot → Type 0
+IsSlotIn xs (Over i) = i < length xs
+IsSlotIn xs (Before i) = i ≤ length xs
+IsSlotIn xs Nowhere = Unit {0}
+
+-- the list with the element at the slot
+abbrev pub slotted : {A : Type 0} → List A → A → Slot → List A
+slotted xs x (Over i) = slice_set xs i x
+slotted xs x (Before i) = insert xs i x
+slotted xs x Nowhere = xs
+
+-- where a list by key takes one element more, and what that does to the rows
+pub record IsStep {A K : Type 0} (key : A → K) (cmp : K → K → Ordering) (rank : A → A → Ordering) (row : A → FactRow) (x : A) (xs : List A) (step : Step) : Type 0 where
+  pub slot : IsSlotFor xs x (put_first key cmp rank x xs) step.slot
+  pub shift : IsShift key cmp rank row x xs step.shifted

@@ -1,0 +1,566 @@
+//! Unstable's rows in blocks: a row that comes or goes shifts those of its own block alone.
+
+ghost use Rattle.std.specs.Prelude.{◌≡◌, ◌==◌, ◌<◌, ◌≤◌, ◌+◌, ◌*◌, ◌^◌, ℕ, [], ◌++◌, IfOk, OnOk, OnErr, IsTrue, IsFalse, filter, length, map, not, option_to_list, slice_index_or, true, false, vec_len, vec_capacity};
+ghost use Rattle.std.specs.Option.{IfSome};
+ghost use Rattle.testing_rules_facts.specs.Blocks.{joined, upper_rows, HasRows, AreBlocks, begins_above, IsBlockFor};
+ghost use Rattle.testing_rules_facts.specs.ElementShifts.{shift_builds, IsShift};
+ghost use Rattle.testing_rules_model.specs.Boxed.{unboxed};
+ghost use Rattle.testing_rules_model.specs.FactOrder.{AreByPair, AreDropsByPair};
+ghost use Rattle.testing_rules_model.specs.FactRows.{build_row};
+ghost use Rattle.testing_rules_model.specs.Unstable as unstable;
+ghost use Rattle.testing_rules_model.specs.WithMessage as taken;
+
+use crate::taken::{order_pair, put_build, stands_beside, take_row};
+use deb_control::Binary;
+use deb_version::NoMemory;
+use std::alloc::Global;
+use std::marker::Model;
+use testing_rules_fact_order::{Log, Shifted, move_upper_half};
+use testing_rules_model::{BuildIn, DropIn, FactRow};
+
+/// So many rows fill a block, which is split then.
+const FULL: usize = 64;
+
+/// Some of the rows, with room for one more, and the place that the last one was put at. The next one may belong there.
+#[derive(Drop)]
+pub struct Block {
+    rows: Vec<Box<BuildIn>>,
+    guess: usize,
+}
+
+impl Model for Block {
+    ghost use Rattle.std.specs.Prelude.{List, vec_len, vec_capacity};
+    ghost use Rattle.testing_rules_model.specs.Boxed.{unboxed};
+    ghost use Rattle.testing_rules_model.specs.declared.facts.BuildIn.{BuildIn};
+    ghost use Rattle.testing_rules_facts.specs.Blocks.{IsRoomy};
+
+    ghost Value = { List BuildIn };
+
+    ghost view = { λ a. unboxed a.rows.items };
+
+    ghost invariant = { λ a. IsRoomy (vec_len a.rows) (vec_capacity a.rows) };
+}
+
+/// Memory for the rows of a block, of which none has come.
+#[derive(Drop)]
+struct Spare {
+    rows: Vec<Box<BuildIn>>,
+}
+
+impl Model for Spare {
+    ghost use Rattle.std.specs.Prelude.{List, vec_capacity};
+    ghost use Rattle.testing_rules_model.specs.Boxed.{unboxed};
+    ghost use Rattle.testing_rules_model.specs.declared.facts.BuildIn.{BuildIn};
+    ghost use Rattle.testing_rules_facts.specs.Blocks.{IsSpare};
+
+    ghost Value = { List BuildIn };
+
+    ghost view = { λ a. unboxed a.rows.items };
+
+    ghost invariant = { λ a. IsSpare (unboxed a.rows.items) (vec_capacity a.rows) };
+}
+
+impl Spare {
+    /// Memory for as many rows as fill a block.
+    fn new(alloc: Global) -> Result<Spare, NoMemory> {
+        let rows = Vec::with_capacity(alloc, FULL)?;
+        Ok(Spare { rows })
+    }
+}
+
+/// What a build that joined a block did to the rows of the facts, and the block of the upper half, if it filled its own.
+#[derive(Drop)]
+struct Entered {
+    shifted: Shifted,
+    upper: Option<Block>,
+}
+
+impl Block {
+    /// A block of no rows.
+    fn new(alloc: Global) -> Result<Block, NoMemory>
+        ensures { IfOk result (λ block. block ≡ []) }
+    {
+        let rows = Vec::with_capacity(alloc, FULL)?;
+        Ok(Block { rows, guess: 0 })
+    }
+
+    /// The rows, in order.
+    pub fn rows(&self) -> &[Box<BuildIn>]
+        ensures { unboxed result.now ≡ self.now }
+    {
+        self.rows.as_slice()
+    }
+
+    /// How many rows there are.
+    fn len(&self) -> usize
+        ensures len { result ≡ length self.now }
+        ensures below { result < 64 }
+    {
+        self.rows.len()
+    }
+
+    /// An equal block, which shares the binaries.
+    fn copy(&self, alloc: Global) -> Result<Block, NoMemory>
+        ensures { IfOk result (λ block. block ≡ self.now) }
+    {
+        let rows = copy_rows(alloc, &self.rows)?;
+        Ok(Block {
+            rows,
+            guess: self.guess,
+        })
+    }
+
+    /// A build joins the rows. Where it fills the block, one of the spares takes the upper half.
+    fn put(&mut self, build: Box<BuildIn>, spares: &mut Vec<Spare>) -> Entered
+        requires order { AreByPair self.old }
+        requires spares { 0 < vec_len spares.old }
+        ensures rows { self.new ++ upper_rows result.upper ≡ taken.with_build build.value self.old }
+        ensures shift { IsShift unstable.pair_of unstable.pair_order unstable.build_order build_row build.value self.old result.shifted }
+        ensures lower { HasRows self.new }
+        ensures upper { IfSome result.upper HasRows }
+        ensures spares { vec_len spares.old ≤ vec_len spares.new + 1 }
+    {
+        let shifted = put_build(&mut self.rows, &mut self.guess, build);
+        if self.rows.len() < FULL {
+            return Entered {
+                shifted,
+                upper: None,
+            };
+        }
+        let last = spares.len() - 1;
+        let upper = Some(upper_half(&mut self.rows, self.guess, spares.remove(last)));
+        Entered { shifted, upper }
+    }
+
+    /// The rows lose the one that the drop takes, if there is one. Gives its row of the facts.
+    fn take(&mut self, drop: &DropIn) -> Option<FactRow>
+        requires { AreByPair self.old }
+        ensures rows { self.new ≡ taken.with_drop drop.now self.old }
+        ensures gone { option_to_list result ≡ map build_row (filter (λ b. not (taken.outlives drop.now b)) self.old) }
+    {
+        take_row(&mut self.rows, drop)
+    }
+}
+
+/// The first of the rows is above the architecture and the name.
+fn begin_above(rows: &[Box<BuildIn>], arch: &str, name: &str) -> bool
+    ensures { result ≡ begins_above (arch.now, name.now) (unboxed rows.now) }
+{
+    match rows.first() {
+        Some(build) => order_pair(build, arch, name).is_gt(),
+        None => false,
+    }
+}
+
+/// The rows of a full block, but for its lower half, which stays.
+fn upper_half(rows: &mut Vec<Box<BuildIn>>, guess: usize, spare: Spare) -> Block
+    requires { vec_len rows.old ≡ 64 }
+    ensures rows { unboxed rows.new.items ++ result ≡ unboxed rows.old.items }
+    ensures lower { vec_len rows.new ≡ 32 }
+    ensures upper { HasRows result }
+    ensures capacity { vec_capacity rows.new ≡ vec_capacity rows.old }
+{
+    let mut upper = spare.rows;
+    move_upper_half(rows, &mut upper);
+    Block {
+        rows: upper,
+        guess: guess.saturating_sub(rows.len()),
+    }
+}
+
+/// The place of the block for the architecture and the name.
+fn block_for(blocks: &[Block], arch: &str, name: &str) -> usize
+    requires { 0 < length blocks.now }
+    ensures { IsBlockFor (arch.now, name.now) blocks.now result }
+{
+    let mut low = 0;
+    let mut high = blocks.len();
+    'search: while low + 1 < high {
+        let middle = low + (high - low) / 2;
+        if begin_above(blocks[middle].rows(), arch, name) {
+            high = middle;
+        } else {
+            low = middle;
+        }
+    }
+    low
+}
+
+/// Two places of blocks, of which one may be right: that of the block that was put into last, and one before it.
+#[derive(Clone, Copy)]
+struct Near {
+    last: usize,
+    other: usize,
+}
+
+/// No block was put into yet.
+fn nowhere() -> Near {
+    Near { last: 0, other: 0 }
+}
+
+/// A block was put into. One beside the last one takes its place.
+fn nearer(near: Near, place: usize) -> Near {
+    if place == near.last || place == near.last.saturating_add(1) {
+        return Near {
+            last: place,
+            other: near.other,
+        };
+    }
+    Near {
+        last: place,
+        other: near.last,
+    }
+}
+
+/// There is a block at the place, and it is the first or doesn't begin above the architecture and the name.
+fn may_hold(blocks: &[Block], arch: &str, name: &str, place: usize) -> bool
+    ensures within { IsTrue result → place < length blocks.now }
+    ensures begins { IsTrue result → 0 < place → begins_above (arch.now, name.now) (slice_index_or blocks.now place []) ≡ false }
+    ensures above { IsFalse result → place < length blocks.now → begins_above (arch.now, name.now) (slice_index_or blocks.now place []) ≡ true }
+{
+    match blocks.get(place) {
+        Some(block) => place == 0 || !begin_above(block.rows(), arch, name),
+        None => false,
+    }
+}
+
+/// The place or the next one, if one of them is that of the block for the architecture and the name.
+fn block_at(blocks: &[Block], arch: &str, name: &str, place: usize) -> Option<usize>
+    ensures { IfSome result (λ place. IsBlockFor (arch.now, name.now) blocks.now place) }
+{
+    if !may_hold(blocks, arch, name, place) {
+        return None;
+    }
+    if !may_hold(blocks, arch, name, place + 1) {
+        return Some(place);
+    }
+    if !may_hold(blocks, arch, name, place + 2) {
+        return Some(place + 1);
+    }
+    None
+}
+
+/// The place of the block for the architecture and the name. The places that are near are tried first.
+fn place_near(blocks: &[Block], arch: &str, name: &str, near: Near) -> usize
+    requires { 0 < length blocks.now }
+    ensures { IsBlockFor (arch.now, name.now) blocks.now result }
+{
+    if let Some(place) = block_at(blocks, arch, name, near.last) {
+        return place;
+    }
+    if let Some(place) = block_at(blocks, arch, name, near.other) {
+        return place;
+    }
+    block_for(blocks, arch, name)
+}
+
+/// The same, and the place is near from now on.
+fn block_near(blocks: &[Block], arch: &str, name: &str, near: &mut Near) -> usize
+    requires { 0 < length blocks.now }
+    ensures { IsBlockFor (arch.now, name.now) blocks.now result }
+{
+    let place = place_near(blocks, arch, name, *near);
+    *near = nearer(*near, place);
+    place
+}
+
+/// How many rows the blocks have.
+fn count_rows(held: &[Block]) -> u128
+    ensures rows { result ≡ length (joined held.now) }
+    ensures below { result ≤ 64 * (2 ^ 64) }
+{
+    let mut count = 0;
+    'counted: for block in held {
+        count += block.len() as u128;
+    }
+    count
+}
+
+/// A build in a box of its own, which shares the binary.
+fn copy_build(alloc: Global, build: &BuildIn) -> Result<Box<BuildIn>, NoMemory>
+    ensures { IfOk result (λ copy. copy.value ≡ build.now) }
+{
+    let copy = BuildIn {
+        binary: build.binary.share()?,
+        sender: build.sender,
+        number: build.number,
+        place: build.place,
+    };
+    Ok(Box::new(alloc, copy)?)
+}
+
+/// Equal rows, with memory for as many as fill a block.
+fn copy_rows(alloc: Global, rows: &[Box<BuildIn>]) -> Result<Vec<Box<BuildIn>>, NoMemory>
+    ensures rows { IfOk result (λ copies. unboxed copies.items ≡ unboxed rows.now) }
+    ensures room { IfOk result (λ copies. 64 ≤ vec_capacity copies) }
+{
+    let mut copies = Vec::with_capacity(alloc, FULL)?;
+    for build in rows {
+        copies.push(copy_build(alloc, build)?)?;
+    }
+    Ok(copies)
+}
+
+/// Equal blocks.
+fn copy_blocks(alloc: Global, blocks: &[Block]) -> Result<Vec<Block>, NoMemory>
+    ensures { IfOk result (λ copies. copies.items ≡ blocks.now) }
+{
+    let mut copies = Vec::with_capacity(alloc, blocks.len())?;
+    for block in blocks {
+        copies.push(block.copy(alloc)?)?;
+    }
+    Ok(copies)
+}
+
+/// The builds, each in a box of its own.
+fn boxed_builds(alloc: Global, builds: Vec<BuildIn>) -> Result<Vec<Box<BuildIn>>, NoMemory>
+    ensures { IfOk result (λ boxes. unboxed boxes.items ≡ builds.items) }
+{
+    let mut boxes = Vec::with_capacity(alloc, builds.len())?;
+    for build in builds {
+        boxes.push(Box::new(alloc, build)?)?;
+    }
+    Ok(boxes)
+}
+
+/// There are at least so many spares.
+fn top_up(alloc: Global, spares: &mut Vec<Spare>, count: usize) -> Result<(), NoMemory>
+    ensures { OnOk result (count ≤ vec_len spares.new) }
+{
+    'spares: while spares.len() < count {
+        spares.push(Spare::new(alloc)?)?;
+    }
+    Ok(())
+}
+
+/// Makes room for so many blocks more. After it there is a block.
+fn make_room(alloc: Global, blocks: &mut Vec<Block>, count: usize) -> Result<(), NoMemory>
+    ensures rows { joined blocks.new.items ≡ joined blocks.old.items }
+    ensures filled { AreBlocks blocks.old.items → AreBlocks blocks.new.items }
+    ensures some { OnOk result (0 < vec_len blocks.new) }
+    ensures room { OnOk result (vec_len blocks.new + count ≤ vec_capacity blocks.new) }
+{
+    if blocks.is_empty() {
+        let first = Block::new(alloc)?;
+        blocks.push(first)?;
+    }
+    blocks.reserve(count)?;
+    Ok(())
+}
+
+/// A build joins the rows, where its own has none before it. Gives what that does to the rows of the facts. There is room
+/// for a block more, and a spare for its rows.
+fn put_coming(
+    blocks: &mut Vec<Block>,
+    near: &mut Near,
+    spares: &mut Vec<Spare>,
+    build: Box<BuildIn>,
+) -> Shifted
+    requires order { AreByPair (joined blocks.old.items) }
+    requires filled { AreBlocks blocks.old.items }
+    requires some { 0 < vec_len blocks.old }
+    requires room { vec_len blocks.old < vec_capacity blocks.old }
+    requires spares { 0 < vec_len spares.old }
+    ensures rows { joined blocks.new.items ≡ taken.with_build build.value (joined blocks.old.items) }
+    ensures shift { IsShift unstable.pair_of unstable.pair_order unstable.build_order build_row build.value (joined blocks.old.items) result }
+    ensures filled { AreBlocks blocks.new.items }
+    ensures len { vec_len blocks.new ≤ vec_len blocks.old + 1 }
+    ensures some { 0 < vec_len blocks.new }
+    ensures capacity { vec_capacity blocks.old ≤ vec_capacity blocks.new }
+    ensures spares { vec_len spares.old ≤ vec_len spares.new + 1 }
+{
+    let binary = &build.binary;
+    let place = block_near(
+        blocks,
+        binary.architecture.as_str(),
+        binary.name.as_str(),
+        near,
+    );
+    let block = &mut blocks[place];
+    let Entered { shifted, upper } = block.put(build, spares);
+    if let Some(upper) = upper {
+        let _ = blocks.insert(place + 1, upper);
+    }
+    shifted
+}
+
+/// The builds of one message join the rows, each where it stands, and what that does to the rows is noted. There is room
+/// for them, and a spare for each.
+fn put_builds(
+    held: &mut Vec<Block>,
+    near: &mut Near,
+    drops: &[Box<DropIn>],
+    coming: Vec<Box<BuildIn>>,
+    spares: &mut Vec<Spare>,
+    log: &mut Log,
+)
+    requires order { AreByPair (joined held.old.items) }
+    requires filled { AreBlocks held.old.items }
+    requires some { 0 < vec_len held.old }
+    requires room { vec_len held.old + vec_len coming ≤ vec_capacity held.old }
+    requires spares { vec_len coming ≤ vec_len spares.old }
+    requires drops { AreDropsByPair (unboxed drops.now) }
+    requires room_came { vec_len log.old.came + vec_len coming ≤ vec_capacity log.old.came }
+    requires room_left { vec_len log.old.left + vec_len coming ≤ vec_capacity log.old.left }
+    ensures rows { joined held.new.items ≡ taken.with_builds (taken.stands_beside (unboxed drops.now)) (unboxed coming.items) (joined held.old.items) }
+    ensures filled { AreBlocks held.new.items }
+    ensures came { log.new.came.items ≡ log.old.came.items ++ (shift_builds (taken.stands_beside (unboxed drops.now)) (unboxed coming.items) (joined held.old.items)).came }
+    ensures left { log.new.left.items ≡ log.old.left.items ++ (shift_builds (taken.stands_beside (unboxed drops.now)) (unboxed coming.items) (joined held.old.items)).left }
+    ensures len { vec_len log.new.left ≤ vec_len log.old.left + vec_len coming }
+    ensures capacity { vec_capacity log.old.left ≤ vec_capacity log.new.left }
+{
+    let mut left = coming;
+    'builds: while let Some(next) = left.pop() {
+        let build: &BuildIn = &next;
+        if stands_beside(drops, build) {
+            let shifted = put_coming(held, near, spares, next);
+            log.note(shifted);
+        }
+    }
+}
+
+/// The rows lose the one that the drop takes, if there is one. Gives its row of the facts.
+fn take_from(blocks: &mut Vec<Block>, drop: &DropIn) -> Option<FactRow>
+    requires order { AreByPair (joined blocks.old.items) }
+    requires filled { AreBlocks blocks.old.items }
+    ensures rows { joined blocks.new.items ≡ taken.with_drop drop.now (joined blocks.old.items) }
+    ensures gone { option_to_list result ≡ map build_row (filter (λ b. not (taken.outlives drop.now b)) (joined blocks.old.items)) }
+    ensures filled { AreBlocks blocks.new.items }
+{
+    if blocks.is_empty() {
+        return None;
+    }
+    let place = block_for(blocks, drop.arch.as_str(), drop.name.as_str());
+    let block = &mut blocks[place];
+    let gone = block.take(drop);
+    if place > 0 && blocks[place].rows().is_empty() {
+        blocks.remove(place);
+    }
+    gone
+}
+
+/// Unstable's rows, by architecture and name.
+pub struct BuildBlocks {
+    blocks: Vec<Block>,
+    near: Near,
+    spares: Vec<Spare>,
+}
+
+impl Drop for BuildBlocks {
+    fn drop(self) {
+        let BuildBlocks {
+            blocks: _,
+            near: _,
+            spares: _,
+        } = self;
+    }
+}
+
+impl Model for BuildBlocks {
+    ghost use Rattle.std.specs.Prelude.{List};
+    ghost use Rattle.testing_rules_model.specs.declared.facts.BuildIn.{BuildIn};
+    ghost use Rattle.testing_rules_facts.specs.Blocks.{joined, AreBlocks};
+
+    ghost Value = { List BuildIn };
+
+    ghost view = { λ a. joined a.blocks.items };
+
+    ghost invariant = { λ a. AreBlocks a.blocks.items };
+}
+
+impl BuildBlocks {
+    /// No rows.
+    pub fn new(alloc: Global) -> BuildBlocks
+        ensures { result ≡ [] }
+    {
+        BuildBlocks {
+            blocks: Vec::new(alloc),
+            near: nowhere(),
+            spares: Vec::new(alloc),
+        }
+    }
+
+    /// The blocks, in order.
+    pub fn blocks(&self) -> &[Block]
+        ensures { joined result.now ≡ self.now }
+    {
+        self.blocks.as_slice()
+    }
+
+    /// How many rows there are.
+    pub fn count(&self) -> u128
+        ensures rows { result ≡ length self.now }
+        ensures below { result ≤ 64 * (2 ^ 64) }
+    {
+        count_rows(&self.blocks)
+    }
+
+    /// Equal rows, which share the binaries with these. NoMemory where memory runs out.
+    pub fn copy(&self, alloc: Global) -> Result<BuildBlocks, NoMemory>
+        ensures { IfOk result (λ copies. copies ≡ self.now) }
+    {
+        let blocks = copy_blocks(alloc, &self.blocks)?;
+        Ok(BuildBlocks {
+            blocks,
+            near: self.near,
+            spares: Vec::new(alloc),
+        })
+    }
+
+    /// The builds of one message join the rows, each where it stands beside the drops, and what that does to the rows is
+    /// noted. There is room for them in the log.
+    pub fn put(
+        &mut self,
+        alloc: Global,
+        drops: &[Box<DropIn>],
+        builds: Vec<BuildIn>,
+        log: &mut Log,
+    ) -> Result<(), NoMemory>
+        requires order { AreByPair self.old }
+        requires drops { AreDropsByPair (unboxed drops.now) }
+        requires room_came { vec_len log.old.came + vec_len builds ≤ vec_capacity log.old.came }
+        requires room_left { vec_len log.old.left + vec_len builds ≤ vec_capacity log.old.left }
+        ensures came { OnOk result (log.new.came.items ≡ log.old.came.items ++ (shift_builds (taken.stands_beside (unboxed drops.now)) builds.items self.old).came) }
+        ensures left { OnOk result (log.new.left.items ≡ log.old.left.items ++ (shift_builds (taken.stands_beside (unboxed drops.now)) builds.items self.old).left) }
+        ensures len { OnOk result (vec_len log.new.left ≤ vec_len log.old.left + vec_len builds) }
+        ensures capacity { OnOk result (vec_capacity log.old.left ≤ vec_capacity log.new.left) }
+        ensures log { OnErr result (log.new ≡ log.old) }
+        ensures ok { OnOk result (self.new ≡ taken.with_builds (taken.stands_beside (unboxed drops.now)) builds.items self.old) }
+        ensures err { OnErr result (self.new ≡ self.old) }
+    {
+        let coming = boxed_builds(alloc, builds)?;
+        top_up(alloc, &mut self.spares, coming.len())?;
+        make_room(alloc, &mut self.blocks, coming.len())?;
+        put_builds(
+            &mut self.blocks,
+            &mut self.near,
+            drops,
+            coming,
+            &mut self.spares,
+            log,
+        );
+        Ok(())
+    }
+
+    /// One build joins the rows, where its own has none before it.
+    pub fn put_one(&mut self, alloc: Global, build: BuildIn) -> Result<(), NoMemory>
+        requires { AreByPair self.old }
+        ensures ok { OnOk result (self.new ≡ taken.with_build build self.old) }
+        ensures err { OnErr result (self.new ≡ self.old) }
+    {
+        let coming = Box::new(alloc, build)?;
+        top_up(alloc, &mut self.spares, 1)?;
+        make_room(alloc, &mut self.blocks, 1)?;
+        let _ = put_coming(&mut self.blocks, &mut self.near, &mut self.spares, coming);
+        Ok(())
+    }
+
+    /// The rows lose the one that the drop takes, if there is one. Gives its row of the facts.
+    pub fn take(&mut self, drop: &DropIn) -> Option<FactRow>
+        requires { AreByPair self.old }
+        ensures rows { self.new ≡ taken.with_drop drop.now self.old }
+        ensures gone { option_to_list result ≡ map build_row (filter (λ b. not (taken.outlives drop.now b)) self.old) }
+    {
+        take_from(&mut self.blocks, drop)
+    }
+}

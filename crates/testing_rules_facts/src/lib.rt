@@ -1,0 +1,22 @@
+//! The facts of the covered messages: taken one by one, with the lists that they stand in, unstable's rows in blocks,
+//! and what of them a run may use.
+#![tactic(auto)]
+
+mod build_blocks;
+mod built;
+mod copying;
+mod facts;
+mod moves;
+mod shifts;
+mod source_filter;
+mod taken;
+mod unhinting;
+
+pub use built::{built_rows, rows_passing};
+pub use facts::Facts;
+pub use moves::{Unstable, as_source, place_of_group, source_in, source_near};
+pub use source_filter::{Hashes, SourceFilter, candidates, hashes_pass, passing_rows, set_of};
+pub use testing_rules_fact_order::{
+    is_above, is_current, is_of_source, is_same_version, urgency_rank,
+};
+pub use unhinting::{Unhints, is_in_force};

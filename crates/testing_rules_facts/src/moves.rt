@@ -1,0 +1,120 @@
+//! Unstable as moves see it.
+
+ghost use Rattle.std.specs.Prelude.{◌≡◌, ◌<◌, IfOk, IsTrue, length, option_copied, slice_index_or};
+ghost use Rattle.std.specs.List.Sorted.{IsBinarySearchResult, IsSearchInRange};
+ghost use Rattle.std.specs.declared.cmp.Ordering.TheVariants.{Equal};
+ghost use Rattle.testing_rules_items.specs.Words.{byte_cmp};
+ghost use Rattle.testing_rules_model.specs.Boxed.{unboxed};
+ghost use Rattle.testing_rules_model.specs.FactOrder.{AreBySource};
+ghost use Rattle.testing_rules_model.specs.Moves as rules;
+ghost use Rattle.testing_rules_model.specs.declared.facts.UploadIn.{UploadIn as AnUpload};
+
+use crate::taken::place_of_upload;
+use deb_control::Text;
+use deb_version::NoMemory;
+use std::alloc::Global;
+use testing_rules_model::{LentRow, SourceIn, UploadIn};
+
+/// Unstable as moves see it: its sources by name, and its rows by architecture and name, which are lent.
+#[derive(Clone, Copy)]
+pub struct Unstable<'u, 'a> {
+    pub sources: &'u [Box<UploadIn>],
+    pub rows: &'u [LentRow<'a>],
+}
+
+/// The place at which a name was found, or belongs.
+fn place_in(found: Result<usize, usize>) -> usize {
+    match found {
+        Ok(place) => place,
+        Err(place) => place,
+    }
+}
+
+/// The source at the place has the name.
+fn is_at(sources: &[Box<UploadIn>], name: &str, place: usize) -> bool
+    ensures within { IsTrue result → place < length (unboxed sources.now) }
+    ensures named { IsTrue result → (d : AnUpload) → byte_cmp (slice_index_or (unboxed sources.now) place d).source name.now ≡ Equal }
+{
+    match sources.get(place) {
+        Some(upload) => upload.source.as_str() == name,
+        None => false,
+    }
+}
+
+/// Where the sources have the name, or else where it belongs. The guessed place is tried first, and then the next one.
+fn place_near(sources: &[Box<UploadIn>], name: &str, guess: usize) -> Result<usize, usize>
+    ensures bound { IsSearchInRange result (length (unboxed sources.now)) }
+    ensures found { IsBinarySearchResult (λ u. byte_cmp u.source name.now) (unboxed sources.now) result }
+{
+    if is_at(sources, name, guess) {
+        return Ok(guess);
+    }
+    let next = guess.saturating_add(1);
+    if is_at(sources, name, next) {
+        return Ok(next);
+    }
+    place_of_upload(sources, name)
+}
+
+/// The source of a name, by where the name was found among sources in the order of their names, or where it belongs.
+fn source_found<'a>(
+    sources: &'a [Box<UploadIn>],
+    name: &str,
+    place: Result<usize, usize>,
+) -> Option<&'a UploadIn>
+    requires order { AreBySource (unboxed sources.now) }
+    requires bound { IsSearchInRange place (length (unboxed sources.now)) }
+    requires found { IsBinarySearchResult (λ u. byte_cmp u.source name.now) (unboxed sources.now) place }
+    ensures { option_copied result ≡ rules.source_in (unboxed sources.now) name.now }
+{
+    match place {
+        Ok(place) => {
+            let upload: &UploadIn = &sources[place];
+            Some(upload)
+        }
+        Err(_) => None,
+    }
+}
+
+/// The source of a name, among sources in the order of their names.
+pub fn source_in<'a>(sources: &'a [Box<UploadIn>], name: &str) -> Option<&'a UploadIn>
+    requires { AreBySource (unboxed sources.now) }
+    ensures { option_copied result ≡ rules.source_in (unboxed sources.now) name.now }
+{
+    source_found(sources, name, place_of_upload(sources, name))
+}
+
+/// The same. The guessed place is tried first, and then the next one.
+pub fn source_near<'a>(
+    sources: &'a [Box<UploadIn>],
+    name: &str,
+    guess: usize,
+) -> Option<&'a UploadIn>
+    requires { AreBySource (unboxed sources.now) }
+    ensures { option_copied result ≡ rules.source_in (unboxed sources.now) name.now }
+{
+    source_found(sources, name, place_near(sources, name, guess))
+}
+
+/// Where a group's first source is, among sources in the order of their names. The guessed place is tried first, and then
+/// the next one. It is a guess for `source_near`, and no answer rests on it.
+pub fn place_of_group(sources: &[Box<UploadIn>], group: &[Text], guess: usize) -> usize {
+    match group.first() {
+        Some(name) => place_in(place_near(sources, name.as_str(), guess)),
+        None => guess,
+    }
+}
+
+/// The source as testing holds it, once its unstable version is there.
+pub fn as_source(alloc: Global, upload: &UploadIn) -> Result<SourceIn, NoMemory>
+    ensures { IfOk result (λ x. x ≡ rules.as_source upload.now) }
+{
+    let name = upload.source.copy(alloc)?;
+    let version = upload.version.copy(alloc)?;
+    Ok(SourceIn {
+        name,
+        version,
+        sender: upload.sender,
+        number: upload.number,
+    })
+}

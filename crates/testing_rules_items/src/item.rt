@@ -1,0 +1,417 @@
+//! What a message says.
+
+ghost use Rattle.std.specs.Prelude.{◌≡◌, IfOk, option_copied};
+ghost use Rattle.testing_rules_items.specs.declared.item.Item.TheVariants.{Upload, Dropped, Bug};
+
+use deb_control::{Binary, NoMemory, Text};
+use deb_version::Version;
+use jiff_core::civil::Date;
+use std::alloc::Global;
+use std::marker::Model;
+
+/// How urgent an upload is (Debian Policy 5.6.17). Emergency and critical count alike.
+#[derive(Clone, Copy, Debug, PartialEq, Eq)]
+pub enum Urgency {
+    Low,
+    Medium,
+    High,
+    Emergency,
+    Critical,
+}
+
+/// How severe a bug is. The first three are release-critical.
+#[derive(Clone, Copy, Debug, PartialEq, Eq)]
+pub enum Severity {
+    Critical,
+    Grave,
+    Serious,
+    Important,
+    Normal,
+    Minor,
+    Wishlist,
+}
+
+/// Names of sources.
+pub struct Names {
+    names: Vec<Text>,
+}
+
+impl Drop for Names {
+    fn drop(self) {
+        let Names { names: _ } = self;
+    }
+}
+
+impl Model for Names {
+    ghost use Rattle.std.specs.Prelude.{List, ℕ};
+
+    ghost Value = { List (List ℕ) };
+
+    ghost view = { λ a. a.names.items };
+}
+
+impl Names {
+    /// These names. It takes no memory.
+    pub fn of(names: Vec<Text>) -> Names
+        ensures { result ≡ names.items }
+    {
+        Names { names }
+    }
+
+    /// The names, in order.
+    pub fn as_slice(&self) -> &[Text]
+        ensures { result.now ≡ self.now }
+    {
+        self.names.as_slice()
+    }
+
+    /// Equal names.
+    pub fn copy(&self, alloc: Global) -> Result<Names, NoMemory>
+        ensures { IfOk result (λ names. names ≡ self.now) }
+    {
+        let names = copy_texts(alloc, &self.names)?;
+        Ok(Names { names })
+    }
+}
+
+/// Equal texts, in order.
+pub fn copy_texts(alloc: Global, texts: &[Text]) -> Result<Vec<Text>, NoMemory>
+    ensures { IfOk result (λ copies. copies.items ≡ texts.now) }
+{
+    let mut copies = Vec::new(alloc);
+    'each: for text in texts {
+        copies.push(text.copy(alloc)?)?;
+    }
+    Ok(copies)
+}
+
+/// An equal version, where there is one.
+pub fn copy_version(alloc: Global, version: Option<&Version>) -> Result<Option<Version>, NoMemory>
+    ensures { IfOk result (λ v. v ≡ option_copied version.entry) }
+{
+    match version {
+        Some(version) => Ok(Some(version.copy(alloc)?)),
+        None => Ok(None),
+    }
+}
+
+/// A source at a version, as a hint names it.
+#[derive(Drop)]
+pub struct HintItem {
+    pub name: Text,
+    pub version: Version,
+}
+
+/// Items of one hint, in order.
+pub struct HintItems {
+    items: Vec<HintItem>,
+}
+
+impl Drop for HintItems {
+    fn drop(self) {
+        let HintItems { items: _ } = self;
+    }
+}
+
+impl Model for HintItems {
+    ghost use Rattle.std.specs.Prelude.{List};
+    ghost use Rattle.testing_rules_items.specs.declared.item.HintItem.{HintItem};
+
+    ghost Value = { List HintItem };
+
+    ghost view = { λ a. a.items.items };
+}
+
+impl HintItem {
+    /// An equal item.
+    pub fn copy(&self, alloc: Global) -> Result<HintItem, NoMemory>
+        ensures { IfOk result (λ i. i ≡ self.now) }
+    {
+        Ok(HintItem {
+            name: self.name.copy(alloc)?,
+            version: self.version.copy(alloc)?,
+        })
+    }
+}
+
+fn copy_items(alloc: Global, items: &[HintItem]) -> Result<Vec<HintItem>, NoMemory>
+    ensures { IfOk result (λ copies. copies.items ≡ items.now) }
+{
+    let mut copies = Vec::new(alloc);
+    'items: for item in items {
+        copies.push(item.copy(alloc)?)?;
+    }
+    Ok(copies)
+}
+
+impl HintItems {
+    /// These items. It takes no memory.
+    pub fn of(items: Vec<HintItem>) -> HintItems
+        ensures { result ≡ items.items }
+    {
+        HintItems { items }
+    }
+
+    /// The items, in order.
+    pub fn as_slice(&self) -> &[HintItem]
+        ensures { result.now ≡ self.now }
+    {
+        self.items.as_slice()
+    }
+
+    /// Equal items.
+    pub fn copy(&self, alloc: Global) -> Result<HintItems, NoMemory>
+        ensures { IfOk result (λ items. items ≡ self.now) }
+    {
+        let items = copy_items(alloc, &self.items)?;
+        Ok(HintItems { items })
+    }
+}
+
+/// A wish of the release team.
+#[derive(Drop)]
+pub enum Hint {
+    /// Keeps these sources out.
+    Block(Names),
+
+    /// Lifts every block for these versions.
+    Unblock(HintItems),
+
+    /// Moves all items as one.
+    Easy(HintItems),
+
+    /// So many days are needed for these versions.
+    AgeDays(u32, HintItems),
+
+    /// Asks that these versions go out of testing.
+    Remove(HintItems),
+
+    /// Keeps all sources out.
+    BlockAll,
+}
+
+impl Hint {
+    /// An equal hint.
+    pub fn copy(&self, alloc: Global) -> Result<Hint, NoMemory>
+        ensures { IfOk result (λ h. h ≡ self.now) }
+    {
+        match self {
+            Hint::Block(names) => Ok(Hint::Block(names.copy(alloc)?)),
+            Hint::BlockAll => Ok(Hint::BlockAll),
+            Hint::Unblock(items) => Ok(Hint::Unblock(items.copy(alloc)?)),
+            Hint::Easy(items) => Ok(Hint::Easy(items.copy(alloc)?)),
+            Hint::AgeDays(days, items) => Ok(Hint::AgeDays(*days, items.copy(alloc)?)),
+            Hint::Remove(items) => Ok(Hint::Remove(items.copy(alloc)?)),
+        }
+    }
+}
+
+/// The binary packages of one build, in the order of their paragraphs.
+pub struct Binaries {
+    binaries: Vec<Binary>,
+}
+
+impl Drop for Binaries {
+    fn drop(self) {
+        let Binaries { binaries: _ } = self;
+    }
+}
+
+impl Model for Binaries {
+    ghost use Rattle.std.specs.Prelude.{List};
+    ghost use Rattle.deb_control.specs.declared.binary.Binary.{Binary};
+
+    ghost Value = { List Binary };
+
+    ghost view = { λ a. a.binaries.items };
+}
+
+impl Binaries {
+    /// These binaries. It takes no memory.
+    pub fn of(binaries: Vec<Binary>) -> Binaries
+        ensures { result ≡ binaries.items }
+    {
+        Binaries { binaries }
+    }
+
+    /// The binary packages, in order.
+    pub fn as_slice(&self) -> &[Binary]
+        ensures { result.now ≡ self.now }
+    {
+        self.binaries.as_slice()
+    }
+
+    /// The binary packages, in order. It takes no memory.
+    pub fn into_vec(self) -> Vec<Binary>
+        ensures { result.items ≡ self }
+    {
+        let Binaries { binaries } = self;
+        binaries
+    }
+
+    /// Equal binaries.
+    pub fn copy(&self, alloc: Global) -> Result<Binaries, NoMemory>
+        ensures { IfOk result (λ binaries. binaries ≡ self.now) }
+    {
+        let binaries = copy_binaries(alloc, &self.binaries)?;
+        Ok(Binaries { binaries })
+    }
+}
+
+/// Equal binary packages, in order.
+fn copy_binaries(alloc: Global, binaries: &[Binary]) -> Result<Vec<Binary>, NoMemory>
+    ensures { IfOk result (λ copies. copies.items ≡ binaries.now) }
+{
+    let mut copies = Vec::with_capacity(alloc, binaries.len())?;
+    'binaries: for binary in binaries {
+        copies.push(binary.copy(alloc)?)?;
+    }
+    Ok(copies)
+}
+
+/// What a message says, apart from orders of runs.
+#[derive(Drop)]
+pub enum Item {
+    /// A version of a source came to unstable.
+    Upload {
+        source: Text,
+        version: Version,
+        urgency: Urgency,
+        day: Date,
+    },
+
+    /// A binary package went out of unstable, up to a version, on an architecture or on `all`.
+    Dropped {
+        name: Text,
+        arch: Text,
+        version: Version,
+    },
+
+    /// What was built.
+    Build(Binaries),
+
+    /// The state of a bug: the versions where it was found and fixed, where they are known.
+    Bug {
+        bug: u32,
+        source: Text,
+        severity: Severity,
+        found: Option<Version>,
+        fixed: Option<Version>,
+    },
+
+    /// A wish.
+    Hint(Hint),
+
+    /// The hint of this number no longer stands.
+    Unhint(u32),
+
+    /// The days that an upload of each urgency waits, from 0 to 9,999. Emergency waits as critical does.
+    Delays {
+        low: u32,
+        medium: u32,
+        high: u32,
+        critical: u32,
+    },
+
+    /// Nothing: the message takes its number alone.
+    Nothing,
+}
+
+impl Item {
+    /// An equal item.
+    pub fn copy(&self, alloc: Global) -> Result<Item, NoMemory>
+        ensures { IfOk result (λ item. item ≡ self.now) }
+    {
+        match self {
+            Item::Upload {
+                source,
+                version,
+                urgency,
+                day,
+            } => copy_upload(alloc, source, version, *urgency, *day),
+            Item::Dropped {
+                name,
+                arch,
+                version,
+            } => copy_drop(alloc, name, arch, version),
+            Item::Build(binaries) => Ok(Item::Build(binaries.copy(alloc)?)),
+            Item::Bug {
+                bug,
+                source,
+                severity,
+                found,
+                fixed,
+            } => copy_bug(
+                alloc,
+                *bug,
+                source,
+                *severity,
+                found.as_ref(),
+                fixed.as_ref(),
+            ),
+            Item::Hint(hint) => Ok(Item::Hint(hint.copy(alloc)?)),
+            Item::Unhint(cancels) => Ok(Item::Unhint(*cancels)),
+            Item::Delays {
+                low,
+                medium,
+                high,
+                critical,
+            } => Ok(Item::Delays {
+                low: *low,
+                medium: *medium,
+                high: *high,
+                critical: *critical,
+            }),
+            Item::Nothing => Ok(Item::Nothing),
+        }
+    }
+}
+
+/// An upload of equal texts.
+fn copy_upload(
+    alloc: Global,
+    source: &Text,
+    version: &Version,
+    urgency: Urgency,
+    day: Date,
+) -> Result<Item, NoMemory>
+    ensures { IfOk result (λ item. item ≡ Upload source.now version.now urgency day) }
+{
+    Ok(Item::Upload {
+        source: source.copy(alloc)?,
+        version: version.copy(alloc)?,
+        urgency,
+        day,
+    })
+}
+
+/// A drop of equal texts.
+fn copy_drop(alloc: Global, name: &Text, arch: &Text, version: &Version) -> Result<Item, NoMemory>
+    ensures { IfOk result (λ item. item ≡ Dropped name.now arch.now version.now) }
+{
+    Ok(Item::Dropped {
+        name: name.copy(alloc)?,
+        arch: arch.copy(alloc)?,
+        version: version.copy(alloc)?,
+    })
+}
+
+/// The state of a bug, in equal texts.
+fn copy_bug(
+    alloc: Global,
+    bug: u32,
+    source: &Text,
+    severity: Severity,
+    found: Option<&Version>,
+    fixed: Option<&Version>,
+) -> Result<Item, NoMemory>
+    ensures { IfOk result (λ item. item ≡ Bug bug source.now severity (option_copied found.entry) (option_copied fixed.entry)) }
+{
+    Ok(Item::Bug {
+        bug,
+        source: source.copy(alloc)?,
+        severity,
+        found: copy_version(alloc, found)?,
+        fixed: copy_version(alloc, fixed)?,
+    })
+}

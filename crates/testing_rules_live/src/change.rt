@@ -1,0 +1,208 @@
+//! Which rows come by a move, and which leave.
+
+ghost use Rattle.std.specs.Prelude.{◌≡◌, [], ◌++◌, ◌<◌, length, filter, OnOk, IfOk};
+ghost use Rattle.std.specs.List.{All};
+ghost use Rattle.testing_rules_model.specs.Boxed.{unboxed};
+ghost use Rattle.testing_rules_suites.specs.Changes.{comes_at, stands_of, stands_for, gives_way_to, AreThose, IsMoveOf};
+ghost use Rattle.testing_rules_model.specs.FactOrder.{AreBySource};
+ghost use Rattle.testing_rules_model.specs.JudgedRows.{row_of};
+ghost use Rattle.testing_rules_model.specs.Moves.{group_sources};
+ghost use Rattle.testing_rules_suites.specs.Tried.{IsWithin, IsRemovalOf};
+
+use crate::row_tests::{is_of, is_same_key};
+use deb_control::Text;
+use deb_version::NoMemory;
+use smallvec::SmallVec;
+use std::alloc::Global;
+use testing_rules_facts::{is_current, source_near};
+use testing_rules_model::{LentRow, UploadIn};
+use testing_rules_suites::{Change, Pool};
+
+/// The row at the place is one of unstable's, and current for the upload.
+fn comes_at(pool: &Pool, first: usize, upload: &UploadIn, place: usize) -> bool
+    requires { place < length pool.now }
+    ensures { result ≡ comes_at pool.now first upload.now place }
+{
+    first <= place && is_current(upload, &pool.row(place))
+}
+
+/// The row at the place stands and names the source.
+fn stands_of(pool: &Pool, stands: &[bool], name: &str, place: usize) -> bool
+    requires places { place < length pool.now }
+    requires flags { length stands.now ≡ length pool.now }
+    ensures { result ≡ stands_of pool.now stands.now name.now place }
+{
+    stands[place] && is_of(&pool.row(place), name)
+}
+
+/// The row at the place stands and has the key of the other.
+fn stands_for(pool: &Pool, stands: &[bool], other: &LentRow, place: usize) -> bool
+    requires places { place < length pool.now }
+    requires flags { length stands.now ≡ length pool.now }
+    ensures { result ≡ stands_for pool.now stands.now (row_of other.now) place }
+{
+    stands[place] && is_same_key(other, &pool.row(place))
+}
+
+/// Those of the places whose rows come for the upload.
+fn push_coming(
+    coming: &mut SmallVec<usize, 4>,
+    pool: &Pool,
+    first: usize,
+    upload: &UploadIn,
+    places: &[usize],
+) -> Result<(), NoMemory>
+    requires { All (λ k. k < length pool.now) places.now }
+    ensures { OnOk result (coming.new.items ≡ coming.old.items ++ filter (comes_at pool.now first upload.now) places.now) }
+{
+    for place in places {
+        if comes_at(pool, first, upload, *place) {
+            coming.push(*place)?;
+        }
+    }
+    Ok(())
+}
+
+/// The places of the rows that come: unstable's rows, which begin at the first place, that are current for a source of
+/// the group. Near the guessed place a source is looked for first.
+pub fn coming_of(
+    alloc: Global,
+    pool: &Pool,
+    first: usize,
+    sources: &[Box<UploadIn>],
+    near: usize,
+    group: &[Text],
+) -> Result<SmallVec<usize, 4>, NoMemory>
+    requires { AreBySource (unboxed sources.now) }
+    ensures { IfOk result (λ coming. AreThose (comes_at pool.now first) (group_sources (unboxed sources.now) group.now) coming.items) }
+{
+    let mut coming = SmallVec::new(alloc);
+    for name in group {
+        if let Some(upload) = source_near(sources, name.as_str(), near) {
+            let places = pool.of_source(upload.source.as_str());
+            push_coming(&mut coming, pool, first, upload, places)?;
+        }
+    }
+    Ok(coming)
+}
+
+/// Those of the places whose rows stand and name the source.
+fn push_standing(
+    leaving: &mut SmallVec<usize, 4>,
+    pool: &Pool,
+    stands: &[bool],
+    name: &str,
+    places: &[usize],
+) -> Result<(), NoMemory>
+    requires places { All (λ k. k < length pool.now) places.now }
+    requires flags { length stands.now ≡ length pool.now }
+    ensures { OnOk result (leaving.new.items ≡ leaving.old.items ++ filter (stands_of pool.now stands.now name.now) places.now) }
+{
+    for place in places {
+        if stands_of(pool, stands, name, *place) {
+            leaving.push(*place)?;
+        }
+    }
+    Ok(())
+}
+
+/// The places of the rows that are present of the group's sources.
+fn standing_of_group(
+    alloc: Global,
+    pool: &Pool,
+    stands: &[bool],
+    group: &[Text],
+) -> Result<SmallVec<usize, 4>, NoMemory>
+    requires { length stands.now ≡ length pool.now }
+    ensures { IfOk result (λ leaving. AreThose (stands_of pool.now stands.now) group.now leaving.items) }
+{
+    let mut leaving = SmallVec::new(alloc);
+    for name in group {
+        let places = pool.of_source(name.as_str());
+        push_standing(&mut leaving, pool, stands, name.as_str(), places)?;
+    }
+    Ok(leaving)
+}
+
+/// Those of the places whose rows stand and have the key of the other.
+fn push_giving_way(
+    leaving: &mut SmallVec<usize, 4>,
+    pool: &Pool,
+    stands: &[bool],
+    other: &LentRow,
+    places: &[usize],
+) -> Result<(), NoMemory>
+    requires places { All (λ k. k < length pool.now) places.now }
+    requires flags { length stands.now ≡ length pool.now }
+    ensures { OnOk result (leaving.new.items ≡ leaving.old.items ++ filter (stands_for pool.now stands.now (row_of other.now)) places.now) }
+{
+    for place in places {
+        if stands_for(pool, stands, other, *place) {
+            leaving.push(*place)?;
+        }
+    }
+    Ok(())
+}
+
+/// The places of the rows that are present that give way to those that come: they have their key.
+fn giving_way(
+    alloc: Global,
+    pool: &Pool,
+    stands: &[bool],
+    coming: &[usize],
+) -> Result<SmallVec<usize, 4>, NoMemory>
+    requires places { All (λ k. k < length pool.now) coming.now }
+    requires flags { length stands.now ≡ length pool.now }
+    ensures { IfOk result (λ leaving. AreThose (gives_way_to pool.now stands.now) coming.now leaving.items) }
+{
+    let mut leaving = SmallVec::new(alloc);
+    for place in coming {
+        let row = pool.row(*place);
+        let places = pool.of_name(row.binary.name.as_str());
+        push_giving_way(&mut leaving, pool, stands, &row, places)?;
+    }
+    Ok(leaving)
+}
+
+/// The rows that come by a move of the group, and those that leave: the rows that are present of its sources, and those of the
+/// key of one that comes. Unstable's rows begin at the first place. Near the guessed place a source is looked for first.
+pub fn change_by_move(
+    alloc: Global,
+    pool: &Pool,
+    stands: &[bool],
+    first: usize,
+    sources: &[Box<UploadIn>],
+    near: usize,
+    group: &[Text],
+) -> Result<Change, NoMemory>
+    requires order { AreBySource (unboxed sources.now) }
+    requires flags { length stands.now ≡ length pool.now }
+    ensures within { IfOk result (λ change. IsWithin pool.now change.leaving.items change.coming.items) }
+    ensures moves { IfOk result (λ change. IsMoveOf pool.now stands.now first (unboxed sources.now) group.now change.leaving.items change.coming.items) }
+{
+    let coming = coming_of(alloc, pool, first, sources, near, group)?;
+    let mut leaving = standing_of_group(alloc, pool, stands, group)?;
+    let giving_way = giving_way(alloc, pool, stands, &coming)?;
+    leaving.extend_from_slice(&giving_way)?;
+    Ok(Change { leaving, coming })
+}
+
+/// The rows that leave by a removal of the source: its rows that are present.
+pub fn change_by_removal(
+    alloc: Global,
+    pool: &Pool,
+    stands: &[bool],
+    name: &str,
+) -> Result<Change, NoMemory>
+    requires { length stands.now ≡ length pool.now }
+    ensures within { IfOk result (λ change. IsWithin pool.now change.leaving.items change.coming.items) }
+    ensures removal { IfOk result (λ change. IsRemovalOf pool.now stands.now name.now change.leaving.items) }
+    ensures none { IfOk result (λ change. change.coming.items ≡ []) }
+{
+    let mut leaving = SmallVec::new(alloc);
+    push_standing(&mut leaving, pool, stands, name, pool.of_source(name))?;
+    Ok(Change {
+        leaving,
+        coming: SmallVec::new(alloc),
+    })
+}

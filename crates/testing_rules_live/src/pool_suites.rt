@@ -1,0 +1,223 @@
+//! Which rows of a pool stand in testing during a run, and the suite of each architecture.
+
+ghost use Rattle.std.specs.Prelude.{◌≡◌, ℕ, ◌<◌, ◌++◌, true, false, length, replicate, [], IfOk, IfSome, Some, Option};
+ghost use Rattle.std.specs.List.{list_all, slice_get};
+ghost use Rattle.testing_install.specs.Among.{after_change};
+ghost use Rattle.testing_install.specs.Closed.{marked};
+ghost use Rattle.testing_rules_model.specs.Boxed.{unboxed};
+ghost use Rattle.testing_rules_suites.specs.Changes.{has, IsMoveOf};
+ghost use Rattle.testing_rules_model.specs.FactOrder.{AreBySource};
+ghost use Rattle.testing_rules_live.specs.Lacks.{IsLackOfMove};
+ghost use Rattle.testing_rules_model.specs.JudgedRows.{lent, row_of};
+ghost use Rattle.testing_rules_suites.specs.PresentSteps.{present_rows};
+ghost use Rattle.testing_rules_suites.specs.Tried.{first_told, Tells, IsWithin, IsRemovalOf};
+ghost use Rattle.testing_rules_model.specs.SourceFilter.{hash_passes, passing_rows};
+ghost use Rattle.testing_rules_items.specs.Words.{Text as Word};
+
+use crate::change::coming_of;
+use crate::lack::lack_among;
+use crate::{change_by_move, change_by_removal};
+use deb_control::{Clause, Text};
+use deb_version::NoMemory;
+use std::alloc::Global;
+use std::marker::Model;
+use testing_rules_facts::{Hashes, hashes_pass, passing_rows};
+use testing_rules_model::{LentRow, Offender, RowIn, UploadIn};
+use testing_rules_suites::{CarriedSuites, Change};
+
+/// The suites over the rows that may stand in testing during a run. Unstable's rows, which begin at the first place, are
+/// there where their source is a candidate.
+pub struct PoolSuites {
+    kept: CarriedSuites,
+    candidates: Hashes,
+    first: usize,
+}
+
+impl Drop for PoolSuites {
+    fn drop(self) {
+        let PoolSuites {
+            kept: _,
+            candidates: _,
+            first: _,
+        } = self;
+    }
+}
+
+impl Model for PoolSuites {
+    ghost use Rattle.testing_rules_suites.specs.PresentSteps.{PoolState};
+
+    ghost Value = { PoolState };
+
+    ghost view = { λ s. record {
+      rows = s.kept.rows;
+      candidates = s.candidates.keys;
+      first = s.first;
+      stands = s.kept.stands;
+      archs = s.kept.archs;
+    } };
+}
+
+impl PoolSuites {
+    /// The rows that the kept suites have, and behind them, none of which stands, those of unstable that may come: the rows
+    /// of the candidates.
+    pub fn new(
+        alloc: Global,
+        kept: CarriedSuites,
+        candidates: Hashes,
+        unstable: &[LentRow],
+    ) -> Result<PoolSuites, NoMemory>
+        ensures rows { IfOk result (λ s. s.rows ≡ kept.rows ++ passing_rows s.candidates (lent unstable.now)) }
+        ensures candidates { IfOk result (λ s. s.candidates ≡ candidates.keys) }
+        ensures first { IfOk result (λ s. s.first ≡ length kept.rows) }
+        ensures archs { IfOk result (λ s. s.archs ≡ kept.archs) }
+        ensures stands { IfOk result (λ s. s.stands ≡ kept.stands ++ replicate (length (passing_rows s.candidates (lent unstable.now))) false) }
+        ensures long { length kept.stands ≡ length kept.rows }
+    {
+        let first = kept.len();
+        let wanted = passing_rows(alloc, &candidates, unstable)?;
+        let kept = kept.with_rows(alloc, &wanted)?;
+        Ok(PoolSuites {
+            kept,
+            candidates,
+            first,
+        })
+    }
+
+    /// The suites alone, which are of no one run.
+    pub fn into_kept(self) -> CarriedSuites
+        ensures { result ≡ record { rows = self.rows; stands = self.stands; archs = self.archs } }
+    {
+        let PoolSuites {
+            kept,
+            candidates: _,
+            first: _,
+        } = self;
+        kept
+    }
+
+    /// The rows that stand, by architecture and name.
+    pub fn rows(&self, alloc: Global) -> Result<Vec<LentRow<'_>>, NoMemory>
+        ensures { IfOk result (λ rows. lent rows.items ≡ present_rows self.now) }
+    {
+        self.kept.rows(alloc)
+    }
+
+    /// Copies of the rows that stand, by architecture and name.
+    pub fn copies(&self, alloc: Global) -> Result<Vec<RowIn>, NoMemory>
+        ensures { IfOk result (λ copies. copies.items ≡ present_rows self.now) }
+    {
+        self.kept.copies(alloc)
+    }
+
+    /// The row at the place, whether it stands or not.
+    pub fn row(&self, place: usize) -> LentRow<'_>
+        requires { place < length self.now.rows }
+        ensures { slice_get self.now.rows place ≡ Some (row_of result) }
+    {
+        self.kept.pool().row(place)
+    }
+
+    /// The rows of each source of the group may come: each is a candidate.
+    pub fn offers(&self, group: &[Text]) -> bool
+        ensures { result ≡ list_all (hash_passes self.now.candidates) group.now }
+    {
+        hashes_pass(&self.candidates, group)
+    }
+
+    /// The rows that come by a move of the group, and those that leave. Near the guessed place a source is looked for
+    /// first.
+    pub fn change_by_move(
+        &self,
+        alloc: Global,
+        sources: &[Box<UploadIn>],
+        near: usize,
+        group: &[Text],
+    ) -> Result<Change, NoMemory>
+        requires { AreBySource (unboxed sources.now) }
+        ensures within { IfOk result (λ change. IsWithin self.now.rows change.leaving.items change.coming.items) }
+        ensures moves { IfOk result (λ change. IsMoveOf self.now.rows self.now.stands self.now.first (unboxed sources.now) group.now change.leaving.items change.coming.items) }
+    {
+        let stands = self.kept.stands();
+        change_by_move(
+            alloc,
+            self.kept.pool(),
+            stands,
+            self.first,
+            sources,
+            near,
+            group,
+        )
+    }
+
+    /// The rows that leave by a removal of the source.
+    pub fn change_by_removal(&self, alloc: Global, name: &str) -> Result<Change, NoMemory>
+        ensures within { IfOk result (λ change. IsWithin self.now.rows change.leaving.items change.coming.items) }
+        ensures removal { IfOk result (λ change. IsRemovalOf self.now.rows self.now.stands name.now change.leaving.items) }
+        ensures none { IfOk result (λ change. change.coming.items ≡ []) }
+    {
+        change_by_removal(alloc, self.kept.pool(), self.kept.stands(), name)
+    }
+
+    /// A clause of a row that would come by a move of the group, which no row on its architecture meets that stands or
+    /// would come. Where there is none, the move may break something nevertheless. Near the guessed place a source is
+    /// looked for first.
+    pub fn lack_by_move(
+        &self,
+        alloc: Global,
+        sources: &[Box<UploadIn>],
+        near: usize,
+        group: &[Text],
+    ) -> Result<Option<&Clause>, NoMemory>
+        requires { AreBySource (unboxed sources.now) }
+        ensures { IfOk result (λ found. IfSome found (λ clause. IsLackOfMove self.now (unboxed sources.now) group.now clause.now)) }
+    {
+        let coming = coming_of(alloc, self.kept.pool(), self.first, sources, near, group)?;
+        Ok(lack_among(&self.kept, &coming))
+    }
+
+    /// None of the rows that come stands already.
+    pub fn is_fresh(&self, change: &Change) -> bool
+        requires { IsWithin self.now.rows change.now.leaving.items change.now.coming.items }
+        ensures { result ≡ true → (k : ℕ) → has change.now.coming.items k ≡ true → marked self.now.stands k ≡ false }
+    {
+        self.kept.is_fresh(change)
+    }
+
+    /// The first row that the change would lose, by architecture in listed order and then by name.
+    pub fn first_lost(
+        &mut self,
+        alloc: Global,
+        change: &Change,
+    ) -> Result<Option<Offender>, NoMemory>
+        ensures same { self.new ≡ self.old }
+        ensures first { IfOk result (λ o. (tells : ℕ → Option Word) → Tells self.old.rows self.old.stands change.now.leaving.items change.now.coming.items tells
+            → o ≡ first_told self.old.archs tells) }
+    {
+        self.kept.first_lost(alloc, change)
+    }
+
+    /// The suites once the change is made.
+    pub fn after(self, alloc: Global, change: &Change) -> Result<PoolSuites, NoMemory>
+        requires { IsWithin self.rows change.now.leaving.items change.now.coming.items }
+        ensures state { IfOk result (λ s. s ≡ record {
+          rows = self.rows;
+          candidates = self.candidates;
+          first = self.first;
+          stands = after_change change.now.leaving.items change.now.coming.items self.stands;
+          archs = self.archs;
+        }) }
+        ensures long { length self.stands ≡ length self.rows }
+    {
+        let PoolSuites {
+            kept,
+            candidates,
+            first,
+        } = self;
+        let kept = kept.after(alloc, change)?;
+        Ok(PoolSuites {
+            kept,
+            candidates,
+            first,
+        })
+    }
+}

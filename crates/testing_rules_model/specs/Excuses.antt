@@ -1,0 +1,225 @@
+-- The excuses of a run (Debian Developer's Reference 5.13.2): why each source may or may not move.
+use Rattle.std.specs.Prelude.{ℕ, Bool, true, false, ◌&&◌, ◌||◌, not, nat_lt, ◌==◌, if◌then◌else◌, List, ◌++◌, map, filter, fold, find, Option, Some, None, option_map, unwrap_or, ◌-ℤ◌}
+use Rattle.std.specs.List.{filter_map, list_any, last_or}
+use Rattle.std.specs.Option.{option_map_or}
+use Rattle.std.specs.Str.{bytes_eq}
+use Rattle.jiff_core.specs.declared.civil.date.Date.{Date}
+use Rattle.jiff_core.specs.Date.{epoch_day}
+use Rattle.testing_rules_items.specs.declared.item.Urgency.{Urgency}
+use Rattle.testing_rules_items.specs.declared.item.Urgency.TheVariants.{Low, Medium, High, Emergency, Critical}
+use Rattle.testing_rules_items.specs.declared.item.Hint.{Hint}
+use Rattle.testing_rules_items.specs.declared.item.Hint.TheVariants.{Block, BlockAll, Unblock, Easy, AgeDays, Remove}
+use Rattle.testing_rules_items.specs.declared.item.HintItem.{HintItem}
+use Rattle.testing_rules_model.specs.declared.facts.UploadIn.{UploadIn}
+use Rattle.testing_rules_model.specs.declared.facts.BugIn.{BugIn}
+use Rattle.testing_rules_model.specs.declared.facts.HintIn.{HintIn}
+use Rattle.testing_rules_model.specs.declared.facts.Delays.{Delays}
+use Rattle.testing_rules_model.specs.declared.facts.DelaysIn.{DelaysIn}
+use Rattle.testing_rules_model.specs.declared.suite.SourceIn.{SourceIn}
+use Rattle.testing_rules_model.specs.declared.suite.RowIn.{RowIn}
+use Rattle.testing_rules_model.specs.declared.excuse.Excuse.{Excuse}
+use Rattle.testing_rules_model.specs.declared.excuse.Reason.{Reason}
+use Rattle.testing_rules_model.specs.declared.excuse.Reason.TheVariants.{TooYoung, NewBug, NoBinaries, MissingOn, Blocked, RemovalAsked}
+use Rattle.testing_rules_model.specs.Suite.{Suite}
+use Rattle.testing_rules_items.specs.Words.{Text, is_above, is_same_version, only_if, floor_zero}
+use Rattle.testing_rules_model.specs.Covered.{Covered, uploads_in}
+use Rattle.testing_rules_model.specs.Unstable.{unstable_sources, place_numbers, unstable_rows, is_of_source, is_current, bug_states, is_release_critical, affects, in_force, last_delays}
+
+-- the source's entry among testing's sources
+abbrev pub entry_of : List SourceIn → Text → Option SourceIn
+entry_of sources name = find (λ s. bytes_eq s.name name) sources
+
+-- the source's version in testing
+abbrev pub testing_version : Suite → Text → Option Text
+testing_version t name = option_map (λ s. s.version) (entry_of t.sources name)
+
+-- the version is above testing's, or testing has none (Debian Policy 5.6.12)
+abbrev pub is_news : Option Text → Text → Bool
+is_news testing v = option_map_or (is_above v) testing true
+
+-- Days (Debian Developer's Reference 5.13.2; that they are counted from day to day, and set by mail, is decided by this office).
+
+-- urgencies from the least to the most urgent (Debian Policy 5.6.17)
+abbrev pub urgency_rank : Urgency → ℕ
+urgency_rank Low = 0
+urgency_rank Medium = 1
+urgency_rank High = 2
+urgency_rank Emergency = 3
+urgency_rank Critical = 4
+
+-- the more urgent of two
+abbrev pub more_urgent : Urgency → Urgency → Urgency
+more_urgent a b = if nat_lt (urgency_rank a) (urgency_rank b) then b else a
+
+-- the days of an urgency: emergency and critical count alike (Debian Policy 5.6.17)
+abbrev pub days_of : Delays → Urgency → ℕ
+days_of d Low = d.low
+days_of d Medium = d.medium
+days_of d High = d.high
+days_of d Emergency = d.critical
+days_of d Critical = d.critical
+
+-- the days that hold where no message sets others: 10, 5 and 2 of Debian Developer's Reference 5.13.2; this office decides the 0
+abbrev pub usual_delays : Delays
+usual_delays = record { low = 10; medium = 5; high = 2; critical = 0 }
+
+-- those of the last message on delays, or else the usual ones
+abbrev pub delays_in_force : Option DelaysIn → Delays
+delays_in_force last = option_map_or (λ d. d.delays) last usual_delays
+
+-- the upload's urgency counts: it is the source's, and above testing's version
+abbrev pub counts : Option Text → Text → UploadIn → Bool
+counts testing name u = bytes_eq u.source name && is_news testing u.version
+
+-- the greatest urgency among the uploads that count: it sticks to the source until it moves (Debian Developer's Reference 5.13.2)
+abbrev pub most_urgent : List UploadIn → Option Text → Text → Urgency
+most_urgent uploads testing name = fold more_urgent Low (map (λ u. u.urgency) (filter (counts testing name) uploads))
+
+-- some item names the source at this version
+abbrev pub is_named : List HintItem → Text → Text → Bool
+is_named items name v = list_any (λ i. bytes_eq i.name name && is_same_version i.version v) items
+
+-- the days that a hint asks for the source at this version (named after britney2's `age-days`)
+abbrev pub asked_days : Text → Text → Hint → Option ℕ
+asked_days name v (AgeDays n items) = if is_named items name v then Some n else None
+asked_days name v (Block names) = None
+asked_days name v BlockAll = None
+asked_days name v (Unblock items) = None
+asked_days name v (Easy items) = None
+asked_days name v (Remove items) = None
+
+-- those that the last such hint asks for (this office decides which)
+abbrev pub hinted_days : List HintIn → UploadIn → Option ℕ
+hinted_days hints u = last_or None (filter_map (λ h. asked_days u.source u.version h.hint) hints)
+
+-- the days that an unstable source needs: those asked for by hint, or else those of the most urgent upload that counts
+abbrev pub days_needed : Delays → List HintIn → List UploadIn → Option Text → UploadIn → ℕ
+days_needed delays hints uploads testing u = unwrap_or (hinted_days hints u) (days_of delays (most_urgent uploads testing u.source))
+
+-- the days from the upload to the run, at least 0 (this office decides it)
+abbrev pub age_of : Date → UploadIn → ℕ
+age_of date u = floor_zero (epoch_day date -ℤ epoch_day u.day)
+
+-- Reasons (Debian Developer's Reference 5.13.2).
+
+-- the bug is new for the source: release-critical, in the unstable version and not in testing's (Debian Developer's Reference 5.13.2)
+abbrev pub is_new_bug : Option Text → UploadIn → BugIn → Bool
+is_new_bug testing u b =
+    bytes_eq b.source u.source && is_release_critical b.severity && affects b u.version
+    && option_map_or (λ v. not (affects b v)) testing true
+
+-- the source has a row of the architecture, and a current one
+abbrev pub has_row_on : List RowIn → UploadIn → ℕ → Bool
+has_row_on rows u arch = list_any (λ r. (r.arch == arch) && is_of_source u r) rows
+
+-- the source has a current row of the architecture
+abbrev pub has_current_on : List RowIn → UploadIn → ℕ → Bool
+has_current_on rows u arch = list_any (λ r. (r.arch == arch) && is_current u r) rows
+
+-- the source has rows of the architecture, and none of them is current: it is out of date there (Debian Developer's Reference 5.13.2.1)
+abbrev pub is_missing_on : List RowIn → UploadIn → ℕ → Bool
+is_missing_on rows u arch = has_row_on rows u arch && not (has_current_on rows u arch)
+
+-- some row of the source is current (that a source without one stays out is decided by this office)
+abbrev pub has_current : List RowIn → UploadIn → Bool
+has_current rows u = list_any (is_current u) rows
+
+-- a hint to keep the source out: it names it, or keeps out all sources (named after britney2's `block` and `block-all`)
+abbrev pub blocks : Text → Hint → Bool
+blocks name (Block names) = list_any (bytes_eq name) names
+blocks name BlockAll = true
+blocks name (Unblock items) = false
+blocks name (Easy items) = false
+blocks name (AgeDays n items) = false
+blocks name (Remove items) = false
+
+-- a hint that lifts blocks for the source at this version (named after britney2's `unblock`)
+abbrev pub unblocks : Text → Text → Hint → Bool
+unblocks name v (Unblock items) = is_named items name v
+unblocks name v (Block names) = false
+unblocks name v BlockAll = false
+unblocks name v (Easy items) = false
+unblocks name v (AgeDays n items) = false
+unblocks name v (Remove items) = false
+
+-- a hint to remove the source at this version (named after britney2's `remove`)
+abbrev pub removes : Text → Text → Hint → Bool
+removes name v (Remove items) = is_named items name v
+removes name v (Block names) = false
+removes name v BlockAll = false
+removes name v (Unblock items) = false
+removes name v (Easy items) = false
+removes name v (AgeDays n items) = false
+
+-- some hint does so
+abbrev pub asks_block : List HintIn → Text → Bool
+asks_block hints name = list_any (λ h. blocks name h.hint) hints
+
+-- some hint lifts blocks for the source at this version
+abbrev pub lifts_block : List HintIn → Text → Text → Bool
+lifts_block hints name v = list_any (λ h. unblocks name v h.hint) hints
+
+-- the source is kept out by hint, and its unstable version isn't let in
+abbrev pub is_blocked : List HintIn → UploadIn → Bool
+is_blocked hints u = asks_block hints u.source && not (lifts_block hints u.source u.version)
+
+-- a hint asks to remove the source at this version
+abbrev pub asks_removal : List HintIn → Text → Text → Bool
+asks_removal hints name v = list_any (λ h. removes name v h.hint) hints
+
+-- its removal is asked for, at its unstable version or at testing's (this office decides it)
+abbrev pub is_removal_asked : List HintIn → Option Text → UploadIn → Bool
+is_removal_asked hints testing u =
+    asks_removal hints u.source u.version || option_map_or (asks_removal hints u.source) testing false
+
+-- what keeps an unstable source out, in the order in which it is reported (this office decides the order)
+abbrev pub reasons_of : List ℕ → List RowIn → List BugIn → List HintIn → Option Text → Bool → UploadIn → List Reason
+reasons_of places rows bugs hints testing is_young u =
+    only_if is_young TooYoung
+    ++ map (λ b. NewBug b.bug) (filter (is_new_bug testing u) bugs)
+    ++ only_if (not (has_current rows u)) NoBinaries
+    ++ map (λ a. MissingOn a) (filter (is_missing_on rows u) places)
+    ++ only_if (is_blocked hints u) Blocked
+    ++ only_if (is_removal_asked hints testing u) RemovalAsked
+
+-- what the excuses of a run are made from, beside testing: unstable's rows, the states of bugs, the hints in force, the uploads, the delays and the date
+pub record Ground : Type 0 where
+  pub rows : List RowIn
+  pub bugs : List BugIn
+  pub hints : List HintIn
+  pub uploads : List UploadIn
+  pub delays : Delays
+  pub date : Date
+
+-- the excuse of an unstable source
+abbrev pub excuse_on : List ℕ → Ground → Option Text → UploadIn → Excuse
+excuse_on places g testing u =
+    let needed = days_needed g.delays g.hints g.uploads testing u in
+    record {
+      source = u.source;
+      testing = testing;
+      unstable = u.version;
+      age = age_of g.date u;
+      needed = needed;
+      reasons = reasons_of places g.rows g.bugs g.hints testing (nat_lt (age_of g.date u) needed) u;
+    }
+
+-- an excuse for each source that is above testing's version or isn't in testing
+abbrev pub excuses_on : List ℕ → Ground → Suite → List UploadIn → List Excuse
+excuses_on places g t sources =
+    map (λ u. excuse_on places g (testing_version t u.source) u) (filter (λ u. is_news (testing_version t u.source) u.version) sources)
+
+-- what the covered messages give
+abbrev pub ground_of : List Text → Covered → Date → Ground
+ground_of archs s date = record {
+  rows = unstable_rows archs s;
+  bugs = bug_states s;
+  hints = in_force s;
+  uploads = uploads_in s;
+  delays = delays_in_force (last_delays s);
+  date = date;
+}
+
+-- an excuse for each source of unstable that is above testing's version or isn't in testing, by name
+abbrev pub excuses_of : List Text → Covered → Suite → Date → List Excuse
+excuses_of archs s t date = excuses_on (place_numbers archs) (ground_of archs s date) t (unstable_sources s)

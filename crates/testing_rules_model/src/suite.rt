@@ -1,0 +1,93 @@
+//! The testing suite.
+
+ghost use Rattle.std.specs.Prelude.{◌≡◌, IfOk};
+ghost use Rattle.testing_rules_model.specs.JudgedRows.{row_of};
+
+use crate::shared_binary::SharedBinary;
+use deb_control::Text;
+use deb_version::{NoMemory, Version};
+use std::alloc::Global;
+
+/// A source in testing, and the message that gave it.
+#[derive(Drop)]
+pub struct SourceIn {
+    pub name: Text,
+    pub version: Version,
+    pub sender: u32,
+    pub number: u32,
+}
+
+/// A binary in testing or unstable, and the paragraph that gave it. `arch` is the place of its
+/// architecture in the setup, or 16 for `all`; the first binary of a build has the place 1.
+#[derive(Drop)]
+pub struct RowIn {
+    pub arch: u32,
+    pub binary: SharedBinary,
+    pub sender: u32,
+    pub number: u32,
+    pub place: u32,
+}
+
+/// A row that is lent: its binary stands in testing or among the builds of unstable.
+#[derive(Clone, Copy)]
+pub struct LentRow<'a> {
+    pub binary: &'a SharedBinary,
+    pub arch: u32,
+    pub sender: u32,
+    pub number: u32,
+    pub place: u32,
+}
+
+impl SourceIn {
+    /// An equal value.
+    pub fn copy(&self, alloc: Global) -> Result<SourceIn, NoMemory>
+        ensures { IfOk result (λ s. s ≡ self.now) }
+    {
+        let name = self.name.copy(alloc)?;
+        let version = self.version.copy(alloc)?;
+        Ok(SourceIn {
+            name,
+            version,
+            sender: self.sender,
+            number: self.number,
+        })
+    }
+}
+
+impl RowIn {
+    /// The row, lent.
+    pub fn lend(&self) -> LentRow<'_>
+        ensures { row_of result ≡ self.now }
+    {
+        LentRow {
+            arch: self.arch,
+            binary: &self.binary,
+            sender: self.sender,
+            number: self.number,
+            place: self.place,
+        }
+    }
+
+    /// An equal value, which shares the binary.
+    pub fn copy(&self) -> Result<RowIn, NoMemory>
+        ensures { IfOk result (λ r. r ≡ self.now) }
+    {
+        self.lend().copy()
+    }
+}
+
+impl LentRow<'_> {
+    /// An equal row, which shares the binary.
+    pub fn copy(&self) -> Result<RowIn, NoMemory>
+        ensures { IfOk result (λ r. r ≡ row_of self.now) }
+    {
+        let binary = self.binary.share()?;
+        Ok(RowIn {
+            arch: self.arch,
+            binary,
+            sender: self.sender,
+            number: self.number,
+            place: self.place,
+        })
+    }
+}

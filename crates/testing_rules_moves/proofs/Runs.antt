@@ -1,0 +1,81 @@
+-- The steps of a run's loops.
+use Rattle.std.specs.Prelude.{ℕ, ◌+◌, ◌<◌, ◌≤◌, Bool, true, false, List, ◌++◌, None, length, take, drop, get_or, map, filter, find}
+use Rattle.std.specs.List.{flat_map, position_or_len}
+use Rattle.std.proofs.Common.{◌≡◌, ap}
+use Rattle.testing_rules_model.specs.declared.excuse.Excuse.{Excuse}
+use Rattle.testing_rules_model.specs.Suite.{Suite}
+use Rattle.testing_rules_moves.specs.Runs.{Basis, Run, go_on}
+use Rattle.testing_rules_model.specs.Updates.{Outcome, in_turn, decide, accepted, offender_alone, moved_alone, is_allowed_alone, move_circle, wait}
+use Rattle.testing_rules_moves.proofs.InTurn.{turn-next, turns-over, hint-next, hint-skipped, hints-over, passing-next, passing-skipped, passing-over}
+use Rattle.testing_rules_moves.proofs.Circle.{circle-next, circle-over, wait-none}
+
+-- the run with another outcome
+abbrev with_outcome : Run → Outcome → Run
+with_outcome r o = record { basis = r.basis; outcome = o }
+
+module _ {A B : Type 0} (step : Basis → B → Suite → Outcome) (f : A → B) (xs : List A) (i : ℕ) where
+  -- one turn of those from i on
+  pub run-next : (d : A) → i < length xs → (r : Run)
+      → go_on (go_on r (λ b. step b (f (get_or xs i d)))) (λ b. in_turn (step b) (map f (drop (i + 1) xs))) ≡ go_on r (λ b. in_turn (step b) (map f (drop i xs)))
+  run-next d below r = ap (with_outcome r) (turn-next (step r.basis) f xs i d below r.outcome)
+
+  -- no turn is left
+  pub run-over : (r : Run) → length xs ≤ i → go_on r (λ b. in_turn (step b) (map f (drop i xs))) ≡ r
+  run-over r h = ap (with_outcome r) (turns-over (step r.basis) f xs i r.outcome h)
+
+module _ {A B : Type 0} (step : Basis → B → Suite → Outcome) (turns : A → List B) (test : A → Bool) (hs : List A) (i : ℕ) where
+  -- the turns of one element that passes
+  pub run_hint-next : (d : A) → i < length hs → test (get_or hs i d) ≡ true → (r : Run)
+      → go_on (go_on r (λ b. in_turn (step b) (turns (get_or hs i d)))) (λ b. in_turn (step b) (flat_map turns (filter test (drop (i + 1) hs))))
+      ≡ go_on r (λ b. in_turn (step b) (flat_map turns (filter test (drop i hs))))
+  run_hint-next d below e r = ap (with_outcome r) (hint-next (step r.basis) turns test hs i d below e r.outcome)
+
+  -- one element that doesn't pass
+  pub run_hint-skipped : (d : A) → i < length hs → test (get_or hs i d) ≡ false → (r : Run)
+      → go_on r (λ b. in_turn (step b) (flat_map turns (filter test (drop (i + 1) hs)))) ≡ go_on r (λ b. in_turn (step b) (flat_map turns (filter test (drop i hs))))
+  run_hint-skipped d below e r = ap (with_outcome r) (hint-skipped (step r.basis) turns test hs i d below e r.outcome)
+
+  -- no turn is left
+  pub run_hints-over : length hs ≤ i → (r : Run) → go_on r (λ b. in_turn (step b) (flat_map turns (filter test (drop i hs)))) ≡ r
+  run_hints-over h r = ap (with_outcome r) (hints-over (step r.basis) turns test hs i h r.outcome)
+
+module _ {A : Type 0} (step : Basis → A → Suite → Outcome) (test : A → Bool) (hs : List A) (i : ℕ) where
+  -- the turn of one element that passes
+  pub run_passing-next : (d : A) → i < length hs → test (get_or hs i d) ≡ true → (r : Run)
+      → go_on (go_on r (λ b. step b (get_or hs i d))) (λ b. in_turn (step b) (filter test (drop (i + 1) hs))) ≡ go_on r (λ b. in_turn (step b) (filter test (drop i hs)))
+  run_passing-next d below e r = ap (with_outcome r) (passing-next (step r.basis) test hs i d below e r.outcome)
+
+  -- one element that doesn't pass
+  pub run_passing-skipped : (d : A) → i < length hs → test (get_or hs i d) ≡ false → (r : Run)
+      → go_on r (λ b. in_turn (step b) (filter test (drop (i + 1) hs))) ≡ go_on r (λ b. in_turn (step b) (filter test (drop i hs)))
+  run_passing-skipped d below e r = ap (with_outcome r) (passing-skipped (step r.basis) test hs i d below e r.outcome)
+
+  -- no turn is left
+  pub run_passing-over : length hs ≤ i → (r : Run) → go_on r (λ b. in_turn (step b) (filter test (drop i hs))) ≡ r
+  run_passing-over h r = ap (with_outcome r) (passing-over (step r.basis) test hs i h r.outcome)
+
+-- whether the candidate may move alone
+abbrev pub allowed_in : Run → Excuse → Bool
+allowed_in r = is_allowed_alone r.basis.archs r.basis.sources r.basis.rows r.outcome.suite
+
+-- the single moves of a circle
+abbrev pub circle_in : List Excuse → Basis → Suite → Outcome
+circle_in es b = move_circle b.archs b.sources b.rows es
+
+-- a candidate moves alone
+abbrev pub alone_in : Excuse → Basis → Suite → Outcome
+alone_in e b t = decide (accepted e) (moved_alone b.sources b.rows t e)
+
+-- no candidate of the circle may move
+pub run_circle-over : (es : List Excuse) (r : Run) → find (allowed_in r) es ≡ None → go_on r (circle_in es) ≡ r
+run_circle-over es r e = ap (with_outcome r) (circle-over r.basis.archs r.basis.sources r.basis.rows es r.outcome e)
+
+-- the first that may goes, and then those behind it come first
+pub run_circle-next : (es : List Excuse) (i : ℕ) (d : Excuse) → i < length es → (r : Run) → position_or_len (allowed_in r) es ≡ i
+    → go_on r (circle_in es) ≡ go_on (go_on r (alone_in (get_or es i d))) (circle_in (drop (i + 1) es ++ take i es))
+run_circle-next es i d below r at = ap (with_outcome r) (circle-next r.basis.archs r.basis.sources r.basis.rows es i d below r.outcome at)
+
+-- a candidate whose move would break nothing doesn't wait
+pub run_wait-none : (e : Excuse) (r : Run) → offender_alone r.basis.archs r.basis.sources r.basis.rows r.outcome.suite e ≡ None
+    → go_on r (λ b. wait b.archs b.sources b.rows e) ≡ r
+run_wait-none e r h = ap (with_outcome r) (wait-none r.basis.archs r.basis.sources r.basis.rows e r.outcome h)

@@ -1,0 +1,8 @@
+use Rattle.std.proofs.Common.{take}
+use Rattle.testing_rules_suites.specs.AfterMoves.{rows_at}
+use Rattle.testing_rules_moves.specs.Refusals.{AreWoken}
+use Rattle.testing_rules_moves.proofs.breaking.wake_among.Given as goal
+
+-- those so far
+abbrev pub invariant-loop-place : goal.invariant-loop-place
+invariant-loop-place l = AreWoken (rows_at l.suites.rows (take l.place-index l.coming)) l.fn.refusals l.refusals

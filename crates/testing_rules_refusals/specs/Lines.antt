@@ -1,0 +1,64 @@
+-- The lines of what shows that a row isn't installable. Their form is decided by this office.
+use Rattle.std.specs.Prelude.{ℕ, if◌then◌else◌, List, [], ◌∷◌, ◌++◌, codes, decimal}
+use Rattle.std.specs.List.{flat_map}
+use Rattle.std.specs.Option.{option_map_or}
+use Rattle.deb_control.specs.declared.relation.Alternative.{Alternative}
+use Rattle.deb_control.specs.declared.relation.Clause.{Clause}
+use Rattle.deb_control.specs.declared.relation.Relation.{Relation}
+use Rattle.deb_control.specs.declared.relation.Op.{Op}
+use Rattle.deb_control.specs.declared.relation.Op.TheVariants.{Below, AtMost, Equal, AtLeast, Above}
+use Rattle.testing_rules_items.specs.Words.{Text}
+use Rattle.testing_rules_model.specs.declared.suite.RowIn.{RowIn}
+use Rattle.testing_rules_model.specs.Moves.{is_row_of}
+use Rattle.testing_rules_refusals.specs.Needs.{RowNeed}
+
+-- the sign of a relation (Debian Policy 7.1)
+abbrev pub sign : Op → Text
+sign Below = codes "<<"
+sign AtMost = codes "<="
+sign Equal = codes "="
+sign AtLeast = codes ">="
+sign Above = codes ">>"
+
+-- a relation, in parentheses (Debian Policy 7.1)
+abbrev pub relation_text : Relation → Text
+relation_text r = codes " (" ++ sign r.op ++ 32 ∷ r.version ++ codes ")"
+
+-- a package, and its relation if one is stated (Debian Policy 7.1)
+abbrev pub alternative_text : Alternative → Text
+alternative_text a = a.name ++ option_map_or relation_text a.relation []
+
+-- an alternative behind another
+abbrev pub other_text : Alternative → Text
+other_text a = codes " | " ++ alternative_text a
+
+-- alternatives, with a bar between each two (Debian Policy 7.1)
+abbrev pub clause_text : Clause → Text
+clause_text [] = []
+clause_text (a ∷ others) = alternative_text a ++ flat_map other_text others
+
+-- a number behind another
+abbrev pub more_text : ℕ → Text
+more_text n = codes " and " ++ decimal n
+
+-- the numbers of lines, or that there is none
+abbrev pub numbers_text : List ℕ → Text
+numbers_text [] = codes "nothing"
+numbers_text (n ∷ ns) = decimal n ++ flat_map more_text ns
+
+-- a package, its version and its source
+abbrev pub package_text : RowIn → Text
+package_text r = r.binary.name ++ 32 ∷ r.binary.version ++ codes " of " ++ r.binary.source
+
+-- whether the row comes in with the group
+abbrev pub place_text : List Text → RowIn → Text
+place_text group r = if is_row_of group r then codes " comes in, needs " else codes " in testing, needs "
+
+-- the line with the number, whose clause the rows of the lines with the other numbers meet
+abbrev pub need_line : List Text → ℕ → RowNeed → List ℕ → Text
+need_line group number n numbers =
+    decimal number ++ 32 ∷ package_text n.row ++ place_text group n.row ++ clause_text n.clause ++ codes ": " ++ numbers_text numbers ++ 10 ∷ []
+
+-- a row that leaves
+abbrev pub leaves_line : RowIn → Text
+leaves_line r = codes "leaves " ++ r.binary.name ++ 32 ∷ r.binary.version ++ 10 ∷ []

@@ -1,0 +1,146 @@
+//! The lines of what shows that a row isn't installable.
+
+ghost use Rattle.std.specs.Prelude.{◌≡◌, ◌++◌, ◌∷◌, OnOk, codes, decimal, string_bytes};
+ghost use Rattle.std.specs.List.{flat_map};
+ghost use Rattle.testing_rules_model.specs.JudgedRows.{lent, row_of};
+ghost use Rattle.testing_rules_refusals.specs.Lines as lines;
+ghost use Rattle.testing_rules_refusals.specs.Needs.{need_of};
+
+use crate::needs::Need;
+use deb_control::{Alternative, Clause, Op, Text};
+use std::alloc::AllocError;
+use testing_rules_live::is_row_of;
+use testing_rules_model::LentRow;
+
+fn sign(op: Op) -> &'static str
+    ensures { result.now ≡ lines.sign op }
+{
+    match op {
+        Op::Below => "<<",
+        Op::AtMost => "<=",
+        Op::Equal => "=",
+        Op::AtLeast => ">=",
+        Op::Above => ">>",
+    }
+}
+
+fn push_alternative(text: &mut String, alternative: &Alternative) -> Result<(), AllocError>
+    ensures { OnOk result (string_bytes text.new ≡ string_bytes text.old ++ lines.alternative_text alternative.now) }
+{
+    match &alternative.relation {
+        Some(relation) => {
+            let (name, version) = (alternative.name.as_str(), relation.version.text());
+            write!(text, "{name} ({} {version})", sign(relation.op))
+        }
+        None => text.push_str(alternative.name.as_str()),
+    }
+}
+
+fn push_others(text: &mut String, alternatives: &[Alternative]) -> Result<(), AllocError>
+    ensures { OnOk result (string_bytes text.new ≡ string_bytes text.old ++ flat_map lines.other_text alternatives.now) }
+{
+    for alternative in alternatives {
+        text.push_str(" | ")?;
+        push_alternative(text, alternative)?;
+    }
+    Ok(())
+}
+
+/// A clause as it is written in control data.
+pub fn push_clause(text: &mut String, clause: &Clause) -> Result<(), AllocError>
+    ensures { OnOk result (string_bytes text.new ≡ string_bytes text.old ++ lines.clause_text clause.now) }
+{
+    match clause.as_slice().split_first() {
+        Some((first, others)) => {
+            push_alternative(text, first)?;
+            push_others(text, others)
+        }
+        None => Ok(()),
+    }
+}
+
+fn push_more_numbers(text: &mut String, numbers: &[usize]) -> Result<(), AllocError>
+    ensures { OnOk result (string_bytes text.new ≡ string_bytes text.old ++ flat_map lines.more_text numbers.now) }
+{
+    for number in numbers {
+        write!(text, " and {number}")?;
+    }
+    Ok(())
+}
+
+fn push_numbers(text: &mut String, numbers: &[usize]) -> Result<(), AllocError>
+    ensures { OnOk result (string_bytes text.new ≡ string_bytes text.old ++ lines.numbers_text numbers.now) }
+{
+    match numbers.split_first() {
+        Some((first, others)) => {
+            write!(text, "{first}")?;
+            push_more_numbers(text, others)
+        }
+        None => text.push_str("nothing"),
+    }
+}
+
+/// A package, its version and its source.
+pub fn push_package(text: &mut String, row: &LentRow) -> Result<(), AllocError>
+    ensures { OnOk result (string_bytes text.new ≡ string_bytes text.old ++ lines.package_text (row_of row.now)) }
+{
+    let (name, version) = (row.binary.name.as_str(), row.binary.version.text());
+    write!(text, "{name} {version} of {}", row.binary.source.as_str())
+}
+
+fn push_place(text: &mut String, group: &[Text], row: &LentRow) -> Result<(), AllocError>
+    ensures { OnOk result (string_bytes text.new ≡ string_bytes text.old ++ lines.place_text group.now (row_of row.now)) }
+{
+    if is_row_of(group, row) {
+        text.push_str(" comes in, needs ")
+    } else {
+        text.push_str(" in testing, needs ")
+    }
+}
+
+fn push_row(
+    text: &mut String,
+    group: &[Text],
+    number: usize,
+    row: &LentRow,
+) -> Result<(), AllocError>
+    ensures { OnOk result (string_bytes text.new ≡ string_bytes text.old ++ (decimal number ++ 32 ∷ lines.package_text (row_of row.now) ++ lines.place_text group.now (row_of row.now))) }
+{
+    write!(text, "{number} ")?;
+    push_package(text, row)?;
+    push_place(text, group, row)
+}
+
+fn push_met(text: &mut String, clause: &Clause, numbers: &[usize]) -> Result<(), AllocError>
+    ensures { OnOk result (string_bytes text.new ≡ string_bytes text.old ++ (lines.clause_text clause.now ++ codes ": " ++ lines.numbers_text numbers.now)) }
+{
+    push_clause(text, clause)?;
+    text.push_str(": ")?;
+    push_numbers(text, numbers)
+}
+
+/// The line with the number, whose clause the rows of the lines with the other numbers meet.
+pub fn push_need(
+    text: &mut String,
+    group: &[Text],
+    number: usize,
+    need: &Need,
+    numbers: &[usize],
+) -> Result<(), AllocError>
+    ensures { OnOk result (string_bytes text.new ≡ string_bytes text.old ++ lines.need_line group.now number (need_of need.now) numbers.now) }
+{
+    push_row(text, group, number, &need.row)?;
+    push_met(text, need.clause, numbers)?;
+    text.push_str("\n")
+}
+
+/// The lines of rows that leave.
+pub fn push_leaving(text: &mut String, rows: &[LentRow]) -> Result<(), AllocError>
+    ensures { OnOk result (string_bytes text.new ≡ string_bytes text.old ++ flat_map lines.leaves_line (lent rows.now)) }
+{
+    for row in rows {
+        let (name, version) = (row.binary.name.as_str(), row.binary.version.text());
+        writeln!(text, "leaves {name} {version}")?;
+    }
+    Ok(())
+}

@@ -1,0 +1,104 @@
+//! The lines of what is shown: each a row, one of its clauses, and the numbers of the lines whose rows meet it.
+
+ghost use Rattle.std.specs.Prelude.{◌≡◌, ◌+◌, filter, length, IfOk, option_map};
+ghost use Rattle.std.specs.List.{range_with_len};
+ghost use Rattle.testing_install.specs.Satisfies.{meets as does_meet};
+ghost use Rattle.testing_rules_model.specs.JudgedRows.{lent, row_of};
+ghost use Rattle.testing_rules_refusals.specs.Needs as rules;
+ghost use Rattle.testing_rules_refusals.specs.Needs.{need_of};
+
+use deb_control::Clause;
+use deb_version::NoMemory;
+use std::alloc::{AllocError, Global};
+use testing_install::meets;
+use testing_install_why::Step;
+use testing_rules_model::LentRow;
+
+/// A row, and a clause of it.
+#[derive(Clone, Copy)]
+pub struct Need<'a> {
+    pub row: LentRow<'a>,
+    pub clause: &'a Clause,
+}
+
+/// The step with the number, counted from the last one, which has the number 1.
+fn step_at(steps: &[Step], number: usize) -> Option<Step>
+    ensures { result ≡ rules.step_at steps.now number }
+{
+    steps.get(steps.len().saturating_sub(number)).copied()
+}
+
+/// The clause of a row with the number.
+fn need_of<'a>(row: LentRow<'a>, need: usize) -> Option<Need<'a>>
+    ensures { option_map need_of result ≡ rules.need_in need (row_of row.entry) }
+{
+    match row.binary.clauses.as_slice().get(need) {
+        Some(clause) => Some(Need { row, clause }),
+        None => None,
+    }
+}
+
+/// The row and the clause of a step.
+fn need_by<'a>(rows: &[LentRow<'a>], step: Step) -> Option<Need<'a>>
+    ensures { option_map need_of result ≡ rules.need_by (lent rows.now) step }
+{
+    match rows.get(step.place) {
+        Some(row) => need_of(*row, step.need),
+        None => None,
+    }
+}
+
+/// The row and the clause of the line with the number. The last step is the first line, and has the number 1.
+pub fn need_at<'a>(rows: &[LentRow<'a>], steps: &[Step], number: usize) -> Option<Need<'a>>
+    ensures { option_map need_of result ≡ rules.need_at (lent rows.now) steps.now number }
+{
+    match step_at(steps, number) {
+        Some(step) => need_by(rows, step),
+        None => None,
+    }
+}
+
+/// The row of the line with the number meets the clause.
+fn is_bearer(rows: &[LentRow], steps: &[Step], clause: &Clause, number: usize) -> bool
+    ensures { result ≡ rules.is_bearer (lent rows.now) steps.now clause.now number }
+{
+    match need_at(rows, steps, number) {
+        Some(need) => meets(need.row.binary, clause),
+        None => false,
+    }
+}
+
+/// The numbers of the lines whose rows meet the clause, ascending.
+pub fn bearers(
+    alloc: Global,
+    rows: &[LentRow],
+    steps: &[Step],
+    clause: &Clause,
+) -> Result<Vec<usize>, AllocError>
+    ensures { IfOk result (λ numbers. numbers.items ≡ rules.bearers (lent rows.now) steps.now clause.now) }
+{
+    let mut numbers = Vec::new(alloc);
+    for before in 0..steps.len() {
+        if is_bearer(rows, steps, clause, before + 1) {
+            numbers.push(before + 1)?;
+        }
+    }
+    Ok(numbers)
+}
+
+/// Those of the rows that meet the clause.
+pub fn meeting<'a>(
+    alloc: Global,
+    rows: &[LentRow<'a>],
+    clause: &Clause,
+) -> Result<Vec<LentRow<'a>>, AllocError>
+    ensures { IfOk result (λ met. lent met.items ≡ rules.meeting clause.now (lent rows.now)) }
+{
+    let mut met = Vec::new(alloc);
+    for row in rows {
+        if meets(row.binary, clause) {
+            met.push(*row)?;
+        }
+    }
+    Ok(met)
+}

@@ -1,0 +1,9 @@
+use Rattle.std.proofs.Common.{rules, of_calls}
+use Rattle.std.proofs.lemmas.Fn.{always_returns_same}
+use Rattle.testing_rules_model.specs.Moves.{row_cmp, row_key}
+use Rattle.testing_rules_model.specs.declared.suite.RowIn.{RowIn}
+use Rattle.testing_rules_suites.proofs.suite.place_of_key.Goals as goal
+
+pub returns-clause-found : goal.returns-clause-found
+returns-clause-found c =
+    c.binary_search_by.ensures.position (λ (r : RowIn). row_cmp (row_key r) (row_key c.args.row.now)) (always_returns_same _ _ _ (λ a r f k. search (rules, of_calls)))

@@ -1,0 +1,10 @@
+-- The suites that a run leaves for the next one.
+use Rattle.std.specs.Prelude.{List, Option, Some, None}
+use Rattle.testing_install.specs.Closed.{marked}
+use Rattle.testing_rules_model.specs.declared.suite.RowIn.{RowIn}
+use Rattle.testing_rules_suites.specs.Present.{CarriedState, IsShown}
+
+-- of their rows those stand that testing has, where there are any
+abbrev pub AreCarriedOver : Option CarriedState → List RowIn → Type 0
+AreCarriedOver None rows = Unit {0}
+AreCarriedOver (Some s) rows = IsShown s.rows (marked s.stands) rows

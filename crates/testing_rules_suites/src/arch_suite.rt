@@ -1,0 +1,242 @@
+//! The suite of one architecture, over the pool's rows that are on it.
+
+ghost use Rattle.std.specs.Prelude.{◌≡◌, ◌<◌, ◌≤◌, ◌-◌, ◌++◌, [], Bool, List, true, false, length, take, map, filter, replicate, slice_index, Some, None, IfOk, OnOk, OnErr};
+ghost use Rattle.std.specs.List.{All, range_with_len, slice_get};
+ghost use Rattle.testing_install.specs.Rows.{shared};
+ghost use Rattle.testing_rules_suites.specs.ArchRows.{AreAscending, AreNumbers, IsNumberOf, IsAfter, AreLostFrom, package_at};
+ghost use Rattle.testing_rules_suites.specs.PresentSteps.{IsOver, IsSuiteOn};
+ghost use Rattle.testing_rules_suites.specs.Trials.{is_place_on};
+
+use crate::offender::is_row_on;
+use crate::pool::Pool;
+use deb_control::Binary;
+use deb_version::NoMemory;
+use smallvec::SmallVec;
+use std::alloc::Global;
+use std::marker::Model;
+use std::rc::Rc;
+use testing_install::Suite;
+
+/// The row at the place is on the architecture.
+fn is_place_on(arch: u32, pool: &Pool, place: usize) -> bool
+    requires { place < length pool.now }
+    ensures { result ≡ is_place_on arch pool.now place }
+{
+    is_row_on(arch, &pool.row(place))
+}
+
+/// The places, from one on, of the pool's rows that are on the architecture.
+fn places_on(
+    alloc: Global,
+    arch: u32,
+    pool: &Pool,
+    from: usize,
+) -> Result<SmallVec<usize, 4>, NoMemory>
+    requires { from ≤ length pool.now }
+    ensures { IfOk result (λ places. places.items ≡ filter (is_place_on arch pool.now) (range_with_len from (length pool.now - from))) }
+{
+    let mut places = SmallVec::new(alloc);
+    for place in from..pool.len() {
+        if is_place_on(arch, pool, place) {
+            places.push(place)?;
+        }
+    }
+    Ok(places)
+}
+
+/// The packages of the rows at the places, shared.
+fn packages_at(alloc: Global, pool: &Pool, places: &[usize]) -> Result<Vec<Rc<Binary>>, NoMemory>
+    requires { All (λ k. k < length pool.now) places.now }
+    ensures { IfOk result (λ packages. map (λ b. Some b) (shared packages.items) ≡ map (package_at pool.now) places.now) }
+{
+    let mut packages = Vec::with_capacity(alloc, places.len())?;
+    for place in places {
+        packages.push(pool.package(*place)?)?;
+    }
+    Ok(packages)
+}
+
+/// The number that the place has if the places from the first one up to it stand side by side.
+fn likely_number(places: &[usize], place: usize) -> usize {
+    match places.first() {
+        Some(first) => place.saturating_sub(*first),
+        None => 0,
+    }
+}
+
+/// The place has the number.
+fn has_number(places: &[usize], place: usize, number: usize) -> bool
+    ensures { result ≡ true → slice_get places.now number ≡ Some place }
+{
+    match places.get(number) {
+        Some(other) => *other == place,
+        None => false,
+    }
+}
+
+/// The place comes before the first of those that ascend.
+fn is_before(places: &[usize], place: usize) -> bool
+    requires { AreAscending places.now }
+    ensures { result ≡ true → IsNumberOf places.now place None }
+{
+    match places.first() {
+        Some(first) => place < *first,
+        None => false,
+    }
+}
+
+/// The place comes behind the last of those that ascend.
+fn is_behind(places: &[usize], place: usize) -> bool
+    requires { AreAscending places.now }
+    ensures { result ≡ true → IsNumberOf places.now place None }
+{
+    match places.last() {
+        Some(last) => *last < place,
+        None => false,
+    }
+}
+
+/// The number of the place among those that ascend, where it is one of them. Most rows of an architecture stand side
+/// by side in the pool. So the likely number is tried first, and then whether the place is outside. A search by halves
+/// comes last.
+fn number_of(places: &[usize], place: usize) -> Option<usize>
+    requires { AreAscending places.now }
+    ensures { IsNumberOf places.now place result }
+{
+    let likely = likely_number(places, place);
+    if has_number(places, place, likely) {
+        return Some(likely);
+    }
+    if is_before(places, place) || is_behind(places, place) {
+        return None;
+    }
+    places.binary_search(&place).ok()
+}
+
+/// The numbers of the places among those that ascend. What isn't one of them is left out.
+fn numbers_of(
+    alloc: Global,
+    own: &[usize],
+    places: &[usize],
+) -> Result<SmallVec<usize, 4>, NoMemory>
+    requires { AreAscending own.now }
+    ensures { IfOk result (λ numbers. AreNumbers own.now places.now numbers.items) }
+{
+    let mut numbers = SmallVec::new(alloc);
+    for place in places {
+        if let Some(number) = number_of(own, *place) {
+            numbers.push(number)?;
+        }
+    }
+    Ok(numbers)
+}
+
+/// The places of the numbers.
+fn places_of(
+    alloc: Global,
+    own: &[usize],
+    numbers: &[usize],
+) -> Result<SmallVec<usize, 4>, NoMemory>
+    requires { All (λ i. i < length own.now) numbers.now }
+    ensures { IfOk result (λ places. places.items ≡ map (slice_index own.now) numbers.now) }
+{
+    let mut places = SmallVec::new(alloc);
+    for number in numbers {
+        places.push(own[*number])?;
+    }
+    Ok(places)
+}
+
+/// A suite of the pool's rows that are on one architecture, and their places in the pool, by which it is asked. So it
+/// costs what these rows cost, and not what the pool costs.
+pub struct ArchSuite {
+    places: Vec<usize>,
+    suite: Suite,
+}
+
+impl Drop for ArchSuite {
+    fn drop(self) {
+        let ArchSuite {
+            places: _,
+            suite: _,
+        } = self;
+    }
+}
+
+impl Model for ArchSuite {
+    ghost use Rattle.testing_rules_suites.specs.ArchRows.{ArchRows, IsArchRows};
+
+    ghost Value = { ArchRows };
+
+    ghost view = { λ s. record { places = s.places.items; suite = s.suite } };
+
+    ghost invariant = { λ s. IsArchRows s.places.items s.suite };
+}
+
+impl ArchSuite {
+    /// The suite of no row.
+    pub fn new(alloc: Global) -> ArchSuite
+        ensures { result ≡ record { places = []; suite = record { rows = []; there = [] } } }
+    {
+        ArchSuite {
+            places: Vec::new(alloc),
+            suite: Suite::new(alloc),
+        }
+    }
+
+    /// The suite with those of the pool's rows from a place on that are on the architecture, of which none is there yet.
+    pub fn with_rows(
+        self,
+        alloc: Global,
+        arch: u32,
+        pool: &Pool,
+        from: usize,
+    ) -> Result<ArchSuite, NoMemory>
+        requires from { from ≤ length pool.now }
+        requires over { IsOver arch (take from pool.now) self }
+        ensures over { IfOk result (λ s. IsOver arch pool.now s) }
+        ensures suite { IfOk result (λ s. (stands : List Bool) → length stands ≡ from → IsSuiteOn arch (take from pool.now) stands self
+            → IsSuiteOn arch pool.now (stands ++ replicate (length pool.now - from) false) s) }
+    {
+        let ArchSuite { mut places, suite } = self;
+        let more = places_on(alloc, arch, pool, from)?;
+        let packages = packages_at(alloc, pool, &more)?;
+        let suite = suite.with_rows(alloc, packages)?;
+        places.extend_from_slice(&more)?;
+        Ok(ArchSuite { places, suite })
+    }
+
+    /// The places of the rows that would be lost if the rows at some places left and then those at others came. The
+    /// suite stays as it is.
+    pub fn trial(
+        &mut self,
+        alloc: Global,
+        leaving: &[usize],
+        coming: &[usize],
+    ) -> Result<SmallVec<usize, 4>, NoMemory>
+        ensures same { self.new ≡ self.old }
+        ensures lost { IfOk result (λ lost. AreLostFrom self.old leaving.now coming.now lost.items) }
+    {
+        let left = numbers_of(alloc, &self.places, leaving)?;
+        let came = numbers_of(alloc, &self.places, coming)?;
+        let lost = self.suite.trial(alloc, &left, &came)?;
+        places_of(alloc, &self.places, &lost)
+    }
+
+    /// The rows at some places leave, and then those at others come. On an error the suite stays as it is.
+    pub fn change(
+        &mut self,
+        alloc: Global,
+        leaving: &[usize],
+        coming: &[usize],
+    ) -> Result<(), NoMemory>
+        ensures places { self.new.places ≡ self.old.places }
+        ensures rows { self.new.suite.rows ≡ self.old.suite.rows }
+        ensures there { OnOk result (IsAfter self.old leaving.now coming.now self.new.suite.there) }
+        ensures err { OnErr result (self.new ≡ self.old) }
+    {
+        let left = numbers_of(alloc, &self.places, leaving)?;
+        let came = numbers_of(alloc, &self.places, coming)?;
+        self.suite.change(alloc, &left, &came)
+    }
+}

@@ -1,0 +1,165 @@
+//! Suites of which other rows shall stand: those of a testing before a run that changed its suites.
+
+ghost use Rattle.std.specs.Prelude.{◌≡◌, ℕ, ◌<◌, ◌≤◌, ◌-◌, ◌++◌, ◌∷◌, [], true, false, List, filter, length, replicate, Some, OnOk, IfOk, IfSome};
+ghost use Rattle.std.specs.List.{All, range_with_len, slice_get};
+ghost use Rattle.testing_install.specs.Closed.{marked};
+ghost use Rattle.testing_rules_model.specs.InOrder.{AreByKey};
+ghost use Rattle.testing_rules_model.specs.JudgedRows.{lent};
+ghost use Rattle.testing_rules_model.specs.declared.suite.RowIn.{RowIn as ARow};
+ghost use Rattle.testing_rules_suites.specs.Present.{IsShown};
+ghost use Rattle.testing_rules_suites.specs.Standing.{AreWanted, is_alone};
+
+use crate::carried_suites::CarriedSuites;
+use crate::lent_rows::order_rows;
+use crate::{Change, Pool};
+use deb_version::NoMemory;
+use smallvec::SmallVec;
+use std::alloc::Global;
+use testing_rules_model::{LentRow, RowIn, is_row};
+
+/// Where a row was found in a pool, if it was, and at which of the places the search for the next row begins.
+#[derive(Clone, Copy)]
+struct Found {
+    place: Option<usize>,
+    next: usize,
+}
+
+/// Looks for a row at places of the pool, from one of them on. Where the places are in the order of the keys of their rows,
+/// and no row of a lower key is looked for after it, a row is found that is there.
+fn look_for(pool: &Pool, places: &[usize], from: usize, row: &RowIn) -> Found
+    requires { All (λ k. k < length pool.now) places.now }
+    ensures { IfSome result.place (λ k. slice_get pool.now k ≡ Some row.now) }
+{
+    let wanted = row.lend();
+    for next in from..places.len() {
+        let place = places[next];
+        let other = pool.row(place);
+        if is_row(&other, row) {
+            return Found {
+                place: Some(place),
+                next: next + 1,
+            };
+        }
+        if order_rows(&wanted, &other).is_lt() {
+            return Found { place: None, next };
+        }
+    }
+    Found {
+        place: None,
+        next: places.len(),
+    }
+}
+
+/// One row more shall stand: at the place where the pool has it, or else it is lacking there.
+fn want<'a>(
+    flags: &mut Vec<bool>,
+    lacking: &mut Vec<LentRow<'a>>,
+    place: Option<usize>,
+    row: &'a RowIn,
+) -> Result<(), NoMemory>
+    requires { IfSome place (λ k. k < length flags.old.items) }
+    ensures { OnOk result ((pool rows : List ARow) → IfSome place (λ k. slice_get pool k ≡ Some row.now) → AreWanted pool rows flags.old.items (lent lacking.old.items)
+        → AreWanted pool (rows ++ row.now ∷ []) flags.new.items (lent lacking.new.items)) }
+{
+    match place {
+        Some(place) => {
+            flags[place] = true;
+            Ok(())
+        }
+        None => Ok(lacking.push(row.lend())?),
+    }
+}
+
+/// Sets the flags of a pool's rows that shall stand, and gives those that it doesn't have.
+fn wanted<'a>(
+    alloc: Global,
+    pool: &Pool,
+    rows: &'a [RowIn],
+    flags: &mut Vec<bool>,
+) -> Result<Vec<LentRow<'a>>, NoMemory>
+    requires { AreWanted pool.now [] flags.old.items [] }
+    ensures { IfOk result (λ lacking. AreWanted pool.now rows.now flags.new.items (lent lacking.items)) }
+{
+    let places = pool.order();
+    let mut lacking = Vec::new(alloc);
+    let mut next = 0;
+    for row in rows {
+        let found = look_for(pool, places, next, row);
+        next = found.next;
+        want(flags, &mut lacking, found.place, row)?;
+    }
+    Ok(lacking)
+}
+
+/// So many flags, of which none is set.
+fn no_flags(alloc: Global, count: usize) -> Result<Vec<bool>, NoMemory>
+    ensures { IfOk result (λ flags. flags.items ≡ replicate count false) }
+{
+    let mut flags = Vec::new(alloc);
+    flags.resize(count, false)?;
+    Ok(flags)
+}
+
+/// Flags that are set come behind the others, up to so many.
+fn raise_more(flags: &mut Vec<bool>, count: usize) -> Result<(), NoMemory>
+    requires { length flags.old.items ≤ count }
+    ensures { OnOk result (flags.new.items ≡ flags.old.items ++ replicate (count - length flags.old.items) true) }
+{
+    flags.resize(count, true)?;
+    Ok(())
+}
+
+/// The flag of the first ones is set at the place, and that of the others isn't.
+fn is_alone(flags: &[bool], others: &[bool], place: usize) -> bool
+    requires first { place < length flags.now }
+    requires other { place < length others.now }
+    ensures { result ≡ is_alone flags.now others.now place }
+{
+    flags[place] && !others[place]
+}
+
+/// The places where a flag of the first ones is set, and that of the others isn't.
+fn set_alone(alloc: Global, flags: &[bool], others: &[bool]) -> Result<SmallVec<usize, 4>, NoMemory>
+    requires { length flags.now ≡ length others.now }
+    ensures { IfOk result (λ places. places.items ≡ filter (is_alone flags.now others.now) (range_with_len 0 (length flags.now))) }
+{
+    let mut places = SmallVec::new(alloc);
+    for place in 0..flags.len() {
+        if is_alone(flags, others, place) {
+            places.push(place)?;
+        }
+    }
+    Ok(places)
+}
+
+/// The suites once those rows stand whose flags are set, and no others.
+fn with_flags(
+    alloc: Global,
+    suites: CarriedSuites,
+    flags: &[bool],
+) -> Result<CarriedSuites, NoMemory>
+    requires { length flags.now ≡ length suites.rows }
+    ensures { IfOk result (λ s. (s.rows ≡ suites.rows) × ((k : ℕ) → marked s.stands k ≡ marked flags.now k)) }
+{
+    let leaving = set_alone(alloc, suites.stands(), flags)?;
+    let coming = set_alone(alloc, flags, suites.stands())?;
+    let change = Change { leaving, coming };
+    suites.after(alloc, &change)
+}
+
+/// Suites of which these rows stand, and no others, made of such ones of which others may stand: in time about what differs,
+/// beside a look at each row. Their pool keeps its rows; those that it doesn't have come behind them.
+pub fn over_rows(
+    alloc: Global,
+    suites: CarriedSuites,
+    rows: &[RowIn],
+) -> Result<CarriedSuites, NoMemory>
+    requires { AreByKey rows.now }
+    ensures { IfOk result (λ s. IsShown s.rows (marked s.stands) rows.now) }
+{
+    let mut flags = no_flags(alloc, suites.len())?;
+    let lacking = wanted(alloc, suites.pool(), rows, &mut flags)?;
+    let suites = suites.with_rows(alloc, &lacking)?;
+    raise_more(&mut flags, suites.len())?;
+    with_flags(alloc, suites, &flags)
+}

@@ -1,7 +1,0 @@
-use Rattle.std.proofs.Common.{◌≡◌, map, take, Some}
-use Rattle.testing_tables.specs.TableSteps.{shown_letter, letter_entry}
-use Rattle.testing_tables.proofs.mail.letters_in.Given as goal
-
--- the rows so far show the letters so far
-abbrev pub invariant-rows : goal.invariant-rows
-invariant-rows l = record { so_far : map shown_letter (take l.row-index l.rows) ≡ map Some (map (letter_entry l.sender) l.letters.items) }
