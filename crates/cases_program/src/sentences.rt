@@ -1,12 +1,12 @@
 //! The sentences of faults: of a store, and of a setup's file that isn't there. All end with status 4.
 
 use cases_faults::{Met, due};
-use office_cli::{StoreFault, conf_status, read_setup, store_status};
+use office_cli::{FileFault, conf_status, read_setup, store_status};
 use sqlite::{Error, ErrorCode};
 use std::alloc::Global;
 
 /// A fault of a store is told by this sentence, and ends with status 4.
-fn tells(alloc: Global, fault: StoreFault, sentence: &str) -> Result<(), Met> {
+fn tells(alloc: Global, fault: FileFault, sentence: &str) -> Result<(), Met> {
     let status = store_status(&fault);
     match format!(in alloc; "{fault}") {
         Ok(text) => due(
@@ -21,22 +21,22 @@ fn tells(alloc: Global, fault: StoreFault, sentence: &str) -> Result<(), Met> {
 pub fn try_store_faults(alloc: Global) -> Result<(), Met> {
     tells(
         alloc,
-        StoreFault::Unopened(Error::SqliteFailure(ErrorCode::DatabaseBusy)),
+        FileFault::Unopened(Error::SqliteFailure(ErrorCode::DatabaseBusy)),
         "the store can't be opened: database is locked: end the program that has it open",
     )?;
     tells(
         alloc,
-        StoreFault::OtherSetup,
+        FileFault::OtherSetup,
         "the store was made for another setup: name that setup, or another file",
     )?;
     tells(
         alloc,
-        StoreFault::Unreadable,
+        FileFault::Unreadable,
         "the store is of an earlier version, and lacks an order, or has a text among its orders and its release mail that is no message of its own: put a copy in its place",
     )?;
     tells(
         alloc,
-        StoreFault::Failed(Error::SqliteFailure(ErrorCode::DiskFull)),
+        FileFault::Failed(Error::SqliteFailure(ErrorCode::DiskFull)),
         "the store failed: database or disk is full: make room on the disk, and start again",
     )
 }

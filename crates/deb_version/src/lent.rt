@@ -3,7 +3,7 @@ ghost use Rattle.std.specs.Prelude.{◌≡◌};
 ghost use Rattle.deb_version.specs.Order.{text_cmp};
 
 use super::faults::CompareFault;
-use super::split::{order_split, split_text};
+use super::split::{compare_split, split_text};
 use std::cmp::Ordering;
 
 /// The order of the versions that two texts state (Debian Policy 5.6.12), or the fault of the first text
@@ -14,5 +14,5 @@ pub fn compare_texts(a: &str, b: &str) -> Result<Ordering, CompareFault>
     let (a, b) = (a.as_bytes(), b.as_bytes());
     let first = split_text(a).map_err(CompareFault::First)?;
     let second = split_text(b).map_err(CompareFault::Second)?;
-    Ok(order_split(a, first, b, second))
+    Ok(compare_split(a, first, b, second))
 }

@@ -17,7 +17,7 @@ mod split;
 pub use faults::{CompareFault, NoMemory, VersionFault};
 pub use lent::compare_texts;
 pub use small_string::SmallString;
-use split::{Split, order_split, split_text};
+use split::{Split, compare_split, split_text};
 use std::alloc::Global;
 use std::cmp::Ordering;
 use std::marker::Model;
@@ -65,7 +65,7 @@ impl Version {
     pub fn order(&self, other: &Version) -> Ordering
         ensures { result ≡ version_cmp self.now other.now }
     {
-        order_split(
+        compare_split(
             self.text.as_str().as_bytes(),
             self.split,
             other.text.as_str().as_bytes(),

@@ -76,7 +76,7 @@ pub fn split_text(text: &[u8]) -> Result<Split, VersionFault>
 
 /// The order of two versions, by their texts and how these split. Equal texts, which are the most, need no look at their
 /// parts.
-pub fn order_split(a: &[u8], first: Split, b: &[u8], second: Split) -> Ordering
+pub fn compare_split(a: &[u8], first: Split, b: &[u8], second: Split) -> Ordering
     requires first { IsSplit a.now first.epoch first.start first.upstream_len }
     requires second { IsSplit b.now second.epoch second.start second.upstream_len }
     ensures { result ≡ version_cmp a.now b.now }

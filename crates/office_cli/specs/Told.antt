@@ -10,8 +10,8 @@ use Rattle.office_core_queries.specs.declared.mail.MailCount.{MailCount}
 use Rattle.office_core_queries.specs.Mail.{AreMailCounts, mail_text}
 use Rattle.office_core_orders.specs.declared.waiting_lines.Awaited.{Awaited}
 use Rattle.office_core_orders.specs.declared.waiting_lines.Awaited.TheVariants.{Order, Mail}
-use Rattle.office_cli.specs.declared.reasons.Asked.{Asked}
-use Rattle.office_cli.specs.declared.reasons.Asked.TheVariants.{Last, Earlier, Unfinished}
+use Rattle.office_cli.specs.declared.reasons.WhichRun.{WhichRun}
+use Rattle.office_cli.specs.declared.reasons.WhichRun.TheVariants.{Last, Earlier, Unfinished}
 
 -- the text of a report in an office's state, none where its run isn't finished
 abbrev pub report_text : OfficeState → Report → Option (List ℕ)
@@ -32,7 +32,7 @@ pub record TellsMail (state : OfficeState) (text : List ℕ) : Type 0 where
 
 -- The run that is asked about, where so many are finished: the last finished one, where it or none is named; an earlier one;
 -- or one that isn't finished.
-abbrev pub IsAsked : ℕ → Option ℕ → Asked → Type 0
+abbrev pub IsAsked : ℕ → Option ℕ → WhichRun → Type 0
 IsAsked finished run (Last k) = (k ≡ finished) × ((run ≡ None) ⊎ (run ≡ Some k))
 IsAsked finished run (Earlier k) = (run ≡ Some k) × (k < finished)
 IsAsked finished run Unfinished = (k : ℕ) × (run ≡ Some k) × (finished < k)

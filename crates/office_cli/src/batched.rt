@@ -14,15 +14,15 @@ const INTERIM: &[u8] = b"HTTP/1.1 1";
 /// A connection whose writes are held back until they are flushed, or until the next one doesn't fit beside them. An
 /// interim reply goes at once.
 #[derive(Drop)]
-pub struct Batched<'a> {
+pub struct BatchedWriter<'a> {
     stream: &'a TcpStream,
     held: ArrayVec<u8, ROOM>,
 }
 
-impl<'a> Batched<'a> {
+impl<'a> BatchedWriter<'a> {
     /// Nothing is held back yet.
-    pub fn new(stream: &'a TcpStream) -> Batched<'a> {
-        Batched {
+    pub fn new(stream: &'a TcpStream) -> BatchedWriter<'a> {
+        BatchedWriter {
             stream,
             held: ArrayVec::new(),
         }
@@ -37,7 +37,7 @@ impl<'a> Batched<'a> {
     }
 }
 
-impl Write for Batched<'_> {
+impl Write for BatchedWriter<'_> {
     fn write(&mut self, buf: &[u8]) -> io::Result<usize> {
         if !buf.starts_with(INTERIM) && self.held.try_extend_from_slice(buf).is_ok() {
             return Ok(buf.len());

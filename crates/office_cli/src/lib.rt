@@ -17,7 +17,7 @@ mod timed;
 mod trials;
 
 pub use office_store::{
-    ConfFault, StoreFault, close_store, conf_status, open_store, open_tables, read_setup,
+    ConfFault, FileFault, close_store, conf_status, open_store, open_tables, read_setup,
     setup_status, store_status,
 };
 pub use service::{ServiceFault, listen, serve, serve_next, service_status};

@@ -5,15 +5,15 @@ use std::io::Read;
 
 /// A reader, and the system's refusal of the last read that failed.
 #[derive(Drop)]
-pub struct Noted<R> {
+pub struct FaultKeepingReader<R> {
     reader: R,
     fault: Option<io::Error>,
 }
 
-impl<R> Noted<R> {
+impl<R> FaultKeepingReader<R> {
     /// No read has failed.
-    pub fn new(reader: R) -> Noted<R> {
-        Noted {
+    pub fn new(reader: R) -> FaultKeepingReader<R> {
+        FaultKeepingReader {
             reader,
             fault: None,
         }
@@ -25,7 +25,7 @@ impl<R> Noted<R> {
     }
 }
 
-impl<R: Read> Read for Noted<R> {
+impl<R: Read> Read for FaultKeepingReader<R> {
     ghost remaining = { λ n. R.remaining n.reader };
 
     fn read(&mut self, buf: &mut [u8]) -> io::Result<usize> {

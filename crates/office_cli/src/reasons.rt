@@ -21,7 +21,7 @@ const SILENT: u8 = 1;
 
 /// The run that is asked about, beside the finished ones.
 #[derive(Drop)]
-pub enum Asked {
+pub enum WhichRun {
     /// The last finished one, which is asked about where none is named.
     Last { run: u32 },
     /// An earlier one.
@@ -102,7 +102,7 @@ fn tell_why<K: Keeper>(
 ) -> (K, u8) {
     let mut office = office;
     match asked_run(&mut office, run) {
-        Ok(Asked::Earlier { run }) => {
+        Ok(WhichRun::Earlier { run }) => {
             let mut keeper = office.into_keeper();
             let status = tell_earlier(rt, setup, &mut keeper, run, sources);
             (keeper, status)
@@ -115,7 +115,7 @@ fn tell_why<K: Keeper>(
 }
 
 /// The run that is asked about.
-fn asked_run<K: Keeper>(office: &mut Office<K>, run: Option<u32>) -> Result<Asked, StoreFault>
+fn asked_run<K: Keeper>(office: &mut Office<K>, run: Option<u32>) -> Result<WhichRun, StoreFault>
     ensures asked { K.is_trusted office.new → IsSound K.Keeper office.old → IfOk result (IsAsked (state_of K.Keeper office.old).finished run) }
     // Nothing is finished and nothing else changes.
     ensures same { K.is_trusted office.new → K.content office.new ≡ K.content office.old }
@@ -125,13 +125,13 @@ fn asked_run<K: Keeper>(office: &mut Office<K>, run: Option<u32>) -> Result<Aske
 }
 
 /// The run that is asked about, where so many are finished.
-fn asked_of(finished: u32, run: Option<u32>) -> Asked
+fn asked_of(finished: u32, run: Option<u32>) -> WhichRun
     ensures { IsAsked finished run result }
 {
     match run {
-        Some(run) if run < finished => Asked::Earlier { run },
-        Some(run) if run > finished => Asked::Unfinished,
-        _ => Asked::Last { run: finished },
+        Some(run) if run < finished => WhichRun::Earlier { run },
+        Some(run) if run > finished => WhichRun::Unfinished,
+        _ => WhichRun::Last { run: finished },
     }
 }
 
@@ -140,11 +140,11 @@ fn asked_of(finished: u32, run: Option<u32>) -> Asked
 fn tell_last<K: Keeper>(
     rt: &HostRuntime,
     office: &mut Office<K>,
-    asked: Result<Asked, StoreFault>,
+    asked: Result<WhichRun, StoreFault>,
     sources: &[&str],
 ) -> u8 {
     match asked {
-        Ok(Asked::Last { run }) => tell_sources(rt, office, run, sources),
+        Ok(WhichRun::Last { run }) => tell_sources(rt, office, run, sources),
         Ok(_) => SILENT,
         Err(fault) => refuse(rt, fault),
     }

@@ -4,9 +4,9 @@ ghost use Rattle.std.specs.Prelude.{◌≡◌};
 ghost use Rattle.std.specs.IoError.{error_kind};
 ghost use Rattle.office_cli.specs.Service.{fault_by, status_of_service};
 
-use crate::batched::Batched;
-use crate::noted::Noted;
-use crate::timed::Timed;
+use crate::batched::BatchedWriter;
+use crate::noted::FaultKeepingReader;
+use crate::timed::DeadlineReader;
 use office_http::{Office, ServeFault, Served, serve_one};
 use office_mail::{FromRead, ToWrite};
 use office_store::Keeper;
@@ -127,9 +127,13 @@ fn accept(rt: &HostRuntime, listener: &TcpListener) -> Result<TcpStream, Service
 /// Serves a connection. A client that is silent, or doesn't take its reply, is one whose read or write fails.
 fn serve_stream<K: Keeper>(rt: &HostRuntime, stream: &TcpStream, office: &mut Office<K>) {
     let _ = stream.set_write_timeout(Some(Duration::from_millis(REPLY)));
-    let mut request = Noted::new(Timed::new(rt, stream, Duration::from_millis(REQUEST)));
+    let mut request = FaultKeepingReader::new(DeadlineReader::new(
+        rt,
+        stream,
+        Duration::from_millis(REQUEST),
+    ));
     let mut reader = FromRead::new(&mut request);
-    let mut reply = Batched::new(stream);
+    let mut reply = BatchedWriter::new(stream);
     let mut writer = ToWrite::new(&mut reply);
     let served = serve_one(office, &mut reader, &mut writer);
     drop(reader);
@@ -143,7 +147,10 @@ fn serve_stream<K: Keeper>(rt: &HostRuntime, stream: &TcpStream, office: &mut Of
 }
 
 /// What came of a connection, once all of its reply is sent.
-fn sent(served: Result<Served, ServeFault>, reply: &mut Batched<'_>) -> Result<Served, ServeFault> {
+fn sent(
+    served: Result<Served, ServeFault>,
+    reply: &mut BatchedWriter<'_>,
+) -> Result<Served, ServeFault> {
     let flushed = reply.flush();
     let served = served?;
     match flushed {
@@ -168,7 +175,7 @@ fn end(rt: &HostRuntime, stream: &TcpStream) {
     if stream.shutdown(Shutdown::Write).is_err() {
         return;
     }
-    let mut reader = Timed::new(rt, stream, Duration::from_millis(LINGER));
+    let mut reader = DeadlineReader::new(rt, stream, Duration::from_millis(LINGER));
     let mut dropped = [0u8; 4096];
     for _ in 0..DRAINS {
         match reader.read(&mut dropped) {

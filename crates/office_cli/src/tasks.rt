@@ -3,7 +3,7 @@
 
 use crate::asking::{Question, tell_answer};
 use crate::checking::tell_check;
-use crate::noted::Noted;
+use crate::noted::FaultKeepingReader;
 use crate::reasons::why_for;
 use crate::service::{serve, service_status};
 use crate::teller::Teller;
@@ -13,7 +13,7 @@ use office_cli_words::{Report, Words, compare, refuse_report};
 use office_http::{Office, Replayed, WriteFault, replay_status, replay_watched};
 use office_mail::{Bag, BagFault, FromRead, Setup, ToWrite};
 use office_store::{
-    ConfFault, Keeper, Plain, StoreFault, Tables, close_store, conf_status, open_store, read_setup,
+    ConfFault, FileFault, Keeper, Plain, Tables, close_store, conf_status, open_store, read_setup,
     store_status,
 };
 use sqlite::{File, FileStore, Unknown};
@@ -122,7 +122,7 @@ pub(crate) fn find_file(rt: &HostRuntime, path: &str) -> io::Result<()> {
 }
 
 /// Looks whether the file is there that a task tells of. Only a replay and a service make one.
-fn look_at(rt: &HostRuntime, path: &str, task: Task) -> io::Result<()> {
+fn find_store_file(rt: &HostRuntime, path: &str, task: Task) -> io::Result<()> {
     match task {
         Task::Waiting | Task::Report(_) | Task::Answer(_) => find_file(rt, path),
         Task::Replay | Task::Serve { .. } | Task::BagWaiting => Ok(()),
@@ -137,7 +137,7 @@ pub(crate) fn tell_unfound(rt: &HostRuntime, path: &str, fault: io::Error) -> u8
 
 /// Does a task in an office whose store is in a file.
 fn run_stored(rt: &HostRuntime, path: &str, setup: Setup, task: Task) -> u8 {
-    if let Err(fault) = look_at(rt, path, task) {
+    if let Err(fault) = find_store_file(rt, path, task) {
         return tell_unfound(rt, path, fault);
     }
     match open_store(rt, path, Unknown, &setup) {
@@ -179,7 +179,7 @@ pub(crate) fn end_store(
 }
 
 /// Says on standard error what a store in a file was refused for, and gives the exit status.
-pub(crate) fn tell_store(rt: &HostRuntime, path: &str, fault: &StoreFault) -> u8 {
+pub(crate) fn tell_store(rt: &HostRuntime, path: &str, fault: &FileFault) -> u8 {
     let _ = eprintln!(rt; "office: {path}: {fault}");
     store_status(fault)
 }
@@ -234,7 +234,7 @@ pub(crate) fn replay_to<K: Keeper, W: Write>(
     output: &mut W,
 ) -> u8 {
     let mut writer = ToWrite::new(&mut *output);
-    let mut input = Noted::new(rt.stdin());
+    let mut input = FaultKeepingReader::new(rt.stdin());
     let mut bag = Bag::new(rt.alloc(), FromRead::new(&mut input));
     let mut replayed = replay_watched(office, &mut bag, &mut writer, &mut Teller::new(rt));
     drop(bag);

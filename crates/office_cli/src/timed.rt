@@ -7,17 +7,17 @@ use std::time::{Duration, Instant};
 
 /// A connection that is read for so long from its first read on. Then each read fails.
 #[derive(Drop)]
-pub struct Timed<'a> {
+pub struct DeadlineReader<'a> {
     rt: &'a HostRuntime,
     stream: &'a TcpStream,
     limit: Duration,
     start: Option<Instant>,
 }
 
-impl<'a> Timed<'a> {
+impl<'a> DeadlineReader<'a> {
     /// The time begins with the first read.
-    pub fn new(rt: &'a HostRuntime, stream: &'a TcpStream, limit: Duration) -> Timed<'a> {
-        Timed {
+    pub fn new(rt: &'a HostRuntime, stream: &'a TcpStream, limit: Duration) -> DeadlineReader<'a> {
+        DeadlineReader {
             rt,
             stream,
             limit,
@@ -34,7 +34,7 @@ impl<'a> Timed<'a> {
     }
 }
 
-impl Read for Timed<'_> {
+impl Read for DeadlineReader<'_> {
     /// One read, which fails as late where the time runs out.
     fn read(&mut self, buf: &mut [u8]) -> io::Result<usize> {
         let left = self.left()?;

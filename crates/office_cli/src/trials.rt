@@ -7,7 +7,7 @@ use crate::telling::{print_text, refuse};
 use deb_control::{NoMemory, Text};
 use office_core_orders::{DeliverFault, fault_words, name_at};
 use office_core_outcome::{
-    RefusedHint, Terms, Trial, Tried, has_changes, release_place, tried_text,
+    RefusedHint, Trial, TrialOptions, TrialReport, has_changes, release_place, tried_text,
 };
 use office_http::{Office, StoreFault};
 use office_mail::Setup;
@@ -49,13 +49,13 @@ pub fn try_for(
 }
 
 /// What a trial takes beside the hints, none where a text is no day.
-fn terms_of(day: Option<&str>, all: bool) -> Option<Terms> {
+fn terms_of(day: Option<&str>, all: bool) -> Option<TrialOptions> {
     match day {
-        Some(text) => Some(Terms {
+        Some(text) => Some(TrialOptions {
             day: Some(day_in(text)?),
             all,
         }),
-        None => Some(Terms { day: None, all }),
+        None => Some(TrialOptions { day: None, all }),
     }
 }
 
@@ -69,7 +69,13 @@ fn texts_of(alloc: Global, hints: &[&str]) -> Result<Vec<Text>, NoMemory> {
 }
 
 /// Tries hints over the store in a file, or over the bag on standard input.
-fn try_over(rt: &HostRuntime, db: Option<&str>, setup: Setup, hints: &[Text], terms: Terms) -> u8 {
+fn try_over(
+    rt: &HostRuntime,
+    db: Option<&str>,
+    setup: Setup,
+    hints: &[Text],
+    terms: TrialOptions,
+) -> u8 {
     match db {
         Some(path) => try_stored(rt, path, setup, hints, terms),
         None => try_in_memory(rt, setup, hints, terms),
@@ -77,7 +83,13 @@ fn try_over(rt: &HostRuntime, db: Option<&str>, setup: Setup, hints: &[Text], te
 }
 
 /// Tries hints over the store in a file.
-fn try_stored(rt: &HostRuntime, path: &str, setup: Setup, hints: &[Text], terms: Terms) -> u8 {
+fn try_stored(
+    rt: &HostRuntime,
+    path: &str,
+    setup: Setup,
+    hints: &[Text],
+    terms: TrialOptions,
+) -> u8 {
     if let Err(fault) = find_file(rt, path) {
         return tell_unfound(rt, path, fault);
     }
@@ -92,7 +104,7 @@ fn try_stored(rt: &HostRuntime, path: &str, setup: Setup, hints: &[Text], terms:
 }
 
 /// Tries hints over the bag on standard input. Where the bag is refused or mail was lost, that alone is told.
-fn try_in_memory(rt: &HostRuntime, setup: Setup, hints: &[Text], terms: Terms) -> u8 {
+fn try_in_memory(rt: &HostRuntime, setup: Setup, hints: &[Text], terms: TrialOptions) -> u8 {
     match Plain::new(rt.alloc(), &setup) {
         Ok(plain) => {
             let mut office = Office::new(rt.alloc(), setup, plain);
@@ -110,7 +122,7 @@ fn tell_trial<K: Keeper>(
     rt: &HostRuntime,
     office: &mut Office<K>,
     hints: &[Text],
-    terms: Terms,
+    terms: TrialOptions,
 ) -> u8 {
     match office.try_hints(hints, terms) {
         Ok(Trial::Told(tried)) => print_tried(rt, office.setup(), hints, &tried),
@@ -121,7 +133,7 @@ fn tell_trial<K: Keeper>(
 }
 
 /// Prints what a trial was told, and gives the exit status.
-fn print_tried(rt: &HostRuntime, setup: &Setup, hints: &[Text], tried: &Tried) -> u8 {
+fn print_tried(rt: &HostRuntime, setup: &Setup, hints: &[Text], tried: &TrialReport) -> u8 {
     let sender = name_at(setup, release_place(setup));
     match tried_text(rt.alloc(), sender, hints, tried) {
         Ok(text) => match has_changes(rt.alloc(), tried) {

@@ -15,18 +15,18 @@ use office_store_keeper::{Keeper, MailText};
 /// What a sender answered that was asked for its next number: from which number on its numbers are free, if they are known
 /// to be.
 #[derive(Clone, Copy)]
-pub struct Asked {
+pub struct NextFree {
     pub sender: u32,
     pub free_from: Option<u32>,
 }
 
 /// Whether a sender was asked.
-fn is_asked(asked: &[Asked], sender: u32) -> bool {
+fn is_asked(asked: &[NextFree], sender: u32) -> bool {
     asked.iter().any(|one| one.sender == sender)
 }
 
 /// Whether a number is known to be free by what a sender was asked.
-fn is_free_by(one: &Asked, sender: u32, number: u32) -> bool
+fn is_free_by(one: &NextFree, sender: u32, number: u32) -> bool
     ensures { (kept : Kept) → IsFreeFrom kept one.now.sender one.now.free_from → IsTrue result → get kept (sender, number) ≡ None }
 {
     match one.free_from {
@@ -36,7 +36,7 @@ fn is_free_by(one: &Asked, sender: u32, number: u32) -> bool
 }
 
 /// Whether a number is known to be free.
-fn is_free(asked: &[Asked], sender: u32, number: u32) -> bool
+fn is_free(asked: &[NextFree], sender: u32, number: u32) -> bool
     ensures { (kept : Kept) → AreFreeFrom kept asked.now → IsTrue result → get kept (sender, number) ≡ None }
 {
     'asked: for one in asked {
@@ -60,7 +60,7 @@ fn free_from(next: Option<u32>, number: u32) -> Option<u32>
 /// Asks a sender for its next number, unless it was asked before.
 fn ask<K: Keeper>(
     keeper: &mut K,
-    asked: &mut Vec<Asked>,
+    asked: &mut Vec<NextFree>,
     sender: u32,
     number: u32,
 ) -> Result<(), StoreFault>
@@ -71,7 +71,7 @@ fn ask<K: Keeper>(
         return Ok(());
     }
     let next = stored::next_number(keeper, sender, number)?;
-    asked.push(Asked {
+    asked.push(NextFree {
         sender,
         free_from: free_from(next, number),
     })?;
@@ -81,7 +81,7 @@ fn ask<K: Keeper>(
 /// The kept text, or none.
 pub fn find<K: Keeper>(
     keeper: &mut K,
-    asked: &mut Vec<Asked>,
+    asked: &mut Vec<NextFree>,
     sender: u32,
     number: u32,
 ) -> Result<Option<MailText>, StoreFault>

@@ -15,7 +15,7 @@ ghost use Rattle.office_core_orders.specs.StaysTrusted.{StaysTrusted};
 ghost use Rattle.office_core_facts.specs.Cached.{AreRead};
 ghost use Rattle.office_core_facts.specs.State.{IsOffice};
 
-use crate::asked::{Asked, find};
+use crate::asked::{NextFree, find};
 use crate::posting::{compare, hold};
 use office_core_facts::message_cache::MessageCache;
 use office_core_orders::{DeliverFault, Held, StoreFault};
@@ -28,7 +28,7 @@ pub type Reply = Result<Held, DeliverFault>;
 
 /// What is gathered of texts: the letters that are to be kept, and the answer to each text once they are.
 #[derive(Drop)]
-struct Block {
+struct Batch {
     letters: Vec<NewLetter>,
     replies: Vec<Reply>,
 }
@@ -70,7 +70,7 @@ fn answer_message<K: Keeper>(
     alloc: Global,
     setup: &Setup,
     keeper: &mut K,
-    asked: &mut Vec<Asked>,
+    asked: &mut Vec<NextFree>,
     letters: &mut Vec<NewLetter>,
     message: &Message,
     text: &MailText,
@@ -120,7 +120,7 @@ fn gather<K: Keeper>(
     setup: &Setup,
     keeper: &mut K,
     cache: &mut MessageCache,
-    asked: &mut Vec<Asked>,
+    asked: &mut Vec<NextFree>,
     letters: &mut Vec<NewLetter>,
     text: &MailText,
 ) -> Result<Reply, StoreFault>
@@ -149,7 +149,7 @@ fn gather_all<K: Keeper>(
     keeper: &mut K,
     cache: &mut MessageCache,
     texts: &[MailText],
-    block: &mut Block,
+    block: &mut Batch,
 ) -> Result<(), StoreFault>
     requires letters { block.old.letters.items ≡ [] }
     requires replies { block.old.replies.items ≡ [] }
@@ -222,13 +222,13 @@ pub fn keep_texts<K: Keeper>(
     ensures lasts { StaysTrusted K.Keeper keeper.old keeper.new (is_ok result) }
     ensures counted { Counted (K.refusals keeper.old) (K.refusals keeper.new) result }
 {
-    let mut block = Block {
+    let mut block = Batch {
         letters: Vec::new(alloc),
         replies: Vec::new(alloc),
     };
     gather_all(alloc, setup, keeper, cache, texts, &mut block)?;
     if keep_letters(keeper, &block.letters)? {
-        let Block { letters, replies } = block;
+        let Batch { letters, replies } = block;
         drop(letters);
         Ok(Some(replies))
     } else {

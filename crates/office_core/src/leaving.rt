@@ -21,7 +21,7 @@ ghost use Rattle.office_core_facts.specs.Walk.{said_within};
 use jiff_core::civil::Date;
 use office_core_facts::covered::{KnownFacts, facts};
 use office_core_facts::message_cache::MessageCache;
-use office_core_facts::retaking::go_with;
+use office_core_facts::retaking::follow_testing;
 use office_core_orders::{StoreFault, stored};
 use office_core_outcome::run_beside;
 use office_mail::{RunOrder, Setup, latest_day};
@@ -95,7 +95,7 @@ fn leave<K: Keeper>(
 {
     let testing = stored::next_testing(keeper)?;
     let (earlier, left) = run_beside(alloc, setup, run, date, &known.facts, testing)?;
-    match go_with(
+    match follow_testing(
         alloc,
         setup,
         keeper,

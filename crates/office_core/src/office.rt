@@ -30,7 +30,7 @@ use office_core_facts::message_cache::MessageCache;
 use office_core_orders::ready::ready_count;
 use office_core_orders::waiting::waiting;
 use office_core_orders::{DeliverFault, Held, Progress, StoreFault, Waiting, stored};
-use office_core_outcome::{Terms, Trial, try_hints};
+use office_core_outcome::{Trial, TrialOptions, try_hints};
 use office_core_why::why_text;
 use office_mail::{RunOrder, Setup};
 use office_store_keeper::{Keeper, MailText, Reports};
@@ -277,7 +277,7 @@ impl<K: Keeper> Office<K> {
 
     /// What the next run would decide if these hints were covered too, beside what it would decide without them. Nothing is
     /// kept, and no run is finished. It fails for want of memory or of the store alone.
-    pub fn try_hints(&mut self, hints: &[Text], terms: Terms) -> Result<Trial, StoreFault>
+    pub fn try_hints(&mut self, hints: &[Text], terms: TrialOptions) -> Result<Trial, StoreFault>
         ensures tried { K.is_trusted self.new → IsSound K.Keeper self.old → IfOk result (IsTrial (K.setup self.old) (K.content self.old).kept (state_of K.Keeper self.old).finished terms hints.now) }
         ensures same { K.is_trusted self.new → K.content self.new ≡ K.content self.old }
         ensures setup { K.setup self.new ≡ K.setup self.old }

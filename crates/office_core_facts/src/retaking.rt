@@ -40,7 +40,7 @@ use testing_rules_suites::Testing;
 
 /// The facts of a run go with the testing that it leaves: the uploads of the sources that fell are taken again, and none is
 /// kept that doesn't count there. What changed of their rows is told.
-pub fn go_with<K: Keeper>(
+pub fn follow_testing<K: Keeper>(
     alloc: Global,
     setup: &Setup,
     keeper: &mut K,
@@ -57,15 +57,15 @@ pub fn go_with<K: Keeper>(
         → OnOk result (KeptFacts facts.new (said_within setup.now (K.content keeper.old).kept (slice_index taken.now) (length setup.now.senders)) after.now) }
     ensures looks { ReadsStore K.Keeper keeper.old keeper.new result }
 {
-    has_release(setup);
-    retake(alloc, setup, keeper, facts, taken, before, after)?;
+    one_release_sender(setup);
+    retake_uploads(alloc, setup, keeper, facts, taken, before, after)?;
     facts.trim(after);
     let changes = facts.changes()?;
     Ok(changes)
 }
 
 /// The release team has one sender.
-fn has_release(setup: &Setup)
+fn one_release_sender(setup: &Setup)
     ensures { count_of TheRelease setup.now.senders ≡ 1 }
 {
     let _ = setup.archs();
@@ -73,7 +73,7 @@ fn has_release(setup: &Setup)
 
 /// The facts take the uploads of the sources that fell again, of what each sender says up to its number. So they stand
 /// beside the testing after, which lost these sources, or has them in a lower version. Where none fell nothing is read.
-fn retake<K: Keeper>(
+fn retake_uploads<K: Keeper>(
     alloc: Global,
     setup: &Setup,
     keeper: &mut K,

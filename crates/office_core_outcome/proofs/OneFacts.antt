@@ -12,8 +12,8 @@ use Rattle.office_mail.specs.Runs.{is_covered, latest_day, orders_to}
 use Rattle.office_mail.proofs.KeptFacts.{exact_places, same_kept}
 use Rattle.office_core_facts.specs.Outcome.{item_at, outcome, testing_after}
 use Rattle.office_core_orders.specs.Ready.{HasPlaces}
-use Rattle.testing_rules_reports.specs.declared.telling.Tried.{Tried}
-use Rattle.office_core_outcome.specs.declared.Terms.{Terms}
+use Rattle.testing_rules_reports.specs.declared.telling.TrialReport.{TrialReport}
+use Rattle.office_core_outcome.specs.declared.TrialOptions.{TrialOptions}
 use Rattle.office_core_outcome.specs.declared.Trial.{Trial}
 use Rattle.office_core_outcome.specs.Hints.{first_refused, hint_letters, release, with_letters}
 use Rattle.office_core_outcome.specs.Trial.{IsTrial, IsTrialCover, IsUnbroken, covers_all, decided, items_within, told_on, trial_date, unless_refused}
@@ -58,7 +58,7 @@ module _ (setup : Lists) (kept : Kept) (places : HasPlaces setup kept) (c d : �
 
 module _ (setup : Lists) (kept : Kept) (k : ℕ) (hints : List (List ℕ)) where
   -- what is tried behind so many numbers of the release team, over such mail
-  abbrev over : Date → ℕ → Covered → Tried
+  abbrev over : Date → ℕ → Covered → TrialReport
   over date n mail =
       let before : Suite = testing_after setup kept k in
       record {
@@ -75,7 +75,7 @@ module _ (setup : Lists) (kept : Kept) (k : ℕ) (hints : List (List ℕ)) where
       ap (λ (n : ℕ). unless_refused (first_refused setup n 0 hints) (over date n (items_within setup kept c))) e
       ∙ ap (λ (mail : Covered). unless_refused (first_refused setup (d (release setup)) 0 hints) (over date (d (release setup)) mail)) items
 
-pub one_trial : (setup : Lists) (kept : Kept) (k : ℕ) (terms : Terms) (hints : List (List ℕ)) (t u : Trial) → HasPlaces setup kept → release setup < length setup.senders → IsTrial setup kept k terms hints t → IsTrial setup kept k terms hints u → t ≡ u
+pub one_trial : (setup : Lists) (kept : Kept) (k : ℕ) (terms : TrialOptions) (hints : List (List ℕ)) (t u : Trial) → HasPlaces setup kept → release setup < length setup.senders → IsTrial setup kept k terms hints t → IsTrial setup kept k terms hints u → t ≡ u
 one_trial setup kept k terms hints t u places known a b =
     let same : (s : ℕ) → s < length setup.senders → a.covers s ≡ b.covers s = λ s low. one_cover setup kept k terms.all s (a.covers s) (b.covers s) (a.are s low) (b.are s low) in
     a.told

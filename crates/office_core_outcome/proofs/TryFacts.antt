@@ -11,9 +11,9 @@ use Rattle.office_store_keeper.specs.declared.values.Letter.{Letter}
 use Rattle.office_core_facts.specs.Outcome.{outcome, testing_after}
 use Rattle.office_core_facts.specs.State.{IsOffice}
 use Rattle.testing_rules_reports.specs.declared.telling.Decided.{Decided}
-use Rattle.testing_rules_reports.specs.declared.telling.Tried.{Tried}
+use Rattle.testing_rules_reports.specs.declared.telling.TrialReport.{TrialReport}
 use Rattle.office_core_outcome.specs.declared.RefusedHint.{RefusedHint}
-use Rattle.office_core_outcome.specs.declared.Terms.{Terms}
+use Rattle.office_core_outcome.specs.declared.TrialOptions.{TrialOptions}
 use Rattle.office_core_outcome.specs.declared.Trial.{Trial}
 use Rattle.office_core_outcome.specs.declared.Trial.TheVariants.{Told, Refused}
 use Rattle.office_core_outcome.specs.Hints.{first_refused, release, hint_letters, with_letters}
@@ -31,7 +31,7 @@ module _ (setup : Lists) (content : Content) (date : Date) (covers : ℕ → ℕ
   moved s = ap (λ (r : ℕ). over s r content.testing) next ∙ ap (over s (length content.reports + 1)) office.testing_is
 
   pub tried_is : plain ≡ over mail run content.testing → hinted ≡ over (with_letters setup (release setup) letters mail) run content.testing
-      → ◌≡◌ {A = Tried} (record { run = run; date = date; first = first; without = plain; with = hinted }) (tried setup content.kept (length content.reports) date covers hints)
+      → ◌≡◌ {A = TrialReport} (record { run = run; date = date; first = first; without = plain; with = hinted }) (tried setup content.kept (length content.reports) date covers hints)
   tried_is one two =
       let e_one = one ∙ moved mail in
       let e_two = two ∙ ap (λ (ls : List Letter). over (with_letters setup (release setup) ls mail) run content.testing) lettered ∙ moved (with_letters setup (release setup) (hint_letters setup (covers (release setup)) hints) mail) in
@@ -43,12 +43,12 @@ pub told_refused : (setup : Lists) (kept : Kept) (k : ℕ) (date : Date) (covers
 told_refused setup kept k date covers hints refused e = ap (λ (o : Option RefusedHint). unless_refused o (tried setup kept k date covers hints)) e
 
 -- and one whose hints are tried
-pub told_tried : (setup : Lists) (kept : Kept) (k : ℕ) (date : Date) (covers : ℕ → ℕ) (hints : List (List ℕ)) (t : Tried) → None ≡ first_refused setup (covers (release setup)) 0 hints → t ≡ tried setup kept k date covers hints
+pub told_tried : (setup : Lists) (kept : Kept) (k : ℕ) (date : Date) (covers : ℕ → ℕ) (hints : List (List ℕ)) (t : TrialReport) → None ≡ first_refused setup (covers (release setup)) 0 hints → t ≡ tried setup kept k date covers hints
     → Told t ≡ told_on setup kept k (Some date) covers hints
 told_tried setup kept k date covers hints t e is = ap Told is ∙ ap (λ (o : Option RefusedHint). unless_refused o (tried setup kept k date covers hints)) e
 
 -- a trial over these covers, with this date
-pub is_trial : (setup : Lists) (kept : Kept) (k : ℕ) (terms : Terms) (hints : List (List ℕ)) (covers : ℕ → ℕ) (day : Option Date) (trial : Trial) → AreTrialCovers setup kept k terms.all covers
+pub is_trial : (setup : Lists) (kept : Kept) (k : ℕ) (terms : TrialOptions) (hints : List (List ℕ)) (covers : ℕ → ℕ) (day : Option Date) (trial : Trial) → AreTrialCovers setup kept k terms.all covers
     → trial ≡ told_on setup kept k day covers hints → day ≡ trial_date (latest_day (orders_to setup kept k)) terms.day → IsTrial setup kept k terms hints trial
 is_trial setup kept k terms hints covers day trial are told is = record {
   covers = covers;

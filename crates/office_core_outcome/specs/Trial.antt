@@ -11,9 +11,9 @@ use Rattle.office_mail.specs.Runs.{cover, is_covered, later, latest_day, orders_
 use Rattle.office_core_facts.specs.Outcome.{Outcome, item_at, outcome, testing_after, testing_text}
 use Rattle.office_core_orders.specs.Ready.{HasNumbers}
 use Rattle.testing_rules_reports.specs.declared.telling.Decided.{Decided}
-use Rattle.testing_rules_reports.specs.declared.telling.Tried.{Tried}
+use Rattle.testing_rules_reports.specs.declared.telling.TrialReport.{TrialReport}
 use Rattle.office_core_outcome.specs.declared.RefusedHint.{RefusedHint}
-use Rattle.office_core_outcome.specs.declared.Terms.{Terms}
+use Rattle.office_core_outcome.specs.declared.TrialOptions.{TrialOptions}
 use Rattle.office_core_outcome.specs.declared.Trial.{Trial}
 use Rattle.office_core_outcome.specs.declared.Trial.TheVariants.{Told, NoDate, Refused}
 use Rattle.office_core_outcome.specs.Hints.{release, hint_letters, first_refused, with_letters}
@@ -51,7 +51,7 @@ abbrev pub decided : Lists → ℕ → Outcome → Decided
 decided setup run o = record { excuses = o.excuses; updates = o.updates; testing = testing_text setup run o.testing }
 
 -- what run k + 1 decides without the hints, and with their messages
-abbrev pub tried : Lists → Kept → ℕ → Date → (ℕ → ℕ) → List (List ℕ) → Tried
+abbrev pub tried : Lists → Kept → ℕ → Date → (ℕ → ℕ) → List (List ℕ) → TrialReport
 tried setup kept k date covers hints =
     let mail : Covered = items_within setup kept covers in
     let before : Suite = testing_after setup kept k in
@@ -64,7 +64,7 @@ tried setup kept k date covers hints =
     }
 
 -- the first refused hint, or else what the hints would change
-abbrev pub unless_refused : Option RefusedHint → Tried → Trial
+abbrev pub unless_refused : Option RefusedHint → TrialReport → Trial
 unless_refused (Some refused) t = Refused refused
 unless_refused None t = Told t
 
@@ -74,7 +74,7 @@ told_on setup kept k None covers hints = NoDate
 told_on setup kept k (Some date) covers hints = unless_refused (first_refused setup (covers (release setup)) 0 hints) (tried setup kept k date covers hints)
 
 -- A trial of hints behind k finished runs.
-pub record IsTrial (setup : Lists) (kept : Kept) (k : ℕ) (terms : Terms) (hints : List (List ℕ)) (trial : Trial) : Type 0 where
+pub record IsTrial (setup : Lists) (kept : Kept) (k : ℕ) (terms : TrialOptions) (hints : List (List ℕ)) (trial : Trial) : Type 0 where
   pub covers : ℕ → ℕ
   pub are : AreTrialCovers setup kept k terms.all covers
   pub told : trial ≡ told_on setup kept k (trial_date (latest_day (orders_to setup kept k)) terms.day) covers hints

@@ -9,7 +9,7 @@ ghost use Rattle.office_core_orders.specs.Ready.{HasPlaces};
 ghost use Rattle.office_core_outcome.specs.Hints.{release};
 ghost use Rattle.office_core_outcome.specs.NextRun.{HasCome};
 ghost use Rattle.office_core_outcome.specs.Trial.{AreTrialCovers, IsTrial, decided, trial_date, tried};
-ghost use Rattle.office_core_outcome.specs.declared.Terms.{Terms};
+ghost use Rattle.office_core_outcome.specs.declared.TrialOptions.{TrialOptions};
 ghost use Rattle.office_core_outcome.specs.declared.Trial.{Trial};
 
 /// A tried hint is a promise: where the messages of the hints have come under their numbers, and the order of the next run
@@ -23,6 +23,6 @@ pub fn try_is_next_run()
 
 /// A trial is told one thing: what an office keeps, the terms and the hints leave no other. Every setup has a release team.
 pub fn trials_have_one_end()
-    ensures { (setup : Lists) (kept : Kept) (k : ℕ) (terms : Terms) (hints : List (List ℕ)) (x y : Trial) → HasPlaces setup kept → release setup < length setup.senders
+    ensures { (setup : Lists) (kept : Kept) (k : ℕ) (terms : TrialOptions) (hints : List (List ℕ)) (x y : Trial) → HasPlaces setup kept → release setup < length setup.senders
         → IsTrial setup kept k terms hints x → IsTrial setup kept k terms hints y → x ≡ y }
 {}

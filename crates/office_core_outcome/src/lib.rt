@@ -15,13 +15,13 @@ use jiff_core::civil::Date;
 use office_mail::MailFault;
 pub use release::release_place;
 pub use rules::{RunOutcome, run_beside};
-pub use testing_rules_reports::{Decided, Tried, has_changes, tried_text};
+pub use testing_rules_reports::{Decided, TrialReport, has_changes, tried_text};
 pub use trying::try_hints;
 
 /// What a trial takes beside the hints: a day, if one is given, and whether all mail of all senders is covered that is
 /// kept without a gap.
 #[derive(Clone, Copy, Debug, PartialEq, Eq)]
-pub struct Terms {
+pub struct TrialOptions {
     pub day: Option<Date>,
     pub all: bool,
 }
@@ -37,7 +37,7 @@ pub struct RefusedHint {
 #[derive(Drop)]
 pub enum Trial {
     /// What the next run would decide.
-    Told(Tried),
+    Told(TrialReport),
     /// No run is finished, and no day is given.
     NoDate,
     /// A hint is refused.

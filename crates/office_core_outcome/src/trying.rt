@@ -18,7 +18,7 @@ ghost use Rattle.office_core_outcome.specs.Trial.{IsTrial, decided, items_within
 use crate::covers::trial_covers;
 use crate::deciding::decide_both;
 use crate::hints::take_hints;
-use crate::{Terms, Trial, release_place};
+use crate::{Trial, TrialOptions, release_place};
 use deb_control::Text;
 use jiff_core::civil::Date;
 use office_core_facts::copying::known_to;
@@ -29,7 +29,7 @@ use office_mail::{RunOrder, Setup, latest_day};
 use office_store_keeper::{Keeper, Letter};
 use std::alloc::Global;
 use testing_rules_laws::Facts;
-use testing_rules_reports::{Decided, Tried};
+use testing_rules_reports::{Decided, TrialReport};
 
 /// The later of two days.
 fn later(a: Date, b: Date) -> Date
@@ -109,7 +109,7 @@ fn try_letters<K: Keeper>(
     finished: u32,
     date: Date,
     letters: &[Letter],
-) -> Result<Tried, StoreFault>
+) -> Result<TrialReport, StoreFault>
     requires ahead { (s : ℕ) → s < length setup.now.senders → cover_of orders.now s ≤ slice_index covers.now s }
     ensures tried { K.is_trusted keeper.new → K.is_legible keeper.old → IsOffice setup.now (K.content keeper.old) → orders.now ≡ orders_to setup.now (K.content keeper.old).kept (length (K.content keeper.old).reports) → finished ≡ length (K.content keeper.old).reports
         → IfSome known.now (λ known. AreKnown setup.now (K.content keeper.old) known)
@@ -122,7 +122,7 @@ fn try_letters<K: Keeper>(
     let (without, with) = decide_within(
         alloc, setup, keeper, known, orders, covers, run, date, letters,
     )?;
-    Ok(Tried {
+    Ok(TrialReport {
         run,
         date,
         first,
@@ -171,7 +171,7 @@ fn try_behind<K: Keeper>(
     orders: &[RunOrder],
     finished: u32,
     hints: &[Text],
-    terms: Terms,
+    terms: TrialOptions,
 ) -> Result<Trial, StoreFault>
     ensures tried { K.is_trusted keeper.new → K.is_legible keeper.old → IsOffice setup.now (K.content keeper.old) → orders.now ≡ orders_to setup.now (K.content keeper.old).kept (length (K.content keeper.old).reports) → finished ≡ length (K.content keeper.old).reports
         → IfSome known.now (λ known. AreKnown setup.now (K.content keeper.old) known)
@@ -196,7 +196,7 @@ fn try_after<K: Keeper>(
     orders: &[RunOrder],
     finished: u32,
     hints: &[Text],
-    terms: Terms,
+    terms: TrialOptions,
 ) -> Result<Trial, StoreFault>
     ensures known { K.is_trusted keeper.new → FirstOrders setup.now (K.content keeper.old).kept orders.now → finished ≡ length (K.content keeper.old).reports
         → IfSome known.old (λ known. AreKnown setup.now (K.content keeper.old) known) → IfSome known.new (λ known. AreKnown setup.now (K.content keeper.old) known) }
@@ -222,7 +222,7 @@ pub fn try_hints<K: Keeper>(
     keeper: &mut K,
     known: &mut Option<KnownFacts>,
     hints: &[Text],
-    terms: Terms,
+    terms: TrialOptions,
 ) -> Result<Trial, StoreFault>
     requires known { K.is_trusted keeper.old → IfSome known.old (λ known. AreKnown setup.now (K.content keeper.old) known) }
     ensures tried { K.is_trusted keeper.new → K.is_legible keeper.old → IsOffice setup.now (K.content keeper.old) → IfOk result (IsTrial setup.now (K.content keeper.old).kept (length (K.content keeper.old).reports) terms hints.now) }

@@ -83,14 +83,14 @@ fn push_runs<K: Keeper>(
 {
     let mut done = 0;
     'runs: while done < finished {
-        push_next(text, office, done + 1)?;
+        push_run_line(text, office, done + 1)?;
         done += 1;
     }
     Ok(())
 }
 
 /// The line on a finished run.
-fn push_next<K: Keeper>(
+fn push_run_line<K: Keeper>(
     text: &mut String,
     office: &mut Office<K>,
     run: u32,

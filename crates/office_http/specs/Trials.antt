@@ -10,14 +10,14 @@ use Rattle.office_http_requests.specs.declared.reply.Refusal.TheVariants as refu
 use Rattle.office_http_requests.specs.declared.reply.Answer.{Answer}
 use Rattle.office_http_requests.specs.declared.reply.Answer.TheVariants.{Refused, Delivered, Told, BadHint}
 use Rattle.office_core_outcome.specs.declared.RefusedHint.{RefusedHint}
-use Rattle.office_core_outcome.specs.declared.Terms.{Terms}
+use Rattle.office_core_outcome.specs.declared.TrialOptions.{TrialOptions}
 use Rattle.office_core_outcome.specs.declared.Trial.{Trial}
 use Rattle.office_core_outcome.specs.declared.Trial.TheVariants as trial
 use Rattle.office_core_outcome.specs.Hints.{release}
 use Rattle.testing_rules_reports.specs.Tried.{tried_text}
 
 -- a trial that a request asks for covers the mail of the release team alone, and has no day of its own
-abbrev pub request_terms : Terms
+abbrev pub request_terms : TrialOptions
 request_terms = record { day = None; all = false }
 
 -- the hints of a body, one in each line; an empty body has an empty one

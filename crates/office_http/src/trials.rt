@@ -14,7 +14,9 @@ ghost use Rattle.testing_rules_reports.specs.Tried.{tried_text};
 use deb_control::{NoMemory, Text};
 use office_core::Office;
 use office_core_orders::{DeliverFault, StoreFault, fault_words, name_at};
-use office_core_outcome::{RefusedHint, Terms, Trial, Tried, release_place, tried_text};
+use office_core_outcome::{
+    RefusedHint, Trial, TrialOptions, TrialReport, release_place, tried_text,
+};
 use office_http_requests::{Answer, Refusal};
 use office_mail::Setup;
 use office_store_keeper::Keeper;
@@ -80,7 +82,12 @@ fn refused_line(alloc: Global, hints: &[Text], refused: RefusedHint) -> Result<T
 }
 
 /// The text that tells what hints of the release team would change.
-fn told_text(alloc: Global, setup: &Setup, hints: &[Text], tried: &Tried) -> Result<Text, NoMemory>
+fn told_text(
+    alloc: Global,
+    setup: &Setup,
+    hints: &[Text],
+    tried: &TrialReport,
+) -> Result<Text, NoMemory>
     ensures { IfOk result (λ text. text ≡ tried_text (name_at setup.now (release setup.now)) hints.now tried.now) }
 {
     tried_text(alloc, name_at(setup, release_place(setup)), hints, tried)
@@ -126,7 +133,7 @@ fn try_hints<K: Keeper>(office: &mut Office<K>, hints: &[Text]) -> Result<Answer
     ensures tells { Holds K.Keeper office.old office.new → IfOk result (λ answer. TellsTrial (state_of K.Keeper office.old) hints.now answer) }
     ensures counted { Counted (K.refusals office.old) (K.refusals office.new) result }
 {
-    let terms = Terms {
+    let terms = TrialOptions {
         day: None,
         all: false,
     };

@@ -67,7 +67,7 @@ pub enum HeadScan {
 }
 
 /// Looks for the head of a request.
-fn look_at(seen: &[u8], headers: &mut [HeaderSpan]) -> HeadScan
+fn scan_head(seen: &[u8], headers: &mut [HeaderSpan]) -> HeadScan
     requires { length headers.old ≡ field_room }
     ensures { IsHeadScan seen.now headers.new result }
 {
@@ -98,7 +98,7 @@ fn end_of(seen: &[u8], headers: &mut [HeaderSpan]) -> Option<HeadRead>
     ensures ends { IfSome result (λ ended. (left : Option (List ℕ)) → IsEnd left seen.now seen.now headers.new ended) }
     ensures goes_on { result ≡ None → HasNoRequest seen.now }
 {
-    match look_at(seen, headers) {
+    match scan_head(seen, headers) {
         HeadScan::Whole(head) => Some(HeadRead::Head(head)),
         HeadScan::TooMany => Some(HeadRead::HeadTooLarge),
         HeadScan::Never => Some(HeadRead::BadRequest),

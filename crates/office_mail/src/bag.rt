@@ -160,9 +160,9 @@ impl<R: Feed> Bag<R> {
         loop {
             match self.next_byte()? {
                 Some(byte) => match line.with(byte) {
-                    Step::More(longer) => line = longer,
-                    Step::Whole(length) => return Ok(Some(length)),
-                    Step::Bad => return Err(BagFault::BadHeader),
+                    LineStep::More(longer) => line = longer,
+                    LineStep::Whole(length) => return Ok(Some(length)),
+                    LineStep::Bad => return Err(BagFault::BadHeader),
                 },
                 None if line.place == 0 => return Ok(None),
                 None => return Err(BagFault::Truncated),
@@ -199,7 +199,7 @@ impl<R: Feed> Bag<R> {
             let Some(byte) = self.next_byte()? else {
                 return Err(BagFault::Truncated);
             };
-            hand_out(&mut message, byte)?;
+            push_within_limit(&mut message, byte)?;
         }
         Ok(message)
     }
@@ -251,7 +251,7 @@ struct Line {
 
 /// What one more byte makes of a line.
 #[derive(Drop)]
-enum Step {
+enum LineStep {
     More(Line),
     Whole(u32),
     Bad,
@@ -269,7 +269,7 @@ impl Line {
     }
 
     /// What one more byte makes of the line.
-    fn with(&self, byte: u8) -> Step
+    fn with(&self, byte: u8) -> LineStep
         ensures { StepsTo self.now.place self.now.value byte result }
     {
         if self.place < 5 {
@@ -281,46 +281,46 @@ impl Line {
         self.more_digits(byte)
     }
 
-    fn word(&self, byte: u8) -> Step
+    fn word(&self, byte: u8) -> LineStep
         requires { self.now.place < 5 }
         ensures { StepsTo self.now.place self.now.value byte result }
     {
         if byte != WORD[self.place] {
-            return Step::Bad;
+            return LineStep::Bad;
         }
-        Step::More(Line {
+        LineStep::More(Line {
             place: self.place + 1,
             value: 0,
         })
     }
 
-    fn first_digit(&self, byte: u8) -> Step
+    fn first_digit(&self, byte: u8) -> LineStep
         requires { self.now.place ≡ 5 }
         ensures { StepsTo self.now.place self.now.value byte result }
     {
         if byte < b'0' || byte > b'9' {
-            return Step::Bad;
+            return LineStep::Bad;
         }
-        Step::More(Line {
+        LineStep::More(Line {
             place: 6,
             value: u32::from(byte - b'0'),
         })
     }
 
-    fn more_digits(&self, byte: u8) -> Step
+    fn more_digits(&self, byte: u8) -> LineStep
         requires { 5 < self.now.place }
         ensures { StepsTo self.now.place self.now.value byte result }
     {
         if byte == b'\n' {
-            return Step::Whole(self.value);
+            return LineStep::Whole(self.value);
         }
         if byte < b'0' || byte > b'9' {
-            return Step::Bad;
+            return LineStep::Bad;
         }
         if self.value == 0 || self.value > 99_999_999 {
-            return Step::Bad;
+            return LineStep::Bad;
         }
-        Step::More(Line {
+        LineStep::More(Line {
             place: self.place + 1,
             value: self.value * 10 + u32::from(byte - b'0'),
         })
@@ -351,7 +351,7 @@ fn copied(alloc: Global, pending: &[u8], at: usize, count: u32) -> Result<Vec<u8
 }
 
 /// Adds a byte to what is handed out of a message, but for a surplus.
-fn hand_out(message: &mut Vec<u8>, byte: u8) -> Result<(), BagFault>
+fn push_within_limit(message: &mut Vec<u8>, byte: u8) -> Result<(), BagFault>
     ensures handed { OnOk result ((whole : List ℕ) → message.old.items ≡ handed whole → message.new.items ≡ handed (whole ++ byte ∷ [])) }
     ensures fault { IfErr result (λ fault. fault ≡ BagFault.NoMemory) }
 {

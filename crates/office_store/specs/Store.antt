@@ -13,11 +13,11 @@ use Rattle.office_store.specs.Tables.{IsTrusted}
 use Rattle.office_store_keeper.specs.declared.faults.Cause.TheVariants.{BadRow, Sqlite}
 use Rattle.office_store.specs.declared.opening.OpenFault.{OpenFault}
 use Rattle.office_store.specs.declared.opening.OpenFault.TheVariants as opening
-use Rattle.office_store.specs.declared.store.StoreFault.{StoreFault}
-use Rattle.office_store.specs.declared.store.StoreFault.TheVariants as fault
+use Rattle.office_store.specs.declared.store.FileFault.{FileFault}
+use Rattle.office_store.specs.declared.store.FileFault.TheVariants as fault
 
 -- what a fault of opening the tables is told as
-abbrev pub told : OpenFault → StoreFault
+abbrev pub told : OpenFault → FileFault
 told opening.NoMemory = fault.NoMemory
 told opening.OtherSetup = fault.OtherSetup
 told opening.UnknownSchema = fault.UnknownSchema
@@ -25,7 +25,7 @@ told (opening.Store BadRow) = fault.Unreadable
 told (opening.Store (Sqlite error)) = fault.Failed error
 
 -- the exit status for any fault of a store
-abbrev pub status_of_store : StoreFault → ℕ
+abbrev pub status_of_store : FileFault → ℕ
 status_of_store fault = 4
 
 -- the database that the files held was opened, and it has the tables of an office with this setup: new ones, or as they were left, or migrated

@@ -18,4 +18,4 @@ pub use office_store_keeper::{
 };
 pub use on_sqlite::Tables;
 pub use opening::OpenFault;
-pub use store::{StoreFault, close_store, open_store, open_tables, store_status};
+pub use store::{FileFault, close_store, open_store, open_tables, store_status};

@@ -20,7 +20,7 @@ use thiserror::Error;
 
 /// Why there is no store in a file, or why one wasn't closed.
 #[derive(Clone, Copy, Debug, PartialEq, Eq, Error)]
-pub enum StoreFault {
+pub enum FileFault {
     #[error("the store can't be opened: out of memory: give the program more memory")]
     NoMemory,
     /// The file isn't there and can't be made, is in use, or is no sound database.
@@ -58,30 +58,30 @@ fn remedy(error: &sqlite::Error) -> &'static str {
 }
 
 /// The exit status for a fault of the store: 4.
-pub fn store_status(fault: &StoreFault) -> u8
+pub fn store_status(fault: &FileFault) -> u8
     ensures { result ≡ status_of_store fault.now }
 {
     match fault {
-        StoreFault::NoMemory
-        | StoreFault::Unopened(_)
-        | StoreFault::OtherSetup
-        | StoreFault::UnknownSchema
-        | StoreFault::Unreadable
-        | StoreFault::Failed(_)
-        | StoreFault::Unclosed(_) => 4,
+        FileFault::NoMemory
+        | FileFault::Unopened(_)
+        | FileFault::OtherSetup
+        | FileFault::UnknownSchema
+        | FileFault::Unreadable
+        | FileFault::Failed(_)
+        | FileFault::Unclosed(_) => 4,
     }
 }
 
 /// What a fault of opening the tables is told as.
-fn told(fault: OpenFault) -> StoreFault
+fn told(fault: OpenFault) -> FileFault
     ensures { result ≡ told fault }
 {
     match fault {
-        OpenFault::NoMemory => StoreFault::NoMemory,
-        OpenFault::OtherSetup => StoreFault::OtherSetup,
-        OpenFault::UnknownSchema => StoreFault::UnknownSchema,
-        OpenFault::Store(Cause::BadRow) => StoreFault::Unreadable,
-        OpenFault::Store(Cause::Sqlite(error)) => StoreFault::Failed(error),
+        OpenFault::NoMemory => FileFault::NoMemory,
+        OpenFault::OtherSetup => FileFault::OtherSetup,
+        OpenFault::UnknownSchema => FileFault::UnknownSchema,
+        OpenFault::Store(Cause::BadRow) => FileFault::Unreadable,
+        OpenFault::Store(Cause::Sqlite(error)) => FileFault::Failed(error),
     }
 }
 
@@ -90,7 +90,7 @@ pub fn open_tables<S: Alter + Drop>(
     alloc: Global,
     conn: Connection<S>,
     setup: &Setup,
-) -> Result<Tables<S>, StoreFault>
+) -> Result<Tables<S>, FileFault>
     ensures opened { IfOk result (λ tables. IsTrusted (state S.Store tables.conn) → IsOpened setup.now (state S.Store conn).now (state S.Store tables.conn).now) }
     ensures before { IfOk result (λ tables. IsTrusted (state S.Store tables.conn) → IsTrusted (state S.Store conn)) }
     ensures stays { IfOk result (λ tables. HasCleanDisk (state S.Store tables.conn) → IsTrusted (state S.Store conn) → IsAlone (state S.Store conn).now → IsTrusted (state S.Store tables.conn)) }
@@ -110,14 +110,14 @@ fn open_database<S: Start>(
     rt: &HostRuntime,
     path: &str,
     start: S,
-) -> Result<Connection<FileStore<FileFrom<S>>>, StoreFault>
+) -> Result<Connection<FileStore<FileFrom<S>>>, FileFault>
     ensures opened { IfOk result (λ conn. HasCleanDisk (file_state conn) → files.IsOpened conn) }
     ensures found { IfOk result (λ conn. HasCleanDisk (file_state conn) → FindsIn (image_at S.Start) (file_state conn)) }
     ensures fresh { IfOk result IsNew }
 {
     match Connection::open_from(rt, path, false, start) {
         Ok(conn) => Ok(conn),
-        Err((error, _left)) => Err(StoreFault::Unopened(error)),
+        Err((error, _left)) => Err(FileFault::Unopened(error)),
     }
 }
 
@@ -127,7 +127,7 @@ pub fn open_store<S: Start>(
     path: &str,
     start: S,
     setup: &Setup,
-) -> Result<Tables<FileStore<FileFrom<S>>>, StoreFault>
+) -> Result<Tables<FileStore<FileFrom<S>>>, FileFault>
     ensures opens { IfOk result (λ tables. HasCleanDisk (file_state tables.conn) → OpensStore (image_at S.Start) tables.conn) }
     ensures finds { IfOk result (λ tables. IsTrusted (file_state tables.conn) → FindsStore (image_at S.Start) setup.now tables.conn) }
     ensures setup { IfOk result (λ tables. tables.setup ≡ setup.now) }
@@ -139,9 +139,9 @@ pub fn open_store<S: Start>(
 }
 
 /// Copies what a store in a file has in its log into the file, and closes both.
-pub fn close_store<D: Disk + Drop>(tables: Tables<FileStore<D>>) -> Result<(), StoreFault> {
+pub fn close_store<D: Disk + Drop>(tables: Tables<FileStore<D>>) -> Result<(), FileFault> {
     tables
         .into_connection()
         .close()
-        .map_err(StoreFault::Unclosed)
+        .map_err(FileFault::Unclosed)
 }

@@ -20,7 +20,7 @@ ghost use Rattle.office_store_testing_tables.specs.Loaded.{AreLettersOf};
 ghost use Rattle.office_store_testing_tables.specs.Nearby.{IsKeptAt, read_binary, brought};
 ghost use Rattle.office_store_testing_tables.specs.TableContent.{own_by, message_at as kept_message, source_as, source_of, row_as, row_of, is_arch_place, ReadsEach, put_all_sources, put_all_rows, IsGathered, suite_in};
 
-use crate::loaded::{Block, loaded_text, no_block};
+use crate::loaded::{LoadedLetters, loaded_text, no_block};
 use crate::mail;
 use crate::nearby::{Columns, Listed, bring, message_place};
 use crate::shown::{RowEntry, row_entry, source_entry};
@@ -127,7 +127,7 @@ fn message_near<S: Alter>(
     alloc: Global,
     conn: &mut Connection<S>,
     setup: &Setup,
-    block: &mut Block,
+    block: &mut LoadedLetters,
     listed: Listed<'_>,
     sender: u32,
     number: u32,
@@ -183,7 +183,7 @@ fn read_once<S: Alter>(
     alloc: Global,
     conn: &mut Connection<S>,
     setup: &Setup,
-    block: &mut Block,
+    block: &mut LoadedLetters,
     listed: Listed<'_>,
     last: &mut Option<KeptAt>,
     sender: u32,
@@ -247,7 +247,7 @@ fn source_at<S: Alter>(
     alloc: Global,
     conn: &mut Connection<S>,
     setup: &Setup,
-    block: &mut Block,
+    block: &mut LoadedLetters,
     listed: Listed<'_>,
     row: &Row,
 ) -> Result<SourceIn, KeepFault>
@@ -412,7 +412,7 @@ fn row_at<S: Alter>(
     alloc: Global,
     conn: &mut Connection<S>,
     setup: &Setup,
-    block: &mut Block,
+    block: &mut LoadedLetters,
     listed: Listed<'_>,
     row: &Row,
     last: &mut Option<KeptAt>,
@@ -469,7 +469,7 @@ fn read_rows<S: Alter>(
     conn: &mut Connection<S>,
     setup: &Setup,
     rows: &[Row],
-    block: &mut Block,
+    block: &mut LoadedLetters,
     last: &mut Option<KeptAt>,
 ) -> Result<Vec<RowIn>, KeepFault>
     requires ours { IsTrusted (state S.Store conn.old) → IsOurs (state S.Store conn.old) }

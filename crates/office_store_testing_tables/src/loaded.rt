@@ -9,16 +9,16 @@ use std::alloc::Global;
 
 /// Texts of one sender, by number.
 #[derive(Drop)]
-pub struct Block {
+pub struct LoadedLetters {
     pub sender: u32,
     pub letters: Vec<Letter>,
 }
 
 /// A block of no texts.
-pub fn no_block(alloc: Global) -> Block
+pub fn no_block(alloc: Global) -> LoadedLetters
     ensures { result.letters.items ≡ [] }
 {
-    Block {
+    LoadedLetters {
         sender: 0,
         letters: Vec::new(alloc),
     }
@@ -38,7 +38,7 @@ fn letter_of(letters: &[Letter], number: u32) -> Option<&Letter>
 }
 
 /// The text of a place, where it was loaded.
-pub fn loaded_text(block: &Block, sender: u32, number: u32) -> Option<&[u8]>
+pub fn loaded_text(block: &LoadedLetters, sender: u32, number: u32) -> Option<&[u8]>
     ensures { IfSome result (λ text. (kept : Kept) → AreLettersOf kept block.now.sender block.now.letters.items → get kept (sender, number) ≡ Some text.now) }
 {
     if block.sender != sender {

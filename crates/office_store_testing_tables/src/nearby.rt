@@ -7,7 +7,7 @@ ghost use Rattle.office_store_testing_tables.specs.Tables.{IsTrusted, IsOurs, ke
 ghost use Rattle.office_store_testing_tables.specs.TableSteps.{IsCrowded, Same};
 ghost use Rattle.office_store_testing_tables.specs.Loaded.{AreLettersOf};
 
-use crate::loaded::{Block, loaded_text};
+use crate::loaded::{LoadedLetters, loaded_text};
 use crate::mail;
 use crate::shown::number_in;
 use office_store_keeper::{Cause, KeepFault};
@@ -63,7 +63,7 @@ fn last_wanted(listed: Listed<'_>, sender: u32, number: u32) -> u32 {
 pub fn bring<S: Alter>(
     alloc: Global,
     conn: &mut Connection<S>,
-    block: &mut Block,
+    block: &mut LoadedLetters,
     listed: Listed<'_>,
     sender: u32,
     number: u32,
@@ -82,6 +82,6 @@ pub fn bring<S: Alter>(
     }
     let last = last_wanted(listed, sender, number);
     let letters = mail::load(alloc, conn, sender, number, last)?;
-    *block = Block { sender, letters };
+    *block = LoadedLetters { sender, letters };
     Ok(())
 }

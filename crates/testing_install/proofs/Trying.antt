@@ -9,7 +9,7 @@ use Rattle.testing_install.specs.Index.{PlacesByName}
 use Rattle.testing_install.specs.Suite.{IsRight, IsSuite}
 use Rattle.testing_install.specs.Trials.{IsDifference, IsTried, IsReady}
 use Rattle.testing_install.specs.Tracked.{Tracked, IsTracked}
-use Rattle.testing_install.specs.declared.trials.Tried.{Tried}
+use Rattle.testing_install.specs.declared.trials.LastTrial.{LastTrial}
 use Rattle.testing_install.proofs.Members.{in_filter, from_filter, contains_none, all_from_members}
 use Rattle.testing_install.proofs.Marking.{length-with_all, with_stays, with_here, with_elsewhere, mark_within, same_list}
 
@@ -69,7 +69,7 @@ module _ (kept current : List Bool) (falling rising : List ℕ) (long : length k
   ])
 
 -- what was noted of a trial is remembered rightly
-pub tried_noted : (rows : List Binary) (there kept current : List Bool) (leaving coming : List ℕ) (t : Tried) → length kept ≡ length rows → IsRight rows (after_change leaving coming there) current → t.leaving.items ≡ leaving → t.coming.items ≡ coming → IsDifference kept current t.falling.items → IsDifference current kept t.rising.items → IsTried rows there kept t
+pub tried_noted : (rows : List Binary) (there kept current : List Bool) (leaving coming : List ℕ) (t : LastTrial) → length kept ≡ length rows → IsRight rows (after_change leaving coming there) current → t.leaving.items ≡ leaving → t.coming.items ≡ coming → IsDifference kept current t.falling.items → IsDifference current kept t.rising.items → IsTried rows there kept t
 tried_noted rows there kept current leaving coming t long right el ec fall rise =
     let back = put_back kept current t.falling.items t.rising.items (omega (arith, long, right.installable_len)) fall rise in
     record {
@@ -79,7 +79,7 @@ tried_noted rows there kept current leaving coming t long right el ec fall rise 
     }
 
 -- the change of no rows
-pub nothing_is_tried : (rows : List Binary) (there installable : List Bool) (t : Tried) → t.leaving.items ≡ [] → t.coming.items ≡ [] → t.falling.items ≡ [] → t.rising.items ≡ [] → IsRight rows there installable → IsTried rows there installable t
+pub nothing_is_tried : (rows : List Binary) (there installable : List Bool) (t : LastTrial) → t.leaving.items ≡ [] → t.coming.items ≡ [] → t.falling.items ≡ [] → t.rising.items ≡ [] → IsRight rows there installable → IsTried rows there installable t
 nothing_is_tried rows there installable t el ec ef er right =
     let none : (ks : List ℕ) → ks ≡ [] → (k : ℕ) → Contains ks k → k < length rows = λ ks e k c. absurd (contains_none k (subst (λ xs. Contains xs k) e c)) in
     let same : (ls cs : List ℕ) (xs : List Bool) → ls ≡ [] → cs ≡ [] → after_change ls cs xs ≡ xs = λ ls cs xs ea eb. ap₂ (λ ps qs. after_change ps qs xs) ea eb in
@@ -99,10 +99,10 @@ lost_none rows there [] (x ∷ xs) lost el ec none k = absurd (omega (arith, ec)
 lost_none rows there (x ∷ xs) coming lost el ec none k = absurd (omega (arith, el))
 
 -- what is remembered after a trial that loses nothing
-pub tried_after : (rows : List Binary) (there m kept current : List Bool) (leaving coming : List ℕ) (old new : Tried) → kept ≡ m → IsRight rows there m → IsRight rows (after_change leaving coming there) current → IsTried rows there m old → ((rs : List Binary) (ts : List Bool) → length kept ≡ length rs → IsRight rs (after_change leaving coming ts) current → IsTried rs ts kept old → IsTried rs ts kept new) → IsTried rows there m new
+pub tried_after : (rows : List Binary) (there m kept current : List Bool) (leaving coming : List ℕ) (old new : LastTrial) → kept ≡ m → IsRight rows there m → IsRight rows (after_change leaving coming there) current → IsTried rows there m old → ((rs : List Binary) (ts : List Bool) → length kept ≡ length rs → IsRight rs (after_change leaving coming ts) current → IsTried rs ts kept old → IsTried rs ts kept new) → IsTried rows there m new
 tried_after rows there m kept current leaving coming old new e right after was step =
     subst (λ xs. IsTried rows there xs new) e (step rows there (ap length e ∙ right.installable_len) after (subst (λ xs. IsTried rows there xs old) (sym e) was))
 
 -- a suite is ready where nothing is remembered
-pub ready_begun : (rows : List Binary) (bearers needers : PlacesByName) (there installable : Tracked) (t : Tried) → IsSuite rows bearers needers there installable → t.leaving.items ≡ [] → t.coming.items ≡ [] → t.falling.items ≡ [] → t.rising.items ≡ [] → IsReady rows bearers needers there installable t
+pub ready_begun : (rows : List Binary) (bearers needers : PlacesByName) (there installable : Tracked) (t : LastTrial) → IsSuite rows bearers needers there installable → t.leaving.items ≡ [] → t.coming.items ≡ [] → t.falling.items ≡ [] → t.rising.items ≡ [] → IsReady rows bearers needers there installable t
 ready_begun rows bearers needers there installable t s el ec ef er = record { suite = s; remembered = nothing_is_tried rows there.current installable.current t el ec ef er s.right }

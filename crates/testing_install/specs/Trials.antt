@@ -7,19 +7,19 @@ use Rattle.testing_install.specs.Closed.{marked}
 use Rattle.testing_install.specs.Index.{PlacesByName}
 use Rattle.testing_install.specs.Suite.{IsRight, IsSuite}
 use Rattle.testing_install.specs.Tracked.{Tracked}
-use Rattle.testing_install.specs.declared.trials.Tried.{Tried}
+use Rattle.testing_install.specs.declared.trials.LastTrial.{LastTrial}
 
 -- the places are those that have a mark in the first list, and none in the second
 abbrev pub IsDifference : List Bool → List Bool → List ℕ → Type 0
 IsDifference first second places = (k : ℕ) → Contains places k ↔ ((marked first k ≡ true) × (marked second k ≡ false))
 
 -- the rows whose marks change are rows, and with these changes the suite is right after the change that was tried
-pub record IsTried (rows : List Binary) (there installable : List Bool) (tried : Tried) : Type 0 where
+pub record IsTried (rows : List Binary) (there installable : List Bool) (tried : LastTrial) : Type 0 where
   pub falling_in : All (λ k. k < length rows) tried.falling.items
   pub rising_in : All (λ k. k < length rows) tried.rising.items
   pub right : IsRight rows (after_change tried.leaving.items tried.coming.items there) (after_change tried.falling.items tried.rising.items installable)
 
 -- the suite is right, and would be by what is remembered of a trial
-pub record IsReady (rows : List Binary) (bearers needers : PlacesByName) (there installable : Tracked) (tried : Tried) : Type 0 where
+pub record IsReady (rows : List Binary) (bearers needers : PlacesByName) (there installable : Tracked) (tried : LastTrial) : Type 0 where
   pub suite : IsSuite rows bearers needers there installable
   pub remembered : IsTried rows there.current installable.current tried

@@ -13,7 +13,7 @@ ghost use Rattle.testing_install.specs.Suite.{IsRight, IsChanged};
 use crate::graph::Graph;
 use crate::index::NameIndex;
 use crate::marks::{Marks, set_all};
-use crate::settle::{Falls, look_at, take_turns};
+use crate::settle::{Falls, check_clauses, propagate};
 use deb_control::Binary;
 use deb_version::NoMemory;
 use smallvec::SmallVec;
@@ -157,8 +157,8 @@ pub fn change(
         waiting: SmallVec::from_slice(alloc, leaving)?,
         fallen: SmallVec::new(alloc),
     };
-    look_at(graph, marks, &mut falls, &fresh, None)?;
-    take_turns(graph, marks, &mut falls)?;
+    check_clauses(graph, marks, &mut falls, &fresh, None)?;
+    propagate(graph, marks, &mut falls)?;
     Ok(falls.fallen)
 }
 

@@ -106,7 +106,7 @@ fn look(
 }
 
 /// Looks at the suspect clauses of the rows at the places.
-pub fn look_at(
+pub fn check_clauses(
     graph: &Graph,
     marks: &mut Marks,
     falls: &mut Falls,
@@ -148,16 +148,16 @@ fn look_at_needers(
         → IsSettling (shared graph.now.rows.items) there first marks.new.current falls.new.waiting.items falls.new.fallen.items [] (Some lost.now)) }
 {
     let named = graph.needers.places(lost.name.as_str());
-    look_at(graph, marks, falls, named, Some(lost))?;
+    check_clauses(graph, marks, falls, named, Some(lost))?;
     for provision in lost.provides.as_slice() {
         let given = graph.needers.places(provision.name.as_str());
-        look_at(graph, marks, falls, given, Some(lost))?;
+        check_clauses(graph, marks, falls, given, Some(lost))?;
     }
     Ok(())
 }
 
 /// Gives each waiting row its turn, until none waits: the rows that may have needed it are looked at.
-pub fn take_turns(graph: &Graph, marks: &mut Marks, falls: &mut Falls) -> Result<(), NoMemory>
+pub fn propagate(graph: &Graph, marks: &mut Marks, falls: &mut Falls) -> Result<(), NoMemory>
     requires graph { IsGraph (shared graph.now.rows.items) graph.now.bearers graph.now.needers }
     requires sized { IsSized (shared graph.now.rows.items) marks.old.current falls.old.waiting.items }
     ensures kept { marks.new.kept ≡ marks.old.kept }

@@ -8,7 +8,7 @@ ghost use Rattle.testing_install.specs.Rows.{shared};
 
 use crate::graph::{Graph, empty_graph, with_rows};
 use crate::marks::Marks;
-use crate::trials::{Tried, make_change, nothing_tried, try_change};
+use crate::trials::{LastTrial, make_change, nothing_tried, try_change};
 use deb_control::Binary;
 use deb_version::NoMemory;
 use std::alloc::Global;
@@ -25,7 +25,7 @@ pub struct Suite {
     graph: Graph,
     there: Marks,
     installable: Marks,
-    tried: Tried,
+    tried: LastTrial,
 }
 
 impl Drop for Suite {

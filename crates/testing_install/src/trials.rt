@@ -20,7 +20,7 @@ use std::alloc::Global;
 /// A change that was tried: which rows leave and come, which lose their mark by it, and which get one. Mostly they are
 /// few, and stand in the value itself.
 #[derive(Drop)]
-pub struct Tried {
+pub struct LastTrial {
     pub leaving: SmallVec<usize, 4>,
     pub coming: SmallVec<usize, 4>,
     pub falling: SmallVec<usize, 4>,
@@ -28,13 +28,13 @@ pub struct Tried {
 }
 
 /// The change of no rows, which needs no trial.
-pub fn nothing_tried(alloc: Global) -> Tried
+pub fn nothing_tried(alloc: Global) -> LastTrial
     ensures leaving { result.leaving.items ≡ [] }
     ensures coming { result.coming.items ≡ [] }
     ensures falling { result.falling.items ≡ [] }
     ensures rising { result.rising.items ≡ [] }
 {
-    Tried {
+    LastTrial {
         leaving: SmallVec::new(alloc),
         coming: SmallVec::new(alloc),
         falling: SmallVec::new(alloc),
@@ -48,7 +48,7 @@ fn noted(
     marks: &Marks,
     leaving: &[usize],
     coming: &[usize],
-) -> Result<Tried, NoMemory>
+) -> Result<LastTrial, NoMemory>
     ensures leaving { IfOk result (λ t. t.leaving.items ≡ leaving.now) }
     ensures coming { IfOk result (λ t. t.coming.items ≡ coming.now) }
     ensures falling { IfOk result (λ t. IsDifference marks.now.kept marks.now.current t.falling.items) }
@@ -58,7 +58,7 @@ fn noted(
     let coming = SmallVec::from_slice(alloc, coming)?;
     let falling = marks.falling(alloc)?;
     let rising = marks.rising(alloc)?;
-    Ok(Tried {
+    Ok(LastTrial {
         leaving,
         coming,
         falling,
@@ -67,7 +67,13 @@ fn noted(
 }
 
 // Remembers the change that is being tried, if there is memory for it.
-fn remember(alloc: Global, marks: &Marks, tried: &mut Tried, leaving: &[usize], coming: &[usize])
+fn remember(
+    alloc: Global,
+    marks: &Marks,
+    tried: &mut LastTrial,
+    leaving: &[usize],
+    coming: &[usize],
+)
     ensures { (rows : List TheBinary) (there : List Bool) → length marks.now.kept ≡ length rows
         → IsRight rows (after_change leaving.now coming.now there) marks.now.current
         → IsTried rows there marks.now.kept tried.old → IsTried rows there marks.now.kept tried.new }
@@ -92,7 +98,7 @@ pub fn try_change(
     graph: &Graph,
     there: &mut Marks,
     marks: &mut Marks,
-    tried: &mut Tried,
+    tried: &mut LastTrial,
     leaving: &[usize],
     coming: &[usize],
 ) -> Result<Vec<usize>, NoMemory>
@@ -132,7 +138,7 @@ fn set_both(marks: &mut Marks, leaving: &[usize], coming: &[usize]) -> Result<()
 }
 
 // Whether these rows left and came in the change that was tried.
-fn is_of(tried: &Tried, leaving: &[usize], coming: &[usize]) -> bool
+fn is_of(tried: &LastTrial, leaving: &[usize], coming: &[usize]) -> bool
     ensures leaving { result ≡ true → tried.now.leaving.items ≡ leaving.now }
     ensures coming { result ≡ true → tried.now.coming.items ≡ coming.now }
 {
@@ -145,7 +151,7 @@ pub fn make_change(
     graph: &Graph,
     there: &mut Marks,
     marks: &mut Marks,
-    tried: &Tried,
+    tried: &LastTrial,
     leaving: &[usize],
     coming: &[usize],
 ) -> Result<(), NoMemory>

@@ -50,7 +50,7 @@ fn look(
 }
 
 // Looks at each of the claims, which may have rested on a lost row.
-fn look_at(
+fn check_clauses(
     ground: &Ground<'_, '_>,
     state: &mut State,
     claims: &[usize],
@@ -69,7 +69,7 @@ fn look_at(
 }
 
 // Gives each waiting row its turn, until none waits.
-fn take_turns(alloc: Global, ground: &Ground<'_, '_>, state: &mut State) -> Result<(), NoMemory>
+fn propagate(alloc: Global, ground: &Ground<'_, '_>, state: &mut State) -> Result<(), NoMemory>
     requires ground { IsGround (binaries ground.now.rows.now) ground.now.claims.items ground.now.bearers }
     requires work { IsWork (binaries ground.now.rows.now) state.old [] }
     requires small { length ground.now.rows.now < 2 ^ 64 }
@@ -78,7 +78,7 @@ fn take_turns(alloc: Global, ground: &Ground<'_, '_>, state: &mut State) -> Resu
     ensures counted { OnOk result (min state.old.looks (2 ^ 64 - 1) ≤ state.new.looks) }
 {
     while let Some(lost) = state.next_turn(alloc) {
-        look_at(ground, state, &lost.claims, Some(lost.place))?;
+        check_clauses(ground, state, &lost.claims, Some(lost.place))?;
     }
     Ok(())
 }
@@ -103,7 +103,7 @@ pub fn worked(alloc: Global, ground: &Ground<'_, '_>) -> Result<State, NoMemory>
 {
     let mut state = State::new(alloc, ground.rows.len())?;
     let claims = all_claims(alloc, ground.claims.len())?;
-    look_at(ground, &mut state, &claims, None)?;
-    take_turns(alloc, ground, &mut state)?;
+    check_clauses(ground, &mut state, &claims, None)?;
+    propagate(alloc, ground, &mut state)?;
     Ok(state)
 }

@@ -11,7 +11,7 @@ use Rattle.testing_rules_model.specs.FactLists.{FactLists}
 use Rattle.testing_rules_model.specs.JudgedRows.{lent}
 use Rattle.testing_rules_model.specs.Suite.{Suite}
 use Rattle.testing_rules_model.specs.Unstable.{built_rows, is_in_force, is_of_source}
-use Rattle.testing_rules_excuses.specs.declared.saying.Said.{Said}
+use Rattle.testing_rules_excuses.specs.declared.saying.SourceFacts.{SourceFacts}
 
 -- rows of unstable, states of bugs, hints in force, and the source's version in testing
 pub record SaidLists : Type 0 where
@@ -21,7 +21,7 @@ pub record SaidLists : Type 0 where
   pub testing : Option Text
 
 -- as the code has them
-abbrev pub said_lists : Said → SaidLists
+abbrev pub said_lists : SourceFacts → SaidLists
 said_lists s = record { rows = lent s.rows.items; bugs = unboxed s.bugs.now; hints = s.hints.items; testing = option_copied s.testing }
 
 -- what facts and testing say of a source: unstable's rows that name it, the states of all bugs, the hints that no unhint names, and its

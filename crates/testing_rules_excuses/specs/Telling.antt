@@ -4,18 +4,18 @@ use Rattle.std.specs.Prelude.{Option}
 use Rattle.testing_rules_items.specs.Words.{Text}
 use Rattle.testing_rules_model.specs.declared.excuse.Excuse.{Excuse}
 use Rattle.testing_rules_model.specs.declared.excuse.Reason.{Reason}
-use Rattle.testing_rules_excuses.specs.declared.telling.Asked.{Asked}
+use Rattle.testing_rules_excuses.specs.declared.telling.LineInput.{LineInput}
 use Rattle.testing_rules_excuses.specs.Lines.{reason_text, excuse_lines, origin_text}
 use Rattle.testing_rules_excuses.specs.Said.{said_lists}
 
 -- the lines on a reason
-abbrev pub reason_told : Asked → Reason → Text
+abbrev pub reason_told : LineInput → Reason → Text
 reason_told a reason = reason_text a.senders.now a.archs.now (said_lists a.said.now) a.upload.now a.ready reason
 
 -- the lines on the reasons of its excuse
-abbrev pub excuse_told : Asked → Option Excuse → Text
+abbrev pub excuse_told : LineInput → Option Excuse → Text
 excuse_told a excuse = excuse_lines a.senders.now a.archs.now (said_lists a.said.now) a.upload.now a.ready excuse
 
 -- all its lines
-abbrev pub source_told : Asked → Option Excuse → Text
+abbrev pub source_told : LineInput → Option Excuse → Text
 source_told a excuse = origin_text a.senders.now a.archs.now (said_lists a.said.now) a.upload.now excuse a.ready

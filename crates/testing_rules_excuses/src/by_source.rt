@@ -17,7 +17,7 @@ use testing_rules_model::{BugIn, Delays, HintIn, LentRow, UploadIn};
 
 /// What the excuse of a source is made from, beside testing.
 #[derive(Drop)]
-pub struct Found<'g, 'a> {
+pub struct SourceEvidence<'g, 'a> {
     pub rows: &'g [LentRow<'a>],
     pub bugs: &'g [BugIn],
     pub hints: &'g [HintIn],
@@ -26,7 +26,7 @@ pub struct Found<'g, 'a> {
     pub date: Date,
 }
 
-impl<'g, 'a> Model for Found<'g, 'a> {
+impl<'g, 'a> Model for SourceEvidence<'g, 'a> {
     ghost use Rattle.testing_rules_model.specs.Excuses.{Ground};
     ghost use Rattle.testing_rules_model.specs.JudgedRows.{lent};
     ghost use Rattle.testing_rules_excuses.specs.LentUploads.{uploads_lent};
@@ -183,10 +183,10 @@ fn group<'g, T: Drop>(groups: &'g HashMap<&str, Vec<T>>, name: &str) -> &'g [T]
 }
 
 /// What is known of a source.
-pub fn found_of<'g, 'a>(grouped: &'g Grouped<'a>, name: &str) -> Found<'g, 'a>
+pub fn found_of<'g, 'a>(grouped: &'g Grouped<'a>, name: &str) -> SourceEvidence<'g, 'a>
     ensures { result ≡ ground_at grouped.now name.now }
 {
-    Found {
+    SourceEvidence {
         rows: group(&grouped.rows, name),
         bugs: group(&grouped.bugs, name),
         hints: group(&grouped.hints, name),

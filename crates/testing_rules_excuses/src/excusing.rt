@@ -11,7 +11,7 @@ ghost use Rattle.testing_rules_model.specs.Unstable.{place_numbers};
 ghost use Rattle.testing_rules_items.specs.Words.{Text};
 
 use crate::by_source::{
-    Found, Grouped, News, bugs_by_source, found_of, rows_by_source, uploads_by_source,
+    Grouped, News, SourceEvidence, bugs_by_source, found_of, rows_by_source, uploads_by_source,
 };
 use crate::days::{age_of, days_needed, delays_in_force, is_news};
 use crate::near::testing_version_near;
@@ -55,7 +55,7 @@ pub fn in_force(
 fn excuse_on(
     alloc: Global,
     archs: &Archs,
-    found: &Found,
+    found: &SourceEvidence,
     testing: Option<&Version>,
     upload: &UploadIn,
 ) -> Result<Excuse, NoMemory>

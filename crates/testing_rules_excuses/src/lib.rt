@@ -18,6 +18,6 @@ mod telling;
 
 pub use excusing::excuses;
 pub use messages::{Origin, age_hint, origins};
-pub use saying::{Said, said_of};
+pub use saying::{SourceFacts, said_of};
 pub use states::{State, excuse_of, state_of};
 pub use telling::origin_lines;

@@ -9,7 +9,7 @@ ghost use Rattle.testing_rules_excuses.specs.Said.{said_lists};
 
 use crate::days::asked_days;
 use crate::reasons::{blocks, removes};
-use crate::saying::Said;
+use crate::saying::SourceFacts;
 use deb_version::{NoMemory, Version};
 use std::alloc::{AllocError, Global};
 use testing_rules_facts::is_of_source;
@@ -115,7 +115,7 @@ fn push_removals<'g>(
 
 fn push_origins<'g, 'a>(
     origins: &mut Vec<Origin<'g, 'a>>,
-    said: &'g Said<'a>,
+    said: &'g SourceFacts<'a>,
     upload: &UploadIn,
     reason: Reason,
 ) -> Result<(), AllocError>
@@ -134,7 +134,7 @@ fn push_origins<'g, 'a>(
 /// want of memory.
 pub fn origins<'g, 'a>(
     alloc: Global,
-    said: &'g Said<'a>,
+    said: &'g SourceFacts<'a>,
     upload: &UploadIn,
     reason: Reason,
 ) -> Result<Vec<Origin<'g, 'a>>, NoMemory>

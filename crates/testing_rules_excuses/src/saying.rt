@@ -19,7 +19,7 @@ use testing_rules_suites::Testing;
 /// What a run knows of one source beside its unstable upload: unstable's rows that name it, the states of the bugs, the
 /// hints in force, and its version in testing.
 #[derive(Drop)]
-pub struct Said<'a> {
+pub struct SourceFacts<'a> {
     pub rows: Vec<LentRow<'a>>,
     pub bugs: &'a [Box<BugIn>],
     pub hints: Vec<HintIn>,
@@ -71,12 +71,12 @@ pub fn said_of<'a>(
     facts: &'a Facts,
     testing: &'a Testing,
     upload: &UploadIn,
-) -> Result<Said<'a>, NoMemory>
+) -> Result<SourceFacts<'a>, NoMemory>
     ensures { IfOk result (λ said. said_lists said ≡ rules.said_of archs.now facts.now testing.now upload.now) }
 {
     let rows = rows_of(alloc, archs, facts, upload)?;
     let hints = in_force(alloc, facts.hints(), facts.unhints())?;
-    Ok(Said {
+    Ok(SourceFacts {
         rows,
         bugs: facts.bugs(),
         hints,

@@ -12,7 +12,7 @@ ghost use Rattle.testing_rules_excuses.specs.Telling as told;
 
 use crate::messages::{Origin, age_hint, origins};
 use crate::readiness::ready_day;
-use crate::saying::Said;
+use crate::saying::SourceFacts;
 use deb_control::Text;
 use deb_version::NoMemory;
 use jiff::civil;
@@ -23,10 +23,10 @@ use testing_rules_model::{BugIn, Excuse, HintIn, LentRow, Reason, UploadIn};
 
 /// A source, what is said of it, the day on which it is old enough, and the names that its lines are told with.
 #[derive(Clone, Copy)]
-struct Asked<'t, 'a> {
+struct LineInput<'t, 'a> {
     senders: &'t [Text],
     archs: &'t Archs,
-    said: &'t Said<'a>,
+    said: &'t SourceFacts<'a>,
     upload: &'t UploadIn,
     ready: Option<Date>,
 }
@@ -182,7 +182,7 @@ fn push_origins(
 fn push_messages(
     alloc: Global,
     text: &mut String,
-    asked: &Asked,
+    asked: &LineInput,
     reason: Reason,
 ) -> Result<(), NoMemory>
     ensures { OnOk result (string_bytes text.new ≡ string_bytes text.old
@@ -203,7 +203,7 @@ fn is_too_young(reason: Reason) -> bool
 fn push_reason(
     alloc: Global,
     text: &mut String,
-    asked: &Asked,
+    asked: &LineInput,
     reason: Reason,
 ) -> Result<(), NoMemory>
     ensures { OnOk result (string_bytes text.new ≡ string_bytes text.old ++ told.reason_told asked.now reason) }
@@ -219,7 +219,7 @@ fn push_reason(
 fn push_reasons(
     alloc: Global,
     text: &mut String,
-    asked: &Asked,
+    asked: &LineInput,
     reasons: &[Reason],
 ) -> Result<(), NoMemory>
     ensures { OnOk result (string_bytes text.new ≡ string_bytes text.old ++ flat_map (told.reason_told asked.now) reasons.now) }
@@ -234,7 +234,7 @@ fn push_reasons(
 fn push_excuse(
     alloc: Global,
     text: &mut String,
-    asked: &Asked,
+    asked: &LineInput,
     excuse: Option<&Excuse>,
 ) -> Result<(), NoMemory>
     ensures { OnOk result (string_bytes text.new ≡ string_bytes text.old ++ told.excuse_told asked.now (option_copied excuse.entry)) }
@@ -246,7 +246,7 @@ fn push_excuse(
 }
 
 /// All lines of the source.
-fn source_lines(alloc: Global, asked: &Asked, excuse: Option<&Excuse>) -> Result<Text, NoMemory>
+fn source_lines(alloc: Global, asked: &LineInput, excuse: Option<&Excuse>) -> Result<Text, NoMemory>
     ensures { IfOk result (λ text. text ≡ told.source_told asked.now (option_copied excuse.entry)) }
 {
     let mut text = String::new(alloc);
@@ -262,14 +262,14 @@ pub fn origin_lines(
     alloc: Global,
     senders: &[Text],
     archs: &Archs,
-    said: &Said,
+    said: &SourceFacts,
     upload: &UploadIn,
     excuse: Option<&Excuse>,
 ) -> Result<Text, NoMemory>
     ensures { IfOk result (λ text. IsOriginText senders.now archs.now (said_lists said.now) upload.now (option_copied excuse.entry) text) }
 {
     let ready = ready_day(upload, excuse);
-    let asked = Asked {
+    let asked = LineInput {
         senders,
         archs,
         said,

@@ -3,13 +3,13 @@
 use Rattle.std.specs.Prelude.{ℕ}
 use Rattle.deb_control.specs.declared.binary.Binary.{Binary}
 use Rattle.testing_rules_items.specs.declared.item.Item.TheVariants as item
-use Rattle.testing_rules_fact_order.specs.declared.entry.Entry.{Entry}
-use Rattle.testing_rules_fact_order.specs.declared.entry.Entry.TheVariants.{Upload, Dropped, Build, Bug, Hint, Unhint, Delays, Nothing}
+use Rattle.testing_rules_fact_order.specs.declared.entry.FactUpdate.{FactUpdate}
+use Rattle.testing_rules_fact_order.specs.declared.entry.FactUpdate.TheVariants.{Upload, Dropped, Build, Bug, Hint, Unhint, Delays, Nothing}
 use Rattle.testing_rules_model.specs.declared.facts.BuildIn.{BuildIn}
 use Rattle.testing_rules_model.specs.Covered.{CoveredItem, placed_from}
 
 -- the message as the facts keep it
-abbrev pub entry_of : CoveredItem → Entry
+abbrev pub entry_of : CoveredItem → FactUpdate
 entry_of m = elim m.item [
   | item.Upload source version urgency day ↦ Upload (record { source = source; version = version; urgency = urgency; day = day; sender = m.sender; number = m.number })
   | item.Dropped name arch version ↦ Dropped (record { name = name; arch = arch; version = version; sender = m.sender; number = m.number })

@@ -46,7 +46,7 @@ impl Builds {
 
 /// A message, as the facts keep it.
 #[derive(Drop)]
-pub enum Entry {
+pub enum FactUpdate {
     Upload(UploadIn),
     Dropped(DropIn),
     Build(Builds),
@@ -196,7 +196,7 @@ impl Sent {
 }
 
 /// What the message gives. It takes over the item, so that no text is copied.
-pub fn entry_of(sent: Sent, item: Item) -> Result<Entry, NoMemory>
+pub fn entry_of(sent: Sent, item: Item) -> Result<FactUpdate, NoMemory>
     ensures { IfOk result (λ e. let m : CoveredItem = record { sender = sent.sender; number = sent.number; item = item } in e ≡ entries.entry_of m) }
 {
     match item {
@@ -205,28 +205,28 @@ pub fn entry_of(sent: Sent, item: Item) -> Result<Entry, NoMemory>
             version,
             urgency,
             day,
-        } => Ok(Entry::Upload(sent.upload(source, version, urgency, day))),
+        } => Ok(FactUpdate::Upload(sent.upload(source, version, urgency, day))),
         Item::Dropped {
             name,
             arch,
             version,
-        } => Ok(Entry::Dropped(sent.dropped(name, arch, version))),
-        Item::Build(binaries) => Ok(Entry::Build(sent.builds(binaries)?)),
+        } => Ok(FactUpdate::Dropped(sent.dropped(name, arch, version))),
+        Item::Build(binaries) => Ok(FactUpdate::Build(sent.builds(binaries)?)),
         Item::Bug {
             bug,
             source,
             severity,
             found,
             fixed,
-        } => Ok(Entry::Bug(sent.bug(bug, source, severity, found, fixed))),
-        Item::Hint(hint) => Ok(Entry::Hint(sent.hint(hint))),
-        Item::Unhint(cancels) => Ok(Entry::Unhint(sent.unhint(cancels))),
+        } => Ok(FactUpdate::Bug(sent.bug(bug, source, severity, found, fixed))),
+        Item::Hint(hint) => Ok(FactUpdate::Hint(sent.hint(hint))),
+        Item::Unhint(cancels) => Ok(FactUpdate::Unhint(sent.unhint(cancels))),
         Item::Delays {
             low,
             medium,
             high,
             critical,
-        } => Ok(Entry::Delays(sent.delays(low, medium, high, critical))),
-        Item::Nothing => Ok(Entry::Nothing),
+        } => Ok(FactUpdate::Delays(sent.delays(low, medium, high, critical))),
+        Item::Nothing => Ok(FactUpdate::Nothing),
     }
 }

@@ -12,7 +12,7 @@ mod select;
 mod trimming;
 mod uploads;
 
-pub use entry::{Builds, Entry, Sent, entry_of};
+pub use entry::{Builds, FactUpdate, Sent, entry_of};
 pub use halves::move_upper_half;
 pub use log::{Log, Shifted};
 pub use restoring::{

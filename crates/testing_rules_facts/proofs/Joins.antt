@@ -8,8 +8,8 @@ use Rattle.testing_rules_model.specs.Covered.{Covered, uploads_in, builds_in, dr
 use Rattle.testing_rules_model.specs.Unstable.{is_above_drops}
 use Rattle.testing_rules_items.specs.declared.item.Item.{Item}
 use Rattle.testing_rules_items.specs.declared.item.Item.TheVariants as item
-use Rattle.testing_rules_fact_order.specs.declared.entry.Entry.{Entry}
-use Rattle.testing_rules_fact_order.specs.declared.entry.Entry.TheVariants as entry
+use Rattle.testing_rules_fact_order.specs.declared.entry.FactUpdate.{FactUpdate}
+use Rattle.testing_rules_fact_order.specs.declared.entry.FactUpdate.TheVariants as entry
 use Rattle.testing_rules_model.specs.declared.facts.UploadIn.{UploadIn}
 use Rattle.testing_rules_model.specs.declared.facts.BuildIn.{BuildIn}
 use Rattle.testing_rules_model.specs.declared.facts.DropIn.{DropIn}
@@ -153,7 +153,7 @@ module _ (old : FactLists) (s : Covered) (t : Suite) (h : StandsFor old s t) (n 
   }
 
 -- no entry drops an upload
-pub keeps : (e : Entry) (f : FactLists) (u : UploadIn) → Contains f.uploads u → Contains (with_entry e f).uploads u
+pub keeps : (e : FactUpdate) (f : FactLists) (u : UploadIn) → Contains f.uploads u → Contains (with_entry e f).uploads u
 keeps (entry.Upload v) f u c = kept_others v u f.uploads c
 keeps (entry.Dropped d) f u c = c
 keeps (entry.Build bs) f u c = c

@@ -7,8 +7,8 @@ use Rattle.std.specs.declared.cmp.Ordering.TheVariants.{Less, Equal, Greater}
 use Rattle.std.specs.Ordering.{nat_cmp, is_lt}
 use Rattle.std.proofs.lemmas.List.{append_assoc, append-nil}
 use Rattle.std.proofs.lemmas.List.Sums.{sum_by-cons, sum_by-append}
-use Rattle.testing_rules_fact_order.specs.declared.entry.Entry.{Entry}
-use Rattle.testing_rules_fact_order.specs.declared.entry.Entry.TheVariants as entry
+use Rattle.testing_rules_fact_order.specs.declared.entry.FactUpdate.{FactUpdate}
+use Rattle.testing_rules_fact_order.specs.declared.entry.FactUpdate.TheVariants as entry
 use Rattle.testing_rules_model.specs.declared.facts.BuildIn.{BuildIn}
 use Rattle.testing_rules_model.specs.declared.facts.DropIn.{DropIn}
 use Rattle.testing_rules_model.specs.FactLists.{FactLists}
@@ -139,7 +139,7 @@ builds_shift stands r [] rows = refl
 builds_shift stands r (b ∷ bs) rows = builds_at stands (stands b) r b bs rows refl (builds_shift stands r bs rows)
 
 -- every kind
-pub entry_shifts : (e : Entry) (f : FactLists) → Shifts (rows_of f) (rows_of (lists_with e f)) (shift_of e f)
+pub entry_shifts : (e : FactUpdate) (f : FactLists) → Shifts (rows_of f) (rows_of (lists_with e f)) (shift_of e f)
 entry_shifts (entry.Upload u) f r =
     let way = map source_row (way_given (λ v. v.source) byte_cmp upload_order u f.sources) in
     let came = map source_row (come_in (λ v. v.source) byte_cmp upload_order u f.sources) in
@@ -173,7 +173,7 @@ entry_shifts (entry.Delays d) f r = omega (arith, parts r f, parts r (lists_with
 entry_shifts entry.Nothing f r = refl
 
 -- the lists alone change, and not what was noted before
-came_stays : (e : Entry) (f : FactLists) → (lists_with e f).came ≡ f.came
+came_stays : (e : FactUpdate) (f : FactLists) → (lists_with e f).came ≡ f.came
 came_stays (entry.Upload u) f = refl
 came_stays (entry.Dropped d) f = refl
 came_stays (entry.Build bs) f = refl
@@ -183,7 +183,7 @@ came_stays (entry.Unhint c) f = refl
 came_stays (entry.Delays d) f = refl
 came_stays entry.Nothing f = refl
 
-left_stays : (e : Entry) (f : FactLists) → (lists_with e f).left ≡ f.left
+left_stays : (e : FactUpdate) (f : FactLists) → (lists_with e f).left ≡ f.left
 left_stays (entry.Upload u) f = refl
 left_stays (entry.Dropped d) f = refl
 left_stays (entry.Build bs) f = refl
@@ -194,7 +194,7 @@ left_stays (entry.Delays d) f = refl
 left_stays entry.Nothing f = refl
 
 -- taking a message logs what it changes
-pub takes_log : (count : FactRow → ℕ) (e : Entry) (f : FactLists) → IsChangedFrom count f → IsChangedFrom count (with_entry e f)
+pub takes_log : (count : FactRow → ℕ) (e : FactUpdate) (f : FactLists) → IsChangedFrom count f → IsChangedFrom count (with_entry e f)
 takes_log count e f h = λ r.
     let s = shift_of e f in
     let rows : times r (rows_of (with_entry e f)) + times r s.left ≡ times r (rows_of f) + times r s.came = entry_shifts e f r in

@@ -7,7 +7,7 @@ use Rattle.std.specs.declared.cmp.Ordering.{Ordering}
 use Rattle.std.specs.declared.cmp.Ordering.TheVariants.{Less, Equal, Greater}
 use Rattle.std.specs.Ordering.{is_lt}
 use Rattle.testing_rules_facts.specs.declared.taken.Slot.TheVariants.{Over, Before, Nowhere}
-use Rattle.testing_rules_facts.specs.declared.taken.Step.{Step}
+use Rattle.testing_rules_facts.specs.declared.taken.Placement.{Placement}
 use Rattle.testing_rules_facts.specs.Slots.{IsSlotFor, IsStep}
 use Rattle.testing_rules_model.specs.WithMessage.{put_first}
 use Rattle.testing_rules_model.specs.declared.fact_row.FactRow.{FactRow}
@@ -16,7 +16,7 @@ use Rattle.testing_rules_facts.proofs.KeyShifts.{way-at, come-at, none-at}
 
 module _ {A K : Type 0} (key : A → K) {cmp : K → K → Ordering} (o : IsTotalOrder cmp) (rank : A → A → Ordering) (row : A → FactRow) (x : A) (xs : List A) where
   -- one of its key stands before it
-  pub step-nowhere : (i : ℕ) (d : A) (step : Step) → IsStrictlySortedBy cmp (map key xs) → i < length xs → cmp (key (get_or xs i d)) (key x) ≡ Equal
+  pub step-nowhere : (i : ℕ) (d : A) (step : Placement) → IsStrictlySortedBy cmp (map key xs) → i < length xs → cmp (key (get_or xs i d)) (key x) ≡ Equal
       → is_lt (rank (get_or xs i d) x) ≡ true → step.slot ≡ Nowhere → step.shifted.left ≡ None → step.shifted.came ≡ None → IsStep key cmp rank row x xs step
   step-nowhere i d step s h e f slot left came = record {
     slot = subst (IsSlotFor xs x (put_first key cmp rank x xs)) (sym slot) (found-nowhere key o rank x xs i d s h e f);

@@ -1,8 +1,8 @@
 -- Which rows leave the facts, and which come, with one more message. That facts are kept as rows is this office's own.
 use Rattle.std.specs.Prelude.{◌≡◌, ◌+◌, not, List, [], ◌∷◌, ◌++◌, map, filter, option_to_list}
 use Rattle.std.specs.Ordering.{nat_cmp}
-use Rattle.testing_rules_fact_order.specs.declared.entry.Entry.{Entry}
-use Rattle.testing_rules_fact_order.specs.declared.entry.Entry.TheVariants.{Upload, Dropped, Build, Bug, Hint, Unhint, Delays, Nothing}
+use Rattle.testing_rules_fact_order.specs.declared.entry.FactUpdate.{FactUpdate}
+use Rattle.testing_rules_fact_order.specs.declared.entry.FactUpdate.TheVariants.{Upload, Dropped, Build, Bug, Hint, Unhint, Delays, Nothing}
 use Rattle.testing_rules_items.specs.Words.{byte_cmp, lesser}
 pub use Rattle.testing_rules_facts.specs.ElementShifts.{way_given, come_in, put_over, Shift, no_shift, then_shift, shift_build, shift_builds, IsShift}
 use Rattle.testing_rules_model.specs.FactLists.{FactLists}
@@ -13,7 +13,7 @@ use Rattle.testing_rules_model.specs.declared.fact_row.FactRow.{FactRow}
 use Rattle.testing_rules_fact_order.specs.Uploads.{message_order, first_stays}
 
 -- what one message shifts
-abbrev pub shift_of : Entry → FactLists → Shift
+abbrev pub shift_of : FactUpdate → FactLists → Shift
 shift_of (Upload u) f = record {
   left = map source_row (way_given (λ v. v.source) byte_cmp upload_order u f.sources);
   came = map source_row (come_in (λ v. v.source) byte_cmp upload_order u f.sources) ++ map upload_row (come_in (λ v. v) message_order first_stays u f.uploads);

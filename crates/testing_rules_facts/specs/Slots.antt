@@ -5,7 +5,7 @@ use Rattle.std.specs.List.{insert}
 use Rattle.std.specs.declared.cmp.Ordering.{Ordering}
 use Rattle.testing_rules_facts.specs.declared.taken.Slot.{Slot}
 use Rattle.testing_rules_facts.specs.declared.taken.Slot.TheVariants.{Over, Before, Nowhere}
-use Rattle.testing_rules_facts.specs.declared.taken.Step.{Step}
+use Rattle.testing_rules_facts.specs.declared.taken.Placement.{Placement}
 use Rattle.testing_rules_facts.specs.ElementShifts.{IsShift}
 use Rattle.testing_rules_model.specs.WithMessage.{put_first}
 use Rattle.testing_rules_model.specs.declared.fact_row.FactRow.{FactRow}
@@ -29,6 +29,6 @@ slotted xs x (Before i) = insert xs i x
 slotted xs x Nowhere = xs
 
 -- where a list by key takes one element more, and what that does to the rows
-pub record IsStep {A K : Type 0} (key : A → K) (cmp : K → K → Ordering) (rank : A → A → Ordering) (row : A → FactRow) (x : A) (xs : List A) (step : Step) : Type 0 where
+pub record IsStep {A K : Type 0} (key : A → K) (cmp : K → K → Ordering) (rank : A → A → Ordering) (row : A → FactRow) (x : A) (xs : List A) (step : Placement) : Type 0 where
   pub slot : IsSlotFor xs x (put_first key cmp rank x xs) step.slot
   pub shift : IsShift key cmp rank row x xs step.shifted

@@ -10,7 +10,7 @@ ghost use Rattle.testing_rules_model.specs.FactRows.{build_row};
 ghost use Rattle.testing_rules_model.specs.Unstable as unstable;
 ghost use Rattle.testing_rules_model.specs.WithMessage as taken;
 
-use crate::taken::{order_pair, put_build, stands_beside, take_row};
+use crate::taken::{order_pair, put_build, remove_dropped, stands_beside};
 use deb_control::Binary;
 use deb_version::NoMemory;
 use std::alloc::Global;
@@ -23,12 +23,12 @@ const FULL: usize = 64;
 
 /// Some of the rows, with room for one more, and the place that the last one was put at. The next one may belong there.
 #[derive(Drop)]
-pub struct Block {
+pub struct BuildBlock {
     rows: Vec<Box<BuildIn>>,
     guess: usize,
 }
 
-impl Model for Block {
+impl Model for BuildBlock {
     ghost use Rattle.std.specs.Prelude.{List, vec_len, vec_capacity};
     ghost use Rattle.testing_rules_model.specs.Boxed.{unboxed};
     ghost use Rattle.testing_rules_model.specs.declared.facts.BuildIn.{BuildIn};
@@ -72,16 +72,16 @@ impl Spare {
 #[derive(Drop)]
 struct Entered {
     shifted: Shifted,
-    upper: Option<Block>,
+    upper: Option<BuildBlock>,
 }
 
-impl Block {
+impl BuildBlock {
     /// A block of no rows.
-    fn new(alloc: Global) -> Result<Block, NoMemory>
+    fn new(alloc: Global) -> Result<BuildBlock, NoMemory>
         ensures { IfOk result (λ block. block ≡ []) }
     {
         let rows = Vec::with_capacity(alloc, FULL)?;
-        Ok(Block { rows, guess: 0 })
+        Ok(BuildBlock { rows, guess: 0 })
     }
 
     /// The rows, in order.
@@ -100,11 +100,11 @@ impl Block {
     }
 
     /// An equal block, which shares the binaries.
-    fn copy(&self, alloc: Global) -> Result<Block, NoMemory>
+    fn copy(&self, alloc: Global) -> Result<BuildBlock, NoMemory>
         ensures { IfOk result (λ block. block ≡ self.now) }
     {
         let rows = copy_rows(alloc, &self.rows)?;
-        Ok(Block {
+        Ok(BuildBlock {
             rows,
             guess: self.guess,
         })
@@ -138,7 +138,7 @@ impl Block {
         ensures rows { self.new ≡ taken.with_drop drop.now self.old }
         ensures gone { option_to_list result ≡ map build_row (filter (λ b. not (taken.outlives drop.now b)) self.old) }
     {
-        take_row(&mut self.rows, drop)
+        remove_dropped(&mut self.rows, drop)
     }
 }
 
@@ -153,7 +153,7 @@ fn begin_above(rows: &[Box<BuildIn>], arch: &str, name: &str) -> bool
 }
 
 /// The rows of a full block, but for its lower half, which stays.
-fn upper_half(rows: &mut Vec<Box<BuildIn>>, guess: usize, spare: Spare) -> Block
+fn upper_half(rows: &mut Vec<Box<BuildIn>>, guess: usize, spare: Spare) -> BuildBlock
     requires { vec_len rows.old ≡ 64 }
     ensures rows { unboxed rows.new.items ++ result ≡ unboxed rows.old.items }
     ensures lower { vec_len rows.new ≡ 32 }
@@ -162,14 +162,14 @@ fn upper_half(rows: &mut Vec<Box<BuildIn>>, guess: usize, spare: Spare) -> Block
 {
     let mut upper = spare.rows;
     move_upper_half(rows, &mut upper);
-    Block {
+    BuildBlock {
         rows: upper,
         guess: guess.saturating_sub(rows.len()),
     }
 }
 
 /// The place of the block for the architecture and the name.
-fn block_for(blocks: &[Block], arch: &str, name: &str) -> usize
+fn block_for(blocks: &[BuildBlock], arch: &str, name: &str) -> usize
     requires { 0 < length blocks.now }
     ensures { IsBlockFor (arch.now, name.now) blocks.now result }
 {
@@ -213,7 +213,7 @@ fn nearer(near: Near, place: usize) -> Near {
 }
 
 /// There is a block at the place, and it is the first or doesn't begin above the architecture and the name.
-fn may_hold(blocks: &[Block], arch: &str, name: &str, place: usize) -> bool
+fn may_hold(blocks: &[BuildBlock], arch: &str, name: &str, place: usize) -> bool
     ensures within { IsTrue result → place < length blocks.now }
     ensures begins { IsTrue result → 0 < place → begins_above (arch.now, name.now) (slice_index_or blocks.now place []) ≡ false }
     ensures above { IsFalse result → place < length blocks.now → begins_above (arch.now, name.now) (slice_index_or blocks.now place []) ≡ true }
@@ -225,7 +225,7 @@ fn may_hold(blocks: &[Block], arch: &str, name: &str, place: usize) -> bool
 }
 
 /// The place or the next one, if one of them is that of the block for the architecture and the name.
-fn block_at(blocks: &[Block], arch: &str, name: &str, place: usize) -> Option<usize>
+fn block_at(blocks: &[BuildBlock], arch: &str, name: &str, place: usize) -> Option<usize>
     ensures { IfSome result (λ place. IsBlockFor (arch.now, name.now) blocks.now place) }
 {
     if !may_hold(blocks, arch, name, place) {
@@ -241,7 +241,7 @@ fn block_at(blocks: &[Block], arch: &str, name: &str, place: usize) -> Option<us
 }
 
 /// The place of the block for the architecture and the name. The places that are near are tried first.
-fn place_near(blocks: &[Block], arch: &str, name: &str, near: Near) -> usize
+fn place_near(blocks: &[BuildBlock], arch: &str, name: &str, near: Near) -> usize
     requires { 0 < length blocks.now }
     ensures { IsBlockFor (arch.now, name.now) blocks.now result }
 {
@@ -255,7 +255,7 @@ fn place_near(blocks: &[Block], arch: &str, name: &str, near: Near) -> usize
 }
 
 /// The same, and the place is near from now on.
-fn block_near(blocks: &[Block], arch: &str, name: &str, near: &mut Near) -> usize
+fn block_near(blocks: &[BuildBlock], arch: &str, name: &str, near: &mut Near) -> usize
     requires { 0 < length blocks.now }
     ensures { IsBlockFor (arch.now, name.now) blocks.now result }
 {
@@ -265,7 +265,7 @@ fn block_near(blocks: &[Block], arch: &str, name: &str, near: &mut Near) -> usiz
 }
 
 /// How many rows the blocks have.
-fn count_rows(held: &[Block]) -> u128
+fn count_rows(held: &[BuildBlock]) -> u128
     ensures rows { result ≡ length (joined held.now) }
     ensures below { result ≤ 64 * (2 ^ 64) }
 {
@@ -302,7 +302,7 @@ fn copy_rows(alloc: Global, rows: &[Box<BuildIn>]) -> Result<Vec<Box<BuildIn>>, 
 }
 
 /// Equal blocks.
-fn copy_blocks(alloc: Global, blocks: &[Block]) -> Result<Vec<Block>, NoMemory>
+fn copy_blocks(alloc: Global, blocks: &[BuildBlock]) -> Result<Vec<BuildBlock>, NoMemory>
     ensures { IfOk result (λ copies. copies.items ≡ blocks.now) }
 {
     let mut copies = Vec::with_capacity(alloc, blocks.len())?;
@@ -334,14 +334,14 @@ fn top_up(alloc: Global, spares: &mut Vec<Spare>, count: usize) -> Result<(), No
 }
 
 /// Makes room for so many blocks more. After it there is a block.
-fn make_room(alloc: Global, blocks: &mut Vec<Block>, count: usize) -> Result<(), NoMemory>
+fn make_room(alloc: Global, blocks: &mut Vec<BuildBlock>, count: usize) -> Result<(), NoMemory>
     ensures rows { joined blocks.new.items ≡ joined blocks.old.items }
     ensures filled { AreBlocks blocks.old.items → AreBlocks blocks.new.items }
     ensures some { OnOk result (0 < vec_len blocks.new) }
     ensures room { OnOk result (vec_len blocks.new + count ≤ vec_capacity blocks.new) }
 {
     if blocks.is_empty() {
-        let first = Block::new(alloc)?;
+        let first = BuildBlock::new(alloc)?;
         blocks.push(first)?;
     }
     blocks.reserve(count)?;
@@ -351,7 +351,7 @@ fn make_room(alloc: Global, blocks: &mut Vec<Block>, count: usize) -> Result<(),
 /// A build joins the rows, where its own has none before it. Gives what that does to the rows of the facts. There is room
 /// for a block more, and a spare for its rows.
 fn put_coming(
-    blocks: &mut Vec<Block>,
+    blocks: &mut Vec<BuildBlock>,
     near: &mut Near,
     spares: &mut Vec<Spare>,
     build: Box<BuildIn>,
@@ -387,7 +387,7 @@ fn put_coming(
 /// The builds of one message join the rows, each where it stands, and what that does to the rows is noted. There is room
 /// for them, and a spare for each.
 fn put_builds(
-    held: &mut Vec<Block>,
+    held: &mut Vec<BuildBlock>,
     near: &mut Near,
     drops: &[Box<DropIn>],
     coming: Vec<Box<BuildIn>>,
@@ -420,7 +420,7 @@ fn put_builds(
 }
 
 /// The rows lose the one that the drop takes, if there is one. Gives its row of the facts.
-fn take_from(blocks: &mut Vec<Block>, drop: &DropIn) -> Option<FactRow>
+fn take_from(blocks: &mut Vec<BuildBlock>, drop: &DropIn) -> Option<FactRow>
     requires order { AreByPair (joined blocks.old.items) }
     requires filled { AreBlocks blocks.old.items }
     ensures rows { joined blocks.new.items ≡ taken.with_drop drop.now (joined blocks.old.items) }
@@ -441,7 +441,7 @@ fn take_from(blocks: &mut Vec<Block>, drop: &DropIn) -> Option<FactRow>
 
 /// Unstable's rows, by architecture and name.
 pub struct BuildBlocks {
-    blocks: Vec<Block>,
+    blocks: Vec<BuildBlock>,
     near: Near,
     spares: Vec<Spare>,
 }
@@ -481,7 +481,7 @@ impl BuildBlocks {
     }
 
     /// The blocks, in order.
-    pub fn blocks(&self) -> &[Block]
+    pub fn blocks(&self) -> &[BuildBlock]
         ensures { joined result.now ≡ self.now }
     {
         self.blocks.as_slice()

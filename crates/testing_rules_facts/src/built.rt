@@ -11,7 +11,7 @@ ghost use Rattle.testing_rules_model.specs.JudgedRows.{row_of, lent};
 ghost use Rattle.testing_rules_model.specs.Unstable as unstable;
 ghost use Rattle.testing_rules_facts.specs.SourceFilter.{filter_passes, passing_builds};
 
-use crate::build_blocks::{Block, BuildBlocks};
+use crate::build_blocks::{BuildBlock, BuildBlocks};
 use crate::source_filter::{SourceFilter, filter_passes};
 use deb_version::NoMemory;
 use std::alloc::Global;
@@ -134,7 +134,7 @@ fn push_ordered<'a>(
 /// The builds of an architecture whose sources are let through come in as its rows, at its place.
 fn push_built_on<'a>(
     rows: &mut Vec<LentRow<'a>>,
-    blocks: &'a [Block],
+    blocks: &'a [BuildBlock],
     passing: &SourceFilter,
     place: u32,
     arch: &str,

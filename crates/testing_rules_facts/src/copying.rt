@@ -10,7 +10,7 @@ use testing_rules_model::{BugIn, DropIn, HintIn, UnhintIn, UploadIn};
 
 /// What is said but of unstable.
 #[derive(Drop)]
-pub struct Said {
+pub struct CopiedLists {
     pub drops: Vec<Box<DropIn>>,
     pub bugs: Vec<Box<BugIn>>,
     pub hints: Vec<HintIn>,
@@ -78,7 +78,7 @@ pub fn copy_said(
     bugs: &[Box<BugIn>],
     hints: &[HintIn],
     unhints: &[UnhintIn],
-) -> Result<Said, NoMemory>
+) -> Result<CopiedLists, NoMemory>
     ensures drops { IfOk result (λ said. unboxed said.drops.items ≡ unboxed drops.now) }
     ensures bugs { IfOk result (λ said. unboxed said.bugs.items ≡ unboxed bugs.now) }
     ensures hints { IfOk result (λ said. said.hints.items ≡ hints.now) }
@@ -89,7 +89,7 @@ pub fn copy_said(
     let drops = copy_boxed(alloc, drops)?;
     let bugs = copy_boxed(alloc, bugs)?;
     let hints = copy_all(alloc, hints)?;
-    Ok(Said {
+    Ok(CopiedLists {
         drops,
         bugs,
         hints,

@@ -7,7 +7,7 @@ ghost use Rattle.testing_rules_facts.specs.Entries.{with_entry, noted};
 ghost use Rattle.testing_rules_facts.specs.Restored.{said, put_given, last_given, restored};
 ghost use Rattle.testing_rules_facts.specs.ElementShifts.{shift_builds};
 ghost use Rattle.testing_rules_fact_order.specs.Uploads.{AreByMessage, with_kept};
-ghost use Rattle.testing_rules_fact_order.specs.declared.entry.Entry.TheVariants.{Upload, Dropped, Bug, Hint as AHint, Unhint, Delays};
+ghost use Rattle.testing_rules_fact_order.specs.declared.entry.FactUpdate.TheVariants.{Upload, Dropped, Bug, Hint as AHint, Unhint, Delays};
 ghost use Rattle.testing_rules_model.specs.FactDifference.{IsChangedFrom, IsDifference};
 ghost use Rattle.testing_rules_model.specs.KeptFacts.{trimmed};
 ghost use Rattle.testing_rules_model.specs.declared.fact_row.FactRow.{FactRow as ARow};
@@ -28,8 +28,9 @@ use deb_version::NoMemory;
 use std::alloc::Global;
 use std::marker::Model;
 use testing_rules_fact_order::{
-    Entry, Log, Sent, Shifted, changes, entry_of, hint_row, later_delays, said_bug, said_build,
-    said_delays, said_drop, said_hint, said_unhint, said_upload, trim_uploads, unhint_row,
+    FactUpdate, Log, Sent, Shifted, changes, entry_of, hint_row, later_delays, said_bug,
+    said_build, said_delays, said_drop, said_hint, said_unhint, said_upload, trim_uploads,
+    unhint_row,
 };
 use testing_rules_items::{Hint, Item};
 use testing_rules_model::{
@@ -99,19 +100,19 @@ impl Model for Facts {
 
 /// An upload for the sources, and the same for the uploads.
 #[derive(Drop)]
-struct Twice {
+struct SourceAndUpload {
     source: Box<UploadIn>,
     kept: UploadIn,
 }
 
 /// The upload, and a copy of it.
-fn two_of(alloc: Global, upload: UploadIn) -> Result<Twice, NoMemory>
+fn copied_upload(alloc: Global, upload: UploadIn) -> Result<SourceAndUpload, NoMemory>
     ensures source { IfOk result (λ two. two.source.value ≡ upload) }
     ensures kept { IfOk result (λ two. two.kept ≡ upload) }
 {
     let kept = upload.copy(alloc)?;
     let source = Box::new(alloc, upload)?;
-    Ok(Twice { source, kept })
+    Ok(SourceAndUpload { source, kept })
 }
 
 impl Facts {
@@ -306,19 +307,19 @@ impl Facts {
     }
 
     /// A message joins the lists of its kind.
-    fn put(&mut self, entry: Entry) -> Result<(), NoMemory>
+    fn put(&mut self, entry: FactUpdate) -> Result<(), NoMemory>
         ensures ok { OnOk result (self.new ≡ with_entry entry self.old) }
         ensures err { OnErr result (self.new ≡ self.old) }
     {
         match entry {
-            Entry::Upload(upload) => self.take_upload(upload),
-            Entry::Dropped(drop) => self.take_drop(drop),
-            Entry::Build(builds) => self.take_builds(builds.into_vec()),
-            Entry::Bug(bug) => self.take_bug(bug),
-            Entry::Hint(hint) => self.take_hint(hint),
-            Entry::Unhint(unhint) => self.take_unhint(unhint),
-            Entry::Delays(delays) => self.take_delays(delays),
-            Entry::Nothing => Ok(()),
+            FactUpdate::Upload(upload) => self.take_upload(upload),
+            FactUpdate::Dropped(drop) => self.take_drop(drop),
+            FactUpdate::Build(builds) => self.take_builds(builds.into_vec()),
+            FactUpdate::Bug(bug) => self.take_bug(bug),
+            FactUpdate::Hint(hint) => self.take_hint(hint),
+            FactUpdate::Unhint(unhint) => self.take_unhint(unhint),
+            FactUpdate::Delays(delays) => self.take_delays(delays),
+            FactUpdate::Nothing => Ok(()),
         }
     }
 
@@ -330,7 +331,7 @@ impl Facts {
         self.uploads.reserve(1)?;
         self.log
             .reserve_with(&mut self.sources, self.uploads.len(), 3)?;
-        let Twice { source, kept } = two_of(self.alloc, upload)?;
+        let SourceAndUpload { source, kept } = copied_upload(self.alloc, upload)?;
         let shifted = put_upload(&mut self.sources, source);
         let came = put_kept(&mut self.uploads, kept);
         self.log.note(shifted);

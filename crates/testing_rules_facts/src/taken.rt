@@ -38,18 +38,18 @@ pub enum Slot {
 
 /// Where a list takes an element, and what that does to the rows of the facts.
 #[derive(Clone, Copy)]
-pub struct Step {
+pub struct Placement {
     pub slot: Slot,
     pub shifted: Shifted,
 }
 
 /// The list stays as it is, and so do the rows.
-fn no_step() -> Step
+fn no_step() -> Placement
     ensures slot { result.slot ≡ Slot.Nowhere }
     ensures left { result.shifted.left ≡ None }
     ensures came { result.shifted.came ≡ None }
 {
-    Step {
+    Placement {
         slot: Slot::Nowhere,
         shifted: Shifted {
             left: None,
@@ -88,7 +88,7 @@ pub fn place_of_upload(sources: &[Box<UploadIn>], name: &str) -> Result<usize, u
 }
 
 /// Where the sources take the upload, and what that does to the rows.
-fn step_of_upload(sources: &[Box<UploadIn>], upload: &UploadIn) -> Step
+fn step_of_upload(sources: &[Box<UploadIn>], upload: &UploadIn) -> Placement
     requires { AreBySource (unboxed sources.now) }
     ensures { IsStep (λ u. u.source) byte_cmp unstable.upload_order fact_rows.source_row upload.now (unboxed sources.now) result }
 {
@@ -100,12 +100,12 @@ fn step_of_upload(sources: &[Box<UploadIn>], upload: &UploadIn) -> Step
                 return no_step();
             }
             let left = Some(source_row(other));
-            Step {
+            Placement {
                 slot: Slot::Over(i),
                 shifted: Shifted { left, came },
             }
         }
-        Err(i) => Step {
+        Err(i) => Placement {
             slot: Slot::Before(i),
             shifted: Shifted { left: None, came },
         },
@@ -166,7 +166,7 @@ pub fn place_of_drop(drops: &[Box<DropIn>], arch: &str, name: &str) -> Result<us
 }
 
 /// Where the drops take the drop, and what that does to the rows.
-fn step_of_drop(drops: &[Box<DropIn>], drop: &DropIn) -> Step
+fn step_of_drop(drops: &[Box<DropIn>], drop: &DropIn) -> Placement
     requires { AreDropsByPair (unboxed drops.now) }
     ensures { IsStep unstable.drop_pair unstable.pair_order unstable.drop_order fact_rows.drop_row drop.now (unboxed drops.now) result }
 {
@@ -178,12 +178,12 @@ fn step_of_drop(drops: &[Box<DropIn>], drop: &DropIn) -> Step
                 return no_step();
             }
             let left = Some(drop_row(other));
-            Step {
+            Placement {
                 slot: Slot::Over(i),
                 shifted: Shifted { left, came },
             }
         }
-        Err(i) => Step {
+        Err(i) => Placement {
             slot: Slot::Before(i),
             shifted: Shifted { left: None, came },
         },
@@ -216,7 +216,7 @@ pub fn place_of_bug(bugs: &[Box<BugIn>], bug: u32) -> Result<usize, usize>
 }
 
 /// Where the states take the message on a bug, and what that does to the rows.
-fn step_of_bug(bugs: &[Box<BugIn>], bug: &BugIn) -> Step
+fn step_of_bug(bugs: &[Box<BugIn>], bug: &BugIn) -> Placement
     requires { AreByNumber (unboxed bugs.now) }
     ensures { IsStep (λ b. b.bug) nat_cmp unstable.bug_order fact_rows.bug_row bug.now (unboxed bugs.now) result }
 {
@@ -228,12 +228,12 @@ fn step_of_bug(bugs: &[Box<BugIn>], bug: &BugIn) -> Step
                 return no_step();
             }
             let left = Some(bug_row(other));
-            Step {
+            Placement {
                 slot: Slot::Over(i),
                 shifted: Shifted { left, came },
             }
         }
-        Err(i) => Step {
+        Err(i) => Placement {
             slot: Slot::Before(i),
             shifted: Shifted { left: None, came },
         },
@@ -317,7 +317,7 @@ fn place_from(rows: &[Box<BuildIn>], arch: &str, name: &str, guess: usize) -> Re
 }
 
 /// Where the rows take the build, and what that does to the rows of the facts. That place is the next guess.
-fn step_of_build(rows: &[Box<BuildIn>], build: &BuildIn, guess: &mut usize) -> Step
+fn step_of_build(rows: &[Box<BuildIn>], build: &BuildIn, guess: &mut usize) -> Placement
     requires { AreByPair (unboxed rows.now) }
     ensures { IsStep unstable.pair_of unstable.pair_order unstable.build_order fact_rows.build_row build.now (unboxed rows.now) result }
 {
@@ -337,14 +337,14 @@ fn step_of_build(rows: &[Box<BuildIn>], build: &BuildIn, guess: &mut usize) -> S
                 return no_step();
             }
             let left = Some(build_row(other));
-            Step {
+            Placement {
                 slot: Slot::Over(i),
                 shifted: Shifted { left, came },
             }
         }
         Err(i) => {
             *guess = i;
-            Step {
+            Placement {
                 slot: Slot::Before(i),
                 shifted: Shifted { left: None, came },
             }
@@ -380,7 +380,7 @@ pub fn stands_beside(drops: &[Box<DropIn>], build: &BuildIn) -> bool
 }
 
 /// The rows lose the one that the drop takes, if there is one. Gives its row of the facts.
-pub fn take_row(rows: &mut Vec<Box<BuildIn>>, drop: &DropIn) -> Option<FactRow>
+pub fn remove_dropped(rows: &mut Vec<Box<BuildIn>>, drop: &DropIn) -> Option<FactRow>
     requires { AreByPair (unboxed rows.old.items) }
     ensures items { unboxed rows.new.items ≡ taken.with_drop drop.now (unboxed rows.old.items) }
     ensures gone { option_to_list result ≡ map fact_rows.build_row (filter (λ b. not (taken.outlives drop.now b)) (unboxed rows.old.items)) }

@@ -1,6 +1,6 @@
 -- Which rows came and which left since the facts were kept, and what is made of them. That facts are kept as rows is this office's own.
 use Rattle.std.specs.Prelude.{◌≡◌, ℕ, ◌+◌, ◌<◌, ◌≤◌, List}
-use Rattle.testing_rules_fact_order.specs.declared.entry.Entry.{Entry}
+use Rattle.testing_rules_fact_order.specs.declared.entry.FactUpdate.{FactUpdate}
 use Rattle.testing_rules_facts.specs.Entries.{with_entry}
 use Rattle.testing_rules_facts.specs.Shifts.{Shifts, shift_of}
 use Rattle.testing_rules_model.specs.declared.fact_row.FactRow.{FactRow}
@@ -19,11 +19,11 @@ pub record AreMade (count : FactRow → ℕ) (now put gone : List FactRow) : Typ
 
 -- one more message shifts just these rows
 abbrev pub EntryShifts : Type 0
-EntryShifts = (e : Entry) (f : FactLists) → Shifts (rows_of f) (rows_of (with_entry e f)) (shift_of e f)
+EntryShifts = (e : FactUpdate) (f : FactLists) → Shifts (rows_of f) (rows_of (with_entry e f)) (shift_of e f)
 
 -- Taking and trimming log what they change.
 abbrev pub TakesLog : Type 0
-TakesLog = (count : FactRow → ℕ) (e : Entry) (f : FactLists) → IsChangedFrom count f → IsChangedFrom count (with_entry e f)
+TakesLog = (count : FactRow → ℕ) (e : FactUpdate) (f : FactLists) → IsChangedFrom count f → IsChangedFrom count (with_entry e f)
 
 abbrev pub TrimsLog : Type 0
 TrimsLog = (count : FactRow → ℕ) (t : Suite) (f : FactLists) → IsChangedFrom count f → IsChangedFrom count (trimmed t f)

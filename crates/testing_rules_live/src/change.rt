@@ -106,7 +106,7 @@ fn push_standing(
     Ok(())
 }
 
-/// The places of the rows that are present of the group's sources.
+/// The places of the present rows of the group's sources.
 fn standing_of_group(
     alloc: Global,
     pool: &Pool,
@@ -144,7 +144,7 @@ fn push_giving_way(
     Ok(())
 }
 
-/// The places of the rows that are present that give way to those that come: they have their key.
+/// The places of the present rows that give way to those that come: they have their key.
 fn giving_way(
     alloc: Global,
     pool: &Pool,
@@ -164,7 +164,7 @@ fn giving_way(
     Ok(leaving)
 }
 
-/// The rows that come by a move of the group, and those that leave: the rows that are present of its sources, and those of the
+/// The rows that come by a move of the group, and those that leave: the present rows of its sources, and those of the
 /// key of one that comes. Unstable's rows begin at the first place. Near the guessed place a source is looked for first.
 pub fn change_by_move(
     alloc: Global,
@@ -187,7 +187,7 @@ pub fn change_by_move(
     Ok(Change { leaving, coming })
 }
 
-/// The rows that leave by a removal of the source: its rows that are present.
+/// The rows that leave by a removal of the source: its present rows.
 pub fn change_by_removal(
     alloc: Global,
     pool: &Pool,

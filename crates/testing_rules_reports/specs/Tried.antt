@@ -5,7 +5,7 @@ use Rattle.jiff_core.specs.declared.civil.date.Date.{Date}
 use Rattle.jiff.specs.Words.{date_text}
 use Rattle.testing_rules_reports.specs.Changes.{changes, excuse_lines}
 use Rattle.testing_rules_reports.specs.declared.telling.Decided.{Decided}
-use Rattle.testing_rules_reports.specs.declared.telling.Tried.{Tried}
+use Rattle.testing_rules_reports.specs.declared.telling.TrialReport.{TrialReport}
 
 -- the line on a hint of a sender, under its number, that is tried for a run of a date
 abbrev pub try_line : ℕ → Date → List ℕ → ℕ → List ℕ → List ℕ
@@ -26,9 +26,9 @@ changes_text first second =
     ++ changes (codes "-testing ") (codes "+testing ") (lines first.testing) (lines second.testing)
 
 -- what hints of a sender would change
-abbrev pub tried_text : List ℕ → List (List ℕ) → Tried → List ℕ
+abbrev pub tried_text : List ℕ → List (List ℕ) → TrialReport → List ℕ
 tried_text sender hints tried = try_lines tried.run tried.date sender tried.first hints ++ changes_text tried.without tried.with
 
 -- whether they would change anything
-abbrev pub has_changes : Tried → Bool
+abbrev pub has_changes : TrialReport → Bool
 has_changes tried = not (length (changes_text tried.without tried.with) == 0)

@@ -9,4 +9,4 @@ mod telling;
 pub use lines::lines_of;
 pub use report::{excuses_text, push_reason_words, testing_text, update_text};
 pub use sources::{source_text, waits_in};
-pub use telling::{Decided, Tried, has_changes, tried_text};
+pub use telling::{Decided, TrialReport, has_changes, tried_text};

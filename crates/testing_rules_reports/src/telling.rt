@@ -19,7 +19,7 @@ pub struct Decided {
 
 /// What the next run would decide without some hints, and with them. They have a number each, from `first` on.
 #[derive(Drop)]
-pub struct Tried {
+pub struct TrialReport {
     pub run: u32,
     pub date: Date,
     pub first: u32,
@@ -33,7 +33,7 @@ pub fn tried_text(
     alloc: Global,
     sender: &str,
     hints: &[Text],
-    tried: &Tried,
+    tried: &TrialReport,
 ) -> Result<Text, NoMemory>
     ensures { IfOk result (λ text. text ≡ tried_text sender.now hints.now tried.now) }
 {
@@ -44,7 +44,7 @@ pub fn tried_text(
 }
 
 /// Whether the hints change anything: whether one of the two runs has a line that the other one hasn't.
-pub fn has_changes(alloc: Global, tried: &Tried) -> Result<bool, NoMemory>
+pub fn has_changes(alloc: Global, tried: &TrialReport) -> Result<bool, NoMemory>
     ensures { IfOk result (λ has. has ≡ has_changes tried.now) }
 {
     let mut text = String::new(alloc);
@@ -57,7 +57,7 @@ fn push_tries(
     text: &mut String,
     sender: &str,
     hints: &[Text],
-    tried: &Tried,
+    tried: &TrialReport,
 ) -> Result<(), AllocError>
     ensures { OnOk result (string_bytes text.new ≡ string_bytes text.old ++ try_lines tried.now.run tried.now.date sender.now tried.now.first hints.now) }
 {

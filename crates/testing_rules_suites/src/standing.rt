@@ -19,14 +19,14 @@ use testing_rules_model::{LentRow, RowIn, is_row};
 
 /// Where a row was found in a pool, if it was, and at which of the places the search for the next row begins.
 #[derive(Clone, Copy)]
-struct Found {
+struct PoolMatch {
     place: Option<usize>,
     next: usize,
 }
 
 /// Looks for a row at places of the pool, from one of them on. Where the places are in the order of the keys of their rows,
 /// and no row of a lower key is looked for after it, a row is found that is there.
-fn look_for(pool: &Pool, places: &[usize], from: usize, row: &RowIn) -> Found
+fn look_for(pool: &Pool, places: &[usize], from: usize, row: &RowIn) -> PoolMatch
     requires { All (λ k. k < length pool.now) places.now }
     ensures { IfSome result.place (λ k. slice_get pool.now k ≡ Some row.now) }
 {
@@ -35,16 +35,16 @@ fn look_for(pool: &Pool, places: &[usize], from: usize, row: &RowIn) -> Found
         let place = places[next];
         let other = pool.row(place);
         if is_row(&other, row) {
-            return Found {
+            return PoolMatch {
                 place: Some(place),
                 next: next + 1,
             };
         }
         if order_rows(&wanted, &other).is_lt() {
-            return Found { place: None, next };
+            return PoolMatch { place: None, next };
         }
     }
-    Found {
+    PoolMatch {
         place: None,
         next: places.len(),
     }

@@ -57,8 +57,8 @@ returns-in-Ok-clause-kept g c = λ trusted legible stands.
     let stood : StandsFor f (said_within setup content.kept (slice_index c.deref.result.now) n) c.in_ok-earlier.earlier =
     subst (λ (t : Suite). StandsFor f (said_within setup content.kept (slice_index c.deref.result.now) n) t) (sym testing)
     (subst (λ (xs : List ℕ). StandsFor f (said_within setup content.kept (slice_index xs) n) content.testing) (sym c.deref.ensures.value) stands) in
-    subst (λ (xs : List ℕ). KeptFacts c.go_with.new.facts (said_within setup content.kept (slice_index xs) n) c.in_ok-earlier.left.testing) c.deref.ensures.value
-    (subst (λ (m : Content). StandsFor f (said_within setup m.kept (slice_index c.deref.result.now) n) c.in_ok-earlier.earlier → KeptFacts c.go_with.new.facts (said_within setup m.kept (slice_index c.deref.result.now) n) c.in_ok-earlier.left.testing) same
+    subst (λ (xs : List ℕ). KeptFacts c.follow_testing.new.facts (said_within setup content.kept (slice_index xs) n) c.in_ok-earlier.left.testing) c.deref.ensures.value
+    (subst (λ (m : Content). StandsFor f (said_within setup m.kept (slice_index c.deref.result.now) n) c.in_ok-earlier.earlier → KeptFacts c.follow_testing.new.facts (said_within setup m.kept (slice_index c.deref.result.now) n) c.in_ok-earlier.left.testing) same
     (c.in-Ok.ensures.kept trusted) stood)
 
 pub returns-in-Ok-clause-way : goal.returns-in-Ok-clause-way
@@ -67,7 +67,7 @@ returns-in-Ok-clause-way g c = λ trusted was.
     let content : Content = g.K.Keeper.content c.args.keeper.now in
     let t2 = c.in-Ok.ensures.looks.before trusted in
     let same : g.K.Keeper.content c.next_testing.new.keeper ≡ content = c.in_ok-testing.ensures.looks.same t2 in
-    subst (λ (m : Content). AreUnderWay setup m c.args.known.now.facts → AreUnderWay setup m c.go_with.new.facts) same (c.in-Ok.ensures.way trusted) was
+    subst (λ (m : Content). AreUnderWay setup m c.args.known.now.facts → AreUnderWay setup m c.follow_testing.new.facts) same (c.in-Ok.ensures.way trusted) was
 
 pub returns-in-Ok-clause-held : goal.returns-in-Ok-clause-held
 returns-in-Ok-clause-held g c = λ trusted way own.
@@ -83,4 +83,4 @@ returns-in-Err-clause-looks g c =
     let a = c.args.keeper.now in
     let d = c.next_testing.new.keeper in
     let so = looked_then keeper a a d (looked_none keeper a) c.in_ok-testing.ensures.looks in
-    looked_fails keeper a d c.go_with.new.keeper c.in-Err.fault c.in-Err.fault _ refl refl so c.in-Err.ensures.looks
+    looked_fails keeper a d c.follow_testing.new.keeper c.in-Err.fault c.in-Err.fault _ refl refl so c.in-Err.ensures.looks

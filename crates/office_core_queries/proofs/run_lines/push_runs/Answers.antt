@@ -16,17 +16,17 @@ pub runs-preserved : goal.runs-preserved
 runs-preserved g c =
     let keeper = g.K.Keeper in
     let so = c.runs.invariant in
-    let next = c.in_ok-push_next.ensures in
+    let next = c.in_ok-push_run_line.ensures in
     record {
-      asks = asks_twice keeper c.args.office.now c.runs.office c.push_next.new.office so.asks next.asks;
-      text = λ h few. lines_more keeper c.args.office.now c.runs.office c.push_next.new.office c.runs.done (string_bytes c.args.text.now) (string_bytes c.runs.text) (string_bytes c.push_next.new.text) so.asks next.asks
+      asks = asks_twice keeper c.args.office.now c.runs.office c.push_run_line.new.office so.asks next.asks;
+      text = λ h few. lines_more keeper c.args.office.now c.runs.office c.push_run_line.new.office c.runs.done (string_bytes c.args.text.now) (string_bytes c.runs.text) (string_bytes c.push_run_line.new.text) so.asks next.asks
           (λ before. so.text before few) next.text h (omega (arith, c.runs-test.true, few));
       within = omega (arith, c.runs-test.true);
       counted = next.counted ∙ so.counted;
     }
 
-pub returns-in_err-push_next-clause-asks : goal.returns-in_err-push_next-clause-asks
-returns-in_err-push_next-clause-asks g c = asks_twice g.K.Keeper c.args.office.now c.runs.office c.push_next.new.office c.runs.invariant.asks c.in_err-push_next.ensures.asks
+pub returns-in_err-push_run_line-clause-asks : goal.returns-in_err-push_run_line-clause-asks
+returns-in_err-push_run_line-clause-asks g c = asks_twice g.K.Keeper c.args.office.now c.runs.office c.push_run_line.new.office c.runs.invariant.asks c.in_err-push_run_line.ensures.asks
 
 pub returns-clause-text : goal.returns-clause-text
 returns-clause-text g c = λ h all.

@@ -32,9 +32,9 @@ returns-clause-changed c =
     let revived = c.in_ok-revive.ensures.revived (marked c.args.marks.now.current) begun in
     changed rows c.args.there.now.current c.args.marks.now.current c.args.leaving.now c.args.coming.now c.requires.right leaving coming c.set_all-3.new.marks.current c.set_all-4.new.marks.current c.revive.new.marks.current c.revive.new.fresh.items there marks (rw c.current.ensures at revived)
     c.in_ok-from_slice.field-0.items c.new.result.items c.deref.result.now c.in_ok-from_slice.ensures.ok c.new.ensures.items c.deref.ensures
-    c.look_at.new.marks.current c.look_at.new.falls.waiting.items c.look_at.new.falls.fallen.items (λ set first s. c.in_ok-look_at.ensures.step set first [] (settling_whole rows set first _ _ _ _ _ s))
-    c.take_turns.new.marks.current c.take_turns.new.falls.waiting.items c.take_turns.new.falls.fallen.items c.in_ok-take_turns.ensures.step
-    c.in_ok-take_turns.ensures.sized c.in_ok-take_turns.ensures.empty
+    c.check_clauses.new.marks.current c.check_clauses.new.falls.waiting.items c.check_clauses.new.falls.fallen.items (λ set first s. c.in_ok-check_clauses.ensures.step set first [] (settling_whole rows set first _ _ _ _ _ s))
+    c.propagate.new.marks.current c.propagate.new.falls.waiting.items c.propagate.new.falls.fallen.items c.in_ok-propagate.ensures.step
+    c.in_ok-propagate.ensures.sized c.in_ok-propagate.ensures.empty
 
 pub returns-in_err-set_all-clause-there : goal.returns-in_err-set_all-clause-there
 returns-in_err-set_all-clause-there c = IfOk-from_err c.from_residual.result _ c.from_residual.ensures.0
@@ -78,14 +78,14 @@ returns-in_err-from_slice-clause-there c = IfOk-from_err c.from_residual-in_err-
 pub returns-in_err-from_slice-clause-changed : goal.returns-in_err-from_slice-clause-changed
 returns-in_err-from_slice-clause-changed c = IfOk-from_err c.from_residual-in_err-from_slice.result _ c.from_residual-in_err-from_slice.ensures.0
 
-pub returns-in_err-look_at-clause-there : goal.returns-in_err-look_at-clause-there
-returns-in_err-look_at-clause-there c = IfOk-from_err c.from_residual-in_err-look_at.result _ c.from_residual-in_err-look_at.ensures.0
+pub returns-in_err-check_clauses-clause-there : goal.returns-in_err-check_clauses-clause-there
+returns-in_err-check_clauses-clause-there c = IfOk-from_err c.from_residual-in_err-check_clauses.result _ c.from_residual-in_err-check_clauses.ensures.0
 
-pub returns-in_err-look_at-clause-changed : goal.returns-in_err-look_at-clause-changed
-returns-in_err-look_at-clause-changed c = IfOk-from_err c.from_residual-in_err-look_at.result _ c.from_residual-in_err-look_at.ensures.0
+pub returns-in_err-check_clauses-clause-changed : goal.returns-in_err-check_clauses-clause-changed
+returns-in_err-check_clauses-clause-changed c = IfOk-from_err c.from_residual-in_err-check_clauses.result _ c.from_residual-in_err-check_clauses.ensures.0
 
-pub returns-in_err-take_turns-clause-there : goal.returns-in_err-take_turns-clause-there
-returns-in_err-take_turns-clause-there c = IfOk-from_err c.from_residual-in_err-take_turns.result _ c.from_residual-in_err-take_turns.ensures.0
+pub returns-in_err-propagate-clause-there : goal.returns-in_err-propagate-clause-there
+returns-in_err-propagate-clause-there c = IfOk-from_err c.from_residual-in_err-propagate.result _ c.from_residual-in_err-propagate.ensures.0
 
-pub returns-in_err-take_turns-clause-changed : goal.returns-in_err-take_turns-clause-changed
-returns-in_err-take_turns-clause-changed c = IfOk-from_err c.from_residual-in_err-take_turns.result _ c.from_residual-in_err-take_turns.ensures.0
+pub returns-in_err-propagate-clause-changed : goal.returns-in_err-propagate-clause-changed
+returns-in_err-propagate-clause-changed c = IfOk-from_err c.from_residual-in_err-propagate.result _ c.from_residual-in_err-propagate.ensures.0

@@ -6,18 +6,18 @@ use Rattle.testing_install.specs.Rows.{shared}
 use Rattle.testing_install.specs.Settling.{IsSettling}
 use Rattle.testing_install.proofs.settle.look_at_needers.Goals as goal
 
-pub look_at-requires-clause-places : goal.look_at-requires-clause-places
-look_at-requires-clause-places c = within_places _ _ _ _ c.places-named.ensures (length-shared c.args.graph.now.rows.items) (c.requires.graph.needed.within c.as_str.result.now)
+pub check_clauses-requires-clause-places : goal.check_clauses-requires-clause-places
+check_clauses-requires-clause-places c = within_places _ _ _ _ c.places-named.ensures (length-shared c.args.graph.now.rows.items) (c.requires.graph.needed.within c.as_str.result.now)
 
-pub look_at-requires-in-loop-provision-clause-places : goal.look_at-requires-in-loop-provision-clause-places
-look_at-requires-in-loop-provision-clause-places c = within_places _ _ _ _ c.places-given.ensures (length-shared c.args.graph.now.rows.items) (c.requires.graph.needed.within c.as_str-in-loop-provision.result.now)
+pub check_clauses-requires-in-loop-provision-clause-places : goal.check_clauses-requires-in-loop-provision-clause-places
+check_clauses-requires-in-loop-provision-clause-places c = within_places _ _ _ _ c.places-given.ensures (length-shared c.args.graph.now.rows.items) (c.requires.graph.needed.within c.as_str-in-loop-provision.result.now)
 
 pub loop-provision-init : goal.loop-provision-init
 loop-provision-init c =
     let rows = shared c.args.graph.now.rows.items in
     let needers = c.args.graph.now.needers in
     let lost = c.args.lost.now in
-    let one = c.in_ok-look_at.ensures in
+    let one = c.in_ok-check_clauses.ensures in
     let begun = from_first needers lost _ _ c.places-named.ensures c.as_str.ensures in
     record {
       sized = one.sized;
@@ -32,7 +32,7 @@ loop-provision-preserved c =
     let needers = c.args.graph.now.needers in
     let lost = c.args.lost.now in
     let i = c.loop-provision.provision-index in
-    let one = c.in_ok-look_at-2.ensures in
+    let one = c.in_ok-check_clauses-2.ensures in
     let before = c.loop-provision.invariant in
     let next = from_next needers lost i _ _ _ _ c.as_slice-provision-items.ensures c.loop-provision-test.true c.provision-item.is c.as_str-in-loop-provision.ensures c.places-given.ensures in
     record {

@@ -2,7 +2,7 @@ use Rattle.std.proofs.Common.{◌++◌, [], ◌∙◌, ap, arith, filter, map, n
 use Rattle.testing_rules_model.specs.Boxed.{unboxed}
 use Rattle.testing_rules_model.specs.FactLists.{FactLists}
 use Rattle.testing_rules_facts.specs.Entries.{with_entry}
-use Rattle.testing_rules_fact_order.specs.declared.entry.Entry.TheVariants.{Dropped}
+use Rattle.testing_rules_fact_order.specs.declared.entry.FactUpdate.TheVariants.{Dropped}
 use Rattle.testing_rules_facts.proofs.Shifting.{dropped}
 use Rattle.testing_rules_model.specs.FactOrder.{AreByPair, AreDropsByPair}
 use Rattle.testing_rules_model.specs.FactRows.{build_row, drop_row}

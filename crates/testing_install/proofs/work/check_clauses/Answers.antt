@@ -2,7 +2,7 @@ use Rattle.std.proofs.Common.{arith, drop, ◌+◌, ◌∙◌}
 use Rattle.testing_install.proofs.Looking.{work_next, work_all, next_in, length-pairs}
 use Rattle.testing_install.proofs.Places.{length-binaries}
 use Rattle.testing_install.specs.Rows.{binaries}
-use Rattle.testing_install.proofs.work.look_at.Goals as goal
+use Rattle.testing_install.proofs.work.check_clauses.Goals as goal
 
 pub look-requires-clause-claim : goal.look-requires-clause-claim
 look-requires-clause-claim c = omega (arith, next_in _ _ c.args.claims.now _ c.loop-claim-test.true c.loop-claim.invariant.work, length-pairs (binaries c.args.ground.now.rows.now) _ c.requires.ground.claims_are)

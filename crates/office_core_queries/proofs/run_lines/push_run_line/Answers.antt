@@ -2,7 +2,7 @@ use Rattle.std.proofs.Common.{[], unwrap_or, ap, ◌++◌, ◌∙◌, string_byt
 use Rattle.office_core.proofs.CarryFacts.{asks_twice}
 use Rattle.office_core_queries.specs.RunLines.{run_line}
 use Rattle.office_core_queries.proofs.ReportFacts.{line_answered}
-use Rattle.office_core_queries.proofs.run_lines.push_next.Goals as goal
+use Rattle.office_core_queries.proofs.run_lines.push_run_line.Goals as goal
 
 pub returns-in_err-update-clause-asks : goal.returns-in_err-update-clause-asks
 returns-in_err-update-clause-asks g c = asks_twice g.K.Keeper c.args.office.now c.excuses_of.new.office c.update_of.new.office c.in_ok-excuses.ensures.asks c.in_err-update.ensures.asks

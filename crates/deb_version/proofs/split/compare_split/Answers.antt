@@ -5,7 +5,7 @@ use Rattle.deb_version.specs.Laws.{same_refl}
 use Rattle.deb_version.specs.Order.{version_cmp}
 use Rattle.deb_version.specs.Text.{epoch_of, upstream_of, revision_of}
 use Rattle.deb_version.proofs.Steps.{epochs_decide, upstreams_decide, revisions_decide}
-use Rattle.deb_version.proofs.split.order_split.Goals as goal
+use Rattle.deb_version.proofs.split.compare_split.Goals as goal
 
 pub returns-then-eq : goal.returns-then-eq
 returns-then-eq c =

@@ -2,7 +2,7 @@ use Rattle.std.proofs.Common.{◌≡◌, ◌+◌, ℕ, Bool, List, [], length, N
 use Rattle.std.specs.List.{count_by}
 use Rattle.testing_install.specs.Rows.{shared}
 use Rattle.testing_install.specs.Settling.{IsSized, IsSettling}
-use Rattle.testing_install.proofs.settle.take_turns.Given as goal
+use Rattle.testing_install.proofs.settle.propagate.Given as goal
 
 abbrev pub invariant-loop-place : goal.invariant-loop-place
 invariant-loop-place l = record {

@@ -9,7 +9,7 @@ use Rattle.office_store_keeper.specs.Content.{Content}
 use Rattle.office_core_facts.specs.Walk.{said_within}
 use Rattle.office_core_facts.proofs.AgainFacts.{again_stand, none_stand}
 use Rattle.office_core_facts.proofs.WalkFacts.{one_of_each}
-use Rattle.office_core_facts.proofs.retaking.retake.Goals as goal
+use Rattle.office_core_facts.proofs.retaking.retake_uploads.Goals as goal
 
 pub returns-clause-stands : goal.returns-clause-stands
 returns-clause-stands g c = λ trusted.

@@ -10,7 +10,7 @@ use Rattle.testing_rules_model.proofs.Unboxed.{unboxed-at, unboxed-length, unbox
 use Rattle.testing_rules_model.proofs.KeyOrder.{searchable}
 use Rattle.testing_rules_facts.proofs.KeySlots.{kept-found, kept-missing, outlives-other}
 use Rattle.testing_rules_facts.proofs.KeyShifts.{gone-at, gone-missing}
-use Rattle.testing_rules_facts.proofs.taken.take_row.Goals as goal
+use Rattle.testing_rules_facts.proofs.taken.remove_dropped.Goals as goal
 
 pub returns-then-outlives-clause-items : goal.returns-then-outlives-clause-items
 returns-then-outlives-clause-items c =

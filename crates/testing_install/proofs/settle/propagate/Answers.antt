@@ -3,7 +3,7 @@ use Rattle.testing_install.proofs.Needing.{needer_found}
 use Rattle.testing_install.proofs.Sharing.{shared_at, length-shared}
 use Rattle.testing_install.proofs.Settled.{settling_turn, settling_calm, sized_turn, turn_in}
 use Rattle.testing_install.specs.Rows.{shared}
-use Rattle.testing_install.proofs.settle.take_turns.Goals as goal
+use Rattle.testing_install.proofs.settle.propagate.Goals as goal
 
 pub index-requires : goal.index-requires
 index-requires c = omega (arith, turn_in _ _ _ _ _ c.loop-place.invariant.sized c.in-Some.ensures.items, length-shared c.args.graph.now.rows.items, c.args.graph.now.rows.ok.0)

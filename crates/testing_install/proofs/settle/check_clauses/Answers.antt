@@ -1,7 +1,7 @@
 use Rattle.std.proofs.Common.{◌∙◌, ◌+◌, ◌++◌, drop}
 use Rattle.testing_install.proofs.Settled.{settling_next, settling_last}
 use Rattle.testing_install.specs.Rows.{shared}
-use Rattle.testing_install.proofs.settle.look_at.Goals as goal
+use Rattle.testing_install.proofs.settle.check_clauses.Goals as goal
 
 pub loop-place-preserved : goal.loop-place-preserved
 loop-place-preserved c = record {
