@@ -58,7 +58,7 @@ fn shows_refused_at(due: &[u8], end: &[u8], place: usize) -> bool {
     }
 }
 
-/// The same from some place on.
+/// Whether an end is the due one, but for a line that stands for one text or more, from some place on.
 fn shows_one_refused(due: &[u8], end: &[u8]) -> bool {
     let mut shows = false;
     for place in 0..due.len() {

@@ -37,7 +37,7 @@ pub fn try_binary(alloc: Global) -> Result<(), Met> {
     }
 }
 
-/// The same by its paragraph.
+/// A binary is read whole from its paragraph, or memory ran out.
 fn try_paragraph(alloc: Global, paragraph: &Paragraph<'_>) -> Result<(), Met> {
     match Binary::parse(alloc, paragraph) {
         Ok(binary) => {
@@ -185,7 +185,7 @@ pub fn try_in_memory(alloc: Global, letters: &[Letter]) -> Result<(), Met> {
     tried
 }
 
-/// The same in an office over tables that are opened in this connection.
+/// These letters, in an office over tables that are opened in this connection.
 fn try_over<S: Alter + Drop>(
     alloc: Global,
     setup: Setup,
@@ -206,7 +206,7 @@ fn try_over<S: Alter + Drop>(
     }
 }
 
-/// The same in an office over a store, which is given back.
+/// These letters, in an office over a store, which is given back.
 fn try_in<K: Keeper>(
     alloc: Global,
     setup: Setup,

@@ -18,7 +18,7 @@ pub fn try_moves(alloc: Global) -> Result<(), Met> {
     tried
 }
 
-/// The same by a setup.
+/// The moves of the group by a setup.
 fn try_group(alloc: Global, setup: &Setup) -> Result<(), Met> {
     let mut facts = Facts::new(alloc);
     let tried = match take_group(alloc, setup, &mut facts) {
@@ -69,7 +69,7 @@ fn try_facts(alloc: Global, archs: &Archs, facts: &Facts) -> Result<(), Met> {
     tried
 }
 
-/// The same from this testing.
+/// The moves by the group's facts, from this testing.
 fn try_testing(
     alloc: Global,
     archs: &Archs,
@@ -114,7 +114,7 @@ fn try_moves_by(
     }
 }
 
-/// The same behind moves that were refused, which left testing as it was.
+/// The update of the moves is the due one behind moves that were refused, which left testing as it was.
 fn try_moves_again(
     alloc: Global,
     archs: &Archs,

@@ -36,7 +36,7 @@ fn replay_read(alloc: Global, bag: &[u8], fails_at: u32) -> Result<bool, Met> {
     judged
 }
 
-/// The same in an office that is new, to a writer that doesn't fail.
+/// A replay whose reader fails, in an office that is new, to a writer that doesn't fail.
 fn judge_replay<K: Keeper>(
     alloc: Global,
     office: &mut Office<K>,
@@ -97,7 +97,7 @@ fn post_read(alloc: Global, request: &[u8], front: &str, fails_at: u32) -> Resul
     judged
 }
 
-/// The same in an office that is new, to a writer that doesn't fail.
+/// A post whose reader fails, in an office that is new, to a writer that doesn't fail.
 fn judge_post<K: Keeper>(
     office: &mut Office<K>,
     request: &[u8],
@@ -167,7 +167,7 @@ fn endless_bag(alloc: Global) -> Result<Vec<u8>, NoMemory> {
     Ok(bytes)
 }
 
-/// The same in an office that is new, to a writer that doesn't fail.
+/// A replay of a bag without an end, in an office that is new, to a writer that doesn't fail.
 fn judge_endless<K: Keeper>(
     alloc: Global,
     office: &mut Office<K>,

@@ -347,7 +347,7 @@ fn judge_left(
     }
 }
 
-/// The same with the log that came back.
+/// What is wrong with a database, with the log that came back, if something is.
 fn judge_database(
     alloc: Global,
     stop: Stop,
@@ -379,7 +379,7 @@ fn judge_files<D: Disk + Drop>(
     }
 }
 
-/// The same over a connection.
+/// What is wrong with files that are opened again in this connection, if something is.
 fn judge_connection<S: Alter + Drop>(
     alloc: Global,
     conn: Connection<S>,
@@ -394,7 +394,7 @@ fn judge_connection<S: Alter + Drop>(
     }
 }
 
-/// The same with a setup.
+/// What is wrong with the office over a connection, for a setup, if something is.
 fn judge_over<S: Alter + Drop>(
     alloc: Global,
     setup: Setup,
@@ -411,7 +411,8 @@ fn judge_over<S: Alter + Drop>(
     }
 }
 
-/// The same of tables: the mail that they keep, and the office over them once they are opened once more.
+/// What is wrong with tables, if something is: with the mail that they keep, and with the office over them once they
+/// are opened once more.
 fn judge_kept<S: Alter + Drop>(
     alloc: Global,
     setup: Setup,
@@ -425,7 +426,7 @@ fn judge_kept<S: Alter + Drop>(
     due(keeps, "the mail").and(judged)
 }
 
-/// The same of the office over a connection, by the count of its finished runs.
+/// What is wrong with the office over a connection, by the count of its finished runs, if something is.
 fn judge_runs<S: Alter + Drop>(
     alloc: Global,
     setup: Setup,
@@ -447,7 +448,7 @@ fn judge_runs<S: Alter + Drop>(
     }
 }
 
-/// The same of the office over a store, which is given back.
+/// What is wrong with the office over a store, which is given back, if something is.
 fn judge_in<K: Keeper>(
     alloc: Global,
     setup: Setup,

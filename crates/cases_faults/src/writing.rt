@@ -75,7 +75,7 @@ fn replay_written(alloc: Global, bag: &[u8], kind: Kind, fails_at: u32) -> Resul
     judged
 }
 
-/// The same bag again in an office ends in the testing that is due.
+/// The whole bag again in an office ends in the testing that is due.
 fn judge_again<K: Keeper>(alloc: Global, office: &mut Office<K>, bag: &[u8]) -> Result<(), Met> {
     let (again, status) = replayed(alloc, office, bag)?;
     due(status == 0, "the bag again is refused")?;
@@ -125,7 +125,7 @@ fn try_replays(alloc: Global, bag: &[u8], kind: Kind) -> Result<(), Met> {
     )
 }
 
-/// The same for each kind of writer.
+/// A replay whose nth write fails, for each n and for each kind of writer.
 pub fn try_replay_writes(alloc: Global) -> Result<(), Met> {
     let bag = bag_of(alloc, first_letters(3))?;
     for kind in &KINDS {
@@ -149,7 +149,7 @@ fn post_written(
     judged
 }
 
-/// The same in an office that is new.
+/// A post to a writer that fails, in an office that is new.
 fn judge_post<K: Keeper>(
     office: &mut Office<K>,
     request: &[u8],
@@ -206,7 +206,8 @@ fn try_posts(
     )
 }
 
-/// The same for each kind of writer, of the longest message with this header. The client is told a front before.
+/// A post of the longest message, with this header, whose nth write fails, for each n and for each kind of writer. The
+/// client is told a front before.
 pub fn try_post_writes(alloc: Global, more: &str, front: &str) -> Result<(), Met> {
     let request = longest_post(alloc, more)?;
     let reply = format!(in alloc; "{front}{REPLY}")?;

@@ -118,7 +118,8 @@ pub fn put_in_noting(alloc: Global, row: &str, came: &mut String) -> Result<(), 
     }
 }
 
-/// The same with a setup.
+/// Adds what comes of a row in an office in memory with this setup, and of each sender the least number that was asked
+/// for.
 fn put_over_noting(
     alloc: Global,
     setup: Setup,

@@ -25,7 +25,7 @@ pub fn put_in_memory(alloc: Global, row: &str, came: &mut String) -> Result<(), 
     }
 }
 
-/// The same with a setup.
+/// Adds what comes of a row in one office in memory with this setup.
 fn put_over_plain(
     alloc: Global,
     setup: Setup,
@@ -82,7 +82,7 @@ pub fn put_in_tables(alloc: Global, row: &str, came: &mut String) -> Result<(), 
     }
 }
 
-/// The same over a connection.
+/// Adds what comes of a row over tables in this connection, which each sitting opens again.
 fn put_over_tables<S: Alter + Drop>(
     alloc: Global,
     conn: Connection<S>,
@@ -140,7 +140,7 @@ fn sit_over<S: Alter + Drop>(
     }
 }
 
-/// The same with a setup.
+/// Takes a sitting's steps over tables with this setup, which are closed behind it.
 fn sit_with<S: Alter + Drop>(
     alloc: Global,
     setup: Setup,

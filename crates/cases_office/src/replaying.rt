@@ -41,7 +41,8 @@ pub fn replay_in<K: Keeper>(
     replay_from(alloc, office, &mut whole_reader(bytes), came)
 }
 
-/// The same from a reader that gives a byte a call, and fails at one of the calls.
+/// Replays a bag from a reader that gives a byte a call, and fails at one of the calls. It adds all that is printed,
+/// and the exit status.
 pub fn replay_broken<K: Keeper>(
     alloc: Global,
     office: &mut Office<K>,
@@ -58,8 +59,8 @@ pub fn replay_broken<K: Keeper>(
     replay_from(alloc, office, &mut reader, came)
 }
 
-/// The same to a writer that takes a byte a call, and fails at one of the calls. Before what is printed it adds how
-/// many bytes that is.
+/// Replays a bag to a writer that takes a byte a call, and fails at one of the calls. It adds how many bytes were
+/// printed, what they are, and the exit status.
 pub fn replay_halting<K: Keeper>(
     alloc: Global,
     office: &mut Office<K>,

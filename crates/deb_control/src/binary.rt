@@ -63,8 +63,9 @@ impl Binary {
         read_binary(alloc, paragraph, None)
     }
 
-    /// The same, beside another binary and the paragraph that it was read from. If the two paragraphs have the same
-    /// texts under Pre-Depends and Depends, the clauses of the other binary are shared, and nothing is read for them.
+    /// The binary that a paragraph describes, or its first fault, beside another binary and the paragraph that it was
+    /// read from. If the two paragraphs have the same texts under Pre-Depends and Depends, the clauses of the other
+    /// binary are shared, and nothing is read for them.
     pub fn parse_like(
         alloc: Global,
         paragraph: &Paragraph<'_>,

@@ -19,7 +19,7 @@ fn run(rt: &HostRuntime) -> u8 {
     }
 }
 
-/// The same, for arguments that were read.
+/// Does what arguments that were read ask for, and gives the exit status.
 fn run_args(rt: &HostRuntime, args: &[String]) -> u8 {
     let texts = match as_texts(rt.alloc(), args) {
         Ok(texts) => texts,

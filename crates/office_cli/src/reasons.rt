@@ -48,7 +48,7 @@ pub fn why_for(
     }
 }
 
-/// The same over the store in a file.
+/// Tells why sources stand where a run left them, over the store in a file.
 fn why_stored(
     rt: &HostRuntime,
     path: &str,
@@ -72,7 +72,8 @@ fn why_stored(
     }
 }
 
-/// The same over the bag on standard input. Where the bag is refused or mail was lost, that alone is told.
+/// Tells why sources stand where a run left them, over the bag on standard input. Where the bag is refused or mail was
+/// lost, that alone is told.
 fn why_in_memory(rt: &HostRuntime, setup: Setup, run: Option<u32>, sources: &[&str]) -> u8 {
     let Ok(copy) = setup.copy(rt.alloc()) else {
         return out_of_memory(rt);

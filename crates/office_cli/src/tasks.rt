@@ -32,7 +32,7 @@ enum Task {
     Serve { port: u32, connections: u32 },
     /// What the first run that isn't ready waits for is told.
     Waiting,
-    /// The same, once the bag on standard input is delivered.
+    /// What the first run that isn't ready waits for is told, once the bag on standard input is delivered.
     BagWaiting,
     /// A report is told.
     Report(Report),

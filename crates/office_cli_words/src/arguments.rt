@@ -54,7 +54,7 @@ fn all_args(alloc: Global, args: Args) -> Result<Vec<String>, ArgsFault> {
     Ok(all)
 }
 
-/// The same as texts.
+/// The arguments as texts.
 pub fn as_texts<'a>(alloc: Global, args: &'a [String]) -> Result<Vec<&'a str>, ArgsFault> {
     let mut texts = Vec::new(alloc);
     for arg in args {

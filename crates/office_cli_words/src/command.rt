@@ -216,7 +216,7 @@ fn place<'a>(alloc: Global, id: &'a str, help: &'a str) -> Arg<'a>
     Arg::new(alloc, id).help(help).required(true)
 }
 
-/// The same, of which more may stand behind it.
+/// A value that is needed, by its place, of which more may stand behind it.
 fn places<'a>(alloc: Global, id: &'a str, help: &'a str) -> Arg<'a>
     ensures rule { rule_of result ≡ program.places id.entry.now }
     ensures local { result.global ≡ false }
@@ -300,7 +300,7 @@ fn with_part<'a>(
     }
 }
 
-/// The same of a command that perhaps couldn't be made itself.
+/// A command with one subcommand more, where perhaps the command itself couldn't be made. That is passed on.
 fn with_command<'a>(
     whole: Result<Command<'a>, AllocError>,
     part: Result<Command<'a>, AllocError>,

@@ -30,7 +30,7 @@ fn texts_of<'a>(
     }
 }
 
-/// The same texts, in a list of their own.
+/// A copy of a list of texts.
 fn copied<'a>(alloc: Global, texts: &[&'a str]) -> Result<Vec<&'a str>, AllocError>
     ensures { IfOk result (λ copy. copy.items ≡ texts.now) }
 {

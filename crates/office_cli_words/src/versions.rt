@@ -33,8 +33,8 @@ pub fn compare_status(v1: &str, op: &str, v2: &str) -> u8
     status(compared(v1, op, v2))
 }
 
-/// The same, after a line on standard error that names what is refused, and why. Where that line can't
-/// be written the status stays as it is.
+/// The exit status for V1 OP V2, after a line on standard error that names what is refused, and why. Where that line
+/// can't be written the status stays as it is.
 pub fn compare(rt: &impl Eprint, v1: &str, op: &str, v2: &str) -> u8
     ensures { result ≡ status_of (answer v1.now op.now v2.now) }
 {

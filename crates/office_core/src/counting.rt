@@ -42,7 +42,7 @@ fn count_each(counts: &mut Vec<u32>, replies: &[Reply])
     }
 }
 
-/// The same, for texts that were kept together, if they were.
+/// What is held by each answer raises its sender's count, if the texts were kept together.
 pub fn count_replies(counts: &mut Vec<u32>, answer: &Result<Option<Vec<Reply>>, StoreFault>)
     ensures { (kept : Kept) → IfOk answer.now (λ replies. IfSome replies (λ rs. AreKept kept rs.items)) → HasEach kept counts.old.items → HasEach kept counts.new.items }
 {

@@ -232,7 +232,7 @@ fn put_item(
     done
 }
 
-/// The same of an item that is lent.
+/// Puts the rows from a place to another back, which all name the message of this item, which is lent.
 fn put_facts(
     facts: &mut Facts,
     item: &Item,

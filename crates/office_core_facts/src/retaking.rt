@@ -145,7 +145,7 @@ fn retake_sender<K: Keeper>(
     Ok(())
 }
 
-/// The same of what a sender says behind a number up to another.
+/// The facts take the uploads of these names again, of what a sender says behind a number up to another.
 fn retake_block<K: Keeper>(
     alloc: Global,
     setup: &Setup,

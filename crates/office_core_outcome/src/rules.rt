@@ -54,7 +54,7 @@ fn run_rules(
     }
 }
 
-/// The same, and with it a copy of the testing before.
+/// A run by the rules from this testing, and with it a copy of the testing before.
 pub fn run_beside(
     alloc: Global,
     setup: &Setup,

@@ -187,7 +187,8 @@ fn try_behind<K: Keeper>(
     }
 }
 
-/// The same, where what is known is recalled first, if nothing is known yet.
+/// What hints would change in the run behind the finished ones, where what is known is recalled first, if nothing is
+/// known yet.
 fn try_after<K: Keeper>(
     alloc: Global,
     setup: &Setup,

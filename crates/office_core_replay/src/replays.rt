@@ -39,7 +39,7 @@ pub fn settle_behind<K: Keeper>(office: &mut Office<K>, reply: &Result<Held, Del
     settle_watched(office, reply, &mut Unwatched);
 }
 
-/// The same, of which a watcher is told.
+/// Settles behind a delivery that is held. A watcher is told how that went.
 fn settle_watched<K: Keeper, V: Watcher>(
     office: &mut Office<K>,
     reply: &Result<Held, DeliverFault>,
@@ -162,7 +162,8 @@ pub fn replay<K: Keeper, R: Feed, W: Sink>(
     replay_watched(office, bag, writer, &mut Unwatched)
 }
 
-/// The same, where a watcher is told each delivery.
+/// Delivers the messages of a bag that hasn't ended, settles, and writes what a replay writes. A watcher is told each
+/// delivery.
 pub fn replay_watched<K: Keeper, R: Feed, W: Sink, V: Watcher>(
     office: &mut Office<K>,
     bag: &mut Bag<R>,
@@ -216,7 +217,7 @@ fn replay_bag<K: Keeper, R: Feed, W: Sink, V: Watcher>(
     }
 }
 
-/// The same, where this count of runs is finished.
+/// Delivers the messages of a bag, where this count of runs is finished.
 fn replay_from<K: Keeper, R: Feed, W: Sink, V: Watcher>(
     office: &mut Office<K>,
     before: u32,

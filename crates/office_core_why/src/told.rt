@@ -149,7 +149,7 @@ fn with_origins(
     source_text(alloc, run, source, excuses, update, origins.as_str())
 }
 
-/// The same, with the lines on why the source can't move alone.
+/// What the reports of a run say of a source, with the lines on why the source can't move alone.
 fn with_reasons(
     alloc: Global,
     run: u32,

@@ -47,7 +47,8 @@ fn told_beside(
     Ok(Some(text))
 }
 
-/// The same over the testing that is kept, which is given back with what speeds the next run.
+/// What is told of a source by the reports of a run, over the testing that is kept, which is given back with what
+/// speeds the next run.
 fn tell_by<K: Keeper>(
     alloc: Global,
     setup: &Setup,
@@ -77,7 +78,7 @@ fn tell_by<K: Keeper>(
     told
 }
 
-/// The same by the reports that the store keeps of the run. Nothing is told where it keeps none.
+/// What is told of a source by the reports that the store keeps of the run. Nothing is told where it keeps none.
 fn tell<K: Keeper>(
     alloc: Global,
     setup: &Setup,
@@ -119,7 +120,7 @@ fn tell_unknown<K: Keeper>(
     told
 }
 
-/// The same by what is known, or else from the store.
+/// What is told of a source after the finished runs, by what is known of their mail, or else from the store.
 fn tell_known<K: Keeper>(
     alloc: Global,
     setup: &Setup,
@@ -164,7 +165,8 @@ fn why_on<K: Keeper>(
     tell_known(alloc, setup, keeper, known, orders, run, date, source)
 }
 
-/// The same on the day of the latest of these orders, none where there is no order.
+/// Why a source stands where the last finished run left it, which was on the day of the latest of these orders; none
+/// where there is no order.
 fn why_after<K: Keeper>(
     alloc: Global,
     setup: &Setup,

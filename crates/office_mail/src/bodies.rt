@@ -142,7 +142,7 @@ fn binary_in(alloc: Global, paragraph: &Paragraph<'_>) -> Result<Binary, MailFau
     }
 }
 
-/// The same, beside the binary of another paragraph.
+/// The binary that a paragraph describes, beside the binary of another paragraph.
 #[tactic(auto, unfolding(crate::specs::Read::binary_in))]
 fn binary_like(
     alloc: Global,

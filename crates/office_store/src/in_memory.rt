@@ -55,7 +55,7 @@ fn share_listed(archs: &Archs, testing: &mut Testing) -> Result<Option<Testing>,
     Ok(Some(testing.share()?))
 }
 
-/// The same of the testing in memory, where there is one.
+/// Equal testing with the suites that go with it, of the testing in memory, where there is one.
 fn share(setup: &Setup, in_memory: &mut Option<Testing>) -> Result<Option<Testing>, NoMemory>
     ensures same { in_memory.new ≡ in_memory.old }
     ensures shared { IfOk result (λ given. IfSome given (λ t. in_memory.old ≡ Some t)) }

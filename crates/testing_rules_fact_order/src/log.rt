@@ -80,7 +80,7 @@ impl Log {
         Ok(())
     }
 
-    /// The same, with room for one element more in a list.
+    /// Makes room for so many more rows and uploads, and for one element more in a list.
     pub fn reserve_with<T>(
         &mut self,
         list: &mut Vec<T>,

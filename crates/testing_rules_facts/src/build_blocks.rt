@@ -254,7 +254,7 @@ fn place_near(blocks: &[BuildBlock], arch: &str, name: &str, near: Near) -> usiz
     block_for(blocks, arch, name)
 }
 
-/// The same, and the place is near from now on.
+/// The place of the block for the architecture and the name, which is near from then on.
 fn block_near(blocks: &[BuildBlock], arch: &str, name: &str, near: &mut Near) -> usize
     requires { 0 < length blocks.now }
     ensures { IsBlockFor (arch.now, name.now) blocks.now result }

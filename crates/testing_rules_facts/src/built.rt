@@ -110,8 +110,8 @@ fn push_passing<'a>(
     Ok(())
 }
 
-/// The same, of builds in order: of those that are all of another architecture none is looked at, and of those that are
-/// all of this one no architecture is read.
+/// Those of the builds, which are in order, whose sources are let through come in as rows, at the place. Of builds that
+/// are all of another architecture none is looked at, and of those that are all of this one no architecture is read.
 fn push_ordered<'a>(
     rows: &mut Vec<LentRow<'a>>,
     builds: &'a [Box<BuildIn>],

@@ -84,7 +84,8 @@ pub fn source_in<'a>(sources: &'a [Box<UploadIn>], name: &str) -> Option<&'a Upl
     source_found(sources, name, place_of_upload(sources, name))
 }
 
-/// The same. The guessed place is tried first, and then the next one.
+/// The source of a name, among sources in the order of their names. The guessed place is tried first, and then the next
+/// one.
 pub fn source_near<'a>(
     sources: &'a [Box<UploadIn>],
     name: &str,

@@ -275,7 +275,8 @@ pub fn place_of_pair(rows: &[Box<BuildIn>], arch: &str, name: &str) -> Result<us
     )
 }
 
-/// The same, where the row at the place is above them. The one before it is tried first.
+/// Where the rows have the architecture and the name, or else where these belong, if the row at the place is above
+/// them. The row before it is tried first.
 fn place_below(rows: &[Box<BuildIn>], arch: &str, name: &str, place: usize) -> Result<usize, usize>
     requires within { place < length rows.now }
     requires above { HoldsAt (λ b. pair_order (pair_of b) (arch.now, name.now) ≡ Greater) (unboxed rows.now) place }
@@ -292,7 +293,8 @@ fn place_below(rows: &[Box<BuildIn>], arch: &str, name: &str, place: usize) -> R
     }
 }
 
-/// The same. Some rows from the guess on are tried first, and the one before it.
+/// Where the rows have the architecture and the name, or else where these belong. Some rows from the guess on are tried
+/// first, and the row before it.
 fn place_from(rows: &[Box<BuildIn>], arch: &str, name: &str, guess: usize) -> Result<usize, usize>
     ensures bound { IsSearchInRange result (length (unboxed rows.now)) }
     ensures found { IsBinarySearchResult (λ b. pair_order (pair_of b) (arch.now, name.now)) (unboxed rows.now) result }

@@ -63,7 +63,7 @@ fn place_of_name(slots: &[Slot], name: &str) -> Result<usize, usize>
     )
 }
 
-/// The same, with a look at the guessed place first.
+/// Where the slots have the name, or else where it belongs. The guessed place is looked at first.
 fn place_near(slots: &[Slot], name: &str, guess: usize) -> Result<usize, usize>
     ensures bound { IsSearchInRange result (length slots.now) }
     ensures found { IsBinarySearchResult (λ s. byte_cmp (name_of s) name.now) slots.now result }

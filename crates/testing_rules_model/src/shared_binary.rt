@@ -60,7 +60,7 @@ impl SharedBinary {
         SharedBinary::of(alloc, binary.copy(alloc)?)
     }
 
-    /// The same package.
+    /// This package, shared once more.
     pub fn share(&self) -> Result<SharedBinary, NoMemory>
         ensures { IfOk result (λ b. b ≡ self.now) }
     {

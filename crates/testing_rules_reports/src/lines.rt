@@ -61,7 +61,7 @@ fn excuse_lines(alloc: Global, text: &str) -> Result<Vec<Text>, AllocError>
     fronted(alloc, &found)
 }
 
-/// The same texts, lent.
+/// A list of texts, lent.
 fn lent_from<'a>(alloc: Global, all: &'a [Text]) -> Result<Vec<&'a str>, AllocError>
     ensures { IfOk result (λ found. lent_lines found.items ≡ all.now) }
 {
