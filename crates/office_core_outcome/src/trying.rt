@@ -99,7 +99,7 @@ fn decide_within<K: Keeper>(
 }
 
 /// What these letters of the release team would change in the run behind the finished ones, over these covers.
-fn try_letters<K: Keeper>(
+fn trial_of_letters<K: Keeper>(
     alloc: Global,
     setup: &Setup,
     keeper: &mut K,
@@ -132,7 +132,7 @@ fn try_letters<K: Keeper>(
 }
 
 /// What hints would change in the run behind the finished ones, over these covers, unless one is refused.
-fn try_on<K: Keeper>(
+fn trial_over_covers<K: Keeper>(
     alloc: Global,
     setup: &Setup,
     keeper: &mut K,
@@ -155,7 +155,7 @@ fn try_on<K: Keeper>(
     if let Some(refused) = take_hints(alloc, setup, &mut letters, number, hints)? {
         return Ok(Trial::Refused(refused));
     }
-    let told = try_letters(
+    let told = trial_of_letters(
         alloc, setup, keeper, known, orders, covers, finished, date, &letters,
     )?;
     Ok(Trial::Told(told))
@@ -163,7 +163,7 @@ fn try_on<K: Keeper>(
 
 /// What hints would change in the run behind the finished ones, of which these are the orders, unless there is no date or
 /// one of them is refused.
-fn try_behind<K: Keeper>(
+fn trial_after_orders<K: Keeper>(
     alloc: Global,
     setup: &Setup,
     keeper: &mut K,
@@ -180,7 +180,7 @@ fn try_behind<K: Keeper>(
 {
     let covers = trial_covers(alloc, setup, keeper, orders, terms.all)?;
     match trial_date(latest_day(orders), terms.day) {
-        Some(date) => try_on(
+        Some(date) => trial_over_covers(
             alloc, setup, keeper, known, orders, &covers, finished, date, hints,
         ),
         None => Ok(Trial::NoDate),
@@ -189,7 +189,7 @@ fn try_behind<K: Keeper>(
 
 /// What hints would change in the run behind the finished ones, where what is known is recalled first, if nothing is
 /// known yet.
-fn try_after<K: Keeper>(
+fn trial_of_next_run<K: Keeper>(
     alloc: Global,
     setup: &Setup,
     keeper: &mut K,
@@ -208,7 +208,7 @@ fn try_after<K: Keeper>(
     ensures looks { ReadsStore K.Keeper keeper.old keeper.new result }
 {
     remember(alloc, setup, keeper, known, orders, finished)?;
-    try_behind(alloc, setup, keeper, known, orders, finished, hints, terms)
+    trial_after_orders(alloc, setup, keeper, known, orders, finished, hints, terms)
 }
 
 /// What the next run of an office with this store would decide if these hints were covered too, beside what it would decide
@@ -237,5 +237,5 @@ pub fn try_hints<K: Keeper>(
 {
     let finished = stored::finished(keeper)?;
     let orders = finished_orders(alloc, setup, keeper, finished)?;
-    try_after(alloc, setup, keeper, known, &orders, finished, hints, terms)
+    trial_of_next_run(alloc, setup, keeper, known, &orders, finished, hints, terms)
 }

@@ -166,7 +166,7 @@ fn with_reasons(
 }
 
 /// What is told of a source by the excuses that a run left.
-fn told_by(
+fn lines_from_excuses(
     alloc: Global,
     senders: &[Text],
     archs: &Archs,
@@ -188,7 +188,7 @@ fn told_by(
 
 /// What is told of a source after a run of a date, whose senders have these names, over the messages that the facts stand
 /// for.
-fn told_of(
+fn lines_after_run(
     alloc: Global,
     senders: &[Text],
     archs: &Archs,
@@ -203,7 +203,7 @@ fn told_of(
     ensures same { testing.new ≡ testing.old }
 {
     let excuses = excuses(alloc, archs, facts, testing, date)?;
-    told_by(
+    lines_from_excuses(
         alloc,
         senders,
         archs,
@@ -218,7 +218,7 @@ fn told_of(
 
 /// What is told of a source after a run of a date by its reports and the testing that it left, over the messages that the
 /// facts stand for.
-pub(crate) fn told_after(
+pub(crate) fn lines_from_run(
     alloc: Global,
     setup: &Setup,
     facts: &Facts,
@@ -233,7 +233,7 @@ pub(crate) fn told_after(
 {
     let senders = sender_names(alloc, setup)?;
     let archs = setup.archs();
-    told_of(
+    lines_after_run(
         alloc, &senders, archs, facts, testing, run, date, reports, source,
     )
 }

@@ -15,7 +15,7 @@ ghost use Rattle.office_core_facts.specs.State.{IsOffice};
 ghost use Rattle.office_core_why.specs.Why.{IsWhy};
 ghost use Rattle.office_core_why.specs.Telling.{IsToldWith};
 
-use crate::told::told_after;
+use crate::told::lines_from_run;
 use deb_control::Text;
 use jiff_core::civil::Date;
 use office_core_facts::covered::{KnownFacts, covers};
@@ -29,7 +29,7 @@ use testing_rules_suites::Testing;
 
 /// What is told of a source by the reports of a run and the testing that it left, over the messages that the facts stand for.
 /// It fails for want of memory alone.
-fn told_beside(
+fn lines_from_reports(
     alloc: Global,
     setup: &Setup,
     facts: &Facts,
@@ -43,7 +43,7 @@ fn told_beside(
     ensures same { testing.new ≡ testing.old }
     ensures no_store { IfErr result (λ fault. fault ≡ StoreFault.NoMemory) }
 {
-    let text = told_after(alloc, setup, facts, testing, run, date, reports, source)?;
+    let text = lines_from_run(alloc, setup, facts, testing, run, date, reports, source)?;
     Ok(Some(text))
 }
 
@@ -64,7 +64,7 @@ fn tell_by<K: Keeper>(
     ensures looks { ReadsStore K.Keeper keeper.old keeper.new result }
 {
     let mut testing = stored::next_testing(keeper)?;
-    let told = told_beside(
+    let told = lines_from_reports(
         alloc,
         setup,
         facts,

@@ -82,7 +82,7 @@ fn refused_line(alloc: Global, hints: &[Text], refused: RefusedHint) -> Result<T
 }
 
 /// The text that tells what hints of the release team would change.
-fn told_text(
+fn trial_text(
     alloc: Global,
     setup: &Setup,
     hints: &[Text],
@@ -104,7 +104,7 @@ fn trial_answer(
     ensures place { IfOk result (λ answer. HasPlace setup.now answer) }
 {
     match trial {
-        Trial::Told(tried) => Ok(Answer::Told(told_text(alloc, setup, hints, tried)?)),
+        Trial::Told(tried) => Ok(Answer::Told(trial_text(alloc, setup, hints, tried)?)),
         Trial::NoDate => Ok(Answer::Refused(Refusal::NoRun)),
         Trial::Refused(refused) => Ok(Answer::BadHint(refused_line(alloc, hints, *refused)?)),
     }

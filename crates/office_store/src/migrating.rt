@@ -318,7 +318,7 @@ fn covered<S: Alter>(
 }
 
 /// The number of the last delays that the release team tells up to a cover.
-fn told_to<S: Alter>(
+fn last_delays_number<S: Alter>(
     alloc: Global,
     tx: &mut Transaction<'_, S>,
     setup: &Setup,
@@ -358,7 +358,7 @@ fn find_last<S: Alter>(
     ensures bad { IsTrusted (state S.Store tx.new.conn.now) → result ≡ Err (KeepFault.Store BadRow) → IsWhole (kept_rows ((state S.Store tx.old.conn.now).now.trees 1)) ((state S.Store tx.old.conn.now).now.trees 1) → AreMessages setup.now (kept_rows ((state S.Store tx.old.conn.now).now.trees 1)) finished → ⊥ }
 {
     let to = covered(alloc, tx, setup, finished)?;
-    told_to(alloc, tx, setup, to)
+    last_delays_number(alloc, tx, setup, to)
 }
 
 /// Puts in the number of the last delays, if there is one.

@@ -18,7 +18,7 @@ use testing_rules_model::{Excuse, Offender};
 use testing_rules_suites::{CarriedSuites, Testing};
 
 /// What moving the source of the excuse alone would break, and testing with the suites that told it.
-fn told_alone<'a>(
+fn alone_breaks<'a>(
     alloc: Global,
     archs: &Archs,
     unstable: Unstable<'_, 'a>,
@@ -55,7 +55,7 @@ pub fn broken_alone(
     ensures offender { IfOk result (λ o. o ≡ offender_alone archs.now (unboxed unstable.entry.sources.now) (lent unstable.entry.rows.now) testing.old excuse.now) }
 {
     let kept = testing.take_kept();
-    let (offender, same) = told_alone(alloc, archs, unstable, excuse, testing, kept)?;
+    let (offender, same) = alone_breaks(alloc, archs, unstable, excuse, testing, kept)?;
     *testing = same;
     Ok(offender)
 }

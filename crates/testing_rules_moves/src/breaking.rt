@@ -100,7 +100,7 @@ fn broken_by_change(
 /// What the move of a group breaks, told by the suites, and the change that was tried. There is none where the suites
 /// leave out the rows of one of its sources: then the move is judged anew. Near the guessed place a source is looked for
 /// first.
-fn told_by_move(
+fn broken_in_suites_by_move(
     alloc: Global,
     suites: &mut PoolSuites,
     archs: &Archs,
@@ -125,7 +125,7 @@ fn told_by_move(
 }
 
 /// What the removal of a source breaks, told by the suites.
-fn told_by_removal(
+fn broken_in_suites_by_removal(
     alloc: Global,
     suites: &mut PoolSuites,
     archs: &Archs,
@@ -176,7 +176,7 @@ pub fn broken_by_move(
     ensures change { IfOk result (λ told. IfSome told.1 (IsChangeBy rows.old (unboxed unstable.entry.sources.now) group.now)) }
 {
     if let LiveRows::Pooled(suites) = rows {
-        return told_by_move(alloc, suites, archs, unstable, near, group);
+        return broken_in_suites_by_move(alloc, suites, archs, unstable, near, group);
     }
     let offender = broken_by_move_of_held(alloc, rows, archs, unstable, group)?;
     Ok((offender, None))
@@ -261,7 +261,7 @@ pub fn broken_by_removal(
     ensures offender { IfOk result (λ o. o ≡ rules.offender_of archs.now (held rows.old) (rows_without name.now (held rows.old)) []) }
 {
     if let LiveRows::Pooled(suites) = rows {
-        return told_by_removal(alloc, suites, archs, name);
+        return broken_in_suites_by_removal(alloc, suites, archs, name);
     }
     let list = rows.list(alloc)?;
     broken_by_removal_anew(alloc, archs, name, &list)

@@ -15,9 +15,9 @@ use Rattle.testing_rules_suites.specs.AfterMoves.{moved_rows}
 
 module _ (archs : List Text) (sources : List UploadIn) (unstable : List RowIn) (old : List RowIn) (t : Suite) (e : Excuse) (same : old ≡ t.rows) where
   -- the rows after the move are those that the rules move
-  pub told_alone : (excuses : List Excuse) (text : Text) → IsToldChange archs sources unstable excuses old (moved_rows sources unstable (e.source ∷ []) old) e.source text
+  pub refusal_alone : (excuses : List Excuse) (text : Text) → IsToldChange archs sources unstable excuses old (moved_rows sources unstable (e.source ∷ []) old) e.source text
       → IsToldAlone archs sources unstable excuses t e text
-  told_alone excuses text c =
+  refusal_alone excuses text c =
       let now = subst (λ rows. IsToldChange archs sources unstable excuses rows (moved_rows sources unstable (e.source ∷ []) rows) e.source text) same c in
       record {
         offender = now.offender;

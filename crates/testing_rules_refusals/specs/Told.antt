@@ -26,8 +26,8 @@ abbrev pub met_where : Bool → Clause → List RowIn → List RowIn
 met_where is_unmet clause rows = if is_unmet then meeting clause rows else []
 
 -- the line of a row and its clause
-abbrev pub told_need : List RowIn → List Step → List RowIn → List RowIn → ℕ → RowNeed → ToldLine
-told_need rows steps before unstable number n =
+abbrev pub line_of_need : List RowIn → List Step → List RowIn → List RowIn → ℕ → RowNeed → ToldLine
+line_of_need rows steps before unstable number n =
     let met_by = bearers rows steps n.clause in
     record {
       number = number;
@@ -39,7 +39,7 @@ told_need rows steps before unstable number n =
 
 -- the line with the number
 abbrev pub told_at : List RowIn → List Step → List RowIn → List RowIn → ℕ → Option ToldLine
-told_at rows steps before unstable number = option_map (told_need rows steps before unstable number) (need_at rows steps number)
+told_at rows steps before unstable number = option_map (line_of_need rows steps before unstable number) (need_at rows steps number)
 
 -- the lines of the steps, by their numbers
 abbrev pub lines_of : List RowIn → List Step → List RowIn → List RowIn → List ToldLine

@@ -18,7 +18,7 @@ ghost use Rattle.testing_rules_suites.specs.AfterMoves.{moved_rows};
 use crate::refusal::{Refusal, refused};
 use crate::shown::shown_of;
 use crate::telling::{LoneMove, refusal_text};
-use crate::told::told_lines;
+use crate::told::refusal_lines;
 use deb_control::Text;
 use deb_version::NoMemory;
 use std::alloc::Global;
@@ -41,7 +41,7 @@ fn text_of<'a>(
         (lines_of (lent refusal.now.rows.items) refusal.now.steps.items (moves.rows_on refusal.now.offender.arch (lent old.now))
         (moves.rows_on refusal.now.offender.arch (lent lone.now.unstable.rows.now)))) }
 {
-    let told = told_lines(alloc, refusal, old, lone.unstable.rows)?;
+    let told = refusal_lines(alloc, refusal, old, lone.unstable.rows)?;
     refusal_text(alloc, lone, &told)
 }
 
@@ -68,7 +68,7 @@ fn refusal_of<'a>(
 
 /// Why the source can't come in alone, where that changes testing's rows from the old ones to the new ones, and it may
 /// be known what that breaks.
-fn told_change<'a>(
+fn refusal_of_change<'a>(
     alloc: Global,
     lone: &LoneMove<'_, 'a>,
     old: &[LentRow<'a>],
@@ -89,7 +89,7 @@ fn told_change<'a>(
 }
 
 /// Why the source can't move alone, where testing has these rows, and it may be known what that breaks.
-fn told_move<'a>(
+fn refusal_of_move<'a>(
     alloc: Global,
     lone: &LoneMove<'_, 'a>,
     old: &[LentRow<'a>],
@@ -105,11 +105,11 @@ fn told_move<'a>(
         (moved_rows (unboxed lone.now.unstable.sources.now) (lent lone.now.unstable.rows.now) (lone.now.excuse.now.source ∷ []) (lent old.now)) (lone.now.excuse.now.source ∷ []) ≡ None)) }
 {
     let new = moved_rows(alloc, old, lone.unstable, lone.group())?;
-    told_change(alloc, lone, old, &new, known)
+    refusal_of_change(alloc, lone, old, &new, known)
 }
 
 /// Why the source of an excuse can't move alone over testing, where it may be known what that breaks.
-fn told_knowing<'a>(
+fn refusal_if_known<'a>(
     alloc: Global,
     lone: &LoneMove<'_, 'a>,
     testing: &'a Testing,
@@ -122,13 +122,13 @@ fn told_knowing<'a>(
     ensures none { IfOk result (λ told. IfNone told (offender_alone lone.now.archs.now (unboxed lone.now.unstable.sources.now) (lent lone.now.unstable.rows.now) testing.now lone.now.excuse.now ≡ None)) }
 {
     let old = lend_rows(alloc, testing.rows())?;
-    told_move(alloc, lone, &old, known)
+    refusal_of_move(alloc, lone, &old, known)
 }
 
 /// Why the source of an excuse can't move alone over testing, in lines: the offender is that of the run's line on a source
 /// that waits. There is nothing exactly where moving it alone breaks nothing. It costs two judgements of the offender's
 /// architecture and of each one before it. The one error is want of memory.
-pub fn told_alone<'a>(
+pub fn refusal_alone<'a>(
     alloc: Global,
     lone: &LoneMove<'_, 'a>,
     testing: &'a Testing,
@@ -138,12 +138,12 @@ pub fn told_alone<'a>(
         testing.now lone.now.excuse.now text)) }
     ensures none { IfOk result (λ told. IfNone told (offender_alone lone.now.archs.now (unboxed lone.now.unstable.sources.now) (lent lone.now.unstable.rows.now) testing.now lone.now.excuse.now ≡ None)) }
 {
-    told_knowing(alloc, lone, testing, None)
+    refusal_if_known(alloc, lone, testing, None)
 }
 
 /// Why the source of an excuse can't move alone over testing, where that breaks the offender's row and unstable has the
 /// facts' sources and these rows.
-fn told_over<'a>(
+fn refusal_over_rows<'a>(
     alloc: Global,
     archs: &Archs,
     facts: &'a Facts,
@@ -167,7 +167,7 @@ fn told_over<'a>(
         excuses,
         excuse,
     };
-    told_knowing(alloc, &lone, testing, Some(offender))
+    refusal_if_known(alloc, &lone, testing, Some(offender))
 }
 
 /// What moving the source of an excuse alone over testing would break, where unstable has the facts' sources and these
@@ -193,7 +193,7 @@ fn broken_over(
 
 /// Why the source of an excuse can't move alone over testing, where that breaks the offender's row and the rows are built
 /// of the facts.
-fn told_beside<'f>(
+fn refusal_over_facts<'f>(
     alloc: Global,
     archs: &Archs,
     facts: &'f Facts,
@@ -207,13 +207,13 @@ fn told_beside<'f>(
     ensures some { IfOk result (λ told. IfSome told (λ text. IsToldAlone archs.now facts.now.sources (lent rows.now) excuses.now testing.now excuse.now text)) }
     ensures none { IfOk result (λ told. IfNone told (offender_alone archs.now facts.now.sources (lent rows.now) testing.now excuse.now ≡ None)) }
 {
-    told_over(
+    refusal_over_rows(
         alloc, archs, facts, rows, excuses, excuse, testing, offender,
     )
 }
 
 /// Why the source of an excuse can't move alone over testing, where unstable has the facts' sources and these rows.
-fn told_by_suites<'f>(
+fn refusal_by_suites<'f>(
     alloc: Global,
     archs: &Archs,
     facts: &'f Facts,
@@ -230,7 +230,7 @@ fn told_by_suites<'f>(
     let Some(offender) = broken_over(alloc, archs, facts, rows, excuse, testing)? else {
         return Ok(None);
     };
-    told_beside(
+    refusal_over_facts(
         alloc, archs, facts, rows, excuses, excuse, testing, offender,
     )
 }
@@ -240,7 +240,7 @@ fn told_by_suites<'f>(
 /// of the run's line on a source that waits. Testing stays as it is, and keeps the suites for the next call or run. Where
 /// it has them, and the excuse makes its source a candidate, it costs a few looks at each row of testing and of unstable, and
 /// what the move and the offender's clauses touch; else one judgement of all rows more. Where two rows of the offender's
-/// name stand on its architecture, that is judged anew, as `told_alone` does. The one error is want of memory.
+/// name stand on its architecture, that is judged anew, as `refusal_alone` does. The one error is want of memory.
 pub fn why_waits(
     alloc: Global,
     archs: &Archs,
@@ -254,5 +254,5 @@ pub fn why_waits(
     ensures none { IfOk result (λ told. IfNone told (offender_alone archs.now facts.now.sources (built_rows archs.now facts.now.rows) testing.old excuse.now ≡ None)) }
 {
     let rows = built_rows(alloc, archs, facts.rows())?;
-    told_by_suites(alloc, archs, facts, &rows, excuses, excuse, testing)
+    refusal_by_suites(alloc, archs, facts, &rows, excuses, excuse, testing)
 }

@@ -14,9 +14,9 @@ mod shown;
 mod telling;
 mod told;
 
-pub use alone::{told_alone, why_waits};
+pub use alone::{refusal_alone, why_waits};
 pub use lines::{push_clause, push_leaving, push_need, push_package};
 pub use needs::{Need, bearers, meeting, need_at};
 pub use refusal::{Refusal, refused};
 pub use telling::{LoneMove, refusal_text};
-pub use told::{Told, told_lines};
+pub use told::{Told, refusal_lines};

@@ -44,13 +44,13 @@ fn met_where<'a>(
 }
 
 /// The line of a row and its clause.
-fn told_need<'a>(
+fn line_of_need<'a>(
     alloc: Global,
     shown: &Shown<'_, 'a>,
     number: usize,
     need: Need<'a>,
 ) -> Result<Told<'a>, AllocError>
-    ensures { IfOk result (λ told. told_of told ≡ rules.told_need (lent shown.now.rows.now) shown.now.steps.now (lent shown.now.before.now) (lent shown.now.unstable.now) number (need_of need.entry)) }
+    ensures { IfOk result (λ told. told_of told ≡ rules.line_of_need (lent shown.now.rows.now) shown.now.steps.now (lent shown.now.before.now) (lent shown.now.unstable.now) number (need_of need.entry)) }
 {
     let met_by = bearers(alloc, shown.rows, shown.steps, need.clause)?;
     let is_unmet = met_by.is_empty();
@@ -81,7 +81,7 @@ fn lines_of<'a>(alloc: Global, shown: &Shown<'_, 'a>) -> Result<Vec<Told<'a>>, A
     let mut lines = Vec::new(alloc);
     for before in 0..shown.steps.len() {
         if let Some(need) = need_at(shown.rows, shown.steps, before + 1) {
-            lines.push(told_need(alloc, shown, before + 1, need)?)?;
+            lines.push(line_of_need(alloc, shown, before + 1, need)?)?;
         }
     }
     Ok(lines)
@@ -89,7 +89,7 @@ fn lines_of<'a>(alloc: Global, shown: &Shown<'_, 'a>) -> Result<Vec<Told<'a>>, A
 
 /// What shows why a change is refused, line by line, the offender first, where these were testing's rows before the change
 /// and these are unstable's. The one error is want of memory.
-pub fn told_lines<'a>(
+pub fn refusal_lines<'a>(
     alloc: Global,
     refusal: &Refusal<'a>,
     old: &[LentRow<'a>],

@@ -19,7 +19,7 @@ returns-clause-tried g c = λ trusted legible office.
     let given : List RunOrder = c.deref.result.now in
     let lent : given ≡ orders = c.deref.ensures.value in
     let known : Option KnownFacts = a.known.now in
-    let later = c.try_after.ensures.looks.before trusted in
+    let later = c.trial_of_next_run.ensures.looks.before trusted in
     let earlier = c.in_ok-orders.ensures.looks.before later in
     let at = c.in_ok-finished.ensures.looks.same earlier in
     let is = c.in_ok-finished.ensures.value earlier in
@@ -27,8 +27,8 @@ returns-clause-tried g c = λ trusted legible office.
     let first : FirstOrders setup content.kept orders = subst (λ (m : Content). FirstOrders setup m.kept orders) at (c.in_ok-orders.ensures.first later) in
     let are : orders ≡ orders_to setup content.kept (length content.reports) = subst (λ (m : Content). IsOffice setup m → finished ≡ length m.reports → orders ≡ orders_to setup m.kept (length m.reports)) at (c.in_ok-orders.ensures.orders later) office is in
     subst (λ (m : Content). IsOffice setup m → FirstOrders setup m.kept given → given ≡ orders_to setup m.kept (length m.reports) → finished ≡ length m.reports → IfSome known (λ (k : KnownFacts). AreKnown setup m k)
-    → IfOk c.try_after.result (IsTrial setup m.kept (length m.reports) a.terms a.hints.now))
-    (c.in_ok-orders.ensures.looks.same later ∙ at) (c.try_after.ensures.tried trusted readable) office (subst (FirstOrders setup content.kept) (sym lent) first) (lent ∙ are) is
+    → IfOk c.trial_of_next_run.result (IsTrial setup m.kept (length m.reports) a.terms a.hints.now))
+    (c.in_ok-orders.ensures.looks.same later ∙ at) (c.trial_of_next_run.ensures.tried trusted readable) office (subst (FirstOrders setup content.kept) (sym lent) first) (lent ∙ are) is
     (c.requires.known (c.in_ok-finished.ensures.looks.before earlier))
 
 pub returns-clause-known : goal.returns-clause-known
@@ -41,13 +41,13 @@ returns-clause-known g c = λ trusted.
     let given : List RunOrder = c.deref.result.now in
     let lent : given ≡ orders = c.deref.ensures.value in
     let old : Option KnownFacts = a.known.now in
-    let new : Option KnownFacts = c.try_after.new.known in
-    let later = c.try_after.ensures.looks.before trusted in
+    let new : Option KnownFacts = c.trial_of_next_run.new.known in
+    let later = c.trial_of_next_run.ensures.looks.before trusted in
     let earlier = c.in_ok-orders.ensures.looks.before later in
     let at = c.in_ok-finished.ensures.looks.same earlier in
     let same = c.in_ok-orders.ensures.looks.same later ∙ at in
     let is = c.in_ok-finished.ensures.value earlier in
     let first : FirstOrders setup content.kept orders = subst (λ (m : Content). FirstOrders setup m.kept orders) at (c.in_ok-orders.ensures.first later) in
-    subst (λ (m : Content). IfSome new (λ (k : KnownFacts). AreKnown setup m k)) (sym (c.try_after.ensures.looks.same trusted ∙ same))
-    (subst (λ (m : Content). FirstOrders setup m.kept given → finished ≡ length m.reports → IfSome old (λ (k : KnownFacts). AreKnown setup m k) → IfSome new (λ (k : KnownFacts). AreKnown setup m k)) same (c.try_after.ensures.known trusted)
+    subst (λ (m : Content). IfSome new (λ (k : KnownFacts). AreKnown setup m k)) (sym (c.trial_of_next_run.ensures.looks.same trusted ∙ same))
+    (subst (λ (m : Content). FirstOrders setup m.kept given → finished ≡ length m.reports → IfSome old (λ (k : KnownFacts). AreKnown setup m k) → IfSome new (λ (k : KnownFacts). AreKnown setup m k)) same (c.trial_of_next_run.ensures.known trusted)
     (subst (FirstOrders setup content.kept) (sym lent) first) is (c.requires.known (c.in_ok-finished.ensures.looks.before earlier)))

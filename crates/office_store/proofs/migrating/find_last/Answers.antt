@@ -13,16 +13,16 @@ pub returns-clause-last : goal.returns-clause-last
 returns-clause-last g c trusted =
     let setup = c.args.setup.now in
     let old = (state g.S.Store c.args.tx.now.conn.now).now in
-    let first = c.told_to.ensures.before trusted in
-    tells_on setup (kept_rows (old.trees 1)) c.args.finished c.in_ok-to.to c.told_to.result (c.in_ok-to.ensures.stated first)
-    (subst (λ (d : Database). IfOk c.told_to.result (λ last. told_on setup None (letters_within (kept_rows (d.trees 1)) (release_place setup) 1 c.in_ok-to.to) ≡ Some last)) (c.in_ok-to.ensures.same first) (c.told_to.ensures.told trusted))
+    let first = c.last_delays_number.ensures.before trusted in
+    tells_on setup (kept_rows (old.trees 1)) c.args.finished c.in_ok-to.to c.last_delays_number.result (c.in_ok-to.ensures.stated first)
+    (subst (λ (d : Database). IfOk c.last_delays_number.result (λ last. told_on setup None (letters_within (kept_rows (d.trees 1)) (release_place setup) 1 c.in_ok-to.to) ≡ Some last)) (c.in_ok-to.ensures.same first) (c.last_delays_number.ensures.told trusted))
 
 pub returns-clause-bad : goal.returns-clause-bad
 returns-clause-bad g c trusted bad whole =
     let setup = c.args.setup.now in
     let old = (state g.S.Store c.args.tx.now.conn.now).now in
-    let first = c.told_to.ensures.before trusted in
-    let none = subst (λ (d : Database). IsWhole (kept_rows (d.trees 1)) (d.trees 1) → told_on setup None (letters_within (kept_rows (d.trees 1)) (release_place setup) 1 c.in_ok-to.to) ≡ None) (c.in_ok-to.ensures.same first) (c.told_to.ensures.bad trusted bad) in
+    let first = c.last_delays_number.ensures.before trusted in
+    let none = subst (λ (d : Database). IsWhole (kept_rows (d.trees 1)) (d.trees 1) → told_on setup None (letters_within (kept_rows (d.trees 1)) (release_place setup) 1 c.in_ok-to.to) ≡ None) (c.in_ok-to.ensures.same first) (c.last_delays_number.ensures.bad trusted bad) in
     untold setup (kept_rows (old.trees 1)) c.args.finished c.in_ok-to.to (c.in_ok-to.ensures.stated first) (none whole)
 
 pub returns-in_err-to-clause-bad : goal.returns-in_err-to-clause-bad

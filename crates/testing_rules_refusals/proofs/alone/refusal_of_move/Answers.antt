@@ -7,10 +7,10 @@ use Rattle.testing_rules_model.specs.Moves.{offender_of}
 use Rattle.testing_rules_model.specs.declared.suite.RowIn.{RowIn}
 use Rattle.testing_rules_refusals.specs.ToldChange.{IsToldChange}
 use Rattle.testing_rules_suites.specs.AfterMoves.{moved_rows}
-use Rattle.testing_rules_refusals.proofs.alone.told_move.Goals as goal
+use Rattle.testing_rules_refusals.proofs.alone.refusal_of_move.Goals as goal
 
-pub told_change-requires-clause-breaks : goal.told_change-requires-clause-breaks
-told_change-requires-clause-breaks c =
+pub refusal_of_change-requires-clause-breaks : goal.refusal_of_change-requires-clause-breaks
+refusal_of_change-requires-clause-breaks c =
     let l = c.args.lone.now in
     let sources = unboxed l.unstable.sources.now in
     let unstable = lent l.unstable.rows.now in
@@ -25,8 +25,8 @@ returns-clause-some c =
     let unstable = lent l.unstable.rows.now in
     let old = lent c.args.old.now in
     let after = ap lent c.deref.ensures.value ∙ c.in_ok-new.ensures.rows ∙ ap (λ (group : List Text). moved_rows sources unstable group old) c.group.ensures in
-    subst (λ (new : List RowIn). IfOk c.told_change.result (λ told. IfSome told (λ text. IsToldChange l.archs.now sources unstable l.excuses.now old new l.excuse.now.source text)))
-    after c.told_change.ensures.some
+    subst (λ (new : List RowIn). IfOk c.refusal_of_change.result (λ told. IfSome told (λ text. IsToldChange l.archs.now sources unstable l.excuses.now old new l.excuse.now.source text)))
+    after c.refusal_of_change.ensures.some
 
 pub returns-clause-none : goal.returns-clause-none
 returns-clause-none c =
@@ -35,5 +35,5 @@ returns-clause-none c =
     let unstable = lent l.unstable.rows.now in
     let old = lent c.args.old.now in
     let after = ap lent c.deref.ensures.value ∙ c.in_ok-new.ensures.rows ∙ ap (λ (group : List Text). moved_rows sources unstable group old) c.group.ensures in
-    subst (λ (new : List RowIn). IfOk c.told_change.result (λ told. IfNone told (offender_of l.archs.now old new (l.excuse.now.source ∷ []) ≡ None)))
-    after c.told_change.ensures.none
+    subst (λ (new : List RowIn). IfOk c.refusal_of_change.result (λ told. IfNone told (offender_of l.archs.now old new (l.excuse.now.source ∷ []) ≡ None)))
+    after c.refusal_of_change.ensures.none

@@ -5,7 +5,7 @@ use Rattle.testing_rules_excuses.specs.States.{excuse_of}
 use Rattle.testing_rules_reports.specs.Sources.{source_text, waits_in}
 use Rattle.office_core_why.specs.Telling.{unstable_of}
 use Rattle.office_core_why.specs.Why.{IsRefusedWhere, IsToldBy}
-use Rattle.office_core_why.proofs.told.told_by.Goals as goal
+use Rattle.office_core_why.proofs.told.lines_from_excuses.Goals as goal
 
 pub returns-clause-told : goal.returns-clause-told
 returns-clause-told c =

@@ -3,7 +3,7 @@ use Rattle.office_store_keeper.specs.Content.{Content}
 use Rattle.office_core_orders.proofs.ReadyCount.{ready_bound}
 use Rattle.office_core_outcome.specs.Hints.{release}
 use Rattle.office_core_outcome.proofs.TryFacts.{tried_is}
-use Rattle.office_core_outcome.proofs.trying.try_letters.Goals as goal
+use Rattle.office_core_outcome.proofs.trying.trial_of_letters.Goals as goal
 
 pub returns-clause-tried : goal.returns-clause-tried
 returns-clause-tried g c = λ trusted legible office are finished is hints lettered few.

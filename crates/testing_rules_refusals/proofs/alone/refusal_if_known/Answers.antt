@@ -10,16 +10,16 @@ use Rattle.testing_rules_model.specs.Updates.{offender_alone}
 use Rattle.testing_rules_refusals.specs.Alone.{IsToldAlone}
 use Rattle.testing_rules_refusals.specs.ToldChange.{IsToldChange}
 use Rattle.testing_rules_refusals.proofs.Failings.{none_then}
-use Rattle.testing_rules_refusals.proofs.Moving.{told_alone, allowed_alone, broken_alone}
+use Rattle.testing_rules_refusals.proofs.Moving.{refusal_alone, allowed_alone, broken_alone}
 use Rattle.testing_rules_suites.specs.AfterMoves.{moved_rows}
-use Rattle.testing_rules_refusals.proofs.alone.told_knowing.Goals as goal
+use Rattle.testing_rules_refusals.proofs.alone.refusal_if_known.Goals as goal
 
-pub told_move-requires-clause-order : goal.told_move-requires-clause-order
-told_move-requires-clause-order c =
+pub refusal_of_move-requires-clause-order : goal.refusal_of_move-requires-clause-order
+refusal_of_move-requires-clause-order c =
     subst AreByKey (sym (ap lent c.deref.ensures.value ∙ c.in_ok-old.ensures)) c.rows.ensures.ordered
 
-pub told_move-requires-clause-breaks : goal.told_move-requires-clause-breaks
-told_move-requires-clause-breaks c =
+pub refusal_of_move-requires-clause-breaks : goal.refusal_of_move-requires-clause-breaks
+refusal_of_move-requires-clause-breaks c =
     let l = c.args.lone.now in
     let t = c.args.testing.now in
     let old = lent c.deref.result.now in
@@ -37,9 +37,9 @@ returns-clause-some c =
     let old = lent c.deref.result.now in
     let same : old ≡ t.rows = ap lent c.deref.ensures.value ∙ c.in_ok-old.ensures ∙ c.rows.ensures.entries in
     let moved = moved_rows sources unstable (e.source ∷ []) old in
-    IfOk-weaker c.told_move.result (λ told. IfSome told (λ text. IsToldChange archs sources unstable l.excuses.now old moved e.source text))
+    IfOk-weaker c.refusal_of_move.result (λ told. IfSome told (λ text. IsToldChange archs sources unstable l.excuses.now old moved e.source text))
     (λ told. IfSome told (λ text. IsToldAlone archs sources unstable l.excuses.now t e text))
-    (λ told h. IfSome_then told h (told_alone archs sources unstable old t e same l.excuses.now)) c.told_move.ensures.some
+    (λ told h. IfSome_then told h (refusal_alone archs sources unstable old t e same l.excuses.now)) c.refusal_of_move.ensures.some
 
 pub returns-clause-none : goal.returns-clause-none
 returns-clause-none c =
@@ -54,5 +54,5 @@ returns-clause-none c =
     let moved = moved_rows sources unstable (e.source ∷ []) old in
     let broken = offender_of archs old moved (e.source ∷ []) in
     let alone = offender_alone archs sources unstable t e in
-    IfOk-weaker c.told_move.result (λ told. IfNone told (broken ≡ None)) (λ told. IfNone told (alone ≡ None))
-    (λ told. none_then told (broken ≡ None) (alone ≡ None) (allowed_alone archs sources unstable old t e same)) c.told_move.ensures.none
+    IfOk-weaker c.refusal_of_move.result (λ told. IfNone told (broken ≡ None)) (λ told. IfNone told (alone ≡ None))
+    (λ told. none_then told (broken ≡ None) (alone ≡ None) (allowed_alone archs sources unstable old t e same)) c.refusal_of_move.ensures.none

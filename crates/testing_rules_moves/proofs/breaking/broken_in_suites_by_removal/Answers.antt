@@ -6,7 +6,7 @@ use Rattle.testing_rules_model.specs.Suite.{Suite}
 use Rattle.testing_rules_suites.specs.Tried.{first_told, IsWithin, Tells}
 use Rattle.testing_rules_suites.proofs.Alive.{failing, removal_told}
 use Rattle.testing_rules_items.proofs.Weaker.{if_ok_weaker}
-use Rattle.testing_rules_moves.proofs.breaking.told_by_removal.Goals as goal
+use Rattle.testing_rules_moves.proofs.breaking.broken_in_suites_by_removal.Goals as goal
 
 pub returns-clause-offender : goal.returns-clause-offender
 returns-clause-offender c =

@@ -1,7 +1,7 @@
 use Rattle.sqlite.specs.Held.{state}
 use Rattle.office_store_tables.proofs.Passed.{passed}
 use Rattle.office_store_tables.proofs.Whole.{not_crowded}
-use Rattle.office_store.proofs.migrating.told_to.Goals as goal
+use Rattle.office_store.proofs.migrating.last_delays_number.Goals as goal
 
 pub returns-clause-told : goal.returns-clause-told
 returns-clause-told g c trusted = rw (c.as_slice.ensures.value, c.in_ok-letters.ensures.loaded trusted, c.release_place.ensures) at c.last_told.ensures.ok

@@ -5,17 +5,17 @@ use Rattle.office_core_facts.specs.declared.covered.KnownFacts.{KnownFacts}
 use Rattle.office_core_facts.specs.Known.{AreKnown}
 use Rattle.office_core_facts.specs.State.{IsOffice}
 use Rattle.office_core_outcome.specs.Trial.{IsTrial}
-use Rattle.office_core_outcome.proofs.trying.try_after.Goals as goal
+use Rattle.office_core_outcome.proofs.trying.trial_of_next_run.Goals as goal
 
 pub returns-clause-known : goal.returns-clause-known
-returns-clause-known g c = λ trusted first is was. c.in_ok-remember.ensures.known (c.try_behind.ensures.looks.before trusted) first is was
+returns-clause-known g c = λ trusted first is was. c.in_ok-remember.ensures.known (c.trial_after_orders.ensures.looks.before trusted) first is was
 
 pub returns-clause-tried : goal.returns-clause-tried
 returns-clause-tried g c = λ trusted legible office first are is was.
     let a = c.args in
     let setup = a.setup.now in
-    let earlier = c.try_behind.ensures.looks.before trusted in
+    let earlier = c.trial_after_orders.ensures.looks.before trusted in
     let known : Option KnownFacts = c.remember.new.known in
     subst (λ (m : Content). IsOffice setup m → a.orders.now ≡ orders_to setup m.kept (length m.reports) → a.finished ≡ length m.reports → IfSome known (λ (k : KnownFacts). AreKnown setup m k)
-    → IfOk c.try_behind.result (IsTrial setup m.kept (length m.reports) a.terms a.hints.now))
-    (c.in_ok-remember.ensures.looks.same earlier) (c.try_behind.ensures.tried trusted (c.in_ok-remember.ensures.looks.legible earlier legible)) office are is (c.in_ok-remember.ensures.known earlier first is was)
+    → IfOk c.trial_after_orders.result (IsTrial setup m.kept (length m.reports) a.terms a.hints.now))
+    (c.in_ok-remember.ensures.looks.same earlier) (c.trial_after_orders.ensures.tried trusted (c.in_ok-remember.ensures.looks.legible earlier legible)) office are is (c.in_ok-remember.ensures.known earlier first is was)

@@ -1,6 +1,6 @@
 use Rattle.std.proofs.Common.{◌∙◌, [], ◌∷◌, ap}
 use Rattle.testing_rules_moves.specs.Runs.{broken_by_move}
-use Rattle.testing_rules_moves.proofs.alone.told_alone.Goals as goal
+use Rattle.testing_rules_moves.proofs.alone.alone_breaks.Goals as goal
 
 pub returns-clause-offender : goal.returns-clause-offender
 returns-clause-offender c =

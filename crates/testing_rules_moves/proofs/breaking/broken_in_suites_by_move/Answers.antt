@@ -1,5 +1,5 @@
 use Rattle.std.proofs.Common.{◌∙◌, sym}
-use Rattle.testing_rules_moves.proofs.breaking.told_by_move.Goals as goal
+use Rattle.testing_rules_moves.proofs.breaking.broken_in_suites_by_move.Goals as goal
 
 pub broken_by_change-requires-clause-change : goal.broken_by_change-requires-clause-change
 broken_by_change-requires-clause-change c = record {

@@ -3,7 +3,7 @@ use Rattle.std.specs.Prelude.{IfSome}
 use Rattle.testing_rules_model.specs.JudgedRows.{lent}
 use Rattle.testing_rules_model.specs.Moves.{offender_of}
 use Rattle.testing_rules_refusals.specs.Refusals.{IsRefusal}
-use Rattle.testing_rules_refusals.proofs.alone.told_change.Goals as goal
+use Rattle.testing_rules_refusals.proofs.alone.refusal_of_change.Goals as goal
 
 pub returns-in_default-clause-none : goal.returns-in_default-clause-none
 returns-in_default-clause-none c =

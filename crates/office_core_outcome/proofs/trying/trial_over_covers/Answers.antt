@@ -3,7 +3,7 @@ use Rattle.office_store_keeper.specs.Content.{Content}
 use Rattle.office_store_keeper.specs.declared.values.Letter.{Letter}
 use Rattle.office_core_outcome.specs.Hints.{first_refused, hint_letters, release}
 use Rattle.office_core_outcome.proofs.TryFacts.{told_refused, told_tried}
-use Rattle.office_core_outcome.proofs.trying.try_on.Goals as goal
+use Rattle.office_core_outcome.proofs.trying.trial_over_covers.Goals as goal
 
 pub returns-in-Some-clause-told : goal.returns-in-Some-clause-told
 returns-in-Some-clause-told g c = λ trusted legible office are finished few is.

@@ -5,7 +5,7 @@ use Rattle.testing_rules_model.specs.StandsFor.{StandsFor}
 use Rattle.office_core_why.specs.Telling.{unstable_of}
 use Rattle.office_core_why.specs.Why.{IsToldBy, IsToldOf}
 use Rattle.office_core_why.proofs.WhyFacts.{told_over}
-use Rattle.office_core_why.proofs.told.told_of.Goals as goal
+use Rattle.office_core_why.proofs.told.lines_after_run.Goals as goal
 
 pub returns-clause-told : goal.returns-clause-told
 returns-clause-told c =
@@ -13,8 +13,8 @@ returns-clause-told c =
     let f = a.facts.now in
     let t = a.testing.now in
     let es = c.as_slice.result.now in
-    IfOk-weaker c.told_by.result
+    IfOk-weaker c.lines_from_excuses.result
     (IsToldBy a.senders.now a.archs.now (unstable_of a.archs.now f) t es a.run a.reports.now a.source.now)
     (λ text. (s : Covered) → StandsFor f s t → IsToldOf a.senders.now a.archs.now s t a.run a.date a.reports.now a.source.now text)
     (λ text told s stands. told_over a.senders.now a.archs.now f s t es a.run a.date a.reports.now a.source.now text stands (c.as_slice.ensures ∙ c.in_ok-excuses.ensures s stands) told)
-    c.told_by.ensures.told
+    c.lines_from_excuses.ensures.told
