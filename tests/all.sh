@@ -42,6 +42,11 @@ try asking python3 "$here/service/asking.py" "$office"
 try peers sh "$here/peers/store.sh" --by "$office"
 try trust python3 "$here/trust.py"
 try docs sh "$here/docs.sh" "$office"
+if [ -d "$here/../crates/office/out/rlib" ] || [ -d "$here/../crates/deb_version/out/rlib" ]; then
+    try edits python3 "$here/edits/trials.py"
+else
+    echo "skipped: edits: .ci/run has left no libraries in this checkout"
+fi
 try rows python3 "$here/rows/check.py"
 try judges python3 "$here/judges/check.py"
 try counts python3 "$here/rows/counts.py"

@@ -1,6 +1,6 @@
 #!/usr/bin/env python3
-"""Finds each file and each name that docs/TRUST.md cites, the counts of lines that it and README.md give, and the code
-that pages of docs/ quote.
+"""Finds each file and each name that docs/TRUST.md cites, the counts of lines that it and README.md give, the code that
+pages of docs/ quote, and the program's version in CHANGELOG.md.
 
 usage: trust.py [TOP]     (exit status 0: all are there; 1: a line for each that isn't)
 
@@ -97,8 +97,14 @@ def counted():
     told = subprocess.run(command, capture_output=True, text=True, check=True)
     return [f'{int(n):,}' for n in told.stdout.strip().split('\n')[-1].split()[2:4]]
 
+def versions():
+    """A fault if the newest version in CHANGELOG.md isn't the program's."""
+    newest = re.search(r'(?m)^## (\d+\.\d+\.\d+)$', (TOP / 'CHANGELOG.md').read_text())[1]
+    if f'const VERSION: &str = "{newest}";' not in (TOP / 'crates/office_cli/src/telling.rt').read_text():
+        yield f'CHANGELOG.md: {newest} isn\'t the version that office_cli/src/telling.rt states'
+
 def main():
-    faults, cited = [], 0
+    faults, cited = [*versions()], 0
     for number, cells in blocks():
         for part in parts(cells):
             cited += len(re.findall(r'`([^`]+)`', part))
