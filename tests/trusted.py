@@ -1,7 +1,7 @@
 #!/usr/bin/env python3
 """Computes which definitions of crates/*/specs a reader must believe: those that a public contract reaches.
 
-usage: trusted.py [TOP] [--list | --check | --twice | --why=NAME]
+usage: trusted.py [TOP] [--claims | --list | --check | --twice | --why=NAME]
 
 A public contract is what a caller from outside reads of an item that lib.rt passes on as `pub`, also by `pub use` of
 another crate: a function with its `requires` and `ensures`, a trait, the fields of a type, what its `impl Model` and
@@ -10,6 +10,8 @@ definitions and all that these name, and to what contracts see of types. All oth
 It counts lines without comments, blank ones and `use`, twice: from the items of the crates that users call (USERS),
 but for what only crates above call (INNER), which decides what is a step, and from the `pub` items of every crate.
   TOP         the top of the repository (the one that this file is in)
+  --claims    for each claim of CLAIMS the lines that a reader must believe for it, those of them that no claim above it
+              needs, and last what no claim needs: laws on which nothing rests, and other calls
   --list      each definition, its lines, and whether it is believed, a step, or a step that contracts of a crate cite
   --check     a line for each file whose first line says falsely what it is; status 1 if there is one
   --twice     the definitions that stand in two crates under one name with one text
@@ -24,6 +26,29 @@ USERS = ['deb_version', 'deb_control', 'testing_install', 'testing_rules', 'offi
          'office_core_queries', 'office_core_check', 'office_http', 'office_cli_words', 'office_cli',
          'office']
 INNER = {('office_core_replay', 'settle_behind')}
+# What is claimed, each with the calls and laws whose contracts say it. `crate` alone stands for all of a crate's calls.
+CLAIMS = [
+    ('the headline', ['office_core::headline']),
+    ('.. of calls, requests and whole replays', [
+        'office_core::steps_follow', 'office_core::runs_stay', 'office_core::empty_is_sound', 'office_core::Office::deliver',
+        'office_core::Office::deliver_together', 'office_core::Office::settle', 'office_core_replay::replays_are_steps',
+        'office_core_replay::replay', 'office_mail::same_set', 'office_mail::later_mail']),
+    ('versions', ['deb_version::Version', 'deb_version::order_is_total', 'deb_version::key_is_by_blocks']),
+    ('control data', ['deb_control::Paragraphs', 'deb_control::Paragraph', 'deb_control::Clauses', 'deb_control::Provisions',
+                      'deb_control::Binary', 'deb_control::Relation']),
+    ('installable rows', ['testing_install::installable', 'testing_install::installable_counted']),
+    ('the rules', ['testing_rules::Facts', 'testing_rules::Testing', 'testing_rules::excuses', 'testing_rules::migrate',
+                   'testing_rules::excuses_text', 'testing_rules::update_text', 'testing_rules::testing_text']),
+    ('setups, messages and bags', ['office_mail::Setup', 'office_mail::read_message', 'office_mail::ready', 'office_mail::Bag',
+                                   'office_mail::FromRead', 'office_mail::ToWrite']),
+    ('a store in memory', ['office_store_keeper::Keeper', 'office_store_keeper::Plain']),
+    ('the office', ['office_core::Office']),
+    ('a connection', ['office_http::serve_one', 'office_http::requests_are_steps', 'office_http::requests_have_one_answer']),
+    ('the words', ['office_cli_words::read_words', 'office_cli_words::compare_status']),
+    ('a store in a file', ['office_store::Tables', 'office_store::open_store', 'office_store::open_tables']),
+    ('certificates', ['testing_install_why::certificate', 'testing_install_why::is_shown']),
+    ('whole stores, bags of kept mail, lists', ['office_core_check', 'office_core_queries']),
+]
 STEPS = '-- Steps: no contract of a call that users make rests on this file.'
 CLAUSE = re.compile(r'\b(requires|ensures|before)\b\s*[\w-]*\s*$')
 ITEM = re.compile(r'(?P<pub>pub(?:\([a-z]+\))?\s+)?(?P<ghost>ghost\s+)?(?:unsafe\s+)?(?:const\s+(?=fn\b))?(?:(?P<kind>'
@@ -230,7 +255,23 @@ class Tree:
         """The definitions that the public contracts of these crates reach, each with what names it."""
         public = set().union(*(self.surface(crate) for crate in crates))
         public = {item for item in public if (item.module.crate, item.name) not in inner}
-        reached, todo = {None: None}, [(i, None) for i in sorted(public, key=lambda i: (i.module.crate, i.name))]
+        return self.reached(public, sorted(public, key=lambda i: (i.module.crate, i.name)))
+    def claimed(self, starts):
+        """The definitions that the contracts of these calls reach: CRATE, CRATE::CALL or CRATE::TYPE::METHOD."""
+        public, first = set(), []
+        for crate, *path in (start.split('::') for start in starts):
+            found = {item for item in self.surface(crate) if not path or item.name == path[0]}
+            if not found:
+                raise ValueError(f'{crate} has no public {path[0]}')
+            if path[1:]:
+                impls = [i for item in found for i in self.impls[item]]
+                found, methods = set(), [f for part in impls for f in part.inner if f.name == path[1]]
+                first += methods
+            public, first = public | found, first + [*found]
+        return self.reached(public, first)
+    def reached(self, public, first):
+        """The definitions that the contracts of the first items reach, of which these are public."""
+        reached, todo = {None: None}, [(item, None) for item in first]
         for at, why in todo:
             if at in reached:
                 continue
@@ -285,6 +326,20 @@ def table(tree, users, every):
         if whole:
             yield f'{crate:28}{whole:7}{narrow:7}{whole - narrow:7}{wide:12}{whole - wide:7}'
 
+def claims(tree, users):
+    """The lines to believe for each claim, and those that no claim above it needs."""
+    seen = set()
+    yield f'{"":44}{"lines":>7}{"more":>7}'
+    for claim, starts in CLAIMS:
+        found = set(tree.claimed(starts))
+        yield f'{claim:44}{sum(d.count for d in found):7}{sum(d.count for d in found - seen):7}'
+        seen |= found
+    laws = {i for crate in USERS for i in tree.surface(crate) if i.kind == 'fn' and not i.body[1:-1].strip()}
+    left = set(tree.reached(laws, sorted(laws, key=lambda i: i.name))) - seen
+    yield f'{"laws on which nothing rests":44}{"":7}{sum(d.count for d in left & set(users)):7}'
+    yield f'{"other calls":44}{"":7}{sum(d.count for d in set(users) - seen - left):7}'
+    yield f'{"all":44}{"":7}{sum(d.count for d in set(users) | seen):7}'
+
 def main():
     option, _, name = next((a for a in sys.argv[1:] if a.startswith('--')), '').partition('=')
     tops = [a for a in sys.argv[1:] if not a.startswith('--')] + [Path(__file__).resolve().parents[1]]
@@ -293,6 +348,7 @@ def main():
     faults = [f'{f.label}: {head_fault(f, users)}' for f in tree.files.values() if head_fault(f, users)]
     kinds = {d: 'believed' if d in users else 'cited step' if d in every else 'step' for d in tree.named.values()}
     lines = {'': lambda: table(tree, users, every), '--check': lambda: faults, '--twice': lambda: twice(tree),
+             '--claims': lambda: claims(tree, users),
              '--list': lambda: (f'{d.file.label}\t{d.name}\t{d.count}\t{kind}' for d, kind in kinds.items()),
              '--why': lambda: (trail(d, users) for d in users if d.name == name)}
     sys.stdout.writelines(f'{line}\n' for line in lines[option]())
