@@ -92,10 +92,9 @@ def quotations():
     return missing, count
 
 def counted():
-    """The lines of definitions that are believed and those that are steps, as trusted.py counts them."""
-    command = [sys.executable, TOP / 'tests' / 'trusted.py', TOP]
-    told = subprocess.run(command, capture_output=True, text=True, check=True)
-    return [f'{int(n):,}' for n in told.stdout.strip().split('\n')[-1].split()[2:4]]
+    """The counts of lines in both pages that aren't those of trusted.py, and the files that it finds at fault."""
+    command = [sys.executable, TOP / 'tests' / 'trusted.py', TOP, '--check']
+    return subprocess.run(command, capture_output=True, text=True, check=False).stdout.splitlines()
 
 def versions():
     """A fault if the newest version in CHANGELOG.md isn't the program's."""
@@ -109,10 +108,7 @@ def main():
         for part in parts(cells):
             cited += len(re.findall(r'`([^`]+)`', part))
             faults += faults_of(number, part)
-    for page in (PAGE, TOP / 'README.md'):
-        told = re.findall(r'\b\d,\d{3}(?=\s+(?:other\s+)?lines)', page.read_text())
-        faults += [f'{page.relative_to(TOP)}: {count} lines, which are {" and ".join(counted())} (trusted.py)'
-                   for count in told if count not in counted()]
+    faults += counted()
     missing, quoted = quotations()
     faults += missing
     for fault in faults:

@@ -13,7 +13,8 @@ but for what only crates above call (INNER), which decides what is a step, and f
   --claims    for each claim of CLAIMS the lines that a reader must believe for it, those of them that no claim above it
               needs, and last what no claim needs: laws on which nothing rests, and other calls
   --list      each definition, its lines, and whether it is believed, a step, or a step that contracts of a crate cite
-  --check     a line for each file whose first line says falsely what it is; status 1 if there is one
+  --check     a line for each file whose first line says falsely what it is, and for each count of lines in README.md and
+              docs/TRUST.md that is another one here; status 1 if there is a line
   --twice     the definitions that stand in two crates under one name with one text
   --why=NAME  what names each definition of this name, back to a public contract
 """
@@ -326,19 +327,30 @@ def table(tree, users, every):
         if whole:
             yield f'{crate:28}{whole:7}{narrow:7}{whole - narrow:7}{wide:12}{whole - wide:7}'
 
+def lines_of(definitions):
+    return sum(d.count for d in definitions)
+
 def claims(tree, users):
-    """The lines to believe for each claim, and those that no claim above it needs."""
+    """Rows of TRUST's table: a claim, the lines to believe for it, and those of them that no claim above it needs."""
     seen = set()
-    yield f'{"":44}{"lines":>7}{"more":>7}'
     for claim, starts in CLAIMS:
         found = set(tree.claimed(starts))
-        yield f'{claim:44}{sum(d.count for d in found):7}{sum(d.count for d in found - seen):7}'
+        yield f'| {claim} | {lines_of(found):,} | {lines_of(found - seen):,} |'
         seen |= found
     laws = {i for crate in USERS for i in tree.surface(crate) if i.kind == 'fn' and not i.body[1:-1].strip()}
-    left = set(tree.reached(laws, sorted(laws, key=lambda i: i.name))) - seen
-    yield f'{"laws on which nothing rests":44}{"":7}{sum(d.count for d in left & set(users)):7}'
-    yield f'{"other calls":44}{"":7}{sum(d.count for d in set(users) - seen - left):7}'
-    yield f'{"all":44}{"":7}{sum(d.count for d in set(users) | seen):7}'
+    left = set(tree.reached(laws, sorted(laws, key=lambda i: i.name))) & set(users) - seen
+    yield f'| laws on which nothing else rests | | {lines_of(left):,} |'
+    yield f'| other calls | | {lines_of(set(users) - seen - left):,} |'
+
+def figure_faults(tree, users, top):
+    """The rows of claims that TRUST hasn't, and the counts of lines in both pages that are none."""
+    trust, rows = (Path(top) / 'docs' / 'TRUST.md').read_text(), [*claims(tree, users)]
+    yield from (f'docs/TRUST.md: it has no row {row}' for row in rows if row not in trust.split('\n'))
+    whole = lines_of(tree.named.values())
+    known = {f'{n:,}' for n in (lines_of(users), whole - lines_of(users), lines_of(tree.claimed(CLAIMS[0][1])))}
+    for page in ('docs/TRUST.md', 'README.md'):
+        told = re.findall(r'\b[\d,]+(?=\s+(?:other\s+)?lines\b)', (Path(top) / page).read_text())
+        yield from (f'{page}: {count} lines, which are {", ".join(sorted(known))}' for count in told if count not in known)
 
 def main():
     option, _, name = next((a for a in sys.argv[1:] if a.startswith('--')), '').partition('=')
@@ -346,6 +358,7 @@ def main():
     tree = Tree(tops[0])
     users, every = tree.believed(USERS, INNER), tree.believed(tree.crates)
     faults = [f'{f.label}: {head_fault(f, users)}' for f in tree.files.values() if head_fault(f, users)]
+    faults += figure_faults(tree, users, tops[0])
     kinds = {d: 'believed' if d in users else 'cited step' if d in every else 'step' for d in tree.named.values()}
     lines = {'': lambda: table(tree, users, every), '--check': lambda: faults, '--twice': lambda: twice(tree),
              '--claims': lambda: claims(tree, users),
