@@ -1,6 +1,7 @@
 //! The program's arguments as texts.
 
-ghost use Rattle.std.specs.Prelude.{◌≡◌};
+ghost use Rattle.std.specs.Prelude.{◌≡◌, map, IfOk};
+ghost use Rattle.std.specs.String.{string_bytes};
 ghost use Rattle.std.specs.IoError.{error_kind};
 ghost use Rattle.office_cli_words.specs.Arguments.{status_of_args, told_as};
 
@@ -55,7 +56,9 @@ fn all_args(alloc: Global, args: Args) -> Result<Vec<String>, ArgsFault> {
 }
 
 /// The arguments as texts.
-pub fn as_texts<'a>(alloc: Global, args: &'a [String]) -> Result<Vec<&'a str>, ArgsFault> {
+pub fn as_texts<'a>(alloc: Global, args: &'a [String]) -> Result<Vec<&'a str>, ArgsFault>
+    ensures { IfOk result (λ texts. map (λ text. text.now) texts.items ≡ map string_bytes args.now) }
+{
     let mut texts = Vec::new(alloc);
     for arg in args {
         texts.push(arg.as_str())?;
