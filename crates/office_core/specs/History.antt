@@ -20,7 +20,7 @@ use Rattle.office_core_facts.specs.Outcome.{Outcome, covered_items, outcome_on, 
 
 -- one step
 pub data Step : Type 0 where
-  -- a text came, and was held
+  -- a text came: it is kept where it is a message whose number was free
   Took : List ℕ → Step
   -- a text came, and was refused
   Refused : List ℕ → Step
