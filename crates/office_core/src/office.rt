@@ -11,6 +11,7 @@ ghost use Rattle.office_store_keeper.specs.Content.{IsNextNumber};
 ghost use Rattle.office_store_keeper.specs.Provenance.{AreOwnTexts};
 ghost use Rattle.office_core_orders.specs.Counted.{Counted, CountedDelivery};
 ghost use Rattle.office_core.specs.History.{Leads, deliveries, delivery, settling};
+ghost use Rattle.office_core.specs.Laws.{RunsStand};
 ghost use Rattle.office_core.specs.Together.{AreHeldHere, answers_to};
 ghost use Rattle.office_core_orders.specs.StaysTrusted.{StaysTrusted};
 ghost use Rattle.office_core_facts.specs.Outcome.{testing_after, testing_text};
@@ -209,6 +210,8 @@ impl<K: Keeper> Office<K> {
         ensures kept { K.is_trusted self.new → IsSound K.Keeper self.old → (K.content self.new).kept ≡ (K.content self.old).kept }
         ensures grows { K.is_trusted self.new → IsSound K.Keeper self.old → (state_of K.Keeper self.old).finished ≤ (state_of K.Keeper self.new).finished }
         ensures only_ready { K.is_trusted self.new → IsSound K.Keeper self.old → IsReady (K.setup self.old) (K.content self.old).kept (state_of K.Keeper self.new).finished }
+        // The runs that were finished stand, also on a fault: their reports, and testing unless one more was finished.
+        ensures runs { K.is_trusted self.new → IsSound K.Keeper self.old → RunsStand (K.content self.old) (K.content self.new) }
         // In every state all watched rows of testing are installable.
         ensures watched { K.is_trusted self.new → IsSound K.Keeper self.old → AllWatchedWork (K.setup self.new).archs (testing_after (K.setup self.new) (K.content self.new).kept (state_of K.Keeper self.new).finished).rows }
         // Also on a fault the kept rows of facts are those of facts that stand for what the last finished run covers, with

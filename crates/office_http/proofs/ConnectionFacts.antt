@@ -22,16 +22,16 @@ grows_does : (before after : OfficeState) (post : Option (Action × List ℕ)) (
 grows_does before after None fault ready rose h = grows_same before after h
 grows_does before after (Some post) fault ready rose m = record { kept = subst (Within before.kept) (sym m.kept) (within_by before post.0 post.1 fault); finished = m.grows }
 
-grows_served : (before after : OfficeState) (left : Option (List ℕ)) (input bytes : List ℕ) (code : ℕ) (rose : Type 0) → IsServed before after left input bytes code rose → Grows before after
-grows_served before after left input bytes code rose h = ⊎_elim (λ e. grows_does before after _ e.fault e.found.ready rose e.does) (λ u. grows_same before after u.same) h
+grows_served : (before after : OfficeState) (left : Option (List ℕ)) (input told reply : List ℕ) (code : ℕ) (rose : Type 0) → IsServed before after left input told reply code rose → Grows before after
+grows_served before after left input told reply code rose h = ⊎_elim (λ e. grows_does before after _ e.fault e.found.ready rose e.does) (λ u. grows_same before after u.same) h
 
 grows_serves : (before after : OfficeState) (l0 l1 w0 w1 : Option (List ℕ)) (code : Option ℕ) (rose : Type 0) → Serves before after l0 l1 w0 w1 code rose → Grows before after
 grows_serves before after l0 l1 w0 w1 None rose s = grows_same before after s.same
-grows_serves before after l0 l1 w0 w1 (Some code) rose s = grows_served before after l1 s.input s.bytes code rose s.served
+grows_serves before after l0 l1 w0 w1 (Some code) rose s = grows_served before after l1 s.input s.told s.reply code rose s.served
 
 grows_stops : (before after : OfficeState) (l0 l1 w0 w1 : Option (List ℕ)) (f : ServeFault) (rose : Type 0) → StopsServe before after l0 l1 w0 w1 f rose → Grows before after
 grows_stops before after l0 l1 w0 w1 Read rose s = grows_same before after s.same
-grows_stops before after l0 l1 w0 w1 Write rose s = ⊎_elim (λ stop. grows_same before after stop.same) (λ front. grows_served before after l1 front.input front.bytes front.code rose front.served) s
+grows_stops before after l0 l1 w0 w1 Write rose s = ⊎_elim (λ stop. grows_same before after stop.same) (λ front. grows_served before after l1 front.input front.told front.reply front.code rose front.served) s
 
 pub grows_connection : (before after : OfficeState) (l0 l1 w0 w1 : Option (List ℕ)) (r : Result Served ServeFault) (rose : Type 0) → IfOk r (λ served. Serves before after l0 l1 w0 w1 served.code rose) → IfErr r (λ f. StopsServe before after l0 l1 w0 w1 f rose) → Grows before after
 grows_connection before after l0 l1 w0 w1 (Ok served) rose ok err = grows_serves before after l0 l1 w0 w1 served.code rose ok

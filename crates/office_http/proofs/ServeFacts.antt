@@ -432,7 +432,7 @@ begins_so seen more headers spans h = record {
   few = h.few;
 }
 
-pub exchanged : (rose : Type 0) (before after : OfficeState) (l0 l1 w0 w1 : Option (List ℕ)) (seen : List ℕ) (headers : List HeaderSpan) (spans : RequestSpans) (answer : Answer) (is_head : Bool) (h : IsHeadAt seen headers spans) (a : Answers before after l0 l1 w0 w1 (drop spans.len seen) (asked_of before.setup h.head) answer rose) → is_head ≡ is_head_method h.head → Exchange before after l1 (seen ++ a.more) (continued a.goes_on ++ reply_bytes (reply_in before.setup answer) is_head) (reply_in before.setup answer).code rose
+pub exchanged : (rose : Type 0) (before after : OfficeState) (l0 l1 w0 w1 : Option (List ℕ)) (seen : List ℕ) (headers : List HeaderSpan) (spans : RequestSpans) (answer : Answer) (is_head : Bool) (h : IsHeadAt seen headers spans) (a : Answers before after l0 l1 w0 w1 (drop spans.len seen) (asked_of before.setup h.head) answer rose) → is_head ≡ is_head_method h.head → Exchange before after l1 (seen ++ a.more) (continued a.goes_on) (reply_bytes (reply_in before.setup answer) is_head) (reply_in before.setup answer).code rose
 exchanged rose before after l0 l1 w0 w1 seen headers spans answer is_head h a e = record {
   head = h.head;
   rest = drop spans.len seen ++ a.more;
@@ -447,8 +447,9 @@ exchanged rose before after l0 l1 w0 w1 seen headers spans answer is_head h a e 
   goes_on = a.goes_on;
   went = a.went;
   waited = a.waited;
-  bytes_are = ap (λ (r : Answer). continued a.goes_on ++ reply_bytes (reply_in before.setup r) is_head) a.answer_is
-      ∙ ap (λ (b : Bool). continued a.goes_on ++ reply_bytes (reply_in before.setup (by_fault a.fault (answer_of before a.found (asked_of before.setup h.head) (drop spans.len seen ++ a.more)))) b) e;
+  told_is = refl;
+  reply_is = ap (λ (r : Answer). reply_bytes (reply_in before.setup r) is_head) a.answer_is
+      ∙ ap (λ (b : Bool). reply_bytes (reply_in before.setup (by_fault a.fault (answer_of before a.found (asked_of before.setup h.head) (drop spans.len seen ++ a.more)))) b) e;
   code_is = ap (λ (r : Answer). (reply_in before.setup r).code) a.answer_is;
 }
 
@@ -456,8 +457,9 @@ pub served_head : (rose : Type 0) (before after : OfficeState) (l0 l1 w0 w1 w2 :
 served_head rose before after l0 l1 w0 w1 w2 seen headers spans setup answer is_head code h a e s c wrote = record {
   more = a.more;
   took = a.took;
-  bytes = continued a.goes_on ++ reply_bytes (reply_in before.setup answer) is_head;
-  exchange = subst (λ n. Exchange before after l1 (seen ++ a.more) (continued a.goes_on ++ reply_bytes (reply_in before.setup answer) is_head) n rose)
+  told = continued a.goes_on;
+  reply = reply_bytes (reply_in before.setup answer) is_head;
+  exchange = subst (λ n. Exchange before after l1 (seen ++ a.more) (continued a.goes_on) (reply_bytes (reply_in before.setup answer) is_head) n rose)
       (sym (c ∙ ap (λ (l : Lists). (reply_in l answer).code) s)) (exchanged rose before after l0 l1 w0 w1 seen headers spans answer is_head h a e);
   wrote = Appends-trans w0 w1 w2 (continued a.goes_on) (reply_bytes (reply_in before.setup answer) is_head) a.wrote
       (subst (λ (l : Lists). Appends w1 w2 (reply_bytes (reply_in l answer) is_head)) s wrote);
@@ -467,11 +469,13 @@ pub served_front : (rose : Type 0) (before after : OfficeState) (l0 l1 w0 w1 w2 
 served_front rose before after l0 l1 w0 w1 w2 seen headers spans setup answer is_head h a e s wrote = record {
   more = a.more;
   took = a.took;
-  bytes = continued a.goes_on ++ reply_bytes (reply_in before.setup answer) is_head;
+  told = continued a.goes_on;
+  reply = reply_bytes (reply_in before.setup answer) is_head;
   code = (reply_in before.setup answer).code;
   exchange = exchanged rose before after l0 l1 w0 w1 seen headers spans answer is_head h a e;
-  wrote = front_after w0 w1 w2 (continued a.goes_on) (reply_bytes (reply_in before.setup answer) is_head) a.wrote
-      (subst (λ (l : Lists). AppendsFront w1 w2 (reply_bytes (reply_in l answer) is_head)) s wrote);
+  between = w1;
+  first = a.wrote;
+  wrote = subst (λ (l : Lists). AppendsFront w1 w2 (reply_bytes (reply_in l answer) is_head)) s wrote;
 }
 
 -- the whole connection
@@ -479,7 +483,8 @@ pub replied_head : (rose : Type 0) (before after : OfficeState) (l0 l1 l2 w0 w1 
 replied_head rose before after l0 l1 l2 w0 w1 seen input code took same s = record {
   input = seen ++ s.more;
   took = Consumes-trans l0 l1 l2 seen s.more (subst (Consumes l0 l1) same took) s.took;
-  bytes = s.bytes;
+  told = s.told;
+  reply = s.reply;
   served = inl s.exchange;
   wrote = s.wrote;
 }
@@ -488,9 +493,12 @@ replied_front : (rose : Type 0) (before after : OfficeState) (l0 l1 l2 w0 w1 : O
 replied_front rose before after l0 l1 l2 w0 w1 seen input took same s = record {
   input = seen ++ s.more;
   took = Consumes-trans l0 l1 l2 seen s.more (subst (Consumes l0 l1) same took) s.took;
-  bytes = s.bytes;
+  told = s.told;
+  reply = s.reply;
   code = s.code;
   served = inl s.exchange;
+  between = s.between;
+  first = s.first;
   wrote = s.wrote;
 }
 
@@ -554,11 +562,11 @@ stopped_request rose before after l0 l1 w0 w1 seen Read s = s
 stopped_request rose before after l0 l1 w0 w1 seen Write s = inl s
 
 -- what is no request
-unread : (rose : Type 0) (s : OfficeState) (left : Option (List ℕ)) (input : List ℕ) (r : Refusal) → length input ≤ head_room → IsUnread left input r → IsServed s s left input (reply_bytes (refused r) false) (refused r).code rose
-unread rose s left input r few cause = inr (record { few = few; refusal = r; cause = cause; same = refl; bytes_are = refl; code_is = refl })
+unread : (rose : Type 0) (s : OfficeState) (left : Option (List ℕ)) (input : List ℕ) (r : Refusal) → length input ≤ head_room → IsUnread left input r → IsServed s s left input [] (reply_bytes (refused r) false) (refused r).code rose
+unread rose s left input r few cause = inr (record { few = few; refusal = r; cause = cause; same = refl; told_is = refl; reply_is = refl; code_is = refl })
 
 unread_at : (rose : Type 0) (s : OfficeState) (l0 l1 w0 w1 : Option (List ℕ)) (input : List ℕ) (r : Refusal) (code : Option ℕ) → Consumes l0 l1 input → length input ≤ head_room → IsUnread l1 input r → code ≡ Some (refused r).code → Appends w0 w1 (reply_bytes (refused r) false) → Serves s s l0 l1 w0 w1 code rose
-unread_at rose s l0 l1 w0 w1 input r code took few cause e wrote = subst (λ (o : Option ℕ). Serves s s l0 l1 w0 w1 o rose) (sym e) (record { input = input; took = took; bytes = reply_bytes (refused r) false; served = unread rose s l1 input r few cause; wrote = wrote })
+unread_at rose s l0 l1 w0 w1 input r code took few cause e wrote = subst (λ (o : Option ℕ). Serves s s l0 l1 w0 w1 o rose) (sym e) (record { input = input; took = took; told = []; reply = reply_bytes (refused r) false; served = unread rose s l1 input r few cause; wrote = wrote })
 
 pub unread_ok : (rose : Type 0) (s : OfficeState) (l0 l1 w0 w1 : Option (List ℕ)) (input : List ℕ) (r : Refusal) (result : Result Served ServeFault) → Consumes l0 l1 input → length input ≤ head_room → IsUnread l1 input r → IfOk result (λ served. served.code ≡ Some (refused r).code) → OnOk result (Appends w0 w1 (reply_bytes (refused r) false)) → IfOk result (λ served. Serves s s l0 l1 w0 w1 served.code rose)
 unread_ok rose s l0 l1 w0 w1 input r (Ok served) took few cause code wrote = unread_at rose s l0 l1 w0 w1 input r served.code took few cause code wrote
@@ -566,7 +574,7 @@ unread_ok rose s l0 l1 w0 w1 input r (Err f) took few cause code wrote = tt
 
 pub unread_err : (rose : Type 0) (s : OfficeState) (l0 l1 w0 w1 : Option (List ℕ)) (input : List ℕ) (r : Refusal) (result : Result Served ServeFault) → Consumes l0 l1 input → length input ≤ head_room → IsUnread l1 input r → IfErr result (λ f. (f ≡ Write) × AppendsFront w0 w1 (reply_bytes (refused r) false)) → IfErr result (λ f. StopsServe s s l0 l1 w0 w1 f rose)
 unread_err rose s l0 l1 w0 w1 input r (Ok served) took few cause h = tt
-unread_err rose s l0 l1 w0 w1 input r (Err f) took few cause h = subst (λ (f : ServeFault). StopsServe s s l0 l1 w0 w1 f rose) (sym h.0) (inr (record { input = input; took = took; bytes = reply_bytes (refused r) false; code = (refused r).code; served = unread rose s l1 input r few cause; wrote = h.1 }))
+unread_err rose s l0 l1 w0 w1 input r (Err f) took few cause h = subst (λ (f : ServeFault). StopsServe s s l0 l1 w0 w1 f rose) (sym h.0) (inr (record { input = input; took = took; told = []; reply = reply_bytes (refused r) false; code = (refused r).code; served = unread rose s l1 input r few cause; between = w0; first = Appends-nil w0; wrote = h.1 }))
 
 -- what is asked, where it was read
 pub asked_due : (setup : Lists) (o : Option Asked) (seen : List ℕ) (headers : List HeaderSpan) (spans : RequestSpans) (head : RequestHead) → IfSome o (λ a. (h : RequestHead) → IsRequestAt seen headers spans h → a ≡ asked_of setup h) → IsRequestAt seen headers spans head → IfSome o (λ a. a ≡ asked_of setup head)

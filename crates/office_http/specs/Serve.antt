@@ -244,8 +244,8 @@ pub record StopsBefore (before after : OfficeState) (left left' written written'
   pub few : length input ≤ most
   pub wrote : Appends written written' [] ⊎ (waits input × AppendsFront written written' continue_bytes)
 
--- THE EXCHANGE: these bytes are a request, and those its reply.
-pub record Exchange (before after : OfficeState) (left : Option (List ℕ)) (input bytes : List ℕ) (code : ℕ) (rose : Type 0) : Type 0 where
+-- THE EXCHANGE: these bytes are a request, and those tell the client to go on and are its reply.
+pub record Exchange (before after : OfficeState) (left : Option (List ℕ)) (input told reply : List ℕ) (code : ℕ) (rose : Type 0) : Type 0 where
   pub head : RequestHead
   pub rest : List ℕ
   pub begins : BeginsWith input head rest
@@ -261,7 +261,8 @@ pub record Exchange (before after : OfficeState) (left : Option (List ℕ)) (inp
   pub goes_on : Bool
   pub went : fault ≡ None → goes_on ≡ waits_of (asked_of before.setup head)
   pub waited : goes_on ≡ true → waits_of (asked_of before.setup head) ≡ true
-  pub bytes_are : bytes ≡ continued goes_on ++ reply_bytes (reply_in before.setup (by_fault fault (answer_of before found (asked_of before.setup head) rest))) (is_head_method head)
+  pub told_is : told ≡ continued goes_on
+  pub reply_is : reply ≡ reply_bytes (reply_in before.setup (by_fault fault (answer_of before found (asked_of before.setup head) rest))) (is_head_method head)
   pub code_is : code ≡ (reply_in before.setup (by_fault fault (answer_of before found (asked_of before.setup head) rest))).code
 
 -- Bytes that are no request within the limits, by the cause that they are refused for, or too much for the memory.
@@ -278,34 +279,39 @@ IsUnread left input refusal.LengthRequired = ⊥
 IsUnread left input refusal.TooLong = ⊥
 IsUnread left input refusal.Store = ⊥
 
-pub record Unread (before after : OfficeState) (left : Option (List ℕ)) (input bytes : List ℕ) (code : ℕ) : Type 0 where
+pub record Unread (before after : OfficeState) (left : Option (List ℕ)) (input told reply : List ℕ) (code : ℕ) : Type 0 where
   pub few : length input ≤ head_room
   pub refusal : Refusal
   pub cause : IsUnread left input refusal
   pub same : after ≡ before
-  pub bytes_are : bytes ≡ reply_bytes (refused refusal) false
+  pub told_is : told ≡ []
+  pub reply_is : reply ≡ reply_bytes (refused refusal) false
   pub code_is : code ≡ (refused refusal).code
 
 -- a request that is answered, or what is none
-abbrev pub IsServed : OfficeState → OfficeState → Option (List ℕ) → List ℕ → List ℕ → ℕ → Type 0 → Type 0
-IsServed before after left input bytes code rose = Exchange before after left input bytes code rose ⊎ Unread before after left input bytes code
+abbrev pub IsServed : OfficeState → OfficeState → Option (List ℕ) → List ℕ → List ℕ → List ℕ → ℕ → Type 0 → Type 0
+IsServed before after left input told reply code rose = Exchange before after left input told reply code rose ⊎ Unread before after left input told reply code
 
 -- all of the reply was written
 pub record Replied (before after : OfficeState) (left left' written written' : Option (List ℕ)) (code : ℕ) (rose : Type 0) : Type 0 where
   pub input : List ℕ
   pub took : Consumes left left' input
-  pub bytes : List ℕ
-  pub served : IsServed before after left' input bytes code rose
-  pub wrote : Appends written written' bytes
+  pub told : List ℕ
+  pub reply : List ℕ
+  pub served : IsServed before after left' input told reply code rose
+  pub wrote : Appends written written' (told ++ reply)
 
--- a front of it
+-- what tells the client to go on was written whole, and a front of the reply behind it
 pub record RepliedFront (before after : OfficeState) (left left' written written' : Option (List ℕ)) (rose : Type 0) : Type 0 where
   pub input : List ℕ
   pub took : Consumes left left' input
-  pub bytes : List ℕ
+  pub told : List ℕ
+  pub reply : List ℕ
   pub code : ℕ
-  pub served : IsServed before after left' input bytes code rose
-  pub wrote : AppendsFront written written' bytes
+  pub served : IsServed before after left' input told reply code rose
+  pub between : Option (List ℕ)
+  pub first : Appends written between told
+  pub wrote : AppendsFront between written' reply
 
 -- no byte came, and none was written
 pub record Silent (before after : OfficeState) (left left' written written' : Option (List ℕ)) : Type 0 where
@@ -318,8 +324,8 @@ abbrev pub Serves : OfficeState → OfficeState → Option (List ℕ) → Option
 Serves before after left left' written written' None rose = Silent before after left left' written written'
 Serves before after left left' written written' (Some code) rose = Replied before after left left' written written' code rose
 
--- What a fault leaves. Where the reader failed nothing was delivered or settled; where the writer failed, a front of
--- the due bytes was written, and where that was before the answer nothing was delivered or settled.
+-- What a fault leaves. Where the reader failed nothing was delivered or settled. Where the writer failed, a front of the
+-- due bytes was written; if that isn't all that tells the client to go on, nothing was delivered or settled.
 abbrev pub StopsServe : OfficeState → OfficeState → Option (List ℕ) → Option (List ℕ) → Option (List ℕ) → Option (List ℕ) → ServeFault → Type 0 → Type 0
 StopsServe before after left left' written written' Read rose = StopsBefore before after left left' written written' (head_room + body_room) (IsAwaited before.setup)
 StopsServe before after left left' written written' Write rose = StopsBefore before after left left' written written' (head_room + body_room) (IsAwaited before.setup) ⊎ RepliedFront before after left left' written written' rose

@@ -95,17 +95,21 @@ pub record Answers (before after : OfficeState) (left left' written written' : O
 pub record ServesHead (before after : OfficeState) (left left' written written' : Option (List ℕ)) (seen : List ℕ) (code : ℕ) (rose : Type 0) : Type 0 where
   pub more : List ℕ
   pub took : Consumes left left' more
-  pub bytes : List ℕ
-  pub exchange : Exchange before after left' (seen ++ more) bytes code rose
-  pub wrote : Appends written written' bytes
+  pub told : List ℕ
+  pub reply : List ℕ
+  pub exchange : Exchange before after left' (seen ++ more) told reply code rose
+  pub wrote : Appends written written' (told ++ reply)
 
 pub record ServesFront (before after : OfficeState) (left left' written written' : Option (List ℕ)) (seen : List ℕ) (rose : Type 0) : Type 0 where
   pub more : List ℕ
   pub took : Consumes left left' more
-  pub bytes : List ℕ
+  pub told : List ℕ
+  pub reply : List ℕ
   pub code : ℕ
-  pub exchange : Exchange before after left' (seen ++ more) bytes code rose
-  pub wrote : AppendsFront written written' bytes
+  pub exchange : Exchange before after left' (seen ++ more) told reply code rose
+  pub between : Option (List ℕ)
+  pub first : Appends written between told
+  pub wrote : AppendsFront between written' reply
 
 abbrev pub StopsRequest : OfficeState → OfficeState → Option (List ℕ) → Option (List ℕ) → Option (List ℕ) → Option (List ℕ) → List ℕ → ServeFault → Type 0 → Type 0
 StopsRequest before after left left' written written' seen Read rose = StopsBefore before after left left' written written' body_room (λ more. IsAwaited before.setup (seen ++ more))
