@@ -1,5 +1,5 @@
 -- What a connection leaves of the runs that were finished before.
-use Rattle.std.proofs.Common.{◌⊎◌, ⊎_elim, ℕ, List, [], ◌∷◌, Option, Some, None, Result, Ok, Err, IfOk, IfErr, refl, sym, subst}
+use Rattle.std.proofs.Common.{⊎_elim, ℕ, List, [], ◌∷◌, Option, Some, None, Result, Ok, Err, IfOk, IfErr, refl, sym, subst}
 use Rattle.office_mail.specs.Kept.{Within}
 use Rattle.office_mail.proofs.KeptFacts.{kept_from-Within}
 use Rattle.office_core_orders.specs.declared.faults.StoreFault.{StoreFault}

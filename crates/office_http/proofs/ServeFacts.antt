@@ -59,7 +59,6 @@ use Rattle.office_http.specs.ServeSteps.{answer_or, status_answer, text_answer, 
 use Rattle.office_core_replay.proofs.ReplayFacts.{Leaves, reply_by-mark, delivery_counted, kept_after}
 use Rattle.office_core_replay.proofs.RiseFacts.{delivery_weaker, text_weaker}
 use Rattle.office_core_replay.specs.DeliverySteps.{Settles}
-use Rattle.office_core_orders.proofs.WrittenFacts.{front_after}
 
 -- where nothing is found that the answer tells
 abbrev nothing : Found

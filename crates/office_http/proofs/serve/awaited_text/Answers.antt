@@ -1,4 +1,4 @@
-use Rattle.std.proofs.Common.{◌≡◌, ℕ, ap, ◌∙◌}
+use Rattle.std.proofs.Common.{ℕ, ap, ◌∙◌}
 use Rattle.office_mail.specs.Lists.{Lists}
 use Rattle.office_core_orders.specs.declared.waiting_lines.Waiting.{Waiting}
 use Rattle.office_core_orders.specs.WaitingLines.{waiting_text}
