@@ -5,6 +5,6 @@ use Rattle.office_store.proofs.migrating.write_anew.Goals as goal
 pub returns-clause-written : goal.returns-clause-written
 returns-clause-written g c trusted =
     let second = c.in_ok-added.ensures.before trusted in
-    let first = c.in_ok-_old.ensures.before second in
+    let first = c.in_ok-_old.ensures.steps.before second in
     writes_anew (state g.S.Store c.args.tx.now.conn.now).now.trees (state g.S.Store c.put_last.new.tx.conn.now).now.trees (state g.S.Store c.clear_office.new.tx.conn.now).now.trees (state g.S.Store c.add_migrated.new.tx.conn.now).now.trees
     c.args.last (record { schema = 2; setup = c.args.setup.now; finished = c.args.finished }) (c.in_ok-put_last.ensures.put first) (c.in_ok-_old.ensures.cleared second) (c.in_ok-added.ensures.added trusted)

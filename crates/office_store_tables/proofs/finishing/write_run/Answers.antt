@@ -7,7 +7,7 @@ use Rattle.office_store_tables.proofs.finishing.write_run.Goals as goal
 
 pub returns-clause-done : goal.returns-clause-done
 returns-clause-done g c trusted =
-    let third = c.in_ok-added.ensures.before trusted in
+    let third = c.in_ok-added.ensures.steps.before trusted in
     let second = c.in_ok-change_facts.ensures.steps.before third in
     let first = c.in_ok-set_rows.ensures.steps.before second in
     writes c.args.release (state g.S.Store c.args.tx.now.conn.now).now.trees (state g.S.Store c.set_sources.new.tx.conn.now).now.trees (state g.S.Store c.set_rows.new.tx.conn.now).now.trees
@@ -85,13 +85,13 @@ pub returns-in_err-change_facts-clause-lasts : goal.returns-in_err-change_facts-
 returns-in_err-change_facts-clause-lasts g c = lasts_then _ _ _ (lasts_then _ _ _ c.in_ok-set_sources.ensures.steps.lasts c.in_ok-set_rows.ensures.steps.lasts) c.in_err-change_facts.ensures.steps.lasts
 
 pub returns-in_err-added-clause-lasts : goal.returns-in_err-added-clause-lasts
-returns-in_err-added-clause-lasts g c = lasts_then _ _ _ (lasts_then _ _ _ (lasts_then _ _ _ c.in_ok-set_sources.ensures.steps.lasts c.in_ok-set_rows.ensures.steps.lasts) c.in_ok-change_facts.ensures.steps.lasts) c.in_err-added.ensures.lasts
+returns-in_err-added-clause-lasts g c = lasts_then _ _ _ (lasts_then _ _ _ (lasts_then _ _ _ c.in_ok-set_sources.ensures.steps.lasts c.in_ok-set_rows.ensures.steps.lasts) c.in_ok-change_facts.ensures.steps.lasts) c.in_err-added.ensures.steps.lasts
 
 pub returns-clause-lasts : goal.returns-clause-lasts
-returns-clause-lasts g c = lasts_then _ _ _ (lasts_then _ _ _ (lasts_then _ _ _ c.in_ok-set_sources.ensures.steps.lasts c.in_ok-set_rows.ensures.steps.lasts) c.in_ok-change_facts.ensures.steps.lasts) c.in_ok-added.ensures.lasts
+returns-clause-lasts g c = lasts_then _ _ _ (lasts_then _ _ _ (lasts_then _ _ _ c.in_ok-set_sources.ensures.steps.lasts c.in_ok-set_rows.ensures.steps.lasts) c.in_ok-change_facts.ensures.steps.lasts) c.in_ok-added.ensures.steps.lasts
 
 pub returns-clause-open : goal.returns-clause-open
-returns-clause-open g c clean trusted = c.in_ok-added.ensures.open clean (c.in_ok-change_facts.ensures.steps.stays (clean_before _ _ c.in_ok-added.ensures.lasts clean) (c.in_ok-set_rows.ensures.steps.stays (clean_before _ _ c.in_ok-change_facts.ensures.steps.lasts (clean_before _ _ c.in_ok-added.ensures.lasts clean)) (c.in_ok-set_sources.ensures.steps.stays (clean_before _ _ c.in_ok-set_rows.ensures.steps.lasts (clean_before _ _ c.in_ok-change_facts.ensures.steps.lasts (clean_before _ _ c.in_ok-added.ensures.lasts clean))) trusted)))
+returns-clause-open g c clean trusted = c.in_ok-added.ensures.steps.stays clean (c.in_ok-change_facts.ensures.steps.stays (clean_before _ _ c.in_ok-added.ensures.steps.lasts clean) (c.in_ok-set_rows.ensures.steps.stays (clean_before _ _ c.in_ok-change_facts.ensures.steps.lasts (clean_before _ _ c.in_ok-added.ensures.steps.lasts clean)) (c.in_ok-set_sources.ensures.steps.stays (clean_before _ _ c.in_ok-set_rows.ensures.steps.lasts (clean_before _ _ c.in_ok-change_facts.ensures.steps.lasts (clean_before _ _ c.in_ok-added.ensures.steps.lasts clean))) trusted)))
 
 pub returns-clause-on : goal.returns-clause-on
-returns-clause-on g c trusted = record { inside = (c.in_ok-added.ensures.on trusted).inside; committed = (c.in_ok-added.ensures.on trusted).committed ∙ (c.in_ok-change_facts.ensures.steps.on (c.in_ok-added.ensures.before trusted)).committed ∙ (c.in_ok-set_rows.ensures.steps.on (c.in_ok-change_facts.ensures.steps.before (c.in_ok-added.ensures.before trusted))).committed ∙ (c.in_ok-set_sources.ensures.steps.on (c.in_ok-set_rows.ensures.steps.before (c.in_ok-change_facts.ensures.steps.before (c.in_ok-added.ensures.before trusted)))).committed }
+returns-clause-on g c trusted = record { inside = (c.in_ok-added.ensures.steps.on trusted).inside; committed = (c.in_ok-added.ensures.steps.on trusted).committed ∙ (c.in_ok-change_facts.ensures.steps.on (c.in_ok-added.ensures.steps.before trusted)).committed ∙ (c.in_ok-set_rows.ensures.steps.on (c.in_ok-change_facts.ensures.steps.before (c.in_ok-added.ensures.steps.before trusted))).committed ∙ (c.in_ok-set_sources.ensures.steps.on (c.in_ok-set_rows.ensures.steps.before (c.in_ok-change_facts.ensures.steps.before (c.in_ok-added.ensures.steps.before trusted)))).committed }
