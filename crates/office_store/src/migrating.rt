@@ -12,7 +12,8 @@ ghost use Rattle.office_store_keeper.specs.LastDelays.{delays_in_body, IsLastTol
 ghost use Rattle.office_store_keeper.specs.declared.faults.Cause.TheVariants.{BadRow};
 ghost use Rattle.office_store_tables.specs.Layout.{schema_before};
 ghost use Rattle.office_store_tables.specs.Tables.{IsTrusted, IsOurs, IsWhole, Lasts, number_in, kept_rows};
-ghost use Rattle.office_store_tables.specs.TableSteps.{IsInside, WentOn, IsCrowded, SaysMore, is_between, letter_columns, office_columns};
+ghost use Rattle.office_store_tables.specs.TableSteps.{IsCrowded, SaysMore, is_between, letter_columns, office_columns};
+ghost use Rattle.office_store_tables.specs.StepsWithin.{StepsWithin, BeginsInside, Yields, LeavesAll};
 ghost use Rattle.office_store_tables.specs.TableContent.{release_place};
 ghost use Rattle.office_store_tables.specs.CreatingSteps.{IsBuilding};
 ghost use Rattle.office_store_tables.specs.SetupText.{setup_text as text_of};
@@ -38,13 +39,8 @@ use testing_rules_items::Item;
 /// Makes the table of the last delays beside the six.
 fn widen<S: Alter>(tx: &mut Transaction<'_, S>) -> Result<usize, Error>
     requires building { IsTrusted (state S.Store tx.old.conn.now) → IsBuilding schema_before (state S.Store tx.old.conn.now) }
-    ensures same_reference { tx.new.conn.ghost_name ≡ tx.old.conn.ghost_name }
-    ensures before { IsTrusted (state S.Store tx.new.conn.now) → IsTrusted (state S.Store tx.old.conn.now) }
-    ensures lasts { Lasts (state S.Store tx.old.conn.now) (state S.Store tx.new.conn.now) }
-    ensures open { HasCleanDisk (state S.Store tx.new.conn.now) → IsTrusted (state S.Store tx.old.conn.now) → OnOk result (IsTrusted (state S.Store tx.new.conn.now)) }
-    ensures on { IsTrusted (state S.Store tx.new.conn.now) → OnOk result (WentOn (state S.Store tx.old.conn.now) (state S.Store tx.new.conn.now)) }
+    ensures steps { StepsWithin S.Store tx.old.conn tx.new.conn result }
     ensures widened { IsTrusted (state S.Store tx.new.conn.now) → OnOk result (Widens (state S.Store tx.old.conn.now) (state S.Store tx.new.conn.now)) }
-    ensures err { IsTrusted (state S.Store tx.new.conn.now) → OnErr result ((state S.Store tx.new.conn.now).committed ≡ (state S.Store tx.old.conn.now).committed) }
 {
     let made = create_fact_delays(tx)?;
     Ok(made)
@@ -52,15 +48,10 @@ fn widen<S: Alter>(tx: &mut Transaction<'_, S>) -> Result<usize, Error>
 
 /// The rows of the office, in any order.
 fn office_rows<S: Alter>(tx: &mut Transaction<'_, S>) -> Result<Vec<Row>, Error>
-    requires inside { IsTrusted (state S.Store tx.old.conn.now) → IsInside (state S.Store tx.old.conn.now) }
-    ensures same_reference { tx.new.conn.ghost_name ≡ tx.old.conn.ghost_name }
-    ensures before { IsTrusted (state S.Store tx.new.conn.now) → IsTrusted (state S.Store tx.old.conn.now) }
-    ensures lasts { Lasts (state S.Store tx.old.conn.now) (state S.Store tx.new.conn.now) }
-    ensures open { HasCleanDisk (state S.Store tx.new.conn.now) → IsTrusted (state S.Store tx.old.conn.now) → OnOk result (IsTrusted (state S.Store tx.new.conn.now)) }
-    ensures on { IsTrusted (state S.Store tx.new.conn.now) → OnOk result (WentOn (state S.Store tx.old.conn.now) (state S.Store tx.new.conn.now)) }
-    ensures same { IsTrusted (state S.Store tx.new.conn.now) → OnOk result ((state S.Store tx.new.conn.now).now ≡ (state S.Store tx.old.conn.now).now) }
-    ensures rows { IsTrusted (state S.Store tx.new.conn.now) → IfOk result (λ rows. IsPermutation (map office_columns ((state S.Store tx.old.conn.now).now.trees 0)) rows.items) }
-    ensures err { IsTrusted (state S.Store tx.new.conn.now) → OnErr result ((state S.Store tx.new.conn.now).committed ≡ (state S.Store tx.old.conn.now).committed) }
+    requires inside { BeginsInside S.Store tx.old.conn }
+    ensures steps { StepsWithin S.Store tx.old.conn tx.new.conn result }
+    ensures same { LeavesAll S.Store tx.old.conn tx.new.conn result }
+    ensures rows { Yields S.Store tx.old.conn tx.new.conn result (λ db _ rows. IsPermutation (map office_columns (db 0)) rows.items) }
 {
     tx.query_all("SELECT id, schema, setup, finished FROM office", &[])
 }
@@ -72,15 +63,10 @@ fn letters_between<S: Alter>(
     from: u32,
     to: u32,
 ) -> Result<Vec<Row>, Error>
-    requires inside { IsTrusted (state S.Store tx.old.conn.now) → IsInside (state S.Store tx.old.conn.now) }
-    ensures same_reference { tx.new.conn.ghost_name ≡ tx.old.conn.ghost_name }
-    ensures before { IsTrusted (state S.Store tx.new.conn.now) → IsTrusted (state S.Store tx.old.conn.now) }
-    ensures lasts { Lasts (state S.Store tx.old.conn.now) (state S.Store tx.new.conn.now) }
-    ensures open { HasCleanDisk (state S.Store tx.new.conn.now) → IsTrusted (state S.Store tx.old.conn.now) → OnOk result (IsTrusted (state S.Store tx.new.conn.now)) }
-    ensures on { IsTrusted (state S.Store tx.new.conn.now) → OnOk result (WentOn (state S.Store tx.old.conn.now) (state S.Store tx.new.conn.now)) }
-    ensures same { IsTrusted (state S.Store tx.new.conn.now) → OnOk result ((state S.Store tx.new.conn.now).now ≡ (state S.Store tx.old.conn.now).now) }
-    ensures rows { IsTrusted (state S.Store tx.new.conn.now) → IfOk result (λ rows. IsPermutation (map letter_columns (filter (is_between sender from to) ((state S.Store tx.old.conn.now).now.trees 1))) rows.items) }
-    ensures err { IsTrusted (state S.Store tx.new.conn.now) → OnErr result ((state S.Store tx.new.conn.now).committed ≡ (state S.Store tx.old.conn.now).committed) }
+    requires inside { BeginsInside S.Store tx.old.conn }
+    ensures steps { StepsWithin S.Store tx.old.conn tx.new.conn result }
+    ensures same { LeavesAll S.Store tx.old.conn tx.new.conn result }
+    ensures rows { Yields S.Store tx.old.conn tx.new.conn result (λ db _ rows. IsPermutation (map letter_columns (filter (is_between sender from to) (db 1))) rows.items) }
 {
     tx.query_all(
         "SELECT sender, number, body FROM mail WHERE sender = ?1 AND number >= ?2 AND number <= ?3",
@@ -95,15 +81,10 @@ fn letters_to<S: Alter>(
     sender: u32,
     to: u32,
 ) -> Result<Vec<Letter>, KeepFault>
-    requires inside { IsTrusted (state S.Store tx.old.conn.now) → IsInside (state S.Store tx.old.conn.now) }
-    ensures same_reference { tx.new.conn.ghost_name ≡ tx.old.conn.ghost_name }
-    ensures before { IsTrusted (state S.Store tx.new.conn.now) → IsTrusted (state S.Store tx.old.conn.now) }
-    ensures lasts { Lasts (state S.Store tx.old.conn.now) (state S.Store tx.new.conn.now) }
-    ensures open { HasCleanDisk (state S.Store tx.new.conn.now) → IsTrusted (state S.Store tx.old.conn.now) → OnOk result (IsTrusted (state S.Store tx.new.conn.now)) }
-    ensures on { IsTrusted (state S.Store tx.new.conn.now) → OnOk result (WentOn (state S.Store tx.old.conn.now) (state S.Store tx.new.conn.now)) }
-    ensures same { IsTrusted (state S.Store tx.new.conn.now) → OnOk result ((state S.Store tx.new.conn.now).now ≡ (state S.Store tx.old.conn.now).now) }
-    ensures loaded { IsTrusted (state S.Store tx.new.conn.now) → IfOk result (λ letters. letters.items ≡ letters_within (kept_rows ((state S.Store tx.old.conn.now).now.trees 1)) sender 1 to) }
-    ensures err { IsTrusted (state S.Store tx.new.conn.now) → OnErr result ((state S.Store tx.new.conn.now).committed ≡ (state S.Store tx.old.conn.now).committed) }
+    requires inside { BeginsInside S.Store tx.old.conn }
+    ensures steps { StepsWithin S.Store tx.old.conn tx.new.conn result }
+    ensures same { LeavesAll S.Store tx.old.conn tx.new.conn result }
+    ensures loaded { Yields S.Store tx.old.conn tx.new.conn result (λ db _ letters. letters.items ≡ letters_within (kept_rows (db 1)) sender 1 to) }
     ensures bad { IsTrusted (state S.Store tx.new.conn.now) → result ≡ Err (KeepFault.Store BadRow) → IsCrowded ((state S.Store tx.old.conn.now).now.trees 1) }
 {
     let rows = letters_between(tx, sender, 1, to)?;
@@ -154,15 +135,10 @@ fn judged<S: Alter>(
     tx: &mut Transaction<'_, S>,
     setup: &Setup,
 ) -> Result<u32, OpenFault>
-    requires inside { IsTrusted (state S.Store tx.old.conn.now) → IsInside (state S.Store tx.old.conn.now) }
-    ensures same_reference { tx.new.conn.ghost_name ≡ tx.old.conn.ghost_name }
-    ensures before { IsTrusted (state S.Store tx.new.conn.now) → IsTrusted (state S.Store tx.old.conn.now) }
-    ensures lasts { Lasts (state S.Store tx.old.conn.now) (state S.Store tx.new.conn.now) }
-    ensures open { HasCleanDisk (state S.Store tx.new.conn.now) → IsTrusted (state S.Store tx.old.conn.now) → OnOk result (IsTrusted (state S.Store tx.new.conn.now)) }
-    ensures on { IsTrusted (state S.Store tx.new.conn.now) → OnOk result (WentOn (state S.Store tx.old.conn.now) (state S.Store tx.new.conn.now)) }
-    ensures same { IsTrusted (state S.Store tx.new.conn.now) → OnOk result ((state S.Store tx.new.conn.now).now ≡ (state S.Store tx.old.conn.now).now) }
-    ensures judged { IsTrusted (state S.Store tx.new.conn.now) → IfOk result (λ finished. IsJudged setup.now ((state S.Store tx.old.conn.now).now.trees 0) finished) }
-    ensures err { IsTrusted (state S.Store tx.new.conn.now) → OnErr result ((state S.Store tx.new.conn.now).committed ≡ (state S.Store tx.old.conn.now).committed) }
+    requires inside { BeginsInside S.Store tx.old.conn }
+    ensures steps { StepsWithin S.Store tx.old.conn tx.new.conn result }
+    ensures same { LeavesAll S.Store tx.old.conn tx.new.conn result }
+    ensures judged { Yields S.Store tx.old.conn tx.new.conn result (λ db _ finished. IsJudged setup.now (db 0) finished) }
     ensures other { IsTrusted (state S.Store tx.new.conn.now) → result ≡ Err OpenFault.OtherSetup → (kept : Lists) × (lists_by (text_before ((state S.Store tx.old.conn.now).now.trees 0)) ≡ Some kept) × (kept ≢ setup.now) }
     ensures unknown { IsTrusted (state S.Store tx.new.conn.now) → result ≡ Err OpenFault.UnknownSchema → lists_by (text_before ((state S.Store tx.old.conn.now).now.trees 0)) ≡ None }
     ensures bad { result ≢ Err (OpenFault.Store BadRow) }
@@ -302,15 +278,10 @@ fn covered<S: Alter>(
     setup: &Setup,
     finished: u32,
 ) -> Result<u32, KeepFault>
-    requires inside { IsTrusted (state S.Store tx.old.conn.now) → IsInside (state S.Store tx.old.conn.now) }
-    ensures same_reference { tx.new.conn.ghost_name ≡ tx.old.conn.ghost_name }
-    ensures before { IsTrusted (state S.Store tx.new.conn.now) → IsTrusted (state S.Store tx.old.conn.now) }
-    ensures lasts { Lasts (state S.Store tx.old.conn.now) (state S.Store tx.new.conn.now) }
-    ensures open { HasCleanDisk (state S.Store tx.new.conn.now) → IsTrusted (state S.Store tx.old.conn.now) → OnOk result (IsTrusted (state S.Store tx.new.conn.now)) }
-    ensures on { IsTrusted (state S.Store tx.new.conn.now) → OnOk result (WentOn (state S.Store tx.old.conn.now) (state S.Store tx.new.conn.now)) }
-    ensures same { IsTrusted (state S.Store tx.new.conn.now) → OnOk result ((state S.Store tx.new.conn.now).now ≡ (state S.Store tx.old.conn.now).now) }
-    ensures stated { IsTrusted (state S.Store tx.new.conn.now) → IfOk result (λ stated. cover_on setup.now finished 0 0 (letters_within (kept_rows ((state S.Store tx.old.conn.now).now.trees 1)) (runs setup.now) 1 finished) ≡ Some stated) }
-    ensures err { IsTrusted (state S.Store tx.new.conn.now) → OnErr result ((state S.Store tx.new.conn.now).committed ≡ (state S.Store tx.old.conn.now).committed) }
+    requires inside { BeginsInside S.Store tx.old.conn }
+    ensures steps { StepsWithin S.Store tx.old.conn tx.new.conn result }
+    ensures same { LeavesAll S.Store tx.old.conn tx.new.conn result }
+    ensures stated { Yields S.Store tx.old.conn tx.new.conn result (λ db _ stated. cover_on setup.now finished 0 0 (letters_within (kept_rows (db 1)) (runs setup.now) 1 finished) ≡ Some stated) }
     ensures bad { IsTrusted (state S.Store tx.new.conn.now) → result ≡ Err (KeepFault.Store BadRow) → IsWhole (kept_rows ((state S.Store tx.old.conn.now).now.trees 1)) ((state S.Store tx.old.conn.now).now.trees 1) → cover_on setup.now finished 0 0 (letters_within (kept_rows ((state S.Store tx.old.conn.now).now.trees 1)) (runs setup.now) 1 finished) ≡ None }
 {
     let orders = letters_to(alloc, tx, setup.runs(), finished)?;
@@ -324,15 +295,10 @@ fn last_delays_number<S: Alter>(
     setup: &Setup,
     to: u32,
 ) -> Result<Option<u32>, KeepFault>
-    requires inside { IsTrusted (state S.Store tx.old.conn.now) → IsInside (state S.Store tx.old.conn.now) }
-    ensures same_reference { tx.new.conn.ghost_name ≡ tx.old.conn.ghost_name }
-    ensures before { IsTrusted (state S.Store tx.new.conn.now) → IsTrusted (state S.Store tx.old.conn.now) }
-    ensures lasts { Lasts (state S.Store tx.old.conn.now) (state S.Store tx.new.conn.now) }
-    ensures open { HasCleanDisk (state S.Store tx.new.conn.now) → IsTrusted (state S.Store tx.old.conn.now) → OnOk result (IsTrusted (state S.Store tx.new.conn.now)) }
-    ensures on { IsTrusted (state S.Store tx.new.conn.now) → OnOk result (WentOn (state S.Store tx.old.conn.now) (state S.Store tx.new.conn.now)) }
-    ensures same { IsTrusted (state S.Store tx.new.conn.now) → OnOk result ((state S.Store tx.new.conn.now).now ≡ (state S.Store tx.old.conn.now).now) }
-    ensures told { IsTrusted (state S.Store tx.new.conn.now) → IfOk result (λ last. told_on setup.now None (letters_within (kept_rows ((state S.Store tx.old.conn.now).now.trees 1)) (release_place setup.now) 1 to) ≡ Some last) }
-    ensures err { IsTrusted (state S.Store tx.new.conn.now) → OnErr result ((state S.Store tx.new.conn.now).committed ≡ (state S.Store tx.old.conn.now).committed) }
+    requires inside { BeginsInside S.Store tx.old.conn }
+    ensures steps { StepsWithin S.Store tx.old.conn tx.new.conn result }
+    ensures same { LeavesAll S.Store tx.old.conn tx.new.conn result }
+    ensures told { Yields S.Store tx.old.conn tx.new.conn result (λ db _ last. told_on setup.now None (letters_within (kept_rows (db 1)) (release_place setup.now) 1 to) ≡ Some last) }
     ensures bad { IsTrusted (state S.Store tx.new.conn.now) → result ≡ Err (KeepFault.Store BadRow) → IsWhole (kept_rows ((state S.Store tx.old.conn.now).now.trees 1)) ((state S.Store tx.old.conn.now).now.trees 1) → told_on setup.now None (letters_within (kept_rows ((state S.Store tx.old.conn.now).now.trees 1)) (release_place setup.now) 1 to) ≡ None }
 {
     let letters = letters_to(alloc, tx, release_place(setup), to)?;
@@ -346,15 +312,10 @@ fn find_last<S: Alter>(
     setup: &Setup,
     finished: u32,
 ) -> Result<Option<u32>, KeepFault>
-    requires inside { IsTrusted (state S.Store tx.old.conn.now) → IsInside (state S.Store tx.old.conn.now) }
-    ensures same_reference { tx.new.conn.ghost_name ≡ tx.old.conn.ghost_name }
-    ensures before { IsTrusted (state S.Store tx.new.conn.now) → IsTrusted (state S.Store tx.old.conn.now) }
-    ensures lasts { Lasts (state S.Store tx.old.conn.now) (state S.Store tx.new.conn.now) }
-    ensures open { HasCleanDisk (state S.Store tx.new.conn.now) → IsTrusted (state S.Store tx.old.conn.now) → OnOk result (IsTrusted (state S.Store tx.new.conn.now)) }
-    ensures on { IsTrusted (state S.Store tx.new.conn.now) → OnOk result (WentOn (state S.Store tx.old.conn.now) (state S.Store tx.new.conn.now)) }
-    ensures same { IsTrusted (state S.Store tx.new.conn.now) → OnOk result ((state S.Store tx.new.conn.now).now ≡ (state S.Store tx.old.conn.now).now) }
-    ensures last { IsTrusted (state S.Store tx.new.conn.now) → IfOk result (λ last. AreMessages setup.now (kept_rows ((state S.Store tx.old.conn.now).now.trees 1)) finished × IsLastTold setup.now (kept_rows ((state S.Store tx.old.conn.now).now.trees 1)) (cover setup.now (kept_rows ((state S.Store tx.old.conn.now).now.trees 1)) finished (release_place setup.now)) last) }
-    ensures err { IsTrusted (state S.Store tx.new.conn.now) → OnErr result ((state S.Store tx.new.conn.now).committed ≡ (state S.Store tx.old.conn.now).committed) }
+    requires inside { BeginsInside S.Store tx.old.conn }
+    ensures steps { StepsWithin S.Store tx.old.conn tx.new.conn result }
+    ensures same { LeavesAll S.Store tx.old.conn tx.new.conn result }
+    ensures last { Yields S.Store tx.old.conn tx.new.conn result (λ db _ last. AreMessages setup.now (kept_rows (db 1)) finished × IsLastTold setup.now (kept_rows (db 1)) (cover setup.now (kept_rows (db 1)) finished (release_place setup.now)) last) }
     ensures bad { IsTrusted (state S.Store tx.new.conn.now) → result ≡ Err (KeepFault.Store BadRow) → IsWhole (kept_rows ((state S.Store tx.old.conn.now).now.trees 1)) ((state S.Store tx.old.conn.now).now.trees 1) → AreMessages setup.now (kept_rows ((state S.Store tx.old.conn.now).now.trees 1)) finished → ⊥ }
 {
     let to = covered(alloc, tx, setup, finished)?;
@@ -363,14 +324,9 @@ fn find_last<S: Alter>(
 
 /// Puts in the number of the last delays, if there is one.
 fn put_last<S: Alter>(tx: &mut Transaction<'_, S>, last: Option<u32>) -> Result<(), Error>
-    requires inside { IsTrusted (state S.Store tx.old.conn.now) → IsInside (state S.Store tx.old.conn.now) }
-    ensures same_reference { tx.new.conn.ghost_name ≡ tx.old.conn.ghost_name }
-    ensures before { IsTrusted (state S.Store tx.new.conn.now) → IsTrusted (state S.Store tx.old.conn.now) }
-    ensures lasts { Lasts (state S.Store tx.old.conn.now) (state S.Store tx.new.conn.now) }
-    ensures open { HasCleanDisk (state S.Store tx.new.conn.now) → IsTrusted (state S.Store tx.old.conn.now) → OnOk result (IsTrusted (state S.Store tx.new.conn.now)) }
-    ensures on { IsTrusted (state S.Store tx.new.conn.now) → OnOk result (WentOn (state S.Store tx.old.conn.now) (state S.Store tx.new.conn.now)) }
-    ensures put { IsTrusted (state S.Store tx.new.conn.now) → OnOk result (PutsLast (state S.Store tx.old.conn.now).now.trees (state S.Store tx.new.conn.now).now.trees last) }
-    ensures err { IsTrusted (state S.Store tx.new.conn.now) → OnErr result ((state S.Store tx.new.conn.now).committed ≡ (state S.Store tx.old.conn.now).committed) }
+    requires inside { BeginsInside S.Store tx.old.conn }
+    ensures steps { StepsWithin S.Store tx.old.conn tx.new.conn result }
+    ensures put { Yields S.Store tx.old.conn tx.new.conn result (λ db next _. PutsLast db next last) }
 {
     match last {
         None => Ok(()),
@@ -387,14 +343,9 @@ fn add_migrated<S: Alter>(
     setup: &str,
     finished: u32,
 ) -> Result<usize, Error>
-    requires inside { IsTrusted (state S.Store tx.old.conn.now) → IsInside (state S.Store tx.old.conn.now) }
-    ensures same_reference { tx.new.conn.ghost_name ≡ tx.old.conn.ghost_name }
-    ensures before { IsTrusted (state S.Store tx.new.conn.now) → IsTrusted (state S.Store tx.old.conn.now) }
-    ensures lasts { Lasts (state S.Store tx.old.conn.now) (state S.Store tx.new.conn.now) }
-    ensures open { HasCleanDisk (state S.Store tx.new.conn.now) → IsTrusted (state S.Store tx.old.conn.now) → OnOk result (IsTrusted (state S.Store tx.new.conn.now)) }
-    ensures on { IsTrusted (state S.Store tx.new.conn.now) → OnOk result (WentOn (state S.Store tx.old.conn.now) (state S.Store tx.new.conn.now)) }
-    ensures added { IsTrusted (state S.Store tx.new.conn.now) → OnOk result (SaysMore (state S.Store tx.old.conn.now).now.trees (state S.Store tx.new.conn.now).now.trees (record { schema = 2; setup = setup.now; finished = finished })) }
-    ensures err { IsTrusted (state S.Store tx.new.conn.now) → OnErr result ((state S.Store tx.new.conn.now).committed ≡ (state S.Store tx.old.conn.now).committed) }
+    requires inside { BeginsInside S.Store tx.old.conn }
+    ensures steps { StepsWithin S.Store tx.old.conn tx.new.conn result }
+    ensures added { Yields S.Store tx.old.conn tx.new.conn result (λ db next _. SaysMore db next (record { schema = 2; setup = setup.now; finished = finished })) }
 {
     add_office(tx, 2, setup, finished)
 }
@@ -406,14 +357,9 @@ fn write_anew<S: Alter>(
     setup: &str,
     finished: u32,
 ) -> Result<usize, Error>
-    requires inside { IsTrusted (state S.Store tx.old.conn.now) → IsInside (state S.Store tx.old.conn.now) }
-    ensures same_reference { tx.new.conn.ghost_name ≡ tx.old.conn.ghost_name }
-    ensures before { IsTrusted (state S.Store tx.new.conn.now) → IsTrusted (state S.Store tx.old.conn.now) }
-    ensures lasts { Lasts (state S.Store tx.old.conn.now) (state S.Store tx.new.conn.now) }
-    ensures open { HasCleanDisk (state S.Store tx.new.conn.now) → IsTrusted (state S.Store tx.old.conn.now) → OnOk result (IsTrusted (state S.Store tx.new.conn.now)) }
-    ensures on { IsTrusted (state S.Store tx.new.conn.now) → OnOk result (WentOn (state S.Store tx.old.conn.now) (state S.Store tx.new.conn.now)) }
-    ensures written { IsTrusted (state S.Store tx.new.conn.now) → OnOk result (WritesAnew (state S.Store tx.old.conn.now).now.trees (state S.Store tx.new.conn.now).now.trees last (record { schema = 2; setup = setup.now; finished = finished })) }
-    ensures err { IsTrusted (state S.Store tx.new.conn.now) → OnErr result ((state S.Store tx.new.conn.now).committed ≡ (state S.Store tx.old.conn.now).committed) }
+    requires inside { BeginsInside S.Store tx.old.conn }
+    ensures steps { StepsWithin S.Store tx.old.conn tx.new.conn result }
+    ensures written { Yields S.Store tx.old.conn tx.new.conn result (λ db next _. WritesAnew db next last (record { schema = 2; setup = setup.now; finished = finished })) }
 {
     put_last(tx, last)?;
     let _old = clear_office(tx)?;
@@ -431,13 +377,8 @@ fn change_schema<S: Alter>(
     requires building { IsTrusted (state S.Store tx.old.conn.now) → IsBuilding schema_before (state S.Store tx.old.conn.now) }
     requires text { text.now ≡ text_of setup.now }
     requires valid { IsSetup setup.now }
-    ensures same_reference { tx.new.conn.ghost_name ≡ tx.old.conn.ghost_name }
-    ensures before { IsTrusted (state S.Store tx.new.conn.now) → IsTrusted (state S.Store tx.old.conn.now) }
-    ensures lasts { Lasts (state S.Store tx.old.conn.now) (state S.Store tx.new.conn.now) }
-    ensures open { HasCleanDisk (state S.Store tx.new.conn.now) → IsTrusted (state S.Store tx.old.conn.now) → OnOk result (IsTrusted (state S.Store tx.new.conn.now)) }
-    ensures on { IsTrusted (state S.Store tx.new.conn.now) → OnOk result (WentOn (state S.Store tx.old.conn.now) (state S.Store tx.new.conn.now)) }
+    ensures steps { StepsWithin S.Store tx.old.conn tx.new.conn result }
     ensures migrated { IsTrusted (state S.Store tx.new.conn.now) → OnOk result (IsMigrated setup.now (state S.Store tx.old.conn.now).now (state S.Store tx.new.conn.now).now) }
-    ensures err { IsTrusted (state S.Store tx.new.conn.now) → OnErr result ((state S.Store tx.new.conn.now).committed ≡ (state S.Store tx.old.conn.now).committed) }
     ensures other { IsTrusted (state S.Store tx.new.conn.now) → result ≡ Err OpenFault.OtherSetup → IsKeptForOther setup.now (state S.Store tx.old.conn.now).now }
     ensures unknown { IsTrusted (state S.Store tx.new.conn.now) → result ≡ Err OpenFault.UnknownSchema → lists_by (text_before ((state S.Store tx.old.conn.now).now.trees 0)) ≡ None }
     ensures bad { IsTrusted (state S.Store tx.new.conn.now) → result ≡ Err (OpenFault.Store BadRow) → IsUnreadable setup.now (state S.Store tx.old.conn.now).now }

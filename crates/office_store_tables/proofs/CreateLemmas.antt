@@ -1,5 +1,8 @@
 -- What CREATE TABLE makes of a database.
 use Rattle.std.proofs.Common.{◌≡◌, ℕ, List, [], false, None, Ok, Err, Result, OnOk, refl, sym, ap, subst, ◌∙◌}
+use Rattle.std.specs.Borrow.{MutBor}
+use Rattle.sqlite.specs.Store.{Ghosts}
+use Rattle.sqlite.specs.Held.{Held, state}
 use Rattle.sqlite.specs.Table.{Table}
 use Rattle.sqlite.specs.Schema.{Schema}
 use Rattle.sqlite.specs.Command.TheVariants.{CreateTable}
@@ -9,20 +12,21 @@ use Rattle.sqlite.specs.declared.error.Error.{Error}
 use Rattle.sqlite.specs.Effect.{Database}
 use Rattle.sqlite.specs.Does.{Tally, lacks_sequence}
 use Rattle.sqlite.specs.Listing.{understood}
-use Rattle.sqlite.specs.State.{State, Writes, Executes}
+use Rattle.sqlite.specs.State.{State, HasCleanDisk, Writes, Executes}
 use Rattle.sqlite.proofs.Callers.{IsPlain, command_of, statement_of, runs_as}
 use Rattle.sqlite_tied.specs.Compute.{everything}
 use Rattle.office_store_tables.specs.Layout.{no_schema, office, mail, run, testing_source, testing_row, fact, fact_delays}
 use Rattle.office_store_tables.specs.Texts.{create_office_text, create_mail_text, create_run_text, create_testing_source_text, create_testing_row_text, create_fact_text, create_fact_delays_text}
 use Rattle.sqlite.specs.Tree.{Trees, put_row}
 use Rattle.office_store_testing_tables.specs.declared.said.Said.{Said}
-use Rattle.office_store_tables.specs.Tables.{IsTrusted, said_in}
+use Rattle.office_store_tables.specs.Tables.{IsTrusted, Lasts, said_in}
 use Rattle.office_store_tables.specs.TableSteps.{Rows, SaysMore}
 use Rattle.office_store_tables.proofs.RunLemmas.{said_one}
 use Rattle.office_store_tables.specs.Creating.{IsBlank}
 use Rattle.office_store_tables.specs.CreatingSteps.{IsBuilding, Makes, MakesAll, schema_of_one, schema_of_two, schema_of_three, schema_of_four, schema_of_five, schema_of_six}
 use Rattle.office_store_tables.proofs.StepLemmas.{Stepped, step_before, step_on, begun_ok}
 use Rattle.office_store_tables.proofs.WriteLemmas.{went, same_value}
+use Rattle.office_store_tables.proofs.WithinLemmas.{WentWithin}
 
 -- the table is there, with no row, and the other tables have theirs
 pub record Defined (schema : Schema) (table : Table) (old new : Database) : Type 0 where
@@ -125,4 +129,16 @@ blank a b next said made spoken = record {
   rows = ap (λ (r : Rows). r.rows) spoken.put ∙ made.rows;
   facts = ap (λ (r : Rows). r.facts) spoken.put ∙ made.facts;
   delays = ap (λ (r : Rows). r.delays) spoken.put ∙ made.delays;
+}
+
+-- the tables stand, so the steps that made them went well
+pub built_within : {S : Type 0} {store : Ghosts S} {old new : MutBor (Held S)} → new.ghost_name ≡ old.ghost_name → (IsTrusted (state store new.now) → IsTrusted (state store old.now)) → Lasts (state store old.now) (state store new.now)
+    → (HasCleanDisk (state store new.now) → IsTrusted (state store old.now) → IsTrusted (state store new.now)) → (IsTrusted (state store new.now) → MakesAll (state store old.now) (state store new.now)) → WentWithin store old new
+built_within same before lasts stays made = record {
+  same_reference = same;
+  before = before;
+  lasts = lasts;
+  stays = stays;
+  on = λ trusted. let all = made trusted in record { inside = record { schema = all.schema_is; begun = all.begun }; committed = all.committed };
+  err = λ _. tt;
 }

@@ -6,6 +6,7 @@ pub mod ReportFacts
 pub mod ReportReads
 pub mod NextFacts
 pub mod KeepAllLemmas
+pub use Rattle.office_store_testing_tables.proofs.StateLemmas
 pub use Rattle.office_store_testing_tables.proofs.KeyedFacts
 pub use Rattle.office_store_testing_tables.proofs.LetterFacts
 pub use Rattle.office_store_testing_tables.proofs.MailLemmas
@@ -22,6 +23,7 @@ pub use Rattle.office_store_testing_tables.proofs.LoadFacts
 pub use Rattle.office_store_testing_tables.proofs.LoadLemmas
 pub use Rattle.office_store_testing_tables.proofs.FactSets
 pub use Rattle.office_store_testing_tables.proofs.InsideLemmas
+pub use Rattle.office_store_testing_tables.proofs.WithinLemmas
 pub use Rattle.office_store_testing_tables.proofs.FactMoves
 pub mod CreateLemmas
 pub mod SchemaLemmas

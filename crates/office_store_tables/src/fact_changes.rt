@@ -1,9 +1,6 @@
 //! Changes of the tables of facts.
-ghost use Rattle.std.specs.Prelude.{◌≡◌, ◌≢◌, Err, OnOk, OnErr};
-ghost use Rattle.sqlite.specs.Held.{state};
-ghost use Rattle.sqlite.specs.State.{HasCleanDisk};
-ghost use Rattle.office_store_testing_tables.specs.Tables.{IsTrusted, Lasts};
-ghost use Rattle.office_store_testing_tables.specs.TableSteps.{IsInside, WentOn};
+ghost use Rattle.std.specs.Prelude.{◌≢◌, Err};
+ghost use Rattle.office_store_testing_tables.specs.StepsWithin.{StepsWithin, BeginsInside, Yields};
 ghost use Rattle.office_store_testing_tables.specs.FactSteps.{ChangesFacts, DropsEach};
 
 use office_store_keeper::{Cause, KeepFault};
@@ -18,14 +15,9 @@ fn drop_gone<S: Alter>(
     release: u32,
     changes: &FactChanges,
 ) -> Result<(), KeepFault>
-    requires inside { IsTrusted (state S.Store tx.old.conn.now) → IsInside (state S.Store tx.old.conn.now) }
-    ensures same_reference { tx.new.conn.ghost_name ≡ tx.old.conn.ghost_name }
-    ensures before { IsTrusted (state S.Store tx.new.conn.now) → IsTrusted (state S.Store tx.old.conn.now) }
-    ensures lasts { Lasts (state S.Store tx.old.conn.now) (state S.Store tx.new.conn.now) }
-    ensures open { HasCleanDisk (state S.Store tx.new.conn.now) → IsTrusted (state S.Store tx.old.conn.now) → OnOk result (IsTrusted (state S.Store tx.new.conn.now)) }
-    ensures on { IsTrusted (state S.Store tx.new.conn.now) → OnOk result (WentOn (state S.Store tx.old.conn.now) (state S.Store tx.new.conn.now)) }
-    ensures dropped { IsTrusted (state S.Store tx.new.conn.now) → OnOk result (DropsEach release (state S.Store tx.old.conn.now).now.trees (state S.Store tx.new.conn.now).now.trees changes.now.gone) }
-    ensures err { IsTrusted (state S.Store tx.new.conn.now) → OnErr result ((state S.Store tx.new.conn.now).committed ≡ (state S.Store tx.old.conn.now).committed) }
+    requires inside { BeginsInside S.Store tx.old.conn }
+    ensures steps { StepsWithin S.Store tx.old.conn tx.new.conn result }
+    ensures dropped { Yields S.Store tx.old.conn tx.new.conn result (λ db next _. DropsEach release db next changes.now.gone) }
     ensures bad { result ≢ Err (KeepFault.Store Cause.BadRow) }
 {
     drop_each(tx, release, changes.gone.as_slice())
@@ -37,14 +29,9 @@ pub(crate) fn change_facts<S: Alter>(
     release: u32,
     changes: &FactChanges,
 ) -> Result<(), KeepFault>
-    requires inside { IsTrusted (state S.Store tx.old.conn.now) → IsInside (state S.Store tx.old.conn.now) }
-    ensures same_reference { tx.new.conn.ghost_name ≡ tx.old.conn.ghost_name }
-    ensures before { IsTrusted (state S.Store tx.new.conn.now) → IsTrusted (state S.Store tx.old.conn.now) }
-    ensures lasts { Lasts (state S.Store tx.old.conn.now) (state S.Store tx.new.conn.now) }
-    ensures open { HasCleanDisk (state S.Store tx.new.conn.now) → IsTrusted (state S.Store tx.old.conn.now) → OnOk result (IsTrusted (state S.Store tx.new.conn.now)) }
-    ensures on { IsTrusted (state S.Store tx.new.conn.now) → OnOk result (WentOn (state S.Store tx.old.conn.now) (state S.Store tx.new.conn.now)) }
-    ensures changed { IsTrusted (state S.Store tx.new.conn.now) → OnOk result (ChangesFacts release (state S.Store tx.old.conn.now).now.trees (state S.Store tx.new.conn.now).now.trees changes.now) }
-    ensures err { IsTrusted (state S.Store tx.new.conn.now) → OnErr result ((state S.Store tx.new.conn.now).committed ≡ (state S.Store tx.old.conn.now).committed) }
+    requires inside { BeginsInside S.Store tx.old.conn }
+    ensures steps { StepsWithin S.Store tx.old.conn tx.new.conn result }
+    ensures changed { Yields S.Store tx.old.conn tx.new.conn result (λ db next _. ChangesFacts release db next changes.now) }
     ensures bad { result ≢ Err (KeepFault.Store Cause.BadRow) }
 {
     drop_gone(tx, release, changes)?;

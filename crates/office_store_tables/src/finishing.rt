@@ -1,10 +1,10 @@
 //! A finished run, in one transaction over the tables.
-ghost use Rattle.std.specs.Prelude.{◌≡◌, ◌≢◌, Err, Some, OnOk, OnErr};
+ghost use Rattle.std.specs.Prelude.{◌≡◌, ◌≢◌, Err, OnOk, OnErr};
 ghost use Rattle.std.specs.Str.{IsUtf8};
 ghost use Rattle.sqlite.specs.Held.{state};
 ghost use Rattle.sqlite.specs.State.{HasCleanDisk};
-ghost use Rattle.office_store_testing_tables.specs.Tables.{IsTrusted, IsOurs, said_in, Lasts};
-ghost use Rattle.office_store_testing_tables.specs.TableSteps.{IsInside, WentOn};
+ghost use Rattle.office_store_testing_tables.specs.Tables.{IsTrusted, IsOurs, Lasts};
+ghost use Rattle.office_store_testing_tables.specs.StepsWithin.{StepsWithin, BeginsInside, Yields};
 ghost use Rattle.office_store_testing_tables.specs.Legible.{SaysOnce};
 ghost use Rattle.testing_rules_model.specs.InOrder.{IsInOrder};
 ghost use Rattle.office_store_testing_tables.specs.TableContent.{release_place};
@@ -27,16 +27,11 @@ fn write_run<S: Alter>(
     done: &Finished,
     said: &Said,
 ) -> Result<usize, KeepFault>
-    requires inside { IsTrusted (state S.Store tx.old.conn.now) → IsInside (state S.Store tx.old.conn.now) }
-    ensures same_reference { tx.new.conn.ghost_name ≡ tx.old.conn.ghost_name }
-    ensures before { IsTrusted (state S.Store tx.new.conn.now) → IsTrusted (state S.Store tx.old.conn.now) }
-    ensures lasts { Lasts (state S.Store tx.old.conn.now) (state S.Store tx.new.conn.now) }
-    ensures open { HasCleanDisk (state S.Store tx.new.conn.now) → IsTrusted (state S.Store tx.old.conn.now) → OnOk result (IsTrusted (state S.Store tx.new.conn.now)) }
-    ensures on { IsTrusted (state S.Store tx.new.conn.now) → OnOk result (WentOn (state S.Store tx.old.conn.now) (state S.Store tx.new.conn.now)) }
+    requires inside { BeginsInside S.Store tx.old.conn }
+    ensures steps { StepsWithin S.Store tx.old.conn tx.new.conn result }
     ensures ordered { OnOk result (IsInOrder done.now.testing.sources done.now.testing.rows) }
     ensures texts { OnOk result (IsUtf8 done.now.excuses × IsUtf8 done.now.updates) }
-    ensures done { IsTrusted (state S.Store tx.new.conn.now) → OnOk result (WritesRun release (state S.Store tx.old.conn.now).now.trees (state S.Store tx.new.conn.now).now.trees run done.now (with_count run said.now)) }
-    ensures err { IsTrusted (state S.Store tx.new.conn.now) → OnErr result ((state S.Store tx.new.conn.now).committed ≡ (state S.Store tx.old.conn.now).committed) }
+    ensures done { Yields S.Store tx.old.conn tx.new.conn result (λ db next _. WritesRun release db next run done.now (with_count run said.now)) }
     ensures bad { result ≢ Err (KeepFault.Store Cause.BadRow) }
 {
     set_sources(tx, done.testing.sources())?;

@@ -6,7 +6,8 @@ ghost use Rattle.sqlite.specs.Held.{state};
 ghost use Rattle.sqlite.specs.Values.{bound};
 ghost use Rattle.sqlite.specs.State.{HasCleanDisk};
 ghost use Rattle.office_store_testing_tables.specs.Tables.{IsTrusted, IsOurs, kept_rows, Lasts};
-ghost use Rattle.office_store_testing_tables.specs.TableSteps.{IsInside, WentOn, Same, AddsLetter, AddsLetters, letter_parameters, AreSmall, IsCrowded, IsOnlyNumber, ShowsLeast};
+ghost use Rattle.office_store_testing_tables.specs.TableSteps.{Same, AddsLetter, AddsLetters, letter_parameters, AreSmall, IsCrowded, IsOnlyNumber, ShowsLeast};
+ghost use Rattle.office_store_testing_tables.specs.StepsWithin.{StepsWithin, BeginsInside, Yields};
 
 use office_store_keeper::{Cause, KeepFault, NewLetter};
 use office_store_testing_tables::mail::letter_in;
@@ -70,14 +71,9 @@ fn add_letter<S: Alter>(
     number: u32,
     text: &[u8],
 ) -> Result<usize, Error>
-    requires inside { IsTrusted (state S.Store tx.old.conn.now) → IsInside (state S.Store tx.old.conn.now) }
-    ensures same_reference { tx.new.conn.ghost_name ≡ tx.old.conn.ghost_name }
-    ensures before { IsTrusted (state S.Store tx.new.conn.now) → IsTrusted (state S.Store tx.old.conn.now) }
-    ensures lasts { Lasts (state S.Store tx.old.conn.now) (state S.Store tx.new.conn.now) }
-    ensures open { HasCleanDisk (state S.Store tx.new.conn.now) → IsTrusted (state S.Store tx.old.conn.now) → OnOk result (IsTrusted (state S.Store tx.new.conn.now)) }
-    ensures on { IsTrusted (state S.Store tx.new.conn.now) → OnOk result (WentOn (state S.Store tx.old.conn.now) (state S.Store tx.new.conn.now)) }
-    ensures added { IsTrusted (state S.Store tx.new.conn.now) → OnOk result (AddsLetter (state S.Store tx.old.conn.now).now.trees (state S.Store tx.new.conn.now).now.trees sender number text.now) }
-    ensures err { IsTrusted (state S.Store tx.new.conn.now) → OnErr result ((state S.Store tx.new.conn.now).committed ≡ (state S.Store tx.old.conn.now).committed) }
+    requires inside { BeginsInside S.Store tx.old.conn }
+    ensures steps { StepsWithin S.Store tx.old.conn tx.new.conn result }
+    ensures added { Yields S.Store tx.old.conn tx.new.conn result (λ db next _. AddsLetter db next sender number text.now) }
 {
     tx.execute(
         "INSERT INTO mail (sender, number, body) VALUES (?1, ?2, ?3)",
@@ -144,15 +140,10 @@ fn eight_values(letters: &[NewLetter]) -> [[ValueRef<'_>; 3]; 8]
 
 /// Adds eight texts to the mail by one statement.
 fn add_eight<S: Alter>(tx: &mut Transaction<'_, S>, letters: &[NewLetter]) -> Result<usize, Error>
-    requires inside { IsTrusted (state S.Store tx.old.conn.now) → IsInside (state S.Store tx.old.conn.now) }
+    requires inside { BeginsInside S.Store tx.old.conn }
     requires eight { length letters.now ≡ 8 }
-    ensures same_reference { tx.new.conn.ghost_name ≡ tx.old.conn.ghost_name }
-    ensures before { IsTrusted (state S.Store tx.new.conn.now) → IsTrusted (state S.Store tx.old.conn.now) }
-    ensures lasts { Lasts (state S.Store tx.old.conn.now) (state S.Store tx.new.conn.now) }
-    ensures open { HasCleanDisk (state S.Store tx.new.conn.now) → IsTrusted (state S.Store tx.old.conn.now) → OnOk result (IsTrusted (state S.Store tx.new.conn.now)) }
-    ensures on { IsTrusted (state S.Store tx.new.conn.now) → OnOk result (WentOn (state S.Store tx.old.conn.now) (state S.Store tx.new.conn.now)) }
-    ensures added { IsTrusted (state S.Store tx.new.conn.now) → OnOk result (AddsLetters (state S.Store tx.old.conn.now).now.trees (state S.Store tx.new.conn.now).now.trees letters.now) }
-    ensures err { IsTrusted (state S.Store tx.new.conn.now) → OnErr result ((state S.Store tx.new.conn.now).committed ≡ (state S.Store tx.old.conn.now).committed) }
+    ensures steps { StepsWithin S.Store tx.old.conn tx.new.conn result }
+    ensures added { Yields S.Store tx.old.conn tx.new.conn result (λ db next _. AddsLetters db next letters.now) }
 {
     let values = eight_values(letters);
     tx.execute(
@@ -163,16 +154,11 @@ fn add_eight<S: Alter>(tx: &mut Transaction<'_, S>, letters: &[NewLetter]) -> Re
 
 /// Adds the first of these texts to the mail, and says how many: eight by one statement, or one where there are fewer.
 fn add_first<S: Alter>(tx: &mut Transaction<'_, S>, letters: &[NewLetter]) -> Result<usize, Error>
-    requires inside { IsTrusted (state S.Store tx.old.conn.now) → IsInside (state S.Store tx.old.conn.now) }
+    requires inside { BeginsInside S.Store tx.old.conn }
     requires some { 0 < length letters.now }
-    ensures same_reference { tx.new.conn.ghost_name ≡ tx.old.conn.ghost_name }
-    ensures before { IsTrusted (state S.Store tx.new.conn.now) → IsTrusted (state S.Store tx.old.conn.now) }
-    ensures lasts { Lasts (state S.Store tx.old.conn.now) (state S.Store tx.new.conn.now) }
-    ensures open { HasCleanDisk (state S.Store tx.new.conn.now) → IsTrusted (state S.Store tx.old.conn.now) → OnOk result (IsTrusted (state S.Store tx.new.conn.now)) }
-    ensures on { IsTrusted (state S.Store tx.new.conn.now) → OnOk result (WentOn (state S.Store tx.old.conn.now) (state S.Store tx.new.conn.now)) }
+    ensures steps { StepsWithin S.Store tx.old.conn tx.new.conn result }
     ensures count { IfOk result (λ count. (0 < count) × (count ≤ length letters.now)) }
-    ensures added { IsTrusted (state S.Store tx.new.conn.now) → IfOk result (λ count. AddsLetters (state S.Store tx.old.conn.now).now.trees (state S.Store tx.new.conn.now).now.trees (take count letters.now)) }
-    ensures err { IsTrusted (state S.Store tx.new.conn.now) → OnErr result ((state S.Store tx.new.conn.now).committed ≡ (state S.Store tx.old.conn.now).committed) }
+    ensures added { Yields S.Store tx.old.conn tx.new.conn result (λ db next count. AddsLetters db next (take count letters.now)) }
 {
     if letters.len() >= 8 {
         add_eight(tx, &letters[..8])?;
@@ -185,14 +171,9 @@ fn add_first<S: Alter>(tx: &mut Transaction<'_, S>, letters: &[NewLetter]) -> Re
 
 /// Adds these texts to the mail.
 fn add_letters<S: Alter>(tx: &mut Transaction<'_, S>, letters: &[NewLetter]) -> Result<(), Error>
-    requires inside { IsTrusted (state S.Store tx.old.conn.now) → IsInside (state S.Store tx.old.conn.now) }
-    ensures same_reference { tx.new.conn.ghost_name ≡ tx.old.conn.ghost_name }
-    ensures before { IsTrusted (state S.Store tx.new.conn.now) → IsTrusted (state S.Store tx.old.conn.now) }
-    ensures lasts { Lasts (state S.Store tx.old.conn.now) (state S.Store tx.new.conn.now) }
-    ensures open { HasCleanDisk (state S.Store tx.new.conn.now) → IsTrusted (state S.Store tx.old.conn.now) → OnOk result (IsTrusted (state S.Store tx.new.conn.now)) }
-    ensures on { IsTrusted (state S.Store tx.new.conn.now) → OnOk result (WentOn (state S.Store tx.old.conn.now) (state S.Store tx.new.conn.now)) }
-    ensures added { IsTrusted (state S.Store tx.new.conn.now) → OnOk result (AddsLetters (state S.Store tx.old.conn.now).now.trees (state S.Store tx.new.conn.now).now.trees letters.now) }
-    ensures err { IsTrusted (state S.Store tx.new.conn.now) → OnErr result ((state S.Store tx.new.conn.now).committed ≡ (state S.Store tx.old.conn.now).committed) }
+    requires inside { BeginsInside S.Store tx.old.conn }
+    ensures steps { StepsWithin S.Store tx.old.conn tx.new.conn result }
+    ensures added { Yields S.Store tx.old.conn tx.new.conn result (λ db next _. AddsLetters db next letters.now) }
 {
     let mut at = 0;
     'letters: while at < letters.len() {

@@ -1,5 +1,5 @@
 //! The tables of the office and of its finished runs.
-ghost use Rattle.std.specs.Prelude.{◌≡◌, ◌≢◌, ◌<◌, ℕ, Err, ◌∷◌, [], Some, pos, map, filter, IfOk, OnOk, OnErr};
+ghost use Rattle.std.specs.Prelude.{◌≡◌, ◌≢◌, ◌<◌, ℕ, Err, ◌∷◌, [], Some, pos, map, filter, IfOk, OnOk};
 ghost use Rattle.std.specs.List.Sorted.{IsPermutation};
 ghost use Rattle.std.specs.FinMap.{get};
 ghost use Rattle.std.specs.Str.{IsUtf8};
@@ -13,7 +13,8 @@ ghost use Rattle.sqlite.specs.declared.types.Value.TheVariants.{Int, Text as Wor
 ghost use Rattle.sqlite.specs.Held.{state};
 ghost use Rattle.sqlite.specs.State.{HasCleanDisk};
 ghost use Rattle.office_store_testing_tables.specs.Tables.{IsTrusted, IsOurs, said_in as said_rows, run_map, Lasts};
-ghost use Rattle.office_store_testing_tables.specs.TableSteps.{Same, IsInside, WentOn, IsOnlyOffice, IsOnlyRun, AddsRun, Silences, SaysMore, RecordsRun, office_columns, is_run, run_columns};
+ghost use Rattle.office_store_testing_tables.specs.TableSteps.{Same, IsOnlyOffice, IsOnlyRun, AddsRun, Silences, SaysMore, RecordsRun, office_columns, is_run, run_columns};
+ghost use Rattle.office_store_testing_tables.specs.StepsWithin.{StepsWithin, BeginsInside, Yields};
 
 use deb_control::Text;
 use office_store_keeper::{Cause, KeepFault, Reports};
@@ -181,14 +182,9 @@ fn add_run<S: Alter>(
     excuses: &str,
     updates: &str,
 ) -> Result<usize, Error>
-    requires inside { IsTrusted (state S.Store tx.old.conn.now) → IsInside (state S.Store tx.old.conn.now) }
-    ensures same_reference { tx.new.conn.ghost_name ≡ tx.old.conn.ghost_name }
-    ensures before { IsTrusted (state S.Store tx.new.conn.now) → IsTrusted (state S.Store tx.old.conn.now) }
-    ensures lasts { Lasts (state S.Store tx.old.conn.now) (state S.Store tx.new.conn.now) }
-    ensures open { HasCleanDisk (state S.Store tx.new.conn.now) → IsTrusted (state S.Store tx.old.conn.now) → OnOk result (IsTrusted (state S.Store tx.new.conn.now)) }
-    ensures on { IsTrusted (state S.Store tx.new.conn.now) → OnOk result (WentOn (state S.Store tx.old.conn.now) (state S.Store tx.new.conn.now)) }
-    ensures added { IsTrusted (state S.Store tx.new.conn.now) → OnOk result (AddsRun (state S.Store tx.old.conn.now).now.trees (state S.Store tx.new.conn.now).now.trees number (record { excuses = excuses.now; updates = updates.now })) }
-    ensures err { IsTrusted (state S.Store tx.new.conn.now) → OnErr result ((state S.Store tx.new.conn.now).committed ≡ (state S.Store tx.old.conn.now).committed) }
+    requires inside { BeginsInside S.Store tx.old.conn }
+    ensures steps { StepsWithin S.Store tx.old.conn tx.new.conn result }
+    ensures added { Yields S.Store tx.old.conn tx.new.conn result (λ db next _. AddsRun db next number (record { excuses = excuses.now; updates = updates.now })) }
 {
     tx.execute(
         "INSERT INTO run (number, excuses, updates) VALUES (?1, ?2, ?3)",
@@ -198,14 +194,9 @@ fn add_run<S: Alter>(
 
 /// Takes out what the office says of itself.
 pub fn clear_office<S: Alter>(tx: &mut Transaction<'_, S>) -> Result<usize, Error>
-    requires inside { IsTrusted (state S.Store tx.old.conn.now) → IsInside (state S.Store tx.old.conn.now) }
-    ensures same_reference { tx.new.conn.ghost_name ≡ tx.old.conn.ghost_name }
-    ensures before { IsTrusted (state S.Store tx.new.conn.now) → IsTrusted (state S.Store tx.old.conn.now) }
-    ensures lasts { Lasts (state S.Store tx.old.conn.now) (state S.Store tx.new.conn.now) }
-    ensures open { HasCleanDisk (state S.Store tx.new.conn.now) → IsTrusted (state S.Store tx.old.conn.now) → OnOk result (IsTrusted (state S.Store tx.new.conn.now)) }
-    ensures on { IsTrusted (state S.Store tx.new.conn.now) → OnOk result (WentOn (state S.Store tx.old.conn.now) (state S.Store tx.new.conn.now)) }
-    ensures cleared { IsTrusted (state S.Store tx.new.conn.now) → OnOk result (Silences (state S.Store tx.old.conn.now).now.trees (state S.Store tx.new.conn.now).now.trees) }
-    ensures err { IsTrusted (state S.Store tx.new.conn.now) → OnErr result ((state S.Store tx.new.conn.now).committed ≡ (state S.Store tx.old.conn.now).committed) }
+    requires inside { BeginsInside S.Store tx.old.conn }
+    ensures steps { StepsWithin S.Store tx.old.conn tx.new.conn result }
+    ensures cleared { Yields S.Store tx.old.conn tx.new.conn result (λ db next _. Silences db next) }
 {
     tx.execute("DELETE FROM office", &[])
 }
@@ -217,14 +208,9 @@ pub fn add_office<S: Alter>(
     setup: &str,
     finished: u32,
 ) -> Result<usize, Error>
-    requires inside { IsTrusted (state S.Store tx.old.conn.now) → IsInside (state S.Store tx.old.conn.now) }
-    ensures same_reference { tx.new.conn.ghost_name ≡ tx.old.conn.ghost_name }
-    ensures before { IsTrusted (state S.Store tx.new.conn.now) → IsTrusted (state S.Store tx.old.conn.now) }
-    ensures lasts { Lasts (state S.Store tx.old.conn.now) (state S.Store tx.new.conn.now) }
-    ensures open { HasCleanDisk (state S.Store tx.new.conn.now) → IsTrusted (state S.Store tx.old.conn.now) → OnOk result (IsTrusted (state S.Store tx.new.conn.now)) }
-    ensures on { IsTrusted (state S.Store tx.new.conn.now) → OnOk result (WentOn (state S.Store tx.old.conn.now) (state S.Store tx.new.conn.now)) }
-    ensures added { IsTrusted (state S.Store tx.new.conn.now) → OnOk result (SaysMore (state S.Store tx.old.conn.now).now.trees (state S.Store tx.new.conn.now).now.trees (record { schema = schema; setup = setup.now; finished = finished })) }
-    ensures err { IsTrusted (state S.Store tx.new.conn.now) → OnErr result ((state S.Store tx.new.conn.now).committed ≡ (state S.Store tx.old.conn.now).committed) }
+    requires inside { BeginsInside S.Store tx.old.conn }
+    ensures steps { StepsWithin S.Store tx.old.conn tx.new.conn result }
+    ensures added { Yields S.Store tx.old.conn tx.new.conn result (λ db next _. SaysMore db next (record { schema = schema; setup = setup.now; finished = finished })) }
 {
     tx.execute(
         "INSERT INTO office (id, schema, setup, finished) VALUES (1, ?1, ?2, ?3)",
@@ -241,14 +227,9 @@ pub(crate) fn record_run<S: Alter>(
     schema: u32,
     setup: &str,
 ) -> Result<usize, Error>
-    requires inside { IsTrusted (state S.Store tx.old.conn.now) → IsInside (state S.Store tx.old.conn.now) }
-    ensures same_reference { tx.new.conn.ghost_name ≡ tx.old.conn.ghost_name }
-    ensures before { IsTrusted (state S.Store tx.new.conn.now) → IsTrusted (state S.Store tx.old.conn.now) }
-    ensures lasts { Lasts (state S.Store tx.old.conn.now) (state S.Store tx.new.conn.now) }
-    ensures open { HasCleanDisk (state S.Store tx.new.conn.now) → IsTrusted (state S.Store tx.old.conn.now) → OnOk result (IsTrusted (state S.Store tx.new.conn.now)) }
-    ensures on { IsTrusted (state S.Store tx.new.conn.now) → OnOk result (WentOn (state S.Store tx.old.conn.now) (state S.Store tx.new.conn.now)) }
-    ensures done { IsTrusted (state S.Store tx.new.conn.now) → OnOk result (RecordsRun (state S.Store tx.old.conn.now).now.trees (state S.Store tx.new.conn.now).now.trees number (record { excuses = excuses.now; updates = updates.now }) (record { schema = schema; setup = setup.now; finished = number })) }
-    ensures err { IsTrusted (state S.Store tx.new.conn.now) → OnErr result ((state S.Store tx.new.conn.now).committed ≡ (state S.Store tx.old.conn.now).committed) }
+    requires inside { BeginsInside S.Store tx.old.conn }
+    ensures steps { StepsWithin S.Store tx.old.conn tx.new.conn result }
+    ensures done { Yields S.Store tx.old.conn tx.new.conn result (λ db next _. RecordsRun db next number (record { excuses = excuses.now; updates = updates.now }) (record { schema = schema; setup = setup.now; finished = number })) }
 {
     let _reports = add_run(tx, number, excuses, updates)?;
     let _old = clear_office(tx)?;

@@ -1,10 +1,10 @@
 //! The office's tables in a fresh database.
-ghost use Rattle.std.specs.Prelude.{◌≡◌, ◌≢◌, Err, IsTrue, OnOk, OnErr};
+ghost use Rattle.std.specs.Prelude.{◌≡◌, ◌≢◌, Err, OnOk, OnErr};
 ghost use Rattle.sqlite.specs.Held.{state};
 ghost use Rattle.sqlite.specs.State.{HasCleanDisk};
 ghost use Rattle.office_store_tables.specs.Layout.{no_schema, office, mail, run, testing_source, testing_row, fact, fact_delays};
 ghost use Rattle.office_store_tables.specs.Tables.{IsTrusted, IsOurs, Lasts};
-ghost use Rattle.office_store_tables.specs.TableSteps.{IsInside, WentOn};
+ghost use Rattle.office_store_tables.specs.StepsWithin.{StepsWithin, Yields};
 ghost use Rattle.office_store_tables.specs.Unchanged.{IsAsItWas};
 ghost use Rattle.office_store_tables.specs.Creating.{IsBlank};
 ghost use Rattle.office_store_tables.specs.CreatingSteps.{IsBuilding, Makes, MakesAll, schema_of_one, schema_of_two, schema_of_three, schema_of_four, schema_of_five, schema_of_six};
@@ -149,13 +149,8 @@ fn create_all<S: Alter>(tx: &mut Transaction<'_, S>) -> Result<usize, Error>
 /// no run is finished.
 fn write_office<S: Alter>(tx: &mut Transaction<'_, S>, setup: &str) -> Result<usize, Error>
     requires building { IsTrusted (state S.Store tx.old.conn.now) → IsBuilding no_schema (state S.Store tx.old.conn.now) }
-    ensures same_reference { tx.new.conn.ghost_name ≡ tx.old.conn.ghost_name }
-    ensures before { IsTrusted (state S.Store tx.new.conn.now) → IsTrusted (state S.Store tx.old.conn.now) }
-    ensures lasts { Lasts (state S.Store tx.old.conn.now) (state S.Store tx.new.conn.now) }
-    ensures open { HasCleanDisk (state S.Store tx.new.conn.now) → IsTrusted (state S.Store tx.old.conn.now) → OnOk result (IsTrusted (state S.Store tx.new.conn.now)) }
-    ensures on { IsTrusted (state S.Store tx.new.conn.now) → OnOk result (WentOn (state S.Store tx.old.conn.now) (state S.Store tx.new.conn.now)) }
-    ensures blank { IsTrusted (state S.Store tx.new.conn.now) → OnOk result (IsBlank (state S.Store tx.new.conn.now).now.trees (record { schema = 2; setup = setup.now; finished = 0 })) }
-    ensures err { IsTrusted (state S.Store tx.new.conn.now) → OnErr result ((state S.Store tx.new.conn.now).committed ≡ (state S.Store tx.old.conn.now).committed) }
+    ensures steps { StepsWithin S.Store tx.old.conn tx.new.conn result }
+    ensures blank { Yields S.Store tx.old.conn tx.new.conn result (λ _ next _. IsBlank next (record { schema = 2; setup = setup.now; finished = 0 })) }
 {
     let _made = create_all(tx)?;
     let added = add_office(tx, 2, setup, 0)?;

@@ -1,5 +1,6 @@
 pub mod Compiled
 pub mod StateLemmas
+pub mod ReadingLemmas
 pub mod Answered
 pub mod KeyedFacts
 pub mod LetterFacts

@@ -8,7 +8,6 @@ use Rattle.sqlite.specs.State.{State, HasCleanDisk, Executes, ExecutesInside}
 use Rattle.office_store_testing_tables.specs.Layout.{office_schema}
 use Rattle.office_store_testing_tables.specs.Tables.{IsTrusted}
 use Rattle.office_store_testing_tables.specs.TableSteps.{IsInside, WentOn}
-use Rattle.sqlite.specs.Tree.{Trees}
 
 -- what `execute` of a transaction says of a call
 pub record Stepped (sql : List ℕ) (params : Row) (old new : State) (result : Result ℕ Error) : Type 0 where
@@ -53,11 +52,6 @@ module _ (sql : List ℕ) (params : Row) (old new : State) where
       let made = gives was ran.0 in
       (record { inside = record { schema = made.0; begun = ran.2 }; committed = ran.1 }, made.1)
 
-  pub step_went : (P : Type 0) (result : Result ℕ Error) → Stepped sql params old new result → IsTrusted new → (IsTrusted old → IsInside old)
-      → ((count : ℕ) → IsInside old → Executes sql params old new (Ok count) → (new.now.schema ≡ office_schema) × P) → OnOk result (WentOn old new)
-  step_went P (Ok count) h trusted inside gives = (went_well P count h trusted inside (gives count)).0
-  step_went P (Err e) h trusted inside gives = tt
-
   pub step_gives : (P : Type 0) (result : Result ℕ Error) → Stepped sql params old new result → IsTrusted new → (IsTrusted old → IsInside old)
       → ((count : ℕ) → IsInside old → Executes sql params old new (Ok count) → (new.now.schema ≡ office_schema) × P) → OnOk result P
   step_gives P (Ok count) h trusted inside gives = (went_well P count h trusted inside (gives count)).1
@@ -77,11 +71,3 @@ module _ (sql : List ℕ) (params : Row) (old new : State) where
   pub step_open : (result : Result ℕ Error) → Stepped sql params old new result → HasCleanDisk new → IsTrusted old → OnOk result (IsTrusted new)
   step_open (Ok count) h clean trusted = (clean, (h.runs clean (begun_ok count h)).1.is_open, h.limit ∙ trusted.2)
   step_open (Err e) h clean trusted = tt
-
--- What a loop of steps within a transaction keeps.
-
--- the steps so far went well, and the tables are so far changed
-pub record IsUnderWay (Changed : Trees → Trees → Type 0) (old now : State) : Type 0 where
-  pub before : IsTrusted old
-  pub on : WentOn old now
-  pub changed : Changed old.now.trees now.now.trees

@@ -12,3 +12,4 @@ pub mod FactSteps
 pub mod Differences
 pub mod Loaded
 pub mod StepsWithin
+pub mod ReadsOnly

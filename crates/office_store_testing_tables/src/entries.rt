@@ -6,13 +6,13 @@ ghost use Rattle.testing_rules_items.specs.Words.{arch_name};
 ghost use Rattle.std.specs.List.{AllByRecursion};
 ghost use Rattle.std.specs.List.Sorted.{IsPermutation};
 ghost use Rattle.sqlite.specs.Held.{state};
-ghost use Rattle.sqlite.specs.State.{HasCleanDisk};
 ghost use Rattle.std.specs.FinMap.{get};
 ghost use Rattle.office_mail.specs.Kept.{Kept};
 ghost use Rattle.office_mail.specs.Read.{read};
 ghost use Rattle.office_store_keeper.specs.Provenance.{IsArchPlace, KnowsArchs, upload_in, binary_in};
-ghost use Rattle.office_store_testing_tables.specs.Tables.{IsTrusted, IsOurs, kept_rows, Lasts};
-ghost use Rattle.office_store_testing_tables.specs.TableSteps.{IsCrowded, Same};
+ghost use Rattle.office_store_testing_tables.specs.Tables.{IsTrusted, kept_rows};
+ghost use Rattle.office_store_testing_tables.specs.TableSteps.{IsCrowded};
+ghost use Rattle.office_store_testing_tables.specs.ReadsOnly.{ReadsOnly, BeginsOurs, Finds};
 ghost use Rattle.office_store_testing_tables.specs.Legible.{IsWhole, AreNamed};
 ghost use Rattle.office_store_testing_tables.specs.Entries.{source_map, entry_map};
 ghost use Rattle.office_store_testing_tables.specs.EntrySteps.{source_columns, entry_columns};
@@ -93,12 +93,9 @@ fn message_at<S: Alter>(
     sender: u32,
     number: u32,
 ) -> Result<Message, KeepFault>
-    requires ours { IsTrusted (state S.Store conn.old) → IsOurs (state S.Store conn.old) }
-    ensures before { IsTrusted (state S.Store conn.new) → IsTrusted (state S.Store conn.old) }
-    ensures lasts { Lasts (state S.Store conn.old) (state S.Store conn.new) }
-    ensures open { HasCleanDisk (state S.Store conn.new) → IsTrusted (state S.Store conn.old) → OnOk result (IsTrusted (state S.Store conn.new)) }
-    ensures same { IsTrusted (state S.Store conn.new) → Same (state S.Store conn.old) (state S.Store conn.new) }
-    ensures ok { IsTrusted (state S.Store conn.new) → IfOk result (λ message. kept_message setup.now (kept_rows ((state S.Store conn.new).now.trees 1)) sender number ≡ Some message) }
+    requires ours { BeginsOurs S.Store conn.old }
+    ensures reads { ReadsOnly S.Store conn.old conn.new result }
+    ensures ok { Finds S.Store conn.new result (λ db message. kept_message setup.now (kept_rows (db 1)) sender number ≡ Some message) }
     ensures bad { IsTrusted (state S.Store conn.new) → result ≡ Err (KeepFault.Store Cause.BadRow) → IsCrowded ((state S.Store conn.new).now.trees 1) ⊎ (kept_message setup.now (kept_rows ((state S.Store conn.new).now.trees 1)) sender number ≡ None) }
 {
     match mail::find(conn, sender, number)? {
@@ -132,14 +129,11 @@ fn message_near<S: Alter>(
     sender: u32,
     number: u32,
 ) -> Result<Message, KeepFault>
-    requires ours { IsTrusted (state S.Store conn.old) → IsOurs (state S.Store conn.old) }
+    requires ours { BeginsOurs S.Store conn.old }
     requires block { IsTrusted (state S.Store conn.old) → AreLettersOf (kept_rows ((state S.Store conn.old).now.trees 1)) block.old.sender block.old.letters.items }
-    ensures before { IsTrusted (state S.Store conn.new) → IsTrusted (state S.Store conn.old) }
-    ensures lasts { Lasts (state S.Store conn.old) (state S.Store conn.new) }
-    ensures open { HasCleanDisk (state S.Store conn.new) → IsTrusted (state S.Store conn.old) → OnOk result (IsTrusted (state S.Store conn.new)) }
-    ensures same { IsTrusted (state S.Store conn.new) → Same (state S.Store conn.old) (state S.Store conn.new) }
-    ensures block { IsTrusted (state S.Store conn.new) → OnOk result (AreLettersOf (kept_rows ((state S.Store conn.new).now.trees 1)) block.new.sender block.new.letters.items) }
-    ensures ok { IsTrusted (state S.Store conn.new) → IfOk result (λ message. kept_message setup.now (kept_rows ((state S.Store conn.new).now.trees 1)) sender number ≡ Some message) }
+    ensures reads { ReadsOnly S.Store conn.old conn.new result }
+    ensures block { Finds S.Store conn.new result (λ db _. AreLettersOf (kept_rows (db 1)) block.new.sender block.new.letters.items) }
+    ensures ok { Finds S.Store conn.new result (λ db message. kept_message setup.now (kept_rows (db 1)) sender number ≡ Some message) }
     ensures bad { IsTrusted (state S.Store conn.new) → result ≡ Err (KeepFault.Store Cause.BadRow) → IsCrowded ((state S.Store conn.new).now.trees 1) ⊎ (kept_message setup.now (kept_rows ((state S.Store conn.new).now.trees 1)) sender number ≡ None) }
 {
     bring(alloc, conn, block, listed, sender, number)?;
@@ -189,16 +183,13 @@ fn read_once<S: Alter>(
     sender: u32,
     number: u32,
 ) -> Result<(), KeepFault>
-    requires ours { IsTrusted (state S.Store conn.old) → IsOurs (state S.Store conn.old) }
+    requires ours { BeginsOurs S.Store conn.old }
     requires block { IsTrusted (state S.Store conn.old) → AreLettersOf (kept_rows ((state S.Store conn.old).now.trees 1)) block.old.sender block.old.letters.items }
     requires last { IsTrusted (state S.Store conn.old) → IfSome last.old (λ kept. kept_message setup.now (kept_rows ((state S.Store conn.old).now.trees 1)) kept.sender kept.number ≡ Some kept.message) }
-    ensures before { IsTrusted (state S.Store conn.new) → IsTrusted (state S.Store conn.old) }
-    ensures lasts { Lasts (state S.Store conn.old) (state S.Store conn.new) }
-    ensures open { HasCleanDisk (state S.Store conn.new) → IsTrusted (state S.Store conn.old) → OnOk result (IsTrusted (state S.Store conn.new)) }
-    ensures same { IsTrusted (state S.Store conn.new) → Same (state S.Store conn.old) (state S.Store conn.new) }
-    ensures block { IsTrusted (state S.Store conn.new) → OnOk result (AreLettersOf (kept_rows ((state S.Store conn.new).now.trees 1)) block.new.sender block.new.letters.items) }
+    ensures reads { ReadsOnly S.Store conn.old conn.new result }
+    ensures block { Finds S.Store conn.new result (λ db _. AreLettersOf (kept_rows (db 1)) block.new.sender block.new.letters.items) }
     ensures place { OnOk result (IsKeptAt sender number last.new) }
-    ensures held { IsTrusted (state S.Store conn.new) → OnOk result (IfSome last.new (λ kept. kept_message setup.now (kept_rows ((state S.Store conn.new).now.trees 1)) kept.sender kept.number ≡ Some kept.message)) }
+    ensures held { Finds S.Store conn.new result (λ db _. IfSome last.new (λ kept. kept_message setup.now (kept_rows (db 1)) kept.sender kept.number ≡ Some kept.message)) }
     ensures bad { IsTrusted (state S.Store conn.new) → result ≡ Err (KeepFault.Store Cause.BadRow) → IsCrowded ((state S.Store conn.new).now.trees 1) ⊎ (kept_message setup.now (kept_rows ((state S.Store conn.new).now.trees 1)) sender number ≡ None) }
 {
     if is_last(last, sender, number) {
@@ -251,14 +242,11 @@ fn source_at<S: Alter>(
     listed: Listed<'_>,
     row: &Row,
 ) -> Result<SourceIn, KeepFault>
-    requires ours { IsTrusted (state S.Store conn.old) → IsOurs (state S.Store conn.old) }
+    requires ours { BeginsOurs S.Store conn.old }
     requires block { IsTrusted (state S.Store conn.old) → AreLettersOf (kept_rows ((state S.Store conn.old).now.trees 1)) block.old.sender block.old.letters.items }
-    ensures before { IsTrusted (state S.Store conn.new) → IsTrusted (state S.Store conn.old) }
-    ensures lasts { Lasts (state S.Store conn.old) (state S.Store conn.new) }
-    ensures open { HasCleanDisk (state S.Store conn.new) → IsTrusted (state S.Store conn.old) → OnOk result (IsTrusted (state S.Store conn.new)) }
-    ensures same { IsTrusted (state S.Store conn.new) → Same (state S.Store conn.old) (state S.Store conn.new) }
-    ensures block { IsTrusted (state S.Store conn.new) → OnOk result (AreLettersOf (kept_rows ((state S.Store conn.new).now.trees 1)) block.new.sender block.new.letters.items) }
-    ensures ok { IsTrusted (state S.Store conn.new) → IfOk result (λ source. source_of setup.now (kept_rows ((state S.Store conn.new).now.trees 1)) row.now ≡ Some source) }
+    ensures reads { ReadsOnly S.Store conn.old conn.new result }
+    ensures block { Finds S.Store conn.new result (λ db _. AreLettersOf (kept_rows (db 1)) block.new.sender block.new.letters.items) }
+    ensures ok { Finds S.Store conn.new result (λ db source. source_of setup.now (kept_rows (db 1)) row.now ≡ Some source) }
     ensures bad { IsTrusted (state S.Store conn.new) → result ≡ Err (KeepFault.Store Cause.BadRow) → row.now ≡ source_columns row.now → IsCrowded ((state S.Store conn.new).now.trees 1) ⊎ (source_of setup.now (kept_rows ((state S.Store conn.new).now.trees 1)) row.now ≡ None) }
 {
     let (name, sender, number) = source_entry(row)?;
@@ -271,12 +259,9 @@ fn source_at<S: Alter>(
 
 /// The rows of testing's sources, in any order.
 fn source_rows<S: Alter>(conn: &mut Connection<S>) -> Result<Vec<Row>, Error>
-    requires ours { IsTrusted (state S.Store conn.old) → IsOurs (state S.Store conn.old) }
-    ensures before { IsTrusted (state S.Store conn.new) → IsTrusted (state S.Store conn.old) }
-    ensures lasts { Lasts (state S.Store conn.old) (state S.Store conn.new) }
-    ensures open { HasCleanDisk (state S.Store conn.new) → IsTrusted (state S.Store conn.old) → OnOk result (IsTrusted (state S.Store conn.new)) }
-    ensures same { IsTrusted (state S.Store conn.new) → Same (state S.Store conn.old) (state S.Store conn.new) }
-    ensures rows { IsTrusted (state S.Store conn.new) → IfOk result (λ rows. IsPermutation (map source_columns ((state S.Store conn.new).now.trees 4)) rows.items) }
+    requires ours { BeginsOurs S.Store conn.old }
+    ensures reads { ReadsOnly S.Store conn.old conn.new result }
+    ensures rows { Finds S.Store conn.new result (λ db rows. IsPermutation (map source_columns (db 4)) rows.items) }
 {
     conn.query_all(
         "SELECT rowid, name, sender, number FROM testing_source",
@@ -291,12 +276,9 @@ fn sources_at<S: Alter>(
     setup: &Setup,
     rows: &[Row],
 ) -> Result<Vec<SourceIn>, KeepFault>
-    requires ours { IsTrusted (state S.Store conn.old) → IsOurs (state S.Store conn.old) }
-    ensures before { IsTrusted (state S.Store conn.new) → IsTrusted (state S.Store conn.old) }
-    ensures lasts { Lasts (state S.Store conn.old) (state S.Store conn.new) }
-    ensures open { HasCleanDisk (state S.Store conn.new) → IsTrusted (state S.Store conn.old) → OnOk result (IsTrusted (state S.Store conn.new)) }
-    ensures same { IsTrusted (state S.Store conn.new) → Same (state S.Store conn.old) (state S.Store conn.new) }
-    ensures ok { IsTrusted (state S.Store conn.new) → IfOk result (λ sources. map (source_of setup.now (kept_rows ((state S.Store conn.new).now.trees 1))) rows.now ≡ map Some sources.items) }
+    requires ours { BeginsOurs S.Store conn.old }
+    ensures reads { ReadsOnly S.Store conn.old conn.new result }
+    ensures ok { Finds S.Store conn.new result (λ db sources. map (source_of setup.now (kept_rows (db 1))) rows.now ≡ map Some sources.items) }
     ensures bad { IsTrusted (state S.Store conn.new) → result ≡ Err (KeepFault.Store Cause.BadRow) → ReadsEach source_columns (source_of setup.now (kept_rows ((state S.Store conn.new).now.trees 1))) rows.now → IsCrowded ((state S.Store conn.new).now.trees 1) }
 {
     let mut sources = Vec::new(alloc);
@@ -417,17 +399,14 @@ fn row_at<S: Alter>(
     row: &Row,
     last: &mut Option<KeptAt>,
 ) -> Result<RowIn, KeepFault>
-    requires ours { IsTrusted (state S.Store conn.old) → IsOurs (state S.Store conn.old) }
+    requires ours { BeginsOurs S.Store conn.old }
     requires block { IsTrusted (state S.Store conn.old) → AreLettersOf (kept_rows ((state S.Store conn.old).now.trees 1)) block.old.sender block.old.letters.items }
     requires last { IsTrusted (state S.Store conn.old) → IfSome last.old (λ kept. kept_message setup.now (kept_rows ((state S.Store conn.old).now.trees 1)) kept.sender kept.number ≡ Some kept.message) }
-    ensures before { IsTrusted (state S.Store conn.new) → IsTrusted (state S.Store conn.old) }
-    ensures lasts { Lasts (state S.Store conn.old) (state S.Store conn.new) }
-    ensures open { HasCleanDisk (state S.Store conn.new) → IsTrusted (state S.Store conn.old) → OnOk result (IsTrusted (state S.Store conn.new)) }
-    ensures same { IsTrusted (state S.Store conn.new) → Same (state S.Store conn.old) (state S.Store conn.new) }
-    ensures block { IsTrusted (state S.Store conn.new) → OnOk result (AreLettersOf (kept_rows ((state S.Store conn.new).now.trees 1)) block.new.sender block.new.letters.items) }
+    ensures reads { ReadsOnly S.Store conn.old conn.new result }
+    ensures block { Finds S.Store conn.new result (λ db _. AreLettersOf (kept_rows (db 1)) block.new.sender block.new.letters.items) }
     ensures known { IfOk result (λ given. IsArchPlace setup.now.archs given.arch) }
-    ensures ok { IsTrusted (state S.Store conn.new) → IfOk result (λ given. row_of setup.now (kept_rows ((state S.Store conn.new).now.trees 1)) row.now ≡ Some given) }
-    ensures held { IsTrusted (state S.Store conn.new) → OnOk result (IfSome last.new (λ kept. kept_message setup.now (kept_rows ((state S.Store conn.new).now.trees 1)) kept.sender kept.number ≡ Some kept.message)) }
+    ensures ok { Finds S.Store conn.new result (λ db given. row_of setup.now (kept_rows (db 1)) row.now ≡ Some given) }
+    ensures held { Finds S.Store conn.new result (λ db _. IfSome last.new (λ kept. kept_message setup.now (kept_rows (db 1)) kept.sender kept.number ≡ Some kept.message)) }
     ensures bad { IsTrusted (state S.Store conn.new) → result ≡ Err (KeepFault.Store Cause.BadRow) → row.now ≡ entry_columns row.now → IsCrowded ((state S.Store conn.new).now.trees 1) ⊎ (row_of setup.now (kept_rows ((state S.Store conn.new).now.trees 1)) row.now ≡ None) }
 {
     let entry = row_entry(row)?;
@@ -441,12 +420,9 @@ fn row_at<S: Alter>(
 
 /// The rows of testing's rows, in any order.
 fn entry_rows<S: Alter>(conn: &mut Connection<S>) -> Result<Vec<Row>, Error>
-    requires ours { IsTrusted (state S.Store conn.old) → IsOurs (state S.Store conn.old) }
-    ensures before { IsTrusted (state S.Store conn.new) → IsTrusted (state S.Store conn.old) }
-    ensures lasts { Lasts (state S.Store conn.old) (state S.Store conn.new) }
-    ensures open { HasCleanDisk (state S.Store conn.new) → IsTrusted (state S.Store conn.old) → OnOk result (IsTrusted (state S.Store conn.new)) }
-    ensures same { IsTrusted (state S.Store conn.new) → Same (state S.Store conn.old) (state S.Store conn.new) }
-    ensures rows { IsTrusted (state S.Store conn.new) → IfOk result (λ rows. IsPermutation (map entry_columns ((state S.Store conn.new).now.trees 6)) rows.items) }
+    requires ours { BeginsOurs S.Store conn.old }
+    ensures reads { ReadsOnly S.Store conn.old conn.new result }
+    ensures rows { Finds S.Store conn.new result (λ db rows. IsPermutation (map entry_columns (db 6)) rows.items) }
 {
     conn.query_all(
         "SELECT rowid, arch, name, sender, number, place FROM testing_row",
@@ -472,15 +448,12 @@ fn read_rows<S: Alter>(
     block: &mut LoadedLetters,
     last: &mut Option<KeptAt>,
 ) -> Result<Vec<RowIn>, KeepFault>
-    requires ours { IsTrusted (state S.Store conn.old) → IsOurs (state S.Store conn.old) }
+    requires ours { BeginsOurs S.Store conn.old }
     requires block { IsTrusted (state S.Store conn.old) → AreLettersOf (kept_rows ((state S.Store conn.old).now.trees 1)) block.old.sender block.old.letters.items }
     requires last { IsTrusted (state S.Store conn.old) → IfSome last.old (λ kept. kept_message setup.now (kept_rows ((state S.Store conn.old).now.trees 1)) kept.sender kept.number ≡ Some kept.message) }
-    ensures before { IsTrusted (state S.Store conn.new) → IsTrusted (state S.Store conn.old) }
-    ensures lasts { Lasts (state S.Store conn.old) (state S.Store conn.new) }
-    ensures open { HasCleanDisk (state S.Store conn.new) → IsTrusted (state S.Store conn.old) → OnOk result (IsTrusted (state S.Store conn.new)) }
-    ensures same { IsTrusted (state S.Store conn.new) → Same (state S.Store conn.old) (state S.Store conn.new) }
+    ensures reads { ReadsOnly S.Store conn.old conn.new result }
     ensures known { IfOk result (λ given. AllByRecursion (λ r. IsArchPlace setup.now.archs r.arch) given.items) }
-    ensures ok { IsTrusted (state S.Store conn.new) → IfOk result (λ given. map (row_of setup.now (kept_rows ((state S.Store conn.new).now.trees 1))) rows.now ≡ map Some given.items) }
+    ensures ok { Finds S.Store conn.new result (λ db given. map (row_of setup.now (kept_rows (db 1))) rows.now ≡ map Some given.items) }
     ensures bad { IsTrusted (state S.Store conn.new) → result ≡ Err (KeepFault.Store Cause.BadRow) → ReadsEach entry_columns (row_of setup.now (kept_rows ((state S.Store conn.new).now.trees 1))) rows.now → IsCrowded ((state S.Store conn.new).now.trees 1) }
 {
     let mut given = Vec::new(alloc);
@@ -500,13 +473,10 @@ fn rows_at<S: Alter>(
     setup: &Setup,
     rows: &[Row],
 ) -> Result<Vec<RowIn>, KeepFault>
-    requires ours { IsTrusted (state S.Store conn.old) → IsOurs (state S.Store conn.old) }
-    ensures before { IsTrusted (state S.Store conn.new) → IsTrusted (state S.Store conn.old) }
-    ensures lasts { Lasts (state S.Store conn.old) (state S.Store conn.new) }
-    ensures open { HasCleanDisk (state S.Store conn.new) → IsTrusted (state S.Store conn.old) → OnOk result (IsTrusted (state S.Store conn.new)) }
-    ensures same { IsTrusted (state S.Store conn.new) → Same (state S.Store conn.old) (state S.Store conn.new) }
+    requires ours { BeginsOurs S.Store conn.old }
+    ensures reads { ReadsOnly S.Store conn.old conn.new result }
     ensures known { IfOk result (λ given. AllByRecursion (λ r. IsArchPlace setup.now.archs r.arch) given.items) }
-    ensures ok { IsTrusted (state S.Store conn.new) → IfOk result (λ given. map (row_of setup.now (kept_rows ((state S.Store conn.new).now.trees 1))) rows.now ≡ map Some given.items) }
+    ensures ok { Finds S.Store conn.new result (λ db given. map (row_of setup.now (kept_rows (db 1))) rows.now ≡ map Some given.items) }
     ensures bad { IsTrusted (state S.Store conn.new) → result ≡ Err (KeepFault.Store Cause.BadRow) → ReadsEach entry_columns (row_of setup.now (kept_rows ((state S.Store conn.new).now.trees 1))) rows.now → IsCrowded ((state S.Store conn.new).now.trees 1) }
 {
     let mut block = no_block(alloc);
@@ -572,14 +542,11 @@ pub fn testing<S: Alter>(
     conn: &mut Connection<S>,
     setup: &Setup,
 ) -> Result<Testing, KeepFault>
-    requires ours { IsTrusted (state S.Store conn.old) → IsOurs (state S.Store conn.old) }
-    ensures before { IsTrusted (state S.Store conn.new) → IsTrusted (state S.Store conn.old) }
-    ensures lasts { Lasts (state S.Store conn.old) (state S.Store conn.new) }
-    ensures open { HasCleanDisk (state S.Store conn.new) → IsTrusted (state S.Store conn.old) → OnOk result (IsTrusted (state S.Store conn.new)) }
-    ensures same { IsTrusted (state S.Store conn.new) → Same (state S.Store conn.old) (state S.Store conn.new) }
+    requires ours { BeginsOurs S.Store conn.old }
+    ensures reads { ReadsOnly S.Store conn.old conn.new result }
     ensures bad { IsTrusted (state S.Store conn.new) → IsWhole (kept_rows ((state S.Store conn.new).now.trees 1)) ((state S.Store conn.new).now.trees 1) → AreNamed setup.now (state S.Store conn.new).now.trees → result ≢ Err (KeepFault.Store Cause.BadRow) }
     ensures known { IfOk result (λ testing. KnowsArchs setup.now.archs testing.rows) }
-    ensures value { IsTrusted (state S.Store conn.new) → IfOk result (λ testing. testing ≡ suite_in setup.now (kept_rows ((state S.Store conn.new).now.trees 1)) (source_map ((state S.Store conn.new).now.trees 4)) (entry_map ((state S.Store conn.new).now.trees 6))) }
+    ensures value { Finds S.Store conn.new result (λ db testing. testing ≡ suite_in setup.now (kept_rows (db 1)) (source_map (db 4)) (entry_map (db 6))) }
 {
     let named = source_rows(conn)?;
     let uploads = by_message(named, UPLOAD);

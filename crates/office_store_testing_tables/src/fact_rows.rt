@@ -1,13 +1,12 @@
 //! The tables of facts, read back.
-ghost use Rattle.std.specs.Prelude.{◌≡◌, ◌≢◌, ◌<◌, ◌∷◌, ◌++◌, [], ℤ, ℕ, true, Err, Some, None, pos, map, option_to_list, IfOk, OnOk};
+ghost use Rattle.std.specs.Prelude.{◌≡◌, ◌≢◌, ◌<◌, ◌∷◌, ◌++◌, [], ℤ, ℕ, true, Err, Some, None, pos, map, option_to_list, IfOk};
 ghost use Rattle.std.specs.List.Sorted.{IsPermutation};
 ghost use Rattle.sqlite.specs.Order.{column};
 ghost use Rattle.sqlite.specs.declared.types.Value.TheVariants.{Int};
 ghost use Rattle.sqlite.specs.Held.{state};
-ghost use Rattle.sqlite.specs.State.{HasCleanDisk};
 ghost use Rattle.office_store_keeper.specs.FactSet.{rows_in as rows_in_set, set_of_rows};
-ghost use Rattle.office_store_testing_tables.specs.Tables.{IsTrusted, IsOurs, Lasts};
-ghost use Rattle.office_store_testing_tables.specs.TableSteps.{Same};
+ghost use Rattle.office_store_testing_tables.specs.Tables.{IsTrusted};
+ghost use Rattle.office_store_testing_tables.specs.ReadsOnly.{ReadsOnly, BeginsOurs, Finds};
 ghost use Rattle.office_store_testing_tables.specs.TableContent.{ReadsEach, release_place};
 ghost use Rattle.office_store_testing_tables.specs.Legible.{AreRead};
 ghost use Rattle.office_store_testing_tables.specs.FactTables.{fact_entry, may_stand, fact_in, delays_of, facts_in};
@@ -120,24 +119,18 @@ fn delays_said(rows: &[Row], release: u32) -> Result<Option<FactRow>, KeepFault>
 
 /// The rows of facts, in any order.
 fn fact_rows<S: Alter>(conn: &mut Connection<S>) -> Result<Vec<Row>, Error>
-    requires ours { IsTrusted (state S.Store conn.old) → IsOurs (state S.Store conn.old) }
-    ensures before { IsTrusted (state S.Store conn.new) → IsTrusted (state S.Store conn.old) }
-    ensures lasts { Lasts (state S.Store conn.old) (state S.Store conn.new) }
-    ensures open { HasCleanDisk (state S.Store conn.new) → IsTrusted (state S.Store conn.old) → OnOk result (IsTrusted (state S.Store conn.new)) }
-    ensures same { IsTrusted (state S.Store conn.new) → Same (state S.Store conn.old) (state S.Store conn.new) }
-    ensures rows { IsTrusted (state S.Store conn.new) → IfOk result (λ rows. IsPermutation (map fact_columns ((state S.Store conn.new).now.trees 8)) rows.items) }
+    requires ours { BeginsOurs S.Store conn.old }
+    ensures reads { ReadsOnly S.Store conn.old conn.new result }
+    ensures rows { Finds S.Store conn.new result (λ db rows. IsPermutation (map fact_columns (db 8)) rows.items) }
 {
     conn.query_all("SELECT rowid, kind, sender, number, place FROM fact", &[])
 }
 
 /// The rows of the last delays, in any order.
 fn delays_rows<S: Alter>(conn: &mut Connection<S>) -> Result<Vec<Row>, Error>
-    requires ours { IsTrusted (state S.Store conn.old) → IsOurs (state S.Store conn.old) }
-    ensures before { IsTrusted (state S.Store conn.new) → IsTrusted (state S.Store conn.old) }
-    ensures lasts { Lasts (state S.Store conn.old) (state S.Store conn.new) }
-    ensures open { HasCleanDisk (state S.Store conn.new) → IsTrusted (state S.Store conn.old) → OnOk result (IsTrusted (state S.Store conn.new)) }
-    ensures same { IsTrusted (state S.Store conn.new) → Same (state S.Store conn.old) (state S.Store conn.new) }
-    ensures rows { IsTrusted (state S.Store conn.new) → IfOk result (λ rows. IsPermutation (map delays_columns ((state S.Store conn.new).now.trees 10)) rows.items) }
+    requires ours { BeginsOurs S.Store conn.old }
+    ensures reads { ReadsOnly S.Store conn.old conn.new result }
+    ensures rows { Finds S.Store conn.new result (λ db rows. IsPermutation (map delays_columns (db 10)) rows.items) }
 {
     conn.query_all("SELECT id, number FROM fact_delays", &[])
 }
@@ -163,13 +156,10 @@ pub fn facts<S: Alter>(
     conn: &mut Connection<S>,
     setup: &Setup,
 ) -> Result<FactRows, KeepFault>
-    requires ours { IsTrusted (state S.Store conn.old) → IsOurs (state S.Store conn.old) }
-    ensures before { IsTrusted (state S.Store conn.new) → IsTrusted (state S.Store conn.old) }
-    ensures lasts { Lasts (state S.Store conn.old) (state S.Store conn.new) }
-    ensures open { HasCleanDisk (state S.Store conn.new) → IsTrusted (state S.Store conn.old) → OnOk result (IsTrusted (state S.Store conn.new)) }
-    ensures same { IsTrusted (state S.Store conn.new) → Same (state S.Store conn.old) (state S.Store conn.new) }
+    requires ours { BeginsOurs S.Store conn.old }
+    ensures reads { ReadsOnly S.Store conn.old conn.new result }
     ensures bad { IsTrusted (state S.Store conn.new) → AreRead (release_place setup.now) ((state S.Store conn.new).now.trees 8) ((state S.Store conn.new).now.trees 10) → result ≢ Err (KeepFault.Store Cause.BadRow) }
-    ensures value { IsTrusted (state S.Store conn.new) → IfOk result (λ rows. rows ≡ rows_in_set (facts_in (release_place setup.now) ((state S.Store conn.new).now.trees 8) ((state S.Store conn.new).now.trees 10))) }
+    ensures value { Finds S.Store conn.new result (λ db rows. rows ≡ rows_in_set (facts_in (release_place setup.now) (db 8) (db 10))) }
 {
     let release = release_place(setup);
     let shown = fact_rows(conn)?;

@@ -1,14 +1,14 @@
 //! The table of mail, as texts are looked up in it.
-ghost use Rattle.std.specs.Prelude.{◌≡◌, ◌≢◌, ◌≤◌, ◌<◌, ◌∷◌, [], List, ℕ, true, Some, Err, pos, nat_eq, map, filter, length, IfOk, OnOk};
+ghost use Rattle.std.specs.Prelude.{◌≡◌, ◌≢◌, ◌≤◌, ◌<◌, ◌∷◌, [], List, ℕ, true, Some, Err, pos, nat_eq, map, filter, length, IfOk};
 ghost use Rattle.std.specs.List.Sorted.{IsPermutation};
 ghost use Rattle.office_store_keeper.specs.Content.{letters_within};
 ghost use Rattle.std.specs.FinMap.{get};
 ghost use Rattle.sqlite.specs.Order.{column};
 ghost use Rattle.sqlite.specs.declared.types.Value.TheVariants.{Int, Blob};
 ghost use Rattle.sqlite.specs.Held.{state};
-ghost use Rattle.sqlite.specs.State.{HasCleanDisk};
-ghost use Rattle.office_store_testing_tables.specs.Tables.{IsTrusted, IsOurs, kept_rows, Lasts};
-ghost use Rattle.office_store_testing_tables.specs.TableSteps.{Same, IsCrowded, IsOnly, is_at, is_between, letter_columns, shown_letter, letter_entry, ShowsLetters, rises_from};
+ghost use Rattle.office_store_testing_tables.specs.Tables.{IsTrusted, kept_rows};
+ghost use Rattle.office_store_testing_tables.specs.TableSteps.{IsCrowded, IsOnly, is_at, is_between, letter_columns, shown_letter, letter_entry, ShowsLetters, rises_from};
+ghost use Rattle.office_store_testing_tables.specs.ReadsOnly.{ReadsOnly, BeginsOurs, Finds};
 
 use crate::faults::unread;
 use office_store_keeper::{Cause, KeepFault, Letter, MailText};
@@ -44,12 +44,9 @@ fn only_text(rows: &[Row], sender: u32, number: u32) -> Result<Option<MailText>,
 
 /// The rows of mail with this sender's place and number, in any order.
 fn letters<S: Alter>(conn: &mut Connection<S>, sender: u32, number: u32) -> Result<Vec<Row>, Error>
-    requires ours { IsTrusted (state S.Store conn.old) → IsOurs (state S.Store conn.old) }
-    ensures before { IsTrusted (state S.Store conn.new) → IsTrusted (state S.Store conn.old) }
-    ensures lasts { Lasts (state S.Store conn.old) (state S.Store conn.new) }
-    ensures open { HasCleanDisk (state S.Store conn.new) → IsTrusted (state S.Store conn.old) → OnOk result (IsTrusted (state S.Store conn.new)) }
-    ensures same { IsTrusted (state S.Store conn.new) → Same (state S.Store conn.old) (state S.Store conn.new) }
-    ensures rows { IsTrusted (state S.Store conn.new) → IfOk result (λ rows. IsPermutation (map letter_columns (filter (is_at sender number) ((state S.Store conn.new).now.trees 1))) rows.items) }
+    requires ours { BeginsOurs S.Store conn.old }
+    ensures reads { ReadsOnly S.Store conn.old conn.new result }
+    ensures rows { Finds S.Store conn.new result (λ db rows. IsPermutation (map letter_columns (filter (is_at sender number) (db 1))) rows.items) }
 {
     conn.query_all(
         "SELECT sender, number, body FROM mail WHERE sender = ?1 AND number = ?2",
@@ -63,12 +60,9 @@ pub fn find<S: Alter>(
     sender: u32,
     number: u32,
 ) -> Result<Option<MailText>, KeepFault>
-    requires ours { IsTrusted (state S.Store conn.old) → IsOurs (state S.Store conn.old) }
-    ensures before { IsTrusted (state S.Store conn.new) → IsTrusted (state S.Store conn.old) }
-    ensures lasts { Lasts (state S.Store conn.old) (state S.Store conn.new) }
-    ensures open { HasCleanDisk (state S.Store conn.new) → IsTrusted (state S.Store conn.old) → OnOk result (IsTrusted (state S.Store conn.new)) }
-    ensures same { IsTrusted (state S.Store conn.new) → Same (state S.Store conn.old) (state S.Store conn.new) }
-    ensures found { IsTrusted (state S.Store conn.new) → IfOk result (λ text. text ≡ get (kept_rows ((state S.Store conn.new).now.trees 1)) (sender, number)) }
+    requires ours { BeginsOurs S.Store conn.old }
+    ensures reads { ReadsOnly S.Store conn.old conn.new result }
+    ensures found { Finds S.Store conn.new result (λ db text. text ≡ get (kept_rows (db 1)) (sender, number)) }
     ensures bad { IsTrusted (state S.Store conn.new) → result ≡ Err (KeepFault.Store Cause.BadRow) → IsCrowded ((state S.Store conn.new).now.trees 1) }
 {
     let rows = letters(conn, sender, number)?;
@@ -82,12 +76,9 @@ fn letters_between<S: Alter>(
     from: u32,
     to: u32,
 ) -> Result<Vec<Row>, Error>
-    requires ours { IsTrusted (state S.Store conn.old) → IsOurs (state S.Store conn.old) }
-    ensures before { IsTrusted (state S.Store conn.new) → IsTrusted (state S.Store conn.old) }
-    ensures lasts { Lasts (state S.Store conn.old) (state S.Store conn.new) }
-    ensures open { HasCleanDisk (state S.Store conn.new) → IsTrusted (state S.Store conn.old) → OnOk result (IsTrusted (state S.Store conn.new)) }
-    ensures same { IsTrusted (state S.Store conn.new) → Same (state S.Store conn.old) (state S.Store conn.new) }
-    ensures rows { IsTrusted (state S.Store conn.new) → IfOk result (λ rows. IsPermutation (map letter_columns (filter (is_between sender from to) ((state S.Store conn.new).now.trees 1))) rows.items) }
+    requires ours { BeginsOurs S.Store conn.old }
+    ensures reads { ReadsOnly S.Store conn.old conn.new result }
+    ensures rows { Finds S.Store conn.new result (λ db rows. IsPermutation (map letter_columns (filter (is_between sender from to) (db 1))) rows.items) }
 {
     conn.query_all(
         "SELECT sender, number, body FROM mail WHERE sender = ?1 AND number >= ?2 AND number <= ?3",
@@ -161,13 +152,10 @@ pub fn load<S: Alter>(
     from: u32,
     to: u32,
 ) -> Result<Vec<Letter>, KeepFault>
-    requires ours { IsTrusted (state S.Store conn.old) → IsOurs (state S.Store conn.old) }
-    ensures before { IsTrusted (state S.Store conn.new) → IsTrusted (state S.Store conn.old) }
-    ensures lasts { Lasts (state S.Store conn.old) (state S.Store conn.new) }
-    ensures open { HasCleanDisk (state S.Store conn.new) → IsTrusted (state S.Store conn.old) → OnOk result (IsTrusted (state S.Store conn.new)) }
-    ensures same { IsTrusted (state S.Store conn.new) → Same (state S.Store conn.old) (state S.Store conn.new) }
+    requires ours { BeginsOurs S.Store conn.old }
+    ensures reads { ReadsOnly S.Store conn.old conn.new result }
     ensures bad { IsTrusted (state S.Store conn.new) → result ≡ Err (KeepFault.Store Cause.BadRow) → IsCrowded ((state S.Store conn.new).now.trees 1) }
-    ensures loaded { IsTrusted (state S.Store conn.new) → IfOk result (λ letters. letters.items ≡ letters_within (kept_rows ((state S.Store conn.new).now.trees 1)) sender from to) }
+    ensures loaded { Finds S.Store conn.new result (λ db letters. letters.items ≡ letters_within (kept_rows (db 1)) sender from to) }
 {
     let rows = letters_between(conn, sender, from, to)?;
     let letters = letters_in(alloc, rows.as_slice(), sender)?;

@@ -1,10 +1,10 @@
 //! Texts of mail that are loaded together. Entries of testing that are read by their messages mostly name messages that
 //! are kept side by side.
-ghost use Rattle.std.specs.Prelude.{◌≡◌, Err, Some, OnOk};
+ghost use Rattle.std.specs.Prelude.{◌≡◌, Err, Some};
 ghost use Rattle.sqlite.specs.Held.{state};
-ghost use Rattle.sqlite.specs.State.{HasCleanDisk};
-ghost use Rattle.office_store_testing_tables.specs.Tables.{IsTrusted, IsOurs, kept_rows, Lasts};
-ghost use Rattle.office_store_testing_tables.specs.TableSteps.{IsCrowded, Same};
+ghost use Rattle.office_store_testing_tables.specs.Tables.{IsTrusted, kept_rows};
+ghost use Rattle.office_store_testing_tables.specs.TableSteps.{IsCrowded};
+ghost use Rattle.office_store_testing_tables.specs.ReadsOnly.{ReadsOnly, BeginsOurs, Finds};
 ghost use Rattle.office_store_testing_tables.specs.Loaded.{AreLettersOf};
 
 use crate::loaded::{LoadedLetters, loaded_text};
@@ -68,13 +68,10 @@ pub fn bring<S: Alter>(
     sender: u32,
     number: u32,
 ) -> Result<(), KeepFault>
-    requires ours { IsTrusted (state S.Store conn.old) → IsOurs (state S.Store conn.old) }
+    requires ours { BeginsOurs S.Store conn.old }
     requires block { IsTrusted (state S.Store conn.old) → AreLettersOf (kept_rows ((state S.Store conn.old).now.trees 1)) block.old.sender block.old.letters.items }
-    ensures before { IsTrusted (state S.Store conn.new) → IsTrusted (state S.Store conn.old) }
-    ensures lasts { Lasts (state S.Store conn.old) (state S.Store conn.new) }
-    ensures open { HasCleanDisk (state S.Store conn.new) → IsTrusted (state S.Store conn.old) → OnOk result (IsTrusted (state S.Store conn.new)) }
-    ensures same { IsTrusted (state S.Store conn.new) → Same (state S.Store conn.old) (state S.Store conn.new) }
-    ensures block { IsTrusted (state S.Store conn.new) → OnOk result (AreLettersOf (kept_rows ((state S.Store conn.new).now.trees 1)) block.new.sender block.new.letters.items) }
+    ensures reads { ReadsOnly S.Store conn.old conn.new result }
+    ensures block { Finds S.Store conn.new result (λ db _. AreLettersOf (kept_rows (db 1)) block.new.sender block.new.letters.items) }
     ensures bad { IsTrusted (state S.Store conn.new) → result ≡ Err (KeepFault.Store Cause.BadRow) → IsCrowded ((state S.Store conn.new).now.trees 1) }
 {
     if loaded_text(block, sender, number).is_some() {

@@ -6,7 +6,9 @@ use Rattle.sqlite.specs.Held.{state}
 use Rattle.office_store_tables.specs.Texts.{load_text}
 use Rattle.office_store_tables.specs.TableSteps.{is_between, letter_columns}
 use Rattle.office_store_tables.proofs.LoadLemmas.{load_plain, shows_between}
-use Rattle.office_store_tables.proofs.InsideLemmas.{AskedInside, inside_before, inside_same, inside_on, inside_rows, inside_err, inside_open}
+use Rattle.office_store_tables.proofs.InsideLemmas.{AskedInside, inside_same, inside_rows}
+use Rattle.office_store_tables.proofs.StateLemmas.{lasts_survived}
+use Rattle.office_store_tables.proofs.WithinLemmas.{asked_within}
 use Rattle.office_store.proofs.migrating.letters_between.Goals as goal
 
 asked : (g : _) (c : goal.After-query_all g) → AskedInside (λ r. r.items) load_text (Int (pos c.args.sender) ∷ Int (pos c.args.from) ∷ Int (pos c.args.to) ∷ []) (state g.S.Store c.args.tx.now.conn.now) (state g.S.Store c.query_all.new.self.conn.now) c.query_all.result
@@ -17,14 +19,11 @@ asked g c = record {
   err = rw (c.params-to_sql.ensures, c.params-to_sql-2.ensures, c.params-to_sql-3.ensures) at c.query_all.ensures.err;
 }
 
-pub returns-clause-before : goal.returns-clause-before
-returns-clause-before g c trusted = inside_before _ _ _ _ _ _ (asked g c) trusted
+pub returns-clause-steps : goal.returns-clause-steps
+returns-clause-steps g c = asked_within _ _ _ _ _ _ (asked g c) c.query_all.ensures.same_reference load_plain.0 (lasts_survived _ _ c.query_all.ensures.survives) c.requires.inside
 
 pub returns-clause-same : goal.returns-clause-same
 returns-clause-same g c trusted = inside_same _ _ _ _ _ load_plain.0 c.requires.inside _ (asked g c) trusted
-
-pub returns-clause-on : goal.returns-clause-on
-returns-clause-on g c trusted = inside_on _ _ _ _ _ load_plain.0 c.requires.inside _ (asked g c) trusted
 
 pub returns-clause-rows : goal.returns-clause-rows
 returns-clause-rows g c trusted =
@@ -32,9 +31,3 @@ returns-clause-rows g c trusted =
     let new = state g.S.Store c.query_all.new.self.conn.now in
     inside_rows (λ r. r.items) load_text (Int (pos c.args.sender) ∷ Int (pos c.args.from) ∷ Int (pos c.args.to) ∷ []) old new load_plain.0 c.requires.inside (λ (rows : List Row). IsPermutation (map letter_columns (filter (is_between c.args.sender c.args.from c.args.to) (old.now.trees 1))) rows) c.query_all.result (asked g c) trusted
     (λ rows has h. shows_between c.args.sender c.args.from c.args.to old new rows has h)
-
-pub returns-clause-err : goal.returns-clause-err
-returns-clause-err g c trusted = inside_err _ _ _ _ _ _ (asked g c) trusted
-
-pub returns-clause-open : goal.returns-clause-open
-returns-clause-open g c clean trusted = inside_open _ _ _ _ _ _ (asked g c) clean trusted

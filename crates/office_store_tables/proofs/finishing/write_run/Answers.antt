@@ -1,14 +1,13 @@
-use Rattle.std.proofs.Common.{◌∙◌}
 use Rattle.std.proofs.lemmas.Result.{IfOk-from_err}
 use Rattle.sqlite.specs.Held.{state}
-use Rattle.office_store_testing_tables.proofs.StateLemmas.{lasts_then, clean_before}
 use Rattle.office_store_tables.proofs.FinishLemmas.{writes}
+use Rattle.office_store_testing_tables.proofs.WithinLemmas.{kept_within, failed_within, then_within}
 use Rattle.office_store_tables.proofs.finishing.write_run.Goals as goal
 
 pub returns-clause-done : goal.returns-clause-done
 returns-clause-done g c trusted =
-    let third = c.in_ok-added.ensures.before trusted in
-    let second = c.in_ok-change_facts.ensures.before third in
+    let third = c.in_ok-added.ensures.steps.before trusted in
+    let second = c.in_ok-change_facts.ensures.steps.before third in
     let first = c.in_ok-set_rows.ensures.steps.before second in
     writes c.args.release (state g.S.Store c.args.tx.now.conn.now).now.trees (state g.S.Store c.set_sources.new.tx.conn.now).now.trees (state g.S.Store c.set_rows.new.tx.conn.now).now.trees
     (state g.S.Store c.change_facts.new.tx.conn.now).now.trees (state g.S.Store c.record_run.new.tx.conn.now).now.trees c.args.run c.args.done.now c.args.said.now
@@ -17,12 +16,6 @@ returns-clause-done g c trusted =
 
 pub returns-clause-ordered : goal.returns-clause-ordered
 returns-clause-ordered g c = record { by_name = rw c.sources.ensures.entries at c.sources.ensures.ordered; by_key = rw c.rows.ensures.entries at c.rows.ensures.ordered }
-
-pub returns-in_err-set_sources-clause-open : goal.returns-in_err-set_sources-clause-open
-returns-in_err-set_sources-clause-open g c clean trusted = IfOk-from_err c.from_residual.result _ c.from_residual.ensures.0
-
-pub returns-in_err-set_sources-clause-on : goal.returns-in_err-set_sources-clause-on
-returns-in_err-set_sources-clause-on g c trusted = IfOk-from_err c.from_residual.result _ c.from_residual.ensures.0
 
 pub returns-in_err-set_sources-clause-ordered : goal.returns-in_err-set_sources-clause-ordered
 returns-in_err-set_sources-clause-ordered g c = IfOk-from_err c.from_residual.result _ c.from_residual.ensures.0
@@ -33,12 +26,6 @@ returns-in_err-set_sources-clause-texts g c = IfOk-from_err c.from_residual.resu
 pub returns-in_err-set_sources-clause-done : goal.returns-in_err-set_sources-clause-done
 returns-in_err-set_sources-clause-done g c trusted = IfOk-from_err c.from_residual.result _ c.from_residual.ensures.0
 
-pub returns-in_err-set_rows-clause-open : goal.returns-in_err-set_rows-clause-open
-returns-in_err-set_rows-clause-open g c clean trusted = IfOk-from_err c.from_residual-in_err-set_rows.result _ c.from_residual-in_err-set_rows.ensures.0
-
-pub returns-in_err-set_rows-clause-on : goal.returns-in_err-set_rows-clause-on
-returns-in_err-set_rows-clause-on g c trusted = IfOk-from_err c.from_residual-in_err-set_rows.result _ c.from_residual-in_err-set_rows.ensures.0
-
 pub returns-in_err-set_rows-clause-ordered : goal.returns-in_err-set_rows-clause-ordered
 returns-in_err-set_rows-clause-ordered g c = IfOk-from_err c.from_residual-in_err-set_rows.result _ c.from_residual-in_err-set_rows.ensures.0
 
@@ -47,12 +34,6 @@ returns-in_err-set_rows-clause-texts g c = IfOk-from_err c.from_residual-in_err-
 
 pub returns-in_err-set_rows-clause-done : goal.returns-in_err-set_rows-clause-done
 returns-in_err-set_rows-clause-done g c trusted = IfOk-from_err c.from_residual-in_err-set_rows.result _ c.from_residual-in_err-set_rows.ensures.0
-
-pub returns-in_err-change_facts-clause-open : goal.returns-in_err-change_facts-clause-open
-returns-in_err-change_facts-clause-open g c clean trusted = IfOk-from_err c.from_residual-in_err-change_facts.result _ c.from_residual-in_err-change_facts.ensures.0
-
-pub returns-in_err-change_facts-clause-on : goal.returns-in_err-change_facts-clause-on
-returns-in_err-change_facts-clause-on g c trusted = IfOk-from_err c.from_residual-in_err-change_facts.result _ c.from_residual-in_err-change_facts.ensures.0
 
 pub returns-in_err-change_facts-clause-ordered : goal.returns-in_err-change_facts-clause-ordered
 returns-in_err-change_facts-clause-ordered g c = IfOk-from_err c.from_residual-in_err-change_facts.result _ c.from_residual-in_err-change_facts.ensures.0
@@ -63,12 +44,6 @@ returns-in_err-change_facts-clause-texts g c = IfOk-from_err c.from_residual-in_
 pub returns-in_err-change_facts-clause-done : goal.returns-in_err-change_facts-clause-done
 returns-in_err-change_facts-clause-done g c trusted = IfOk-from_err c.from_residual-in_err-change_facts.result _ c.from_residual-in_err-change_facts.ensures.0
 
-pub returns-in_err-added-clause-open : goal.returns-in_err-added-clause-open
-returns-in_err-added-clause-open g c clean trusted = IfOk-from_err c.from_residual-in_err-added.result _ c.from_residual-in_err-added.ensures.0
-
-pub returns-in_err-added-clause-on : goal.returns-in_err-added-clause-on
-returns-in_err-added-clause-on g c trusted = IfOk-from_err c.from_residual-in_err-added.result _ c.from_residual-in_err-added.ensures.0
-
 pub returns-in_err-added-clause-ordered : goal.returns-in_err-added-clause-ordered
 returns-in_err-added-clause-ordered g c = IfOk-from_err c.from_residual-in_err-added.result _ c.from_residual-in_err-added.ensures.0
 
@@ -78,20 +53,14 @@ returns-in_err-added-clause-texts g c = IfOk-from_err c.from_residual-in_err-add
 pub returns-in_err-added-clause-done : goal.returns-in_err-added-clause-done
 returns-in_err-added-clause-done g c trusted = IfOk-from_err c.from_residual-in_err-added.result _ c.from_residual-in_err-added.ensures.0
 
-pub returns-in_err-set_rows-clause-lasts : goal.returns-in_err-set_rows-clause-lasts
-returns-in_err-set_rows-clause-lasts g c = lasts_then _ _ _ c.in_ok-set_sources.ensures.steps.lasts c.in_err-set_rows.ensures.steps.lasts
+pub returns-in_err-set_rows-clause-steps : goal.returns-in_err-set_rows-clause-steps
+returns-in_err-set_rows-clause-steps g c = then_within _ c.in_ok-set_sources.ensures.steps (failed_within _ c.from_residual-in_err-set_rows.ensures.0 c.in_err-set_rows.ensures.steps)
 
-pub returns-in_err-change_facts-clause-lasts : goal.returns-in_err-change_facts-clause-lasts
-returns-in_err-change_facts-clause-lasts g c = lasts_then _ _ _ (lasts_then _ _ _ c.in_ok-set_sources.ensures.steps.lasts c.in_ok-set_rows.ensures.steps.lasts) c.in_err-change_facts.ensures.lasts
+pub returns-in_err-change_facts-clause-steps : goal.returns-in_err-change_facts-clause-steps
+returns-in_err-change_facts-clause-steps g c = then_within _ (then_within _ c.in_ok-set_sources.ensures.steps c.in_ok-set_rows.ensures.steps) (failed_within _ c.from_residual-in_err-change_facts.ensures.0 c.in_err-change_facts.ensures.steps)
 
-pub returns-in_err-added-clause-lasts : goal.returns-in_err-added-clause-lasts
-returns-in_err-added-clause-lasts g c = lasts_then _ _ _ (lasts_then _ _ _ (lasts_then _ _ _ c.in_ok-set_sources.ensures.steps.lasts c.in_ok-set_rows.ensures.steps.lasts) c.in_ok-change_facts.ensures.lasts) c.in_err-added.ensures.lasts
+pub returns-in_err-added-clause-steps : goal.returns-in_err-added-clause-steps
+returns-in_err-added-clause-steps g c = then_within _ (then_within _ (then_within _ c.in_ok-set_sources.ensures.steps c.in_ok-set_rows.ensures.steps) c.in_ok-change_facts.ensures.steps) (failed_within _ c.from_residual-in_err-added.ensures.0 c.in_err-added.ensures.steps)
 
-pub returns-clause-lasts : goal.returns-clause-lasts
-returns-clause-lasts g c = lasts_then _ _ _ (lasts_then _ _ _ (lasts_then _ _ _ c.in_ok-set_sources.ensures.steps.lasts c.in_ok-set_rows.ensures.steps.lasts) c.in_ok-change_facts.ensures.lasts) c.in_ok-added.ensures.lasts
-
-pub returns-clause-open : goal.returns-clause-open
-returns-clause-open g c clean trusted = c.in_ok-added.ensures.open clean (c.in_ok-change_facts.ensures.open (clean_before _ _ c.in_ok-added.ensures.lasts clean) (c.in_ok-set_rows.ensures.steps.stays (clean_before _ _ c.in_ok-change_facts.ensures.lasts (clean_before _ _ c.in_ok-added.ensures.lasts clean)) (c.in_ok-set_sources.ensures.steps.stays (clean_before _ _ c.in_ok-set_rows.ensures.steps.lasts (clean_before _ _ c.in_ok-change_facts.ensures.lasts (clean_before _ _ c.in_ok-added.ensures.lasts clean))) trusted)))
-
-pub returns-clause-on : goal.returns-clause-on
-returns-clause-on g c trusted = record { inside = (c.in_ok-added.ensures.on trusted).inside; committed = (c.in_ok-added.ensures.on trusted).committed ∙ (c.in_ok-change_facts.ensures.on (c.in_ok-added.ensures.before trusted)).committed ∙ (c.in_ok-set_rows.ensures.steps.on (c.in_ok-change_facts.ensures.before (c.in_ok-added.ensures.before trusted))).committed ∙ (c.in_ok-set_sources.ensures.steps.on (c.in_ok-set_rows.ensures.steps.before (c.in_ok-change_facts.ensures.before (c.in_ok-added.ensures.before trusted)))).committed }
+pub returns-clause-steps : goal.returns-clause-steps
+returns-clause-steps g c = then_within _ (then_within _ (then_within _ c.in_ok-set_sources.ensures.steps c.in_ok-set_rows.ensures.steps) c.in_ok-change_facts.ensures.steps) (kept_within _ c.in_ok-added.ensures.steps)

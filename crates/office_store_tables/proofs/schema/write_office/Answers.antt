@@ -1,9 +1,20 @@
 use Rattle.sqlite.specs.Held.{state}
-use Rattle.office_store_tables.proofs.CreateLemmas.{blank}
+use Rattle.office_store_tables.proofs.CreateLemmas.{blank, built_within}
+use Rattle.office_store_testing_tables.proofs.WithinLemmas.{failed_within, then_within}
 use Rattle.office_store_tables.proofs.schema.write_office.Goals as goal
 
 pub returns-clause-blank : goal.returns-clause-blank
 returns-clause-blank g c trusted =
     blank (state g.S.Store c.args.tx.now.conn.now) (state g.S.Store c.create_all.new.tx.conn.now) (state g.S.Store c.add_office.new.tx.conn.now).now.trees
     (record { schema = 2; setup = c.args.setup.now; finished = 0 })
-    (c.in_ok-_made.ensures.made (c.in_ok-added.ensures.before trusted)) (c.in_ok-added.ensures.added trusted)
+    (c.in_ok-_made.ensures.made (c.in_ok-added.ensures.steps.before trusted)) (c.in_ok-added.ensures.added trusted)
+
+pub returns-clause-steps : goal.returns-clause-steps
+returns-clause-steps g c =
+    let made = c.in_ok-_made.ensures in
+    then_within _ (built_within made.same_reference made.before made.lasts made.open made.made) c.in_ok-added.ensures.steps
+
+pub returns-in_err-added-clause-steps : goal.returns-in_err-added-clause-steps
+returns-in_err-added-clause-steps g c =
+    let made = c.in_ok-_made.ensures in
+    then_within _ (built_within made.same_reference made.before made.lasts made.open made.made) (failed_within _ c.from_residual-in_err-added.ensures.0 c.in_err-added.ensures.steps)

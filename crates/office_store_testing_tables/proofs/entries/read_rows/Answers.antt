@@ -1,14 +1,14 @@
-use Rattle.std.proofs.Common.{◌≡◌, map, take, Some, sym, subst, ◌∙◌}
+use Rattle.std.proofs.Common.{◌≡◌, map, take, Some, sym, subst}
 use Rattle.std.proofs.lemmas.Result.{IfOk-from_err}
 use Rattle.sqlite.specs.Effect.{Database}
 use Rattle.sqlite.specs.Held.{state}
 use Rattle.office_store_testing_tables.specs.Tables.{kept_rows}
 use Rattle.office_store_testing_tables.specs.TableContent.{row_of}
-use Rattle.office_store_testing_tables.proofs.StateLemmas.{lasts_then, clean_before}
 use Rattle.office_store_testing_tables.proofs.Passed.{passed, no_none}
 use Rattle.office_store_testing_tables.proofs.EntryLists.{read_more, each_pushed}
 use Rattle.testing_rules_model.specs.declared.suite.RowIn.{RowIn}
 use Rattle.office_store_keeper.specs.Provenance.{IsArchPlace}
+use Rattle.office_store_testing_tables.proofs.ReadingLemmas.{kept_read, failed_read, then_read}
 use Rattle.office_store_testing_tables.proofs.entries.read_rows.Goals as goal
 
 pub rows-preserved : goal.rows-preserved
@@ -18,16 +18,13 @@ rows-preserved g c =
     let read = λ (d : Database). row_of c.args.setup.now (kept_rows (d.trees 1)) in
     let new = state g.S.Store c.row_at.new.conn in
     record {
-      before = λ trusted. invariant.before (ensures.before trusted);
-      lasts = lasts_then _ _ _ invariant.lasts ensures.lasts;
-      still = λ clean trusted. ensures.open clean (invariant.still (clean_before _ _ ensures.lasts clean) trusted);
-      same = λ trusted. record { ours = (ensures.same trusted).ours; now = (ensures.same trusted).now ∙ (invariant.same (ensures.before trusted)).now };
+      reads = then_read _ invariant.reads (kept_read _ ensures.reads);
       last = λ trusted. ensures.held trusted;
       known = each_pushed (λ (r : RowIn). IsArchPlace c.args.setup.now.archs r.arch) c.rows.given.items c.push.new.self.items c.in_ok-one.one c.in_ok-push.ensures.items invariant.known ensures.known;
       block = λ trusted. ensures.block trusted;
       so_far = λ trusted.
           read_more (read new.now) c.args.rows.now c.rows.row-index c.row-item.result c.in_ok-one.one c.rows.given.items c.push.new.self.items c.rows-test.true c.row-item.is
-          (subst (λ (d : Database). map (read d) (take c.rows.row-index c.args.rows.now) ≡ map Some c.rows.given.items) (sym (ensures.same trusted).now) (invariant.so_far (ensures.before trusted)))
+          (subst (λ (d : Database). map (read d) (take c.rows.row-index c.args.rows.now) ≡ map Some c.rows.given.items) (sym (ensures.reads.same trusted).now) (invariant.so_far (ensures.reads.before trusted)))
           (ensures.ok trusted) c.in_ok-push.ensures.items;
     }
 
@@ -37,29 +34,11 @@ returns-in_err-one-clause-bad g c trusted bad reads =
     let fault = passed c.from_residual.result c.in_err-one.field-0.0 _ bad c.from_residual.ensures.1 in
     no_none (c.in_err-one.ensures.bad trusted fault each.0) each.1
 
-pub returns-in_err-one-clause-lasts : goal.returns-in_err-one-clause-lasts
-returns-in_err-one-clause-lasts g c = lasts_then _ _ _ c.rows.invariant.lasts c.in_err-one.ensures.lasts
-
-pub returns-in_err-one-clause-open : goal.returns-in_err-one-clause-open
-returns-in_err-one-clause-open g c clean trusted = IfOk-from_err c.from_residual.result _ c.from_residual.ensures.0
-
-pub returns-in_err-one-clause-same : goal.returns-in_err-one-clause-same
-returns-in_err-one-clause-same g c trusted = record { ours = (c.in_err-one.ensures.same trusted).ours; now = (c.in_err-one.ensures.same trusted).now ∙ (c.rows.invariant.same (c.in_err-one.ensures.before trusted)).now }
-
 pub returns-in_err-one-clause-ok : goal.returns-in_err-one-clause-ok
 returns-in_err-one-clause-ok g c trusted = IfOk-from_err c.from_residual.result _ c.from_residual.ensures.0
 
 pub returns-in_err-one-clause-known : goal.returns-in_err-one-clause-known
 returns-in_err-one-clause-known g c = IfOk-from_err c.from_residual.result _ c.from_residual.ensures.0
-
-pub returns-in_err-push-clause-lasts : goal.returns-in_err-push-clause-lasts
-returns-in_err-push-clause-lasts g c = lasts_then _ _ _ c.rows.invariant.lasts c.in_ok-one.ensures.lasts
-
-pub returns-in_err-push-clause-open : goal.returns-in_err-push-clause-open
-returns-in_err-push-clause-open g c clean trusted = IfOk-from_err c.from_residual-in_err-push.result _ c.from_residual-in_err-push.ensures.0
-
-pub returns-in_err-push-clause-same : goal.returns-in_err-push-clause-same
-returns-in_err-push-clause-same g c trusted = record { ours = (c.in_ok-one.ensures.same trusted).ours; now = (c.in_ok-one.ensures.same trusted).now ∙ (c.rows.invariant.same (c.in_ok-one.ensures.before trusted)).now }
 
 pub returns-in_err-push-clause-ok : goal.returns-in_err-push-clause-ok
 returns-in_err-push-clause-ok g c trusted = IfOk-from_err c.from_residual-in_err-push.result _ c.from_residual-in_err-push.ensures.0
@@ -67,11 +46,11 @@ returns-in_err-push-clause-ok g c trusted = IfOk-from_err c.from_residual-in_err
 pub returns-in_err-push-clause-known : goal.returns-in_err-push-clause-known
 returns-in_err-push-clause-known g c = IfOk-from_err c.from_residual-in_err-push.result _ c.from_residual-in_err-push.ensures.0
 
-pub returns-clause-lasts : goal.returns-clause-lasts
-returns-clause-lasts g c = c.rows.invariant.lasts
+pub returns-in_err-one-clause-reads : goal.returns-in_err-one-clause-reads
+returns-in_err-one-clause-reads g c = then_read _ c.rows.invariant.reads (failed_read _ c.from_residual.ensures.0 c.in_err-one.ensures.reads)
 
-pub returns-clause-open : goal.returns-clause-open
-returns-clause-open g c clean trusted = c.rows.invariant.still clean trusted
+pub returns-in_err-push-clause-reads : goal.returns-in_err-push-clause-reads
+returns-in_err-push-clause-reads g c = then_read _ c.rows.invariant.reads (kept_read _ c.in_ok-one.ensures.reads)
 
-pub returns-clause-same : goal.returns-clause-same
-returns-clause-same g c trusted = c.rows.invariant.same trusted
+pub returns-clause-reads : goal.returns-clause-reads
+returns-clause-reads g c = kept_read _ c.rows.invariant.reads

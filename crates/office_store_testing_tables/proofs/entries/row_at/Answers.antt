@@ -6,6 +6,7 @@ use Rattle.office_store_testing_tables.specs.TableSteps.{IsCrowded}
 use Rattle.office_store_testing_tables.specs.Nearby.{read_binary}
 use Rattle.office_store_testing_tables.proofs.Passed.{passed}
 use Rattle.office_store_testing_tables.proofs.EntryReads.{row_none, row_missing, row_by_last, row_known}
+use Rattle.office_store_testing_tables.proofs.ReadingLemmas.{none_read}
 use Rattle.office_store_testing_tables.proofs.entries.row_at.Goals as goal
 
 pub returns-in_err-entry-clause-bad : goal.returns-in_err-entry-clause-bad
@@ -36,9 +37,6 @@ returns-in-None-clause-bad g c trusted bad shown =
     inr (row_by_last c.args.setup.now (kept_rows ((state g.S.Store c.read_once.new.conn).now.trees 1)) c.args.row.now e.arch e.name.now e.sender e.number e.place c.read_once.new.last c.in_ok-entry.ensures.ok c.in_ok-read_once.ensures.place (c.in_ok-read_once.ensures.held trusted)
     ∙ sym (rw c.archs.ensures.same at c.in_ok-given.ensures.named) ∙ c.in-None.is)
 
-pub returns-in_err-entry-clause-open : goal.returns-in_err-entry-clause-open
-returns-in_err-entry-clause-open g c clean trusted = IfOk-from_err c.from_residual.result _ c.from_residual.ensures.0
-
 pub returns-in_err-entry-clause-block : goal.returns-in_err-entry-clause-block
 returns-in_err-entry-clause-block g c trusted = IfOk-from_err c.from_residual.result _ c.from_residual.ensures.0
 
@@ -50,9 +48,6 @@ returns-in_err-entry-clause-ok g c trusted = IfOk-from_err c.from_residual.resul
 
 pub returns-in_err-entry-clause-held : goal.returns-in_err-entry-clause-held
 returns-in_err-entry-clause-held g c trusted = IfOk-from_err c.from_residual.result _ c.from_residual.ensures.0
-
-pub returns-in_err-read_once-clause-open : goal.returns-in_err-read_once-clause-open
-returns-in_err-read_once-clause-open g c clean trusted = IfOk-from_err c.from_residual-in_err-read_once.result _ c.from_residual-in_err-read_once.ensures.0
 
 pub returns-in_err-read_once-clause-block : goal.returns-in_err-read_once-clause-block
 returns-in_err-read_once-clause-block g c trusted = IfOk-from_err c.from_residual-in_err-read_once.result _ c.from_residual-in_err-read_once.ensures.0
@@ -66,9 +61,6 @@ returns-in_err-read_once-clause-ok g c trusted = IfOk-from_err c.from_residual-i
 pub returns-in_err-read_once-clause-held : goal.returns-in_err-read_once-clause-held
 returns-in_err-read_once-clause-held g c trusted = IfOk-from_err c.from_residual-in_err-read_once.result _ c.from_residual-in_err-read_once.ensures.0
 
-pub returns-in_err-given-clause-open : goal.returns-in_err-given-clause-open
-returns-in_err-given-clause-open g c clean trusted = IfOk-from_err c.from_residual-in_err-given.result _ c.from_residual-in_err-given.ensures.0
-
 pub returns-in_err-given-clause-block : goal.returns-in_err-given-clause-block
 returns-in_err-given-clause-block g c trusted = IfOk-from_err c.from_residual-in_err-given.result _ c.from_residual-in_err-given.ensures.0
 
@@ -80,3 +72,6 @@ returns-in_err-given-clause-ok g c trusted = IfOk-from_err c.from_residual-in_er
 
 pub returns-in_err-given-clause-held : goal.returns-in_err-given-clause-held
 returns-in_err-given-clause-held g c trusted = IfOk-from_err c.from_residual-in_err-given.result _ c.from_residual-in_err-given.ensures.0
+
+pub returns-in_err-entry-clause-reads : goal.returns-in_err-entry-clause-reads
+returns-in_err-entry-clause-reads g c = none_read _ _ c.requires.ours

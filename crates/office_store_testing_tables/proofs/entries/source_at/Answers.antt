@@ -5,6 +5,7 @@ use Rattle.office_store_testing_tables.specs.Tables.{kept_rows}
 use Rattle.office_store_testing_tables.specs.TableSteps.{IsCrowded}
 use Rattle.office_store_testing_tables.proofs.EntryReads.{source_none, source_by_parts, source_missing}
 use Rattle.office_store_testing_tables.proofs.Passed.{passed}
+use Rattle.office_store_testing_tables.proofs.ReadingLemmas.{none_read}
 use Rattle.office_store_testing_tables.proofs.entries.source_at.Goals as goal
 
 pub returns-in_err-name-clause-bad : goal.returns-in_err-name-clause-bad
@@ -25,20 +26,17 @@ returns-in-None-clause-bad g c trusted bad shown =
     inr (source_by_parts c.args.setup.now (kept_rows ((state g.S.Store c.message_near.new.conn).now.trees 1)) c.args.row.now c.in_ok-name.name.now c.in_ok-name.sender c.in_ok-name.number (Some c.in_ok-message.message) c.in_ok-name.ensures.ok (c.in_ok-message.ensures.ok trusted)
     ∙ sym c.in-None.ensures)
 
-pub returns-in_err-name-clause-open : goal.returns-in_err-name-clause-open
-returns-in_err-name-clause-open g c clean trusted = IfOk-from_err c.from_residual.result _ c.from_residual.ensures.0
-
 pub returns-in_err-name-clause-block : goal.returns-in_err-name-clause-block
 returns-in_err-name-clause-block g c trusted = IfOk-from_err c.from_residual.result _ c.from_residual.ensures.0
 
 pub returns-in_err-name-clause-ok : goal.returns-in_err-name-clause-ok
 returns-in_err-name-clause-ok g c trusted = IfOk-from_err c.from_residual.result _ c.from_residual.ensures.0
 
-pub returns-in_err-message-clause-open : goal.returns-in_err-message-clause-open
-returns-in_err-message-clause-open g c clean trusted = IfOk-from_err c.from_residual-in_err-message.result _ c.from_residual-in_err-message.ensures.0
-
 pub returns-in_err-message-clause-block : goal.returns-in_err-message-clause-block
 returns-in_err-message-clause-block g c trusted = IfOk-from_err c.from_residual-in_err-message.result _ c.from_residual-in_err-message.ensures.0
 
 pub returns-in_err-message-clause-ok : goal.returns-in_err-message-clause-ok
 returns-in_err-message-clause-ok g c trusted = IfOk-from_err c.from_residual-in_err-message.result _ c.from_residual-in_err-message.ensures.0
+
+pub returns-in_err-name-clause-reads : goal.returns-in_err-name-clause-reads
+returns-in_err-name-clause-reads g c = none_read _ _ c.requires.ours

@@ -11,12 +11,12 @@ use Rattle.office_store_testing_tables.specs.EntrySteps.{source_columns, entry_c
 use Rattle.office_store_testing_tables.specs.TableContent.{source_of, row_of, ReadsEach}
 use Rattle.testing_rules_model.specs.declared.suite.RowIn.{RowIn}
 use Rattle.office_store_keeper.specs.Provenance.{IsArchPlace}
-use Rattle.office_store_testing_tables.proofs.StateLemmas.{lasts_then}
 use Rattle.office_store_testing_tables.proofs.EntryLists.{reordered}
 use Rattle.office_store_testing_tables.proofs.EntryValues.{gathered_on, known_on}
 use Rattle.office_store_testing_tables.proofs.NamedReads.{sources_read, sources_put, rows_read, rows_put}
 use Rattle.office_store_testing_tables.proofs.Passed.{passed}
 use Rattle.office_store_testing_tables.proofs.Whole.{not_crowded}
+use Rattle.office_store_testing_tables.proofs.ReadingLemmas.{kept_read, failed_read, then_read}
 use Rattle.office_store_testing_tables.proofs.entries.testing.Goals as goal
 
 pub returns-clause-known : goal.returns-clause-known
@@ -28,16 +28,16 @@ returns-clause-known g c =
 
 pub returns-clause-value : goal.returns-clause-value
 returns-clause-value g c fourth =
-    let third = c.in_ok-given.ensures.before fourth in
-    let second = c.in_ok-found.ensures.before third in
-    let first = c.in_ok-read.ensures.before second in
+    let third = c.in_ok-given.ensures.reads.before fourth in
+    let second = c.in_ok-found.ensures.reads.before third in
+    let first = c.in_ok-read.ensures.reads.before second in
     let one = state g.S.Store c.source_rows.new.conn in
     let two = state g.S.Store c.sources_at.new.conn in
     let three = state g.S.Store c.entry_rows.new.conn in
     let four = state g.S.Store c.rows_at.new.conn in
-    let b : two.now ≡ one.now = (c.in_ok-read.ensures.same second).now in
-    let d : three.now ≡ two.now = (c.in_ok-found.ensures.same third).now in
-    let e : four.now ≡ three.now = (c.in_ok-given.ensures.same fourth).now in
+    let b : two.now ≡ one.now = (c.in_ok-read.ensures.reads.same second).now in
+    let d : three.now ≡ two.now = (c.in_ok-found.ensures.reads.same third).now in
+    let e : four.now ≡ three.now = (c.in_ok-given.ensures.reads.same fourth).now in
     let uploads = c.by_message-uploads.result.items in
     let named = subst (λ (x : Database). IsPermutation (map source_columns (x.trees 4)) uploads) (sym (e ∙ d ∙ b)) (IsPermutation-trans (map source_columns (one.now.trees 4)) c.in_ok-named.named.items uploads (c.in_ok-named.ensures.rows first) c.by_message-uploads.ensures) in
     let said = subst (λ (x : Database). map (source_of c.args.setup.now (kept_rows (x.trees 1))) uploads ≡ map Some c.in_ok-read.read.items) (sym (e ∙ d)) (rw c.as_slice.ensures.value at (c.in_ok-read.ensures.ok second)) in
@@ -57,7 +57,7 @@ returns-in_err-read-clause-bad g c second whole named bad =
     let two = state g.S.Store c.sources_at.new.conn in
     let setup = c.args.setup.now in
     let uploads = c.by_message-uploads.result.items in
-    let shown = subst (λ (d : Database). IsPermutation (map source_columns (d.trees 4)) uploads) (sym (ensures.same second).now) (IsPermutation-trans (map source_columns (one.now.trees 4)) c.in_ok-named.named.items uploads (c.in_ok-named.ensures.rows (ensures.before second)) c.by_message-uploads.ensures) in
+    let shown = subst (λ (d : Database). IsPermutation (map source_columns (d.trees 4)) uploads) (sym (ensures.reads.same second).now) (IsPermutation-trans (map source_columns (one.now.trees 4)) c.in_ok-named.named.items uploads (c.in_ok-named.ensures.rows (ensures.reads.before second)) c.by_message-uploads.ensures) in
     let reads = sources_read setup (kept_rows (two.now.trees 1)) (two.now.trees 4) uploads shown named.sources named.source in
     not_crowded (two.now.trees 1) whole (ensures.bad second (passed c.from_residual-in_err-read.result c.in_err-read.field-0.0 _ bad c.from_residual-in_err-read.ensures.1)
     (subst (λ (rows : List Row). ReadsEach source_columns (source_of setup (kept_rows (two.now.trees 1))) rows) (sym c.as_slice.ensures.value) reads))
@@ -68,24 +68,24 @@ returns-in_err-given-clause-bad g c fourth whole named bad =
     let three = state g.S.Store c.entry_rows.new.conn in
     let four = state g.S.Store c.rows_at.new.conn in
     let setup = c.args.setup.now in
-    let shown = subst (λ (d : Database). IsPermutation (map entry_columns (d.trees 6)) c.by_message-listed.result.items) (sym (ensures.same fourth).now) (IsPermutation-trans (map entry_columns (three.now.trees 6)) c.in_ok-found.found.items c.by_message-listed.result.items (c.in_ok-found.ensures.rows (ensures.before fourth)) c.by_message-listed.ensures) in
+    let shown = subst (λ (d : Database). IsPermutation (map entry_columns (d.trees 6)) c.by_message-listed.result.items) (sym (ensures.reads.same fourth).now) (IsPermutation-trans (map entry_columns (three.now.trees 6)) c.in_ok-found.found.items c.by_message-listed.result.items (c.in_ok-found.ensures.rows (ensures.reads.before fourth)) c.by_message-listed.ensures) in
     let reads = rows_read setup (kept_rows (four.now.trees 1)) (four.now.trees 6) c.by_message-listed.result.items shown named.rows named.row in
     not_crowded (four.now.trees 1) whole (ensures.bad fourth (passed c.from_residual-in_err-given.result c.in_err-given.field-0.0 _ bad c.from_residual-in_err-given.ensures.1)
     (subst (λ (rows : List Row). ReadsEach entry_columns (row_of setup (kept_rows (four.now.trees 1))) rows) (sym c.as_slice-2.ensures.value) reads))
 
 pub returns-clause-bad : goal.returns-clause-bad
 returns-clause-bad g c fourth whole named bad =
-    let third = c.in_ok-given.ensures.before fourth in
-    let second = c.in_ok-found.ensures.before third in
-    let first = c.in_ok-read.ensures.before second in
+    let third = c.in_ok-given.ensures.reads.before fourth in
+    let second = c.in_ok-found.ensures.reads.before third in
+    let first = c.in_ok-read.ensures.reads.before second in
     let one = state g.S.Store c.source_rows.new.conn in
     let two = state g.S.Store c.sources_at.new.conn in
     let three = state g.S.Store c.entry_rows.new.conn in
     let four = state g.S.Store c.rows_at.new.conn in
     let setup = c.args.setup.now in
-    let b : two.now ≡ one.now = (c.in_ok-read.ensures.same second).now in
-    let d : three.now ≡ two.now = (c.in_ok-found.ensures.same third).now in
-    let e : four.now ≡ three.now = (c.in_ok-given.ensures.same fourth).now in
+    let b : two.now ≡ one.now = (c.in_ok-read.ensures.reads.same second).now in
+    let d : three.now ≡ two.now = (c.in_ok-found.ensures.reads.same third).now in
+    let e : four.now ≡ three.now = (c.in_ok-given.ensures.reads.same fourth).now in
     let uploads = c.by_message-uploads.result.items in
     let shown = subst (λ (x : Database). IsPermutation (map source_columns (x.trees 4)) uploads) (sym (e ∙ d ∙ b)) (IsPermutation-trans (map source_columns (one.now.trees 4)) c.in_ok-named.named.items uploads (c.in_ok-named.ensures.rows first) c.by_message-uploads.ensures) in
     let said = subst (λ (x : Database). map (source_of setup (kept_rows (x.trees 1))) uploads ≡ map Some c.in_ok-read.read.items) (sym (e ∙ d)) (rw c.as_slice.ensures.value at (c.in_ok-read.ensures.ok second)) in
@@ -95,23 +95,11 @@ returns-clause-bad g c fourth whole named bad =
     c.gathered.ensures.bad bad (sources_put setup (kept_rows (four.now.trees 1)) (four.now.trees 4) sources.rows (IsPermutation-trans (map source_columns (four.now.trees 4)) uploads sources.rows shown sources.same) named.sources c.by_name-sources.result.items sources.reads)
     (rows_put setup (kept_rows (four.now.trees 1)) (four.now.trees 6) put.rows rows named.rows c.by_key-rows.result.items put.reads)
 
-pub returns-in_err-named-clause-open : goal.returns-in_err-named-clause-open
-returns-in_err-named-clause-open g c clean trusted = IfOk-from_err c.from_residual.result _ c.from_residual.ensures.0
-
 pub returns-in_err-named-clause-known : goal.returns-in_err-named-clause-known
 returns-in_err-named-clause-known g c = IfOk-from_err c.from_residual.result _ c.from_residual.ensures.0
 
 pub returns-in_err-named-clause-value : goal.returns-in_err-named-clause-value
 returns-in_err-named-clause-value g c trusted = IfOk-from_err c.from_residual.result _ c.from_residual.ensures.0
-
-pub returns-in_err-read-clause-lasts : goal.returns-in_err-read-clause-lasts
-returns-in_err-read-clause-lasts g c = lasts_then _ _ _ c.in_ok-named.ensures.lasts c.in_err-read.ensures.lasts
-
-pub returns-in_err-read-clause-same : goal.returns-in_err-read-clause-same
-returns-in_err-read-clause-same g c trusted = record { ours = (c.in_err-read.ensures.same trusted).ours; now = (c.in_err-read.ensures.same trusted).now ∙ (c.in_ok-named.ensures.same (c.in_err-read.ensures.before trusted)).now }
-
-pub returns-in_err-read-clause-open : goal.returns-in_err-read-clause-open
-returns-in_err-read-clause-open g c clean trusted = IfOk-from_err c.from_residual-in_err-read.result _ c.from_residual-in_err-read.ensures.0
 
 pub returns-in_err-read-clause-known : goal.returns-in_err-read-clause-known
 returns-in_err-read-clause-known g c = IfOk-from_err c.from_residual-in_err-read.result _ c.from_residual-in_err-read.ensures.0
@@ -119,29 +107,11 @@ returns-in_err-read-clause-known g c = IfOk-from_err c.from_residual-in_err-read
 pub returns-in_err-read-clause-value : goal.returns-in_err-read-clause-value
 returns-in_err-read-clause-value g c trusted = IfOk-from_err c.from_residual-in_err-read.result _ c.from_residual-in_err-read.ensures.0
 
-pub returns-in_err-found-clause-lasts : goal.returns-in_err-found-clause-lasts
-returns-in_err-found-clause-lasts g c = lasts_then _ _ _ (lasts_then _ _ _ c.in_ok-named.ensures.lasts c.in_ok-read.ensures.lasts) c.in_err-found.ensures.lasts
-
-pub returns-in_err-found-clause-same : goal.returns-in_err-found-clause-same
-returns-in_err-found-clause-same g c trusted = record { ours = (c.in_err-found.ensures.same trusted).ours; now = (c.in_err-found.ensures.same trusted).now ∙ (c.in_ok-read.ensures.same (c.in_err-found.ensures.before trusted)).now ∙ (c.in_ok-named.ensures.same (c.in_ok-read.ensures.before (c.in_err-found.ensures.before trusted))).now }
-
-pub returns-in_err-found-clause-open : goal.returns-in_err-found-clause-open
-returns-in_err-found-clause-open g c clean trusted = IfOk-from_err c.from_residual-in_err-found.result _ c.from_residual-in_err-found.ensures.0
-
 pub returns-in_err-found-clause-known : goal.returns-in_err-found-clause-known
 returns-in_err-found-clause-known g c = IfOk-from_err c.from_residual-in_err-found.result _ c.from_residual-in_err-found.ensures.0
 
 pub returns-in_err-found-clause-value : goal.returns-in_err-found-clause-value
 returns-in_err-found-clause-value g c trusted = IfOk-from_err c.from_residual-in_err-found.result _ c.from_residual-in_err-found.ensures.0
-
-pub returns-in_err-given-clause-lasts : goal.returns-in_err-given-clause-lasts
-returns-in_err-given-clause-lasts g c = lasts_then _ _ _ (lasts_then _ _ _ (lasts_then _ _ _ c.in_ok-named.ensures.lasts c.in_ok-read.ensures.lasts) c.in_ok-found.ensures.lasts) c.in_err-given.ensures.lasts
-
-pub returns-in_err-given-clause-same : goal.returns-in_err-given-clause-same
-returns-in_err-given-clause-same g c trusted = record { ours = (c.in_err-given.ensures.same trusted).ours; now = (c.in_err-given.ensures.same trusted).now ∙ (c.in_ok-found.ensures.same (c.in_err-given.ensures.before trusted)).now ∙ (c.in_ok-read.ensures.same (c.in_ok-found.ensures.before (c.in_err-given.ensures.before trusted))).now ∙ (c.in_ok-named.ensures.same (c.in_ok-read.ensures.before (c.in_ok-found.ensures.before (c.in_err-given.ensures.before trusted)))).now }
-
-pub returns-in_err-given-clause-open : goal.returns-in_err-given-clause-open
-returns-in_err-given-clause-open g c clean trusted = IfOk-from_err c.from_residual-in_err-given.result _ c.from_residual-in_err-given.ensures.0
 
 pub returns-in_err-given-clause-known : goal.returns-in_err-given-clause-known
 returns-in_err-given-clause-known g c = IfOk-from_err c.from_residual-in_err-given.result _ c.from_residual-in_err-given.ensures.0
@@ -149,8 +119,14 @@ returns-in_err-given-clause-known g c = IfOk-from_err c.from_residual-in_err-giv
 pub returns-in_err-given-clause-value : goal.returns-in_err-given-clause-value
 returns-in_err-given-clause-value g c trusted = IfOk-from_err c.from_residual-in_err-given.result _ c.from_residual-in_err-given.ensures.0
 
-pub returns-clause-lasts : goal.returns-clause-lasts
-returns-clause-lasts g c = lasts_then _ _ _ (lasts_then _ _ _ (lasts_then _ _ _ c.in_ok-named.ensures.lasts c.in_ok-read.ensures.lasts) c.in_ok-found.ensures.lasts) c.in_ok-given.ensures.lasts
+pub returns-in_err-read-clause-reads : goal.returns-in_err-read-clause-reads
+returns-in_err-read-clause-reads g c = then_read _ c.in_ok-named.ensures.reads (failed_read _ c.from_residual-in_err-read.ensures.0 c.in_err-read.ensures.reads)
 
-pub returns-clause-same : goal.returns-clause-same
-returns-clause-same g c trusted = record { ours = (c.in_ok-given.ensures.same trusted).ours; now = (c.in_ok-given.ensures.same trusted).now ∙ (c.in_ok-found.ensures.same (c.in_ok-given.ensures.before trusted)).now ∙ (c.in_ok-read.ensures.same (c.in_ok-found.ensures.before (c.in_ok-given.ensures.before trusted))).now ∙ (c.in_ok-named.ensures.same (c.in_ok-read.ensures.before (c.in_ok-found.ensures.before (c.in_ok-given.ensures.before trusted)))).now }
+pub returns-in_err-found-clause-reads : goal.returns-in_err-found-clause-reads
+returns-in_err-found-clause-reads g c = then_read _ (then_read _ c.in_ok-named.ensures.reads c.in_ok-read.ensures.reads) (failed_read _ c.from_residual-in_err-found.ensures.0 c.in_err-found.ensures.reads)
+
+pub returns-in_err-given-clause-reads : goal.returns-in_err-given-clause-reads
+returns-in_err-given-clause-reads g c = then_read _ (then_read _ (then_read _ c.in_ok-named.ensures.reads c.in_ok-read.ensures.reads) c.in_ok-found.ensures.reads) (failed_read _ c.from_residual-in_err-given.ensures.0 c.in_err-given.ensures.reads)
+
+pub returns-clause-reads : goal.returns-clause-reads
+returns-clause-reads g c = then_read _ (then_read _ (then_read _ c.in_ok-named.ensures.reads c.in_ok-read.ensures.reads) c.in_ok-found.ensures.reads) (kept_read _ c.in_ok-given.ensures.reads)

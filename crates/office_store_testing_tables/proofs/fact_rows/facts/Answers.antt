@@ -4,13 +4,13 @@ use Rattle.std.specs.List.Sorted.{IsPermutation}
 use Rattle.sqlite.specs.Order.{Row}
 use Rattle.sqlite.specs.Effect.{Database}
 use Rattle.sqlite.specs.Held.{state}
-use Rattle.office_store_testing_tables.proofs.StateLemmas.{lasts_then, clean_before}
 use Rattle.office_store_keeper.specs.FactSet.{rows_in}
 use Rattle.office_store_testing_tables.specs.TableContent.{ReadsEach, release_place}
 use Rattle.office_store_testing_tables.specs.FactTables.{fact_in}
 use Rattle.office_store_testing_tables.specs.FactSteps.{fact_columns, IsOnlyDelays}
 use Rattle.office_store_testing_tables.proofs.FactReads.{facts_read, facts_are, delays_shown_one}
 use Rattle.office_store_testing_tables.proofs.Passed.{passed}
+use Rattle.office_store_testing_tables.proofs.ReadingLemmas.{kept_read, failed_read, then_read}
 use Rattle.office_store_testing_tables.proofs.fact_rows.facts.Goals as goal
 
 pub returns-clause-value : goal.returns-clause-value
@@ -18,8 +18,8 @@ returns-clause-value g c trusted =
     let one = state g.S.Store c.fact_rows.new.conn in
     let two = state g.S.Store c.delays_rows.new.conn in
     let release = release_place c.args.setup.now in
-    let still : two.now ≡ one.now = (c.in_ok-last.ensures.same trusted).now in
-    let shown = subst (λ (d : Database). IsPermutation (map fact_columns (d.trees 8)) c.in_ok-shown.shown.items) (sym still) (c.in_ok-shown.ensures.rows (c.in_ok-last.ensures.before trusted)) in
+    let still : two.now ≡ one.now = (c.in_ok-last.ensures.reads.same trusted).now in
+    let shown = subst (λ (d : Database). IsPermutation (map fact_columns (d.trees 8)) c.in_ok-shown.shown.items) (sym still) (c.in_ok-shown.ensures.rows (c.in_ok-last.ensures.reads.before trusted)) in
     let only = subst (λ n. IsOnlyDelays n c.in_ok-delays.delays c.in_ok-last.last.items) c.release_place-release.ensures (rw c.as_slice-2.ensures.value at c.in_ok-delays.ensures.ok) in
     c.in_ok-rows.ensures ∙ ap rows_in (facts_are release (two.now.trees 8) (two.now.trees 10) c.in_ok-shown.shown.items c.in_ok-last.last.items c.in_ok-facts.facts.items c.in_ok-delays.delays
     shown (c.in_ok-last.ensures.rows trusted) (rw c.as_slice.ensures.value at c.in_ok-facts.ensures.ok) only)
@@ -36,59 +36,29 @@ returns-in_err-delays-clause-bad g c trusted read bad =
     let fault = passed c.from_residual-in_err-delays.result c.in_err-delays.field-0.0 _ bad c.from_residual-in_err-delays.ensures.1 in
     delays_shown_one (release_place c.args.setup.now) (two.now.trees 8) (two.now.trees 10) c.in_ok-last.last.items (c.in_ok-last.ensures.rows trusted) read (rw c.as_slice-2.ensures.value at (c.in_err-delays.ensures.none fault)) (rw c.as_slice-2.ensures.value at (c.in_err-delays.ensures.one fault))
 
-pub returns-in_err-shown-clause-open : goal.returns-in_err-shown-clause-open
-returns-in_err-shown-clause-open g c clean trusted = IfOk-from_err c.from_residual.result _ c.from_residual.ensures.0
-
 pub returns-in_err-shown-clause-value : goal.returns-in_err-shown-clause-value
 returns-in_err-shown-clause-value g c trusted = IfOk-from_err c.from_residual.result _ c.from_residual.ensures.0
-
-pub returns-in_err-facts-clause-open : goal.returns-in_err-facts-clause-open
-returns-in_err-facts-clause-open g c clean trusted = IfOk-from_err c.from_residual-in_err-facts.result _ c.from_residual-in_err-facts.ensures.0
 
 pub returns-in_err-facts-clause-value : goal.returns-in_err-facts-clause-value
 returns-in_err-facts-clause-value g c trusted = IfOk-from_err c.from_residual-in_err-facts.result _ c.from_residual-in_err-facts.ensures.0
 
-pub returns-in_err-last-clause-open : goal.returns-in_err-last-clause-open
-returns-in_err-last-clause-open g c clean trusted = IfOk-from_err c.from_residual-in_err-last.result _ c.from_residual-in_err-last.ensures.0
-
 pub returns-in_err-last-clause-value : goal.returns-in_err-last-clause-value
 returns-in_err-last-clause-value g c trusted = IfOk-from_err c.from_residual-in_err-last.result _ c.from_residual-in_err-last.ensures.0
-
-pub returns-in_err-delays-clause-open : goal.returns-in_err-delays-clause-open
-returns-in_err-delays-clause-open g c clean trusted = IfOk-from_err c.from_residual-in_err-delays.result _ c.from_residual-in_err-delays.ensures.0
 
 pub returns-in_err-delays-clause-value : goal.returns-in_err-delays-clause-value
 returns-in_err-delays-clause-value g c trusted = IfOk-from_err c.from_residual-in_err-delays.result _ c.from_residual-in_err-delays.ensures.0
 
-pub returns-in_err-rows-clause-open : goal.returns-in_err-rows-clause-open
-returns-in_err-rows-clause-open g c clean trusted = IfOk-from_err c.from_residual-in_err-rows.result _ c.from_residual-in_err-rows.ensures.0
-
 pub returns-in_err-rows-clause-value : goal.returns-in_err-rows-clause-value
 returns-in_err-rows-clause-value g c trusted = IfOk-from_err c.from_residual-in_err-rows.result _ c.from_residual-in_err-rows.ensures.0
 
-pub returns-in_err-last-clause-lasts : goal.returns-in_err-last-clause-lasts
-returns-in_err-last-clause-lasts g c = lasts_then _ _ _ c.in_ok-shown.ensures.lasts c.in_err-last.ensures.lasts
+pub returns-in_err-last-clause-reads : goal.returns-in_err-last-clause-reads
+returns-in_err-last-clause-reads g c = then_read _ c.in_ok-shown.ensures.reads (failed_read _ c.from_residual-in_err-last.ensures.0 c.in_err-last.ensures.reads)
 
-pub returns-in_err-last-clause-same : goal.returns-in_err-last-clause-same
-returns-in_err-last-clause-same g c trusted = record { ours = (c.in_err-last.ensures.same trusted).ours; now = (c.in_err-last.ensures.same trusted).now ∙ (c.in_ok-shown.ensures.same (c.in_err-last.ensures.before trusted)).now }
+pub returns-in_err-delays-clause-reads : goal.returns-in_err-delays-clause-reads
+returns-in_err-delays-clause-reads g c = then_read _ c.in_ok-shown.ensures.reads (kept_read _ c.in_ok-last.ensures.reads)
 
-pub returns-in_err-delays-clause-lasts : goal.returns-in_err-delays-clause-lasts
-returns-in_err-delays-clause-lasts g c = lasts_then _ _ _ c.in_ok-shown.ensures.lasts c.in_ok-last.ensures.lasts
+pub returns-in_err-rows-clause-reads : goal.returns-in_err-rows-clause-reads
+returns-in_err-rows-clause-reads g c = then_read _ c.in_ok-shown.ensures.reads (kept_read _ c.in_ok-last.ensures.reads)
 
-pub returns-in_err-delays-clause-same : goal.returns-in_err-delays-clause-same
-returns-in_err-delays-clause-same g c trusted = record { ours = (c.in_ok-last.ensures.same trusted).ours; now = (c.in_ok-last.ensures.same trusted).now ∙ (c.in_ok-shown.ensures.same (c.in_ok-last.ensures.before trusted)).now }
-
-pub returns-in_err-rows-clause-lasts : goal.returns-in_err-rows-clause-lasts
-returns-in_err-rows-clause-lasts g c = lasts_then _ _ _ c.in_ok-shown.ensures.lasts c.in_ok-last.ensures.lasts
-
-pub returns-in_err-rows-clause-same : goal.returns-in_err-rows-clause-same
-returns-in_err-rows-clause-same g c trusted = record { ours = (c.in_ok-last.ensures.same trusted).ours; now = (c.in_ok-last.ensures.same trusted).now ∙ (c.in_ok-shown.ensures.same (c.in_ok-last.ensures.before trusted)).now }
-
-pub returns-clause-lasts : goal.returns-clause-lasts
-returns-clause-lasts g c = lasts_then _ _ _ c.in_ok-shown.ensures.lasts c.in_ok-last.ensures.lasts
-
-pub returns-clause-same : goal.returns-clause-same
-returns-clause-same g c trusted = record { ours = (c.in_ok-last.ensures.same trusted).ours; now = (c.in_ok-last.ensures.same trusted).now ∙ (c.in_ok-shown.ensures.same (c.in_ok-last.ensures.before trusted)).now }
-
-pub returns-clause-open : goal.returns-clause-open
-returns-clause-open g c clean trusted = c.in_ok-last.ensures.open clean (c.in_ok-shown.ensures.open (clean_before _ _ c.in_ok-last.ensures.lasts clean) trusted)
+pub returns-clause-reads : goal.returns-clause-reads
+returns-clause-reads g c = then_read _ c.in_ok-shown.ensures.reads (kept_read _ c.in_ok-last.ensures.reads)

@@ -5,8 +5,5 @@ use Rattle.office_store_testing_tables.proofs.nearby.bring.Goals as goal
 pub returns-clause-block : goal.returns-clause-block
 returns-clause-block g c trusted = letters_own _ _ _ _ _ (c.in_ok-letters.ensures.loaded trusted)
 
-pub returns-in_err-letters-clause-open : goal.returns-in_err-letters-clause-open
-returns-in_err-letters-clause-open g c clean trusted = IfOk-from_err c.from_residual.result _ c.from_residual.ensures.0
-
 pub returns-in_err-letters-clause-block : goal.returns-in_err-letters-clause-block
 returns-in_err-letters-clause-block g c trusted = IfOk-from_err c.from_residual.result _ c.from_residual.ensures.0
