@@ -9,7 +9,7 @@ use Rattle.office_mail.specs.Bag.{header, handed, BeginsHeader, IsCutHeader, IsT
 use Rattle.office_mail.specs.Line.{spelled, IsLine}
 use Rattle.office_mail.specs.Reading.{Reading}
 use Rattle.office_mail.specs.Counts.{most, HasRisen}
-use Rattle.office_mail.specs.BagSteps.{TakesMessage, Stops, ReadFails}
+use Rattle.office_mail.specs.BagSteps.{TakesMessage, Stops, ReadFails, ReadsPieces, CountsEach}
 use Rattle.office_mail.specs.BagReads.{GoesOn, TakesBody, Waits, BreaksOff, IsShort}
 use Rattle.office_mail.specs.declared.bag.BagFault.{BagFault}
 use Rattle.office_mail.specs.declared.bag.BagFault.TheVariants.{BadHeader, Truncated, ReadFault, NoMemory}
@@ -25,14 +25,36 @@ waits_before bs (Some xs) = refl
 counts_on : (a b c calls between after : ℕ) → a ≤ b → b ≤ c → min (calls + (b - a)) most ≤ between → min (between + (c - b)) most ≤ after → min (calls + (c - a)) most ≤ after
 counts_on a b c calls between after h k first second = omega arith
 
+-- ---- how much was read
+
+-- what a read took of the reader
+abbrev pub Piece : Option (List ℕ) → Option (List ℕ) → Type 0
+Piece old new = (bytes : List ℕ) × Consumes old new bytes × (length bytes ≤ 8192)
+
+pub pieces_same : (a b : Reading) → b.unread ≡ a.unread → ReadsPieces a b
+pieces_same a b same = record { bytes = []; came = subst (λ (u : Option (List ℕ)). Consumes a.unread u []) (sym same) (Consumes-nil a.unread); few = omega arith }
+
+pub pieces_twice : (a b c : Reading) → a.reads ≤ b.reads → b.reads ≤ c.reads → ReadsPieces a b → ReadsPieces b c → ReadsPieces a c
+pieces_twice a b c h k first second = record {
+  bytes = first.bytes ++ second.bytes;
+  came = Consumes-trans a.unread b.unread c.unread first.bytes second.bytes first.came second.came;
+  few = omega (arith, length-append first.bytes second.bytes, first.few, second.few);
+}
+
+pub counts_same : (a : Reading) → CountsEach a a
+counts_same a = (omega arith, omega arith, pieces_same a a refl)
+
+pub counts_twice : (a b c : Reading) → CountsEach a b → CountsEach b c → CountsEach a c
+counts_twice a b c h k = (omega (arith, h.0, k.0), counts_on a.reads b.reads c.reads a.calls b.calls c.calls h.0 k.0 h.1 k.1, pieces_twice a b c h.0 k.0 h.2 k.2)
+
 pub goes_on_same : (a : Reading) → GoesOn a a
-goes_on_same a = record { failures = omega arith; counts = (omega arith, omega arith); calls = omega arith; room = omega arith; ended = refl }
+goes_on_same a = record { failures = omega arith; counts = counts_same a; calls = omega arith; room = omega arith; ended = refl }
 
 -- one read more
-pub goes_on_read : (a b : Reading) → b.reads ≡ a.reads + 1 → a.failures ≤ b.failures → b.calls ≤ a.calls + 1 → HasRisen a.calls b.calls → b.room ≤ a.room → b.ended ≡ a.ended → GoesOn a b
-goes_on_read a b one failures calls counts room ended = record {
+pub goes_on_read : (a b : Reading) → b.reads ≡ a.reads + 1 → a.failures ≤ b.failures → b.calls ≤ a.calls + 1 → HasRisen a.calls b.calls → Piece a.unread b.unread → b.room ≤ a.room → b.ended ≡ a.ended → GoesOn a b
+goes_on_read a b one failures calls counts piece room ended = record {
   failures = failures;
-  counts = (omega arith, omega (arith, counts, one));
+  counts = (omega arith, omega (arith, counts, one), record { bytes = piece.0; came = piece.1; few = omega (arith, piece.2, one) });
   calls = omega arith;
   room = room;
   ended = ended;
@@ -43,10 +65,10 @@ pub room_read : (reads len taken waiting : ℕ) → reads ≤ 1_000_000 → (rea
 room_read reads len taken waiting most unmet few = omega (arith, unmet)
 
 -- a byte is handed out
-pub goes_on_byte : (a b : Reading) → b.reads ≡ a.reads → b.failures ≡ a.failures → b.calls ≡ a.calls → b.room ≤ a.room → b.ended ≡ a.ended → GoesOn a b
-goes_on_byte a b reads failures calls room ended = record {
+pub goes_on_byte : (a b : Reading) → b.reads ≡ a.reads → b.failures ≡ a.failures → b.calls ≡ a.calls → b.unread ≡ a.unread → b.room ≤ a.room → b.ended ≡ a.ended → GoesOn a b
+goes_on_byte a b reads failures calls unread room ended = record {
   failures = omega (arith, failures);
-  counts = (omega (arith, reads), omega (arith, reads, calls));
+  counts = (omega (arith, reads), omega (arith, reads, calls), pieces_same a b unread);
   calls = omega (arith, reads, calls);
   room = room;
   ended = ended;
@@ -66,7 +88,7 @@ room_byte room len at = omega arith
 pub goes_on_twice : (a b c : Reading) → GoesOn a b → GoesOn b c → GoesOn a c
 goes_on_twice a b c h k = record {
   failures = omega arith;
-  counts = (omega arith, counts_on a.reads b.reads c.reads a.calls b.calls c.calls h.counts.0 k.counts.0 h.counts.1 k.counts.1);
+  counts = counts_twice a b c h.counts k.counts;
   calls = omega arith;
   room = omega arith;
   ended = k.ended ∙ h.ended;

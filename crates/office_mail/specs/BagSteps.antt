@@ -1,5 +1,5 @@
 -- What a call on a bag took of the bytes, where they are known, and how it stopped.
-use Rattle.std.specs.Prelude.{◌≡◌, ℕ, ◌+◌, ◌-◌, ◌≤◌, ◌⊎◌, min, Option, Some, None, List, true, false}
+use Rattle.std.specs.Prelude.{◌≡◌, ℕ, ◌+◌, ◌-◌, ◌*◌, ◌≤◌, ◌⊎◌, min, Option, Some, None, List, true, false, length}
 use Rattle.std.specs.Io.KnownBytes.{Consumes, IsAtEnd}
 use Rattle.office_mail.specs.Bag.{HasHeader, EndsSo, framed, handed}
 use Rattle.office_mail.specs.Counts.{HasRisen, most}
@@ -34,8 +34,14 @@ abbrev pub ReadFails : Reading → Reading → Type 0
 ReadFails before after =
     HasRisen before.failures after.failures ⊎ ((after.reads ≡ 1_000_000) × (after.met_end ≡ false))
 
--- the bag's reads count on, and each that it counts is a call of the reader: that count rose by as many, up to the
--- greatest count
+-- what was taken of the reader is at most 8,192 bytes for each read that the bag counts
+pub record ReadsPieces (before after : Reading) : Type 0 where
+  pub bytes : List ℕ
+  pub came : Consumes before.unread after.unread bytes
+  pub few : length bytes ≤ 8192 * (after.reads - before.reads)
+
+-- the bag's reads count on; each that it counts is a call of the reader, whose count rose by as many, up to the greatest
+-- count, and took at most 8,192 bytes
 abbrev pub CountsEach : Reading → Reading → Type 0
 CountsEach before after =
-    (before.reads ≤ after.reads) × (min (before.calls + (after.reads - before.reads)) most ≤ after.calls)
+    (before.reads ≤ after.reads) × (min (before.calls + (after.reads - before.reads)) most ≤ after.calls) × ReadsPieces before after

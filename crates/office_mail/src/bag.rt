@@ -115,7 +115,8 @@ impl<R: Feed> Bag<R> {
 
         ensures failures { self.old.failures ≤ self.new.failures }
         ensures reads { self.new.reads ≤ 1_000_000 }
-        // A call of the reader is counted as a read, and a read that is counted is a call of the reader.
+        // A call of the reader is counted as a read, and a read that is counted is a call of the reader that gives 8,192
+        // bytes at most.
         ensures calls { self.new.calls + self.old.reads ≤ self.old.calls + self.new.reads }
         ensures counts { CountsEach self.old self.new }
 
@@ -370,7 +371,7 @@ fn refill<R: Feed>(reader: &mut R, pending: &mut Vec<u8>) -> Result<bool, BagFau
 
     ensures fault { OnErr result (pending.new.items ≡ []) }
     ensures kept { IsErrOf result BagFault.ReadFault → Keeps (R.left reader.old) (R.left reader.new) }
-    ensures lost { IsErrOf result BagFault.NoMemory → (bytes : List ℕ) × Consumes (R.left reader.old) (R.left reader.new) bytes }
+    ensures piece { (bytes : List ℕ) × Consumes (R.left reader.old) (R.left reader.new) bytes × (length bytes ≤ 8192) }
     ensures cause { IsErrOf result BagFault.ReadFault → HasRisen (R.failures reader.old) (R.failures reader.new) }
     ensures clean { IsErrOf result BagFault.ReadFault ⊎ (R.failures reader.new ≡ R.failures reader.old) }
     ensures failures { R.failures reader.old ≤ R.failures reader.new }

@@ -1,5 +1,6 @@
 use Rattle.std.proofs.Common.{ℕ, List, subst, ◌∙◌, refl, arith}
 use Rattle.std.proofs.lemmas.Result.{err_from_is_err_and}
+use Rattle.office_mail.proofs.BagFacts.{counts_same, counts_twice}
 use Rattle.office_core_replay.specs.Blocks.{DeliversTexts}
 use Rattle.office_core_replay.specs.BlockSteps.{DeliversTextsFront}
 use Rattle.office_core.specs.Preserves.{StoreRefused}
@@ -19,7 +20,7 @@ rounds-init g c =
       open_yet = c.requires.open;
       reads = refl;
       calls = omega arith;
-      counts = (omega arith, omega arith);
+      counts = counts_same c.args.bag.now;
       failures = refl;
     }
 
@@ -33,7 +34,6 @@ rounds-preserved g c =
     let l = c.rounds.invariant in
     let step = c.in_ok-lost_more.ensures in
     let took = c.in-Ok.ensures in
-    let n = c.take_texts-taken.ensures.counts in
     let texts : List (List ℕ) = c.take_texts-taken.new.texts.items in
     let w0 = written c.args.writer.now in
     let w1 = written c.rounds.writer in
@@ -48,7 +48,7 @@ rounds-preserved g c =
       open_yet = took.open;
       reads = took.clean ∙ l.reads;
       calls = omega (arith, l.calls, c.take_texts-taken.ensures.calls);
-      counts = (omega (arith, l.counts.0, n.0), omega (arith, l.counts.0, l.counts.1, n.0, n.1));
+      counts = counts_twice c.args.bag.now c.rounds.bag c.take_texts-taken.new.bag l.counts c.take_texts-taken.ensures.counts;
       failures = step.clean ∙ l.failures;
     }
 

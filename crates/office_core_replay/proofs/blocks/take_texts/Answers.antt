@@ -1,4 +1,5 @@
 use Rattle.std.proofs.Common.{◌≡◌, ◌++◌, ◌∷◌, [], List, ℕ, ap, ◌∙◌, refl, arith}
+use Rattle.office_mail.proofs.BagFacts.{counts_twice}
 use Rattle.office_core_replay.proofs.BlockFacts.{takes_more}
 use Rattle.office_core_replay.proofs.DeliverFacts.{not_true, unfailed}
 use Rattle.office_core_replay.proofs.blocks.take_texts.Goals as goal
@@ -12,7 +13,6 @@ returns-then-bytes-ge-FULL-clause-took g c =
 pub messages-preserved : goal.messages-preserved
 messages-preserved g c =
     let l = c.messages.invariant in
-    let n = c.next.ensures.counts in
     let took = rw c.in-Ok-Some.field-0-is at c.in-Ok-Some.ensures.message in
     let nearer = rw c.in-Ok-Some.field-0-is at c.in-Ok-Some.ensures.room in
     let pushed : c.push_reserved.new.self.items ≡ c.messages.texts.items ++ c.in-Ok-Some.text.items ∷ [] = c.push_reserved.ensures.items ∙ ap (λ (t : List ℕ). c.messages.texts.items ++ t ∷ []) c.of.ensures in
@@ -24,5 +24,5 @@ messages-preserved g c =
       smaller = omega (arith, nearer refl, l.smaller);
       failures = unfailed c.in-Ok-Some.field-0 c.messages.bag.failures c.next.new.self.failures c.in-Ok-Some.ensures.clean ∙ l.failures;
       calls = omega (arith, l.calls, c.next.ensures.calls);
-      counts = (omega (arith, l.counts.0, n.0), omega (arith, l.counts.0, l.counts.1, n.0, n.1));
+      counts = counts_twice c.args.bag.now c.messages.bag c.next.new.self l.counts c.next.ensures.counts;
     }

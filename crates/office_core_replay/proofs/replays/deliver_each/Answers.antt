@@ -1,6 +1,7 @@
 use Rattle.std.proofs.Common.{◌≡◌, Bool, true, false, ◌||◌, Some, None, Ok, sym, ap, subst, ◌∙◌, refl, arith}
 use Rattle.std.proofs.lemmas.Result.{err_from_is_err_and}
 use Rattle.office_mail.specs.BagSteps.{TakesMessage}
+use Rattle.office_mail.proofs.BagFacts.{counts_same, counts_twice}
 use Rattle.office_core.specs.Preserves.{StoreRefused}
 use Rattle.office_core_facts.specs.State.{state_of}
 use Rattle.office_core.proofs.CarryFacts.{carries_none, carries_twice, holds_first, holds_next, refused_first, refused_next}
@@ -26,7 +27,7 @@ loop-text-init g c =
       open_yet = c.requires;
       reads = refl;
       calls = omega arith;
-      counts = (omega arith, omega arith);
+      counts = counts_same c.args.bag.now;
       failures = refl;
     }
 
@@ -39,7 +40,6 @@ loop-text-preserved g c =
     let s2 = c.deliver_one.new.office in
     let l = c.loop-text.invariant in
     let step = c.in_ok-mark-in-Ok-Some.ensures in
-    let n = c.next.ensures.counts in
     let took = rw c.in-Ok-Some.field-0-is at c.in-Ok-Some.ensures.message in
     let text = c.deref.result.now in
     let lost : c.if-lost.lost ≡ (c.loop-text.lost || is_lost c.in_ok-mark-in-Ok-Some.mark) = elim c.if-lost.branch [
@@ -55,7 +55,7 @@ loop-text-preserved g c =
       open_yet = not_true c.next.new.self.ended (λ t. cc (c.in-Ok-Some.ensures.ends.0 t, c.in-Ok-Some.field-0-is));
       reads = unfailed c.in-Ok-Some.field-0 c.loop-text.bag.failures c.next.new.self.failures c.in-Ok-Some.ensures.clean ∙ l.reads;
       calls = omega (arith, l.calls, c.next.ensures.calls);
-      counts = (omega (arith, l.counts.0, n.0), omega (arith, l.counts.0, l.counts.1, n.0, n.1));
+      counts = counts_twice c.args.bag.now c.loop-text.bag c.next.new.self l.counts c.next.ensures.counts;
       failures = step.clean ∙ l.failures;
     }
 

@@ -1,13 +1,13 @@
 use Rattle.std.proofs.Common.{refl, arith, rules}
 use Rattle.std.proofs.lemmas.Result.{IfOk-from_err, err_from_is_err_and}
-use Rattle.office_mail.proofs.BagFacts.{body_none, body_more, body_stops, body_without_memory, goes_on_twice, fails_later}
+use Rattle.office_mail.proofs.BagFacts.{body_none, body_more, body_stops, body_without_memory, goes_on_same, goes_on_twice, fails_later}
 use Rattle.office_mail.proofs.bag.Bag.body_by_bytes.Goals as goal
 
 pub loop-i-init : goal.loop-i-init
 loop-i-init g c = record {
   body = rw c.new-message.ensures.items (body_none c.args.self.now);
   clean = refl;
-  goes_on = record { failures = omega arith; counts = (omega arith, omega arith); calls = omega arith; room = omega arith; ended = refl };
+  goes_on = goes_on_same c.args.self.now;
 }
 
 pub returns-in_err-byte-clause-fault : goal.returns-in_err-byte-clause-fault

@@ -14,17 +14,17 @@ returns-then-self-clause-goes_on g c = goes_on_same c.args.self.now
 
 pub returns-then-not-branch-clause-goes_on : goal.returns-then-not-branch-clause-goes_on
 returns-then-not-branch-clause-goes_on g c =
-    rw (← c.self.view_is) (goes_on_read _ _ refl c.refill.ensures.failures c.refill.ensures.calls c.refill.ensures.counts (room_read c.self.inside.reads _ _ _ c.self.invariant.1 c.if-self-eq-READS.false c.refill.ensures.few) refl)
+    rw (← c.self.view_is) (goes_on_read _ _ refl c.refill.ensures.failures c.refill.ensures.calls c.refill.ensures.counts c.refill.ensures.piece (room_read c.self.inside.reads _ _ _ c.self.invariant.1 c.if-self-eq-READS.false c.refill.ensures.few) refl)
 
 pub returns-in_err-refill-clause-goes_on : goal.returns-in_err-refill-clause-goes_on
 returns-in_err-refill-clause-goes_on g c =
-    rw (← c.self.view_is) (goes_on_read _ _ refl c.refill.ensures.failures c.refill.ensures.calls c.refill.ensures.counts (room_read c.self.inside.reads _ _ _ c.self.invariant.1 c.if-self-eq-READS.false c.refill.ensures.few) refl)
+    rw (← c.self.view_is) (goes_on_read _ _ refl c.refill.ensures.failures c.refill.ensures.calls c.refill.ensures.counts c.refill.ensures.piece (room_read c.self.inside.reads _ _ _ c.self.invariant.1 c.if-self-eq-READS.false c.refill.ensures.few) refl)
 
 pub returns-clause-goes_on : goal.returns-clause-goes_on
 returns-clause-goes_on g c =
     elim c.if-self-len.branch [
-      | then-self-len+else-self+else-self-eq-READS+in_ok-refill+else-not-branch w ↦ rw (w.self-inside-is, ← c.self.view_is) (goes_on_read _ _ refl w.refill.ensures.failures w.refill.ensures.calls w.refill.ensures.counts (room_read c.self.inside.reads _ _ _ c.self.invariant.1 w.if-self-eq-READS.false w.refill.ensures.few) refl)
-      | else-self-len w ↦ rw (w.self-inside-is, ← c.self.view_is) (goes_on_byte _ _ refl refl refl (room_byte _ _ _) refl)
+      | then-self-len+else-self+else-self-eq-READS+in_ok-refill+else-not-branch w ↦ rw (w.self-inside-is, ← c.self.view_is) (goes_on_read _ _ refl w.refill.ensures.failures w.refill.ensures.calls w.refill.ensures.counts w.refill.ensures.piece (room_read c.self.inside.reads _ _ _ c.self.invariant.1 w.if-self-eq-READS.false w.refill.ensures.few) refl)
+      | else-self-len w ↦ rw (w.self-inside-is, ← c.self.view_is) (goes_on_byte _ _ refl refl refl refl (room_byte _ _ _) refl)
     ]
 
 pub returns-then-self-eq-READS-clause-goes_on : goal.returns-then-self-eq-READS-clause-goes_on
