@@ -2,10 +2,9 @@
 
 `Packages` and `Sources` are read by apt, which takes them compressed in each way that it knows.
 """
-import contextlib
 import sys
 from dataclasses import dataclass
-from typing import Iterator, Optional, Protocol, Union
+from typing import Iterator, Mapping, Optional, Union
 
 import apt_pkg
 from debian import deb822
@@ -13,14 +12,9 @@ from debian import deb822
 from office_tools.faults import Fault, cause_of
 
 
-class Section(Protocol):
-    """A paragraph of an index, as apt has it. Names of fields are compared without regard to the case of letters."""
-
-    def get(self, name: str, default: str = "") -> str:
-        """The value of a field, or the default where there is none; lines that continue it are there."""
-
-    def keys(self) -> list[str]:
-        """The names of the fields."""
+Section = Mapping[str, str]
+"""A paragraph of an index, as apt has it. Names of fields are compared without regard to the case of letters, and a
+value has the lines that continue it."""
 
 
 def sections(path: str) -> Iterator[Section]:
@@ -46,7 +40,8 @@ def opened(path: str) -> Iterator[Section]:
         with open(path, "rb"):  # so that the system says why a file can't be read
             pass
     source: Union[str, int] = sys.stdin.fileno() if path == "-" else path
-    return iter(apt_pkg.TagFile(source))
+    sections: Iterator[Section] = iter(apt_pkg.TagFile(source))
+    return sections
 
 
 def told_by_apt(fault: BaseException) -> str:
@@ -61,10 +56,14 @@ def joined(value: str) -> str:
 
 @dataclass(frozen=True)
 class Changes:
-    """What a file `.changes` says of an upload: the urgency's first word, and the date as it is written."""
+    """What a file `.changes` says of an upload: the urgency's first word, and the date as it is written.
+
+    `has_source` says whether it brings the source, and not what was built alone.
+    """
 
     source: str
     version: str
+    has_source: bool
     urgency: Optional[str]
     date: Optional[str]
 
@@ -72,12 +71,13 @@ class Changes:
 def read_changes(path: str) -> Changes:
     """The upload that a file `.changes` tells, signed or not. The signature isn't looked at."""
     try:
-        with open(path, "rb") as file, contextlib.suppress(EOFError):
+        with open(path, "rb") as file:
             fields = deb822.Changes(file)
-            source = str(fields.get("Source", "")).split(" ", 1)[0]
-            version = str(fields.get("Version", ""))
-            words = str(fields.get("Urgency", "")).split()
-            return Changes(source, version, words[0].lower() if words else None, fields.get("Date"))
-    except (OSError, UnicodeDecodeError, ValueError) as fault:
+    except (OSError, EOFError, ValueError) as fault:
         raise Fault(f"{path}: {cause_of(fault)}") from fault
-    raise Fault(f"{path}: it is empty")
+    source, version = fields.get("Source", "").split(" ", 1)[0], fields.get("Version", "")
+    if not source or not version:
+        raise Fault(f"{path}: it states no source and version")
+    urgency = fields.get("Urgency", "").split()
+    return Changes(source, version, "source" in fields.get("Architecture", "").split(),
+                   urgency[0].lower() if urgency else None, fields.get("Date"))

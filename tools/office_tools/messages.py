@@ -243,7 +243,12 @@ def label_of(text: bytes) -> Optional[Label]:
         first = next(paragraphs(text), None)
     except ParagraphFault:
         return None
-    sender, number = (first.value("From"), first.value("Number")) if first else (None, None)
+    return label_of_first(first) if first else None
+
+
+def label_of_first(first: Paragraph) -> Optional[Label]:
+    """The same of a first paragraph that is read."""
+    sender, number = first.value("From"), first.value("Number")
     if not sender or not number or not NUMBER.fullmatch(number):
         return None
     return Label(sender, int(number))
