@@ -194,7 +194,7 @@ END
 
 # The bag of the examples' indexes: four things are left out, and each message has as many bytes as it says.
 indexes_are_read() {
-    ./office-from-packages --uploaded 2025-03-01 --run 2025-03-06 --sources ../examples/Sources \
+    ../tools/bin/office-from-packages --uploaded 2025-03-01 --run 2025-03-06 --sources ../examples/Sources \
         "$work/week" ../examples/Packages > "$work/counts" 2> "$work/left" || return 1
     cat "$work/counts" "$work/left"
     [ "$(cat "$work/counts")" = 'uploads 8, drops 0, builds 6, hints 1, orders 1' ] || return 1
@@ -307,9 +307,9 @@ try_by python3 "office-publish: page and JSON of the newest run" reports_are_pub
 try "office-publish: no words" ends 2 ./office-publish
 try "office-publish: no folder" ends 1 ./office-publish "$work/none"
 try_by python3 "office-from-packages: the examples' indexes" indexes_are_read
-try "office-from-packages: no words" ends 2 ./office-from-packages
+try "office-from-packages: no words" ends 2 ../tools/bin/office-from-packages
 try "office-from-packages: no file" \
-    ends 1 ./office-from-packages --uploaded 2025-03-01 --run 2025-03-06 "$work/week" "$work/none"
+    ends 1 ../tools/bin/office-from-packages --uploaded 2025-03-01 --run 2025-03-06 "$work/week" "$work/none"
 try "office-export: no words" ends 2 ./office-export
 try "office-export: no file" ends 1 ./office-export "$work/none"
 try "office-check-store: no words" ends 2 ./office-check-store

@@ -3,12 +3,12 @@
 
 usage: docs.py COPY DOCUMENT     (docs.sh makes the copy, and puts the program in PATH)
 
-In Markdown a command is a line of an indented block whose first word is one of WORDS or a path of the repository; what
-follows it, up to the next command or the end of the block, is what it prints. In a manual page it is a line of a
-literal display behind a dollar sign. A line goes on where it ends with a backslash or a bar, where a quote is open, and
-up to the end of a text behind `<<`. What a command prints isn't compared where the document shows nothing. It has to
-end with status 0, but for those of ENDS. Each block starts at the top of the copy. A service runs in the background
-until the next one starts, a command names its store, or the document ends; it is ended by a signal.
+In Markdown a command is a line of an indented block whose first word is one of WORDS, a tool's name or a path of the
+repository; what follows it, up to the next command or the end of the block, is what it prints. In a manual page it is a
+line of a literal display behind a dollar sign. A line goes on where it ends with a backslash or a bar, where a quote is
+open, and up to the end of a text behind `<<`. What a command prints isn't compared where the document shows nothing. It
+has to end with status 0, but for those of ENDS. Each block starts at the top of the copy. A service runs in the
+background until the next one starts, a command names its store, or the document ends; it is ended by a signal.
 """
 import os
 import re
@@ -77,7 +77,8 @@ def is_command(document, line):
         # What `office mail --list` tells of the sender rt.
         return False
     word = line.split(' ')[0]
-    return word in WORDS or re.fullmatch(r'(share|examples|tests)/\S+|/usr/lib/\S+|\.\.', word) is not None
+    is_path = re.fullmatch(r'(share|examples|tests)/\S+|/usr/lib/\S+|\.\.', word)
+    return bool(word in WORDS or is_path or re.fullmatch(r'office-[a-z-]+', word))
 
 
 def commands(document, block):
