@@ -1,0 +1,126 @@
+"""One turn: the mail of an office is brought to another one, or into a bag."""
+import enum
+import itertools
+from dataclasses import dataclass, field
+from typing import BinaryIO, Callable, Iterator, Mapping
+
+from office_tools import bags, letters
+from office_tools.faults import Fault
+from office_tools.messages import Label
+from office_tools.mirror.held import Held, Numbers
+from office_tools.senders import runs_sender
+from office_tools.service import Kept, Service
+
+LOOKED_BEHIND = 10000  # numbers behind a gap that are asked for in one turn
+
+
+class Status(enum.IntEnum):
+    """What came of a turn, by the command's exit status."""
+
+    HELD = 0
+    CONFLICT = 1
+    REFUSED = 3
+    UNANSWERED = 4
+
+
+@dataclass
+class Source:
+    """The office whose mail is brought: what it kept when the turn began."""
+
+    service: Service
+    kept: Mapping[str, Kept] = field(init=False)
+    senders: list[str] = field(init=False)
+
+    def __post_init__(self) -> None:
+        self.kept = self.service.kept()
+        runs = runs_sender(self.service, self.kept)
+        # Orders first: what a run covers that was ready when the turn began is there when its sender is asked for.
+        self.senders = sorted(self.kept, key=lambda sender: sender != runs)
+
+    def texts(self, sender: str, done: Numbers) -> Iterator[tuple[Label, bytes]]:
+        """The messages of a sender that are kept and aren't done, by number."""
+        count = self.kept[sender]
+        whole = (Label(sender, number) for number in done.missing(count.unbroken))
+        for label, text in letters.texts(self.service, whole):
+            if text is None:
+                raise Fault(f"{self.service.url}: {sender} {label.number} isn't kept any more", Status.UNANSWERED)
+            yield label, text
+        yield from self.behind(sender, count, done)
+
+    def behind(self, sender: str, count: Kept, done: Numbers) -> Iterator[tuple[Label, bytes]]:
+        """Those that stand behind a gap, of which the numbers aren't told."""
+        last = min(count.greatest, count.unbroken + LOOKED_BEHIND)
+        near = range(count.unbroken + 2, last + 1)
+        numbers = itertools.chain(near, [count.greatest] if count.greatest > last else [])
+        left = count.kept - count.unbroken
+        for label, text in letters.texts(self.service, (Label(sender, number) for number in numbers)):
+            if left == 0:
+                return
+            if text is not None:
+                left -= 1
+                if not done.has(label.number):
+                    yield label, text
+        if left > 0:
+            raise Fault(f"{self.service.url}: {sender}: {left} messages stand far behind a gap: fill it first",
+                        Status.REFUSED)
+
+
+@dataclass
+class Turn:
+    """What a turn brought: how many messages, and the worst that came of it."""
+
+    tell: Callable[[str], None]
+    sent: int = 0
+    status: Status = Status.HELD
+
+    def is_at_least(self, status: Status) -> None:
+        """Takes a status that is worse than what came before."""
+        self.status = max(self.status, status)
+
+    def to_office(self, source: Source, target: Service, held: Held) -> None:
+        """Posts all that the other office didn't hold yet. What it held is added to `held`, also if it fails."""
+        theirs = target.kept()
+        for sender in source.senders:
+            known = theirs.get(sender)
+            before = held.get(sender, Numbers()).upto(known.unbroken if known else 0)
+            now = Numbers()
+            held[sender] = before
+            try:
+                for label, text in source.texts(sender, before):
+                    if self.post(source, target, label, text):
+                        now.add(label.number)
+            finally:
+                held[sender] = joined(before, now)
+
+    def post(self, source: Source, target: Service, label: Label, text: bytes) -> bool:
+        """Posts one message: whether the other office holds it. If it doesn't, that is told."""
+        reply = target.post("/mail", text)
+        self.sent += 1
+        if reply.text == f"held {label.sender} {label.number}":
+            return True
+        if not reply.text.startswith("refused ") or reply.status >= 500:
+            raise Fault(f"{target.url}: {label.sender} {label.number}: {reply.status}: {reply.text[:200]}",
+                        Status.UNANSWERED)
+        is_conflict = reply.text == "refused OtherText"
+        what = f"keeps another text than {source.service.url}" if is_conflict else reply.text
+        self.tell(f"{target.url}: {label.sender} {label.number}: {what}")
+        self.is_at_least(Status.CONFLICT if is_conflict else Status.REFUSED)
+        return False
+
+    def to_bag(self, source: Source, output: BinaryIO) -> None:
+        """Writes all mail as a bag."""
+        for sender in source.senders:
+            for _, text in source.texts(sender, Numbers()):
+                output.write(bags.framed(text))
+                self.sent += 1
+        output.flush()
+
+
+def joined(before: Numbers, now: Numbers) -> Numbers:
+    """The numbers of both."""
+    both = Numbers()
+    for first, last in sorted(before.ranges + now.ranges):
+        both.add(first)
+        if last > both.ranges[-1][1]:
+            both.ranges[-1] = (both.ranges[-1][0], last)
+    return both
