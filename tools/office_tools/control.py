@@ -4,7 +4,7 @@
 """
 import sys
 from dataclasses import dataclass
-from typing import Iterator, Mapping, Optional, Union
+from typing import Iterator, Mapping, Optional, Sequence, Union
 
 import apt_pkg
 from debian import deb822
@@ -12,41 +12,35 @@ from debian import deb822
 from office_tools.faults import Fault, cause_of
 
 
-Section = Mapping[str, str]
-"""A paragraph of an index, as apt has it. Names of fields are compared without regard to the case of letters, and a
-value has the lines that continue it."""
+def sections(path: str, names: Sequence[str]) -> Iterator[Mapping[str, str]]:
+    """The paragraphs of a file Packages or Sources, each with those of these fields that it has.
 
-
-def sections(path: str) -> Iterator[Section]:
-    """The paragraphs of a file Packages or Sources, compressed or not; `-` is standard input, uncompressed.
-
-    A paragraph is good until the next one is asked for.
+    The names of fields are compared without regard to the case of letters, and a value stands in one line. The file may
+    be compressed; `-` is standard input, which isn't.
     """
     try:
         for section in opened(path):
-            name = next((name for name in section.keys() if "\n" in name or " " in name), None)
-            if name is not None:
-                raise Fault(f"{path}: a line has no colon: {name.splitlines()[0][:60]}")
-            yield section
+            strange = next((name for name in section.keys() if "\n" in name or " " in name), None)
+            if strange is not None:
+                raise Fault(f"{path}: a line has no colon: {strange.splitlines()[0][:60]}")
+            values = ((name, section.get(name)) for name in names)
+            yield {name: joined(value) for name, value in values if value is not None}
     except UnicodeDecodeError as fault:
         raise Fault(f"{path}: it is no text in UTF-8") from fault
-    except (OSError, apt_pkg.Error) as fault:
-        raise Fault(f"{path}: {told_by_apt(fault)}") from fault
+    except OSError as fault:
+        raise Fault(f"{path}: {cause_of(fault)}") from fault
+    except apt_pkg.Error as fault:
+        raise Fault(f"{path}: apt can't read it: {str(fault).removeprefix('E:')}") from fault
 
 
-def opened(path: str) -> Iterator[Section]:
+def opened(path: str) -> Iterator[Mapping[str, str]]:
     """What apt reads of a file."""
     if path != "-":
         with open(path, "rb"):  # so that the system says why a file can't be read
             pass
     source: Union[str, int] = sys.stdin.fileno() if path == "-" else path
-    sections: Iterator[Section] = iter(apt_pkg.TagFile(source))
+    sections: Iterator[Mapping[str, str]] = iter(apt_pkg.TagFile(source))
     return sections
-
-
-def told_by_apt(fault: BaseException) -> str:
-    """What apt or the system says of a fault, without apt's mark of an error."""
-    return cause_of(fault).removeprefix("E:")
 
 
 def joined(value: str) -> str:

@@ -1,5 +1,4 @@
 """Bags: the grammar of docs/RULES.md, part 8."""
-import time
 import unittest
 
 from helpers import OFFICE, SETUP, example, needs_office, office
@@ -52,16 +51,6 @@ class Bags(unittest.TestCase):
     def test_framed(self):
         data = example("archive.bag")
         self.assertEqual(b"".join(map(bags.framed, bags.messages_in(data))), data)
-
-    def test_time_is_linear(self):
-        """Eight times the messages take less than 32 times the time; where the rest is copied it is 64."""
-        def seconds(count):
-            data = bags.framed(b"x" * 300) * count
-            begun = time.process_time()
-            self.assertEqual(sum(1 for _ in bags.messages_in(data)), count)
-            return time.process_time() - begun
-        seconds(1000)
-        self.assertLess(min(seconds(80000) for _ in range(3)), 32 * max(seconds(10000) for _ in range(3)) + 0.05)
 
 
 if __name__ == "__main__":

@@ -6,7 +6,7 @@ from typing import Iterator, Mapping, Optional, Sequence
 
 from office_tools import messages, relations, versions
 from office_tools.bags import LONGEST
-from office_tools.control import Section, joined, sections
+from office_tools.control import sections
 from office_tools.from_packages.told import tell
 from office_tools.relations import Alternative, Bad, Clause
 
@@ -38,10 +38,8 @@ class Binary:
         return messages.binary(self.fields)
 
 
-def binary_of(section: Section) -> Binary:
+def binary_of(fields: Mapping[str, str]) -> Binary:
     """A binary package as it is sent. The fields are looked at in the office's order."""
-    values = [(rule.name, section.get(rule.name)) for rule in messages.BINARY_FIELDS]
-    fields = {name: joined(value) for name, value in values if value is not None}
     name = relations.checked_name(fields.get("Package", ""), "Package")
     version = relations.checked_version(fields.get("Version", ""))
     architecture = relations.checked_architecture(fields.get("Architecture", ""))
@@ -56,11 +54,11 @@ def read_binaries(paths: Sequence[str]) -> tuple[list[Binary], list[str]]:
     """The binary packages of the files, one for each name on an architecture, in order; and the architectures."""
     found: dict[Key, list[Binary]] = defaultdict(list)
     for path in paths:
-        for section in sections(path):
+        for fields in sections(path, [rule.name for rule in messages.BINARY_FIELDS]):
             try:
-                binary = binary_of(section)
+                binary = binary_of(fields)
             except Bad as bad:
-                tell(f"{section.get('Package', '?')} {section.get('Version', '?')}: left out: {bad}")
+                tell(f"{fields.get('Package', '?')} {fields.get('Version', '?')}: left out: {bad}")
             else:
                 found[binary.key].append(binary)
     architectures = list(dict.fromkeys(architecture for _, architecture in found if architecture != "all"))

@@ -28,12 +28,12 @@ def read_sources(paths: Sequence[str], binaries: Sequence[Binary]) -> dict[str, 
     for binary in binaries:
         put_newer(known, binary.source, binary.source_version)
     for path in paths:
-        for section in sections(path):
-            name, version = section.get("Package", ""), section.get("Version", "")
+        for fields in sections(path, ["Package", "Version", "Extra-Source-Only"]):
+            name, version = fields.get("Package", ""), fields.get("Version", "")
             try:
                 relations.checked_name(name, "Package")
                 relations.checked_version(version)
-                if section.get("Extra-Source-Only", "no") == "yes":
+                if fields.get("Extra-Source-Only", "no") == "yes":
                     raise Bad("it is kept for packages that were built with it alone")
                 if name in known and versions.compare(version, known[name]) < 0:
                     raise Bad(f"{known[name]} is newer")
