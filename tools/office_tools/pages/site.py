@@ -1,0 +1,273 @@
+"""Writes the pages: each is moved into its place whole, and none is written again that didn't change."""
+import hashlib
+import os
+import re
+from dataclasses import dataclass
+from typing import Any, Callable, Iterable, Iterator, Mapping, Sequence, TypeVar
+
+import jinja2
+
+from office_tools.pages import views
+from office_tools.pages.excuses_json import excuses_json
+from office_tools.pages.fetching import Newest, read_run
+from office_tools.pages.outcomes import counted, reason_words
+from office_tools.pages.sentences import OUTCOME_TITLES, REASON_TITLES
+from office_tools.pages.state import State
+from office_tools.pages.told import Line, shortened
+from office_tools.reports import Outcome, Word
+
+ROWS = 2500  # rows of one page: a list that is longer has several
+NEWEST = 20  # runs on the first page
+OFFENDERS = 15  # packages on the first page
+DIGESTS = 500  # pages that are written before it is kept that they are
+Of = TypeVar("Of")
+HERE = os.path.dirname(os.path.realpath(__file__))
+
+
+@dataclass(frozen=True)
+class Part:
+    """A part of a list in the view of one of them: its page, what it is called, and whether it is that one."""
+
+    link: str
+    title: str
+    is_here: bool
+
+
+@dataclass(frozen=True)
+class Count:
+    """How many sources are in a list, and its page."""
+
+    link: str
+    title: str
+    number: int
+
+
+@dataclass(frozen=True)
+class Hint:
+    """A hint as the page of a run shows it."""
+
+    title: str
+    text: str
+    outcome: Line
+
+
+@dataclass(frozen=True)
+class Moved:
+    """A source that moved or waits in a run: its version before and behind."""
+
+    name: str
+    before: str
+    version: str
+    word: str
+    told: str
+
+
+class Site:
+    """The folder of the pages."""
+
+    def __init__(self, folder: str, state: State, bugs: str) -> None:
+        self.folder, self.state, self.bugs = folder, state, bugs
+        self.templates = jinja2.Environment(
+            loader=jinja2.FileSystemLoader(os.path.join(HERE, "templates")), autoescape=True, trim_blocks=True,
+            lstrip_blocks=True, auto_reload=False, undefined=jinja2.StrictUndefined)
+        self.look = digest_of([self.bugs, *map(repr, own_files())])
+        self.digests = dict(state.digests())
+        self.there: set[str] = set()
+        self.fresh: dict[str, str] = {}
+
+    def build(self, newest: Newest) -> None:
+        """Writes all pages that changed, and takes away those that there is no reason for any more."""
+        if self.state.built_of() == self.look and os.path.exists(os.path.join(self.folder, "index.html")):
+            return
+        facts = views.facts_of(self.state, newest, self.bugs)
+        self.write_static()
+        self.write_sources(facts)
+        self.write_runs(facts)
+        self.write_testing(facts)
+        self.write_lists(facts, views.rows_of(facts))
+        self.put("excuses.json", excuses_json(newest.excuses, newest.update, newest.kept.fetched).encode())
+        self.keep_digests(0)
+        self.remove_others()
+        self.state.keep_built(self.look)
+
+    def put(self, path: str, data: bytes) -> None:
+        """Puts a file into its place whole, where it isn't there with these bytes already."""
+        self.there.add(path)
+        self.fresh.setdefault(path, "")
+        place = os.path.join(self.folder, path)
+        try:
+            with open(place, "rb") as file:
+                if file.read() == data:
+                    return
+        except FileNotFoundError:
+            os.makedirs(os.path.dirname(place), exist_ok=True)
+        self.move(place, data)
+
+    def move(self, place: str, data: bytes) -> None:
+        """Writes a file beside its place, and then renames it. One call at a time writes, so the name is always one."""
+        beside = os.path.join(os.path.dirname(place), ".new")
+        with open(beside, "wb") as file:
+            file.write(data)
+        os.replace(beside, place)
+
+    def put_once(self, path: str, digest: str, template: str, values: Mapping[str, Any]) -> None:
+        """Puts a page whose digest says what it is made of, where it isn't there with this one already."""
+        self.there.add(path)
+        if self.digests.get(path) == digest and os.path.exists(os.path.join(self.folder, path)):
+            return
+        self.put(path, self.page(template, values))
+        self.fresh[path] = digest
+        self.keep_digests(DIGESTS)
+
+    def page(self, template: str, values: Mapping[str, Any]) -> bytes:
+        """The bytes of a page."""
+        return self.templates.get_template(template).render(values).encode()
+
+    def keep_digests(self, most: int) -> None:
+        """Keeps the digests of pages that are written, once there are more than so many."""
+        if len(self.fresh) > most:
+            self.state.keep_digests(self.fresh)
+            self.fresh = {}
+
+    def remove_others(self) -> None:
+        """Removes pages that an earlier call wrote and this one has no reason for."""
+        gone = sorted(set(self.digests) - self.there)
+        for path in gone:
+            try:
+                os.unlink(os.path.join(self.folder, path))
+            except FileNotFoundError:
+                pass
+        self.state.keep_digests({}, gone)
+
+    def write_static(self) -> None:
+        """The stylesheet and the script."""
+        for name in "style.css", "pages.js":
+            with open(os.path.join(HERE, "static", name), "rb") as file:
+                self.put(name, file.read())
+
+    def write_sources(self, facts: views.Facts) -> None:
+        """A page of each source."""
+        links = facts.links("")
+        for name in sorted(facts.names):
+            source = views.source_of(facts, name, links)
+            self.put_once(f"source/{name}.html", digest_of([self.look, repr(source)]), "source.html",
+                          {"source": source, "up": "../"})
+
+    def write_runs(self, facts: views.Facts) -> None:
+        """A page of each run, and the list of all. That of an earlier run changes once the next one is there."""
+        numbers = [run.number for run in facts.runs]
+        pages: dict[int, list[str]] = {}
+        for path in self.digests:
+            if path.startswith("run/"):
+                pages.setdefault(int(re.split("[/.-]", path)[1]), []).append(path)
+        for place, run in enumerate(facts.runs):
+            after = numbers[place + 1] if place + 1 < len(numbers) else None
+            before = numbers[place - 1] if place else None
+            digest = digest_of([self.look, repr((run, before, after))])
+            path = f"run/{run.number}.html"
+            if self.digests.get(path) == digest and os.path.exists(os.path.join(self.folder, path)):
+                self.there |= set(pages[run.number])
+                continue
+            read = facts.newest if run == facts.newest.kept.run else read_run(self.state.run(run.number))
+            self.write_run(facts, read, {"before": before, "after": after})
+            self.fresh[path] = digest
+        self.put("runs.html", self.page("runs.html", {"runs": facts.runs[::-1], "up": ""}))
+
+    def write_run(self, facts: views.Facts, read: Newest, values: Mapping[str, Any]) -> None:
+        """The page of a run; those that are many are on pages behind it."""
+        run = read.kept.run
+        counts = counted(map(reason_words, read.excuses.excuses))
+        values = {**values, "run": run, "hints": hints_of(facts, read), "up": "../",
+                  "counts": [(REASON_TITLES[word], count) for word, count in counts.items()]}
+        for parts, rows in parts_of(str(run.number), moved_in(read), lambda row: row.name):
+            here = next(part for part in parts if part.is_here)
+            self.put(f"run/{here.link}", self.page("run.html", {
+                **values, "rows": rows, "list": parts, "is_first": parts[0].is_here}))
+
+    def write_testing(self, facts: views.Facts) -> None:
+        """What is in testing."""
+        sources = facts.testing.sources if facts.testing else {}
+        rows = [(name, version, facts.binaries.get(name, ())) for name, version in sources.items()]
+        for parts, some in parts_of("testing", rows, lambda row: row[0]):
+            here = next(part for part in parts if part.is_here)
+            self.put(here.link, self.page("testing.html", {
+                "run": facts.newest.kept.run, "rows": some, "list": parts, "number": len(rows), "up": "",
+                "is_known": facts.testing is not None}))
+
+    def write_lists(self, facts: views.Facts, rows: Sequence[views.Row]) -> None:
+        """The sources that don't move, all of them and by each reason and outcome, and last the first page."""
+        run = facts.newest.kept.run
+        titles = {**REASON_TITLES, **OUTCOME_TITLES}
+        some = {word: [row for row in rows if word in row.words] for word in titles}
+        counts = [Count("excuses.html", "all", len(rows))]
+        counts += [Count(f"excuses-{word}.html", title, len(some[word])) for word, title in titles.items()]
+        some[""] = list(rows)
+        for word, of_word in some.items():
+            values = {"run": run, "title": f"Sources that don't move: {titles[word]}" if word else
+                      "Sources that don't move", "number": len(of_word), "lists": counts, "up": "",
+                      "here": f"excuses-{word}.html" if word else "excuses.html",
+                      "reasons": REASON_TITLES, "outcomes": OUTCOME_TITLES}
+            for parts, shown in parts_of(f"excuses-{word}" if word else "excuses", of_word, lambda row: row.name):
+                here = next(part for part in parts if part.is_here)
+                self.put(here.link, self.page("excuses.html", {**values, "rows": shown, "list": parts}))
+        self.write_front(facts, len(rows), counts[1:])
+
+    def write_front(self, facts: views.Facts, unmoved: int, counts: Sequence[Count]) -> None:
+        """The first page."""
+        offenders = views.offenders_of(facts, facts.links("source/"))
+        run = facts.newest.kept.run
+        self.put("index.html", self.page("front.html", {
+            "run": run, "unmoved": unmoved, "moved": run.excuses - unmoved, "fetched": facts.newest.kept.fetched,
+            "counts": counts, "offenders": offenders[:OFFENDERS], "more_offenders": len(offenders[OFFENDERS:]),
+            "runs": facts.runs[:-NEWEST - 1:-1], "up": ""}))
+
+
+def parts_of(name: str, rows: Sequence[Of],
+             named: Callable[[Of], str]) -> Iterator[tuple[Sequence[Part], Sequence[Of]]]:
+    """The parts of a list, with the rows of each, of which there is one at least."""
+    cut = [rows[place:place + ROWS] for place in range(0, len(rows), ROWS)] or [rows]
+    titles = [f"{named(some[0])} to {named(some[-1])}" if some else "" for some in cut]
+    links = [f"{name}.html", *(f"{name}-{number}.html" for number in range(2, len(cut) + 1))]
+    for place, some in enumerate(cut):
+        yield [Part(link, title, other == place) for other, (link, title) in enumerate(zip(links, titles))], some
+
+
+def hints_of(facts: views.Facts, read: Newest) -> Sequence[Hint]:
+    """The removals and groups that a run judged, in order."""
+    links = facts.links("../source/")
+    found = []
+    for change in read.update.changes:
+        if change.hint is None:
+            continue
+        outcome = views.change_line(change, links)
+        text = facts.hints.get(change.hint, "") or " ".join(
+            f"{item.source}/{item.version}" for item in change.items)
+        found.append(Hint(f"{change.word.value.capitalize()} hint {change.hint}", shortened(text), outcome))
+    return found
+
+
+def moved_in(read: Newest) -> Sequence[Moved]:
+    """The sources that moved in a run, by name, and behind them those that wait."""
+    before = {excuse.source: excuse.testing or "" for excuse in read.excuses.excuses}
+    found = []
+    for change in read.update.changes:
+        if change.outcome in (Outcome.ACCEPTED, Outcome.WAITS) and change.word is not Word.REMOVE:
+            word = "wait" if change.word is Word.WAIT else "accept"
+            told = views.moved_sentence(change)
+            found += [Moved(item.source, before.get(item.source, ""), item.version, word, told)
+                      for item in change.items]
+    return sorted(found, key=lambda row: (row.word, row.name))
+
+
+def digest_of(parts: Iterable[str]) -> str:
+    """A digest of texts."""
+    return hashlib.blake2b("\0".join(parts).encode(), digest_size=16).hexdigest()
+
+
+def own_files() -> Iterator[bytes]:
+    """What makes the pages: where it changes, each of them is looked at."""
+    for folder in "", "templates", "static":
+        for name in sorted(os.listdir(os.path.join(HERE, folder))):
+            if name.endswith((".py", ".html", ".css", ".js")):
+                with open(os.path.join(HERE, folder, name), "rb") as file:
+                    yield file.read()
