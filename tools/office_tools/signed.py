@@ -3,6 +3,7 @@ import argparse
 import hashlib
 import os
 import resource
+import signal
 import subprocess
 import sys
 import tempfile
@@ -50,7 +51,9 @@ def checked(letter: Path, key: Path, told: list[str]) -> Optional[bytes]:
         text = output.read_bytes() if ran.returncode == 0 else None
     except OSError as fault:
         raise Fault(f"gpgv: {cause_of(fault)}", UNANSWERED) from fault
-    if text is None:
+    if ran.returncode == -signal.SIGXFSZ:
+        told.append(f"{key.name}: the text has more than {bags.LONGEST} bytes")
+    elif text is None:
         told.append(f"{key.name}: {ran.stderr.decode(errors='backslashreplace').strip()}")
     output.unlink(missing_ok=True)
     return text

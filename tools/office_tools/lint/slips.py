@@ -109,7 +109,7 @@ def day_long_ago(look: Look) -> Iterator[Warned]:
 def upload_of_nothing_new(look: Look) -> Iterator[Warned]:
     """Unstable has that version of the source, or a greater one."""
     if look.kind is Kind.UPLOAD:
-        has = look.state.seen.sources.get(look.value("Source"))
+        has = look.state.seen.source(look.value("Source"))
         if has is not None and versions.compare(look.value("Version"), has) <= 0:
             yield look.warned("Version", f"unstable has {look.value('Source')} {has}: this upload changes nothing")
 
@@ -120,7 +120,7 @@ def build_of_another_source(look: Look) -> Iterator[Warned]:
         source = source_of(binary)
         stated = binary.field("Source") or binary.field("Package")
         line = stated.line if stated else binary.line
-        has = look.state.seen.sources.get(source.name)
+        has = look.state.seen.source(source.name)
         if has is None:
             yield Warned(line, f"no source {source.name}")
         elif not same(source.version, has) and not same(source.version, look.state.testing.get(source.name)):
@@ -129,7 +129,7 @@ def build_of_another_source(look: Look) -> Iterator[Warned]:
 
 def bug_of_no_source(look: Look) -> Iterator[Warned]:
     """The bug is of a source that isn't in unstable."""
-    if look.kind is Kind.BUG and look.value("Source") not in look.state.seen.sources:
+    if look.kind is Kind.BUG and look.state.seen.source(look.value("Source")) is None:
         yield look.warned("Source", f"no source {look.value('Source')}")
 
 
@@ -137,7 +137,7 @@ def drop_of_nothing(look: Look) -> Iterator[Warned]:
     """Unstable has no such row, or one of a greater version."""
     if look.kind is Kind.DROP:
         architecture, package = look.value("Architecture"), look.value("Package")
-        has = look.state.seen.rows.get((architecture, package))
+        has = look.state.seen.row(architecture, package)
         if has is None or versions.compare(has, look.value("Version")) > 0:
             row = f"{has or 'no row'} of {package} on {architecture}"
             yield look.warned("Package", f"unstable has {row}: this drops nothing")
@@ -157,7 +157,7 @@ def hint_of_another_source(look: Look) -> Iterator[Warned]:
 
 def standing(state: State, word: str, name: str, version: str) -> Optional[str]:
     """Why an item of a hint isn't in force; None where it is. An item of `block` has no version."""
-    has, moved = state.seen.sources.get(name), state.testing.get(name)
+    has, moved = state.seen.source(name), state.testing.get(name)
     if has is None:
         return f"no source {name}"
     if not version or (word == "remove" and same(version, moved)):

@@ -37,56 +37,84 @@ def stated_covers(first: Paragraph) -> Mapping[str, int]:
     return {sender: int(number) for sender, number in items}
 
 
+@dataclass(frozen=True)
+class Given:
+    """A version, and the message that gave it: its sender's place in the setup, its number, and a binary's place."""
+
+    version: str
+    by: tuple[int, int, int]
+
+
 @dataclass
 class Seen:
     """What the mail says that a run over all of it sees: unstable, and the hints in force."""
 
-    sources: dict[str, str] = field(default_factory=dict)
-    rows: dict[Pair, str] = field(default_factory=dict)
-    dropped: dict[Pair, str] = field(default_factory=dict)
+    sources: dict[str, Given] = field(default_factory=dict)
+    rows: dict[Pair, Given] = field(default_factory=dict)
+    dropped: dict[Pair, Given] = field(default_factory=dict)
     hints: set[int] = field(default_factory=set)
     cancelled: set[int] = field(default_factory=set)
 
-    def take(self, number: int, text: bytes) -> None:
-        """Takes a message of this number."""
+    def take(self, sender: int, number: int, text: bytes) -> None:
+        """Takes a message of the sender with this place in the setup, under this number."""
         first, *binaries = list(paragraphs(text))
         kind = kind_of(first)
         if kind is Kind.UPLOAD:
-            raise_to(self.sources, first.value("Source") or "", first.value("Version") or "")
+            raise_to(self.sources, first.value("Source") or "", given(first, (sender, number, 0)))
         elif kind is Kind.BUILD:
-            for binary in binaries:
-                self.build(binary)
+            for place, binary in enumerate(binaries, 1):
+                self.build(pair_of(binary), given(binary, (sender, number, place)))
         elif kind is Kind.DROP:
-            self.drop((first.value("Architecture") or "", first.value("Package") or ""), first.value("Version") or "")
+            self.drop(pair_of(first), given(first, (sender, number, 0)))
         elif kind is Kind.HINT:
             self.hints.add(number)
         elif kind is Kind.UNHINT:
             self.cancelled.add(int(first.value("Cancels") or 0))
 
-    def build(self, binary: Paragraph) -> None:
+    def build(self, pair: Pair, row: Given) -> None:
         """A build: its row counts if no drop reaches its version."""
-        pair = (binary.value("Architecture") or "", binary.value("Package") or "")
-        version = binary.value("Version") or ""
         dropped = self.dropped.get(pair)
-        if dropped is None or versions.compare(version, dropped) > 0:
-            raise_to(self.rows, pair, version)
+        if dropped is None or versions.compare(row.version, dropped.version) > 0:
+            raise_to(self.rows, pair, row)
 
-    def drop(self, pair: Pair, version: str) -> None:
+    def drop(self, pair: Pair, dropped: Given) -> None:
         """A drop: the row goes if it is at most of that version, and then no lower one is left."""
-        raise_to(self.dropped, pair, version)
+        raise_to(self.dropped, pair, dropped)
         row = self.rows.get(pair)
-        if row is not None and versions.compare(row, version) <= 0:
+        if row is not None and versions.compare(row.version, dropped.version) <= 0:
             del self.rows[pair]
+
+    def source(self, name: str) -> Optional[str]:
+        """Unstable's version of a source."""
+        found = self.sources.get(name)
+        return found.version if found else None
+
+    def row(self, architecture: str, package: str) -> Optional[str]:
+        """Unstable's version of a package on an architecture."""
+        found = self.rows.get((architecture, package))
+        return found.version if found else None
 
     def in_force(self, number: int) -> bool:
         """Whether a hint of this number stands."""
         return number in self.hints and number not in self.cancelled
 
 
-def raise_to(greatest: dict[Key, str], of: Key, version: str) -> None:
-    """Takes a version where none is known, or a lower one."""
-    if of not in greatest or versions.compare(version, greatest[of]) > 0:
-        greatest[of] = version
+def given(paragraph: Paragraph, by: tuple[int, int, int]) -> Given:
+    """The version that a paragraph states."""
+    return Given(paragraph.value("Version") or "", by)
+
+
+def pair_of(paragraph: Paragraph) -> Pair:
+    """The architecture and the package of a paragraph."""
+    return paragraph.value("Architecture") or "", paragraph.value("Package") or ""
+
+
+def raise_to(greatest: dict[Key, Given], of: Key, new: Given) -> None:
+    """Takes a version where none is known, or a lower one; of the same version that of the first message counts."""
+    known = greatest.get(of)
+    order = versions.compare(new.version, known.version) if known else 1
+    if known is None or order > 0 or (order == 0 and new.by < known.by):
+        greatest[of] = new
 
 
 @dataclass
@@ -115,6 +143,7 @@ class State:
                  kept: Callable[[Label], Optional[bytes]]) -> None:
         self.setup = setup
         self.runs = setup.sender_of(Role.RUNS)
+        self.places = {sender: place for place, sender in enumerate(setup.senders)}
         self.unbroken = {sender: count.unbroken for sender, count in counts.items()}
         self.kept = kept
         self.testing = testing.sources
@@ -129,7 +158,7 @@ class State:
         if label.sender == self.runs:
             self.orders.take(text)
         else:
-            self.seen.take(label.number, text)
+            self.seen.take(self.places[label.sender], label.number, text)
 
     def text(self, label: Label) -> Optional[bytes]:
         """A message that is kept, or that was taken on."""

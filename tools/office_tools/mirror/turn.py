@@ -30,6 +30,7 @@ class Source:
     service: Service
     kept: Mapping[str, Kept] = field(init=False)
     senders: list[str] = field(init=False)
+    left_out: list[str] = field(default_factory=list)
 
     def __post_init__(self) -> None:
         self.kept = self.service.kept()
@@ -61,8 +62,7 @@ class Source:
                 if not done.has(label.number):
                     yield label, text
         if left > 0:
-            raise Fault(f"{self.service.url}: {sender}: {left} messages stand far behind a gap: fill it first",
-                        Status.REFUSED)
+            self.left_out.append(f"{self.service.url}: {sender}: mail far behind a gap is left out: fill the gap first")
 
 
 @dataclass
@@ -91,6 +91,13 @@ class Turn:
                         now.add(label.number)
             finally:
                 held[sender] = joined(before, now)
+        self.told_left_out(source)
+
+    def told_left_out(self, source: Source) -> None:
+        """Tells what wasn't looked for."""
+        for what in source.left_out:
+            self.tell(what)
+            self.is_at_least(Status.REFUSED)
 
     def post(self, source: Source, target: Service, label: Label, text: bytes) -> bool:
         """Posts one message: whether the other office holds it. If it doesn't, that is told."""
@@ -114,6 +121,7 @@ class Turn:
                 output.write(bags.framed(text))
                 self.sent += 1
         output.flush()
+        self.told_left_out(source)
 
 
 def joined(before: Numbers, now: Numbers) -> Numbers:
