@@ -69,7 +69,7 @@ class Site:
         self.folder, self.state, self.bugs = folder, state, bugs
         self.templates = jinja2.Environment(
             loader=jinja2.FileSystemLoader(os.path.join(HERE, "templates")), autoescape=True, trim_blocks=True,
-            lstrip_blocks=True, auto_reload=False, undefined=jinja2.StrictUndefined)
+            lstrip_blocks=True, auto_reload=False, keep_trailing_newline=True, undefined=jinja2.StrictUndefined)
         self.look = digest_of([self.bugs, *map(repr, own_files())])
         self.digests = dict(state.digests())
         self.there: set[str] = set()
