@@ -116,27 +116,20 @@ binary all c++lib-doc 1.0-1 c++lib
 END
 }
 
-reports_are_read() {
-    python3 -B ./excuses.py --excuses "$work/excuses" --update "$work/update" --testing "$work/testing" \
-        --json "$work/json" --html "$work/html" || return 1
-    python3 - "$work/json" "$work/html" << 'END'
-import json, re, sys
-whole = json.load(open(sys.argv[1]))
-page = open(sys.argv[2]).read()
-anchors, links = re.findall(r'id="([^"]*)"', page), re.findall(r'href="#([^"]*)"', page)
-keys = [(s["item-name"], s["old-version"], s["new-version"], s["is-candidate"]) for s in whole["sources"]]
-assert keys == [("c++lib", "1.0-1", "2:1.0-1+b1", False), ("stuck", "-", "2-1", True)], keys
-assert whole["sources"][0]["reason"] == ["too young", "new bug 1042", "missing on amd64", "blocked"]
-assert len(whole["update"]) == 7 and page.count("<table>") == 3
-assert len(anchors) == len(set(anchors)), "an anchor stands twice"
-assert set(links) <= set(anchors), "a link has no anchor"
-END
+# The pages of a run whose reports are in files; what is in them is for the tests of tools/tests.
+pages_are_made() {
+    mkdir "$work/folder" || return 1
+    ../tools/bin/office-pages --excuses "$work/excuses" --update "$work/update" --testing "$work/testing" \
+        "$work/folder" || return 1
+    for file in index.html excuses.html excuses.json testing.html run/7.html source/c++lib.html style.css; do
+        [ -s "$work/folder/$file" ] || { echo "$file is missing" && return 1; }
+    done
 }
 
 # A grep-excuses whose wget hands out the file that was made.
 excuses_are_grepped() {
-    mkdir "$work/bin"
-    printf '#!/bin/sh\nexec cat "%s"\n' "$work/json" > "$work/bin/wget"
+    mkdir "$work/bin" || return 1
+    printf '#!/bin/sh\nexec cat "%s"\n' "$work/folder/excuses.json" > "$work/bin/wget"
     chmod +x "$work/bin/wget"
     for source in c++lib stuck; do
         PATH=$work/bin:$PATH grep-excuses --no-conf --no-autoremovals "$source" >> "$work/grepped" || return 1
@@ -147,49 +140,6 @@ excuses_are_grepped() {
         '    Waits: its move would leave stuck-bin uninstallable on amd64'; do
         grep -qxF -e "$line" "$work/grepped" || { echo "it lacks: $line" && return 1; }
     done
-}
-
-# The keys that are written are those that the manual page names.
-keys_are_told() {
-    python3 - "$work/json" man/office-excuses.1 << 'END'
-import json, re, sys
-whole = json.load(open(sys.argv[1]))
-part = open(sys.argv[2]).read().split(".It Fl -json", 1)[1].split(".It Fl -html", 1)[0]
-told = set(re.findall(r"^\.Li ([a-z-]+)", part, re.M))
-written = set(whole) | set(whole["sources"][0])
-assert told == written, (sorted(told - written), sorted(written - told))
-END
-}
-
-# A curl that answers as a service with run 7 does, and in its first turn as one in which run 7 has just been finished.
-reports_are_published() {
-    mkdir "$work/curl" "$work/folder" || return 1
-    cat > "$work/curl/curl" << 'END'
-#!/bin/sh
-while [ $# -gt 1 ]; do
-    [ "$1" != -o ] || file=$2
-    shift
-done
-case $1 in
-    http://127.0.0.1:8080/status) echo 'ready 7 finished 7' > "$file" ;;
-    http://127.0.0.1:8080/testing) if [ -e "$TEXTS/turned" ]; then
-            cat "$TEXTS/testing"
-        else
-            : > "$TEXTS/turned" && echo 'testing 8'
-        fi > "$file" ;;
-    http://127.0.0.1:8080/excuses/7) cat "$TEXTS/excuses" > "$file" ;;
-    http://127.0.0.1:8080/update/7) cat "$TEXTS/update" > "$file" ;;
-    http://127.0.0.1:1/status) echo 'ready 0 finished 0' > "$file" ;;
-    *) exit 22 ;;
-esac
-END
-    chmod +x "$work/curl/curl"
-    TEXTS=$work PATH=$work/curl:$PATH ./office-publish "$work/folder" http://127.0.0.1:1 || return 1
-    [ -z "$(ls -A "$work/folder")" ] || return 1
-    TEXTS=$work PATH=$work/curl:$PATH ./office-publish "$work/folder" || return 1
-    [ "$(cd "$work/folder" && find . -type f | LC_ALL=C sort | tr '\n' ' ')" = './excuses.json ./index.html ' ] || return 1
-    cmp "$work/json" "$work/folder/excuses.json" && cmp "$work/html" "$work/folder/index.html" || return 1
-    ends 1 env TEXTS="$work" PATH="$work/curl:$PATH" ./office-publish "$work/folder" http://127.0.0.1:2
 }
 
 # The bag of the examples' indexes: four things are left out, and each message has as many bytes as it says.
@@ -212,8 +162,9 @@ END
 
 files_are_installed() {
     make -s install PROGRAM="${program:-/bin/true}" PREFIX=/usr DESTDIR="$work/root" || return 1
-    for file in bin/office bin/office-excuses bin/office-from-packages bin/office-publish share/man/man1/office.1 \
-        share/man/man1/office-publish.1 lib/systemd/system/office.service lib/systemd/system/office-publish.timer \
+    for file in bin/office bin/office-from-packages bin/office-pages \
+        share/office/office_tools/pages/templates/front.html share/man/man1/office.1 share/man/man1/office-pages.1 \
+        lib/systemd/system/office.service lib/systemd/system/office-pages.timer \
         share/bash-completion/completions/office share/zsh/vendor-completions/_office share/doc/office/RULES.md; do
         [ -f "$work/root/usr/$file" ] || { echo "$file is missing" && return 1; }
     done
@@ -298,14 +249,16 @@ for unit in systemd/*.service; do
 done
 try_by systemd-analyze "systemd/: systemd knows each line" units_are_known
 make_reports
-try_by python3 "excuses.py: JSON and page of a run" reports_are_read
-try_by python3 "excuses.py: its keys, and those of the manual page" keys_are_told
-try_by grep-excuses "excuses.py: grep-excuses reads the JSON" excuses_are_grepped
-try_by python3 "excuses.py: reports of two runs are refused" \
-    ends 1 python3 -B ./excuses.py --excuses "$work/update" --update "$work/excuses"
-try_by python3 "office-publish: page and JSON of the newest run" reports_are_published
-try "office-publish: no words" ends 2 ./office-publish
-try "office-publish: no folder" ends 1 ./office-publish "$work/none"
+try_by python3 "office-pages: pages and JSON of a run" pages_are_made
+if perl -MYAML::Syck -e 1 2> /dev/null; then
+    try_by grep-excuses "office-pages: grep-excuses reads the JSON" excuses_are_grepped
+else
+    echo "skipped: office-pages: grep-excuses reads the JSON: libyaml-syck-perl isn't installed"
+fi
+try_by python3 "office-pages: reports of two runs are refused" \
+    ends 1 ../tools/bin/office-pages --excuses "$work/update" --update "$work/excuses" "$work"
+try_by python3 "office-pages: no words" ends 2 ../tools/bin/office-pages
+try_by python3 "office-pages: no folder" ends 1 ../tools/bin/office-pages "$work/none"
 try_by python3 "office-from-packages: the examples' indexes" indexes_are_read
 try "office-from-packages: no words" ends 2 ../tools/bin/office-from-packages
 try "office-from-packages: no file" \
