@@ -58,6 +58,7 @@ try limit env ROUNDS=1 "$bench/limit/run.sh" "$office" runs:20 both:20 "$package
 try asking env ROUNDS=1 python3 "$bench/asking/run.py" "$office" one:20
 try asking_mail env ROUNDS=1 python3 "$bench/asking/over_mail.py" "$office" 100
 try reopen env ROUNDS=1 python3 "$bench/reopen/run.py" "$office" one:20
+try from_packages env ROUNDS=1 /usr/bin/python3 "$bench/tools/from_packages.py" 200
 try start_to_end "$bench/versions/start_to_end.sh" "$office" 5
 if [ $# -eq 1 ]; then
     printf '%s\n' 1.0 1.1 1:2.0-1 2.0~rc1-1 > "$told/pairs"
