@@ -369,7 +369,7 @@ class Kills(Pages):
             "/runs": f"run 1 2025-03-04 excuses {MANY} candidates 0 accept 0 easy 0 remove 0 wait 0\n",
             "/excuses/1": "excuses 1 2025-03-04\n" + excuses, "/update/1": "update 1 2025-03-04\n",
             "/testing": "testing 1\n"}
-        words = [os.path.join(TOOLS, "bin", "office-pages"), "--why-seconds", "0", "--url", self.office.url, self.folder]
+        words = [TOOLS + "/bin/office-pages", "--why-seconds", "0", "--url", self.office.url, self.folder]
         sources = os.path.join(self.folder, "source")
         with subprocess.Popen(words) as process:
             until = time.monotonic() + 60

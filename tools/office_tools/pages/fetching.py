@@ -7,7 +7,7 @@ from typing import Iterable, Mapping, Optional, Sequence
 
 from office_tools import reports
 from office_tools.faults import Fault, tell
-from office_tools.pages.offices import Office
+from office_tools.pages.offices import finished_in, Office
 from office_tools.pages.outcomes import NOTHING, outcome_in, outcomes_of, SourceOutcome, What
 from office_tools.pages.state import Event, KeptRun, State, Why
 from office_tools.reports import Excuse
@@ -124,7 +124,7 @@ def fetch_testing(office: Office, state: State, newest: int) -> bool:
     told = office.testing()
     if told is None:
         return True
-    finished = reports.read_testing(told).finished
+    finished = finished_in(told)
     if finished == newest:
         state.keep_testing(newest, told)
     return finished == newest

@@ -136,7 +136,7 @@ class FileOffice:
             raise Fault(f"the excuses are of run {told.run} of {told.date}, "
                         f"and the update is of run {done.run} of {done.date}")
         if self.in_testing is not None:
-            finished = reports.read_testing(self.in_testing, testing or "").finished
+            finished = finished_in(self.in_testing)
             if finished != told.run:
                 raise Fault(f"the excuses are of run {told.run}, and testing is that of run {finished}")
         self.run = run_of(told, done)
@@ -166,3 +166,8 @@ def text_of(path: str) -> str:
         return read_bytes(path).decode()
     except UnicodeDecodeError as fault:
         raise Fault(f"{path}: it isn't UTF-8") from fault
+
+
+def finished_in(testing: str) -> int:
+    """After how many runs testing is as a text tells it; the rest of it is read with the pages."""
+    return reports.read_testing(testing[:testing.find("\n") + 1]).finished

@@ -16,7 +16,7 @@ from office_tools.pages.state import State
 from office_tools.pages.told import Line, shortened
 from office_tools.reports import Outcome, Word
 
-ROWS = 2500  # rows of one page: a list that is longer has several
+ROWS = 4000  # rows of one page: a list that is longer has several
 NEWEST = 20  # runs on the first page
 OFFENDERS = 15  # packages on the first page
 DIGESTS = 500  # pages that are written before it is kept that they are
