@@ -223,6 +223,15 @@ files_are_installed() {
     [ -z "$(find "$work/root" -type f)" ]
 }
 
+# The documents that are installed cite no path of the repository, but for the part of README.md that is about it.
+documents_cite_what_is_installed() {
+    for file in README.md ../CHANGELOG.md ../docs/MANUAL.md ../docs/RULES.md ../docs/FIRST_WEEK.md; do
+        sed '/^## In the repository/,$d' "$file" | grep -nE '(`|^    |\()(share|docs|bench|crates|tests|tools)/' |
+            sed "s|^|$file:|"
+    done > "$work/cited"
+    [ ! -s "$work/cited" ] || { cat "$work/cited" && return 1; }
+}
+
 program_is_missed() {
     ends 2 make -s install PROGRAM="$work/none" DESTDIR="$work/root" > "$work/missed" 2>&1 || return 1
     grep -q "build it first, or name another by PROGRAM=FILE" "$work/missed"
@@ -338,6 +347,7 @@ try "office-check-store: no words" ends 2 ./office-check-store
 try "office-check-store: no file" ends 3 ./office-check-store ../examples/setup.conf "$work/none"
 try_by make "Makefile: install and uninstall" files_are_installed
 try_by make "Makefile: no program" program_is_missed
+try "documents: they cite what is installed" documents_cite_what_is_installed
 try_by dpkg-deb "debian/build: a package" package_is_made
 try_by lintian "debian/build: lintian" package_is_clean
 if [ -n "$program" ]; then
