@@ -50,8 +50,8 @@ def text_of_the_manual():
     with open(os.path.join(TOP, "docs", "MANUAL.md"), encoding="utf-8") as manual:
         blocks = re.findall(r"(?m)(?:^(?:    .*)?\n)+", manual.read())
     text = next(block for block in blocks if "map $request_body" in block)
-    for old, new in [("listen 443 ssl;", "listen 127.0.0.1:%d;" % (port + 1)), ("127.0.0.1:8081", "127.0.0.1:%d" % (port + 2)),
-                     ("127.0.0.1:8080", "127.0.0.1:%d" % port), ("/etc/nginx/office.users", "users")]:
+    for old, new in [("listen 443 ssl;", "listen 127.0.0.1:%d;" % (port + 1)), ("/etc/nginx/office.users", "users"),
+                     ("127.0.0.1:8081", "127.0.0.1:%d" % (port + 2)), ("127.0.0.1:8080", "127.0.0.1:%d" % port)]:
         assert old in text, old
         text = text.replace(old, new)
     return text
@@ -70,7 +70,7 @@ def ask(method, path, body=None, user=None, headers=(), password="secret", at=1)
     return reply.status, told
 
 
-# A user, a method, a path, a body, and what is due: the code, and the answer where it is the office's or the text's own.
+# A user, a method, a path, a body, and what is due: the code, and the answer where it isn't nginx's.
 OTHER = (403, b"refused OtherUser\n")
 ROWS = [
     ("ftp", "POST", "/mail", NONE % (b"ftp", 1), (200, b"held ftp 1\n")),
@@ -113,7 +113,8 @@ ROWS = [
 def requests():
     for user, method, path, body, (code, told) in ROWS:
         got, answer = ask(method, path, body, user)
-        want("%s %s %s %r" % (user, method, path, str(body)[:60]), (code, told), (got, answer if told is not None else None))
+        what = "%s %s %s %.60r" % (user, method, path, body)
+        want(what, (code, told), (got, answer if told is not None else None))
     good = NONE % (b"ftp", 4)
     want("a wrong password", 401, ask("POST", "/mail", good, "ftp", password="other")[0])
     want("a header of the client's", OTHER, ask("POST", "/mail", HINT % 2, "ftp", [("X-Who", "rt rt")]))

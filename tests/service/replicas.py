@@ -1,5 +1,5 @@
 #!/usr/bin/env python3
-"""Three offices whose mail reaches each other by office-mirror: in the end they answer the same, as a plain replay does.
+"""Three offices that get each other's mail by office-mirror: in the end they answer the same, as a plain replay does.
 
   replicas.py PROGRAM [FIRST-LAST [PORT]]
 
@@ -29,6 +29,7 @@ from rows import mail, rows_of, steps_of
 CONF = os.path.join(TESTS, "..", "examples", "setup.conf")
 MIRROR = os.path.join(TESTS, "..", "tools", "bin", "office-mirror")
 OFFICES = range(3)
+KEPT = re.compile(r"(?m)^mail (\S+) (\d+) kept(?:, 1 to (\d+))?")
 program = os.path.abspath(sys.argv[1])
 seeds = sys.argv[2] if len(sys.argv) > 2 else "1-12"
 first_port = int(sys.argv[3]) if len(sys.argv) > 3 else 18740
@@ -140,7 +141,7 @@ class Draw:
         pair = self.draw.sample(OFFICES, 2)
         for place, name in zip(pair, ("aa", "bb")):
             self.offices[place].ask("/mail", form % (number, name))
-        self.conflict = "rt %d" % number, pair
+        self.conflict = "rt %d" % number
         counts["conflicts"] += 1
 
     def post(self):
@@ -185,27 +186,25 @@ class Draw:
                         mirror(self.offices[i], self.offices[j], self.folder)
 
     def last_turns(self):
-        """What a further turn sends: nothing but the conflict, which it tells, and with --all everything."""
+        """What one more turn sends: what stands behind a gap, and the conflict, which is told; with --all everything."""
         for i in OFFICES:
             for j in OFFICES:
-                if i == j:
-                    continue
-                one, other = self.offices[i], self.offices[j]
-                number = self.conflict[0].replace(" ", "/") if self.conflict else None
-                differs = number is not None and one.ask("/kept/" + number) != other.ask("/kept/" + number)
-                behind = sum(n > 1 + self.unbroken(s) for s, n in map(label, self.sent))
-                due = (1, 1 + behind, [self.conflict[0]]) if differs else (0, behind, [])
-                want(self.name("one more turn"), due, mirror(one, other, self.folder))
+                if i != j:
+                    due = self.due_of_a_turn(self.offices[i], self.offices[j])
+                    want(self.name("one more turn"), due, mirror(self.offices[i], self.offices[j], self.folder))
         every = len(self.sent) + (1 if self.conflict else 0)
         turn = mirror(self.offices[0], self.offices[1], self.folder, "--all")
         want(self.name("a turn over all"), every, turn[1])
 
-    def unbroken(self, sender):
-        """Up to which number a sender's mail is there without a gap."""
-        numbers, last = {n for s, n in map(label, self.sent) if s == sender}, 0
-        while last + 1 in numbers:
-            last += 1
-        return last
+    def due_of_a_turn(self, one, other):
+        """The status of such a turn, how much is sent, and what is told."""
+        kept = {sender: (int(count), int(upto or 0)) for sender, count, upto in KEPT.findall(one.text("/kept"))}
+        sent = sum(count - upto for count, upto in kept.values())
+        path = self.conflict and "/kept/" + self.conflict.replace(" ", "/")
+        if not path or one.ask(path) == other.ask(path):
+            return 0, sent, []
+        sender, number = self.conflict.split()
+        return 1, sent + (int(number) <= kept[sender][1]), [self.conflict]
 
     def compare(self):
         """The three offices beside each other, and beside a plain replay of what was sent."""
@@ -217,7 +216,8 @@ class Draw:
         bag = mail(self.sent).encode()
         ran = subprocess.run([program, "replay", *words], input=bag, capture_output=True, timeout=60)
         runs = int(told[0]["/status"][1].split()[3])
-        due = "".join(told[0]["/%s/%d" % (report, run)][1] for run in range(1, runs + 1) for report in ("excuses", "update"))
+        paths = ["/%s/%d" % (report, run) for run in range(1, runs + 1) for report in ("excuses", "update")]
+        due = "".join(told[0][path][1] for path in paths)
         due = told[0]["/status"][1] + due + told[0]["/testing"][1]
         want(self.name("a plain replay"), ran.stdout.decode()[-len(due.encode()):], due)
         ran = subprocess.run([program, "waiting", *words], input=bag, capture_output=True, timeout=60)
