@@ -186,7 +186,7 @@ class Draw:
                         mirror(self.offices[i], self.offices[j], self.folder)
 
     def last_turns(self):
-        """What one more turn sends: what stands behind a gap, and the conflict, which is told; with --all everything."""
+        """One more turn sends what stands behind a gap, and the conflict, which is told; with --all it sends all."""
         for i in OFFICES:
             for j in OFFICES:
                 if i != j:
