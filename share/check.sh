@@ -103,10 +103,11 @@ types_are_right() {
         ../tools/office_tools
 }
 
-# Each command of tools/bin has a manual page that tells the options of its help.
+# Each command of tools/bin stands in README.md, and has a manual page that tells the options of its help.
 tool_options_are_told() {
     for file in ../tools/bin/office-*; do
         name=${file##*/}
+        grep -q "^| \`$name\` |" README.md || { echo "README.md: $name" && return 1; }
         "$file" --help > "$work/help" || { echo "$name --help: status $?" && return 1; }
         grep -o -e '--[a-z][a-z-]*' "$work/help" | sort -u | sed 's/^--//' | grep -vx help > "$work/options"
         while read -r option; do
@@ -320,7 +321,7 @@ try_by systemd-analyze "systemd/: systemd knows each line" units_are_known
 try_by mypy "tools: mypy" types_are_right
 try_by flake8 "tools: flake8" flake8 --config ../tools/setup.cfg ../tools ../tools/bin/office-*
 try_tool "tools: their tests" tools_are_tested
-try_tool "tools: manual pages tell the options of their help" tool_options_are_told
+try_tool "tools: README.md names them, and manual pages tell the options of their help" tool_options_are_told
 if [ -f /usr/share/bash-completion/bash_completion ]; then
     try_tool "tools: bash completes their options" tool_options_are_completed
 else

@@ -30,7 +30,7 @@ def run(name: str, main: Main) -> NoReturn:
     """Ends the process with the status of `main`, which gets the words behind the command's name.
 
     A `Fault` is told, and its status is the command's. An interrupt gives status 130. If nobody reads standard output
-    any more, the status is 141, and nothing is told.
+    any more, the status is 141, and nothing is told. Any other fault of the system is told, and gives status 1.
     """
     try:
         status = main(sys.argv[1:])
@@ -42,10 +42,18 @@ def run(name: str, main: Main) -> NoReturn:
         tell(name, "interrupted")
         status = INTERRUPTED
     except BrokenPipeError:
-        # The interpreter flushes standard output once more at its end, which must not fail again.
-        os.dup2(os.open(os.devnull, os.O_WRONLY), sys.stdout.fileno())
+        drop_output()
         status = PIPE_BROKEN
+    except OSError as fault:
+        drop_output()
+        tell(name, cause_of(fault) if fault.filename is None else f"{fault.filename}: {cause_of(fault)}")
+        status = 1
     sys.exit(status)
+
+
+def drop_output() -> None:
+    """Drops what isn't written yet: the interpreter writes it once more at its end, which must not fail again."""
+    os.dup2(os.open(os.devnull, os.O_WRONLY), sys.stdout.fileno())
 
 
 def cause_of(fault: BaseException) -> str:

@@ -24,9 +24,18 @@ class Ends(unittest.TestCase):
         for body, status, told in [
                 ("return 3", 3, ""), ("raise faults.Fault('it went wrong', 4)", 4, "office-x: it went wrong\n"),
                 ("raise faults.Fault('it went wrong')", 1, "office-x: it went wrong\n"),
-                ("raise KeyboardInterrupt", 130, "office-x: interrupted\n")]:
+                ("raise KeyboardInterrupt", 130, "office-x: interrupted\n"),
+                ("open('/none')", 1, "office-x: /none: No such file or directory\n")]:
             found = ended(body)
             self.assertEqual((found.returncode, found.stderr), (status, told), body)
+
+    def test_a_full_disk(self):
+        with open("/dev/full", "wb") as full:
+            found = subprocess.run(
+                [sys.executable, "-c", f"import sys\nsys.path.insert(0, {TOOLS!r})\nfrom office_tools import faults\n"
+                 "def main(words):\n    print('text')\n    return 0\nfaults.run('office-x', main)"],
+                stdout=full, stderr=subprocess.PIPE, check=False)
+        self.assertEqual((found.returncode, found.stderr), (1, b"office-x: No space left on device\n"))
 
     def test_nobody_reads(self):
         read, write = os.pipe()

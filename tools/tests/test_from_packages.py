@@ -199,6 +199,16 @@ class Changes(Folder):
         self.assertEqual(told, [f"office-from-packages: {path}: its urgency is taken as low: it states urgent",
                                 f"office-from-packages: {path}: its day is taken as 2025-03-01: its date is yesterday"])
 
+    def test_a_file_that_states_nothing(self):
+        self.changes("one.changes")
+        self.file("changes/other.changes", "no control data")
+        self.file("changes/empty.changes", "")
+        arrived, told = self.arrivals()
+        self.assertEqual(arrived[0], ("high", "2025-03-03"))
+        cause = "it states no source and version: left out"
+        self.assertEqual(told, [f"office-from-packages: {self.path('changes/' + name)}: {cause}"
+                                for name in ("empty.changes", "other.changes")])
+
     def test_no_folder(self):
         ended = tool("office-from-packages", *DAYS, "--changes", self.path("none"), self.path("out"), PACKAGES)
         self.assertEqual((ended.returncode, ended.stderr.splitlines()[-1]),

@@ -58,12 +58,16 @@ def read_arrivals(folder: Optional[str], default: Arrival) -> Arrivals:
     """The arrival of each source and version of which the folder has a file .changes.
 
     Of several files the one that brings the source counts, else the first by its name. What a file doesn't state, or
-    states so that it can't be read, is told, and is that of the default.
+    states so that it can't be read, is told, and is that of the default. A file that can't be read at all is told.
     """
     found: dict[tuple[str, str], Arrival] = {}
     of_source: set[tuple[str, str]] = set()
     for path in changes_in(folder) if folder else []:
-        changes = read_changes(path)
+        try:
+            changes = read_changes(path)
+        except Fault as fault:
+            tell(f"{fault.cause}: left out")
+            continue
         upload = changes.source, changes.version
         if upload not in found or changes.has_source and upload not in of_source:
             found[upload] = arrival_of(path, changes, default)
