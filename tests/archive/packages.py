@@ -3,7 +3,6 @@
 Run by hand it builds all of them: packages.py FOLDER.
 """
 import concurrent.futures
-import dataclasses
 import datetime
 import email.utils
 import os
