@@ -5,11 +5,11 @@ import os
 from typing import Optional, Sequence
 
 from office_tools import faults, reports
-from office_tools.apply import heidi
+from office_tools.apply import heidi, marks
 from office_tools.apply.aptly import Aptly
-from office_tools.apply.contents import REFUSED, Contents, Indexes, difference, wanted
+from office_tools.apply.contents import ALL, REFUSED, Contents, Indexes, difference, wanted
 from office_tools.apply.managers import Manager, locked
-from office_tools.apply.published import is_whole, read_folder, read_indexes, read_release
+from office_tools.apply.published import is_whole, raw_sections, read_folder, read_indexes, read_release
 from office_tools.apply.reprepro import Reprepro
 from office_tools.apply.turn import SHOWN, Turn, counts
 from office_tools.faults import Fault
@@ -48,6 +48,9 @@ def parser() -> argparse.ArgumentParser:
                       help="a word for aptly publish update, such as --publish=-skip-signing; may be repeated")
     part = managers.add_parser("heidi", help="a file HeidiResult, for dak control-suite --set testing")
     part.add_argument("file", metavar="FILE", help="where it is written")
+    part = managers.add_parser("select", help="prints those paragraphs of files Packages that testing has")
+    part.add_argument("architecture", metavar="ARCHITECTURE", help="of this architecture and of all")
+    part.add_argument("packages", metavar="PACKAGES", nargs="+", help="a file Packages")
     part = managers.add_parser("compare", help="indexes of any archive: they are only compared")
     part.add_argument("--sources", action="append", default=[], metavar="SOURCES", help="a file Sources")
     part.add_argument("packages", metavar="PACKAGES", nargs="+",
@@ -117,6 +120,21 @@ def indexes_of(packages: Sequence[str], sources: Sequence[str]) -> Contents:
     return read_folder(packages[0], stated, Indexes.ONCE)
 
 
+def select(testing: reports.Testing, architecture: str, paths: Sequence[str]) -> int:
+    """Prints the paragraph of each row of testing on an architecture, and tells the rows of which there is none."""
+    want = {(row.package, marks.package_version(row.version), row.architecture) for row in testing.rows
+            if row.architecture in (architecture, ALL)}
+    for path in paths:
+        for paragraph in raw_sections(path):
+            key = tuple(paragraph.get(name, "") for name in ("Package", "Version", "Architecture"))
+            if key in want:
+                want.remove((key[0], key[1], key[2]))
+                print(str(paragraph).rstrip("\n"), end="\n\n")
+    for name, version, own in sorted(want):
+        tell(f"the files have no {own} {name} {version}")
+    return int(bool(want))
+
+
 def main(words: Sequence[str]) -> int:
     """Makes testing what the office says, or compares both."""
     known = parser()
@@ -126,6 +144,8 @@ def main(words: Sequence[str]) -> int:
     testing = testing_of(asked.url, asked.testing)
     if asked.manager == "heidi":
         return to_heidi(testing, asked.file, asked.dry_run)
+    if asked.manager == "select":
+        return select(testing, asked.architecture, asked.packages)
     if asked.manager == "compare":
         return compared(testing, asked.packages, asked.sources)
     manager, place = manager_of(asked)

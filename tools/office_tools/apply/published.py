@@ -1,13 +1,14 @@
 """The indexes of a suite as they are published: what they have, and whether they are whole."""
 import hashlib
 import os
-from typing import Optional, Sequence
+from typing import Iterator, Mapping, Optional, Sequence
 
+import apt_pkg
 from debian import deb822
 
 from office_tools import relations
 from office_tools.apply.contents import Contents, Indexes, Row, Source
-from office_tools.control import sections
+from office_tools.control import opened, sections
 from office_tools.faults import Fault, cause_of
 from office_tools.files import read_bytes
 
@@ -36,6 +37,16 @@ def read_indexes(packages: Sequence[tuple[str, str]], sources: Sequence[str]) ->
             rows.add(Row(place or architecture, architecture, name, version))
             built.add(source_name(path, fields.get("Source"), name, version))
     return Contents(frozenset(found), frozenset(rows), frozenset(built))
+
+
+def raw_sections(path: str) -> Iterator[Mapping[str, str]]:
+    """The paragraphs of a file as apt reads them; each one's text is what stands there."""
+    try:
+        yield from opened(path)
+    except OSError as fault:
+        raise Fault(f"{path}: {cause_of(fault)}") from fault
+    except apt_pkg.Error as fault:
+        raise Fault(f"{path}: apt can't read it: {str(fault).removeprefix('E:')}") from fault
 
 
 def source_name(path: str, value: Optional[str], name: str, version: str) -> str:
