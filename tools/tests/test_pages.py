@@ -84,7 +84,7 @@ class Pages(unittest.TestCase):
         """All public files, with their bytes."""
         found = {}
         for place, folders, names in os.walk(folder or self.folder):
-            folders[:] = [name for name in folders if name != ".state"]
+            folders[:] = [name for name in folders if name[0] != "."]
             for name in names:
                 path = os.path.join(place, name)
                 with open(path, "rb") as file:
@@ -347,10 +347,10 @@ class Kills(Pages):
         for count in range(len(due)):
             left = iter(range(count))
 
-            def stop(this, place, data, left=left):
+            def stop(this, path, left=left):
                 if next(left, None) is None:
                     raise KeyboardInterrupt
-                move(this, place, data)
+                move(this, path)
 
             with unittest.mock.patch.object(site.Site, "move", stop), self.assertRaises(KeyboardInterrupt):
                 self.make("--url", self.office.url)

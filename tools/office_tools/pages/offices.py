@@ -1,15 +1,13 @@
 """Where reports come from: a service, a store that no office has open, or the files of one run."""
-import os
 import re
-import subprocess
 from typing import Iterator, Mapping, Optional, Protocol, Sequence
 
-from office_tools import reports
-from office_tools.faults import Fault, cause_of
+from office_tools import program, reports
+from office_tools.faults import Fault
 from office_tools.files import read_bytes
 from office_tools.messages import Kind, kind_of, paragraphs
 from office_tools.pages.outcomes import run_of
-from office_tools.service import Service, UNANSWERED
+from office_tools.service import Service
 
 AT_ONCE = 2000  # sources about which the program is asked by one command
 
@@ -78,24 +76,15 @@ def hint_in(text: bytes) -> Optional[str]:
 
 
 class StoreOffice:
-    """The office whose store is in a file, asked by the program; `OFFICE` in the environment names another program."""
+    """The office whose store is in a file that no office has open, asked by the program."""
 
     def __init__(self, setup: str, store: str) -> None:
-        self.program = os.environ.get("OFFICE", "office")
         self.options = ["--conf", setup, "--db", store]
         self.hints: Optional[Mapping[int, str]] = None
 
-    def told(self, *words: str, statuses: Sequence[int] = (0,)) -> str:
-        """What a command of the program prints, if it ends with one of these statuses."""
-        try:
-            done = subprocess.run([self.program, *words, *self.options], stdin=subprocess.DEVNULL, capture_output=True,
-                                  check=False)
-        except OSError as fault:
-            raise Fault(f"{self.program}: {cause_of(fault)}", UNANSWERED) from fault
-        if done.returncode not in statuses:
-            lines = done.stderr.decode(errors="replace").splitlines() or [f"status {done.returncode}"]
-            raise Fault(f"{self.program} {words[0]}: {lines[0]}", UNANSWERED)
-        return done.stdout.decode()
+    def told(self, *words: str) -> str:
+        """What a command of the program prints."""
+        return program.output([*words, *self.options]).decode()
 
     def runs(self) -> Sequence[reports.Run]:
         return reports.read_runs(self.told("runs"))
@@ -111,8 +100,8 @@ class StoreOffice:
 
     def why(self, sources: Sequence[str]) -> Iterator[tuple[str, str]]:
         for place in range(0, len(sources), AT_ONCE):
-            # Status 1 says that the run has nothing about one of them.
-            told = self.told("why", *sources[place:place + AT_ONCE], statuses=(0, 1))
+            # If the run says nothing of one of them, the status is 1: so what is printed counts, and not the status.
+            told = program.run(["why", *sources[place:place + AT_ONCE], *self.options]).stdout.decode()
             for part in re.split(r"(?m)^(?=why \d+ \S+$)", told):
                 head = part.split("\n", 1)[0].split(" ")
                 if len(head) == 3:

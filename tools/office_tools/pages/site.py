@@ -1,7 +1,13 @@
-"""Writes the pages: each is moved into its place whole, and none is written again that didn't change."""
+"""Writes the pages: each is moved into its place whole, and none is written again that didn't change.
+
+All that changed is written into a folder beside, and then moved file by file: so a reader meets the old pages or the
+new ones, and a call that is ended in the middle leaves whole ones.
+"""
+import contextlib
 import hashlib
 import os
 import re
+import shutil
 from dataclasses import dataclass
 from typing import Any, Callable, Iterable, Iterator, Mapping, Sequence, TypeVar
 
@@ -19,7 +25,6 @@ from office_tools.reports import Outcome, Word
 ROWS = 4000  # rows of one page: a list that is longer has several
 NEWEST = 20  # runs on the first page
 OFFENDERS = 15  # packages on the first page
-DIGESTS = 500  # pages that are written before it is kept that they are
 Of = TypeVar("Of")
 HERE = os.path.dirname(os.path.realpath(__file__))
 
@@ -71,73 +76,84 @@ class Site:
             loader=jinja2.FileSystemLoader(os.path.join(HERE, "templates")), autoescape=True, trim_blocks=True,
             lstrip_blocks=True, auto_reload=False, keep_trailing_newline=True, undefined=jinja2.StrictUndefined)
         self.look = digest_of([self.bugs, *map(repr, own_files())])
-        self.digests = dict(state.digests())
-        self.there: set[str] = set()
-        self.fresh: dict[str, str] = {}
+        self.digests = state.digests()
+        self.digests_now: dict[str, str] = {}
+        self.beside = os.path.join(folder, ".new")
+        self.folders: set[str] = set()
+        self.written: list[str] = []
 
     def build(self, newest: Newest) -> None:
         """Writes all pages that changed, and takes away those that there is no reason for any more."""
         if self.state.built_of() == self.look and os.path.exists(os.path.join(self.folder, "index.html")):
             return
         facts = views.facts_of(self.state, newest, self.bugs)
+        shutil.rmtree(self.beside, ignore_errors=True)
         self.write_static()
         self.write_sources(facts)
         self.write_runs(facts)
         self.write_testing(facts)
-        self.write_lists(facts, views.rows_of(facts))
         self.put("excuses.json", excuses_json(newest.excuses, newest.update, newest.kept.fetched).encode())
-        self.keep_digests(0)
+        self.write_lists(facts, views.rows_of(facts))
+        self.move_all()
         self.remove_others()
         self.state.keep_built(self.look)
 
     def put(self, path: str, data: bytes) -> None:
-        """Puts a file into its place whole, where it isn't there with these bytes already."""
-        self.there.add(path)
-        self.fresh.setdefault(path, "")
-        place = os.path.join(self.folder, path)
+        """Writes a file beside its place, where it isn't there with these bytes already."""
+        self.digests_now.setdefault(path, "")
         try:
-            with open(place, "rb") as file:
+            with open(os.path.join(self.folder, path), "rb") as file:
                 if file.read() == data:
                     return
         except FileNotFoundError:
-            os.makedirs(os.path.dirname(place), exist_ok=True)
-        self.move(place, data)
-
-    def move(self, place: str, data: bytes) -> None:
-        """Writes a file beside its place, and then renames it. One call at a time writes, so the name is always one."""
-        beside = os.path.join(os.path.dirname(place), ".new")
-        with open(beside, "wb") as file:
+            pass
+        for folder in {os.path.dirname(path)} - self.folders:
+            os.makedirs(os.path.join(self.beside, folder), exist_ok=True)
+            os.makedirs(os.path.join(self.folder, folder), exist_ok=True)
+            self.folders.add(folder)
+        with open(os.path.join(self.beside, path), "wb") as file:
             file.write(data)
-        os.replace(beside, place)
+        self.written.append(path)
 
     def put_once(self, path: str, digest: str, template: str, values: Mapping[str, Any]) -> None:
         """Puts a page whose digest says what it is made of, where it isn't there with this one already."""
-        self.there.add(path)
-        if self.digests.get(path) == digest and os.path.exists(os.path.join(self.folder, path)):
-            return
-        self.put(path, self.page(template, values))
-        self.fresh[path] = digest
-        self.keep_digests(DIGESTS)
+        if not self.is_there(path, digest):
+            self.put(path, self.page(template, values))
+        self.digests_now[path] = digest
+
+    def is_there(self, path: str, digest: str) -> bool:
+        """Whether a page is there that is made of what the digest says."""
+        return self.digests.get(path) == digest and os.path.exists(os.path.join(self.folder, path))
+
+    def move_all(self) -> None:
+        """Moves what was written into its place, one file after the other, the first page last.
+
+        All of it is on the disk before: so no failure of power leaves an empty page, and the file system needn't write
+        each file out at its move.
+        """
+        if self.written:
+            os.sync()
+        for path in self.written:
+            self.move(path)
+        self.state.keep_digests({path: digest for path, digest in self.digests_now.items()
+                                 if self.digests.get(path) != digest})
+        shutil.rmtree(self.beside, ignore_errors=True)
+
+    def move(self, path: str) -> None:
+        """Moves a file that was written into its place."""
+        os.replace(os.path.join(self.beside, path), os.path.join(self.folder, path))
+
+    def remove_others(self) -> None:
+        """Removes pages that an earlier call wrote and this one has no reason for."""
+        gone = sorted(set(self.digests) - set(self.digests_now))
+        for path in gone:
+            with contextlib.suppress(FileNotFoundError):
+                os.unlink(os.path.join(self.folder, path))
+        self.state.keep_digests({}, gone)
 
     def page(self, template: str, values: Mapping[str, Any]) -> bytes:
         """The bytes of a page."""
         return self.templates.get_template(template).render(values).encode()
-
-    def keep_digests(self, most: int) -> None:
-        """Keeps the digests of pages that are written, once there are more than so many."""
-        if len(self.fresh) > most:
-            self.state.keep_digests(self.fresh)
-            self.fresh = {}
-
-    def remove_others(self) -> None:
-        """Removes pages that an earlier call wrote and this one has no reason for."""
-        gone = sorted(set(self.digests) - self.there)
-        for path in gone:
-            try:
-                os.unlink(os.path.join(self.folder, path))
-            except FileNotFoundError:
-                pass
-        self.state.keep_digests({}, gone)
 
     def write_static(self) -> None:
         """The stylesheet and the script."""
@@ -165,12 +181,12 @@ class Site:
             before = numbers[place - 1] if place else None
             digest = digest_of([self.look, repr((run, before, after))])
             path = f"run/{run.number}.html"
-            if self.digests.get(path) == digest and os.path.exists(os.path.join(self.folder, path)):
-                self.there |= set(pages[run.number])
+            if self.is_there(path, digest):
+                self.digests_now |= {page: self.digests[page] for page in pages[run.number]}
                 continue
             read = facts.newest if run == facts.newest.kept.run else read_run(self.state.run(run.number))
             self.write_run(facts, read, {"before": before, "after": after})
-            self.fresh[path] = digest
+            self.digests_now[path] = digest
         self.put("runs.html", self.page("runs.html", {"runs": facts.runs[::-1], "up": ""}))
 
     def write_run(self, facts: views.Facts, read: Newest, values: Mapping[str, Any]) -> None:
