@@ -129,7 +129,7 @@ class AllRuns(Pages):
         self.assertEqual([counts[name] for name in (
             "too young", "new release-critical bug", "missing on an architecture", "blocked by a hint")], ["1"] * 4)
         self.assertEqual(counts["no binary package of this version"], "0")
-        self.assertEqual(counts["waits: its move would break a package"], "1")
+        self.assertEqual(counts["waits, since its move would break a package"], "1")
         self.assertIn("greeter on amd64", cells)
         self.assertIn("Run 2", cells)
         self.assertIn("Run 1", cells)

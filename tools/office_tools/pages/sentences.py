@@ -14,10 +14,10 @@ REASON_TITLES: Mapping[str, str] = {
     "remove": "a hint asks for its removal"}
 
 OUTCOME_TITLES: Mapping[str, str] = {
-    "wait": "waits: its move would break a package",
+    "wait": "waits, since its move would break a package",
     "refused": "a hint for it was refused",
-    "removed": "was removed from testing",
-    "none": "isn't a candidate"}
+    "removed": "removed from testing",
+    "none": "nothing was tried"}
 
 
 def reason_sentence(reason: Reason, excuse: Excuse) -> str:
