@@ -48,8 +48,8 @@ stuck - 2-1
 
 UPDATES = {
     1: "update 1 2025-03-04\naccept libgreet 1.2-1\naccept greeter 0.9-2\n",
-    2: "update 2 2025-03-20\nwait stuck 2-1 uninstallable amd64 greeter\n",
-    3: "update 3 2025-03-21\neasy 8 accept stuck 2-1\n"}
+    2: "update 2 2025-03-20\neasy 9 refuse uninstallable amd64 app\nwait stuck 2-1 uninstallable amd64 greeter\n",
+    3: "update 3 2025-03-21\neasy 8 accept stuck 2-1\neasy 9 refuse uninstallable amd64 app\n"}
 
 BEFORE = """source greeter 0.9-2
 source libgreet 1.2-1
@@ -95,12 +95,13 @@ leaves libgreet-doc 1.2-1
 unstable libgreet-doc 1.2-1 of libgreet isn't current
 """
 WHY = {
-    2: {"app": APP.format(age=2), "libgreet": LIBGREET.format(age=15), "stuck": STUCK},
-    3: {"app": APP.format(age=3), "libgreet": LIBGREET.format(age=16)}}
+    2: {"app": APP.format(age=2) + "easy 9 refuse uninstallable amd64 app\n", "libgreet": LIBGREET.format(age=15), "stuck": STUCK},
+    3: {"app": APP.format(age=3) + "easy 9 refuse uninstallable amd64 app\n", "libgreet": LIBGREET.format(age=16)}}
 
 KEPT = {
     ("rt", 2): "From: rt\nNumber: 2\nKind: hint\nHint: block libgreet\n",
     ("rt", 8): "From: rt\nNumber: 8\nKind: hint\nHint: easy stuck/2-1\n",
+    ("rt", 9): "From: rt\nNumber: 9\nKind: hint\nHint: easy libgreet/2.0-1 stuck/2-1\n",
     ("ftp", 2): "From: ftp\nNumber: 2\nKind: upload\nSource: greeter\nVersion: 0.9-2\nUrgency: low\nDay: 2025-03-01\n"}
 
 
@@ -108,7 +109,7 @@ def routes(finished: int) -> Mapping[str, str]:
     """What the office answers once so many of the runs are finished."""
     found = {"/runs": "".join(RUNS[run] for run in range(1, finished + 1)),
              "/testing": TESTING.get(finished, "testing 0\n"),
-             "/kept": "mail ftp 5 kept, 1 to 5, greatest 5\nmail rt 8 kept, 1 to 8, greatest 8\n"}
+             "/kept": "mail ftp 5 kept, 1 to 5, greatest 5\nmail rt 9 kept, 1 to 9, greatest 9\n"}
     for run in range(1, finished + 1):
         found |= {f"/excuses/{run}": EXCUSES[run], f"/update/{run}": UPDATES[run]}
     for source, told in WHY.get(finished, {}).items():

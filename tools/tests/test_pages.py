@@ -163,6 +163,15 @@ class AllRuns(Pages):
         self.assertIn("blocked by rt 2: block libgreet", self.page("source/libgreet.html").items)
         self.assertIn("upload ftp 3 2025-03-05", self.page("source/libgreet.html").items)
 
+    def test_a_refused_group_is_told_with_its_hint(self):
+        self.make("--url", self.office.url)
+        self.assertIn("easy 9 refuse uninstallable amd64 app (the hint: easy libgreet/2.0-1 stuck/2-1)",
+                      self.page("source/app.html").items)
+        cells = self.page("run/2.html").cells
+        place = cells.index("Easy hint 9")
+        self.assertEqual(cells[place + 1:place + 3], [
+            "easy libgreet/2.0-1 stuck/2-1", "refused: it would leave app uninstallable on amd64"])
+
     def test_history_tells_the_runs_in_which_something_changed(self):
         self.make("--url", self.office.url)
         self.finish_third()

@@ -1,12 +1,10 @@
 """What the office answers about a source (`GET /why/SOURCE`), cut into pieces, some of which are links."""
 import re
 from dataclasses import dataclass
-from typing import Callable, Mapping, Optional, Sequence
+from typing import Callable, Collection, Mapping, Optional, Sequence
 
 from office_tools import reports
 from office_tools.reports import Change
-
-SourceLink = Callable[[str], str]
 
 
 @dataclass(frozen=True)
@@ -33,9 +31,9 @@ class Links:
     Each gives an empty text for a name that leads nowhere. `hints` are the texts of hints by number.
     """
 
-    source: SourceLink
-    package: SourceLink
-    bug: SourceLink
+    source: Callable[[str], str]
+    package: Callable[[str], str]
+    bug: Callable[[str], str]
     hints: Mapping[int, str]
 
 
@@ -95,13 +93,21 @@ def line_of(text: str, links: Links) -> Line:
 
 def line_of_change(change: Change, links: Links) -> Line:
     """A line of the update that names other sources and has this one's name as a package."""
-    pieces = [Piece(shortened(change.line))]
+    pieces = linked(shortened(change.line), {item.source for item in change.items}, links.source)
     wish = links.hints.get(change.hint, "") if change.hint is not None else ""
-    if wish:
-        pieces.append(Piece(f" (the hint: {shortened(wish)})"))
-    pieces += [piece for item in change.items[:3] if links.source(item.source)
-               for piece in (Piece(" "), Piece(item.source, links.source(item.source)))]
-    return Line(tuple(pieces))
+    return Line((*pieces, Piece(f" (the hint: {shortened(wish)})")) if wish else tuple(pieces))
+
+
+def linked(text: str, names: Collection[str], link: Callable[[str], str]) -> list[Piece]:
+    """A text in which each word that is one of the names is a link, if it leads somewhere."""
+    pieces: list[Piece] = []
+    for word in re.split("( )", text):
+        target = link(word) if word in names else ""
+        if target or not pieces or pieces[-1].link:
+            pieces.append(Piece(word, target))
+        else:
+            pieces[-1] = Piece(pieces[-1].text + word)
+    return pieces
 
 
 def shortened(text: str, longest: int = 300) -> str:

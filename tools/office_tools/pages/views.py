@@ -3,14 +3,14 @@ import collections
 import datetime
 import functools
 from dataclasses import dataclass, field
-from typing import Callable, Mapping, Optional, Sequence
+from typing import Mapping, Optional, Sequence
 
 from office_tools import reports
 from office_tools.pages.fetching import first_line, hints_named, Newest
 from office_tools.pages.outcomes import NOTHING, outcome_in, outcomes_of, reason_words, SourceOutcome, What
 from office_tools.pages.sentences import breaks, old_enough, outcome_sentence, reason_sentence
 from office_tools.pages.state import Event, State, Why
-from office_tools.pages.told import Line, lines_of, Links, Piece, shortened
+from office_tools.pages.told import Line, linked, lines_of, Links, Piece, shortened
 from office_tools.reports import Excuse, Reason, ReasonKind
 
 HINT_LINES: Mapping[ReasonKind, str] = {
@@ -175,17 +175,12 @@ def row_of(facts: Facts, excuse: Excuse, links: Links) -> Row:
 
 def outcome_line(outcome: SourceOutcome, links: Links) -> Line:
     """What a run did with a source, with the package that would break as a link, and with the text of the hint."""
-    pieces = linked(outcome_sentence(outcome), outcome.offender.package if outcome.offender else "", links.package)
+    names = {outcome.offender.package} if outcome.offender else set()
+    pieces = linked(outcome_sentence(outcome), names, links.package)
     wish = links.hints.get(outcome.hint, "") if outcome.hint is not None else ""
     if wish:
         pieces.append(Piece(f" ({shortened(wish, 120)})"))
     return Line(tuple(pieces))
-
-
-def linked(sentence: str, name: str, link: Callable[[str], str]) -> list[Piece]:
-    """A sentence with a name in it as a link, where it leads somewhere."""
-    before, found, behind = sentence.partition(f" {name} ") if name and link(name) else (sentence, "", "")
-    return [Piece(before + " "), Piece(name, link(name)), Piece(" " + behind)] if found else [Piece(sentence)]
 
 
 def change_line(change: reports.Change, links: Links) -> Line:
@@ -193,9 +188,9 @@ def change_line(change: reports.Change, links: Links) -> Line:
     if change.outcome is reports.Outcome.ACCEPTED:
         return Line((Piece("accepted"),))
     if change.offender is not None:
-        return Line(tuple(linked("refused: it " + breaks(change.offender), change.offender.package, links.package)))
+        return Line(tuple(linked("refused: it " + breaks(change.offender), {change.offender.package}, links.package)))
     item = change.items[0]
-    return Line(tuple(linked(f"refused: {item.source} {item.version} isn't a candidate", item.source, links.source)))
+    return Line(tuple(linked(f"refused: {item.source} {item.version} isn't a candidate", {item.source}, links.source)))
 
 
 def moved_sentence(change: reports.Change) -> str:
