@@ -74,6 +74,7 @@ APP = """app - 1-1
 upload ftp 5 2025-03-18
 old enough on 2025-03-23 by urgency
 new bug 1042 by bts 1
+easy 9 refuse uninstallable amd64 app
 """
 LIBGREET = """libgreet 1.2-1 2.0-1
  age {age} of 10
@@ -95,8 +96,8 @@ leaves libgreet-doc 1.2-1
 unstable libgreet-doc 1.2-1 of libgreet isn't current
 """
 WHY = {
-    2: {"app": APP.format(age=2) + "easy 9 refuse uninstallable amd64 app\n", "libgreet": LIBGREET.format(age=15), "stuck": STUCK},
-    3: {"app": APP.format(age=3) + "easy 9 refuse uninstallable amd64 app\n", "libgreet": LIBGREET.format(age=16)}}
+    2: {"app": APP.format(age=2), "libgreet": LIBGREET.format(age=15), "stuck": STUCK},
+    3: {"app": APP.format(age=3), "libgreet": LIBGREET.format(age=16)}}
 
 KEPT = {
     ("rt", 2): "From: rt\nNumber: 2\nKind: hint\nHint: block libgreet\n",

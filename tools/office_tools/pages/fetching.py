@@ -67,7 +67,7 @@ def fetch_runs(office: Office, state: State) -> bool:
     last: Optional[dict[str, Event]] = None
     for number in sorted(set(told) - {run.number for run in state.runs()}):
         if last is None:
-            last = {source: events[-1] for source, events in state.events().items()}
+            last = dict(state.last_events())
         last |= fetch_run(office, state, told[number], last)
     return True
 

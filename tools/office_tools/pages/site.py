@@ -115,12 +115,6 @@ class Site:
             file.write(data)
         self.written.append(path)
 
-    def put_once(self, path: str, digest: str, template: str, values: Mapping[str, Any]) -> None:
-        """Puts a page whose digest says what it is made of, where it isn't there with this one already."""
-        if not self.is_there(path, digest):
-            self.put(path, self.page(template, values))
-        self.digests_now[path] = digest
-
     def is_there(self, path: str, digest: str) -> bool:
         """Whether a page is there that is made of what the digest says."""
         return self.digests.get(path) == digest and os.path.exists(os.path.join(self.folder, path))
@@ -166,8 +160,11 @@ class Site:
         links = facts.links("")
         for name in sorted(facts.names):
             source = views.source_of(facts, name, links)
-            self.put_once(f"source/{name}.html", digest_of([self.look, repr(source)]), "source.html",
-                          {"source": source, "up": "../"})
+            path, digest = f"source/{name}.html", digest_of([self.look, repr(source)])
+            if not self.is_there(path, digest):
+                history = views.history_of(facts, self.state.events(name))
+                self.put(path, self.page("source.html", {"source": source, "history": history, "up": "../"}))
+            self.digests_now[path] = digest
 
     def write_runs(self, facts: views.Facts) -> None:
         """A page of each run, and the list of all. That of an earlier run changes once the next one is there."""

@@ -21,6 +21,8 @@ CREATE TABLE run (number INTEGER PRIMARY KEY, line TEXT NOT NULL, fetched TEXT N
     updated BLOB NOT NULL) STRICT;
 CREATE TABLE event (source TEXT NOT NULL, run INTEGER NOT NULL, testing TEXT NOT NULL, unstable TEXT NOT NULL,
     reasons TEXT NOT NULL, outcome TEXT NOT NULL, PRIMARY KEY (source, run)) STRICT, WITHOUT ROWID;
+CREATE TABLE last (source TEXT PRIMARY KEY, run INTEGER NOT NULL, testing TEXT NOT NULL, unstable TEXT NOT NULL,
+    reasons TEXT NOT NULL, outcome TEXT NOT NULL) STRICT, WITHOUT ROWID;
 CREATE TABLE testing (run INTEGER PRIMARY KEY, told BLOB NOT NULL) STRICT;
 CREATE TABLE why (source TEXT PRIMARY KEY, run INTEGER NOT NULL, excuse TEXT NOT NULL, told TEXT NOT NULL) STRICT;
 CREATE TABLE hint (number INTEGER PRIMARY KEY, told TEXT) STRICT;
@@ -127,8 +129,13 @@ class State:
     def drop_from(self, number: int) -> None:
         """Drops all runs from this one on, and what was asked behind them."""
         with self.transaction():
-            for table, column in ("run", "number"), ("event", "run"), ("testing", "run"), ("why", "run"):
-                self.database.execute(f"DELETE FROM {table} WHERE {column} >= ?", (number,))
+            self.database.execute("DELETE FROM run WHERE number >= ?", (number,))
+            for table in "event", "last", "testing", "why":
+                self.database.execute(f"DELETE FROM {table} WHERE run >= ?", (number,))
+            # Of the columns beside max(run) SQLite gives those of the row that has it.
+            self.database.execute("INSERT OR IGNORE INTO last SELECT source, max(run), testing, unstable, reasons, "
+                                  "outcome FROM event GROUP BY source")
+            self.database.execute("UPDATE page SET digest = ''")
             self.database.execute("DELETE FROM hint")
             self.database.execute("DELETE FROM built")
 
@@ -137,18 +144,23 @@ class State:
         with self.transaction():
             self.database.execute("INSERT INTO run VALUES (?, ?, ?, ?, ?)", (
                 kept.run.number, line_of(kept.run), kept.fetched, packed(kept.excuses), packed(kept.update)))
-            self.database.executemany("INSERT INTO event VALUES (?, ?, ?, ?, ?, ?)", (
-                (source, event.run, *event.standing) for source, event in events.items()))
+            rows = [(source, event.run, *event.standing) for source, event in events.items()]
+            self.database.executemany("INSERT INTO event VALUES (?, ?, ?, ?, ?, ?)", rows)
+            self.database.executemany("INSERT OR REPLACE INTO last VALUES (?, ?, ?, ?, ?, ?)", rows)
             self.want_hints(hints)
             self.database.execute("DELETE FROM built")
 
-    def events(self) -> Mapping[str, Sequence[Event]]:
-        """The events of each source, in order."""
-        found: dict[str, list[Event]] = {}
+    def last_events(self) -> Mapping[str, Event]:
+        """The last event of each source."""
         with self.faults():
-            for source, *parts in self.database.execute("SELECT * FROM event ORDER BY source, run"):
-                found.setdefault(source, []).append(Event(*parts))
-        return found
+            return {source: Event(*parts) for source, *parts in self.database.execute("SELECT * FROM last")}
+
+    def events(self, source: str) -> Sequence[Event]:
+        """The events of a source, the last one first."""
+        with self.faults():
+            found = self.database.execute("SELECT run, testing, unstable, reasons, outcome FROM event "
+                                          "WHERE source = ? ORDER BY run DESC", (source,))
+            return [Event(*parts) for parts in found]
 
     def testing(self) -> Optional[tuple[int, str]]:
         """What is in testing after a run, with the run's number."""

@@ -20,13 +20,14 @@ HINT_LINES: Mapping[ReasonKind, str] = {
 
 @dataclass(frozen=True)
 class Standing:
-    """From which run on a source stood so: its versions, what kept it out, and what the run did with it."""
+    """From which run on a source stood so: its versions, what kept it out, what the run did, and whether it moved."""
 
     run: int
     date: str
     testing: str
     unstable: str
     told: str
+    has_moved: bool
 
 
 @dataclass(frozen=True)
@@ -35,21 +36,20 @@ class Source:
 
     `unstable` and `age` are empty where it has no excuse, or moved in the newest run. `told` is what keeps it out, and
     what the newest run did with it if that was no move. `lines` are what the office answered about it: behind run
-    `asked`, which is None where that is the newest one. What is told here stays the same from run to run as long as the
-    source stands the same.
+    `asked`, which is None where that is the newest one. `since` is its last event. What is told here stays the same
+    from run to run as long as the source stands the same.
     """
 
     name: str
     testing: str
     unstable: str
     age: str
-    migrated: Optional[Standing]
     told: Sequence[Line]
     lines: Sequence[Line]
     asked: Optional[int]
     proposal: Sequence[str]
     binaries: Sequence[str]
-    history: Sequence[Standing]
+    since: Optional[Event]
 
 
 @dataclass(frozen=True)
@@ -73,7 +73,7 @@ class Facts:
     newest: Newest
     runs: Sequence[reports.Run]
     testing: Optional[reports.Testing]
-    events: Mapping[str, Sequence[Event]]
+    last: Mapping[str, Event]
     whys: Mapping[str, Why]
     hints: Mapping[int, str]
     bugs: str
@@ -91,7 +91,7 @@ class Facts:
     def names(self) -> frozenset[str]:
         """The sources that have a page."""
         in_testing = self.testing.sources if self.testing else ()
-        return frozenset([*in_testing, *self.excuses, *self.events, *self.outcomes])
+        return frozenset([*in_testing, *self.excuses, *self.last, *self.outcomes])
 
     @functools.cached_property
     def dates(self) -> Mapping[int, str]:
@@ -110,7 +110,7 @@ def facts_of(state: State, newest: Newest, bugs: str) -> Facts:
     kept = state.testing()
     testing = reports.read_testing(kept[1]) if kept is not None and kept[0] == newest.number else None
     rows = testing.rows if testing else ()
-    return Facts(newest, state.runs(), testing, state.events(), state.whys(), state.hints(), bugs,
+    return Facts(newest, state.runs(), testing, state.last_events(), state.whys(), state.hints(), bugs,
                  outcomes_of(newest.update), {excuse.source: excuse for excuse in newest.excuses.excuses},
                  binaries_of(rows), {row.package: row.source for row in rows})
 
@@ -213,15 +213,13 @@ def source_of(facts: Facts, name: str, links: Links) -> Source:
     has_moved = outcomes[-1].what is What.ACCEPT
     excuse = None if has_moved else facts.excuses.get(name)
     why = why_of(facts, excuse) if excuse else None
-    history = history_of(facts, name)
     return Source(
         name, testing_version(facts, name), excuse.unstable if excuse else "",
         age_sentence(excuse, facts.date) if excuse else "",
-        next((part for event, part in zip(reversed(facts.events.get(name, ())), history) if is_move(event)), None),
         () if has_moved else told_of(facts, excuse, outcomes, links),
         lines_of(name, why.told, links) if why else (),
         why.run if why and why.run != facts.newest.number else None,
-        proposal_lines(name), facts.binaries.get(name, ()), history)
+        proposal_lines(name), facts.binaries.get(name, ()), facts.last.get(name))
 
 
 def testing_version(facts: Facts, name: str) -> str:
@@ -238,15 +236,10 @@ def age_sentence(excuse: Excuse, date: datetime.date) -> str:
     return f"needs {excuse.needed} days: old enough {'since' if is_old else 'on'} {old_enough(excuse, date)}"
 
 
-def is_move(event: Event) -> bool:
-    """Whether the source moved to testing."""
-    return outcome_in(event.outcome).what is What.ACCEPT
-
-
-def history_of(facts: Facts, name: str) -> Sequence[Standing]:
+def history_of(facts: Facts, events: Sequence[Event]) -> Sequence[Standing]:
     """How a source stood from run to run, the newest first."""
-    return tuple(Standing(event.run, facts.dates.get(event.run, ""), event.testing, event.unstable,
-                          event_sentence(event)) for event in reversed(facts.events.get(name, ())))
+    return [Standing(event.run, facts.dates.get(event.run, ""), event.testing, event.unstable, event_sentence(event),
+                     outcome_in(event.outcome).what is What.ACCEPT) for event in events]
 
 
 def event_sentence(event: Event) -> str:
