@@ -126,6 +126,8 @@ class Site:
         each file out at its move.
         """
         if self.written:
+            # From here on a later call knows them as pages that it may remove.
+            self.state.keep_digests({path: "" for path in self.written})
             os.sync()
         for path in self.written:
             self.move(path)

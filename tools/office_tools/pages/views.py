@@ -2,7 +2,7 @@
 import collections
 import datetime
 import functools
-from dataclasses import dataclass, field
+from dataclasses import dataclass
 from typing import Mapping, Optional, Sequence
 
 from office_tools import reports
@@ -79,8 +79,8 @@ class Facts:
     bugs: str
     outcomes: Mapping[str, Sequence[SourceOutcome]]
     excuses: Mapping[str, Excuse]
-    binaries: Mapping[str, Sequence[str]] = field(default_factory=dict)
-    packages: Mapping[str, str] = field(default_factory=dict)
+    binaries: Mapping[str, Sequence[str]]
+    packages: Mapping[str, str]
 
     @property
     def date(self) -> datetime.date:
