@@ -144,8 +144,7 @@ class Hints(Folder):
                 data += file.read()
         told = office("replay", "--conf", self.path("first/setup.conf"), given=data).stdout.decode().split("\n")
         self.assertIn("easy 2 accept one 2 two 2", told)
-        self.assertEqual([line for line in told if line.startswith("easy") and "refuse" in line],
-                         ["easy 1 refuse one/1 not a candidate"])
+        self.assertFalse([line for line in told if line.startswith("easy") and "refuse" in line])
 
 
 class Changes(Folder):
