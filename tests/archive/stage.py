@@ -6,7 +6,6 @@ import signal
 import socket
 import subprocess
 import sys
-import time
 from dataclasses import dataclass
 from typing import Iterator, Mapping, Optional, Protocol, Sequence
 
@@ -229,13 +228,14 @@ class Aptly:
 
 @dataclass
 class Stage:
-    """An office and an archive, fed and applied day by day."""
+    """An office and an archive, fed and applied day by day. The feed asks for `url`, where it is stated."""
 
     office: Office
     archive: Archive
     folder: str
     built: str
     line: str = ""
+    url: str = ""
 
     def takes(self, uploads: Sequence[Upload]) -> None:
         """Uploads come to unstable, and their files .changes are kept."""
@@ -251,8 +251,9 @@ class Stage:
     def feed_words(self, day: str, *more: str) -> Sequence[str]:
         """The words of office-feed on a day."""
         lines = (f"deb [trusted=yes arch={','.join(BOTH)}] {self.line}", f"deb-src [trusted=yes] {self.line}")
-        return ["--url", self.office.url, "--cache", os.path.join(self.folder, "cache"), "--day", day, "--changes",
-                os.path.join(self.folder, "changes"), *more, *(word for line in lines for word in ("--apt", line))]
+        return ["--url", self.url or self.office.url, "--cache", os.path.join(self.folder, "cache"), "--day", day,
+                "--changes", os.path.join(self.folder, "changes"), *more,
+                *(word for line in lines for word in ("--apt", line))]
 
     def feed(self, day: str, *more: str) -> str:
         """Feeds the office, and gives what the command prints."""
@@ -290,8 +291,3 @@ def files_below(folder: str) -> Iterator[str]:
 def fields(text: bytes) -> Sequence[Paragraph]:
     """The paragraphs of a message."""
     return list(paragraphs(text))
-
-
-def wait_until(seconds: float) -> None:
-    """Waits a part of a second."""
-    time.sleep(seconds)

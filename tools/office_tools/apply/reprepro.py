@@ -25,7 +25,7 @@ class Reprepro:
 
     def reprepro(self, *words: str) -> str:
         """What a command prints."""
-        return run(["reprepro", "--basedir", self.base, *words])
+        return run(["reprepro", "--waitforlock", "3", "--basedir", self.base, *words])
 
     def architectures(self) -> Sequence[str]:
         """The architectures of testing; a suite that isn't there is refused."""

@@ -3,13 +3,13 @@ import argparse
 import datetime
 import os
 import sys
-from dataclasses import dataclass
+from dataclasses import dataclass, replace
 from typing import Optional, Sequence
 
 from office_tools import order
 from office_tools.faults import Fault
 from office_tools.feed import archive, mailbox
-from office_tools.feed.mailbox import REFUSED, Mailbox
+from office_tools.feed.mailbox import REFUSED, Mailbox, Outgoing
 from office_tools.feed.news import News, Unstable, news
 from office_tools.feed.told import NAME, take_over, tell
 from office_tools.from_packages.binaries import fitting, read_binaries
@@ -54,9 +54,27 @@ class Feed:
     service: Service
     box: Mailbox
     runs: str
+    outgoing: Outgoing
 
     def send(self, texts: Sequence[bytes]) -> None:
-        """Posts messages one after the other. The first that isn't held ends it."""
+        """Posts messages one after the other. The first that isn't held ends it.
+
+        Before the first is posted all are written down: if this process is ended, the next one sends the same texts
+        under the same numbers.
+        """
+        self.outgoing.write(texts)
+        self.post(texts)
+        self.outgoing.clear()
+
+    def resume(self) -> int:
+        """Posts what a feed that was ended had written down and the office doesn't keep; gives how much this is."""
+        left = self.outgoing.left(self.box.kept)
+        self.post(left)
+        self.outgoing.clear()
+        return len(left)
+
+    def post(self, texts: Sequence[bytes]) -> None:
+        """Posts messages one after the other."""
         for text in texts:
             label = label_of(text)
             reply = self.service.post("/mail", text)
@@ -129,9 +147,12 @@ def main(words: Sequence[str]) -> int:
         archive.Files(asked.packages, asked.sources)
     unstable = unstable_of(files)
     box = mailbox.fetch(service, folder)
+    feed = Feed(service, box, runs_sender(service, box.kept), Outgoing(folder))
+    if not asked.dry_run and feed.resume():
+        box = mailbox.fetch(service, folder)
+        feed = replace(feed, box=box)
     arrived = Arrival(Urgency.MEDIUM, asked.day.isoformat())
     found = news(unstable, box, service.testing(), Uploading(read_arrivals(asked.changes, arrived), arrived))
-    feed = Feed(service, box, runs_sender(service, box.kept))
     if asked.dry_run:
         sys.stdout.buffer.write(found.bag())
         tell(found.summary())

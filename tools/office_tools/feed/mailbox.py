@@ -1,4 +1,5 @@
 """All mail that the office keeps without a gap, fetched, and remembered in a folder that may be lost at any time."""
+import contextlib
 import fcntl
 import os
 import urllib.parse
@@ -14,6 +15,7 @@ from office_tools.service import UNANSWERED, Kept, Service
 
 REFUSED = 3
 BAG = "bag"
+OUTGOING = "outgoing"
 
 
 def folder_for(asked: Optional[str], service: Service) -> str:
@@ -53,14 +55,54 @@ class Mailbox:
         return found
 
 
+@dataclass(frozen=True)
+class Outgoing:
+    """What a feed is about to send, written down in its folder."""
+
+    folder: str
+
+    @property
+    def path(self) -> str:
+        """The bag."""
+        return os.path.join(self.folder, OUTGOING)
+
+    def write(self, texts: Sequence[bytes]) -> None:
+        """Writes it down."""
+        if texts:
+            write_whole(self.path, b"".join(map(bags.framed, texts)))
+
+    def clear(self) -> None:
+        """All of it was sent."""
+        with contextlib.suppress(FileNotFoundError):
+            os.unlink(self.path)
+
+    def left(self, kept: Mapping[str, Kept]) -> Sequence[bytes]:
+        """What a feed wrote down that was ended before it had sent it. What doesn't follow the kept mail is left out:
+        its number is taken, or another office's.
+        """
+        if not os.path.exists(self.path):
+            return []
+        found: list[bytes] = []
+        last = {sender: count.unbroken for sender, count in kept.items()}
+        for text in bags.messages_in(read_bytes(self.path)):
+            label = label_of(text)
+            if label is not None and last.get(label.sender) == label.number - 1:
+                last[label.sender] = label.number
+                found.append(text)
+        return found
+
+
 def fetch(service: Service, folder: str) -> Mailbox:
     """All mail that the service keeps without a gap. What the folder has isn't asked for again."""
     kept = service.kept()
     box = Mailbox(os.path.join(folder, BAG), kept)
-    known = remembered(box.path, kept)
-    if known and not is_of(service, known):
-        tell(f"{box.path}: it is of another office, and is made anew")
-        known = {}
+    found = remembered(box.path, kept)
+    if found is None or not is_of(service, found):
+        if os.path.exists(box.path):
+            tell(f"{box.path}: it isn't what this office keeps, and is made anew")
+        Outgoing(folder).clear()
+        found = {}
+    known = dict(found)
     wanted = [Label(sender, number) for sender, count in kept.items() for number in range(1, count.unbroken + 1)]
     lacking = [label for label in wanted if label not in known]
     for label, text in letters.texts(service, lacking):
@@ -73,20 +115,19 @@ def fetch(service: Service, folder: str) -> Mailbox:
     return box
 
 
-def remembered(path: str, kept: Mapping[str, Kept]) -> dict[Label, bytes]:
-    """What the folder has of the kept mail. A bag that isn't whole is another's work, and counts as none."""
+def remembered(path: str, kept: Mapping[str, Kept]) -> Optional[Mapping[Label, bytes]]:
+    """What the folder has of the kept mail; None where it has no whole bag, or mail that the office doesn't keep."""
     if not os.path.exists(path):
-        return {}
+        return None
     found: dict[Label, bytes] = {}
     try:
         for text in bags.messages_in(read_bytes(path)):
             label = label_of(text)
             if label is None or label.sender not in kept or label.number > kept[label.sender].unbroken:
-                tell(f"{path}: it has mail that the office doesn't keep, and is made anew")
-                return {}
+                return None
             found[label] = text
     except bags.BagFault:
-        return {}
+        return None
     return found
 
 
