@@ -115,7 +115,7 @@ def ends(stage: Stage, manager: str) -> int:
     with open(os.path.join(wrappers, manager), "w", encoding="utf-8") as file:
         file.write(WRAPPER % manager)
     os.chmod(os.path.join(wrappers, manager), 0o755)
-    old, new = archived(stage.archive), due(stage.office)
+    old, new = archived(stage.archive), due(stage)
     at = 0
     while True:
         at += 1

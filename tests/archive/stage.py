@@ -100,6 +100,7 @@ class Archive(Protocol):
     """An archive with the suites unstable and testing."""
 
     base: str
+    has_versions: bool
 
     def incoming(self, upload: Upload, built: str) -> None:
         """Takes an upload into unstable."""
@@ -122,6 +123,8 @@ class Archive(Protocol):
 
 class Reprepro:
     """An archive of reprepro, with the suite `ordered` between both: unstable as the last order saw it."""
+
+    has_versions = False
 
     def __init__(self, folder: str) -> None:
         self.base = os.path.join(folder, "archive")
@@ -182,6 +185,8 @@ class Reprepro:
 
 class Aptly:
     """An archive of aptly: repositories unstable, which keeps all versions, and testing."""
+
+    has_versions = True
 
     def __init__(self, folder: str) -> None:
         self.base = os.path.join(folder, "aptly/public")

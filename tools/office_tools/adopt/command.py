@@ -9,6 +9,7 @@ from office_tools import bags, faults, messages, order, program, reports, setups
 from office_tools.adopt.rows import lifted, stripped
 from office_tools.apply.contents import Contents, Indexes, difference, wanted
 from office_tools.apply.published import read_indexes
+from office_tools.apply.turn import tell_idle
 from office_tools.faults import Fault
 from office_tools.files import write_whole
 from office_tools.from_packages import mail, told
@@ -87,14 +88,25 @@ def checked(setup: str, bag: bytes, have: Contents) -> int:
     if not have.sources:
         want = Contents(have.sources, want.rows)
     found = difference(want, have)
-    for line in found.lines():
+    beside = [line for line in found.excess.lines() if is_beside(line, want)]
+    for line in beside:
+        print(f"goes with the first apply, for testing has another version: {line}")
+    left = [line for line in found.lines() if line.removeprefix("too much: ") not in beside]
+    for line in left:
         print(line)
     waiting = sum(line.startswith("wait ") for line in told[:place].splitlines())
-    if found.idle:
-        tell(f"left alone: {len(found.idle)} sources of which testing has no package")
+    tell_idle(found, tell)
     print(f"adopted: {len(testing.sources)} sources, {len(testing.rows)} packages; {waiting} wait, "
           f"{len(refused)} refused")
-    return int(bool(refused or waiting) or not found.is_empty)
+    return int(bool(refused or waiting or left))
+
+
+def is_beside(line: str, want: Contents) -> bool:
+    """Whether a line names an older version of what the office has: it has one version of each."""
+    kind, *words = line.split(" ")
+    if kind == "source":
+        return any(source.name == words[0] for source in want.sources)
+    return any(row.architecture == words[0] and row.name == words[1] for row in want.rows)
 
 
 def main(words: Sequence[str]) -> int:

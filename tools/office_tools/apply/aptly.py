@@ -6,7 +6,7 @@ from typing import Sequence
 
 from office_tools.apply.contents import REFUSED, Contents, Indexes, Row, Source
 from office_tools.apply.managers import parts, run
-from office_tools.apply.published import shows
+from office_tools.apply.published import shows, source_of
 from office_tools.faults import Fault
 from office_tools.files import read_bytes
 
@@ -52,8 +52,7 @@ class Aptly:
         if re.search(r"^Number of packages: 0$", shown, re.MULTILINE):
             return Contents()
         sources: set[Source] = set()
-        rows: set[Row] = set()
-        built: set[str] = set()
+        built_of: dict[Row, Source] = {}
         for line in self.aptly("repo", "search", f"-format={FORMAT}", repository).splitlines():
             found = KEY.fullmatch(line)
             if found is None:
@@ -62,9 +61,9 @@ class Aptly:
             if architecture == "source":
                 sources.add(Source(name, version))
             else:
-                rows.add(Row(architecture, architecture, name, version))
-                built.add(name if source == NO_VALUE else source.split(" ", 1)[0])
-        return Contents(frozenset(sources), frozenset(rows), frozenset(built))
+                value = None if source == NO_VALUE else source
+                built_of[Row(architecture, architecture, name, version)] = source_of(self.config, value, name, version)
+        return Contents(frozenset(sources), frozenset(built_of), built_of)
 
     def testing(self) -> Contents:
         """What testing has."""

@@ -11,7 +11,7 @@ from office_tools.apply.contents import ALL, REFUSED, Contents, Indexes, differe
 from office_tools.apply.managers import Manager, locked
 from office_tools.apply.published import is_whole, raw_sections, read_folder, read_indexes, read_release
 from office_tools.apply.reprepro import Reprepro
-from office_tools.apply.turn import SHOWN, Turn, counts
+from office_tools.apply.turn import Turn, counts, tell_idle
 from office_tools.faults import Fault
 from office_tools.files import read_bytes
 from office_tools.service import Service
@@ -100,9 +100,7 @@ def compared(testing: reports.Testing, packages: Sequence[str], sources: Sequenc
         tell("no sources are compared: no file Sources is there")
         want = Contents(have.sources, want.rows)
     found = difference(want, have)
-    if found.idle:
-        names = ", ".join(source.name for source in found.idle[:SHOWN])
-        tell(f"{len(found.idle)} sources have no package here, and don't count: {names}, ..")
+    tell_idle(found, tell)
     for line in found.lines():
         print(line)
     print(f"testing {testing.finished}: {counts(want)}; missing {counts(found.missing)}; "

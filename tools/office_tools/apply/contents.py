@@ -1,7 +1,7 @@
 """What a suite has, what the office wants in it, and how both differ."""
 import enum
 from dataclasses import dataclass, field
-from typing import Iterator, NamedTuple, Sequence
+from typing import Iterator, Mapping, NamedTuple, Sequence
 
 from office_tools import reports
 from office_tools.apply import marks
@@ -29,11 +29,11 @@ class Row(NamedTuple):
 
 @dataclass(frozen=True)
 class Contents:
-    """The sources and the binary packages of a suite, and the names of the sources that these are built of."""
+    """The sources and the binary packages of a suite, and the source that each of these is built of, where known."""
 
     sources: frozenset[Source] = frozenset()
     rows: frozenset[Row] = frozenset()
-    built: frozenset[str] = field(default=frozenset(), compare=False)
+    built_of: Mapping[Row, Source] = field(default_factory=dict, compare=False)
 
     def without(self, other: "Contents") -> "Contents":
         """What is here and not there."""
@@ -83,8 +83,9 @@ def places(architecture: str, architectures: Sequence[str], indexes: Indexes) ->
 class Difference:
     """What the office wants and the suite hasn't, and what the suite has too much.
 
-    `idle` are sources of the suite of which it has no binary package, and which the office doesn't want: they build
-    nothing on the office's architectures, so it can't decide about them, and they are left alone.
+    `idle` are sources of the suite that the office doesn't want and that are left alone all the same. Of the one sort
+    the suite has no binary package: they build nothing on the office's architectures, so it can't decide about them. Of
+    the other sort packages stay that the office wants, as old libraries do.
     """
 
     missing: Contents
@@ -105,6 +106,7 @@ class Difference:
 def difference(want: Contents, have: Contents) -> Difference:
     """How a suite differs from what the office wants."""
     excess = have.without(want)
-    named = {source.name for source in want.sources}
-    idle = sorted(source for source in excess.sources if source.name not in have.built and source.name not in named)
+    building = set(have.built_of.values())
+    needed = {source for row, source in have.built_of.items() if row in want.rows}
+    idle = sorted(source for source in excess.sources if source not in building or source in needed)
     return Difference(want.without(have), Contents(excess.sources - set(idle), excess.rows), idle)

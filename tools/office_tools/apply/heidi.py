@@ -16,7 +16,7 @@ def written(contents: Contents) -> bytes:
 
 
 def read(path: str) -> Contents:
-    """What a file has; nothing, where there is none. A source without packages isn't told apart."""
+    """What a file has; nothing, where there is none."""
     if not os.path.exists(path):
         return Contents()
     sources: set[Source] = set()
@@ -30,7 +30,7 @@ def read(path: str) -> Contents:
             sources.add(Source(name, version))
         else:
             rows.add(Row(architecture, architecture, name, version))
-    return Contents(frozenset(sources), frozenset(rows), frozenset(source.name for source in sources))
+    return Contents(frozenset(sources), frozenset(rows))
 
 
 def write(path: str, contents: Contents) -> None:

@@ -24,8 +24,7 @@ def read_indexes(packages: Sequence[tuple[str, str]], sources: Sequence[str]) ->
     A source that the archive keeps for packages that were built with it alone doesn't count.
     """
     found: set[Source] = set()
-    rows: set[Row] = set()
-    built: set[str] = set()
+    built_of: dict[Row, Source] = {}
     for path in sources:
         for fields in sections(path, ["Package", "Version", "Extra-Source-Only"]):
             if fields.get("Extra-Source-Only", "no") != "yes":
@@ -34,9 +33,9 @@ def read_indexes(packages: Sequence[tuple[str, str]], sources: Sequence[str]) ->
         for fields in sections(path, ["Package", "Version", "Architecture", "Source"]):
             name, version = needed(path, fields.get("Package")), needed(path, fields.get("Version"))
             architecture = needed(path, fields.get("Architecture"))
-            rows.add(Row(place or architecture, architecture, name, version))
-            built.add(source_name(path, fields.get("Source"), name, version))
-    return Contents(frozenset(found), frozenset(rows), frozenset(built))
+            built_of[Row(place or architecture, architecture, name, version)] = \
+                source_of(path, fields.get("Source"), name, version)
+    return Contents(frozenset(found), frozenset(built_of), built_of)
 
 
 def raw_sections(path: str) -> Iterator[Mapping[str, str]]:
@@ -49,10 +48,10 @@ def raw_sections(path: str) -> Iterator[Mapping[str, str]]:
         raise Fault(f"{path}: apt can't read it: {str(fault).removeprefix('E:')}") from fault
 
 
-def source_name(path: str, value: Optional[str], name: str, version: str) -> str:
+def source_of(path: str, value: Optional[str], name: str, version: str) -> Source:
     """The source that a package names."""
     try:
-        return relations.source_of(value, name, version)[0]
+        return Source(*relations.source_of(value, name, version))
     except relations.Bad as bad:
         raise Fault(f"{path}: {name} {version}: {bad}") from bad
 

@@ -7,7 +7,7 @@ from office_tools.apply.managers import parts, run
 from office_tools.apply.published import shows
 from office_tools.faults import Fault
 
-LIST = r"${$architecture} ${$type} ${package} ${version} ${architecture} ${$source}\n"
+LIST = r"${$architecture} ${$type} ${package} ${version} ${architecture} ${$source} ${$sourceversion}\n"
 PUBLISH_LATER = ("--export=silent-never", "--keepunreferencedfiles")
 """Nothing is published before all is done, and no file goes that clients may still ask for."""
 
@@ -44,16 +44,14 @@ class Reprepro:
     def listed(self, suite: str) -> Contents:
         """What a suite has by reprepro's own tables."""
         sources: set[Source] = set()
-        rows: set[Row] = set()
-        built: set[str] = set()
+        built_of: dict[Row, Source] = {}
         for line in self.reprepro("--list-format", LIST, "list", suite).splitlines():
-            place, kind, name, version, architecture, source = line.split(" ")
+            place, kind, name, version, architecture, source, source_version = line.split(" ")
             if kind == "dsc":
                 sources.add(Source(name, version))
             elif kind == "deb":
-                rows.add(Row(place, architecture, name, version))
-                built.add(source)
-        return Contents(frozenset(sources), frozenset(rows), frozenset(built))
+                built_of[Row(place, architecture, name, version)] = Source(source, source_version)
+        return Contents(frozenset(sources), frozenset(built_of), built_of)
 
     def testing(self) -> Contents:
         """What testing has."""

@@ -74,10 +74,7 @@ class Turn:
         if want.is_empty and not have.is_empty:
             raise Fault("the office's testing is empty, and the archive's isn't: nothing is taken out", REFUSED)
         found = difference(want, have)
-        if found.idle:
-            names = ", ".join(source.name for source in found.idle[:SHOWN])
-            more = f" and {len(found.idle) - SHOWN} more" if len(found.idle) > SHOWN else ""
-            self.tell(f"left alone: sources of which testing has no package: {names}{more}")
+        tell_idle(found, self.tell)
         return found
 
     def check(self, found: Difference) -> None:
@@ -95,6 +92,14 @@ class Turn:
             self.tell(f"the manager didn't copy {line}")
         if lines:
             raise Fault("nothing is taken out of testing, and nothing is published", UNANSWERED)
+
+
+def tell_idle(found: Difference, tell: Callable[[str], None]) -> None:
+    """Tells which sources are left alone."""
+    if found.idle:
+        names = ", ".join(f"{source.name} {source.version}" for source in found.idle[:SHOWN])
+        more = f" and {len(found.idle) - SHOWN} more" if len(found.idle) > SHOWN else ""
+        tell(f"left alone: sources of which testing has no package, or packages that stay: {names}{more}")
 
 
 def counts(contents: Contents) -> str:
