@@ -4,6 +4,7 @@ import html.parser
 import io
 import json
 import os
+import re
 import shutil
 import signal
 import subprocess
@@ -236,9 +237,21 @@ class AllRuns(Pages):
         self.make("--url", self.office.url)
         other = self.enterContext(tempfile.TemporaryDirectory())
         self.make("--url", self.office.url, folder=other)
-        self.assertEqual(*(
-            {name: data for name, data in self.files(folder).items() if name not in ("index.html", "excuses.json")}
-            for folder in (self.folder, other)))
+        # Each knows when it fetched the run, and behind which run it was told an answer first.
+        found = [{name: re.sub(b"Told first behind .*", b"", data) for name, data in self.files(folder).items()
+                  if name not in ("index.html", "excuses.json")} for folder in (self.folder, other)]
+        self.assertEqual(*found)
+
+    def test_an_answer_that_stays(self):
+        self.make("--url", self.office.url)
+        self.finish_third()
+        self.make("--url", self.office.url)
+        self.assertIn("/why/libgreet", self.office.asked[self.office.asked.index("/excuses/3"):])
+        self.assertIn("Told first behind <a href=\"../run/2.html\">run 2</a>", self.read("source/libgreet.html"))
+        self.office.answers["/why/libgreet"] = self.office.answers["/why/libgreet"].replace("by rt 2", "by rt 9")
+        shutil.rmtree(os.path.join(self.folder, ".state"))
+        self.make("--url", self.office.url)
+        self.assertIn("Told first behind <a href=\"../run/3.html\">run 3</a>", self.read("source/libgreet.html"))
 
     def test_a_run_that_is_finished_between_two_questions(self):
         self.office.first["/testing"] = TESTING[3]

@@ -6,7 +6,7 @@ import os
 from typing import Iterator, Optional, Sequence
 
 from office_tools.faults import Fault, cause_of
-from office_tools.pages.fetching import fetch, NAME
+from office_tools.pages.fetching import fetch, fetch_answers, NAME
 from office_tools.pages.offices import FileOffice, Office, ServiceOffice, StoreOffice
 from office_tools.pages.site import Site
 from office_tools.pages.state import State
@@ -14,7 +14,7 @@ from office_tools.pages.state import State
 WRONG_WORDS = 2
 URL = "http://127.0.0.1:8080"
 BUGS = "https://bugs.debian.org/%s"
-SECONDS = 5.0
+SECONDS = 3.0
 
 
 def words_of(words: Sequence[str]) -> argparse.Namespace:
@@ -89,8 +89,11 @@ def make(office: Office, folder: str, kept: str, asked: argparse.Namespace) -> N
         state: Optional[State] = None
         try:
             state = State(os.path.join(kept, "state.db"))
-            newest = fetch(office, state, asked.why_seconds)
+            newest = fetch(office, state)
             if newest is not None:
+                # The pages of a new run are there before sources are asked about, which takes longer.
+                Site(folder, state, asked.bugs).build(newest)
+                fetch_answers(office, state, newest, asked.why_seconds)
                 Site(folder, state, asked.bugs).build(newest)
         finally:
             if state is not None:

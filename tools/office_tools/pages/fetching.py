@@ -10,6 +10,7 @@ from office_tools.faults import Fault, tell
 from office_tools.pages.offices import finished_in, Office
 from office_tools.pages.outcomes import NOTHING, outcome_in, outcomes_of, SourceOutcome, What
 from office_tools.pages.state import Event, KeptRun, State, Why
+from office_tools.pages.told import behind_excuse
 from office_tools.reports import Excuse
 
 NAME = "office-pages"
@@ -38,17 +39,13 @@ def read_run(kept: KeptRun) -> Newest:
                   reports.read_update(kept.update, f"update {number}"))
 
 
-def fetch(office: Office, state: State, seconds: float) -> Optional[Newest]:
-    """Fetches and keeps what isn't kept yet, and gives the newest run; None where no run is finished.
-
-    The office is asked about sources for this many seconds at most; the rest is asked about in the next call.
-    """
+def fetch(office: Office, state: State) -> Optional[Newest]:
+    """Fetches and keeps the reports that aren't kept yet, and gives the newest run; None where no run is finished."""
     for _ in range(TURNS):
         if not fetch_runs(office, state):
             return None
         newest = read_run(state.run(state.runs()[-1].number))
         if fetch_testing(office, state, newest.number):
-            fetch_whys(office, state, newest, time.monotonic() + seconds)
             fetch_hints(office, state)
             return newest
     raise Fault(f"a run was finished between two questions, {TURNS} times in a row")
@@ -139,8 +136,9 @@ def first_line(excuse: Excuse) -> str:
 def sources_to_ask(newest: Newest, whys: Mapping[str, Why]) -> Sequence[str]:
     """The sources of the newest run that don't move and weren't asked about behind it.
 
-    First come those that wait, since what holds them changes from run to run; then those whose excuse is another than
-    it was, and then the rest, those that were asked about longest ago first.
+    First come those whose excuse is another than it was when they were asked about. Of the others the answer may be the
+    same still: those that were asked about longest ago come first. Of each sort those that wait come first, since only
+    the office knows what holds them.
     """
     outcomes = outcomes_of(newest.update)
     ranked = []
@@ -149,27 +147,32 @@ def sources_to_ask(newest: Newest, whys: Mapping[str, Why]) -> Sequence[str]:
         why = whys.get(excuse.source)
         if outcome.what is What.ACCEPT or (why is not None and why.run == newest.number):
             continue
-        is_same = why is not None and why.excuse == first_line(excuse)
-        rank = 0 if outcome.what is What.WAIT else 2 if is_same else 1
-        ranked.append((rank, why.run if why else 0, excuse.source))
+        asked = why.run if why is not None and why.excuse == first_line(excuse) else 0
+        ranked.append((asked, outcome.what is not What.WAIT, excuse.source))
     return [source for _, _, source in sorted(ranked)]
 
 
-def fetch_whys(office: Office, state: State, newest: Newest, until: float) -> None:
-    """Asks about sources until then."""
+def fetch_answers(office: Office, state: State, newest: Newest, seconds: float) -> None:
+    """Asks about sources for so many seconds at most, and for the hints that are named; the next call asks the rest."""
+    until = time.monotonic() + seconds
     excuses = {excuse.source: first_line(excuse) for excuse in newest.excuses.excuses}
     found: dict[str, Why] = {}
-    for source, told in office.why(sources_to_ask(newest, state.whys())) if time.monotonic() < until else ():
+    before = state.whys()
+    for source, told in office.why(sources_to_ask(newest, before)) if time.monotonic() < until else ():
         # If a run was finished meanwhile, what is told is of that one, which the next call fetches.
         if not told.startswith(f"why {newest.number} "):
             break
-        found[source] = Why(newest.number, excuses[source], told)
+        last = before.get(source)
+        is_same = last is not None and behind_excuse(source, last.told) == behind_excuse(source, told)
+        since = last.since if last is not None and is_same else newest.number
+        found[source] = Why(newest.number, since, excuses[source], told)
         if len(found) == AT_ONCE:
             keep_whys(state, found)
             found = {}
         if time.monotonic() >= until:
             break
     keep_whys(state, found)
+    fetch_hints(office, state)
 
 
 def keep_whys(state: State, whys: Mapping[str, Why]) -> None:

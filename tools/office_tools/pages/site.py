@@ -84,15 +84,17 @@ class Site:
 
     def build(self, newest: Newest) -> None:
         """Writes all pages that changed, and takes away those that there is no reason for any more."""
-        if self.state.built_of() == self.look and os.path.exists(os.path.join(self.folder, "index.html")):
+        built = self.state.built()
+        is_built = built is not None and built.made_by == self.look and os.path.exists(self.folder + "/index.html")
+        if built is not None and is_built and built.has_answers:
             return
         facts = views.facts_of(self.state, newest, self.bugs)
         shutil.rmtree(self.beside, ignore_errors=True)
-        self.write_static()
         self.write_sources(facts)
-        self.write_runs(facts)
-        self.write_testing(facts)
-        self.put("excuses.json", excuses_json(newest.excuses, newest.update, newest.kept.fetched).encode())
+        if is_built:
+            self.digests_now |= {path: digest for path, digest in self.digests.items() if not has_answers(path)}
+        else:
+            self.write_reports(facts)
         self.write_lists(facts, views.rows_of(facts))
         self.move_all()
         self.remove_others()
@@ -150,6 +152,14 @@ class Site:
     def page(self, template: str, values: Mapping[str, Any]) -> bytes:
         """The bytes of a page."""
         return self.templates.get_template(template).render(values).encode()
+
+    def write_reports(self, facts: views.Facts) -> None:
+        """All that is made without answers about sources."""
+        self.write_static()
+        self.write_runs(facts)
+        self.write_testing(facts)
+        newest = facts.newest
+        self.put("excuses.json", excuses_json(newest.excuses, newest.update, newest.kept.fetched).encode())
 
     def write_static(self) -> None:
         """The stylesheet and the script."""
@@ -245,6 +255,11 @@ def parts_of(name: str, rows: Sequence[Of],
     links = [f"{name}.html", *(f"{name}-{number}.html" for number in range(2, len(cut) + 1))]
     for place, some in enumerate(cut):
         yield [Part(link, title, other == place) for other, (link, title) in enumerate(zip(links, titles))], some
+
+
+def has_answers(path: str) -> bool:
+    """Whether a page may have answers about sources: `write_sources` and `write_lists` write it."""
+    return path.startswith(("source/", "excuses")) and path.endswith(".html") or path == "index.html"
 
 
 def hints_of(facts: views.Facts, read: Newest) -> Sequence[Hint]:

@@ -24,10 +24,11 @@ CREATE TABLE event (source TEXT NOT NULL, run INTEGER NOT NULL, testing TEXT NOT
 CREATE TABLE last (source TEXT PRIMARY KEY, run INTEGER NOT NULL, testing TEXT NOT NULL, unstable TEXT NOT NULL,
     reasons TEXT NOT NULL, outcome TEXT NOT NULL) STRICT, WITHOUT ROWID;
 CREATE TABLE testing (run INTEGER PRIMARY KEY, told BLOB NOT NULL) STRICT;
-CREATE TABLE why (source TEXT PRIMARY KEY, run INTEGER NOT NULL, excuse TEXT NOT NULL, told TEXT NOT NULL) STRICT;
+CREATE TABLE why (source TEXT PRIMARY KEY, run INTEGER NOT NULL, since INTEGER NOT NULL, excuse TEXT NOT NULL,
+    told TEXT NOT NULL) STRICT;
 CREATE TABLE hint (number INTEGER PRIMARY KEY, told TEXT) STRICT;
 CREATE TABLE page (path TEXT PRIMARY KEY, digest TEXT NOT NULL) STRICT;
-CREATE TABLE built (made_of TEXT NOT NULL) STRICT;
+CREATE TABLE built (made_by TEXT NOT NULL, has_answers INTEGER NOT NULL) STRICT;
 """
 
 
@@ -62,11 +63,23 @@ class KeptRun:
 
 @dataclass(frozen=True)
 class Why:
-    """What the office answered about a source behind a run, and the first line of the excuse that it had then."""
+    """What the office answered about a source, and what its excuse was then but for the age.
+
+    `run` is the last one behind which it was asked, and `since` the first one from which on it always told the same.
+    """
 
     run: int
+    since: int
     excuse: str
     told: str
+
+
+@dataclass(frozen=True)
+class Built:
+    """How far the pages are: what made them, and whether they have all answers about sources, too."""
+
+    made_by: str
+    has_answers: bool
 
 
 class State:
@@ -183,10 +196,10 @@ class State:
     def keep_whys(self, whys: Mapping[str, Why], hints: Iterable[int]) -> None:
         """Keeps answers about sources, each in the place of an earlier one, and which hints they name."""
         with self.transaction():
-            self.database.executemany("INSERT OR REPLACE INTO why VALUES (?, ?, ?, ?)", (
-                (source, why.run, why.excuse, why.told) for source, why in whys.items()))
+            self.database.executemany("INSERT OR REPLACE INTO why VALUES (?, ?, ?, ?, ?)", (
+                (source, why.run, why.since, why.excuse, why.told) for source, why in whys.items()))
             self.want_hints(hints)
-            self.database.execute("DELETE FROM built")
+            self.database.execute("UPDATE built SET has_answers = 0")
 
     def want_hints(self, numbers: Iterable[int]) -> None:
         """Keeps within a transaction that the texts of these hints are wanted."""
@@ -207,7 +220,7 @@ class State:
         """Keeps texts of hints."""
         with self.transaction():
             self.database.executemany("INSERT OR REPLACE INTO hint VALUES (?, ?)", hints.items())
-            self.database.execute("DELETE FROM built")
+            self.database.execute("UPDATE built SET has_answers = 0")
 
     def digests(self) -> Mapping[str, str]:
         """Of each page that was written a digest of what it was made of."""
@@ -220,17 +233,17 @@ class State:
             self.database.executemany("INSERT OR REPLACE INTO page VALUES (?, ?)", digests.items())
             self.database.executemany("DELETE FROM page WHERE path = ?", ((path,) for path in gone))
 
-    def built_of(self) -> Optional[str]:
-        """What all pages were made of beside the reports, where nothing was kept since they were made."""
+    def built(self) -> Optional[Built]:
+        """How far the pages are, if all of them were made since the last run was kept."""
         with self.faults():
-            found = self.database.execute("SELECT made_of FROM built").fetchone()
-        return found[0] if found else None
+            found = self.database.execute("SELECT made_by, has_answers FROM built").fetchone()
+        return Built(found[0], bool(found[1])) if found else None
 
-    def keep_built(self, made_of: str) -> None:
+    def keep_built(self, made_by: str) -> None:
         """All pages are made of what is kept."""
         with self.transaction():
             self.database.execute("DELETE FROM built")
-            self.database.execute("INSERT INTO built VALUES (?)", (made_of,))
+            self.database.execute("INSERT INTO built VALUES (?, 1)", (made_by,))
 
 
 def packed(text: str) -> bytes:

@@ -51,7 +51,7 @@ def lines_of(source: str, told: str, links: Links) -> Sequence[Line]:
     The line of the update that says what became of the source itself is left out: the page tells that by a sentence.
     """
     found = []
-    for text in behind_excuse(source, told.splitlines()[1:]):
+    for text in behind_excuse(source, told):
         change = change_in(text)
         if change is None:
             found.append(line_of(text, links))
@@ -60,8 +60,9 @@ def lines_of(source: str, told: str, links: Links) -> Sequence[Line]:
     return found
 
 
-def behind_excuse(source: str, lines: Sequence[str]) -> Sequence[str]:
-    """The lines without the excuse, if they begin with one."""
+def behind_excuse(source: str, told: str) -> Sequence[str]:
+    """The lines of an answer behind its head and its excuse, if it has one."""
+    lines = told.splitlines()[1:]
     if len(lines) < 2 or not lines[0].startswith(source + " ") or not lines[1].startswith(" age "):
         return lines
     return lines[next((place for place, line in enumerate(lines) if place and line[:1] != " "), len(lines)):]

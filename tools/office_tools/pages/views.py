@@ -35,9 +35,9 @@ class Source:
     """What the page of a source shows.
 
     `unstable` and `age` are empty where it has no excuse, or moved in the newest run. `told` is what keeps it out, and
-    what the newest run did with it if that was no move. `lines` are what the office answered about it: behind run
-    `asked`, which is None where that is the newest one. `since` is its last event. What is told here stays the same
-    from run to run as long as the source stands the same.
+    what the newest run did with it if that was no move. `lines` are what the office answered about it, the
+    same since run `since`. `last` is its last event. What is told here stays the same from run to run as long as the
+    source stands the same.
     """
 
     name: str
@@ -46,10 +46,10 @@ class Source:
     age: str
     told: Sequence[Line]
     lines: Sequence[Line]
-    asked: Optional[int]
+    since: Optional[int]
     proposal: Sequence[str]
     binaries: Sequence[str]
-    since: Optional[Event]
+    last: Optional[Event]
 
 
 @dataclass(frozen=True)
@@ -218,7 +218,7 @@ def source_of(facts: Facts, name: str, links: Links) -> Source:
         age_sentence(excuse, facts.date) if excuse else "",
         () if has_moved else told_of(facts, excuse, outcomes, links),
         lines_of(name, why.told, links) if why else (),
-        why.run if why and why.run != facts.newest.number else None,
+        why.since if why else None,
         proposal_lines(name), facts.binaries.get(name, ()), facts.last.get(name))
 
 
