@@ -226,11 +226,12 @@ files_are_installed() {
 
 # The documents that are installed cite no path of the repository, but for the part of README.md that is about it.
 documents_cite_what_is_installed() {
-    for file in README.md ../CHANGELOG.md ../docs/MANUAL.md ../docs/RULES.md ../docs/FIRST_WEEK.md; do
+    make -s install PROGRAM=/bin/true PREFIX=/usr DESTDIR="$work/cited" || return 1
+    for file in "$work"/cited/usr/share/doc/office/*.md; do
         sed '/^## In the repository/,$d' "$file" | grep -nE '(`|^    |\()(share|docs|bench|crates|tests|tools)/' |
-            sed "s|^|$file:|"
-    done > "$work/cited"
-    [ ! -s "$work/cited" ] || { cat "$work/cited" && return 1; }
+            sed "s|^|${file##*/}:|"
+    done > "$work/paths"
+    [ ! -s "$work/paths" ] || { cat "$work/paths" && return 1; }
 }
 
 program_is_missed() {
@@ -348,7 +349,7 @@ try "office-check-store: no words" ends 2 ./office-check-store
 try "office-check-store: no file" ends 3 ./office-check-store ../examples/setup.conf "$work/none"
 try_by make "Makefile: install and uninstall" files_are_installed
 try_by make "Makefile: no program" program_is_missed
-try "documents: they cite what is installed" documents_cite_what_is_installed
+try_by make "documents: they cite what is installed" documents_cite_what_is_installed
 try_by dpkg-deb "debian/build: a package" package_is_made
 try_by lintian "debian/build: lintian" package_is_clean
 if [ -n "$program" ]; then
