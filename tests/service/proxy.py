@@ -124,6 +124,32 @@ def requests():
          ask("GET", "/kept", at=0)[1])
 
 
+def tools(folder):
+    """The tools through the proxy: a sender's mail by office-lint, and all mail of the office by office-mirror."""
+    place = os.path.join(folder, "message")
+    with open(place, "wb") as message:
+        message.write(NONE % (b"ftp", 5))
+    netrc = os.path.join(folder, ".netrc")
+    with open(netrc, "w", encoding="utf-8") as known:
+        known.write("machine 127.0.0.1 login ftp password secret\n")
+    os.chmod(netrc, 0o600)
+    url = "127.0.0.1:%d" % (port + 1)
+    for words, due in [
+            (["office-lint", "--url", "http://" + url, "--conf", CONF, "--user", "ftp", "--send", place],
+             (0, place + ": held ftp 5\n", "")),
+            (["office-lint", "--url", "http://" + url, "--conf", CONF, "--user", "bd", place],
+             (2, "", "office-lint: ~/.netrc has no password of bd at 127.0.0.1\n")),
+            (["office-lint", "--url", "http://" + url, "--conf", CONF, place],
+             (4, "", "office-lint: http://%s/kept: 401: Unauthorized\n" % url)),
+            (["office-mirror", "http://op:secret@" + url, "http://op:secret@" + url],
+             (0, "", "office-mirror: http://%s: sent 8\n" % url)),
+            (["office-order", "2025-03-20", "--url", "http://clock:secret@" + url, "--send"],
+             (0, "held clock 1\n", ""))]:
+        ran = subprocess.run([os.path.join(TOP, "tools", "bin", words[0]), *words[1:]], capture_output=True, text=True,
+                             env={**os.environ, "HOME": folder, "OFFICE": program}, timeout=60)
+        want(" ".join(words), due, (ran.returncode, ran.stdout, ran.stderr))
+
+
 def started(process, places):
     """Waits until ports answer."""
     for _ in range(100):
@@ -155,6 +181,7 @@ def main():
             started(proxy, (1, 2))
             if proxy.poll() is None:
                 requests()
+                tools(folder)
             else:
                 want("nginx", "", proxy.stderr.read().decode())
         finally:

@@ -4,8 +4,9 @@ import datetime
 import sys
 from typing import Mapping, Sequence
 
+from office_tools.mailing import is_held, mailed
 from office_tools.senders import runs_sender
-from office_tools.service import UNANSWERED, Kept, Service
+from office_tools.service import Kept, Service
 
 URL = "http://127.0.0.1:8080"
 REFUSED = 3
@@ -50,8 +51,6 @@ def main(words: Sequence[str]) -> int:
     if not asked.send:
         sys.stdout.write(text.decode())
         return 0
-    reply = service.post("/mail", text)
-    print(reply.text)
-    if reply.is_good:
-        return 0
-    return REFUSED if reply.text.startswith("refused ") and reply.status < 500 else UNANSWERED
+    reply = mailed(service, text)
+    print(reply)
+    return 0 if is_held(reply) else REFUSED

@@ -12,6 +12,7 @@ from office_tools.faults import Fault, cause_of
 
 UNANSWERED = 4  # status of a command whose office didn't answer
 SECONDS = 60.0  # how long a connection waits for its peer
+LONGEST_TOLD = 200  # characters of an answer that are told
 
 KEPT_LINE = re.compile(r"mail (\S+) (\d+) kept(?:, 1 to (\d+))?(?:, greatest (\d+))?")
 STATUS_LINE = re.compile(r"ready (\d+) finished (\d+)\n")
@@ -33,6 +34,12 @@ class Reply:
     def text(self) -> str:
         """The body's characters without its last line end; a byte that isn't UTF-8 is shown by its number."""
         return self.body.decode(errors="backslashreplace").removesuffix("\n")
+
+    @property
+    def told(self) -> str:
+        """The code, and the body where it is a short line, as those of the office are; else the code's own phrase."""
+        is_line = self.text.isprintable() and 0 < len(self.text) <= LONGEST_TOLD
+        return f"{self.status}: {self.text if is_line else http.client.responses.get(self.status, 'an unknown code')}"
 
 
 @dataclass(frozen=True)
@@ -111,7 +118,7 @@ class Service:
         """The body of a GET that is answered with 200; another answer is a `Fault`."""
         reply = self.get(path)
         if not reply.is_good:
-            raise Fault(f"{self.url}{path}: {reply.status}: {reply.text[:200]}", UNANSWERED)
+            raise Fault(f"{self.url}{path}: {reply.told}", UNANSWERED)
         return reply.body
 
     def good_text(self, path: str) -> str:
@@ -151,7 +158,7 @@ class Service:
         if reply.status == http.client.NOT_FOUND and reply.text == "refused NoMessage":
             return None
         if not reply.is_good:
-            raise Fault(f"{self.url}{path}: {reply.status}: {reply.text[:200]}", UNANSWERED)
+            raise Fault(f"{self.url}{path}: {reply.told}", UNANSWERED)
         return reply.body
 
     def testing(self) -> reports.Testing:

@@ -14,6 +14,7 @@ from typing import Optional, Sequence
 from office_tools import bags
 from office_tools.faults import Fault, cause_of
 from office_tools.files import write_whole
+from office_tools.mailing import is_held, mailed
 from office_tools.messages import ParagraphFault, paragraphs
 from office_tools.service import UNANSWERED, Service
 
@@ -103,10 +104,10 @@ def main(words: Sequence[str]) -> int:
         raise Fault(f"it has more than {LONGEST} bytes", REFUSED)
     found = opened(signed, asked.keys)
     look_at(found, asked.office)
-    reply = service.post("/mail", found.text)
-    print(reply.text)
-    if not reply.is_good:
-        return REFUSED if reply.text.startswith("refused ") and reply.status < 500 else UNANSWERED
+    reply = mailed(service, found.text)
+    print(reply)
+    if not is_held(reply):
+        return REFUSED
     keep = asked.keep or asked.keys.resolve().parent / "signed"
     kept = os.path.join(keep, f"{found.sender}-{hashlib.sha256(found.text).hexdigest()}")
     try:

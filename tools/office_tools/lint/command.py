@@ -13,6 +13,7 @@ from office_tools.lint.office import MOST, Mail, MailOffice, Office, ServiceMail
 from office_tools.lint.places import place_of
 from office_tools.lint.slips import Days, Look, slips
 from office_tools.lint.state import State
+from office_tools.mailing import is_held, mailed
 from office_tools.messages import kind_of, label_of, paragraphs
 from office_tools.service import Service
 
@@ -45,7 +46,7 @@ class Sender:
         """Sends a message: the office's reply, which is told."""
         if self.service is None:
             raise Fault("no service is named")
-        reply = self.service.post("/mail", text.text).text
+        reply = mailed(self.service, text.text)
         print(f"{text.name}: {reply}", flush=True)
         return reply
 
@@ -62,7 +63,7 @@ class Lint:
     def look_at(self, text: Text, verdict: str) -> int:
         """Tells what is wrong with a message, sends it where that is due, and takes it on: the status."""
         label = label_of(text.text)
-        if label is None or not verdict.startswith("held "):
+        if label is None or not is_held(verdict):
             place = place_of(self.office, text.text, verdict)
             print(f"{text.name}:{place.line}: {verdict}: {place.cause}", flush=True)
             return REFUSED
@@ -74,7 +75,7 @@ class Lint:
         for slip in warned:
             print(f"{text.name}:{slip.line}: warning: {slip.words}", flush=True)
         status = WARNED if warned else 0
-        if self.sender.sends(bool(warned)) and not self.sender.send(text).startswith("held "):
+        if self.sender.sends(bool(warned)) and not is_held(self.sender.send(text)):
             return REFUSED
         if self.sender.service is None or self.sender.sends(bool(warned)):
             self.state.take(label, text.text)

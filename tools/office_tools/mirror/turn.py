@@ -6,6 +6,7 @@ from typing import BinaryIO, Callable, Iterator, Mapping
 
 from office_tools import bags, letters
 from office_tools.faults import Fault
+from office_tools.mailing import is_held, mailed
 from office_tools.messages import Label
 from office_tools.mirror.held import Held, Numbers
 from office_tools.senders import runs_sender
@@ -101,15 +102,12 @@ class Turn:
 
     def post(self, source: Source, target: Service, label: Label, text: bytes) -> bool:
         """Posts one message: whether the other office holds it. If it doesn't, that is told."""
-        reply = target.post("/mail", text)
+        reply = mailed(target, text)
         self.sent += 1
-        if reply.text == f"held {label.sender} {label.number}":
+        if is_held(reply):
             return True
-        if not reply.text.startswith("refused ") or reply.status >= 500:
-            raise Fault(f"{target.url}: {label.sender} {label.number}: {reply.status}: {reply.text[:200]}",
-                        Status.UNANSWERED)
-        is_conflict = reply.text == "refused OtherText"
-        what = f"keeps another text than {source.service.url}" if is_conflict else reply.text
+        is_conflict = reply == "refused OtherText"
+        what = f"keeps another text than {source.service.url}" if is_conflict else reply
         self.tell(f"{target.url}: {label.sender} {label.number}: {what}")
         self.is_at_least(Status.CONFLICT if is_conflict else Status.REFUSED)
         return False
