@@ -92,9 +92,11 @@ def make(office: Office, folder: str, kept: str, asked: argparse.Namespace) -> N
             newest = fetch(office, state)
             if newest is not None:
                 # The pages of a new run are there before sources are asked about, which takes longer.
-                Site(folder, state, asked.bugs).build(newest)
-                fetch_answers(office, state, newest, asked.why_seconds)
-                Site(folder, state, asked.bugs).build(newest)
+                site = Site(folder, state, asked.bugs)
+                site.build(newest)
+                names = fetch_answers(office, state, newest, asked.why_seconds)
+                if names:
+                    site.build_answers(newest, names)
         finally:
             if state is not None:
                 state.close()

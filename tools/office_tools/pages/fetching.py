@@ -3,7 +3,7 @@ import datetime
 import json
 import time
 from dataclasses import dataclass
-from typing import Iterable, Mapping, Optional, Sequence
+from typing import Collection, Iterable, Mapping, Optional, Sequence
 
 from office_tools import reports
 from office_tools.faults import Fault, tell
@@ -14,8 +14,8 @@ from office_tools.pages.told import behind_excuse
 from office_tools.reports import Excuse
 
 NAME = "office-pages"
+AT_ONCE = 100  # answers about sources that are kept at once
 TURNS = 3  # how often testing is asked for, if a run is finished between two questions
-AT_ONCE = 200  # answers about sources that are kept in one transaction
 
 
 @dataclass(frozen=True)
@@ -152,13 +152,17 @@ def sources_to_ask(newest: Newest, whys: Mapping[str, Why]) -> Sequence[str]:
     return [source for _, _, source in sorted(ranked)]
 
 
-def fetch_answers(office: Office, state: State, newest: Newest, seconds: float) -> None:
-    """Asks about sources for so many seconds at most, and for the hints that are named; the next call asks the rest."""
+def fetch_answers(office: Office, state: State, newest: Newest, seconds: float) -> Collection[str]:
+    """Asks about sources for so many seconds at most, and for the hints that are named, and gives these sources.
+
+    The next call asks about the rest.
+    """
     until = time.monotonic() + seconds
     excuses = {excuse.source: first_line(excuse) for excuse in newest.excuses.excuses}
+    names: set[str] = set()
     found: dict[str, Why] = {}
     before = state.whys()
-    for source, told in office.why(sources_to_ask(newest, before)) if time.monotonic() < until else ():
+    for source, told in office.why(sources_to_ask(newest, before)) if seconds > 0 else ():
         # If a run was finished meanwhile, what is told is of that one, which the next call fetches.
         if not told.startswith(f"why {newest.number} "):
             break
@@ -166,17 +170,19 @@ def fetch_answers(office: Office, state: State, newest: Newest, seconds: float) 
         is_same = last is not None and behind_excuse(source, last.told) == behind_excuse(source, told)
         since = last.since if last is not None and is_same else newest.number
         found[source] = Why(newest.number, since, excuses[source], told)
+        names.add(source)
         if len(found) == AT_ONCE:
-            keep_whys(state, found)
+            keep_answers(state, found)
             found = {}
         if time.monotonic() >= until:
             break
-    keep_whys(state, found)
+    keep_answers(state, found)
     fetch_hints(office, state)
+    return names
 
 
-def keep_whys(state: State, whys: Mapping[str, Why]) -> None:
-    """Keeps answers, and that the texts of the hints are wanted that they name."""
+def keep_answers(state: State, whys: Mapping[str, Why]) -> None:
+    """Keeps answers, and which hints they name."""
     if whys:
         state.keep_whys(whys, {number for why in whys.values() for number in hints_named(why.told.splitlines())})
 

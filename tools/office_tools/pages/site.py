@@ -4,12 +4,13 @@ All that changed is written into a folder beside, and then moved file by file: s
 new ones, and a call that is ended in the middle leaves whole ones.
 """
 import contextlib
+import dataclasses
 import hashlib
 import os
 import re
 import shutil
 from dataclasses import dataclass
-from typing import Any, Callable, Iterable, Iterator, Mapping, Sequence, TypeVar
+from typing import Any, Callable, Collection, Iterable, Iterator, Mapping, Optional, Sequence, TypeVar
 
 import jinja2
 
@@ -76,29 +77,40 @@ class Site:
             loader=jinja2.FileSystemLoader(os.path.join(HERE, "templates")), autoescape=True, trim_blocks=True,
             lstrip_blocks=True, auto_reload=False, keep_trailing_newline=True, undefined=jinja2.StrictUndefined)
         self.look = digest_of([self.bugs, *map(repr, own_files())])
+        self.facts: Optional[views.Facts] = None
         self.digests = state.digests()
         self.digests_now: dict[str, str] = {}
         self.beside = os.path.join(folder, ".new")
-        self.folders: set[str] = set()
+        shutil.rmtree(self.beside, ignore_errors=True)
         self.written: list[str] = []
 
     def build(self, newest: Newest) -> None:
         """Writes all pages that changed, and takes away those that there is no reason for any more."""
-        built = self.state.built()
-        is_built = built is not None and built.made_by == self.look and os.path.exists(self.folder + "/index.html")
-        if built is not None and is_built and built.has_answers:
+        if self.state.built() == self.look and os.path.exists(os.path.join(self.folder, "index.html")):
             return
-        facts = views.facts_of(self.state, newest, self.bugs)
-        shutil.rmtree(self.beside, ignore_errors=True)
-        self.write_sources(facts)
-        if is_built:
-            self.digests_now |= {path: digest for path, digest in self.digests.items() if not has_answers(path)}
-        else:
-            self.write_reports(facts)
-        self.write_lists(facts, views.rows_of(facts))
+        facts = self.facts_of(newest)
+        self.digests_now = {}
+        self.write_static()
+        self.write_sources(facts, facts.names)
+        self.write_runs(facts)
+        self.write_testing(facts)
+        self.put("excuses.json", excuses_json(newest.excuses, newest.update, newest.kept.fetched).encode())
+        self.write_lists(facts)
         self.move_all()
-        self.remove_others()
-        self.state.keep_built(self.look)
+
+    def build_answers(self, newest: Newest, names: Collection[str]) -> None:
+        """Writes the pages that answers about these sources change, behind `build`."""
+        facts = dataclasses.replace(self.facts_of(newest), whys=self.state.whys(), hints=self.state.hints())
+        self.digests_now = dict(self.digests)
+        self.write_sources(facts, names)
+        self.write_lists(facts)
+        self.move_all()
+
+    def facts_of(self, newest: Newest) -> views.Facts:
+        """All that is kept, read once."""
+        if self.facts is None:
+            self.facts = views.facts_of(self.state, newest, self.bugs)
+        return self.facts
 
     def put(self, path: str, data: bytes) -> None:
         """Writes a file beside its place, where it isn't there with these bytes already."""
@@ -109,10 +121,10 @@ class Site:
                     return
         except FileNotFoundError:
             pass
-        for folder in {os.path.dirname(path)} - self.folders:
-            os.makedirs(os.path.join(self.beside, folder), exist_ok=True)
-            os.makedirs(os.path.join(self.folder, folder), exist_ok=True)
-            self.folders.add(folder)
+        if not self.written:
+            for folder in "source", "run":
+                os.makedirs(os.path.join(self.beside, folder), exist_ok=True)
+                os.makedirs(os.path.join(self.folder, folder), exist_ok=True)
         with open(os.path.join(self.beside, path), "wb") as file:
             file.write(data)
         self.written.append(path)
@@ -122,7 +134,7 @@ class Site:
         return self.digests.get(path) == digest and os.path.exists(os.path.join(self.folder, path))
 
     def move_all(self) -> None:
-        """Moves what was written into its place, one file after the other, the first page last.
+        """Moves what was written into its place, one file after the other, the first page last, and removes the rest.
 
         All of it is on the disk before: so no failure of power leaves an empty page, and the file system needn't write
         each file out at its move.
@@ -133,33 +145,23 @@ class Site:
             os.sync()
         for path in self.written:
             self.move(path)
-        self.state.keep_digests({path: digest for path, digest in self.digests_now.items()
-                                 if self.digests.get(path) != digest})
+        gone = sorted(set(self.digests) - set(self.digests_now))
+        for path in gone:
+            with contextlib.suppress(FileNotFoundError):
+                os.unlink(os.path.join(self.folder, path))
+        changed = {path for path, digest in self.digests_now.items() if self.digests.get(path) != digest}
+        self.state.keep_digests({path: self.digests_now[path] for path in changed.union(self.written)}, gone)
+        self.state.keep_built(self.look)
+        self.digests, self.written = self.digests_now, []
         shutil.rmtree(self.beside, ignore_errors=True)
 
     def move(self, path: str) -> None:
         """Moves a file that was written into its place."""
         os.replace(os.path.join(self.beside, path), os.path.join(self.folder, path))
 
-    def remove_others(self) -> None:
-        """Removes pages that an earlier call wrote and this one has no reason for."""
-        gone = sorted(set(self.digests) - set(self.digests_now))
-        for path in gone:
-            with contextlib.suppress(FileNotFoundError):
-                os.unlink(os.path.join(self.folder, path))
-        self.state.keep_digests({}, gone)
-
     def page(self, template: str, values: Mapping[str, Any]) -> bytes:
         """The bytes of a page."""
         return self.templates.get_template(template).render(values).encode()
-
-    def write_reports(self, facts: views.Facts) -> None:
-        """All that is made without answers about sources."""
-        self.write_static()
-        self.write_runs(facts)
-        self.write_testing(facts)
-        newest = facts.newest
-        self.put("excuses.json", excuses_json(newest.excuses, newest.update, newest.kept.fetched).encode())
 
     def write_static(self) -> None:
         """The stylesheet and the script."""
@@ -167,10 +169,10 @@ class Site:
             with open(os.path.join(HERE, "static", name), "rb") as file:
                 self.put(name, file.read())
 
-    def write_sources(self, facts: views.Facts) -> None:
-        """A page of each source."""
+    def write_sources(self, facts: views.Facts, names: Collection[str]) -> None:
+        """A page of each of these sources."""
         links = facts.links("")
-        for name in sorted(facts.names):
+        for name in sorted(names):
             source = views.source_of(facts, name, links)
             path, digest = f"source/{name}.html", digest_of([self.look, repr(source)])
             if not self.is_there(path, digest):
@@ -219,8 +221,9 @@ class Site:
                 "run": facts.newest.kept.run, "rows": some, "list": parts, "number": len(rows), "up": "",
                 "is_known": facts.testing is not None}))
 
-    def write_lists(self, facts: views.Facts, rows: Sequence[views.Row]) -> None:
+    def write_lists(self, facts: views.Facts) -> None:
         """The sources that don't move, all of them and by each reason and outcome, and last the first page."""
+        rows = views.rows_of(facts)
         run = facts.newest.kept.run
         titles = {**REASON_TITLES, **OUTCOME_TITLES}
         some = {word: [row for row in rows if word in row.words] for word in titles}
@@ -255,11 +258,6 @@ def parts_of(name: str, rows: Sequence[Of],
     links = [f"{name}.html", *(f"{name}-{number}.html" for number in range(2, len(cut) + 1))]
     for place, some in enumerate(cut):
         yield [Part(link, title, other == place) for other, (link, title) in enumerate(zip(links, titles))], some
-
-
-def has_answers(path: str) -> bool:
-    """Whether a page may have answers about sources: `write_sources` and `write_lists` write it."""
-    return path.startswith(("source/", "excuses")) and path.endswith(".html") or path == "index.html"
 
 
 def hints_of(facts: views.Facts, read: Newest) -> Sequence[Hint]:

@@ -28,7 +28,7 @@ CREATE TABLE why (source TEXT PRIMARY KEY, run INTEGER NOT NULL, since INTEGER N
     told TEXT NOT NULL) STRICT;
 CREATE TABLE hint (number INTEGER PRIMARY KEY, told TEXT) STRICT;
 CREATE TABLE page (path TEXT PRIMARY KEY, digest TEXT NOT NULL) STRICT;
-CREATE TABLE built (made_by TEXT NOT NULL, has_answers INTEGER NOT NULL) STRICT;
+CREATE TABLE built (made_by TEXT NOT NULL) STRICT;
 """
 
 
@@ -72,14 +72,6 @@ class Why:
     since: int
     excuse: str
     told: str
-
-
-@dataclass(frozen=True)
-class Built:
-    """How far the pages are: what made them, and whether they have all answers about sources, too."""
-
-    made_by: str
-    has_answers: bool
 
 
 class State:
@@ -199,7 +191,7 @@ class State:
             self.database.executemany("INSERT OR REPLACE INTO why VALUES (?, ?, ?, ?, ?)", (
                 (source, why.run, why.since, why.excuse, why.told) for source, why in whys.items()))
             self.want_hints(hints)
-            self.database.execute("UPDATE built SET has_answers = 0")
+            self.database.execute("DELETE FROM built")
 
     def want_hints(self, numbers: Iterable[int]) -> None:
         """Keeps within a transaction that the texts of these hints are wanted."""
@@ -220,7 +212,7 @@ class State:
         """Keeps texts of hints."""
         with self.transaction():
             self.database.executemany("INSERT OR REPLACE INTO hint VALUES (?, ?)", hints.items())
-            self.database.execute("UPDATE built SET has_answers = 0")
+            self.database.execute("DELETE FROM built")
 
     def digests(self) -> Mapping[str, str]:
         """Of each page that was written a digest of what it was made of."""
@@ -233,17 +225,17 @@ class State:
             self.database.executemany("INSERT OR REPLACE INTO page VALUES (?, ?)", digests.items())
             self.database.executemany("DELETE FROM page WHERE path = ?", ((path,) for path in gone))
 
-    def built(self) -> Optional[Built]:
-        """How far the pages are, if all of them were made since the last run was kept."""
+    def built(self) -> Optional[str]:
+        """What made the pages, if all of them were made since anything was kept."""
         with self.faults():
-            found = self.database.execute("SELECT made_by, has_answers FROM built").fetchone()
-        return Built(found[0], bool(found[1])) if found else None
+            found = self.database.execute("SELECT made_by FROM built").fetchone()
+        return found[0] if found else None
 
     def keep_built(self, made_by: str) -> None:
         """All pages are made of what is kept."""
         with self.transaction():
             self.database.execute("DELETE FROM built")
-            self.database.execute("INSERT INTO built VALUES (?, 1)", (made_by,))
+            self.database.execute("INSERT INTO built VALUES (?)", (made_by,))
 
 
 def packed(text: str) -> bytes:
