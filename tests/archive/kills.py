@@ -1,6 +1,6 @@
 """Ends office-feed and office-apply by SIGKILL within their work, and runs them again.
 
-Usage: kills.py OFFICE FOLDER
+Usage: kills.py OFFICE FOLDER [feeds|reprepro|aptly..]
 
 The feed is ended at each third message, by turns before the office got it and behind that. Before it runs again, more
 comes to unstable, so that what is left to send isn't what was left before. No number may be sent with two texts. The
@@ -141,10 +141,10 @@ def ends(stage: Stage, manager: str) -> int:
 
 def main(words: Sequence[str]) -> None:
     """Builds what comes later, and ends feeds and applies."""
-    program, folder = words
+    program, folder, *parts = words
     build_all([*LATER, *(upload for day in DAYS for upload in day.uploads)], os.path.join(folder, "built"))
     told = []
-    for name in ("feeds", *MANAGERS):
+    for name in parts or ("feeds", *MANAGERS):
         part = os.path.join(folder, name)
         os.makedirs(part)
         told.append(feeds(program, part) if name == "feeds" else applies(program, part, name))

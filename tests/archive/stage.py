@@ -25,9 +25,10 @@ class Failed(Exception):
     """What isn't as it is due."""
 
 
-def run(*words: str, may_fail: bool = False, **more: str) -> "subprocess.CompletedProcess[str]":
+def run(*words: str, may_fail: bool = False, given: str = "", **more: str) -> "subprocess.CompletedProcess[str]":
     """Runs a command, which has to end with status 0 where nothing else is said."""
-    ran = subprocess.run(words, capture_output=True, text=True, check=False, env={**os.environ, **more}, timeout=300)
+    ran = subprocess.run(words, input=given, capture_output=True, text=True, check=False,
+                         env={**os.environ, **more}, timeout=300)
     if ran.returncode and not may_fail:
         raise Failed(f"{' '.join(words)}: status {ran.returncode}\n{ran.stdout}{ran.stderr}")
     return ran
@@ -55,9 +56,9 @@ class Office:
         """Its URL."""
         return self.service.url
 
-    def start(self) -> None:
+    def start(self, setup: str = SETUP) -> None:
         """Starts it."""
-        self.process = subprocess.Popen([self.program, "serve", "--conf", SETUP, "--port", str(self.port), "--db",
+        self.process = subprocess.Popen([self.program, "serve", "--conf", setup, "--port", str(self.port), "--db",
                                          self.store], stdout=subprocess.PIPE, text=True)
         line = self.process.stdout.readline() if self.process.stdout else ""
         if line != f"listening {self.port}\n":
