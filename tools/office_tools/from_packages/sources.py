@@ -12,7 +12,6 @@ from office_tools.from_packages.told import tell
 from office_tools.messages import Urgency
 from office_tools.relations import Bad
 
-
 Name = TypeVar("Name")
 
 
@@ -97,7 +96,7 @@ def arrival_of(path: str, changes: Changes, default: Arrival) -> Arrival:
 
 
 def day_of(date: str) -> Optional[str]:
-    """The day of a date as mail has it, where the clock showed it that wrote it."""
+    """The day that a date of mail states, in the zone that it states, or None where it is no date from 1970 on."""
     try:
         day = email.utils.parsedate_to_datetime(date).date()
     except ValueError:
