@@ -138,8 +138,8 @@ class AllRuns(Pages):
     def test_a_source_has_its_age_its_day_and_its_reasons(self):
         self.make("--url", self.office.url, "--bugs", "https://bugs.example.org/?id=%s")
         # The run's day is 2025-03-20: 2 of 5 days leave 3, and 15 of 10 are 5 too many.
-        self.assertEqual(self.row("excuses.html", "app")[3], "2 of 5 dayson 2025-03-23")
-        self.assertEqual(self.row("excuses.html", "libgreet")[3], "15 of 10 dayssince 2025-03-15")
+        self.assertEqual(self.row("excuses.html", "app")[3], "2 of 5 daysenough on 2025-03-23")
+        self.assertEqual(self.row("excuses.html", "libgreet")[3], "15 of 10 daysenough since 2025-03-15")
         self.assertIn("https://bugs.example.org/?id=1042", self.page("excuses.html").links)
         self.assertIn("https://bugs.example.org/?id=1042", self.page("source/app.html").links)
         self.assertIn("hint 2: block libgreet", self.row("excuses.html", "libgreet")[4])

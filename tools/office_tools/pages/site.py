@@ -23,7 +23,7 @@ from office_tools.pages.state import State
 from office_tools.pages.told import Line, shortened
 from office_tools.reports import Outcome, Word
 
-ROWS = 4000  # rows of one page: a list that is longer has several
+ROWS = 5000  # rows of one page: a list that is longer has several
 NEWEST = 20  # runs on the first page
 OFFENDERS = 15  # packages on the first page
 Of = TypeVar("Of")
