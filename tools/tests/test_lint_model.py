@@ -21,8 +21,8 @@ from model import paragraphs, vcmp  # noqa: E402
 SEEDS = int(os.environ.get("SEEDS") or 12)
 SENDERS = ["ftp", "bd", "bts", "rt", "clock"]
 SOURCES = ["aa", "bb", "cc"]
-VERSIONS = ["1", "1-0", "1.0-1", "2~rc1", "2", "1:0.1", "2+b1"]
-ARCHS = ["amd64", "arm64", "all"]
+VERSIONS = ["1", "1-0", "1.0-1", "2~rc1", "2", "1:0.1", "1:0.1-0", "1:0.01", "2+b1"]
+ARCHS = ["amd64", "all", "all", "all"]
 TODAY = datetime.date(2025, 3, 20)
 READ = {"upload": "From Number Kind Source Version Urgency Day",
         "drop": "From Number Kind Package Architecture Version",
@@ -276,7 +276,7 @@ class Drawn:
 
     def message(self):
         sender, kind = self.draw.choice(
-            [("ftp", "upload")] * 4 + [("ftp", "drop")] * 2 + [("bd", "build")] * 4 + [("bts", "bug")] * 2
+            [("ftp", "upload")] * 4 + [("ftp", "drop")] * 4 + [("bd", "build")] * 4 + [("bts", "bug")] * 2
             + [("rt", "hint")] * 4 + [("rt", "unhint"), ("rt", "delays"), ("bts", "none")] + [("clock", "run")] * 3)
         head = ["From: " + sender, "Number: %d" % self.number(sender), "Kind: " + kind]
         return "\n".join(head + self.lines(kind)) + "\n"
@@ -303,8 +303,8 @@ class AgainstTheModel(unittest.TestCase):
     def one(self, seed):
         """Mail of a seed is kept in a store, and more is looked at; how many warnings there were."""
         drawn = Drawn(random.Random(seed))
-        kept, known = first_of_each(MOVED + [drawn.message() for _ in range(30)], {})
-        looked, _ = first_of_each([drawn.message() for _ in range(30)], known)
+        kept, known = first_of_each(MOVED + [drawn.message() for _ in range(40)], {})
+        looked, _ = first_of_each([drawn.message() for _ in range(40)], known)
         with tempfile.TemporaryDirectory() as folder:
             store, name = os.path.join(folder, "store.db"), os.path.join(folder, "bag")
             ran = office("replay", "--conf", SETUP, "--db", store, given=bag(kept))
