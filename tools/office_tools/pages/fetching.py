@@ -157,12 +157,11 @@ def fetch_answers(office: Office, state: State, newest: Newest, seconds: float) 
 
     The next call asks about the rest.
     """
-    until = time.monotonic() + seconds
     excuses = {excuse.source: first_line(excuse) for excuse in newest.excuses.excuses}
     names: set[str] = set()
     found: dict[str, Why] = {}
     before = state.whys()
-    for source, told in office.why(sources_to_ask(newest, before)) if seconds > 0 else ():
+    for source, told in office.why(sources_to_ask(newest, before), time.monotonic() + seconds):
         # If a run was finished meanwhile, what is told is of that one, which the next call fetches.
         if not told.startswith(f"why {newest.number} "):
             break
@@ -174,8 +173,6 @@ def fetch_answers(office: Office, state: State, newest: Newest, seconds: float) 
         if len(found) == AT_ONCE:
             keep_answers(state, found)
             found = {}
-        if time.monotonic() >= until:
-            break
     keep_answers(state, found)
     fetch_hints(office, state)
     return names

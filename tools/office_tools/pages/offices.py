@@ -1,5 +1,6 @@
 """Where reports come from: a service, a store that no office has open, or the files of one run."""
 import re
+import time
 from typing import Iterator, Mapping, Optional, Protocol, Sequence
 
 from office_tools import program, reports
@@ -9,7 +10,7 @@ from office_tools.messages import Kind, kind_of, paragraphs
 from office_tools.pages.outcomes import run_of
 from office_tools.service import Service
 
-AT_ONCE = 2000  # sources about which the program is asked by one command
+AT_ONCE = 100  # sources about which the program is asked by one command, which opens the store once
 
 
 class Office(Protocol):
@@ -27,8 +28,8 @@ class Office(Protocol):
     def testing(self) -> Optional[str]:
         """What is in testing, where it can be had."""
 
-    def why(self, sources: Sequence[str]) -> Iterator[tuple[str, str]]:
-        """Of each source in turn what the last run says of it; none where that can't be had."""
+    def why(self, sources: Sequence[str], until: float) -> Iterator[tuple[str, str]]:
+        """Of each source in turn what the last run says of it. None is asked about after that time (`monotonic`)."""
 
     def hint(self, number: int) -> Optional[str]:
         """The text of a hint of the release team, where it can be had."""
@@ -53,8 +54,10 @@ class ServiceOffice:
     def testing(self) -> Optional[str]:
         return self.service.good_text("/testing")
 
-    def why(self, sources: Sequence[str]) -> Iterator[tuple[str, str]]:
+    def why(self, sources: Sequence[str], until: float) -> Iterator[tuple[str, str]]:
         for source in sources:
+            if time.monotonic() >= until:
+                return
             yield source, self.service.good_text(f"/why/{source}")
 
     def hint(self, number: int) -> Optional[str]:
@@ -98,8 +101,10 @@ class StoreOffice:
     def testing(self) -> Optional[str]:
         return self.told("report", "testing")
 
-    def why(self, sources: Sequence[str]) -> Iterator[tuple[str, str]]:
+    def why(self, sources: Sequence[str], until: float) -> Iterator[tuple[str, str]]:
         for place in range(0, len(sources), AT_ONCE):
+            if time.monotonic() >= until:
+                return
             # If the run says nothing of one of them, the status is 1: so what is printed counts, and not the status.
             told = program.run(["why", *sources[place:place + AT_ONCE], *self.options]).stdout.decode()
             for part in re.split(r"(?m)^(?=why \d+ \S+$)", told):
@@ -142,7 +147,7 @@ class FileOffice:
     def testing(self) -> Optional[str]:
         return self.in_testing
 
-    def why(self, sources: Sequence[str]) -> Iterator[tuple[str, str]]:
+    def why(self, sources: Sequence[str], until: float) -> Iterator[tuple[str, str]]:
         return iter(())
 
     def hint(self, number: int) -> Optional[str]:
