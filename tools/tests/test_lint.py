@@ -256,6 +256,17 @@ class Slips(Folder):
         due = "bag#5:4: warning: no hint in force has the number 10\n"
         self.assertEqual(self.lint("--db", "store.db", "bag"), (due, 1))
 
+    def test_drop_and_build(self):
+        """A drop takes the row of its version out, and no build up to it comes in again."""
+        lines = ["Package: greeter", "Architecture: amd64"]
+        gone = message("ftp", 5, "drop", *lines, "Version: 2.0-1")
+        again = build(4, *lines, "Version: 2.0-1", "Source: greeter")
+        above = build(5, *lines, "Version: 2.0-1+b1", "Source: greeter (2.0-1)")
+        more = [message("ftp", number, "drop", *lines, "Version: 2.0-1+b1") for number in (6, 7, 8)]
+        self.put("bag", b"".join(map(bags.framed, [gone, again, more[0], above, more[1], more[2]])))
+        row = "4: warning: unstable has no row of greeter on amd64: this drops nothing\n"
+        self.assertEqual(self.lint("--db", "store.db", "bag"), (f"bag#3:{row}bag#5:{row}bag#6:{row}", 1))
+
     def test_no_whole_bag(self):
         self.put("bag", b"mail 5\nhello\nmail")
         told = tool("office-lint", "--conf", SETUP, "bag")
