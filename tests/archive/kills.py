@@ -4,7 +4,7 @@ Usage: kills.py OFFICE FOLDER [feeds|reprepro|aptly..]
 
 The feed is ended at each third message, by turns before the office got it and behind that. Before it runs again, more
 comes to unstable, so that what is left to send isn't what was left before. No number may be sent with two texts. The
-apply is ended before and behind each command of the manager. What clients see then is the old testing or the new one,
+apply is ended behind each command of the manager. What clients see then is the old testing or the new one,
 and a second apply makes it the new one.
 """
 import os
@@ -27,10 +27,9 @@ DAY = "2025-03-06"
 WRAPPER = """#!/bin/sh
 number=$(($(cat "$COUNTED" 2>/dev/null || echo 0) + 1))
 echo "$number" > "$COUNTED"
-[ "$number $WHEN" = "$AT before" ] && kill -9 "$PPID" && exit 1
 /usr/bin/%s "$@"
 status=$?
-[ "$number $WHEN" = "$AT behind" ] && kill -9 "$PPID"
+[ "$number" = "$AT" ] && kill -9 "$PPID"
 exit "$status"
 """
 
@@ -119,24 +118,23 @@ def ends(stage: Stage, manager: str) -> int:
     at = 0
     while True:
         at += 1
-        for when in ("before", "behind"):
-            shutil.rmtree(place)
-            run("cp", "-a", saved, place)
-            counted = os.path.join(stage.folder, "counted")
-            if os.path.exists(counted):
-                os.unlink(counted)
-            ended = started("office-apply", stage.apply_words(), PATH=f"{wrappers}:{os.environ['PATH']}",
-                            COUNTED=counted, AT=str(at), WHEN=when)
-            if ended.wait(60) == 0:
-                return 2 * (at - 1)
-            seen = archived(stage.archive)
-            if seen not in (old, new):
-                raise Failed(f"ended {when} command {at}: clients see {sorted(seen ^ old)} otherwise")
-            stage.apply()
-            expect(f"testing behind an apply that was ended {when} command {at}", sorted(new),
-                   sorted(archived(stage.archive)))
-            told = command("office-apply", "--url", stage.office.url, "compare", stage.archive.published("testing"))
-            expect("the indexes", "", told.stderr)
+        shutil.rmtree(place)
+        run("cp", "-a", saved, place)
+        counted = os.path.join(stage.folder, "counted")
+        if os.path.exists(counted):
+            os.unlink(counted)
+        ended = started("office-apply", stage.apply_words(), PATH=f"{wrappers}:{os.environ['PATH']}", COUNTED=counted,
+                        AT=str(at))
+        if ended.wait(120) == 0:
+            return at - 1
+        seen = archived(stage.archive)
+        if seen not in (old, new):
+            raise Failed(f"ended behind command {at}: clients see {sorted(seen ^ old)} otherwise")
+        stage.apply()
+        expect(f"testing behind an apply that was ended behind command {at}", sorted(new),
+               sorted(archived(stage.archive)))
+        told = command("office-apply", "--url", stage.office.url, "compare", stage.archive.published("testing"))
+        expect("the indexes", "", told.stderr)
 
 
 def main(words: Sequence[str]) -> None:
