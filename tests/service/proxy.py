@@ -125,26 +125,26 @@ def requests():
 
 
 def tools(folder):
-    """The tools through the proxy: a sender's mail by office-lint, and all mail of the office by office-mirror."""
+    """The tools through the proxy: a sender's mail by office-lint, all mail by office-mirror, an order."""
     place = os.path.join(folder, "message")
     with open(place, "wb") as message:
         message.write(NONE % (b"ftp", 5))
-    netrc = os.path.join(folder, ".netrc")
-    with open(netrc, "w", encoding="utf-8") as known:
-        known.write("machine 127.0.0.1 login ftp password secret\n")
-    os.chmod(netrc, 0o600)
-    url = "127.0.0.1:%d" % (port + 1)
-    for words, due in [
-            (["office-lint", "--url", "http://" + url, "--conf", CONF, "--user", "ftp", "--send", place],
+    url, conf = "127.0.0.1:%d" % (port + 1), ["--conf", CONF]
+    absent = "office-lint: ~/.netrc has no password of bd at 127.0.0.1\n"
+    unknown = "office-lint: http://%s/kept: 401: Unauthorized\n" % url
+    for user, words, due in [
+            ("ftp", ["office-lint", "--url", "http://" + url, *conf, "--user", "ftp", "--send", place],
              (0, place + ": held ftp 5\n", "")),
-            (["office-lint", "--url", "http://" + url, "--conf", CONF, "--user", "bd", place],
-             (2, "", "office-lint: ~/.netrc has no password of bd at 127.0.0.1\n")),
-            (["office-lint", "--url", "http://" + url, "--conf", CONF, place],
-             (4, "", "office-lint: http://%s/kept: 401: Unauthorized\n" % url)),
-            (["office-mirror", "http://op:secret@" + url, "http://op:secret@" + url],
+            ("ftp", ["office-lint", "--url", "http://" + url, *conf, "--user", "bd", place], (2, "", absent)),
+            ("ftp", ["office-lint", "--url", "http://" + url, *conf, place], (4, "", unknown)),
+            ("op", ["office-mirror", "http://op@" + url, "http://op:secret@" + url],
              (0, "", "office-mirror: http://%s: sent 8\n" % url)),
-            (["office-order", "2025-03-20", "--url", "http://clock:secret@" + url, "--send"],
+            ("clock", ["office-order", "2025-03-20", "--url", "http://clock@" + url, "--send"],
              (0, "held clock 1\n", ""))]:
+        netrc = os.path.join(folder, ".netrc")
+        with open(netrc, "w", encoding="utf-8") as known:
+            known.write("machine 127.0.0.1 login %s password secret\n" % user)
+        os.chmod(netrc, 0o600)
         ran = subprocess.run([os.path.join(TOP, "tools", "bin", words[0]), *words[1:]], capture_output=True, text=True,
                              env={**os.environ, "HOME": folder, "OFFICE": program}, timeout=60)
         want(" ".join(words), due, (ran.returncode, ran.stdout, ran.stderr))

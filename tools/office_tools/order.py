@@ -4,9 +4,10 @@ import datetime
 import sys
 from typing import Mapping, Sequence
 
+from office_tools.accounts import service_at
 from office_tools.mailing import is_held, mailed
 from office_tools.senders import runs_sender
-from office_tools.service import Kept, Service
+from office_tools.service import Kept
 
 URL = "http://127.0.0.1:8080"
 REFUSED = 3
@@ -45,7 +46,7 @@ def parser() -> argparse.ArgumentParser:
 def main(words: Sequence[str]) -> int:
     """Prints the order, or mails it."""
     asked = parser().parse_args(words)
-    service = Service(asked.url)
+    service = service_at(asked.url)
     kept = service.kept()
     text = order(runs_sender(service, kept), kept, asked.day)
     if not asked.send:

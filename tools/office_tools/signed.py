@@ -12,11 +12,12 @@ from pathlib import Path
 from typing import Optional, Sequence
 
 from office_tools import bags
+from office_tools.accounts import service_at
 from office_tools.faults import Fault, cause_of
 from office_tools.files import write_whole
 from office_tools.mailing import is_held, mailed
 from office_tools.messages import ParagraphFault, paragraphs
-from office_tools.service import UNANSWERED, Service
+from office_tools.service import UNANSWERED
 
 UNSIGNED, REFUSED = 1, 3
 LONGEST = 1048576  # bytes of a signed message that are read
@@ -98,7 +99,7 @@ def main(words: Sequence[str]) -> int:
     asked = parser().parse_args(words)
     if not asked.keys.is_dir():
         raise Fault(f"{asked.keys}: there is no such folder", 2)
-    service = Service(asked.url)
+    service = service_at(asked.url)
     signed = sys.stdin.buffer.read(LONGEST + 1)
     if len(signed) > LONGEST:
         raise Fault(f"it has more than {LONGEST} bytes", REFUSED)

@@ -1,13 +1,13 @@
 """office-lint: looks at messages before they are mailed."""
 import argparse
 import datetime
-import netrc
 import sys
 from dataclasses import dataclass
 from typing import Iterator, Optional, Sequence
 
 from office_tools import bags
-from office_tools.faults import Fault, cause_of, tell
+from office_tools.accounts import service_at
+from office_tools.faults import Fault, tell
 from office_tools.files import read_bytes
 from office_tools.lint.office import MOST, Mail, MailOffice, Office, ServiceMail, StoreMail
 from office_tools.lint.places import place_of
@@ -122,20 +122,6 @@ def parser() -> argparse.ArgumentParser:
     return words
 
 
-def service_of(url: str, user: Optional[str]) -> Service:
-    """The service at a URL, asked by a user whose password stands in ~/.netrc."""
-    if user is None:
-        return Service(url)
-    service = Service(url)
-    try:
-        found = netrc.netrc().authenticators(service.host)
-    except (OSError, netrc.NetrcParseError) as fault:
-        raise Fault(f"the password of {user}: {cause_of(fault)}", 2) from fault
-    if found is None or found[0] != user:
-        raise Fault(f"~/.netrc has no password of {user} at {service.host}", 2)
-    return Service(url, user, found[2])
-
-
 def mail_of(service: Optional[Service], conf: str, store: Optional[str]) -> Mail:
     """The mail that is kept by a service, by a store, or by an office to which nothing was mailed."""
     if service is not None:
@@ -156,7 +142,7 @@ def main(words: Sequence[str]) -> int:
         known.error("--send and --user need --url")
     if asked.days < 0:
         known.error("--days needs a number from 0 on")
-    service = service_of(url, asked.user) if url else None
+    service = service_at(url, asked.user) if url else None
     office = MailOffice(asked.conf or CONF, mail_of(service, asked.conf, asked.db))
     texts = [text for path in asked.file for text in texts_of(path)]
     verdicts = office.verdicts([text.text for text in texts])

@@ -3,6 +3,7 @@ import argparse
 import sys
 from typing import Optional, Sequence
 
+from office_tools.accounts import service_at
 from office_tools.faults import Fault, tell
 from office_tools.mirror import held as memory
 from office_tools.mirror.turn import Source, Status, Turn
@@ -33,7 +34,7 @@ def turn(source: Service, target: str, state: Optional[str], is_all: bool) -> St
         done.to_bag(Source(source), sys.stdout.buffer)
         tell(NAME, f"{done.sent} messages in the bag")
         return done.status
-    other = Service(target)
+    other = service_at(target)
     path = memory.place_of(state, source.url, other.url) if state else None
     held = memory.read(path) if path and not is_all else {}
     try:
@@ -48,7 +49,7 @@ def turn(source: Service, target: str, state: Optional[str], is_all: bool) -> St
 def main(words: Sequence[str]) -> int:
     """Brings the mail to each office in turn; one that doesn't answer keeps no other one from its mail."""
     asked = parser().parse_args(words)
-    source = Service(asked.source)
+    source = service_at(asked.source)
     status = 0
     for target in asked.targets:
         try:
