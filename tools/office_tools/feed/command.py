@@ -80,6 +80,8 @@ class Feed:
             reply = self.service.post("/mail", text)
             if label is not None and reply.text == f"held {label.sender} {label.number}":
                 continue
+            if reply.text.startswith("refused ") and reply.status < 500:
+                self.outgoing.clear()  # a text that is refused takes no number
             raise self.fault(label, reply.status, reply.text)
 
     def fault(self, label: Optional[Label], status: int, told: str) -> Fault:
