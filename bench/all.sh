@@ -51,6 +51,7 @@ try replay "$bench/replay/run.sh" "$office" mail:20 waiting:20 backwards:20 idle
 try replay_store env DB=1 "$bench/replay/run.sh" "$office" runs:20
 try replay_file env ROUNDS=1 python3 "$bench/replay/over_file.py" "$office" runs:20 both:20
 try serving env ROUNDS=1 REQUESTS=10 python3 "$bench/serving/run.py" "$office" 20
+try pages env WHY=5 python3 "$bench/pages/run.py" "$office" 50
 try replay_phases python3 "$bench/replay/phases.py" "$office" both:20
 try replay_trials count_trials
 try moves_chain move_chain

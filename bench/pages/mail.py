@@ -69,8 +69,8 @@ def main(sources, folder):
     _, rows_of = bag.first_mail(draw, sources, ARCHS)
     mail = Mail()
     for run, day, uploaded in RUNS:
-        some = range(1, sources + 1) if run == 1 else sorted(draw.sample(range(1, sources + 1), sources // 10 ** (run - 1)))
-        for source in some:
+        everything = range(1, sources + 1)
+        for source in everything if run == 1 else sorted(draw.sample(everything, sources // 10 ** (run - 1))):
             # The sources on which most others depend move at once: else nothing would.
             bad = run > 1 or (source > sources // 2 and draw.random() < 0.2)
             fate = fate_of(draw) if bad else "moves"

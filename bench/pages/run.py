@@ -5,11 +5,13 @@ usage: run.py OFFICE [SOURCES]
 
 OFFICE is the built program. The mail is that of mail.py, of 34,000 sources without another count: three runs. The
 pages are made behind the first run from nothing, and behind each other one, and then once more. For each call it tells
-its seconds by the clock and of processor, the peak of memory, how many requests `/why` it made, how many files it
-wrote, and how large the first page and the largest one are. KEEP names a folder where the pages stay.
+its seconds by the clock and of processor, the peak of memory, how many files it wrote, and how large the first page and
+the largest one are. KEEP names a folder where the pages stay. WHY is how long the last call asks about sources at most,
+3,600 seconds without it.
 """
 import os
 import re
+import socket
 import subprocess
 import sys
 import tempfile
@@ -18,7 +20,15 @@ import time
 HERE = os.path.dirname(os.path.realpath(__file__))
 SETUP = os.path.join(HERE, "..", "replay", "both.conf")
 PAGES = os.path.join(HERE, "..", "..", "tools", "bin", "office-pages")
-PORT = 8093
+
+
+def free_port():
+    with socket.socket() as one:
+        one.bind(("127.0.0.1", 0))
+        return one.getsockname()[1]
+
+
+PORT = free_port()
 
 
 def stamps_of(folder):
@@ -87,7 +97,7 @@ def main(office, sources):
                 print("  from nothing:" if run == 1 else "  behind it:", call(folder, []), flush=True)
                 print("  once more:", call(folder, []), flush=True)
         with Service(office, store):
-            print("  with nothing to ask:", call(folder, ["--why-seconds", "600"]), flush=True)
+            print("  with all answers:", call(folder, ["--why-seconds", os.environ.get("WHY", "3600")]), flush=True)
             print("  once more:", call(folder, []), flush=True)
 
 
