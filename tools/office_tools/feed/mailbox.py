@@ -97,7 +97,8 @@ def fetch(service: Service, folder: str) -> Mailbox:
     kept = service.kept()
     box = Mailbox(os.path.join(folder, BAG), kept)
     found = remembered(box.path, kept)
-    if found is None or not is_of(service, found):
+    is_anew = found is None or not is_of(service, found)
+    if found is None or is_anew:
         if os.path.exists(box.path):
             tell(f"{box.path}: it isn't what this office keeps, and is made anew")
         Outgoing(folder).clear()
@@ -110,7 +111,7 @@ def fetch(service: Service, folder: str) -> Mailbox:
             raise Fault(f"{service.url}: {label.sender} {label.number} isn't kept any more", UNANSWERED)
         known[label] = text
     box.texts = {label: known[label] for label in wanted}
-    if lacking or not os.path.exists(box.path) or len(known) != len(wanted):
+    if lacking or is_anew or len(known) != len(wanted):
         write_whole(box.path, b"".join(map(bags.framed, box.texts.values())))
     return box
 
