@@ -1,10 +1,15 @@
 """What office-lint tells of single messages: each slip that a message may have, beside what is due of it."""
+import datetime
 import os
 import tempfile
 import unittest
+from unittest import mock
 
 from helpers import SETUP, Serving, example, needs_office, office, tool
 from office_tools import bags
+from office_tools.lint.office import MailOffice, ServiceMail
+from office_tools.lint.slips import Days, Look, slips
+from office_tools.messages import Kind, Label, paragraphs
 from office_tools.service import Service
 
 TODAY = "2025-03-22"
@@ -327,6 +332,16 @@ class Sending(Folder):
             due = "slip:4: warning: no source duoo\nslip: held rt 10\nlate: held rt 11\n"
             self.assertEqual(self.send(serving, "--force", "slip", "late"), (due, 1))
             self.assertEqual(service.kept_text("rt", 10), slip)
+
+    def test_too_much_mail(self):
+        """What rests on mail that isn't read is left out, and the verdict, counts and days are looked at."""
+        text, days = hint(12, "block duoo"), Days(datetime.date(2025, 3, 22), 30)
+        for most, knows in [(5000, (True, True)), (10, (True, False)), (1, (False, False))]:
+            with Serving(store="store.db") as serving, mock.patch("office_tools.lint.office.MOST", most):
+                state = MailOffice(SETUP, ServiceMail(Service(serving.url))).state()
+            self.assertEqual((state.knows_orders, state.knows_unstable), knows)
+            told = slips(Look(Label("rt", 12), Kind.HINT, next(paragraphs(text)), (), state, days))
+            self.assertEqual([slip.line for slip in told], [2, 4] if knows[1] else [2])
 
     def test_another_setup(self):
         self.put("conf", b"Architectures: amd64\n\nSender: ftp\nRole: upload\n\nSender: rt\nRole: release\n")

@@ -127,6 +127,18 @@ class Mirror(unittest.TestCase):
         self.assertIn("office-mirror: http://127.0.0.1:1/kept: Connection refused\n", told.stderr)
         self.assertEqual(self.services[1].kept(), self.services[0].kept())
 
+    def test_another_setup(self):
+        """An office of other senders gets nothing."""
+        self.post(0, *TEXTS)
+        with tempfile.NamedTemporaryFile(suffix=".conf") as conf:
+            conf.write(example("setup.conf").replace(b"Sender: bts", b"Sender: bugs"))
+            conf.flush()
+            with Serving(setup=conf.name) as third:
+                told = tool("office-mirror", self.one.url, third.url, self.other.url)
+        due = f"office-mirror: {third.url}: it has other senders than {self.one.url}\n"
+        self.assertEqual((told.stderr.replace(f"office-mirror: {third.url}: sent 0\n", ""), told.returncode),
+                         (due + f"office-mirror: {self.other.url}: sent 11\n", 3))
+
     def test_words(self):
         for words in [[], ["http://127.0.0.1:1"], ["ftp://x", "-"], ["http://127.0.0.1:1", "y"]]:
             self.assertEqual(tool("office-mirror", *words).returncode, 2, words)

@@ -81,9 +81,10 @@ class Turn:
     def to_office(self, source: Source, target: Service, held: Held) -> None:
         """Posts all that the other office didn't hold yet. What it held is added to `held`, also if it fails."""
         theirs = target.kept()
+        if list(theirs) != list(source.kept):
+            raise Fault(f"{target.url}: it has other senders than {source.service.url}", Status.REFUSED)
         for sender in source.senders:
-            known = theirs.get(sender)
-            before = held.get(sender, Numbers()).upto(known.unbroken if known else 0)
+            before = held.get(sender, Numbers()).upto(theirs[sender].unbroken)
             now = Numbers()
             held[sender] = before
             try:
