@@ -53,6 +53,12 @@ try again python3 "$here/rows/opened_again.py" "$office" 1001-1200
 try stopped timeout 3600 python3 "$here/stops/stopped.py" "$office" "$step"
 try surroundings timeout 3600 python3 "$here/surroundings/hostile.py" "$office" "$step"
 try refused timeout 36000 python3 "$here/memory/refused.py" "$office" "$step" ${parts:+"$parts"}
+if command -v reprepro > /dev/null && command -v aptly > /dev/null && command -v dose-debcheck > /dev/null &&
+    command -v installcheck > /dev/null && command -v dpkg-buildpackage > /dev/null; then
+    try archive "$here/archive/run.sh" "$office"
+else
+    echo "not tried: archive: reprepro, aptly, dose-distcheck, libsolv-tools or dpkg-dev isn't installed"
+fi
 echo "what each printed: $told"
 echo "$passed passed, $failed failed"
 [ "$failed" -eq 0 ]
