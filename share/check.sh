@@ -109,7 +109,8 @@ tool_options_are_told() {
         name=${file##*/}
         grep -q "^| \`$name\` |" README.md || { echo "README.md: $name" && return 1; }
         "$file" --help > "$work/help" || { echo "$name --help: status $?" && return 1; }
-        grep -o -e '--[a-z][a-z-]*' "$work/help" | sort -u | sed 's/^--//' | grep -vx help > "$work/options"
+        sed -n 's/^  *\(-[^ ].*\)$/\1/p' "$work/help" | sed 's/  .*//' | grep -o -e '--[a-z][a-z-]*' | sort -u |
+            sed 's/^--//' | grep -vx help > "$work/options"
         while read -r option; do
             grep -q -e "Fl -$option" "man/$name.1" || { echo "man/$name.1: --$option" && return 1; }
         done < "$work/options"
