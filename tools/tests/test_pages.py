@@ -277,7 +277,7 @@ class AllRuns(Pages):
             "/excuses/2": EXCUSES[2].replace("2025-03-20", "2025-03-19").replace("app ", "cup "),
             "/update/2": UPDATES[2].replace("2025-03-20", "2025-03-19"), "/why/cup": "why 2 cup\n"}
         told = self.make("--url", self.office.url)
-        self.assertIn("the office's run 2 isn't the one that was fetched", told)
+        self.assertIn("run 2 isn't the one that was kept", told)
         self.assertEqual(self.json()["generated-date"], "2025-03-19")
         self.assertFalse(os.path.exists(os.path.join(self.folder, "source/app.html")))
         self.assert_links()

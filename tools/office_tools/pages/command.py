@@ -3,7 +3,7 @@ import argparse
 import contextlib
 import fcntl
 import os
-from typing import Iterator, Optional, Sequence
+from typing import Iterator, Sequence
 
 from office_tools.faults import Fault, cause_of
 from office_tools.pages.fetching import fetch, fetch_answers, NAME
@@ -85,18 +85,13 @@ def main(words: Sequence[str]) -> int:
 def make(office: Office, folder: str, kept: str, asked: argparse.Namespace) -> None:
     """Fetches what is new into the folder of what is kept, and writes the pages that changed."""
     os.makedirs(kept, exist_ok=True)
-    with alone(kept):
-        state: Optional[State] = None
-        try:
-            state = State(os.path.join(kept, "state.db"))
-            newest = fetch(office, state)
-            if newest is not None:
-                # The pages of a new run are there before sources are asked about, which takes longer.
-                site = Site(folder, state, asked.bugs)
-                site.build(newest)
-                names = fetch_answers(office, state, newest, asked.why_seconds)
-                if names:
-                    site.build_answers(newest, names)
-        finally:
-            if state is not None:
-                state.close()
+    with alone(kept), contextlib.closing(State(os.path.join(kept, "state.db"))) as state:
+        newest = fetch(office, state)
+        if newest is None:
+            return
+        # The pages of a new run are there before sources are asked about, which takes longer.
+        site = Site(folder, state, asked.bugs)
+        site.build(newest)
+        names = fetch_answers(office, state, newest, asked.why_seconds)
+        if names:
+            site.build_answers(newest, names)

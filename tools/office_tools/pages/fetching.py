@@ -59,7 +59,7 @@ def fetch_runs(office: Office, state: State) -> bool:
     first = min(told)
     other = next((run.number for run in state.runs() if run.number >= first and told.get(run.number) != run), None)
     if other is not None:
-        tell(NAME, f"the office's run {other} isn't the one that was fetched, so all from there on are fetched again")
+        tell(NAME, f"run {other} isn't the one that was kept: it and all later ones are fetched again")
         state.drop_from(other)
     last: Optional[dict[str, Event]] = None
     for number in sorted(set(told) - {run.number for run in state.runs()}):
@@ -127,7 +127,7 @@ def fetch_testing(office: Office, state: State, newest: int) -> bool:
     return finished == newest
 
 
-def first_line(excuse: Excuse) -> str:
+def without_age(excuse: Excuse) -> str:
     """What an excuse says but for its age, which changes from day to day."""
     return " ".join([excuse.testing or "-", excuse.unstable, str(excuse.needed),
                      *(reason.text for reason in excuse.reasons)])
@@ -147,7 +147,7 @@ def sources_to_ask(newest: Newest, whys: Mapping[str, Why]) -> Sequence[str]:
         why = whys.get(excuse.source)
         if outcome.what is What.ACCEPT or (why is not None and why.run == newest.number):
             continue
-        asked = why.run if why is not None and why.excuse == first_line(excuse) else 0
+        asked = why.run if why is not None and why.excuse == without_age(excuse) else 0
         ranked.append((asked, outcome.what is not What.WAIT, excuse.source))
     return [source for _, _, source in sorted(ranked)]
 
@@ -157,7 +157,7 @@ def fetch_answers(office: Office, state: State, newest: Newest, seconds: float) 
 
     The next call asks about the rest.
     """
-    excuses = {excuse.source: first_line(excuse) for excuse in newest.excuses.excuses}
+    excuses = {excuse.source: without_age(excuse) for excuse in newest.excuses.excuses}
     names: set[str] = set()
     found: dict[str, Why] = {}
     before = state.whys()

@@ -6,7 +6,7 @@ from dataclasses import dataclass
 from typing import Mapping, Optional, Sequence
 
 from office_tools import reports
-from office_tools.pages.fetching import first_line, hints_named, Newest
+from office_tools.pages.fetching import without_age, hints_named, Newest
 from office_tools.pages.outcomes import NOTHING, outcome_in, outcomes_of, reason_words, SourceOutcome, What
 from office_tools.pages.sentences import breaks, old_enough, outcome_sentence, reason_sentence
 from office_tools.pages.state import Event, State, Why
@@ -127,7 +127,7 @@ def binaries_of(rows: Sequence[reports.Row]) -> Mapping[str, Sequence[str]]:
 def why_of(facts: Facts, excuse: Excuse) -> Optional[Why]:
     """What the office answered about a source, if its excuse is the same but for the age."""
     why = facts.whys.get(excuse.source)
-    return why if why is not None and why.excuse == first_line(excuse) else None
+    return why if why is not None and why.excuse == without_age(excuse) else None
 
 
 def reason_lines(facts: Facts, excuse: Excuse, links: Links) -> Sequence[Line]:
