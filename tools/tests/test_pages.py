@@ -392,16 +392,19 @@ class Kills(Pages):
             "/excuses/1": "excuses 1 2025-03-04\n" + excuses, "/update/1": "update 1 2025-03-04\n",
             "/testing": "testing 1\n"}
         words = [TOOLS + "/bin/office-pages", "--why-seconds", "0", "--url", self.office.url, self.folder]
-        sources = os.path.join(self.folder, "source")
+        beside = os.path.join(self.folder, ".new", "source")
         with subprocess.Popen(words) as process:
             until = time.monotonic() + 60
-            while not (os.path.isdir(sources) and len(os.listdir(sources)) > 100) and time.monotonic() < until:
+            while not (os.path.isdir(beside) and len(os.listdir(beside)) > 100) and time.monotonic() < until:
                 time.sleep(0.005)
             process.send_signal(signal.SIGKILL)
-        self.assertLess(len(os.listdir(sources)), MANY)
+        self.assertGreater(len(os.listdir(beside)), 100)
+        self.assertNotIn("index.html", self.files())
         self.assert_whole()
         self.make("--url", self.office.url, "--why-seconds", "0")
-        self.assertEqual(len([name for name in os.listdir(sources) if name.endswith(".html")]), MANY)
+        self.assertEqual(len(os.listdir(os.path.join(self.folder, "source"))), MANY)
+        self.assertFalse(os.path.exists(os.path.join(self.folder, ".new")))
+        self.assertEqual(self.office.asked.count("/excuses/1"), 1)
         self.assert_links()
 
     def test_two_calls_at_once(self):
