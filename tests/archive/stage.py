@@ -132,7 +132,7 @@ class Reprepro:
         os.makedirs(os.path.join(self.base, "conf"))
         suites = ["\n".join([f"Codename: {suite}", f"Suite: {suite}", f"Architectures: {' '.join(BOTH)} source",
                              "Components: main", "Description: a suite of the tests",
-                             *(["Pull: all"] if suite == "ordered" else [])])
+                             *(["Pull: - all"] if suite == "ordered" else [])])
                   for suite in ("unstable", "ordered", "testing")]
         self.write("conf/distributions", "\n\n".join(suites) + "\n")
         self.write("conf/pulls", "Name: all\nFrom: unstable\n")
@@ -163,17 +163,9 @@ class Reprepro:
         self.reprepro("-T", "deb", *where, "remove", "unstable", package)
 
     def ready(self) -> str:
-        """The suite `ordered` becomes what unstable is; what is gone there goes here too."""
+        """The suite `ordered` becomes what unstable is."""
         self.reprepro("pull", "ordered")
-        gone = self.listed("ordered") - self.listed("unstable")
-        for place, kind, name in gone:
-            self.reprepro("-T", kind, "-A", place, "remove", "ordered", name)
         return f"file:{self.base} ordered main"
-
-    def listed(self, suite: str) -> set[tuple[str, str, str]]:
-        """What a suite has: index, kind and name."""
-        told = self.reprepro("--list-format", "${$architecture} ${$type} ${package}\n", "list", suite)
-        return {(words[0], words[1], words[2]) for words in (line.split() for line in told.splitlines())}
 
     def apply_words(self) -> Sequence[str]:
         """The words of office-apply."""

@@ -1,4 +1,5 @@
 """office-apply: what its manual page and docs/ARCHIVE.md say of it. Managers are tried by tests/archive."""
+import fcntl
 import os
 import shutil
 import tempfile
@@ -239,6 +240,12 @@ class Command(unittest.TestCase):
             told = self.apply(*words)
             self.assertEqual(told.returncode, status, told.stderr)
             self.assertIn(cause, told.stderr)
+        number = os.open(self.folder, os.O_RDONLY)
+        fcntl.flock(number, fcntl.LOCK_EX)
+        told = self.apply("reprepro", self.folder, "ordered", "testing")
+        os.close(number)
+        self.assertEqual((told.returncode, told.stderr),
+                         (3, f"office-apply: {self.folder}: another office-apply works on this archive\n"))
         told = tool("office-apply", "--url", "http://127.0.0.1:1", "heidi", "x")
         self.assertEqual(told.returncode, 4)
         self.assertTrue(told.stderr.startswith("office-apply: http://127.0.0.1:1/testing: "), told.stderr)

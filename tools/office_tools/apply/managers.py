@@ -9,6 +9,7 @@ from office_tools.faults import Fault, cause_of
 
 UNANSWERED = 4  # status of a command whose office or manager failed
 BATCH = 200  # sources or rows in one command of a manager
+LONGEST = 500  # characters of what a manager tells
 
 
 class Manager(Protocol):
@@ -39,16 +40,16 @@ class Manager(Protocol):
 
 
 def run(words: Sequence[str]) -> str:
-    """What a command of a manager prints. If it fails, its last line on standard error is the `Fault`."""
+    """What a command of a manager prints. If it fails, the end of what it tells is the `Fault`."""
     try:
         ran = subprocess.run(words, stdin=subprocess.DEVNULL, capture_output=True, check=False, text=True,
                              errors="backslashreplace")
     except OSError as fault:
         raise Fault(f"{words[0]}: {cause_of(fault)}", UNANSWERED) from fault
     if ran.returncode:
-        told = [line for line in (ran.stderr or ran.stdout).strip().splitlines()
-                if line and line != "There have been errors!"]
-        raise Fault(f"{words[0]}: {told[-1] if told else f'status {ran.returncode}'}", UNANSWERED)
+        told = " ".join(line.strip() for line in (ran.stderr or ran.stdout).splitlines()
+                        if line != "There have been errors!").strip()
+        raise Fault(f"{words[0]}: {told[-LONGEST:] or f'status {ran.returncode}'}", UNANSWERED)
     return ran.stdout
 
 
