@@ -161,6 +161,9 @@ class AllRuns(Pages):
         for link in ("#line-2", "greeter.html", "libgreet.html"):
             self.assertIn(link, page.links)
         self.assertIn("line-2", page.anchors)
+        # What became of the source itself is told by a sentence.
+        self.assertFalse([item for item in page.items if item.startswith("wait ")])
+        self.assertIn("Waits: its move would leave greeter uninstallable on amd64", page.items)
         self.assertIn("blocked by rt 2: block libgreet", self.page("source/libgreet.html").items)
         self.assertIn("upload ftp 3 2025-03-05", self.page("source/libgreet.html").items)
 
@@ -264,6 +267,25 @@ class AllRuns(Pages):
         self.make("--url", self.office.url)
         self.assertNotIn("What the office answers", self.read("source/stuck.html"))
 
+    def test_an_answer_about_another_excuse_is_left(self):
+        self.make("--url", self.office.url)
+        self.finish_third()
+        self.office.answers["/excuses/3"] = EXCUSES[3].replace(" missing on all\n", "")
+        self.make("--url", self.office.url, "--why-seconds", "0")
+        self.assertNotIn("What the office answers", self.read("source/libgreet.html"))
+        self.assertIn("What the office answers", self.read("source/app.html"))
+
+    def test_what_is_asked_first(self):
+        self.make("--url", self.office.url)
+        self.assertEqual([path for path in self.office.asked if path.startswith("/why/")],
+                         ["/why/stuck", "/why/app", "/why/libgreet"])
+        self.finish_third()
+        self.office.answers["/excuses/3"] = EXCUSES[3].replace(" missing on all\n", "")
+        asked = len(self.office.asked)
+        self.make("--url", self.office.url)
+        self.assertEqual([path for path in self.office.asked[asked:] if path.startswith("/why/")],
+                         ["/why/libgreet", "/why/app"])
+
     def test_no_time_to_ask_why(self):
         self.make("--url", self.office.url, "--why-seconds", "0")
         self.assertFalse([path for path in self.office.asked if path.startswith("/why/")])
@@ -275,11 +297,13 @@ class AllRuns(Pages):
         self.office.answers |= {
             "/runs": RUNS[1] + RUNS[2].replace("2025-03-20", "2025-03-19"),
             "/excuses/2": EXCUSES[2].replace("2025-03-20", "2025-03-19").replace("app ", "cup "),
-            "/update/2": UPDATES[2].replace("2025-03-20", "2025-03-19"), "/why/cup": "why 2 cup\n"}
+            "/update/2": UPDATES[2].replace("2025-03-20", "2025-03-19"), "/why/cup": "why 2 cup\n",
+            "/kept/rt/2": "From: rt\nNumber: 2\nKind: hint\nHint: block-all source\n"}
         told = self.make("--url", self.office.url)
         self.assertIn("run 2 isn't the one that was kept", told)
         self.assertEqual(self.json()["generated-date"], "2025-03-19")
         self.assertFalse(os.path.exists(os.path.join(self.folder, "source/app.html")))
+        self.assertIn("blocked by rt 2: block-all source", self.page("source/libgreet.html").items)
         self.assert_links()
 
     def test_no_run_is_finished(self):
