@@ -15,7 +15,8 @@ Letter = tuple[str, ...]  # a sender, the kind, and the further lines of a messa
 class Day:
     """A day: `gone` are sources, `less` binary packages, on an architecture or on all, that leave unstable.
 
-    Its run leaves something to be sent, where it isn't settled: sources that have to leave testing next.
+    `words` are further ones of office-feed. Its run leaves something to be sent, where it isn't settled: sources that
+    have to leave testing next.
     """
 
     title: str
@@ -26,6 +27,7 @@ class Day:
     less: Sequence[tuple[str, Optional[str]]] = ()
     mail: Sequence[Letter] = ()
     is_settled: bool = True
+    words: Sequence[str] = ()
 
 
 def upload(source: str, version: str, day: str) -> Letter:
@@ -64,7 +66,8 @@ MARCH_9 = [Upload("libfoo", "2.0-1", "2025-03-09", FOO_2),
 MARCH_16 = [Upload("guide", "6-1", "2025-03-16", [Package("guide-doc", "app1", is_all=True)], "low", ("amd64",)),
             Upload("lone", "0.3-1", "2025-03-16", [Package("lone")], "critical")]
 DUO = Upload("duo", "1-1", "2025-03-18", [Package("duo"), Package("duo-bad", "nosuch")], "critical")
-LONE_AGAIN = Upload("lone", "0.3-1", "2025-03-19", [Package("lone")], architectures=("amd64",), rebuild=1)
+LONE_AGAIN, LONE_TWICE = (Upload("lone", "0.3-1", "2025-03-19", [Package("lone")], architectures=("amd64",),
+                                 rebuild=number) for number in (1, 2))
 MARCH_20 = [Upload("libfoo", "3.0-1", "2025-03-20", FOO_3, "critical"),
             Upload("app1", "1.2-1", "2025-03-20", [Package("app1", "libfoo3 (>= 3.0), base")], "critical")]
 APP2_LAST = Upload("app2", "2.0-3", "2025-03-21", [Package("app2", "libfoo3 (>= 3.0)")], "critical")
@@ -92,6 +95,8 @@ DAYS: Sequence[Day] = (
         mail=[upload("lone", "0.3-1+b1", "2025-03-19"),
               ("again1", "build", row("lone", "0.3-1+b1", "amd64", "lone (0.3-1+b1)"),
                row("lone", "0.3-1", "arm64", "lone (0.3-1+b1)"))]),
+    Day("a rebuild that the feed tells by itself", "2025-03-19", ["accept lone 0.3-1+b2", DUO_WAITS], [LONE_TWICE],
+        words=["--rebuilds"]),
     Day("an old library stays beside the new one", "2025-03-20",
         ["accept smooth-libfoo2 2.0-1", "accept libfoo 3.0-1", "accept app1 1.2-1", DUO_WAITS], MARCH_20,
         mail=[upload("smooth-libfoo2", "2.0-1", "2025-03-20"),

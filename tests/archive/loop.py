@@ -18,11 +18,12 @@ from stage import Aptly, Archive, Failed, Office, Reprepro, Stage, command
 MANAGERS: Mapping[str, Callable[[str], Archive]] = {"reprepro": Reprepro, "aptly": Aptly}
 
 OLD_SOURCE = "libfoo 2.0-1 source"
-MADE_UP = {"lone 0.3-1+b1 source": "lone 0.3-1 source", "mailer 5-2+b1 source": "mailer 5-2 source",
-           "smooth-libfoo2 2.0-1 source": OLD_SOURCE, "cyca 1-1+gone source": "cyca 1-1 source",
-           "cycb 1-1+gone source": "cycb 1-1 source", "cyca 1-1+gone amd64": "cyca 1-1 amd64",
-           "cyca 1-1+gone arm64": "cyca 1-1 arm64", "cycb 1-1+gone amd64": "cycb 1-1 amd64",
-           "cycb 1-1+gone arm64": "cycb 1-1 arm64"}
+MADE_UP = {
+    "lone 0.3-1+b1 source": "lone 0.3-1 source", "lone 0.3-1+b2 source": "lone 0.3-1 source",
+    "mailer 5-2+b1 source": "mailer 5-2 source", "smooth-libfoo2 2.0-1 source": OLD_SOURCE,
+    "cyca 1-1+gone source": "cyca 1-1 source", "cycb 1-1+gone source": "cycb 1-1 source",
+    "cyca 1-1+gone amd64": "cyca 1-1 amd64", "cyca 1-1+gone arm64": "cyca 1-1 arm64",
+    "cycb 1-1+gone amd64": "cycb 1-1 amd64", "cycb 1-1+gone arm64": "cycb 1-1 arm64"}
 """What the office has by hand-made mail, and what the archive has in its place. The old library's source stays beside
 the new one's, where the manager has several versions of a source in a suite."""
 
@@ -64,12 +65,12 @@ def live(stage: Stage, number: int, day: Day) -> None:
     stage.line = stage.archive.ready()
     for letter in day.mail:
         stage.office.post(*letter)
-    stage.feed(day.day)
+    stage.feed(day.day, *day.words)
     expect(f"update {number}", list(day.update), list(stage.office.update(number)))
     if not day.is_settled:
         return
     before = stage.office.service.kept()
-    stage.feed(day.day)
+    stage.feed(day.day, *day.words)
     expect("a second feed sends nothing", before, stage.office.service.kept())
 
 
@@ -96,7 +97,7 @@ def check_refused(stage: Stage) -> None:
     lacking = os.path.join(stage.folder, "lacking")
     with open(lacking, "w", encoding="utf-8") as file:
         text = stage.office.service.good_text("/testing")
-        file.write(text.replace("source lone 0.3-1+b1\n", "source lone 0.9-1\n").replace(" lone 0.3-1", " lone 0.9-1"))
+        file.write(text.replace("source lone 0.3-1+b2\n", "source lone 0.9-1\n").replace(" lone 0.3-1", " lone 0.9-1"))
     told = command("office-apply", "--testing", lacking, *stage.archive.apply_words(), may_fail=True)
     expect("an apply without what it needs", 3, told.returncode)
     if "there is no binary arm64 lone 0.9-1 to copy" not in told.stderr:

@@ -65,7 +65,7 @@ def read_sent(path):
 news.read_sent = read_sent""", LOOP, "the office keeps another text"),
     Fault("a feed that tells no drops", "feed", """
 from office_tools.feed import news
-news.mail.drops = lambda *words: []""", LOOP, "update 11"),
+news.mail.drops = lambda *words: []""", LOOP, "update 12"),
     Fault("a feed that forgets what it was about to send", "feed", """
 from office_tools.feed.mailbox import Outgoing
 Outgoing.write = lambda self, texts: None""", ("kills.py", "feeds"), "numbers with two texts"))

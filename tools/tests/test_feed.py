@@ -161,6 +161,59 @@ class Feeds(Folder):
         os.close(number)
 
 
+SPARE_SETUP = """Architectures: amd64 arm64
+
+Sender: ftp
+Role: upload
+
+Sender: again1
+Role: build
+
+Sender: bd
+Role: build
+
+Sender: bts
+Role: bugs
+
+Sender: rt
+Role: release
+
+Sender: clock
+Role: runs
+"""
+
+
+@needs_office
+class Rebuilding(Folder):
+    """A rebuild is told under a version of its own, as often as there are spare senders."""
+
+    def feed(self, packages, *more):
+        ended = tool("office-feed", "--url", self.service.url, "--cache", self.path("cache"), "--day", "2025-03-09",
+                     "--rebuilds", *more, self.file("Packages", packages))
+        self.assertEqual(ended.returncode, 0, ended.stderr)
+        return ended.stdout.splitlines()[0], ended.stderr.splitlines()
+
+    def test_as_often_as_there_are_spare_senders(self):
+        self.file("changes/lib.changes", CHANGES)
+        both = package("lib1", "1", source="lib") + package("lib-data", "1", source="lib", architecture="all") + \
+            package("lib1", "1", source="lib", architecture="arm64")
+        with Serving(self.file("setup.conf", SPARE_SETUP)) as office:
+            self.service = Service(office.url)
+            self.feed(both, "--changes", self.path("changes"))
+            self.assertEqual(self.service.good_text("/update/1"), "update 1 2025-03-09\naccept lib 1\n")
+            once = both.replace("Version: 1\nArchitecture: amd64", "Version: 1+b1\nArchitecture: amd64") \
+                .replace("lib\nVersion: 1+b1", "lib (1)\nVersion: 1+b1")
+            self.assertEqual(self.feed(once), ("uploads 1, drops 0, builds 2, hints 0, unhints 0, orders 1",
+                                               ["office-feed: lib: rebuilt: told as 1+b1"]))
+            self.assertEqual(self.service.good_text("/update/2"), "update 2 2025-03-09\naccept lib 1+b1\n")
+            self.assertEqual(self.service.good_text("/testing").splitlines()[2:], [
+                "binary amd64 lib1 1+b1 lib", "binary arm64 lib1 1 lib", "binary all lib-data 1 lib"])
+            self.assertEqual(self.feed(once)[0], "uploads 0, drops 0, builds 0, hints 0, unhints 0, orders 0")
+            told = self.feed(once.replace("1+b1", "1+b2"))[1]
+            self.assertEqual(told, ["office-feed: lib 1: rebuilt, and left out: no spare sender of builds is left for "
+                                    "lib-data"])
+
+
 class Words(Folder):
 
     def test_refusals(self):

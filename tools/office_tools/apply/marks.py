@@ -6,8 +6,7 @@ rebuild, an old library that stays, or packages that leave together, three marks
 """
 import re
 
-REBUILT = re.compile(r"\+b[1-9][0-9]*")
-REBUILT_AT_END = re.compile(REBUILT.pattern + "$")
+REBUILT_AT_END = re.compile(r"\+b([1-9][0-9]*)$")
 LEAVING = "+gone"
 STAYING = "smooth-"
 

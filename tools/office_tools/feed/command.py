@@ -38,6 +38,8 @@ def parser() -> argparse.ArgumentParser:
                        "uploads; others came on the day of the run, with the urgency medium")
     words.add_argument("--order", action=argparse.BooleanOptionalAction, default=None,
                        help="order a run in any case, or never")
+    words.add_argument("--rebuilds", action="store_true",
+                       help="tell rebuilds of sources in testing so that they move, by the spare senders again1 ..")
     words.add_argument("--dry-run", action="store_true", help="print what would be sent, as a bag, and send nothing")
     words.add_argument("--cache", metavar="DIR", help="where fetched mail and indexes are remembered")
     words.add_argument("--sources", action="append", default=[], metavar="SOURCES", help="a file Sources")
@@ -154,7 +156,8 @@ def main(words: Sequence[str]) -> int:
         box = mailbox.fetch(service, folder)
         feed = replace(feed, box=box)
     arrived = Arrival(Urgency.MEDIUM, asked.day.isoformat())
-    found = news(unstable, box, service.testing(), Uploading(read_arrivals(asked.changes, arrived), arrived))
+    arrivals = Uploading(read_arrivals(asked.changes, arrived), arrived)
+    found = news(unstable, box, service.testing(), arrivals, asked.rebuilds)
     if asked.dry_run:
         sys.stdout.buffer.write(found.bag())
         tell(found.summary())

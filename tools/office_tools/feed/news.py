@@ -9,6 +9,7 @@ from office_tools.apply import marks
 from office_tools.bags import framed
 from office_tools.faults import Fault
 from office_tools.feed.mailbox import REFUSED, Mailbox
+from office_tools.feed.rebuilds import Rebuilds, rebuilds
 from office_tools.from_packages import mail
 from office_tools.from_packages.binaries import Binary, Key
 from office_tools.from_packages.sent import Sent, read_sent
@@ -62,8 +63,9 @@ class News:
         return b"".join(map(framed, self.texts))
 
 
-def news(unstable: Unstable, box: Mailbox, testing: reports.Testing, arrivals: mail.Uploading) -> News:
-    """What the archive has and the mail doesn't tell."""
+def news(unstable: Unstable, box: Mailbox, testing: reports.Testing, arrivals: mail.Uploading,
+         with_rebuilds: bool) -> News:
+    """What the archive has and the mail doesn't tell. A rebuild of a source is told so that it moves, if asked for."""
     sent = read_sent(box.path)
     look_at(unstable, box, sent)
     made_up = sent.versions
@@ -73,11 +75,13 @@ def news(unstable: Unstable, box: Mailbox, testing: reports.Testing, arrivals: m
         binaries={key: version for key, version in sent.binaries.items() if not version.endswith(marks.LEAVING)})
     found = News()
     found.uploads = list(mail.uploads(unstable.sources, known, arrivals))
+    again = rebuilds(unstable.binaries, box, testing, sent) if with_rebuilds else Rebuilds()
+    found.uploads += again.uploads(UPLOADS, sent.last[UPLOADS] + len(found.uploads), arrivals.others.day)
     staying = kept_beside(box)
     droppable = dataclasses.replace(known, binaries={key: version for key, version in known.binaries.items()
                                                      if (key, version) not in staying})
     found.drops = list(mail.drops(unstable.binaries, droppable, sent.last[UPLOADS] + len(found.uploads)))
-    found.builds = list(mail.builds(unstable.binaries, known))
+    found.builds = [*mail.builds([again.told(binary) for binary in unstable.binaries], known), *again.builds(box)]
     removals = list(standing(box))
     number = sent.last[HINTS]
     found.hints = list(removal_hints(unstable, testing, removals, made_up, number))
@@ -106,7 +110,7 @@ def kept_beside(box: Mailbox) -> set[tuple[Key, str]]:
     """The packages that were told under a made-up source, since they stay beside newer ones; with their versions."""
     found: set[tuple[Key, str]] = set()
     for text in box.texts.values():
-        if b"\nSource: " + marks.STAYING.encode() in text:
+        if marks.STAYING.encode() in text:
             for paragraph in list(paragraphs(text))[1:]:
                 if marks.is_made_up(paragraph.value("Source") or ""):
                     key = paragraph.value("Package") or "", paragraph.value("Architecture") or ""
