@@ -450,6 +450,8 @@ class Faults(Pages):
         self.assertEqual(self.status("--db", "store.db", self.folder), 2)
         self.assertEqual(self.status("--excuses", "excuses", self.folder), 2)
         self.assertEqual(self.status("--bugs", "https://bugs.example.org", self.folder), 2)
+        for seconds in "nan", "-1", "inf", "soon":
+            self.assertEqual(self.status("--why-seconds=" + seconds, self.folder), 2)
         self.assertEqual(self.status(self.folder + "/none"), 1)
         self.assertEqual(self.status("--url", "http://127.0.0.1:1", self.folder), 4)
 

@@ -2,6 +2,7 @@
 import argparse
 import contextlib
 import fcntl
+import math
 import os
 from typing import Iterator, Sequence
 
@@ -15,6 +16,17 @@ WRONG_WORDS = 2
 URL = "http://127.0.0.1:8080"
 BUGS = "https://bugs.debian.org/%s"
 SECONDS = 3.0
+
+
+def seconds_of(text: str) -> float:
+    """How many seconds a word states."""
+    try:
+        seconds = float(text)
+    except ValueError:
+        seconds = math.nan
+    if 0 <= seconds < math.inf:
+        return seconds
+    raise argparse.ArgumentTypeError(f"{text!r} is no number of seconds")
 
 
 def words_of(words: Sequence[str]) -> argparse.Namespace:
@@ -33,7 +45,7 @@ def words_of(words: Sequence[str]) -> argparse.Namespace:
     parser.add_argument("--bugs", metavar="URL", default=BUGS,
                         help="where bugs are found; %%s stands for a bug's number (%(default)s)")
     parser.add_argument("--state", metavar="FOLDER", help="where fetched reports are kept (FOLDER/.state)")
-    parser.add_argument("--why-seconds", metavar="N", type=float, default=SECONDS,
+    parser.add_argument("--why-seconds", metavar="N", type=seconds_of, default=SECONDS,
                         help="how long the office is asked at most why sources don't move (%(default)s)")
     return parser.parse_args(words)
 
