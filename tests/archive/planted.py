@@ -62,7 +62,7 @@ def read_sent(path):
     found = due(path)
     found.last["ftp"] = max(0, found.last["ftp"] - 1)
     return found
-news.read_sent = read_sent""", LOOP, "the office keeps another text"),
+news.read_sent = read_sent""", LOOP, "somebody else sends as ftp"),
     Fault("a feed that tells no drops", "feed", """
 from office_tools.feed import news
 news.mail.drops = lambda *words: []""", LOOP, "update 12"),

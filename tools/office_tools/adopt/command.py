@@ -5,7 +5,7 @@ import functools
 import os
 from typing import Mapping, Sequence
 
-from office_tools import bags, faults, messages, order, program, reports, setups
+from office_tools import bags, days, faults, messages, program, reports, setups
 from office_tools.adopt.rows import lifted, stripped
 from office_tools.apply.contents import Contents, Indexes, difference, wanted
 from office_tools.apply.published import read_indexes
@@ -42,7 +42,7 @@ def parser() -> argparse.ArgumentParser:
                                "that an archive has. What has to be told otherwise than it is, is told.",
         epilog="Status 0: the office's testing is the archive's. 1: it isn't: each difference is printed. 2: the words "
                "are wrong. 4: the program office didn't answer.")
-    words.add_argument("--day", type=order.day, default=datetime.datetime.now(datetime.timezone.utc).date(),
+    words.add_argument("--day", type=days.day, default=days.today(),
                        help="the day of the first run, as 2025-03-20 (today by the system's clock, in UTC)")
     words.add_argument("--spare", type=spares, default=2, metavar="N",
                        help=f"how many spare senders of builds stand before bd in the setup: 0 to {MOST_SPARES} (2)")

@@ -5,6 +5,7 @@ import os
 from typing import Optional, Sequence
 
 from office_tools import faults, reports
+from office_tools.accounts import service_at
 from office_tools.apply import heidi, marks
 from office_tools.apply.aptly import Aptly
 from office_tools.apply.contents import ALL, REFUSED, Contents, Indexes, difference, wanted
@@ -14,7 +15,6 @@ from office_tools.apply.reprepro import Reprepro
 from office_tools.apply.turn import Turn, counts, tell_idle
 from office_tools.faults import Fault
 from office_tools.files import read_bytes
-from office_tools.service import Service
 
 NAME = "office-apply"
 URL = "http://127.0.0.1:8080"
@@ -68,7 +68,7 @@ def manager_of(asked: argparse.Namespace) -> tuple[Manager, str]:
 def testing_of(url: Optional[str], path: Optional[str]) -> reports.Testing:
     """What is in the office's testing."""
     if path is None:
-        return Service(url or URL).testing()
+        return service_at(url or URL).testing()
     try:
         return reports.read_testing(read_bytes(path).decode(), path)
     except UnicodeDecodeError as fault:

@@ -6,7 +6,8 @@ import sys
 from dataclasses import dataclass, replace
 from typing import Optional, Sequence
 
-from office_tools import order
+from office_tools import days, order
+from office_tools.accounts import service_at
 from office_tools.faults import Fault
 from office_tools.feed import archive, mailbox
 from office_tools.feed.mailbox import REFUSED, Mailbox, Outgoing
@@ -15,9 +16,10 @@ from office_tools.feed.told import NAME, take_over, tell
 from office_tools.from_packages.binaries import fitting, read_binaries
 from office_tools.from_packages.mail import Uploading
 from office_tools.from_packages.sources import Arrival, read_arrivals, read_sources
+from office_tools.mailing import is_held, mailed
 from office_tools.messages import Label, Urgency, label_of
 from office_tools.senders import runs_sender
-from office_tools.service import UNANSWERED, Kept, Service
+from office_tools.service import Kept, Service
 
 URL = "http://127.0.0.1:8080"
 WAITS = 1
@@ -32,7 +34,7 @@ def parser() -> argparse.ArgumentParser:
                "--dry-run something would be sent. 2: the words are wrong. 3: refused: nothing was sent, or the office "
                "refused what is told. 4: the office or the archive doesn't answer.")
     words.add_argument("--url", default=URL, help=f"the service ({URL})")
-    words.add_argument("--day", type=order.day, default=datetime.datetime.now(datetime.timezone.utc).date(),
+    words.add_argument("--day", type=days.day, default=days.today(),
                        help="the day of the run, as 2025-03-20 (today by the system's clock, in UTC)")
     words.add_argument("--changes", metavar="DIR", help="a folder of files .changes, which tell day and urgency of "
                        "uploads; others came on the day of the run, with the urgency medium")
@@ -78,24 +80,18 @@ class Feed:
     def post(self, texts: Sequence[bytes]) -> None:
         """Posts messages one after the other."""
         for text in texts:
-            label = label_of(text)
-            reply = self.service.post("/mail", text)
-            if label is not None and reply.text == f"held {label.sender} {label.number}":
-                continue
-            if reply.text.startswith("refused ") and reply.status < 500:
+            reply = mailed(self.service, text)
+            if not is_held(reply):
                 self.outgoing.clear()  # a text that is refused takes no number
-            raise self.fault(label, reply.status, reply.text)
+                raise self.fault(label_of(text), reply)
 
-    def fault(self, label: Optional[Label], status: int, told: str) -> Fault:
+    def fault(self, label: Optional[Label], reply: str) -> Fault:
         """The fault of a message that isn't held."""
-        said = f"{label.sender} {label.number}" if label else "a message"
-        if told == "refused OtherText":
-            return Fault(f"{said}: the office keeps another text: somebody else sends as {label and label.sender}; run "
-                         "it again", REFUSED)
-        if told.startswith("refused UnknownArchitecture"):
-            return Fault(f"{said}: {told}: the office has another setup than the archive", REFUSED)
-        is_refusal = told.startswith("refused ") and status < 500
-        return Fault(f"{self.service.url}: {said}: {told[:200]}", REFUSED if is_refusal else UNANSWERED)
+        sender, number = (label.sender, label.number) if label else ("?", 0)
+        causes = {"refused OtherText": f"somebody else sends as {sender} too: run it again",
+                  "refused UnknownArchitecture": "the office has another setup than the archive"}
+        cause = causes.get(reply)
+        return Fault(f"{self.service.url}: {sender} {number}: {reply}{': ' + cause if cause else ''}", REFUSED)
 
     def is_due(self, kept: dict[str, Kept], day: datetime.date) -> bool:
         """Whether there is mail that no order covers, or the day is behind that of all orders."""
@@ -144,7 +140,7 @@ def main(words: Sequence[str]) -> int:
     if bool(asked.packages) == bool(asked.apt):
         known.error("name files Packages, or lines for apt by --apt")
     take_over()
-    service = Service(asked.url)
+    service = service_at(asked.url)
     folder = mailbox.folder_for(asked.cache, service)
     mailbox.locked(folder)
     files = archive.fetched(asked.apt, os.path.join(folder, "apt")) if asked.apt else \
