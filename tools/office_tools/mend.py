@@ -32,9 +32,10 @@ def parser() -> argparse.ArgumentParser:
         description="Prints the bag on standard input with another text in the place of a message.",
         epilog="Status 0: the bag was printed. 1: it has no such message. 2: the words are wrong. 3: it is no whole "
                "bag, or the text is another message's. Where the status isn't 0, nothing is printed.")
-    words.add_argument("sender", help="the sender of the message")
-    words.add_argument("number", type=int, help="its number")
-    words.add_argument("file", help="the text that takes its place: a message of the same sender and number")
+    words.add_argument("sender", metavar="SENDER", help="the sender of the message")
+    words.add_argument("number", metavar="NUMBER", type=int, help="its number")
+    words.add_argument("file", metavar="FILE",
+                       help="the text that takes its place: a message of the same sender and number")
     return words
 
 

@@ -5,6 +5,7 @@ import sys
 from typing import Mapping, Sequence
 
 from office_tools.accounts import service_at
+from office_tools.days import day, today
 from office_tools.mailing import is_held, mailed
 from office_tools.senders import runs_sender
 from office_tools.service import Kept
@@ -21,14 +22,6 @@ def order(runs: str, kept: Mapping[str, Kept], day: datetime.date) -> bytes:
             f"Covers:{','.join(covers)}\n").encode()
 
 
-def day(word: str) -> datetime.date:
-    """A day, as the office has days."""
-    found = datetime.date.fromisoformat(word)
-    if found.isoformat() != word or found.year < datetime.date.fromtimestamp(0).year:
-        raise ValueError(word)
-    return found
-
-
 def parser() -> argparse.ArgumentParser:
     """The command's words."""
     words = argparse.ArgumentParser(
@@ -36,9 +29,9 @@ def parser() -> argparse.ArgumentParser:
         description="Prints the next order of a running office, over all mail that it keeps without a gap.",
         epilog="Status 0: it was printed, or with --send held. 2: the words are wrong. 3: the office refused it. "
                "4: no office answers.")
-    words.add_argument("day", nargs="?", type=day, default=datetime.datetime.now(datetime.timezone.utc).date(),
+    words.add_argument("day", nargs="?", type=day, default=today(), metavar="DAY",
                        help="the day of the run, as 2025-03-20 (today by the system's clock, in UTC)")
-    words.add_argument("--url", default=URL, help=f"the service ({URL})")
+    words.add_argument("--url", metavar="URL", default=URL, help=f"the service ({URL})")
     words.add_argument("--send", action="store_true", help="mails the order, and prints the reply in its place")
     return words
 

@@ -87,10 +87,13 @@ def parser() -> argparse.ArgumentParser:
         epilog="Status 0: it is held. 1: no key fits. 2: the words are wrong. 3: it is for another office, or from "
                "another sender than the key's, or the office refused it. 4: no office answers, or the signed message "
                "couldn't be kept.")
-    words.add_argument("keys", type=Path, help="the folder of the keyrings: SENDER.gpg has the keys of SENDER")
-    words.add_argument("office", help="the office's name, which the message states in its field Office")
-    words.add_argument("url", help="the service")
-    words.add_argument("--keep", type=Path, help="the folder that keeps what was signed (signed, beside KEYS)")
+    words.add_argument("keys", metavar="KEYS", type=Path,
+                       help="the folder of the keyrings: SENDER.gpg has the keys of SENDER")
+    words.add_argument("office", metavar="OFFICE",
+                       help="the office's name, which the message states in its field Office")
+    words.add_argument("url", metavar="URL", help="the service")
+    words.add_argument("--keep", metavar="FOLDER", type=Path,
+                       help="the folder that keeps what was signed (signed, beside KEYS)")
     return words
 
 

@@ -1,12 +1,12 @@
 """office-lint: looks at messages before they are mailed."""
 import argparse
-import datetime
 import sys
 from dataclasses import dataclass
 from typing import Iterator, Optional, Sequence
 
 from office_tools import bags
 from office_tools.accounts import service_at
+from office_tools.days import day, today
 from office_tools.faults import Fault, tell
 from office_tools.files import read_bytes
 from office_tools.lint.office import MOST, Mail, MailOffice, Office, ServiceMail, StoreMail
@@ -95,30 +95,25 @@ def texts_of(path: str) -> Iterator[Text]:
         raise Fault(f"{path}: {fault.cause}", REFUSED) from fault
 
 
-def day(word: str) -> datetime.date:
-    """A day, as the office has days."""
-    if len(word) != len("YYYY-MM-DD"):
-        raise ValueError(word)
-    return datetime.date.fromisoformat(word)
-
-
 def parser() -> argparse.ArgumentParser:
     """The command's words."""
     words = argparse.ArgumentParser(
         prog=NAME, description="Tells what an office would answer to messages, and what in them is most likely a slip.",
         epilog="Status 0: all would be held, and nothing is odd. 1: there are warnings. 2: the words are wrong. "
                "3: a message or a bag is refused. 4: no office answers.")
-    words.add_argument("--url", help=f"the service ({URL}, where neither it nor --conf is stated)")
-    words.add_argument("--conf", help="the setup's file; without --url the office is one in memory that keeps nothing, "
-                                      f"or that of --db (with --url: {CONF})")
-    words.add_argument("--db", help="the store's file, while no office has it open")
-    words.add_argument("--today", type=day, default=datetime.datetime.now(datetime.timezone.utc).date(),
+    words.add_argument("--url", metavar="URL", help=f"the service ({URL}, where neither it nor --conf is stated)")
+    words.add_argument("--conf", metavar="SETUP",
+                       help="the setup's file; without --url the office is one in memory that keeps nothing, or that "
+                            f"of --db (with --url: {CONF})")
+    words.add_argument("--db", metavar="STORE", help="the store's file, while no office has it open")
+    words.add_argument("--today", metavar="DAY", type=day, default=today(),
                        help="the day that is today (by the system's clock, in UTC)")
-    words.add_argument("--days", type=int, default=30, help="how many days back an upload's day may lie (30)")
+    words.add_argument("--days", metavar="N", type=int, default=30,
+                       help="how many days back an upload's day may lie (30)")
     words.add_argument("--send", action="store_true", help="mails, in order, what has no warning")
     words.add_argument("--force", action="store_true", help="mails what has warnings, too")
-    words.add_argument("--user", help="the user at a proxy; its password stands in ~/.netrc")
-    words.add_argument("file", nargs="+", help="a message, or a bag; - is standard input")
+    words.add_argument("--user", metavar="USER", help="the user at a proxy; its password stands in ~/.netrc")
+    words.add_argument("file", metavar="FILE", nargs="+", help="a message, or a bag; - is standard input")
     return words
 
 
