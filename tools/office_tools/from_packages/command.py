@@ -1,11 +1,10 @@
 """The command office-from-packages: its words, and what it writes."""
 import argparse
-import datetime
 import os
-import re
 from typing import Iterator, Mapping, Sequence
 
 from office_tools import bags, reports, setups, versions
+from office_tools.days import day
 from office_tools.faults import Fault
 from office_tools.files import read_bytes, write_whole
 from office_tools.from_packages import mail
@@ -21,13 +20,6 @@ DESCRIPTION = """Makes FOLDER/setup.conf and FOLDER/bag from the indexes of an a
 builds, hints for the sources that have to move together, and the first order, which covers all of these. With --after
 it makes the bag of what is new since. What isn't taken over is told on standard error, a line for each."""
 MOST_ARCHITECTURES = 16
-
-
-def day(text: str) -> str:
-    """A day from 1970 on, as the office writes it."""
-    if not re.fullmatch(r"\d{4}-\d{2}-\d{2}", text) or datetime.date.fromisoformat(text).year < 1970:
-        raise ValueError(text)
-    return text
 
 
 def words() -> argparse.ArgumentParser:
@@ -59,7 +51,7 @@ def main(given: Sequence[str]) -> int:
     current = read_sources(asked.sources, binaries)
     sent = read_sent(asked.after)
     in_place = testing_of(asked.testing) if asked.testing else sent.versions
-    arrived = Arrival(Urgency(asked.urgency), asked.uploaded)
+    arrived = Arrival(Urgency(asked.urgency), str(asked.uploaded))
     arrivals = mail.Uploading(read_arrivals(asked.changes, arrived), arrived)
     suites = Suites(current_of(binaries, current), architectures)
     if not asked.with_uninstallable:
@@ -69,7 +61,7 @@ def main(given: Sequence[str]) -> int:
     gone = list(mail.drops(binaries, sent, sent.last["ftp"] + len(came)))
     made = list(mail.builds(binaries, sent))
     wishes = [] if asked.no_hints else list(mail.hints(new_groups(suites, current, in_place), current, sent))
-    order = mail.order(asked.run, sent, {"ftp": len(came) + len(gone), "bd": len(made), "rt": len(wishes)})
+    order = mail.order(str(asked.run), sent, {"ftp": len(came) + len(gone), "bd": len(made), "rt": len(wishes)})
     write(asked.folder, setups.Setup(architectures, mail.SENDERS), [*came, *gone, *made, *wishes, order])
     print(f"uploads {len(came)}, drops {len(gone)}, builds {len(made)}, hints {len(wishes)}, orders 1")
     return 0
