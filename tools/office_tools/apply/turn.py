@@ -23,10 +23,10 @@ class Turn:
         """Shows what would change: status 0 where nothing would."""
         want, have = self.both()
         found = self.difference(want, have)
-        self.check(found)
         for line in (*(f"would come: {line}" for line in found.missing.lines()),
                      *(f"would go: {line}" for line in found.excess.lines())):
             self.show(line)
+        self.check(found)
         if found.is_empty and not self.manager.is_published(have):
             self.show("would be published: testing as it is")
             return 1
