@@ -239,8 +239,8 @@ class State:
 
 
 def packed(text: str) -> bytes:
-    """A text, compressed."""
-    return zlib.compress(text.encode())
+    """A text, compressed: by the fastest level, since testing is packed at each run."""
+    return zlib.compress(text.encode(), 1)
 
 
 def unpacked(data: bytes) -> str:
