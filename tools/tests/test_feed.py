@@ -1,5 +1,6 @@
 """office-feed: what its manual page and docs/ARCHIVE.md say of it. A whole archive is fed by tests/archive."""
 import fcntl
+import hashlib
 import os
 import shutil
 import tempfile
@@ -231,6 +232,22 @@ class Rebuilding(Folder):
             told = self.feed(once.replace("1+b1", "1+b2"))[1]
             self.assertEqual(told, ["office-feed: lib 1: rebuilt, and left out: no spare sender of builds is left for "
                                     "lib-data"])
+
+
+class Fetching(Folder):
+
+    def test_apt_fetches_into_a_folder_that_is_named_from_here(self):
+        """An archive without signature, of one architecture, as apt takes it."""
+        self.file("archive/dists/x/main/binary-amd64/Packages", FIRST)
+        self.file("archive/dists/x/Release", "Suite: x\nArchitectures: amd64\nComponents: main\nSHA256:\n "
+                  f"{hashlib.sha256(FIRST.encode()).hexdigest()} {len(FIRST)} main/binary-amd64/Packages\n")
+        here = os.getcwd()
+        os.chdir(self.folder)
+        self.addCleanup(os.chdir, here)
+        told = tool("office-feed", "--url", "http://127.0.0.1:1", "--cache", "cache", "--apt",
+                    f"deb [trusted=yes arch=amd64] file:{self.folder}/archive x main")
+        self.assertEqual(told.returncode, 4, told.stderr)
+        self.assertIn("http://127.0.0.1:1/kept: ", told.stderr)
 
 
 class Words(Folder):
