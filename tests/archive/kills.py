@@ -2,7 +2,7 @@
 
 Usage: kills.py OFFICE FOLDER [feeds|reprepro|aptly..]
 
-The feed is ended at each third message, by turns before the office got it and behind that. Before it runs again, more
+The feed is ended at each fourth message, by turns before the office got it and behind that. Before it runs again, more
 comes to unstable, so that what is left to send isn't what was left before. No number may be sent with two texts. The
 apply is ended behind each command of the manager. What clients see then is the old testing or the new one,
 and a second apply makes it the new one.
@@ -14,12 +14,12 @@ import sys
 from typing import Sequence
 
 from days import DAYS
-from loop import MANAGERS, apply, archived, due, expect, live
+from loop import MANAGERS, archived, due, expect, live
 from packages import TWELVE, Package, Upload, build_all
 from spy import Spy
 from stage import COMMANDS, Failed, Office, Stage, command, run
 
-STEP = 3
+STEP = 4
 PAUSED = 5  # the day of DAYS whose apply is ended: packages come and go
 LATER = [Upload(f"aa{number}", "1-1", "2025-03-05", [Package(f"aa{number}")], "critical") for number in range(12)]
 DAY = "2025-03-06"
@@ -97,7 +97,7 @@ def applies(program: str, folder: str, manager: str) -> str:
     try:
         for number, day in enumerate(DAYS[:PAUSED - 1], 1):
             live(stage, number, day)
-            apply(stage, number)
+            stage.apply()
         live(stage, PAUSED, DAYS[PAUSED - 1])
         return f"{manager}: {ends(stage, manager)} applies ended"
     finally:

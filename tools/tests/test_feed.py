@@ -1,5 +1,6 @@
 """office-feed: what its manual page and docs/ARCHIVE.md say of it. A whole archive is fed by tests/archive."""
 import fcntl
+import hashlib
 import os
 import shutil
 import tempfile
@@ -187,16 +188,35 @@ Role: runs
 class Rebuilding(Folder):
     """A rebuild is told under a version of its own, as often as there are spare senders."""
 
-    def feed(self, packages, *more):
+    def feed(self, packages, *more, rebuilds=("--rebuilds",)):
         ended = tool("office-feed", "--url", self.service.url, "--cache", self.path("cache"), "--day", "2025-03-09",
-                     "--rebuilds", *more, self.file("Packages", packages))
+                     *rebuilds, *more, self.file("Packages", packages))
         self.assertEqual(ended.returncode, 0, ended.stderr)
         return ended.stdout.splitlines()[0], ended.stderr.splitlines()
 
+    BOTH = package("lib1", "1", source="lib") + package("lib-data", "1", source="lib", architecture="all") + \
+        package("lib1", "1", source="lib", architecture="arm64")
+
+    def test_told_before_it_was_asked_for(self):
+        """A rebuild that didn't move is told so that it does, all of it by the spare sender; and it is told once."""
+        self.file("changes/lib.changes", CHANGES)
+        with Serving(self.file("setup.conf", SPARE_SETUP)) as office:
+            self.service = Service(office.url)
+            self.feed(self.BOTH, "--changes", self.path("changes"))
+            once = self.BOTH.replace("Source: lib\nVersion: 1\nArchitecture: a", "Source: lib (1)\nVersion: 1+b1\n"
+                                     "Architecture: a").replace("lib (1)\nVersion: 1+b1\nArchitecture: all",
+                                                                "lib\nVersion: 1\nArchitecture: all")
+            self.feed(once, rebuilds=())
+            self.assertEqual(self.service.good_text("/update/2"), "update 2 2025-03-09\n")
+            self.assertEqual(self.feed(once)[0], "uploads 1, drops 0, builds 1, hints 0, unhints 0, orders 1")
+            self.assertEqual(self.service.good_text("/update/3"), "update 3 2025-03-09\naccept lib 1+b1\n")
+            self.assertEqual(self.service.good_text("/testing").splitlines()[2:], [
+                "binary amd64 lib1 1+b1 lib", "binary arm64 lib1 1+b1 lib", "binary all lib-data 1 lib"])
+            self.assertEqual(self.feed(once)[0], "uploads 0, drops 0, builds 0, hints 0, unhints 0, orders 0")
+
     def test_as_often_as_there_are_spare_senders(self):
         self.file("changes/lib.changes", CHANGES)
-        both = package("lib1", "1", source="lib") + package("lib-data", "1", source="lib", architecture="all") + \
-            package("lib1", "1", source="lib", architecture="arm64")
+        both = self.BOTH
         with Serving(self.file("setup.conf", SPARE_SETUP)) as office:
             self.service = Service(office.url)
             self.feed(both, "--changes", self.path("changes"))
@@ -212,6 +232,22 @@ class Rebuilding(Folder):
             told = self.feed(once.replace("1+b1", "1+b2"))[1]
             self.assertEqual(told, ["office-feed: lib 1: rebuilt, and left out: no spare sender of builds is left for "
                                     "lib-data"])
+
+
+class Fetching(Folder):
+
+    def test_apt_fetches_into_a_folder_that_is_named_from_here(self):
+        """An archive without signature, of one architecture, as apt takes it."""
+        self.file("archive/dists/x/main/binary-amd64/Packages", FIRST)
+        self.file("archive/dists/x/Release", "Suite: x\nArchitectures: amd64\nComponents: main\nSHA256:\n "
+                  f"{hashlib.sha256(FIRST.encode()).hexdigest()} {len(FIRST)} main/binary-amd64/Packages\n")
+        here = os.getcwd()
+        os.chdir(self.folder)
+        self.addCleanup(os.chdir, here)
+        told = tool("office-feed", "--url", "http://127.0.0.1:1", "--cache", "cache", "--apt",
+                    f"deb [trusted=yes arch=amd64] file:{self.folder}/archive x main")
+        self.assertEqual(told.returncode, 4, told.stderr)
+        self.assertIn("http://127.0.0.1:1/kept: ", told.stderr)
 
 
 class Words(Folder):

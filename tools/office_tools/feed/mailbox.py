@@ -20,8 +20,9 @@ OUTGOING = "outgoing"
 
 def folder_for(asked: Optional[str], service: Service) -> str:
     """The folder of what is remembered of an office; it is made where there is none."""
-    place = asked or os.path.join(os.environ.get("XDG_CACHE_HOME") or os.path.expanduser("~/.cache"), "office-feed",
-                                  urllib.parse.quote(service.url, ""))
+    caches = os.environ.get("XDG_CACHE_HOME") or os.path.expanduser("~/.cache")
+    # apt takes a name that doesn't begin at the root as one below its own folder.
+    place = os.path.abspath(asked or os.path.join(caches, "office-feed", urllib.parse.quote(service.url, "")))
     try:
         os.makedirs(place, exist_ok=True)
     except OSError as fault:

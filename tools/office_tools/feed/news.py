@@ -81,7 +81,7 @@ def news(unstable: Unstable, box: Mailbox, testing: reports.Testing, arrivals: m
     droppable = dataclasses.replace(known, binaries={key: version for key, version in known.binaries.items()
                                                      if (key, version) not in staying})
     found.drops = list(mail.drops(unstable.binaries, droppable, sent.last[UPLOADS] + len(found.uploads)))
-    found.builds = [*mail.builds([again.told(binary) for binary in unstable.binaries], known), *again.builds(box)]
+    found.builds = [*again.builds(box), *mail.builds([again.told(binary) for binary in unstable.binaries], known)]
     removals = list(standing(box))
     number = sent.last[HINTS]
     found.hints = list(removal_hints(unstable, testing, removals, made_up, number))

@@ -63,12 +63,14 @@ def fitting(parts: Sequence[bytes]) -> int:
 
 
 def rebuilds(binaries: Sequence[Binary], box: Mailbox, testing: reports.Testing, sent: Sent) -> Rebuilds:
-    """What was rebuilt since it was told."""
+    """What was rebuilt since it was told, or was told without a new version of its source and so didn't move."""
     found = Rebuilds()
     retold = told_again(box)
+    held = {(row.package, row.architecture): row.version for row in testing.rows}
     for source, rows in sorted(by_source(binaries, testing).items()):
         older = [binary for binary in rows if not is_new(binary, sent)]
-        if len(older) == len(rows):
+        is_pending = versions.compare(sent.versions.get(source, "0"), testing.sources[source]) > 0
+        if len(older) == len(rows) and (is_pending or not any(is_above(binary, held) for binary in rows)):
             continue
         version = marks.source_version(testing.sources[source])
         spares = [spare_for(binary, box, retold) for binary in older]
@@ -101,6 +103,12 @@ def is_new(binary: Binary, sent: Sent) -> bool:
     """Whether a package is above what was told of it."""
     told = sent.binaries.get(binary.key)
     return told is None or versions.compare(binary.version, told) > 0
+
+
+def is_above(binary: Binary, held: Mapping[Key, str]) -> bool:
+    """Whether a package is above what testing has of it."""
+    version = held.get(binary.key)
+    return version is None or versions.compare(binary.version, version) > 0
 
 
 def next_version(version: str, told: str) -> str:
