@@ -51,6 +51,7 @@ try replay "$bench/replay/run.sh" "$office" mail:20 waiting:20 backwards:20 idle
 try replay_store env DB=1 "$bench/replay/run.sh" "$office" runs:20
 try replay_file env ROUNDS=1 python3 "$bench/replay/over_file.py" "$office" runs:20 both:20
 try serving env ROUNDS=1 REQUESTS=10 python3 "$bench/serving/run.py" "$office" 20
+try pages env WHY=5 python3 "$bench/pages/run.py" "$office" 50
 try replay_phases python3 "$bench/replay/phases.py" "$office" both:20
 try replay_trials count_trials
 try moves_chain move_chain
@@ -58,6 +59,7 @@ try limit env ROUNDS=1 "$bench/limit/run.sh" "$office" runs:20 both:20 "$package
 try asking env ROUNDS=1 python3 "$bench/asking/run.py" "$office" one:20
 try asking_mail env ROUNDS=1 python3 "$bench/asking/over_mail.py" "$office" 100
 try reopen env ROUNDS=1 python3 "$bench/reopen/run.py" "$office" one:20
+try from_packages env ROUNDS=1 /usr/bin/python3 "$bench/tools/from_packages.py" 200
 try start_to_end "$bench/versions/start_to_end.sh" "$office" 5
 if [ $# -eq 1 ]; then
     printf '%s\n' 1.0 1.1 1:2.0-1 2.0~rc1-1 > "$told/pairs"

@@ -1,7 +1,8 @@
 #!/bin/sh
-# Checks what stands in this folder, and says how much passed: the lints of mandoc, shellcheck, systemd-analyze and
-# lintian, and what the scripts do with small texts. With PROGRAM, the built program, it also tries the scripts on a
-# store of examples/archive.bag, and compares manual page and completions with the program's own help.
+# Checks what stands in this folder and in tools, and says how much passed: the lints of mandoc, shellcheck,
+# systemd-analyze, lintian, mypy and flake8, the tools' tests, and what the scripts do with small texts. With PROGRAM,
+# the built program, it also tries the scripts on a store of examples/archive.bag, the tools over a service, and
+# compares manual page and completions with the program's own help.
 #
 # Usage: share/check.sh [PROGRAM]
 # What isn't installed is skipped, and told. Status 0: nothing failed, 1: something did, 2: the words are wrong.
@@ -21,6 +22,9 @@ work=$(mktemp -d)
 trap 'rm -rf "$work"' EXIT
 trap 'exit 1' HUP INT TERM
 passed=0 failed=0
+libraries=no
+/usr/bin/python3 -c 'import apt_pkg, debian.deb822, jinja2, Levenshtein' 2> /dev/null && libraries=yes
+export PYTHONDONTWRITEBYTECODE=1
 
 # try WHAT COMMAND..: passes where the command ends with status 0.
 try() {
@@ -43,6 +47,15 @@ try_by() {
         try "$@"
     else
         echo "skipped: $1: $tool isn't installed"
+    fi
+}
+
+# try_tool WHAT COMMAND..: the same, where the libraries of the tools in Python are installed.
+try_tool() {
+    if [ "$libraries" = yes ]; then
+        try "$@"
+    else
+        echo "skipped: $1: python3-apt, python3-debian, python3-jinja2 or python3-levenshtein isn't installed"
     fi
 }
 
@@ -79,9 +92,48 @@ units_are_known() {
 scripts_are_clean() (
     cd .. || exit 1
     grep -rlE --exclude-dir=.git --exclude-dir=out '^#!/bin/(ba)?sh' . | sort > "$work/scripts"
-    echo share/completion/office.bash >> "$work/scripts"
+    ls share/completion/*.bash >> "$work/scripts"
     [ "$(wc -l < "$work/scripts")" -gt 10 ] || { cat "$work/scripts" && exit 1; }
     xargs shellcheck < "$work/scripts"
+)
+
+# The types of the tools, where Debian's libraries have some.
+types_are_right() {
+    mypy --config-file ../tools/setup.cfg --python-executable /usr/bin/python3 --cache-dir "$work/mypy" \
+        ../tools/office_tools
+}
+
+# Each command of tools/bin stands in README.md, and has a manual page that tells the options of its help.
+tool_options_are_told() {
+    for file in ../tools/bin/office-*; do
+        name=${file##*/}
+        grep -q "^| \`$name\` |" README.md || { echo "README.md: $name" && return 1; }
+        "$file" --help > "$work/help" || { echo "$name --help: status $?" && return 1; }
+        sed -n 's/^  *\(-[^ ].*\)$/\1/p' "$work/help" | sed 's/  .*//' | grep -o -e '--[a-z][a-z-]*' | sort -u |
+            sed 's/^--//' | grep -vx help > "$work/options"
+        while read -r option; do
+            grep -q -e "Fl -$option" "man/$name.1" || { echo "man/$name.1: --$option" && return 1; }
+        done < "$work/options"
+    done
+}
+
+# Bash completes an option of each command of tools/bin, as bash-completion calls the completion.
+tool_options_are_completed() {
+    cat > "$work/complete" << 'END'
+. /usr/share/bash-completion/bash_completion
+for file in tools/bin/office-*; do
+    name=${file##*/}
+    . <(sed "s/@COMMAND@/$name/" share/completion/tool.bash)
+    COMP_WORDS=("$name" --) COMP_CWORD=1 COMP_LINE="$name --" COMP_POINT=$((${#name} + 3)) COMPREPLY=()
+    $(complete -p "$name" | sed 's/.*-F \([^ ]*\) .*/\1/') "$name" -- "$name"
+    [[ " ${COMPREPLY[*]} " == *" --help "* ]] || { echo "$name: ${COMPREPLY[*]}" && exit 1; }
+done
+END
+    (cd .. && PATH=$PWD/tools/bin:$PATH bash --norc "$work/complete")
+}
+
+tools_are_tested() (
+    cd .. && OFFICE=$program /usr/bin/python3 -m unittest discover -s tools/tests
 )
 
 make_reports() {
@@ -116,27 +168,20 @@ binary all c++lib-doc 1.0-1 c++lib
 END
 }
 
-reports_are_read() {
-    python3 -B ./excuses.py --excuses "$work/excuses" --update "$work/update" --testing "$work/testing" \
-        --json "$work/json" --html "$work/html" || return 1
-    python3 - "$work/json" "$work/html" << 'END'
-import json, re, sys
-whole = json.load(open(sys.argv[1]))
-page = open(sys.argv[2]).read()
-anchors, links = re.findall(r'id="([^"]*)"', page), re.findall(r'href="#([^"]*)"', page)
-keys = [(s["item-name"], s["old-version"], s["new-version"], s["is-candidate"]) for s in whole["sources"]]
-assert keys == [("c++lib", "1.0-1", "2:1.0-1+b1", False), ("stuck", "-", "2-1", True)], keys
-assert whole["sources"][0]["reason"] == ["too young", "new bug 1042", "missing on amd64", "blocked"]
-assert len(whole["update"]) == 7 and page.count("<table>") == 3
-assert len(anchors) == len(set(anchors)), "an anchor stands twice"
-assert set(links) <= set(anchors), "a link has no anchor"
-END
+# The pages of a run whose reports are in files; what is in them is for the tests of tools/tests.
+pages_are_made() {
+    mkdir "$work/folder" || return 1
+    ../tools/bin/office-pages --excuses "$work/excuses" --update "$work/update" --testing "$work/testing" \
+        "$work/folder" || return 1
+    for file in index.html excuses.html excuses.json testing.html run/7.html source/c++lib.html style.css; do
+        [ -s "$work/folder/$file" ] || { echo "$file is missing" && return 1; }
+    done
 }
 
 # A grep-excuses whose wget hands out the file that was made.
 excuses_are_grepped() {
-    mkdir "$work/bin"
-    printf '#!/bin/sh\nexec cat "%s"\n' "$work/json" > "$work/bin/wget"
+    mkdir "$work/bin" || return 1
+    printf '#!/bin/sh\nexec cat "%s"\n' "$work/folder/excuses.json" > "$work/bin/wget"
     chmod +x "$work/bin/wget"
     for source in c++lib stuck; do
         PATH=$work/bin:$PATH grep-excuses --no-conf --no-autoremovals "$source" >> "$work/grepped" || return 1
@@ -149,76 +194,50 @@ excuses_are_grepped() {
     done
 }
 
-# The keys that are written are those that the manual page names.
-keys_are_told() {
-    python3 - "$work/json" man/office-excuses.1 << 'END'
-import json, re, sys
-whole = json.load(open(sys.argv[1]))
-part = open(sys.argv[2]).read().split(".It Fl -json", 1)[1].split(".It Fl -html", 1)[0]
-told = set(re.findall(r"^\.Li ([a-z-]+)", part, re.M))
-written = set(whole) | set(whole["sources"][0])
-assert told == written, (sorted(told - written), sorted(written - told))
-END
-}
-
-# A curl that answers as a service with run 7 does, and in its first turn as one in which run 7 has just been finished.
-reports_are_published() {
-    mkdir "$work/curl" "$work/folder" || return 1
-    cat > "$work/curl/curl" << 'END'
-#!/bin/sh
-while [ $# -gt 1 ]; do
-    [ "$1" != -o ] || file=$2
-    shift
-done
-case $1 in
-    http://127.0.0.1:8080/status) echo 'ready 7 finished 7' > "$file" ;;
-    http://127.0.0.1:8080/testing) if [ -e "$TEXTS/turned" ]; then
-            cat "$TEXTS/testing"
-        else
-            : > "$TEXTS/turned" && echo 'testing 8'
-        fi > "$file" ;;
-    http://127.0.0.1:8080/excuses/7) cat "$TEXTS/excuses" > "$file" ;;
-    http://127.0.0.1:8080/update/7) cat "$TEXTS/update" > "$file" ;;
-    http://127.0.0.1:1/status) echo 'ready 0 finished 0' > "$file" ;;
-    *) exit 22 ;;
-esac
-END
-    chmod +x "$work/curl/curl"
-    TEXTS=$work PATH=$work/curl:$PATH ./office-publish "$work/folder" http://127.0.0.1:1 || return 1
-    [ -z "$(ls -A "$work/folder")" ] || return 1
-    TEXTS=$work PATH=$work/curl:$PATH ./office-publish "$work/folder" || return 1
-    [ "$(cd "$work/folder" && find . -type f | LC_ALL=C sort | tr '\n' ' ')" = './excuses.json ./index.html ' ] || return 1
-    cmp "$work/json" "$work/folder/excuses.json" && cmp "$work/html" "$work/folder/index.html" || return 1
-    ends 1 env TEXTS="$work" PATH="$work/curl:$PATH" ./office-publish "$work/folder" http://127.0.0.1:2
-}
-
-# The bag of the examples' indexes: four things are left out, and each message has as many bytes as it says.
+# The bag of the examples' indexes: four things are left out. What is in it is for the tests of tools/tests.
 indexes_are_read() {
-    ./office-from-packages --uploaded 2025-03-01 --run 2025-03-06 --sources ../examples/Sources \
+    ../tools/bin/office-from-packages --uploaded 2025-03-01 --run 2025-03-06 --sources ../examples/Sources \
         "$work/week" ../examples/Packages > "$work/counts" 2> "$work/left" || return 1
     cat "$work/counts" "$work/left"
     [ "$(cat "$work/counts")" = 'uploads 8, drops 0, builds 6, hints 1, orders 1' ] || return 1
     [ "$(grep -c ': left out: ' "$work/left")" -eq 4 ] || return 1
-    python3 - "$work/week/bag" << 'END'
-import sys
-left, messages = open(sys.argv[1], "rb").read(), []
-while left:
-    head, left = left.split(b"\n", 1)
-    size = int(head.removeprefix(b"mail "))
-    messages, left = messages + [left[:size]], left[size:]
-assert len(messages) == 16 and all(m.startswith(b"From: ") and len(m) <= 65536 for m in messages)
-END
+    [ "$(grep -c '^mail [0-9]*$' "$work/week/bag")" -eq 16 ]
 }
 
 files_are_installed() {
     make -s install PROGRAM="${program:-/bin/true}" PREFIX=/usr DESTDIR="$work/root" || return 1
-    for file in bin/office bin/office-excuses bin/office-from-packages bin/office-publish share/man/man1/office.1 \
-        share/man/man1/office-publish.1 lib/systemd/system/office.service lib/systemd/system/office-publish.timer \
-        share/bash-completion/completions/office share/zsh/vendor-completions/_office share/doc/office/RULES.md; do
+    for file in bin/office share/man/man1/office.1 lib/systemd/system/office.service \
+        lib/systemd/system/office-pages.timer \
+        share/office/office_tools/pages/templates/front.html share/bash-completion/completions/office \
+        share/zsh/vendor-completions/_office share/doc/office/RULES.md share/doc/office/README.md \
+        share/doc/office/CHANGELOG.md; do
         [ -f "$work/root/usr/$file" ] || { echo "$file is missing" && return 1; }
     done
+    for command in office-* ../tools/bin/office-*; do
+        name=${command##*/}
+        for file in "bin/$name" "share/man/man1/$name.1" "share/bash-completion/completions/$name" \
+            "share/zsh/vendor-completions/_$name"; do
+            [ -f "$work/root/usr/$file" ] || { echo "$file is missing" && return 1; }
+        done
+    done
+    [ "$libraries" = no ] || "$work/root/usr/bin/office-from-packages" --help > "$work/help" || return 1
     make -s uninstall PREFIX=/usr DESTDIR="$work/root" || return 1
     [ -z "$(find "$work/root" -type f)" ]
+}
+
+# The documents that are installed cite no path of the repository, but for the part of README.md that is about it.
+documents_cite_what_is_installed() {
+    make -s install PROGRAM=/bin/true PREFIX=/usr DESTDIR="$work/cited" || return 1
+    for file in "$work"/cited/usr/share/doc/office/*.md; do
+        sed '/^## In the repository/,$d' "$file" | grep -nE '(`|^    |\()(share|docs|bench|crates|tests|tools)/' |
+            sed "s|^|${file##*/}:|"
+    done > "$work/paths"
+    [ ! -s "$work/paths" ] || { cat "$work/paths" && return 1; }
+}
+
+program_is_missed() {
+    ends 2 make -s install PROGRAM="$work/none" DESTDIR="$work/root" > "$work/missed" 2>&1 || return 1
+    grep -q "build it first, or name another by PROGRAM=FILE" "$work/missed"
 }
 
 # With another program than the built one, where that isn't there; the version is made up for this check.
@@ -290,31 +309,48 @@ for page in man/*.1; do
 done
 try "man: the pages that others name are there" links_are_there
 try_by shellcheck "all shell scripts of the repository: shellcheck" scripts_are_clean
-try_by bash "completion/office.bash: its syntax" bash -n completion/office.bash
-try_by zsh "completion/_office: its syntax" zsh -n completion/_office
+for file in completion/*.bash; do
+    try_by bash "$file: its syntax" bash -n "$file"
+done
+for file in completion/_*; do
+    try_by zsh "$file: its syntax" zsh -n "$file"
+done
 for unit in systemd/*.service; do
     try_by systemd-analyze "$unit: exposure of at most 2.0" \
         systemd-analyze security --offline=true --threshold=20 --no-pager "$unit"
 done
 try_by systemd-analyze "systemd/: systemd knows each line" units_are_known
+try_by mypy "tools: mypy" types_are_right
+try_by flake8 "tools: flake8" flake8 --config ../tools/setup.cfg ../tools ../tools/bin/office-*
+try_tool "tools: their tests" tools_are_tested
+try_tool "tools: README.md names them, and manual pages tell the options of their help" tool_options_are_told
+if [ -f /usr/share/bash-completion/bash_completion ]; then
+    try_tool "tools: bash completes their options" tool_options_are_completed
+else
+    echo "skipped: tools: bash completes their options: bash-completion isn't installed"
+fi
 make_reports
-try_by python3 "excuses.py: JSON and page of a run" reports_are_read
-try_by python3 "excuses.py: its keys, and those of the manual page" keys_are_told
-try_by grep-excuses "excuses.py: grep-excuses reads the JSON" excuses_are_grepped
-try_by python3 "excuses.py: reports of two runs are refused" \
-    ends 1 python3 -B ./excuses.py --excuses "$work/update" --update "$work/excuses"
-try_by python3 "office-publish: page and JSON of the newest run" reports_are_published
-try "office-publish: no words" ends 2 ./office-publish
-try "office-publish: no folder" ends 1 ./office-publish "$work/none"
-try_by python3 "office-from-packages: the examples' indexes" indexes_are_read
-try "office-from-packages: no words" ends 2 ./office-from-packages
-try "office-from-packages: no file" \
-    ends 1 ./office-from-packages --uploaded 2025-03-01 --run 2025-03-06 "$work/week" "$work/none"
+try_tool "office-pages: pages and JSON of a run" pages_are_made
+if perl -MYAML::Syck -e 1 2> /dev/null; then
+    try_by grep-excuses "office-pages: grep-excuses reads the JSON" excuses_are_grepped
+else
+    echo "skipped: office-pages: grep-excuses reads the JSON: libyaml-syck-perl isn't installed"
+fi
+try_tool "office-pages: reports of two runs are refused" \
+    ends 1 ../tools/bin/office-pages --excuses "$work/update" --update "$work/excuses" "$work"
+try_tool "office-pages: no words" ends 2 ../tools/bin/office-pages
+try_tool "office-pages: no folder" ends 1 ../tools/bin/office-pages "$work/none"
+try_tool "office-from-packages: the examples' indexes" indexes_are_read
+try_tool "office-from-packages: no words" ends 2 ../tools/bin/office-from-packages
+try_tool "office-from-packages: no file" \
+    ends 1 ../tools/bin/office-from-packages --uploaded 2025-03-01 --run 2025-03-06 "$work/week" "$work/none"
 try "office-export: no words" ends 2 ./office-export
 try "office-export: no file" ends 1 ./office-export "$work/none"
 try "office-check-store: no words" ends 2 ./office-check-store
 try "office-check-store: no file" ends 3 ./office-check-store ../examples/setup.conf "$work/none"
 try_by make "Makefile: install and uninstall" files_are_installed
+try_by make "Makefile: no program" program_is_missed
+try_by make "documents: they cite what is installed" documents_cite_what_is_installed
 try_by dpkg-deb "debian/build: a package" package_is_made
 try_by lintian "debian/build: lintian" package_is_clean
 if [ -n "$program" ]; then

@@ -39,13 +39,16 @@ try() {
 try clients python3 "$here/service/clients.py" "$office"
 try stores python3 "$here/service/stores.py" "$office"
 try asking python3 "$here/service/asking.py" "$office"
+try replicas python3 "$here/service/replicas.py" "$office"
+try proxy python3 "$here/service/proxy.py" "$office"
 try peers sh "$here/peers/store.sh" --by "$office"
 try trust python3 "$here/trust.py"
 try docs sh "$here/docs.sh" "$office"
-if [ -d "$here/../crates/office/out/rlib" ] || [ -d "$here/../crates/deb_version/out/rlib" ]; then
+try tools env OFFICE="$office" /usr/bin/python3 -m unittest discover -s "$here/../tools/tests"
+if [ -d "$here/../crates/deb_version/out/rlib" ]; then
     try edits python3 "$here/edits/trials.py"
 else
-    echo "skipped: edits: .ci/run has left no libraries in this checkout"
+    echo "not tried: edits: .ci/run has left no libraries in this checkout"
 fi
 try rows python3 "$here/rows/check.py"
 try judges python3 "$here/judges/check.py"
@@ -55,6 +58,12 @@ try again python3 "$here/rows/opened_again.py" "$office" 1001-1200
 try stopped timeout 3600 python3 "$here/stops/stopped.py" "$office" "$step"
 try surroundings timeout 3600 python3 "$here/surroundings/hostile.py" "$office" "$step"
 try refused timeout 36000 python3 "$here/memory/refused.py" "$office" "$step" ${parts:+"$parts"}
+if command -v reprepro > /dev/null && command -v aptly > /dev/null && command -v dose-debcheck > /dev/null &&
+    command -v installcheck > /dev/null && command -v dpkg-buildpackage > /dev/null; then
+    try archive "$here/archive/run.sh" "$office"
+else
+    echo "not tried: archive: reprepro, aptly, dose-distcheck, libsolv-tools or dpkg-dev isn't installed"
+fi
 echo "what each printed: $told"
 echo "$passed passed, $failed failed"
 [ "$failed" -eq 0 ]

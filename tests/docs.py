@@ -3,12 +3,13 @@
 
 usage: docs.py COPY DOCUMENT     (docs.sh makes the copy, and puts the program in PATH)
 
-In Markdown a command is a line of an indented block whose first word is one of WORDS or a path of the repository; what
-follows it, up to the next command or the end of the block, is what it prints. In a manual page it is a line of a
-literal display behind a dollar sign. A line goes on where it ends with a backslash or a bar, where a quote is open, and
-up to the end of a text behind `<<`. What a command prints isn't compared where the document shows nothing. It has to
-end with status 0, but for those of ENDS. Each block starts at the top of the copy. A service runs in the background
-until the next one starts, a command names its store, or the document ends; it is ended by a signal.
+In Markdown a command is a line of an indented block whose first word is one of WORDS, a tool's name or a path of the
+repository; what follows it, up to the next command or the end of the block, is what it prints. In a manual page it is a
+line of a literal display behind a dollar sign. A line goes on where it ends with a backslash or a bar, where a quote is
+open, and up to the end of a text behind `<<`. What a command prints isn't compared where the document shows nothing. It
+has to end with status 0, but for those of ENDS, and for curl that prints a refusal. Each block starts at the top of the
+copy. A service runs in the background until the next one starts, a command names its store, or the document ends; it is
+ended by a signal.
 """
 import os
 import re
@@ -28,12 +29,16 @@ NOT_RUN = [
     ('README.md', r'rt try ', KIT.split(',')[0]),
     ('README.md', r'(office|\.\.) .*   ', 'it is a table of the commands'),
     ('docs/FIRST_WEEK.md', r'apt-get |/usr/lib/apt/|.*bookworm', 'it needs the network and root: APT=1 runs it'),
+    ('docs/MANUAL.md', r'office-mirror --state ', 'it needs two machines'),
 ]
 # What is run in the place of a command: the program is given, so it isn't built first.
 INSTEAD = [(r'\brt run -- ', 'office ')]
 # Commands that end with another status than 0: here nothing is refused, so grep finds nothing; a run waits for mail.
 ENDS = {"office replay --conf examples/setup.conf < bag |\n    sed '/^ready /,$d' | grep -n refused": 1,
         'office waiting --conf examples/setup.conf < part': 1}
+# What curl ends with, by --fail-with-body, if what it prints is a refusal, and its own sentence, which isn't shown.
+REFUSED = 22
+SENTENCE = re.compile(r'curl: \(22\) .*\n')
 # What a document takes as given, made before its commands.
 GIVEN = {'share/man/office.1': 'cp examples/setup.conf setup.conf; cp examples/archive/01-ftp-1-upload-lib message'}
 
@@ -77,7 +82,8 @@ def is_command(document, line):
         # What `office mail --list` tells of the sender rt.
         return False
     word = line.split(' ')[0]
-    return word in WORDS or re.fullmatch(r'(share|examples|tests)/\S+|/usr/lib/\S+|\.\.', word) is not None
+    is_path = re.fullmatch(r'(share|examples|tests)/\S+|/usr/lib/\S+|\.\.', word)
+    return bool(word in WORDS or is_path or re.fullmatch(r'office-[a-z-]+', word))
 
 
 def commands(document, block):
@@ -165,8 +171,11 @@ class Runner:
     def judge(self, command, status, told):
         """Counts a command, and tells what is wrong with it."""
         due, faults = '\n'.join(command.shown).strip('\n'), []
-        if status != ENDS.get(command.text, 0):
-            faults.append(f'status {status}, due {ENDS.get(command.text, 0)}')
+        is_refused = '--fail-with-body' in command.text and due.startswith('refused ')
+        end = ENDS.get(command.text, REFUSED if is_refused else 0)
+        told = SENTENCE.sub('', told) if is_refused else told
+        if status != end:
+            faults.append(f'status {status}, due {end}')
         if (due or faults) and told.strip('\n') != due:
             faults.append('it printed:\n    ' + told.strip('\n').replace('\n', '\n    '))
         if faults:

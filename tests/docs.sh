@@ -22,7 +22,8 @@ ln -s "$(realpath -e -- "$1")" "$work/bin/office"
 # At a terminal curl shows no progress; here it is told not to.
 echo silent > "$work/.curlrc"
 CURL_HOME=$work
-PATH=$work/bin:$PATH
+# The documents call the tools by their names, as they are installed.
+PATH=$work/bin:$work/copy/tools/bin:$work/copy/share:$PATH
 PYTHONDONTWRITEBYTECODE=1
 export CURL_HOME PATH PYTHONDONTWRITEBYTECODE
 

@@ -16,7 +16,7 @@ rustc -O --edition 2024 -o "$work/plain" "$here/plain/main.rs"
 for name in "$@"; do
     echo "$name:"
     if [ -f "$name" ]; then
-        "$top/share/office-from-packages" --uploaded 2025-03-01 --run 2025-03-31 --no-hints "$work/archive" "$name" \
+        "$top/tools/bin/office-from-packages" --uploaded 2025-03-01 --run 2025-03-31 --no-hints "$work/archive" "$name" \
             > "$work/told" 2>&1 || { tail -3 "$work/told"; exit 1; }
         setup=$work/archive/setup.conf bag=$work/archive/bag
     else

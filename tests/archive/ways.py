@@ -1,0 +1,123 @@
+"""Adopts a testing that isn't clean, and looks before an order as docs/ARCHIVE.md says.
+
+Usage: ways.py OFFICE FOLDER
+"""
+import os
+import sys
+from typing import Sequence
+
+import clients
+from loop import archived, expect
+from packages import BOTH, TWELVE, Package, Upload, build_all
+from stage import COMMANDS, SETUP, TOP, Failed, Office, Reprepro, Stage, command, run
+
+UNCLEAN = [Upload("duo", "1-1", "2025-03-01", [Package("duo"), Package("duo-bad", "nosuch, duo")]),
+           Upload("lag", "1-1", "2025-03-01", [Package("lag")]),
+           Upload("lag", "1-2", "2025-03-02", [Package("lag")], architectures=("amd64",))]
+FIRST, NEXT = "2025-03-06", "2025-03-07"
+LONE = Upload("lone", "0.2-1", NEXT, [Package("lone")], "critical")
+CALM = Upload("calm", "1-1", FIRST, [Package("calm")], "critical")
+RIVALS = [Upload("rival", "1-1", NEXT, [Package("rival", conflicts="calm")], "critical"),
+          Upload("both", "1-1", NEXT, [Package("both-of-them", "calm, rival")], "critical"),
+          Upload("fine", "1-1", NEXT, [Package("fine", "calm")], "critical")]
+ALL = [*TWELVE, *UNCLEAN, LONE, CALM, *RIVALS]
+
+
+def adopted(program: str, folder: str) -> str:
+    """An office begins with an unclean testing: all of it is there, and the first apply changes nothing."""
+    office = Office(program, folder)
+    archive = Reprepro(folder)
+    stage = Stage(office, archive, folder, os.path.join(os.path.dirname(folder), "built"))
+    stage.takes([*TWELVE, *UNCLEAN])
+    stage.line = archive.ready()
+    run("reprepro", "--silent", "-b", archive.base, "copymatched", "testing", "unstable", "*")
+    testing = archive.published("testing")
+    files = [os.path.join(testing, "main", f"binary-{architecture}", "Packages") for architecture in BOTH]
+    told = run(os.path.join(COMMANDS, "office-adopt"), "--day", FIRST, "--sources",
+               os.path.join(testing, "main/source/Sources.gz"), folder, *files, OFFICE=program)
+    expect("what is told otherwise", [
+        "office-adopt: lag arm64 1-1: told under lag 1-2: it was built of 1-1",
+        "office-adopt: duo-bad amd64 1-1: told without nosuch: nothing in testing meets it",
+        "office-adopt: duo-bad arm64 1-1: told without nosuch: nothing in testing meets it"], told.stderr.splitlines())
+    expect("adoption", "adopted: 14 sources, 31 packages; 0 wait, 0 refused", told.stdout.splitlines()[-1])
+    setup = os.path.join(folder, "setup.conf")
+    with open(os.path.join(folder, "bag"), encoding="utf-8") as bag:
+        run(program, "replay", "--conf", setup, "--db", office.store, given=bag.read())
+    office.start(setup)
+    try:
+        digest = stage.digest()
+        expect("a dry run of the first apply", "", command("office-apply", "--dry-run", *stage.apply_words()).stderr)
+        stage.apply()
+        expect("the first apply", digest, stage.digest())
+        stage.takes([LONE])
+        stage.line = archive.ready()
+        stage.feed(NEXT)
+        expect("update 2", ["accept lone 0.2-1"], list(office.update(2)))
+        stage.apply()
+        expect("testing", sorted(line.replace("lag 1-1 source", "lag 1-2 source") for line in office.rows()),
+               sorted(archived(archive)))
+    finally:
+        office.stop()
+    return "adopted: 14 sources, 31 packages, nothing changed by the first apply"
+
+
+def recipe() -> str:
+    """The recipe of docs/ARCHIVE.md that looks before an order."""
+    with open(os.path.join(TOP, "docs/ARCHIVE.md"), encoding="utf-8") as file:
+        lines = file.read().split("**Conflicts and Breaks.**")[1].splitlines()
+    start = next(number for number, line in enumerate(lines) if line.startswith("    #"))
+    end = next(number for number, line in enumerate(lines) if number > start and line and not line.startswith("    "))
+    return "\n".join(line[4:] for line in lines[start:end])
+
+
+def looked(program: str, folder: str) -> str:
+    """A package that can't be installed beside another one is blocked before the order, and all else moves."""
+    office = Office(program, folder)
+    archive = Reprepro(folder)
+    stage = Stage(office, archive, folder, os.path.join(os.path.dirname(folder), "built"))
+    office.start()
+    try:
+        stage.takes([CALM])
+        stage.line = archive.ready()
+        stage.feed(FIRST)
+        stage.apply()
+        stage.takes(RIVALS)
+        archive.ready()
+        apt = os.path.join(folder, "feed.list")
+        with open(apt, "w", encoding="utf-8") as file:
+            file.write(f"deb [trusted=yes arch={','.join(BOTH)}] {stage.line}\ndeb-src [trusted=yes] {stage.line}\n")
+        words = f"--url {office.url} --cache {folder}/cache --day {NEXT} --changes {folder}/changes --apt {apt}"
+        program_folder = os.path.join(folder, "bin")
+        os.makedirs(program_folder)
+        os.symlink(program, os.path.join(program_folder, "office"))
+        work = os.path.join(folder, "work")
+        os.makedirs(work)
+        told = run("sh", "-euc", f"cd {work}\n" + recipe(), FEED=words, URL=office.url, CONF=SETUP, DAY=NEXT,
+                   INDEXES=archive.base, PATH=f"{program_folder}:{COMMANDS}:{os.environ['PATH']}")
+        expect("the recipe's hint", "held rt 1", next(line for line in told.stdout.splitlines() if "held" in line))
+        expect("update 2", ["accept fine 1-1", "accept rival 1-1"], list(office.update(2)))
+        expect("excuses 2", [" blocked"], [line for line in office.service.good_text("/excuses/2").splitlines()
+                                           if line == " blocked"])
+        stage.apply()
+        clients.look(archive, folder)
+    finally:
+        office.stop()
+    return "looked before an order: a package that libsolv can't install is blocked, all else moves"
+
+
+def main(words: Sequence[str]) -> None:
+    """Tries both."""
+    program, folder = words
+    build_all(ALL, os.path.join(folder, "built"))
+    told = []
+    for name, way in (("adopted", adopted), ("looked", looked)):
+        os.makedirs(os.path.join(folder, name))
+        told.append(way(program, os.path.join(folder, name)))
+    print("\n".join(told))
+
+
+if __name__ == "__main__":
+    try:
+        main(sys.argv[1:])
+    except Failed as failed:
+        sys.exit(f"failed: {failed}")

@@ -1,0 +1,197 @@
+#!/usr/bin/env python3
+"""The proxy of docs/MANUAL.md: nginx binds each user to the sender of that name, as the manual's text has it.
+
+  proxy.py PROGRAM [PORT]
+
+PROGRAM is the built program, `crates/office/out/office`. The text is read from the manual, and only its ports and the
+file of its users are others. The service listens at PORT (18760), nginx at the next two. Where nginx isn't installed,
+nothing is tried, and the last line says so. Exit status 0 where each request was answered as it is due.
+"""
+import base64
+import http.client
+import os
+import re
+import shutil
+import subprocess
+import sys
+import tempfile
+import time
+
+TOP = os.path.join(os.path.dirname(os.path.abspath(__file__)), "..", "..")
+CONF = os.path.join(TOP, "examples", "setup.conf")
+program = os.path.abspath(sys.argv[1])
+port = int(sys.argv[2]) if len(sys.argv) > 2 else 18760
+NGINX = shutil.which("nginx", path=os.environ["PATH"] + ":/usr/sbin")
+USERS = ["ftp", "bd", "bts", "rt", "clock", "op"]
+# What stands around the manual's text: all files are in the folder, and nothing runs in the background.
+AROUND = """daemon off; pid nginx.pid; error_log error.log; worker_processes 1;%s
+events { worker_connections 64; }
+http {
+access_log off;
+client_body_temp_path body; proxy_temp_path proxy; fastcgi_temp_path f; uwsgi_temp_path u; scgi_temp_path s;
+%s
+}
+"""
+NONE = b"From: %s\nNumber: %d\nKind: none\n"
+HINT = b"From: rt\nNumber: %d\nKind: hint\nHint: block-all source\n"
+faults = []
+tried = 0
+
+
+def want(what, due, got):
+    global tried
+    tried += 1
+    if due != got:
+        faults.append("%s: due %r, got %r" % (what, due, got))
+
+
+def text_of_the_manual():
+    """The block of the manual that configures nginx, for this test's ports and users."""
+    with open(os.path.join(TOP, "docs", "MANUAL.md"), encoding="utf-8") as manual:
+        blocks = re.findall(r"(?m)(?:^(?:    .*)?\n)+", manual.read())
+    text = next(block for block in blocks if "map $request_body" in block)
+    for old, new in [("listen 443 ssl;", "listen 127.0.0.1:%d;" % (port + 1)), ("/etc/nginx/office.users", "users"),
+                     ("127.0.0.1:8081", "127.0.0.1:%d" % (port + 2)), ("127.0.0.1:8080", "127.0.0.1:%d" % port)]:
+        assert old in text, old
+        text = text.replace(old, new)
+    return text
+
+
+def ask(method, path, body=None, user=None, headers=(), password="secret", at=1):
+    """The code and the body of an answer; a chunked body is a list of its parts."""
+    fields = dict(headers)
+    if user:
+        fields["Authorization"] = "Basic " + base64.b64encode(("%s:%s" % (user, password)).encode()).decode()
+    connection = http.client.HTTPConnection("127.0.0.1", port + at, timeout=20)
+    connection.request(method, path, iter(body) if isinstance(body, list) else body, fields)
+    reply = connection.getresponse()
+    told = reply.read()
+    connection.close()
+    return reply.status, told
+
+
+# A user, a method, a path, a body, and what is due: the code, and the answer where it isn't nginx's.
+OTHER = (403, b"refused OtherUser\n")
+ROWS = [
+    ("ftp", "POST", "/mail", NONE % (b"ftp", 1), (200, b"held ftp 1\n")),
+    ("ftp", "POST", "/mail", NONE % (b"ftp", 1), (200, b"held ftp 1\n")),
+    ("bd", "POST", "/mail", NONE % (b"bd", 1), (200, b"held bd 1\n")),
+    ("ftp", "POST", "/mail", HINT % 1, OTHER),
+    ("ftp", "POST", "/mail", NONE % (b"bd", 2), OTHER),
+    ("ftp", "POST", "/mail", b"from: rt\nNumber: 1\nKind: none\n", OTHER),
+    ("ftp", "POST", "/mail", b"X: y\nFrom: rt\nNumber: 1\nKind: none\n", OTHER),
+    ("ftp", "POST", "/mail", b"\n" + NONE % (b"rt", 1), OTHER),
+    ("ftp", "POST", "/mail", b"From: ftp\r\nNumber: 2\nKind: none\n", OTHER),
+    ("ftp", "POST", "/mail", b"", OTHER),
+    ("ftp", "POST", "/mail", b"From: ftp\n\n" + NONE % (b"rt", 1), (400, b"refused MissingField Number\n")),
+    ("ftp", "POST", "/mail", b"From: ftp\nFrom: rt\nNumber: 1\nKind: none\n", (400, b"refused BadParagraph\n")),
+    ("ftp", "POST", "/mail", b"From: ftp\n rt\nNumber: 1\nKind: none\n", (400, b"refused UnknownSender\n")),
+    ("ftp", "POST", "/mail", NONE % (b"ftp", 2) + b"Note: " + b"x" * 65000, (200, b"held ftp 2\n")),
+    ("ftp", "POST", "/mail", [NONE % (b"ftp", 3), b"Note: in parts\n"], (200, b"held ftp 3\n")),
+    ("ftp", "POST", "/mail", [b"From: r", b"t\nNumber: 1\nKind: none\n"], OTHER),
+    ("ftp", "POST", "/mail", b"x" * 65537, (413, None)),
+    ("ftp", "POST", "/mail?x=1", HINT % 1, OTHER),
+    ("ftp", "POST", "//mail", HINT % 1, OTHER),
+    ("ftp", "POST", "/%6dail", HINT % 1, OTHER),
+    ("ftp", "POST", "/kept/../mail", HINT % 1, OTHER),
+    ("ftp", "POST", "/mail/", HINT % 1, (403, None)),
+    ("ftp", "PUT", "/mail", NONE % (b"ftp", 4), (403, None)),
+    ("ftp", "POST", "/settle", b"", (403, None)),
+    ("op", "POST", "/settle", b"", (200, b"ready 0 finished 0\n")),
+    ("op", "POST", "/mail", NONE % (b"bts", 1), (200, b"held bts 1\n")),
+    ("op", "POST", "/mail", b"\n" + HINT % 1, (200, b"held rt 1\n")),
+    ("ftp", "POST", "/status", b"", (403, None)),
+    ("ftp", "DELETE", "/kept/ftp/1", None, (403, None)),
+    ("bts", "GET", "/kept/ftp/1", None, (200, NONE % (b"ftp", 1))),
+    ("bts", "GET", "/status", None, (200, b"ready 0 finished 0\n")),
+    ("rt", "POST", "/try", b"block-all source\n", (404, b"refused NoRun\n")),
+    (None, "GET", "/status", None, (401, None)),
+    (None, "POST", "/mail", NONE % (b"ftp", 4), (401, None)),
+]
+
+
+def requests():
+    for user, method, path, body, (code, told) in ROWS:
+        got, answer = ask(method, path, body, user)
+        what = "%s %s %s %.60r" % (user, method, path, body)
+        want(what, (code, told), (got, answer if told is not None else None))
+    good = NONE % (b"ftp", 4)
+    want("a wrong password", 401, ask("POST", "/mail", good, "ftp", password="other")[0])
+    want("a header of the client's", OTHER, ask("POST", "/mail", HINT % 2, "ftp", [("X-Who", "rt rt")]))
+    want("an expectation", (200, b"held ftp 4\n"), ask("POST", "/mail", good, "ftp", [("Expect", "100-continue")]))
+    want("what is kept", b"mail ftp 4 kept, 1 to 4, greatest 4\nmail bd 1 kept, 1 to 1, greatest 1\n"
+         b"mail bts 1 kept, 1 to 1, greatest 1\nmail rt 1 kept, 1 to 1, greatest 1\nmail clock 0 kept\n",
+         ask("GET", "/kept", at=0)[1])
+
+
+def tools(folder):
+    """The tools through the proxy: a sender's mail by office-lint, all mail by office-mirror, an order."""
+    place = os.path.join(folder, "message")
+    with open(place, "wb") as message:
+        message.write(NONE % (b"ftp", 5))
+    url, conf = "127.0.0.1:%d" % (port + 1), ["--conf", CONF]
+    absent = "office-lint: ~/.netrc has no password of bd at 127.0.0.1\n"
+    unknown = "office-lint: http://%s/kept: 401: Unauthorized\n" % url
+    for user, words, due in [
+            ("ftp", ["office-lint", "--url", "http://" + url, *conf, "--user", "ftp", "--send", place],
+             (0, place + ": held ftp 5\n", "")),
+            ("ftp", ["office-lint", "--url", "http://" + url, *conf, "--user", "bd", place], (2, "", absent)),
+            ("ftp", ["office-lint", "--url", "http://" + url, *conf, place], (4, "", unknown)),
+            ("op", ["office-mirror", "http://op@" + url, "http://op:secret@" + url],
+             (0, "", "office-mirror: http://%s: sent 8\n" % url)),
+            ("clock", ["office-order", "2025-03-20", "--url", "http://clock@" + url, "--send"],
+             (0, "held clock 1\n", ""))]:
+        netrc = os.path.join(folder, ".netrc")
+        with open(netrc, "w", encoding="utf-8") as known:
+            known.write("machine 127.0.0.1 login %s password secret\n" % user)
+        os.chmod(netrc, 0o600)
+        ran = subprocess.run([os.path.join(TOP, "tools", "bin", words[0]), *words[1:]], capture_output=True, text=True,
+                             env={**os.environ, "HOME": folder, "OFFICE": program}, timeout=60)
+        want(" ".join(words), due, (ran.returncode, ran.stdout, ran.stderr))
+
+
+def started(process, places):
+    """Waits until ports answer."""
+    for _ in range(100):
+        if process.poll() is not None:
+            return
+        try:
+            for place in places:
+                ask("GET", "/status", at=place)
+            return
+        except OSError:
+            time.sleep(0.05)
+
+
+def main():
+    if NGINX is None:
+        print("0 tried, 0 faults: nginx isn't installed")
+        return
+    with tempfile.TemporaryDirectory() as folder:
+        os.chmod(folder, 0o755)
+        with open(os.path.join(folder, "conf"), "w", encoding="utf-8") as conf:
+            conf.write(AROUND % (" user root;" if os.geteuid() == 0 else "", text_of_the_manual()))
+        with open(os.path.join(folder, "users"), "w", encoding="utf-8") as users:
+            users.write("".join("%s:{PLAIN}secret\n" % user for user in USERS))
+        service = subprocess.Popen([program, "serve", "--conf", CONF, "--port", str(port)], stdout=subprocess.PIPE)
+        service.stdout.readline()
+        words = [NGINX, "-p", folder, "-e", "error.log", "-c", "conf"]
+        proxy = subprocess.Popen(words, stdout=subprocess.DEVNULL, stderr=subprocess.PIPE, cwd=folder)
+        try:
+            started(proxy, (1, 2))
+            if proxy.poll() is None:
+                requests()
+                tools(folder)
+            else:
+                want("nginx", "", proxy.stderr.read().decode())
+        finally:
+            for process in (proxy, service):
+                process.terminate()
+                process.wait()
+    for fault in faults:
+        print("FAIL", fault)
+    print("%d tried, %d faults" % (tried, len(faults)))
+    sys.exit(1 if faults else 0)
+
+
+main()

@@ -1,0 +1,1 @@
+"""office-adopt: an archive's testing as it is becomes the first run of an office."""

@@ -1,0 +1,137 @@
+"""office-adopt: an archive's testing as it is becomes the first run of an office."""
+import argparse
+import datetime
+import functools
+import os
+from typing import Mapping, Sequence
+
+from office_tools import bags, days, faults, messages, program, reports, setups
+from office_tools.adopt.rows import lifted, stripped
+from office_tools.apply.contents import Contents, Indexes, difference, wanted
+from office_tools.apply.published import read_indexes
+from office_tools.apply.turn import tell_idle
+from office_tools.faults import Fault
+from office_tools.files import write_whole
+from office_tools.from_packages import mail, told
+from office_tools.from_packages.binaries import Binary, fitting, read_binaries
+from office_tools.from_packages.groups import groups
+from office_tools.from_packages.sent import Sent
+from office_tools.from_packages.sources import Arrival, read_sources
+from office_tools.from_packages.suites import Suites
+from office_tools.messages import Label, Role, Urgency
+
+NAME = "office-adopt"
+LONG_AGO = 10  # days that an upload of the urgency low waits, where nothing else is said
+MOST_SPARES, MOST_ARCHITECTURES = 8, 16
+
+tell = functools.partial(faults.tell, NAME)
+
+
+def spares(word: str) -> int:
+    """How many spare senders of builds there are."""
+    found = int(word)
+    if not 0 <= found <= MOST_SPARES:
+        raise ValueError(word)
+    return found
+
+
+def parser() -> argparse.ArgumentParser:
+    """The command's words."""
+    words = argparse.ArgumentParser(
+        prog=NAME, description="Makes FOLDER/setup.conf and FOLDER/bag, by which an office begins with the testing "
+                               "that an archive has. What has to be told otherwise than it is, is told.",
+        epilog="Status 0: the office's testing is the archive's. 1: it isn't: each difference is printed. 2: the words "
+               "are wrong. 4: the program office didn't answer.")
+    words.add_argument("--day", type=days.day, default=days.today(),
+                       help="the day of the first run, as 2025-03-20 (today by the system's clock, in UTC)")
+    words.add_argument("--spare", type=spares, default=2, metavar="N",
+                       help=f"how many spare senders of builds stand before bd in the setup: 0 to {MOST_SPARES} (2)")
+    words.add_argument("--dry-run", action="store_true", help="tell what would be told otherwise, and write nothing")
+    words.add_argument("--no-check", action="store_true", help="don't ask the program office what comes of the bag")
+    words.add_argument("--sources", action="append", default=[], metavar="SOURCES", help="a file Sources of testing")
+    words.add_argument("folder", metavar="FOLDER", help="where both files are written")
+    words.add_argument("packages", metavar="PACKAGES", nargs="+", help="a file Packages of testing")
+    return words
+
+
+def setup_of(architectures: Sequence[str], count: int) -> setups.Setup:
+    """The setup: an upload sender for what is sent by hand, and the spare senders of builds, the last one first."""
+    senders: dict[str, Role] = {"ftp": Role.UPLOAD, "hand": Role.UPLOAD}
+    senders.update({f"again{number}": Role.BUILD for number in range(count, 0, -1)})
+    senders.update(mail.SENDERS)
+    return setups.Setup(architectures, senders)
+
+
+def letters(binaries: Sequence[Binary], sources: Mapping[str, str], suites: Suites,
+            day: datetime.date) -> Sequence[bytes]:
+    """All mail of the first run; behind its order the hints are taken back, since all that they ask is done by it."""
+    sent = Sent()
+    arrival = Arrival(Urgency.MEDIUM, max(day - datetime.timedelta(LONG_AGO), datetime.date(1970, 1, 1)).isoformat())
+    came = list(mail.uploads(sources, sent, mail.Uploading({}, arrival)))
+    made = list(mail.builds(binaries, sent))
+    wishes = list(mail.hints(groups(suites.needs()), sources, sent))
+    first = mail.order(day.isoformat(), sent, {"ftp": len(came), "bd": len(made), "rt": len(wishes)})
+    unhints = [messages.unhint(Label("rt", len(wishes) + number), number) for number in range(1, len(wishes) + 1)]
+    print(f"uploads {len(came)}, builds {len(made)}, hints {len(wishes)}, orders 1, unhints {len(unhints)}")
+    return [*came, *made, *wishes, first, *unhints]
+
+
+def checked(setup: str, bag: bytes, have: Contents) -> int:
+    """Asks the office what comes of the bag, and prints how its testing differs from the archive's."""
+    told = program.output(["replay", "--conf", setup], bag).decode()
+    refused = [line for line in told.splitlines() if line.startswith("refused ")]
+    for line in refused:
+        print(line)
+    place = told.rfind("\ntesting ") + 1
+    testing = reports.read_testing(told[place:], f"{program.name()} replay")
+    want = wanted(testing, sorted({row.architecture for row in have.rows}), Indexes.ONCE)
+    if not have.sources:
+        want = Contents(have.sources, want.rows)
+    found = difference(want, have)
+    beside = [line for line in found.excess.lines() if is_beside(line, want)]
+    for line in beside:
+        print(f"goes with the first apply, for testing has another version: {line}")
+    left = [line for line in found.lines() if line.removeprefix("too much: ") not in beside]
+    for line in left:
+        print(line)
+    waiting = sum(line.startswith("wait ") for line in told[:place].splitlines())
+    tell_idle(found, tell)
+    print(f"adopted: {len(testing.sources)} sources, {len(testing.rows)} packages; {waiting} wait, "
+          f"{len(refused)} refused")
+    return int(bool(refused or waiting or left))
+
+
+def is_beside(line: str, want: Contents) -> bool:
+    """Whether a line names an older version of what the office has: it has one version of each."""
+    kind, *words = line.split(" ")
+    if kind == "source":
+        return any(source.name == words[0] for source in want.sources)
+    return any(row.architecture == words[0] and row.name == words[1] for row in want.rows)
+
+
+def main(words: Sequence[str]) -> int:
+    """Writes the setup and the bag, and tells what they have."""
+    asked = parser().parse_args(words)
+    told.NAME = NAME
+    found, architectures = read_binaries(asked.packages)
+    if not architectures or len(architectures) > MOST_ARCHITECTURES:
+        raise Fault(f"the files name {len(architectures)} architectures; 1 to {MOST_ARCHITECTURES} are taken")
+    fit = list(fitting(found))
+    current = read_sources(asked.sources, fit)
+    at_version, moved = lifted(fit, current)
+    binaries, gone = stripped(at_version, architectures)
+    for line in [entry.line() for entry in moved] + [entry.line() for entry in gone]:
+        tell(line)
+    built = {binary.source for binary in binaries}
+    sources = {name: version for name, version in current.items() if name in built}
+    print(f"sources {len(sources)}, packages {len(binaries)}: under another version {len(moved)}, "
+          f"clauses taken out {len(gone)}")
+    if asked.dry_run:
+        return 0
+    texts = letters(binaries, sources, Suites(binaries, architectures), asked.day)
+    bag = b"".join(map(bags.framed, texts))
+    setup = os.path.join(asked.folder, "setup.conf")
+    write_whole(setup, setups.written(setup_of(architectures, asked.spare)))
+    write_whole(os.path.join(asked.folder, "bag"), bag)
+    return 0 if asked.no_check else checked(setup, bag, read_indexes([("", path) for path in asked.packages],
+                                                                     asked.sources))

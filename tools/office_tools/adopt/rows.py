@@ -1,0 +1,101 @@
+"""What has to be told otherwise than it is, so that each package of an existing testing is in the office's."""
+import dataclasses
+from collections import defaultdict
+from dataclasses import dataclass
+from typing import Mapping, Sequence
+
+from office_tools import relations, versions
+from office_tools.from_packages.binaries import Binary, Key
+from office_tools.from_packages.suites import Suite, Suites
+from office_tools.relations import Clause
+
+FIELDS = ("Pre-Depends", "Depends")
+
+
+@dataclass(frozen=True)
+class Lifted:
+    """A package that was built of an older version of its source than testing has, and is told under that one."""
+
+    binary: Binary
+    version: str
+
+    def line(self) -> str:
+        """What is told of it."""
+        return (f"{self.binary.name} {self.binary.architecture} {self.binary.version}: told under {self.binary.source} "
+                f"{self.version}: it was built of {self.binary.source_version}")
+
+
+def lifted(binaries: Sequence[Binary], current: Mapping[str, str]) -> tuple[Sequence[Binary], Sequence[Lifted]]:
+    """The packages, each under its source's version in testing, and those of which that isn't so in the archive."""
+    told: list[Binary] = []
+    moved: list[Lifted] = []
+    for binary in binaries:
+        version = current[binary.source]
+        if versions.compare(version, binary.source_version) != 0:
+            moved.append(Lifted(binary, version))
+            fields = {**binary.fields, "Source": f"{binary.source} ({version})"}
+            binary = dataclasses.replace(binary, source_version=version, fields=fields)
+        told.append(binary)
+    return told, moved
+
+
+@dataclass(frozen=True)
+class Stripped:
+    """A clause that nothing in testing meets, and the package that it is taken out of."""
+
+    binary: Binary
+    clause: Clause
+
+    def line(self) -> str:
+        """What is told of it."""
+        return (f"{self.binary.name} {self.binary.architecture} {self.binary.version}: told without "
+                f"{relations.written(self.clause)}: nothing in testing meets it")
+
+
+def stripped(binaries: Sequence[Binary], architectures: Sequence[str]) -> tuple[Sequence[Binary], Sequence[Stripped]]:
+    """The packages without the clauses that nothing meets, so that each can be installed; and these clauses.
+
+    Of a package of `all` a clause is taken out only if nothing meets it on the first architecture: on the others the
+    office doesn't watch it. If a package of another architecture rests on such a one, its own clause is taken out.
+    """
+    gone: list[Stripped] = []
+    while True:
+        found = unmet(Suites(binaries, architectures))
+        if not found:
+            return binaries, gone
+        gone += found
+        clauses: dict[Key, set[Clause]] = defaultdict(set)
+        for entry in found:
+            clauses[entry.binary.key].add(entry.clause)
+        binaries = [without(binary, clauses[binary.key]) if binary.key in clauses else binary for binary in binaries]
+
+
+def unmet(suites: Suites) -> Sequence[Stripped]:
+    """The clauses of watched packages that nothing installable meets, and no watched package would.
+
+    There are such clauses as long as a watched package can't be installed: if each clause of these packages were met
+    by one of them, all of them could be installed.
+    """
+    bad = suites.judged_bad()
+    watched: dict[int, set[Key]] = defaultdict(set)
+    for binary, suite in bad:
+        watched[id(suite)].add(binary.key)
+    return [Stripped(binary, clause) for binary, suite in bad for clause in dict.fromkeys(binary.clauses)
+            if not suite.left[clause] and not meets_later(suite, clause, watched[id(suite)])]
+
+
+def meets_later(suite: Suite, clause: Clause, watched: set[Key]) -> bool:
+    """Whether one of these packages meets a clause, once it can be installed."""
+    return any(suite.binaries[place].key in watched for place in suite.meeting[clause])
+
+
+def without(binary: Binary, clauses: set[Clause]) -> Binary:
+    """A package without these clauses."""
+    fields = dict(binary.fields)
+    for name in FIELDS:
+        items = relations.items(fields.pop(name, ""))
+        left = [item for item in items if relations.clause_of(item, name) not in clauses]
+        if left:
+            fields[name] = ", ".join(left)
+    return dataclasses.replace(binary, fields=fields,
+                               clauses=[clause for clause in binary.clauses if clause not in clauses])

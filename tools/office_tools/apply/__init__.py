@@ -1,0 +1,1 @@
+"""office-apply: makes a suite of an archive what the office's testing says."""

@@ -1,0 +1,98 @@
+"""Local repositories of aptly."""
+import json
+import os
+import re
+from typing import Sequence
+
+from office_tools.apply.contents import REFUSED, Contents, Indexes, Row, Source
+from office_tools.apply.managers import parts, run
+from office_tools.apply.published import shows, source_of
+from office_tools.faults import Fault
+from office_tools.files import read_bytes
+
+FORMAT = "{{.ShortKey}} {{.Source}}"
+KEY = re.compile(r"P(\S+) (\S+) (\S+) (.*)")
+NO_VALUE = "<no value>"
+
+
+class Aptly:
+    """The repositories `origin` and `testing`; testing is published under its own name and this prefix."""
+
+    indexes = Indexes.ONCE
+
+    def __init__(self, config: str, repositories: Sequence[str], prefix: str, publish: Sequence[str]) -> None:
+        self.config = config
+        self.origin_name, self.testing_name = repositories
+        self.prefix = prefix
+        self.words = publish
+
+    def aptly(self, *words: str) -> str:
+        """What a command prints."""
+        return run(["aptly", f"-config={self.config}", *words])
+
+    def folder(self) -> str:
+        """Where aptly publishes testing."""
+        root = json.loads(read_bytes(self.config)).get("rootDir") or os.path.expanduser("~/.aptly")
+        return os.path.join(root, "public", self.prefix, "dists", self.testing_name)
+
+    def architectures(self) -> Sequence[str]:
+        """The architectures that testing is published with; a repository that isn't there is refused."""
+        release = os.path.join(self.folder(), "Release")
+        if not os.path.exists(release):
+            raise Fault(f"{release}: {self.testing_name} isn't published yet: aptly publish repo does it once", REFUSED)
+        found = re.search(r"^Architectures:(.*)$", read_bytes(release).decode(), re.MULTILINE)
+        return sorted(set(found[1].split() if found else []) - {"source", "all"})
+
+    def listed(self, repository: str) -> Contents:
+        """What a repository has."""
+        try:
+            shown = self.aptly("repo", "show", repository)
+        except Fault as fault:
+            raise Fault(fault.cause, REFUSED) from fault
+        if re.search(r"^Number of packages: 0$", shown, re.MULTILINE):
+            return Contents()
+        sources: set[Source] = set()
+        built_of: dict[Row, Source] = {}
+        for line in self.aptly("repo", "search", f"-format={FORMAT}", repository).splitlines():
+            found = KEY.fullmatch(line)
+            if found is None:
+                raise Fault(f"aptly: it tells a package by {line!r}", REFUSED)
+            architecture, name, version, source = found.groups()
+            if architecture == "source":
+                sources.add(Source(name, version))
+            else:
+                value = None if source == NO_VALUE else source
+                built_of[Row(architecture, architecture, name, version)] = source_of(self.config, value, name, version)
+        return Contents(frozenset(sources), frozenset(built_of), built_of)
+
+    def testing(self) -> Contents:
+        """What testing has."""
+        return self.listed(self.testing_name)
+
+    def origin(self) -> Contents:
+        """What the repository has that packages come from."""
+        return self.listed(self.origin_name)
+
+    def copy(self, come: Contents) -> None:
+        """Copies these sources and rows."""
+        for part in parts(references(come)):
+            self.aptly("repo", "copy", self.origin_name, self.testing_name, *part)
+
+    def remove(self, go: Contents) -> None:
+        """Takes these sources and rows out."""
+        for part in parts(references(go)):
+            self.aptly("repo", "remove", self.testing_name, *part)
+
+    def is_published(self, have: Contents) -> bool:
+        """Whether the indexes of testing are whole and have this."""
+        return shows(self.folder(), have, self.indexes)
+
+    def publish(self) -> None:
+        """Publishes testing anew."""
+        self.aptly("publish", "update", "-batch", *self.words, self.testing_name, self.prefix)
+
+
+def references(contents: Contents) -> Sequence[str]:
+    """What aptly calls these sources and rows, the sources first."""
+    return [f"{source.name}_{source.version}_source" for source in sorted(contents.sources)] + \
+        [f"{row.name}_{row.version}_{row.architecture}" for row in sorted(contents.rows)]

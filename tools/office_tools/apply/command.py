@@ -1,0 +1,152 @@
+"""office-apply: makes a suite of an archive what the office's testing says."""
+import argparse
+import functools
+import os
+from typing import Optional, Sequence
+
+from office_tools import faults, reports
+from office_tools.accounts import service_at
+from office_tools.apply import heidi, marks
+from office_tools.apply.aptly import Aptly
+from office_tools.apply.contents import ALL, REFUSED, Contents, Indexes, difference, wanted
+from office_tools.apply.managers import Manager, locked
+from office_tools.apply.published import is_whole, raw_sections, read_folder, read_indexes, read_release
+from office_tools.apply.reprepro import Reprepro
+from office_tools.apply.turn import Turn, counts, tell_idle
+from office_tools.faults import Fault
+from office_tools.files import read_bytes
+
+NAME = "office-apply"
+URL = "http://127.0.0.1:8080"
+PUBLIC = "."
+
+tell = functools.partial(faults.tell, NAME)
+
+
+def parser() -> argparse.ArgumentParser:
+    """The command's words."""
+    words = argparse.ArgumentParser(
+        prog=NAME, description="Makes the suite testing of an archive what the office's testing says.",
+        epilog="Status 0: it is. 1: it isn't, or with --dry-run something would change; each difference is printed. "
+               "2: the words are wrong. 3: refused, and nothing was changed. 4: the office or the archive's manager "
+               "failed.")
+    words.add_argument("--url", help=f"the service ({URL})")
+    words.add_argument("--testing", metavar="FILE", help="the text of testing, in place of a service's")
+    words.add_argument("--dry-run", action="store_true", help="print what would change, and change nothing")
+    managers = words.add_subparsers(dest="manager", required=True, metavar="MANAGER")
+    part = managers.add_parser("reprepro", help="an archive of reprepro: copies from the suite FROM into TESTING")
+    part.add_argument("base", metavar="BASE", help="the archive's folder, with conf and db")
+    part.add_argument("origin", metavar="FROM", help="the codename of the suite that the last order saw")
+    part.add_argument("suite", metavar="TESTING", help="the codename of testing")
+    part.add_argument("--dists", metavar="FOLDER", help="where reprepro publishes (BASE/dists)")
+    part = managers.add_parser("aptly", help="local repositories of aptly: copies from FROM into TESTING")
+    part.add_argument("config", metavar="CONFIG", help="aptly's file of configuration")
+    part.add_argument("origin", metavar="FROM", help="the repository that packages come from")
+    part.add_argument("suite", metavar="TESTING", help="the repository testing, published under the same name")
+    part.add_argument("--prefix", default=PUBLIC, help="the prefix that testing is published under (.)")
+    part.add_argument("--publish", action="append", default=[], metavar="WORD",
+                      help="a word for aptly publish update, such as --publish=-skip-signing; may be repeated")
+    part = managers.add_parser("heidi", help="a file HeidiResult, for dak control-suite --set testing")
+    part.add_argument("file", metavar="FILE", help="where it is written")
+    part = managers.add_parser("select", help="prints those paragraphs of files Packages that testing has")
+    part.add_argument("architecture", metavar="ARCHITECTURE", help="of this architecture and of all")
+    part.add_argument("packages", metavar="PACKAGES", nargs="+", help="a file Packages")
+    part = managers.add_parser("compare", help="indexes of any archive: they are only compared")
+    part.add_argument("--sources", action="append", default=[], metavar="SOURCES", help="a file Sources")
+    part.add_argument("packages", metavar="PACKAGES", nargs="+",
+                      help="a file Packages, or a folder dists/SUITE alone")
+    return words
+
+
+def manager_of(asked: argparse.Namespace) -> tuple[Manager, str]:
+    """The manager that the words name, and the file or the folder by which its archive is locked."""
+    if asked.manager == "aptly":
+        return Aptly(asked.config, (asked.origin, asked.suite), asked.prefix, asked.publish), asked.config
+    return Reprepro(asked.base, asked.origin, asked.suite, asked.dists), asked.base
+
+
+def testing_of(url: Optional[str], path: Optional[str]) -> reports.Testing:
+    """What is in the office's testing."""
+    if path is None:
+        return service_at(url or URL).testing()
+    try:
+        return reports.read_testing(read_bytes(path).decode(), path)
+    except UnicodeDecodeError as fault:
+        raise Fault(f"{path}: it is no text in UTF-8") from fault
+
+
+def to_heidi(testing: reports.Testing, path: str, is_dry: bool) -> int:
+    """Writes the file where it isn't what the office wants, and prints what changes."""
+    architectures = sorted({row.architecture for row in testing.rows})
+    want, have = wanted(testing, architectures, Indexes.ONCE), heidi.read(path)
+    if want.is_empty and not have.is_empty:
+        raise Fault("the office's testing is empty, and the file isn't: it stays as it is", REFUSED)
+    come, go = want.without(have), have.without(want)
+    is_same = come.is_empty and go.is_empty and os.path.exists(path)
+    if not is_dry and not is_same:
+        heidi.write(path, want)
+    for line in (*(f"came: {line}" for line in come.lines()), *(f"went: {line}" for line in go.lines())):
+        print(line)
+    print(f"testing {testing.finished}: {counts(want)}; came {counts(come)}; went {counts(go)}")
+    return int(is_dry and not is_same)
+
+
+def compared(testing: reports.Testing, packages: Sequence[str], sources: Sequence[str]) -> int:
+    """Prints how the indexes differ from what the office wants."""
+    have = indexes_of(packages, sources)
+    architectures = sorted({row.architecture for row in have.rows})
+    want = wanted(testing, architectures, Indexes.ONCE)
+    if not have.sources:
+        tell("no sources are compared: no file Sources is there")
+        want = Contents(have.sources, want.rows)
+    found = difference(want, have)
+    tell_idle(found, tell)
+    for line in found.lines():
+        print(line)
+    print(f"testing {testing.finished}: {counts(want)}; missing {counts(found.missing)}; "
+          f"too much {counts(found.excess)}")
+    return int(not found.is_empty)
+
+
+def indexes_of(packages: Sequence[str], sources: Sequence[str]) -> Contents:
+    """What the files have, or the folder of a suite."""
+    if len(packages) > 1 or not os.path.isdir(packages[0]):
+        return read_indexes([("", path) for path in packages], sources)
+    stated = read_release(packages[0])
+    if stated is None or not is_whole(packages[0], stated):
+        raise Fault(f"{packages[0]}: its indexes aren't those that its file Release states", REFUSED)
+    return read_folder(packages[0], stated, Indexes.ONCE)
+
+
+def select(testing: reports.Testing, architecture: str, paths: Sequence[str]) -> int:
+    """Prints the paragraph of each row of testing on an architecture, and tells the rows of which there is none."""
+    want = {(row.package, marks.package_version(row.version), row.architecture) for row in testing.rows
+            if row.architecture in (architecture, ALL)}
+    for path in paths:
+        for paragraph in raw_sections(path):
+            key = tuple(paragraph.get(name, "") for name in ("Package", "Version", "Architecture"))
+            if key in want:
+                want.remove((key[0], key[1], key[2]))
+                print(str(paragraph).rstrip("\n"), end="\n\n")
+    for name, version, own in sorted(want):
+        tell(f"the files have no {own} {name} {version}")
+    return int(bool(want))
+
+
+def main(words: Sequence[str]) -> int:
+    """Makes testing what the office says, or compares both."""
+    known = parser()
+    asked = known.parse_args(words)
+    if asked.url and asked.testing:
+        known.error("--url and --testing exclude each other")
+    testing = testing_of(asked.url, asked.testing)
+    if asked.manager == "heidi":
+        return to_heidi(testing, asked.file, asked.dry_run)
+    if asked.manager == "select":
+        return select(testing, asked.architecture, asked.packages)
+    if asked.manager == "compare":
+        return compared(testing, asked.packages, asked.sources)
+    manager, place = manager_of(asked)
+    locked(place)
+    turn = Turn(manager, testing, print, tell)
+    return turn.compare() if asked.dry_run else turn.apply()

@@ -1,0 +1,112 @@
+"""What a suite has, what the office wants in it, and how both differ."""
+import enum
+from dataclasses import dataclass, field
+from typing import Iterator, Mapping, NamedTuple, Sequence
+
+from office_tools import reports
+from office_tools.apply import marks
+from office_tools.faults import Fault
+
+ALL = "all"
+REFUSED = 3  # status of a command that changed nothing
+
+
+class Source(NamedTuple):
+    """A source in a suite."""
+
+    name: str
+    version: str
+
+
+class Row(NamedTuple):
+    """A binary package in a suite: in the index of which architecture, its own architecture, its name and version."""
+
+    place: str
+    architecture: str
+    name: str
+    version: str
+
+
+@dataclass(frozen=True)
+class Contents:
+    """The sources and the binary packages of a suite, and the source that each of these is built of, where known."""
+
+    sources: frozenset[Source] = frozenset()
+    rows: frozenset[Row] = frozenset()
+    built_of: Mapping[Row, Source] = field(default_factory=dict, compare=False)
+
+    def without(self, other: "Contents") -> "Contents":
+        """What is here and not there."""
+        return Contents(self.sources - other.sources, self.rows - other.rows)
+
+    @property
+    def is_empty(self) -> bool:
+        """Whether there is nothing."""
+        return not self.sources and not self.rows
+
+    def lines(self) -> Iterator[str]:
+        """A line for each source and each row. A row of `all` has one for each index that it is in."""
+        for source in sorted(self.sources):
+            yield f"source {source.name} {source.version}"
+        for row in sorted(self.rows):
+            place = "" if row.place == row.architecture else f" in the index of {row.place}"
+            yield f"binary {row.architecture} {row.name} {row.version}{place}"
+
+
+class Indexes(enum.Enum):
+    """Where an archive has packages of `all`: once, or in the index of each architecture."""
+
+    ONCE = "once"
+    EACH = "each"
+
+
+def wanted(testing: reports.Testing, architectures: Sequence[str], indexes: Indexes) -> Contents:
+    """What the suite has to have by the office's testing, if it has these architectures."""
+    if not testing.finished:
+        raise Fault("no run is finished: the office has no testing yet", REFUSED)
+    strange = sorted({row.architecture for row in testing.rows} - {*architectures, ALL})
+    if strange:
+        raise Fault(f"the suite has no architecture {', '.join(strange)}: the office has another setup", REFUSED)
+    rows = {Row(place, row.architecture, row.package, marks.package_version(row.version))
+            for row in testing.rows for place in places(row.architecture, architectures, indexes)}
+    sources = {Source(name, marks.source_version(version)) for name, version in testing.sources.items()
+               if not marks.is_made_up(name)}
+    return Contents(frozenset(sources), frozenset(rows))
+
+
+def places(architecture: str, architectures: Sequence[str], indexes: Indexes) -> Sequence[str]:
+    """The indexes that have a package of an architecture."""
+    return architectures if architecture == ALL and indexes is Indexes.EACH else [architecture]
+
+
+@dataclass(frozen=True)
+class Difference:
+    """What the office wants and the suite hasn't, and what the suite has too much.
+
+    `idle` are sources of the suite that the office doesn't want and that are left alone all the same. Of the one sort
+    the suite has no binary package: they build nothing on the office's architectures, so it can't decide about them. Of
+    the other sort packages stay that the office wants, as old libraries do.
+    """
+
+    missing: Contents
+    excess: Contents
+    idle: Sequence[Source]
+
+    @property
+    def is_empty(self) -> bool:
+        """Whether the suite is what the office wants."""
+        return self.missing.is_empty and self.excess.is_empty
+
+    def lines(self) -> Iterator[str]:
+        """A line for each source and each row that differs."""
+        yield from ("missing: " + line for line in self.missing.lines())
+        yield from ("too much: " + line for line in self.excess.lines())
+
+
+def difference(want: Contents, have: Contents) -> Difference:
+    """How a suite differs from what the office wants."""
+    excess = have.without(want)
+    building = set(have.built_of.values())
+    needed = {source for row, source in have.built_of.items() if row in want.rows}
+    idle = sorted(source for source in excess.sources if source not in building or source in needed)
+    return Difference(want.without(have), Contents(excess.sources - set(idle), excess.rows), idle)

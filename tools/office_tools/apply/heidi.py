@@ -1,0 +1,38 @@
+"""The file HeidiResult, by which dak sets a suite: a line `NAME VERSION ARCHITECTURE` for each package and source."""
+import os
+
+from office_tools.apply.contents import REFUSED, Contents, Row, Source
+from office_tools.faults import Fault
+from office_tools.files import read_bytes, write_whole
+
+SOURCE = "source"
+
+
+def written(contents: Contents) -> bytes:
+    """The text of the file."""
+    lines = sorted(f"{row.name} {row.version} {row.architecture}\n" for row in contents.rows)
+    lines += sorted(f"{source.name} {source.version} {SOURCE}\n" for source in contents.sources)
+    return "".join(lines).encode()
+
+
+def read(path: str) -> Contents:
+    """What a file has; nothing, where there is none."""
+    if not os.path.exists(path):
+        return Contents()
+    sources: set[Source] = set()
+    rows: set[Row] = set()
+    for number, line in enumerate(read_bytes(path).decode(errors="backslashreplace").splitlines(), 1):
+        words = line.split()
+        if len(words) != 3:
+            raise Fault(f"{path}:{number}: it isn't PACKAGE VERSION ARCHITECTURE", REFUSED)
+        name, version, architecture = words
+        if architecture == SOURCE:
+            sources.add(Source(name, version))
+        else:
+            rows.add(Row(architecture, architecture, name, version))
+    return Contents(frozenset(sources), frozenset(rows))
+
+
+def write(path: str, contents: Contents) -> None:
+    """Writes the file, whole or not at all."""
+    write_whole(path, written(contents))

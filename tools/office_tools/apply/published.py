@@ -1,0 +1,116 @@
+"""The indexes of a suite as they are published: what they have, and whether they are whole."""
+import hashlib
+import os
+from typing import Iterator, Mapping, Optional, Sequence
+
+import apt_pkg
+from debian import deb822
+
+from office_tools import relations
+from office_tools.apply.contents import Contents, Indexes, Row, Source
+from office_tools.control import opened, sections
+from office_tools.faults import Fault, cause_of
+from office_tools.files import read_bytes
+
+SUFFIXES = ("", ".gz", ".xz", ".bz2", ".zst", ".lz4", ".lzma")
+
+Stated = dict[str, dict[str, str]]
+"""For each index, by its name without a suffix, the files that have it, each with its digest."""
+
+
+def read_indexes(packages: Sequence[tuple[str, str]], sources: Sequence[str]) -> Contents:
+    """What is in these files Packages, each behind its architecture, and in these files Sources.
+
+    A source that the archive keeps for packages that were built with it alone doesn't count.
+    """
+    found: set[Source] = set()
+    built_of: dict[Row, Source] = {}
+    for path in sources:
+        for fields in sections(path, ["Package", "Version", "Extra-Source-Only"]):
+            if fields.get("Extra-Source-Only", "no") != "yes":
+                found.add(Source(needed(path, fields.get("Package")), needed(path, fields.get("Version"))))
+    for place, path in packages:
+        for fields in sections(path, ["Package", "Version", "Architecture", "Source"]):
+            name, version = needed(path, fields.get("Package")), needed(path, fields.get("Version"))
+            architecture = needed(path, fields.get("Architecture"))
+            built_of[Row(place or architecture, architecture, name, version)] = \
+                source_of(path, fields.get("Source"), name, version)
+    return Contents(frozenset(found), frozenset(built_of), built_of)
+
+
+def raw_sections(path: str) -> Iterator[Mapping[str, str]]:
+    """The paragraphs of a file as apt reads them; each one's text is what stands there."""
+    try:
+        yield from opened(path)
+    except OSError as fault:
+        raise Fault(f"{path}: {cause_of(fault)}") from fault
+    except apt_pkg.Error as fault:
+        raise Fault(f"{path}: apt can't read it: {str(fault).removeprefix('E:')}") from fault
+
+
+def source_of(path: str, value: Optional[str], name: str, version: str) -> Source:
+    """The source that a package names."""
+    try:
+        return Source(*relations.source_of(value, name, version))
+    except relations.Bad as bad:
+        raise Fault(f"{path}: {name} {version}: {bad}") from bad
+
+
+def needed(path: str, value: Optional[str]) -> str:
+    """The value of a field that each paragraph has."""
+    if value is None:
+        raise Fault(f"{path}: a paragraph misses its name, version or architecture")
+    return value
+
+
+def shows(folder: str, have: Contents, indexes: Indexes) -> bool:
+    """Whether the folder of a suite (dists/SUITE) is whole, and has these contents."""
+    stated = read_release(folder)
+    if stated is None or not is_whole(folder, stated):
+        return False
+    found = read_folder(folder, stated, indexes)
+    has_sources = any(os.path.basename(stem) == "Sources" for stem in stated)
+    return found.rows == have.rows and (found.sources == have.sources or not has_sources)
+
+
+def is_whole(folder: str, stated: Stated) -> bool:
+    """Whether each index is there, and is the one that Release states. A publisher that was ended may leave others."""
+    for files in stated.values():
+        there = {name: os.path.join(folder, name) for name in files if os.path.exists(os.path.join(folder, name))}
+        if not there:
+            return False
+        if any(hashlib.sha256(read_bytes(path)).hexdigest() != files[name] for name, path in there.items()):
+            return False
+    return True
+
+
+def read_folder(folder: str, stated: Stated, indexes: Indexes) -> Contents:
+    """What the indexes have that Release states."""
+    packages: list[tuple[str, str]] = []
+    sources: list[str] = []
+    for stem, files in sorted(stated.items()):
+        path = next(path for path in (os.path.join(folder, name) for name in sorted(files)) if os.path.exists(path))
+        if os.path.basename(stem) == "Sources":
+            sources.append(path)
+        else:
+            place = os.path.basename(os.path.dirname(stem)).removeprefix("binary-")
+            packages.append((place if indexes is Indexes.EACH else "", path))
+    return read_indexes(packages, sources)
+
+
+def read_release(folder: str) -> Optional[Stated]:
+    """The files of each index of packages that Release states, with their digests; None where there is no Release."""
+    try:
+        with open(os.path.join(folder, "Release"), "rb") as file:
+            entries = deb822.Release(file).get("SHA256", [])
+    except FileNotFoundError:
+        return None
+    except (OSError, ValueError) as fault:
+        raise Fault(f"{folder}/Release: {cause_of(fault)}") from fault
+    found: Stated = {}
+    for entry in entries:
+        name = entry["name"]
+        stem, suffix = os.path.splitext(name) if name.endswith(SUFFIXES[1:]) else (name, "")
+        if os.path.basename(stem) in ("Packages", "Sources") and suffix in SUFFIXES and "debian-installer" not in stem:
+            found.setdefault(stem, {})[name] = entry["sha256"]
+    return found

@@ -1,0 +1,94 @@
+"""Suites of an archive that reprepro manages."""
+import os
+from typing import Optional, Sequence
+
+from office_tools.apply.contents import REFUSED, Contents, Indexes, Row, Source
+from office_tools.apply.managers import parts, run
+from office_tools.apply.published import shows
+from office_tools.faults import Fault
+
+LIST = r"${$architecture} ${$type} ${package} ${version} ${architecture} ${$source} ${$sourceversion}\n"
+PUBLISH_LATER = ("--export=silent-never", "--keepunreferencedfiles")
+"""Nothing is published before all is done, and no file goes that clients may still ask for."""
+
+
+class Reprepro:
+    """The suites `origin` and `testing`, by their codenames, of the archive in a folder."""
+
+    indexes = Indexes.EACH
+
+    def __init__(self, base: str, origin: str, testing: str, dists: Optional[str] = None) -> None:
+        self.base = base
+        self.origin_name = origin
+        self.testing_name = testing
+        self.dists = dists or os.path.join(base, "dists")
+
+    def reprepro(self, *words: str) -> str:
+        """What a command prints."""
+        return run(["reprepro", "--waitforlock", "3", "--basedir", self.base, *words])
+
+    def architectures(self) -> Sequence[str]:
+        """The architectures of testing; a suite that isn't there is refused."""
+        if not os.path.isdir(os.path.join(self.base, "conf")):
+            raise Fault(f"{self.base}: it is no archive of reprepro: it has no folder conf", REFUSED)
+        try:
+            told = [self.reprepro("_listconfidentifiers", suite) for suite in (self.testing_name, self.origin_name)]
+        except Fault as fault:
+            raise Fault(fault.cause, REFUSED) from fault
+        suites = [{line.split("|")[-1] for line in part.splitlines()} for part in told]
+        for name, found in zip((self.testing_name, self.origin_name), suites):
+            if not found:
+                raise Fault(f"{self.base}: it has no suite {name}", REFUSED)
+        return sorted(suites[0] - {"source"})
+
+    def listed(self, suite: str) -> Contents:
+        """What a suite has by reprepro's own tables."""
+        sources: set[Source] = set()
+        built_of: dict[Row, Source] = {}
+        for line in self.reprepro("--list-format", LIST, "list", suite).splitlines():
+            place, kind, name, version, architecture, source, source_version = line.split(" ")
+            if kind == "dsc":
+                sources.add(Source(name, version))
+            elif kind == "deb":
+                built_of[Row(place, architecture, name, version)] = Source(source, source_version)
+        return Contents(frozenset(sources), frozenset(built_of), built_of)
+
+    def testing(self) -> Contents:
+        """What testing has."""
+        return self.listed(self.testing_name)
+
+    def origin(self) -> Contents:
+        """What the suite has that packages come from."""
+        return self.listed(self.origin_name)
+
+    def copy(self, come: Contents) -> None:
+        """Copies these rows, then these sources."""
+        for kind, formulas in (("deb", row_formulas(come)), ("dsc", source_formulas(come))):
+            for part in parts(formulas):
+                self.reprepro(*PUBLISH_LATER, "-T", kind, "copyfilter", self.testing_name, self.origin_name,
+                              " | ".join(part))
+
+    def remove(self, go: Contents) -> None:
+        """Takes these sources out, then these rows."""
+        for kind, formulas in (("dsc", source_formulas(go)), ("deb", row_formulas(go))):
+            for part in parts(formulas):
+                self.reprepro(*PUBLISH_LATER, "-T", kind, "removefilter", self.testing_name, " | ".join(part))
+
+    def is_published(self, have: Contents) -> bool:
+        """Whether the indexes of testing are whole and have this."""
+        return shows(os.path.join(self.dists, self.testing_name), have, self.indexes)
+
+    def publish(self) -> None:
+        """Writes the indexes of testing."""
+        self.reprepro("export", self.testing_name)
+
+
+def row_formulas(contents: Contents) -> Sequence[str]:
+    """A formula for each row. It names the index, so that a package of `all` that is in one index alone is meant."""
+    return [f"( Package (== {row.name}), Version (== {row.version}), Architecture (== {row.architecture}), "
+            f"$Architecture (== {row.place}) )" for row in sorted(contents.rows)]
+
+
+def source_formulas(contents: Contents) -> Sequence[str]:
+    """A formula for each source."""
+    return [f"( Package (== {source.name}), Version (== {source.version}) )" for source in sorted(contents.sources)]

@@ -1,0 +1,61 @@
+"""How a command of this package ends: its messages on standard error, and its exit status."""
+import os
+import sys
+from typing import Callable, NoReturn, Sequence
+
+Main = Callable[[Sequence[str]], int]
+
+INTERRUPTED = 130  # what a shell says of a command that SIGINT ended
+PIPE_BROKEN = 141  # what a shell says of a command that SIGPIPE ended
+
+
+class Fault(Exception):
+    """A cause why a command can't go on.
+
+    `run` tells it as `office-NAME: cause`, and the command ends with `status`.
+    """
+
+    def __init__(self, cause: str, status: int = 1) -> None:
+        super().__init__(cause)
+        self.cause = cause
+        self.status = status
+
+
+def tell(name: str, what: str) -> None:
+    """Tells something on standard error, as `office-NAME: what`; `name` is the command's whole name."""
+    print(f"{name}: {what}", file=sys.stderr)
+
+
+def run(name: str, main: Main) -> NoReturn:
+    """Ends the process with the status of `main`, which gets the words behind the command's name.
+
+    A `Fault` is told, and its status is the command's. An interrupt gives status 130. If nobody reads standard output
+    any more, the status is 141, and nothing is told. Any other fault of the system is told, and gives status 1.
+    """
+    try:
+        status = main(sys.argv[1:])
+        sys.stdout.flush()
+    except Fault as fault:
+        tell(name, fault.cause)
+        status = fault.status
+    except KeyboardInterrupt:
+        tell(name, "interrupted")
+        status = INTERRUPTED
+    except BrokenPipeError:
+        drop_output()
+        status = PIPE_BROKEN
+    except OSError as fault:
+        drop_output()
+        tell(name, cause_of(fault) if fault.filename is None else f"{fault.filename}: {cause_of(fault)}")
+        status = 1
+    sys.exit(status)
+
+
+def drop_output() -> None:
+    """Drops what isn't written yet: the interpreter writes it once more at its end, which must not fail again."""
+    os.dup2(os.open(os.devnull, os.O_WRONLY), sys.stdout.fileno())
+
+
+def cause_of(fault: BaseException) -> str:
+    """What the system says of a fault, without its number and the file's name."""
+    return (isinstance(fault, OSError) and fault.strerror) or str(fault) or type(fault).__name__

@@ -1,0 +1,46 @@
+"""Reading and writing whole files, with faults that name them."""
+import contextlib
+import os
+import sys
+import tempfile
+
+from office_tools.faults import Fault, cause_of
+
+
+def read_bytes(path: str) -> bytes:
+    """What a file holds; `-` is standard input."""
+    try:
+        if path == "-":
+            return sys.stdin.buffer.read()
+        with open(path, "rb") as file:
+            return file.read()
+    except OSError as fault:
+        raise Fault(f"{path}: {cause_of(fault)}") from fault
+
+
+def write_whole(path: str, data: bytes) -> None:
+    """Writes a file so that it is there whole or as it was: to a temporary file beside it, which is then renamed."""
+    folder = os.path.dirname(path) or "."
+    try:
+        os.makedirs(folder, exist_ok=True)
+        number, beside = tempfile.mkstemp(prefix="." + os.path.basename(path) + ".", dir=folder)
+        try:
+            with os.fdopen(number, "wb") as file:
+                file.write(data)
+                file.flush()
+                os.fchmod(file.fileno(), 0o666 & ~umask())
+                os.fsync(file.fileno())
+            os.rename(beside, path)
+        except BaseException:
+            with contextlib.suppress(OSError):
+                os.unlink(beside)
+            raise
+    except OSError as fault:
+        raise Fault(f"{path}: {cause_of(fault)}") from fault
+
+
+def umask() -> int:
+    """The process's mask of modes, which the system tells only when it is set."""
+    mask = os.umask(0o077)
+    os.umask(mask)
+    return mask

@@ -1,0 +1,95 @@
+"""The messages of the bag."""
+from dataclasses import dataclass
+from typing import Iterator, Mapping, Optional, Sequence
+
+from office_tools import messages, versions
+from office_tools.bags import LONGEST
+from office_tools.from_packages.binaries import Binary
+from office_tools.from_packages.sent import Sent
+from office_tools.from_packages.sources import Arrival, Arrivals
+from office_tools.from_packages.told import tell
+from office_tools.messages import Label, Role
+
+SENDERS: Mapping[str, Role] = {
+    "ftp": Role.UPLOAD, "bd": Role.BUILD, "bts": Role.BUGS, "rt": Role.RELEASE, "clock": Role.RUNS}
+
+
+def is_new(said: str, version: str, sent: Optional[str], dropped: Optional[str] = None) -> bool:
+    """Whether a version is above the one that was sent, and not dropped; one below it is told."""
+    if dropped is not None and versions.compare(version, dropped) <= 0:
+        tell(f"{said} {version}: left out: it was dropped up to {dropped}")
+        return False
+    order = 1 if sent is None else versions.compare(version, sent)
+    if order < 0:
+        tell(f"{said} {version}: left out: {sent} was sent, and is newer")
+    return order > 0
+
+
+@dataclass(frozen=True)
+class Uploading:
+    """How the uploads came: each one whose arrival is known, and all others."""
+
+    known: Arrivals
+    others: Arrival
+
+
+def uploads(current: Mapping[str, str], sent: Sent, arrivals: Uploading) -> Iterator[bytes]:
+    """An upload of each source that is new."""
+    for name in sorted(set(sent.versions) - set(current)):
+        tell(f"source {name} {sent.versions[name]}: it is gone, and nothing takes an upload back")
+    new = [name for name in sorted(current) if is_new("source " + name, current[name], sent.versions.get(name))]
+    for number, name in enumerate(new, sent.last["ftp"] + 1):
+        arrival = arrivals.known.get((name, current[name]), arrivals.others)
+        yield messages.upload(Label("ftp", number), name, current[name], arrival.urgency, arrival.day)
+
+
+def drops(binaries: Sequence[Binary], sent: Sent, after: int) -> Iterator[bytes]:
+    """A drop of each package that was sent and is gone, from a number on."""
+    there = {binary.key for binary in binaries}
+    for number, (name, architecture) in enumerate(sorted(set(sent.binaries) - there), after + 1):
+        yield messages.drop(Label("ftp", number), name, architecture, sent.binaries[name, architecture])
+
+
+def builds(binaries: Sequence[Binary], sent: Sent) -> Iterator[bytes]:
+    """The builds of each source, in as many messages as they need."""
+    new = [binary for binary in binaries
+           if is_new(f"{binary.name} {binary.architecture}", binary.version, sent.binaries.get(binary.key),
+                     sent.dropped.get(binary.key))]
+    number, size, source = sent.last["bd"], 0, ""
+    parts: list[bytes] = []
+    for binary in sorted(new, key=lambda binary: binary.source):
+        part = binary.paragraph()
+        if parts and (binary.source != source or len(parts) == messages.MOST_BINARIES or
+                      size + 1 + len(part) > LONGEST):
+            yield messages.build(Label("bd", number), parts)
+            parts = []
+        if not parts:
+            number, source = number + 1, binary.source
+            size = len(messages.message(Label("bd", number), messages.Kind.BUILD))
+        parts.append(part)
+        size += 1 + len(part)
+    if parts:
+        yield messages.build(Label("bd", number), parts)
+
+
+def hints(groups: Iterator[Sequence[str]], current: Mapping[str, str], sent: Sent) -> Iterator[bytes]:
+    """A hint for each group of sources that has to move as one, if the same wasn't sent before."""
+    number = sent.last["rt"]
+    for group in groups:
+        wish = "easy " + " ".join(f"{name}/{current[name]}" for name in group)
+        if wish in sent.hints:
+            continue
+        text = messages.hint(Label("rt", number + 1), wish)
+        if len(text) > LONGEST:
+            tell(f"a group of {len(group)} sources, the first {group[0]}: no hint: it has {len(text)} bytes, and a "
+                 f"message at most {LONGEST}")
+        else:
+            number += 1
+            yield text
+
+
+def order(day: str, sent: Sent, new: Mapping[str, int]) -> bytes:
+    """The next order, which covers all mail: what was sent before, and how much is new of each sender."""
+    covers = {sender: sent.last[sender] + new.get(sender, 0) for sender, role in SENDERS.items()
+              if role is not Role.RUNS}
+    return messages.run(Label("clock", sent.last["clock"] + 1), day, covers)

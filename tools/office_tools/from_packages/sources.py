@@ -1,0 +1,104 @@
+"""The sources of an archive: their versions by its indexes, their urgency and day by their files .changes."""
+import email.utils
+import os
+from dataclasses import dataclass
+from typing import Mapping, Optional, Sequence, TypeVar
+
+from office_tools import relations, versions
+from office_tools.control import Changes, read_changes, sections
+from office_tools.faults import Fault, cause_of
+from office_tools.from_packages.binaries import Binary
+from office_tools.from_packages.told import tell
+from office_tools.messages import Urgency
+from office_tools.relations import Bad
+
+Name = TypeVar("Name")
+
+
+def put_newer(known: dict[Name, str], name: Name, version: str) -> None:
+    """Puts a version under a name, if it has none or an older one."""
+    if name not in known or versions.compare(version, known[name]) > 0:
+        known[name] = version
+
+
+def read_sources(paths: Sequence[str], binaries: Sequence[Binary]) -> dict[str, str]:
+    """The version of each source: the newest one that a package or a file Sources names."""
+    known: dict[str, str] = {}
+    for binary in binaries:
+        put_newer(known, binary.source, binary.source_version)
+    for path in paths:
+        for fields in sections(path, ["Package", "Version", "Extra-Source-Only"]):
+            name, version = fields.get("Package", ""), fields.get("Version", "")
+            try:
+                relations.checked_name(name, "Package")
+                relations.checked_version(version)
+                if fields.get("Extra-Source-Only", "no") == "yes":
+                    raise Bad("it is kept for packages that were built with it alone")
+                if name in known and versions.compare(version, known[name]) < 0:
+                    raise Bad(f"{known[name]} is newer")
+                known[name] = version
+            except Bad as bad:
+                tell(f"source {name or '?'} {version or '?'}: left out: {bad}")
+    return known
+
+
+@dataclass(frozen=True)
+class Arrival:
+    """How urgent an upload is, and the day on which it came."""
+
+    urgency: Urgency
+    day: str
+
+
+Arrivals = Mapping[tuple[str, str], Arrival]
+
+
+def read_arrivals(folder: Optional[str], default: Arrival) -> Arrivals:
+    """The arrival of each source and version of which the folder has a file .changes.
+
+    Of several files the one that brings the source counts, else the first by its name. What a file doesn't state, or
+    states so that it can't be read, is told, and is that of the default. A file that can't be read at all is told.
+    """
+    found: dict[tuple[str, str], Arrival] = {}
+    of_source: set[tuple[str, str]] = set()
+    for path in changes_in(folder) if folder else []:
+        try:
+            changes = read_changes(path)
+        except Fault as fault:
+            tell(f"{fault.cause}: left out")
+            continue
+        upload = changes.source, changes.version
+        if upload not in found or changes.has_source and upload not in of_source:
+            found[upload] = arrival_of(path, changes, default)
+        if changes.has_source:
+            of_source.add(upload)
+    return found
+
+
+def changes_in(folder: str) -> Sequence[str]:
+    """The files .changes of a folder, by their names."""
+    try:
+        return [os.path.join(folder, name) for name in sorted(os.listdir(folder)) if name.endswith(".changes")]
+    except OSError as fault:
+        raise Fault(f"{folder}: {cause_of(fault)}") from fault
+
+
+def arrival_of(path: str, changes: Changes, default: Arrival) -> Arrival:
+    """What a file .changes says of the arrival."""
+    urgency, day = default.urgency, day_of(changes.date or "")
+    try:
+        urgency = Urgency(changes.urgency)
+    except ValueError:
+        tell(f"{path}: its urgency is taken as {urgency.value}: it states {changes.urgency or 'none'}")
+    if day is None:
+        tell(f"{path}: its day is taken as {default.day}: its date is {changes.date or 'not there'}")
+    return Arrival(urgency, day or default.day)
+
+
+def day_of(date: str) -> Optional[str]:
+    """The day that a date of mail states, in the zone that it states, or None where it is no date from 1970 on."""
+    try:
+        day = email.utils.parsedate_to_datetime(date).date()
+    except ValueError:
+        return None
+    return day.isoformat() if day.year >= 1970 else None

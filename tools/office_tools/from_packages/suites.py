@@ -1,0 +1,106 @@
+"""Which packages can be installed with all packages of the files there, and which sources rest on which."""
+from collections import defaultdict
+from typing import Iterator, Mapping, Optional, Sequence
+
+from office_tools.from_packages.binaries import Binary, Key
+from office_tools.from_packages.sent import Sent
+from office_tools.from_packages.told import tell
+from office_tools.relations import Clause, written
+
+Needs = Mapping[str, set[str]]
+
+
+class Suite:
+    """All packages of one architecture and of `all`, and which of them are installable among those of good sources."""
+
+    def __init__(self, binaries: Sequence[Binary]) -> None:
+        self.binaries = binaries
+        self.good = [True] * len(binaries)
+        self.of_source: dict[str, list[int]] = defaultdict(list)
+        self.having: dict[Clause, list[int]] = defaultdict(list)
+        for place, binary in enumerate(binaries):
+            self.of_source[binary.source].append(place)
+            for clause in binary.clauses:
+                self.having[clause].append(place)
+        # For each clause without repeats, the packages that meet it, in order, and how many of these are good.
+        self.meeting = self.places_by_clause()
+        self.left = {clause: len(set(places)) for clause, places in self.meeting.items()}
+        self.met_by: dict[int, list[Clause]] = defaultdict(list)
+        for clause, places in self.meeting.items():
+            for place in set(places):
+                self.met_by[place].append(clause)
+        self.take_out([place for clause, left in self.left.items() if not left for place in self.having[clause]])
+
+    def places_by_clause(self) -> Mapping[Clause, Sequence[int]]:
+        """For each clause the places of the packages that meet it, by its alternatives in turn."""
+        bearers: dict[str, list[tuple[int, Optional[str]]]] = defaultdict(list)
+        for place, binary in enumerate(self.binaries):
+            bearers[binary.name].append((place, binary.version))
+            for provision in binary.provisions:
+                bearers[provision.name].append((place, provision.version))
+        return {clause: [place for part in clause for place, version in bearers.get(part.name, ())
+                         if part.is_met_by(version)]
+                for clause in self.having}
+
+    def take_out(self, places: Sequence[int]) -> None:
+        """Takes out these packages, and what isn't installable without them."""
+        todo = list(places)
+        while todo:
+            place = todo.pop()
+            if self.good[place]:
+                self.good[place] = False
+                for clause in self.met_by[place]:
+                    self.left[clause] -= 1
+                    if not self.left[clause]:
+                        todo += self.having[clause]
+
+    def needs(self, place: int) -> Iterator[str]:
+        """The sources that a package rests on."""
+        binary = self.binaries[place]
+        for clause in binary.clauses:
+            sources = [self.binaries[other].source for other in self.meeting[clause] if self.good[other]]
+            if binary.source not in sources:
+                yield sources[0]
+
+
+class Suites:
+    """The suites of all architectures. Packages of `all` are judged on the first one."""
+
+    def __init__(self, binaries: Sequence[Binary], architectures: Sequence[str]) -> None:
+        self.architectures = architectures
+        self.gone: set[Key] = set()
+        self.suites = [Suite([binary for binary in binaries if binary.architecture in (architecture, "all")])
+                       for architecture in architectures]
+
+    def judged_bad(self) -> list[tuple[Binary, Suite]]:
+        """The packages that aren't installable, each with its suite."""
+        return [(binary, suite) for architecture, suite in zip(self.architectures, self.suites)
+                for place, binary in enumerate(suite.binaries) if not suite.good[place]
+                and (binary.architecture == architecture or architecture == self.architectures[0])]
+
+    def leave_out(self, sent: Sent) -> None:
+        """Leaves out the packages that can't be installed and were never sent, and tells why."""
+        for binary, suite in sorted(self.judged_bad(),
+                                    key=lambda found: (found[0].name, found[0].version, found[0].architecture)):
+            if not sent.knows(binary.key):
+                clause = next(clause for clause in binary.clauses if not suite.left[clause])
+                tell(f"{binary.name} {binary.version} {binary.architecture}: left out: nothing installable meets "
+                     f"{written(clause)}")
+                self.gone.add(binary.key)
+
+    def needs(self) -> Needs:
+        """For each source that can move at all the sources that it rests on."""
+        bad: set[str] = set()
+        while True:
+            found = {binary.source for binary, _ in self.judged_bad() if binary.key not in self.gone} - bad
+            if not found:
+                break
+            bad |= found
+            for suite in self.suites:
+                suite.take_out([place for source in found for place in suite.of_source[source]])
+        needs: dict[str, set[str]] = defaultdict(set)
+        for suite in self.suites:
+            for place, binary in enumerate(suite.binaries):
+                if suite.good[place]:
+                    needs[binary.source].update(suite.needs(place))
+        return {**{source: set() for needed in needs.values() for source in needed}, **needs}

@@ -1,0 +1,155 @@
+"""office-lint: looks at messages before they are mailed."""
+import argparse
+import sys
+from dataclasses import dataclass
+from typing import Iterator, Optional, Sequence
+
+from office_tools import bags
+from office_tools.accounts import service_at
+from office_tools.days import day, today
+from office_tools.faults import Fault, tell
+from office_tools.files import read_bytes
+from office_tools.lint.office import MOST, Mail, MailOffice, Office, ServiceMail, StoreMail
+from office_tools.lint.places import place_of
+from office_tools.lint.slips import Days, Look, slips
+from office_tools.lint.state import State
+from office_tools.mailing import is_held, mailed
+from office_tools.messages import kind_of, label_of, paragraphs
+from office_tools.service import Service
+
+NAME = "office-lint"
+URL = "http://127.0.0.1:8080"
+CONF = "/etc/office/setup.conf"
+WARNED, REFUSED = 1, 3
+
+
+@dataclass(frozen=True)
+class Text:
+    """A message, and what it is called: its file, and in a bag its place."""
+
+    name: str
+    text: bytes
+
+
+class Sender:
+    """What sends messages to a service, if that is asked for."""
+
+    def __init__(self, service: Optional[Service], is_forced: bool) -> None:
+        self.service = service
+        self.is_forced = is_forced
+
+    def sends(self, is_warned: bool) -> bool:
+        """Whether a message is sent."""
+        return self.service is not None and (self.is_forced or not is_warned)
+
+    def send(self, text: Text) -> str:
+        """Sends a message: the office's reply, which is told."""
+        if self.service is None:
+            raise Fault("no service is named")
+        reply = mailed(self.service, text.text)
+        print(f"{text.name}: {reply}", flush=True)
+        return reply
+
+
+class Lint:
+    """Looks at messages one after the other."""
+
+    def __init__(self, office: Office, days: Days, sender: Sender) -> None:
+        self.office = office
+        self.days = days
+        self.sender = sender
+        self.state: State = office.state()
+
+    def look_at(self, text: Text, verdict: str) -> int:
+        """Tells what is wrong with a message, sends it where that is due, and takes it on: the status."""
+        label = label_of(text.text)
+        if label is None or not is_held(verdict):
+            place = place_of(self.office, text.text, verdict)
+            print(f"{text.name}:{place.line}: {verdict}: {place.cause}", flush=True)
+            return REFUSED
+        first, *binaries = list(paragraphs(text.text))
+        kind = kind_of(first)
+        if kind is None:
+            raise Fault(f"{text.name}: the office takes a kind that isn't known here")
+        warned = list(slips(Look(label, kind, first, binaries, self.state, self.days)))
+        for slip in warned:
+            print(f"{text.name}:{slip.line}: warning: {slip.words}", flush=True)
+        status = WARNED if warned else 0
+        if self.sender.sends(bool(warned)) and not is_held(self.sender.send(text)):
+            return REFUSED
+        if self.sender.service is None or self.sender.sends(bool(warned)):
+            self.state.take(label, text.text)
+        return status
+
+
+def texts_of(path: str) -> Iterator[Text]:
+    """The messages of a file: it is one message, or a bag."""
+    data = read_bytes(path)
+    if not bags.is_bag(data):
+        yield Text(path, data)
+        return
+    try:
+        for place, text in enumerate(bags.messages_in(data), 1):
+            yield Text(f"{path}#{place}", text)
+    except bags.BagFault as fault:
+        raise Fault(f"{path}: {fault.cause}", REFUSED) from fault
+
+
+def parser() -> argparse.ArgumentParser:
+    """The command's words."""
+    words = argparse.ArgumentParser(
+        prog=NAME, description="Tells what an office would answer to messages, and what in them is most likely a slip.",
+        epilog="Status 0: all would be held, and nothing is odd. 1: there are warnings. 2: the words are wrong. "
+               "3: a message or a bag is refused. 4: no office answers.")
+    words.add_argument("--url", metavar="URL", help=f"the service ({URL}, where neither it nor --conf is stated)")
+    words.add_argument("--conf", metavar="SETUP",
+                       help="the setup's file; without --url the office is one in memory that keeps nothing, or that "
+                            f"of --db (with --url: {CONF})")
+    words.add_argument("--db", metavar="STORE", help="the store's file, while no office has it open")
+    words.add_argument("--today", metavar="DAY", type=day, default=today(),
+                       help="the day that is today (by the system's clock, in UTC)")
+    words.add_argument("--days", metavar="N", type=int, default=30,
+                       help="how many days back an upload's day may lie (30)")
+    words.add_argument("--send", action="store_true", help="mails, in order, what has no warning")
+    words.add_argument("--force", action="store_true", help="mails what has warnings, too")
+    words.add_argument("--user", metavar="USER", help="the user at a proxy; its password stands in ~/.netrc")
+    words.add_argument("file", metavar="FILE", nargs="+", help="a message, or a bag; - is standard input")
+    return words
+
+
+def mail_of(service: Optional[Service], conf: str, store: Optional[str]) -> Mail:
+    """The mail that is kept by a service, by a store, or by an office to which nothing was mailed."""
+    if service is not None:
+        return ServiceMail(service)
+    return StoreMail(conf, store)
+
+
+def main(words: Sequence[str]) -> int:
+    """Looks at the messages of the files, and mails them where that is asked for."""
+    known = parser()
+    asked = known.parse_args(words)
+    if asked.db and (asked.url or not asked.conf):
+        known.error("--db needs --conf, and no --url")
+    if asked.force and not asked.send:
+        known.error("--force needs --send")
+    url = asked.url or (None if asked.conf else URL)
+    if (asked.send or asked.user) and not url:
+        known.error("--send and --user need --url")
+    if asked.days < 0:
+        known.error("--days needs a number from 0 on")
+    service = service_at(url, asked.user) if url else None
+    office = MailOffice(asked.conf or CONF, mail_of(service, asked.conf, asked.db))
+    texts = [text for path in asked.file for text in texts_of(path)]
+    verdicts = office.verdicts([text.text for text in texts])
+    lint = Lint(office, Days(asked.today, asked.days), Sender(service if asked.send else None, asked.force))
+    told_unknown(lint.state)
+    sys.stdout.flush()
+    return max((lint.look_at(text, verdict) for text, verdict in zip(texts, verdicts)), default=0)
+
+
+def told_unknown(state: State) -> None:
+    """Tells which warnings are left out, since there is too much mail to read."""
+    left = [name for name, is_known in (("orders", state.knows_orders), ("unstable and hints", state.knows_unstable))
+            if not is_known]
+    if left:
+        tell(NAME, f"more than {MOST} messages are kept: warnings that rest on {' and on '.join(left)} are left out")

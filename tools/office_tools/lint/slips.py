@@ -1,0 +1,238 @@
+"""What in a message that the office would take is most likely a slip, and on which line.
+
+Each function here is one warning: it tells what is wrong exactly where its condition holds over the state.
+"""
+import datetime
+from dataclasses import dataclass
+from typing import Callable, Iterator, Optional, Sequence
+
+import Levenshtein
+
+from office_tools import versions
+from office_tools.lint.state import State, source_of, stated_covers
+from office_tools.messages import BINARY_FIELDS, FIELDS_OF, HEAD_FIELDS, Field, Kind, Label, Paragraph
+
+FARTHEST = 2  # changed letters between a name that isn't read and the one that is most likely meant
+
+
+@dataclass(frozen=True)
+class Warned:
+    """A line of a message, counted from 1, and what is odd there."""
+
+    line: int
+    words: str
+
+
+@dataclass(frozen=True)
+class Days:
+    """The day of the caller, and how many days back an upload's day may lie."""
+
+    today: datetime.date
+    most: int
+
+
+@dataclass(frozen=True)
+class Look:
+    """A message that the office would take, and what it is judged by."""
+
+    label: Label
+    kind: Kind
+    first: Paragraph
+    binaries: Sequence[Paragraph]
+    state: State
+    days: Days
+
+    def warned(self, name: str, words: str) -> Warned:
+        """A warning at a field of the first paragraph."""
+        return Warned(self.field(name).line, words)
+
+    def field(self, name: str) -> Field:
+        """A field of the first paragraph, which has it."""
+        found = self.first.field(name)
+        return found or Field(name, self.first.line, "", self.first.line)
+
+    def value(self, name: str) -> str:
+        """Its value."""
+        return self.field(name).value
+
+    def day(self) -> datetime.date:
+        """The message's day."""
+        return datetime.date.fromisoformat(self.value("Day"))
+
+    def senders(self) -> Iterator[str]:
+        """Each sender whose mail an order covers."""
+        return (sender for sender in self.state.unbroken if sender != self.state.runs)
+
+
+Check = Callable[[Look], Iterator[Warned]]
+
+
+def number_behind_a_gap(look: Look) -> Iterator[Warned]:
+    """The number isn't the sender's next one."""
+    sender, number = look.label.sender, look.label.number
+    due = look.state.unbroken[sender] + 1
+    if due < number and not look.state.is_kept(look.label):
+        yield look.warned("Number", f"number {number} of {sender}: {due} is the next")
+
+
+def misspelt_fields(look: Look) -> Iterator[Warned]:
+    """A field that isn't read has nearly the name of one that is."""
+    head = [rule.name for rule in (*HEAD_FIELDS, *FIELDS_OF[look.kind])]
+    yield from misspelt(look.first, head)
+    for binary in look.binaries:
+        yield from misspelt(binary, [rule.name for rule in BINARY_FIELDS])
+
+
+def misspelt(paragraph: Paragraph, read: Sequence[str]) -> Iterator[Warned]:
+    """The same in one paragraph, of which these names are read."""
+    missing = [name for name in read if paragraph.field(name) is None]
+    known = {name.lower() for name in read}
+    for field in paragraph.fields:
+        near = {name: int(Levenshtein.distance(field.name.lower(), name.lower())) for name in missing}
+        meant = min(near, key=lambda name: near[name], default="")
+        if field.name.lower() not in known and near.get(meant, FARTHEST + 1) <= FARTHEST:
+            yield Warned(field.line, f"the office reads no field {field.name} here: is {meant} meant?")
+
+
+def day_after_today(look: Look) -> Iterator[Warned]:
+    """The day is still to come."""
+    if look.kind in (Kind.UPLOAD, Kind.RUN) and look.days.today < look.day():
+        yield look.warned("Day", f"day {look.day()} is after today, {look.days.today}")
+
+
+def day_long_ago(look: Look) -> Iterator[Warned]:
+    """The day of an upload lies far back, so the source seems old at once."""
+    if look.kind is Kind.UPLOAD and (look.days.today - look.day()).days > look.days.most:
+        yield look.warned("Day", f"day {look.day()} is more than {look.days.most} days before today")
+
+
+def upload_of_nothing_new(look: Look) -> Iterator[Warned]:
+    """Unstable has that version of the source, or a greater one."""
+    if look.kind is Kind.UPLOAD:
+        has = look.state.seen.source(look.value("Source"))
+        if has is not None and versions.compare(look.value("Version"), has) <= 0:
+            yield look.warned("Version", f"unstable has {look.value('Source')} {has}: this upload changes nothing")
+
+
+def build_of_another_source(look: Look) -> Iterator[Warned]:
+    """The source of a binary isn't in unstable, or has another version there and in testing."""
+    for binary in look.binaries if look.kind is Kind.BUILD else ():
+        source = source_of(binary)
+        stated = binary.field("Source") or binary.field("Package")
+        line = stated.line if stated else binary.line
+        has = look.state.seen.source(source.name)
+        if has is None:
+            yield Warned(line, f"no source {source.name}")
+        elif not same(source.version, has) and not same(source.version, look.state.testing.get(source.name)):
+            yield Warned(line, f"unstable has {source.name} {has}")
+
+
+def bug_of_no_source(look: Look) -> Iterator[Warned]:
+    """The bug is of a source that isn't in unstable."""
+    if look.kind is Kind.BUG and look.state.seen.source(look.value("Source")) is None:
+        yield look.warned("Source", f"no source {look.value('Source')}")
+
+
+def drop_of_nothing(look: Look) -> Iterator[Warned]:
+    """Unstable has no such row, or one of a greater version."""
+    if look.kind is Kind.DROP:
+        architecture, package = look.value("Architecture"), look.value("Package")
+        has = look.state.seen.row(architecture, package)
+        if has is None or versions.compare(has, look.value("Version")) > 0:
+            row = f"{has or 'no row'} of {package} on {architecture}"
+            yield look.warned("Package", f"unstable has {row}: this drops nothing")
+
+
+def hint_of_another_source(look: Look) -> Iterator[Warned]:
+    """An item of a hint isn't in force: unstable has no such source, another version, or it moved already."""
+    if look.kind is Kind.HINT:
+        word, *rest = look.value("Hint").split()
+        items = [] if word == "block-all" else rest[1:] if word == "age-days" else rest
+        for item in items:
+            name, _, version = item.partition("/")
+            told = standing(look.state, word, name, version)
+            if told:
+                yield look.warned("Hint", told)
+
+
+def standing(state: State, word: str, name: str, version: str) -> Optional[str]:
+    """Why an item of a hint isn't in force; None where it is. An item of `block` has no version."""
+    has, moved = state.seen.source(name), state.testing.get(name)
+    if has is None:
+        return f"no source {name}"
+    if not version or (word == "remove" and same(version, moved)):
+        return None
+    if same(version, moved):
+        return f"{name} {version} is in testing already"
+    return None if same(version, has) else f"unstable has {name} {has}"
+
+
+def unhint_of_nothing(look: Look) -> Iterator[Warned]:
+    """No hint of that number stands."""
+    if look.kind is Kind.UNHINT and not look.state.seen.in_force(int(look.value("Cancels"))):
+        yield look.warned("Cancels", f"no hint in force has the number {look.value('Cancels')}")
+
+
+def order_over_a_gap(look: Look) -> Iterator[Warned]:
+    """The order covers mail that isn't there."""
+    if look.kind is Kind.RUN:
+        stated = stated_covers(look.first)
+        for sender in look.senders():
+            reached = look.state.unbroken[sender]
+            if reached < stated.get(sender, 0):
+                yield look.warned("Covers", f"{sender} {reached + 1} isn't kept: this run and all later ones wait")
+
+
+def order_leaves_mail_out(look: Look) -> Iterator[Warned]:
+    """Mail is there that neither this order nor an earlier one covers."""
+    if look.kind is Kind.RUN:
+        stated = stated_covers(look.first)
+        for sender in look.senders():
+            covered = max(stated.get(sender, 0), look.state.orders.covers.get(sender, 0))
+            reached = look.state.unbroken[sender]
+            if covered < reached:
+                yield look.warned("Covers", f"{sender} {covered + 1} to {reached} isn't covered")
+
+
+def order_covers_less(look: Look) -> Iterator[Warned]:
+    """An earlier order covers more of a sender."""
+    if look.kind is Kind.RUN:
+        stated = stated_covers(look.first)
+        for sender in look.senders():
+            covered = look.state.orders.covers.get(sender, 0)
+            if 0 < stated.get(sender, 0) < covered:
+                yield look.warned("Covers", f"{sender}: an earlier order covers {covered}: this changes nothing")
+
+
+def order_of_an_earlier_day(look: Look) -> Iterator[Warned]:
+    """An earlier order has a later day."""
+    if look.kind is Kind.RUN and look.value("Day") < look.state.orders.day:
+        yield look.warned("Day", f"an earlier order has day {look.state.orders.day}: this one has no effect")
+
+
+def same(version: str, other: Optional[str]) -> bool:
+    """Whether two versions are the same version; none is the same as no version."""
+    return other is not None and versions.compare(version, other) == 0
+
+
+ALWAYS: Sequence[Check] = (number_behind_a_gap, misspelt_fields, day_after_today, day_long_ago)
+"""The warnings that rest on the counts of mail alone."""
+
+OVER_UNSTABLE: Sequence[Check] = (
+    upload_of_nothing_new, build_of_another_source, bug_of_no_source, drop_of_nothing, hint_of_another_source,
+    unhint_of_nothing)
+"""Those that rest on unstable and the hints in force."""
+
+OVER_ORDERS: Sequence[Check] = (order_leaves_mail_out, order_covers_less, order_of_an_earlier_day)
+"""Those that rest on the orders before."""
+
+
+def slips(look: Look) -> Iterator[Warned]:
+    """All warnings of a message, as far as the state is known."""
+    for check in ALWAYS:
+        yield from check(look)
+    for check in OVER_UNSTABLE if look.state.knows_unstable else ():
+        yield from check(look)
+    yield from order_over_a_gap(look)
+    for check in OVER_ORDERS if look.state.knows_orders else ():
+        yield from check(look)

@@ -1,0 +1,1 @@
+"""Brings the mail that one office keeps to other offices, or into a bag."""

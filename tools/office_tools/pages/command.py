@@ -1,0 +1,109 @@
+"""The words of the command, and how it goes on."""
+import argparse
+import contextlib
+import fcntl
+import math
+import os
+from typing import Iterator, Sequence
+
+from office_tools.faults import Fault, cause_of
+from office_tools.pages.fetching import fetch, fetch_answers, NAME
+from office_tools.pages.offices import FileOffice, Office, ServiceOffice, StoreOffice
+from office_tools.pages.site import Site
+from office_tools.pages.state import State
+
+WRONG_WORDS = 2
+URL = "http://127.0.0.1:8080"
+BUGS = "https://bugs.debian.org/%s"
+SECONDS = 3.0
+
+
+def seconds_of(text: str) -> float:
+    """How many seconds a word states."""
+    try:
+        seconds = float(text)
+    except ValueError:
+        seconds = math.nan
+    if 0 <= seconds < math.inf:
+        return seconds
+    raise argparse.ArgumentTypeError(f"{text!r} is no number of seconds")
+
+
+def words_of(words: Sequence[str]) -> argparse.Namespace:
+    """The words of the command."""
+    parser = argparse.ArgumentParser(
+        prog=NAME, allow_abbrev=False,
+        description="Makes static pages and JSON of the reports of all runs of an office, and keeps them fresh. Each "
+                    "call fetches what is new, and writes what changed.")
+    parser.add_argument("folder", metavar="FOLDER", help="the folder of the pages, which has to be there")
+    parser.add_argument("--url", metavar="URL", help=f"the service that is asked ({URL} if nothing else is named)")
+    parser.add_argument("--conf", metavar="SETUP", help="with --db: the setup of a store")
+    parser.add_argument("--db", metavar="FILE", help="a store that no office has open, in the place of a service")
+    parser.add_argument("--excuses", metavar="FILE", help="the excuses of one run, in the place of a service")
+    parser.add_argument("--update", metavar="FILE", help="with --excuses: the update of the same run")
+    parser.add_argument("--testing", metavar="FILE", help="with --excuses: what is in testing after that run")
+    parser.add_argument("--bugs", metavar="URL", default=BUGS,
+                        help="where bugs are found; %%s stands for a bug's number (%(default)s)")
+    parser.add_argument("--state", metavar="FOLDER", help="where fetched reports are kept (FOLDER/.state)")
+    parser.add_argument("--why-seconds", metavar="N", type=seconds_of, default=SECONDS,
+                        help="how long the office is asked at most why sources don't move (%(default)s)")
+    return parser.parse_args(words)
+
+
+def office_of(asked: argparse.Namespace) -> Office:
+    """The office that the words name."""
+    named = [asked.url, asked.db or asked.conf, asked.excuses or asked.update or asked.testing]
+    if sum(name is not None for name in named) > 1:
+        raise Fault("name one of: a service (--url), a store (--conf, --db), files (--excuses, --update)", WRONG_WORDS)
+    if asked.db or asked.conf:
+        if not (asked.db and asked.conf):
+            raise Fault("a store has --conf and --db", WRONG_WORDS)
+        return StoreOffice(asked.conf, asked.db)
+    if asked.excuses or asked.update or asked.testing:
+        if not (asked.excuses and asked.update):
+            raise Fault("the files of a run are named by --excuses and --update", WRONG_WORDS)
+        return FileOffice(asked.excuses, asked.update, asked.testing)
+    return ServiceOffice(asked.url or URL)
+
+
+@contextlib.contextmanager
+def alone(folder: str) -> Iterator[None]:
+    """Within it no other call works with this folder."""
+    number = os.open(os.path.join(folder, "lock"), os.O_RDWR | os.O_CREAT, 0o666)
+    try:
+        fcntl.flock(number, fcntl.LOCK_EX | fcntl.LOCK_NB)
+        yield
+    except BlockingIOError as fault:
+        raise Fault(f"{folder}: another call of {NAME} works with it") from fault
+    finally:
+        os.close(number)
+
+
+def main(words: Sequence[str]) -> int:
+    """Fetches what is new, and writes the pages that changed."""
+    asked = words_of(words)
+    office = office_of(asked)
+    if "%s" not in asked.bugs:
+        raise Fault(f"--bugs {asked.bugs}: %s is missing, which stands for a bug's number", WRONG_WORDS)
+    if not os.path.isdir(asked.folder):
+        raise Fault(f"{asked.folder}: there is no such folder")
+    try:
+        make(office, asked.folder, asked.state or os.path.join(asked.folder, ".state"), asked)
+    except OSError as fault:
+        raise Fault(f"{fault.filename or asked.folder}: {cause_of(fault)}") from fault
+    return 0
+
+
+def make(office: Office, folder: str, kept: str, asked: argparse.Namespace) -> None:
+    """Fetches what is new into the folder of what is kept, and writes the pages that changed."""
+    os.makedirs(kept, exist_ok=True)
+    with alone(kept), contextlib.closing(State(os.path.join(kept, "state.db"))) as state:
+        newest = fetch(office, state)
+        if newest is None:
+            return
+        # The pages of a new run are there before sources are asked about, which takes longer.
+        site = Site(folder, state, asked.bugs)
+        site.build(newest)
+        names = fetch_answers(office, state, newest, asked.why_seconds)
+        if names:
+            site.build_answers(newest, names)

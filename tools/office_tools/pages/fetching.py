@@ -1,0 +1,200 @@
+"""Asks an office for what isn't kept yet: each run once, testing and answers about sources once a run."""
+import datetime
+import json
+import time
+from dataclasses import dataclass
+from typing import Collection, Iterable, Mapping, Optional, Sequence
+
+from office_tools import reports
+from office_tools.faults import Fault, tell
+from office_tools.pages.offices import finished_in, Office
+from office_tools.pages.outcomes import NOTHING, outcome_in, outcomes_of, SourceOutcome, What
+from office_tools.pages.state import Event, KeptRun, State, Why
+from office_tools.pages.told import behind_excuse
+from office_tools.reports import Excuse
+
+NAME = "office-pages"
+AT_ONCE = 100  # answers about sources that are kept at once
+TURNS = 3  # how often testing is asked for, if a run is finished between two questions
+
+
+@dataclass(frozen=True)
+class Newest:
+    """The newest run, read."""
+
+    kept: KeptRun
+    excuses: reports.Excuses
+    update: reports.Update
+
+    @property
+    def number(self) -> int:
+        """The run's number."""
+        return self.kept.run.number
+
+
+def read_run(kept: KeptRun) -> Newest:
+    """A kept run, read."""
+    number = kept.run.number
+    return Newest(kept, reports.read_excuses(kept.excuses, f"excuses {number}"),
+                  reports.read_update(kept.update, f"update {number}"))
+
+
+def fetch(office: Office, state: State) -> Optional[Newest]:
+    """Fetches and keeps the reports that aren't kept yet, and gives the newest run; None where no run is finished."""
+    for _ in range(TURNS):
+        if not fetch_runs(office, state):
+            return None
+        newest = read_run(state.run(state.runs()[-1].number))
+        if fetch_testing(office, state, newest.number):
+            fetch_hints(office, state)
+            return newest
+    raise Fault(f"a run was finished between two questions, {TURNS} times in a row")
+
+
+def fetch_runs(office: Office, state: State) -> bool:
+    """Keeps each run that the office has and that isn't kept; says whether there is one."""
+    told = {run.number: run for run in office.runs()}
+    if not told:
+        return False
+    first = min(told)
+    other = next((run.number for run in state.runs() if run.number >= first and told.get(run.number) != run), None)
+    if other is not None:
+        tell(NAME, f"run {other} isn't the one that was kept: it and all later ones are fetched again")
+        state.drop_from(other)
+    last: Optional[dict[str, Event]] = None
+    for number in sorted(set(told) - {run.number for run in state.runs()}):
+        if last is None:
+            last = dict(state.last_events())
+        last |= fetch_run(office, state, told[number], last)
+    return True
+
+
+def fetch_run(office: Office, state: State, run: reports.Run, last: Mapping[str, Event]) -> Mapping[str, Event]:
+    """Keeps a run, and gives its events. `last` are the last events before it."""
+    now = datetime.datetime.now(datetime.timezone.utc).strftime("%Y-%m-%dT%H:%M:%SZ")
+    kept = KeptRun(run, now, office.excuses(run.number), office.update(run.number))
+    read = read_run(kept)
+    if (read.excuses.run, read.excuses.date, read.update.run) != (run.number, run.date, run.number):
+        raise Fault(f"the office told the reports of another run in the place of run {run.number}")
+    events = events_of(read, last)
+    state.add(kept, events, {change.hint for change in read.update.changes if change.hint is not None})
+    return events
+
+
+def events_of(read: Newest, last: Mapping[str, Event]) -> Mapping[str, Event]:
+    """An event of each source that stands otherwise than its last event says."""
+    outcomes = outcomes_of(read.update)
+    excuses = {excuse.source: excuse for excuse in read.excuses.excuses}
+    # Where a source neither moved nor is told of any more, that is an event, too.
+    open_ones = (source for source, event in last.items() if event.standing != GONE and not has_moved(event))
+    found = {}
+    for source in dict.fromkeys([*excuses, *outcomes, *open_ones]):
+        event = event_of(read.number, excuses.get(source), outcomes.get(source, NOTHING)[-1])
+        before = last.get(source)
+        if before is None or before.standing != event.standing:
+            found[source] = event
+    return found
+
+
+def event_of(run: int, excuse: Optional[Excuse], outcome: SourceOutcome) -> Event:
+    """How a source stands in a run."""
+    told = json.dumps(outcome.as_json())
+    if excuse is None:
+        return Event(run, "", "", "", told)
+    reasons = ", ".join(reason.text for reason in excuse.reasons)
+    return Event(run, excuse.testing or "-", excuse.unstable, reasons, told)
+
+
+GONE = event_of(0, None, NOTHING[-1]).standing
+
+
+def has_moved(event: Event) -> bool:
+    """Whether the source is where the event has it: it moved, or was removed."""
+    return outcome_in(event.outcome).what in (What.ACCEPT, What.REMOVED)
+
+
+def fetch_testing(office: Office, state: State, newest: int) -> bool:
+    """Keeps what is in testing after the newest run; says whether the office told that of this run, or can't."""
+    kept = state.testing()
+    if kept is not None and kept[0] == newest:
+        return True
+    told = office.testing()
+    if told is None:
+        return True
+    finished = finished_in(told)
+    if finished == newest:
+        state.keep_testing(newest, told)
+    return finished == newest
+
+
+def without_age(excuse: Excuse) -> str:
+    """What an excuse says but for its age, which changes from day to day."""
+    return " ".join([excuse.testing or "-", excuse.unstable, str(excuse.needed),
+                     *(reason.text for reason in excuse.reasons)])
+
+
+def sources_to_ask(newest: Newest, whys: Mapping[str, Why]) -> Sequence[str]:
+    """The sources of the newest run that don't move and weren't asked about behind it.
+
+    First come those whose excuse is another than it was when they were asked about. Of the others the answer may be the
+    same still: those that were asked about longest ago come first. Of each sort those that wait come first, since only
+    the office knows what holds them.
+    """
+    outcomes = outcomes_of(newest.update)
+    ranked = []
+    for excuse in newest.excuses.excuses:
+        outcome = outcomes.get(excuse.source, NOTHING)[-1]
+        why = whys.get(excuse.source)
+        if outcome.what is What.ACCEPT or (why is not None and why.run == newest.number):
+            continue
+        asked = why.run if why is not None and why.excuse == without_age(excuse) else 0
+        ranked.append((asked, outcome.what is not What.WAIT, excuse.source))
+    return [source for _, _, source in sorted(ranked)]
+
+
+def fetch_answers(office: Office, state: State, newest: Newest, seconds: float) -> Collection[str]:
+    """Asks about sources for so many seconds at most, and for the hints that are named, and gives these sources.
+
+    The next call asks about the rest.
+    """
+    excuses = {excuse.source: without_age(excuse) for excuse in newest.excuses.excuses}
+    names: set[str] = set()
+    found: dict[str, Why] = {}
+    before = state.whys()
+    for source, told in office.why(sources_to_ask(newest, before), time.monotonic() + seconds):
+        # If a run was finished meanwhile, what is told is of that one, which the next call fetches.
+        if not told.startswith(f"why {newest.number} "):
+            break
+        last = before.get(source)
+        is_same = last is not None and behind_excuse(source, last.told) == behind_excuse(source, told)
+        since = last.since if last is not None and is_same else newest.number
+        found[source] = Why(newest.number, since, excuses[source], told)
+        names.add(source)
+        if len(found) == AT_ONCE:
+            keep_answers(state, found)
+            found = {}
+    keep_answers(state, found)
+    fetch_hints(office, state)
+    return names
+
+
+def keep_answers(state: State, whys: Mapping[str, Why]) -> None:
+    """Keeps answers, and which hints they name."""
+    if whys:
+        state.keep_whys(whys, {number for why in whys.values() for number in hints_named(why.told.splitlines())})
+
+
+def fetch_hints(office: Office, state: State) -> None:
+    """Asks for the text of each hint that is wanted, once."""
+    found = {number: office.hint(number) or "" for number in state.wanted_hints()}
+    if found:
+        state.keep_hints(found)
+
+
+def hints_named(lines: Iterable[str]) -> Iterable[int]:
+    """The numbers of the hints that the lines of an answer name as messages."""
+    for line in lines:
+        words = line.split(" ")
+        if len(words) > 3 and words[-3] == "by" and words[-1].isdigit() and line.startswith(
+                ("blocked ", "removal asked ", "old enough ")):
+            yield int(words[-1])

@@ -1,0 +1,167 @@
+"""Where reports come from: a service, a store that no office has open, or the files of one run."""
+import re
+import time
+from typing import Iterator, Mapping, Optional, Protocol, Sequence
+
+from office_tools import program, reports
+from office_tools.faults import Fault
+from office_tools.files import read_bytes
+from office_tools.messages import Kind, kind_of, paragraphs
+from office_tools.pages.outcomes import run_of
+from office_tools.service import Service
+
+AT_ONCE = 100  # sources about which the program is asked by one command, which opens the store once
+
+
+class Office(Protocol):
+    """What the pages are made of. Each text is as the office tells it."""
+
+    def runs(self) -> Sequence[reports.Run]:
+        """The finished runs, in order."""
+
+    def excuses(self, run: int) -> str:
+        """The excuses of a run."""
+
+    def update(self, run: int) -> str:
+        """The update of a run."""
+
+    def testing(self) -> Optional[str]:
+        """What is in testing, where it can be had."""
+
+    def why(self, sources: Sequence[str], until: float) -> Iterator[tuple[str, str]]:
+        """Of each source in turn what the last run says of it. None is asked about after that time (`monotonic`)."""
+
+    def hint(self, number: int) -> Optional[str]:
+        """The text of a hint of the release team, where it can be had."""
+
+
+class ServiceOffice:
+    """The office that answers at a URL."""
+
+    def __init__(self, url: str) -> None:
+        self.service = Service(url)
+        self.release: Optional[str] = None
+
+    def runs(self) -> Sequence[reports.Run]:
+        return reports.read_runs(self.service.good_text("/runs"), self.service.url + "/runs")
+
+    def excuses(self, run: int) -> str:
+        return self.service.good_text(f"/excuses/{run}")
+
+    def update(self, run: int) -> str:
+        return self.service.good_text(f"/update/{run}")
+
+    def testing(self) -> Optional[str]:
+        return self.service.good_text("/testing")
+
+    def why(self, sources: Sequence[str], until: float) -> Iterator[tuple[str, str]]:
+        for source in sources:
+            if time.monotonic() >= until:
+                return
+            yield source, self.service.good_text(f"/why/{source}")
+
+    def hint(self, number: int) -> Optional[str]:
+        # No route names the sender of hints, so each sender is asked until one has a hint under the number.
+        for sender in [self.release] if self.release else self.service.kept():
+            text = self.service.kept_text(sender, number)
+            wish = hint_in(text) if text is not None else None
+            if wish is not None:
+                self.release = sender
+                return wish
+        return None
+
+
+def hint_in(text: bytes) -> Optional[str]:
+    """What a message asks for, where it is a hint."""
+    for paragraph in paragraphs(text):
+        return paragraph.value("Hint") if kind_of(paragraph) is Kind.HINT else None
+    return None
+
+
+class StoreOffice:
+    """The office whose store is in a file that no office has open, asked by the program."""
+
+    def __init__(self, setup: str, store: str) -> None:
+        self.options = ["--conf", setup, "--db", store]
+        self.hints: Optional[Mapping[int, str]] = None
+
+    def told(self, *words: str) -> str:
+        """What a command of the program prints."""
+        return program.output([*words, *self.options]).decode()
+
+    def runs(self) -> Sequence[reports.Run]:
+        return reports.read_runs(self.told("runs"))
+
+    def excuses(self, run: int) -> str:
+        return self.told("report", str(run), "excuses")
+
+    def update(self, run: int) -> str:
+        return self.told("report", str(run), "update")
+
+    def testing(self) -> Optional[str]:
+        return self.told("report", "testing")
+
+    def why(self, sources: Sequence[str], until: float) -> Iterator[tuple[str, str]]:
+        for place in range(0, len(sources), AT_ONCE):
+            if time.monotonic() >= until:
+                return
+            # If the run says nothing of one of them, the status is 1: so what is printed counts, and not the status.
+            told = program.run(["why", *sources[place:place + AT_ONCE], *self.options]).stdout.decode()
+            for part in re.split(r"(?m)^(?=why \d+ \S+$)", told):
+                head = part.split("\n", 1)[0].split(" ")
+                if len(head) == 3:
+                    yield head[2], part
+
+    def hint(self, number: int) -> Optional[str]:
+        if self.hints is None:
+            found = re.finditer(r"(?m)^\S+ (\d+) hint (.+)$", self.told("mail", "--list"))
+            self.hints = {int(match[1]): match[2] for match in found}
+        return self.hints.get(number)
+
+
+class FileOffice:
+    """The reports of one run, in files."""
+
+    def __init__(self, excuses: str, update: str, testing: Optional[str]) -> None:
+        self.texts = [text_of(excuses), text_of(update)]
+        self.in_testing = text_of(testing) if testing else None
+        told, done = reports.read_excuses(self.texts[0], excuses), reports.read_update(self.texts[1], update)
+        if (told.run, told.date) != (done.run, done.date):
+            raise Fault(f"the excuses are of run {told.run} of {told.date}, "
+                        f"and the update is of run {done.run} of {done.date}")
+        if self.in_testing is not None:
+            finished = finished_in(self.in_testing)
+            if finished != told.run:
+                raise Fault(f"the excuses are of run {told.run}, and testing is that of run {finished}")
+        self.run = run_of(told, done)
+
+    def runs(self) -> Sequence[reports.Run]:
+        return [self.run]
+
+    def excuses(self, run: int) -> str:
+        return self.texts[0]
+
+    def update(self, run: int) -> str:
+        return self.texts[1]
+
+    def testing(self) -> Optional[str]:
+        return self.in_testing
+
+    def why(self, sources: Sequence[str], until: float) -> Iterator[tuple[str, str]]:
+        return iter(())
+
+    def hint(self, number: int) -> Optional[str]:
+        return None
+
+
+def text_of(path: str) -> str:
+    """The characters of a file."""
+    try:
+        return read_bytes(path).decode()
+    except UnicodeDecodeError as fault:
+        raise Fault(f"{path}: it isn't UTF-8") from fault
+
+
+def finished_in(testing: str) -> int:
+    """After how many runs testing is as a text tells it; the rest of it is read with the pages."""
+    return reports.read_testing(testing[:testing.find("\n") + 1]).finished

@@ -1,0 +1,301 @@
+"""Writes the pages: each is moved into its place whole, and none is written again that didn't change.
+
+All that changed is written into a folder beside, and then moved file by file: so a reader meets the old pages or the
+new ones, and a call that is ended in the middle leaves whole ones.
+"""
+import contextlib
+import dataclasses
+import hashlib
+import os
+import re
+import shutil
+from dataclasses import dataclass
+from typing import Any, Callable, Collection, Iterable, Iterator, Mapping, Optional, Sequence, TypeVar
+
+import jinja2
+
+from office_tools.pages import views
+from office_tools.pages.excuses_json import excuses_json
+from office_tools.pages.fetching import Newest, read_run
+from office_tools.pages.outcomes import counted, reason_words
+from office_tools.pages.sentences import OUTCOME_TITLES, REASON_TITLES
+from office_tools.pages.state import State
+from office_tools.pages.told import Line, shortened
+from office_tools.reports import Outcome, Word
+
+ROWS = 5000  # rows of one page: a list that is longer has several
+NEWEST = 20  # runs on the first page
+OFFENDERS = 15  # packages on the first page
+Of = TypeVar("Of")
+HERE = os.path.dirname(os.path.realpath(__file__))
+
+
+@dataclass(frozen=True)
+class Part:
+    """A part of a list in the view of one of them: its page, what it is called, and whether it is that one."""
+
+    link: str
+    title: str
+    is_here: bool
+
+
+@dataclass(frozen=True)
+class Count:
+    """How many sources are in a list, and its page."""
+
+    link: str
+    title: str
+    number: int
+
+
+@dataclass(frozen=True)
+class Hint:
+    """A hint as the page of a run shows it."""
+
+    title: str
+    text: str
+    outcome: Line
+
+
+@dataclass(frozen=True)
+class Moved:
+    """A source that moved or waits in a run: its version before and behind."""
+
+    name: str
+    before: str
+    version: str
+    word: str
+    told: str
+
+
+class Site:
+    """The folder of the pages."""
+
+    def __init__(self, folder: str, state: State, bugs: str) -> None:
+        self.folder, self.state, self.bugs = folder, state, bugs
+        self.templates = jinja2.Environment(
+            loader=jinja2.FileSystemLoader(os.path.join(HERE, "templates")), autoescape=True, trim_blocks=True,
+            lstrip_blocks=True, auto_reload=False, keep_trailing_newline=True, undefined=jinja2.StrictUndefined)
+        self.look = digest_of([self.bugs, *map(repr, own_files())])
+        self.facts: Optional[views.Facts] = None
+        self.digests = state.digests()
+        self.digests_now: dict[str, str] = {}
+        self.beside = os.path.join(folder, ".new")
+        shutil.rmtree(self.beside, ignore_errors=True)
+        self.written: list[str] = []
+
+    def build(self, newest: Newest) -> None:
+        """Writes all pages that changed, and takes away those that there is no reason for any more."""
+        if self.state.built() == self.look and os.path.exists(os.path.join(self.folder, "index.html")):
+            return
+        facts = self.facts_of(newest)
+        self.digests_now = {}
+        self.write_static()
+        self.write_sources(facts, facts.names)
+        self.write_runs(facts)
+        self.write_testing(facts)
+        self.put("excuses.json", excuses_json(newest.excuses, newest.update, newest.kept.fetched).encode())
+        self.write_lists(facts)
+        self.move_all()
+
+    def build_answers(self, newest: Newest, names: Collection[str]) -> None:
+        """Writes the pages that answers about these sources change, behind `build`."""
+        facts = dataclasses.replace(self.facts_of(newest), whys=self.state.whys(), hints=self.state.hints())
+        self.digests_now = dict(self.digests)
+        self.write_sources(facts, names)
+        self.write_lists(facts)
+        self.move_all()
+
+    def facts_of(self, newest: Newest) -> views.Facts:
+        """All that is kept, read once."""
+        if self.facts is None:
+            self.facts = views.facts_of(self.state, newest, self.bugs)
+        return self.facts
+
+    def put(self, path: str, data: bytes) -> None:
+        """Writes a file beside its place, where it isn't there with these bytes already."""
+        self.digests_now.setdefault(path, "")
+        try:
+            with open(os.path.join(self.folder, path), "rb") as file:
+                if file.read() == data:
+                    return
+        except FileNotFoundError:
+            pass
+        if not self.written:
+            for folder in "source", "run":
+                os.makedirs(os.path.join(self.beside, folder), exist_ok=True)
+                os.makedirs(os.path.join(self.folder, folder), exist_ok=True)
+        with open(os.path.join(self.beside, path), "wb") as file:
+            file.write(data)
+        self.written.append(path)
+
+    def is_there(self, path: str, digest: str) -> bool:
+        """Whether a page is there that is made of what the digest says."""
+        return self.digests.get(path) == digest and os.path.exists(os.path.join(self.folder, path))
+
+    def move_all(self) -> None:
+        """Moves what was written into its place, one file after the other, the first page last, and removes the rest.
+
+        All of it is on the disk before: so no failure of power leaves an empty page, and the file system needn't write
+        each file out at its move.
+        """
+        if self.written:
+            # From here on a later call knows them as pages that it may remove.
+            self.state.keep_digests({path: "" for path in self.written})
+            os.sync()
+        for path in self.written:
+            self.move(path)
+        gone = sorted(set(self.digests) - set(self.digests_now))
+        for path in gone:
+            with contextlib.suppress(FileNotFoundError):
+                os.unlink(os.path.join(self.folder, path))
+        changed = {path for path, digest in self.digests_now.items() if self.digests.get(path) != digest}
+        self.state.keep_digests({path: self.digests_now[path] for path in changed.union(self.written)}, gone)
+        self.state.keep_built(self.look)
+        self.digests, self.written = self.digests_now, []
+        shutil.rmtree(self.beside, ignore_errors=True)
+
+    def move(self, path: str) -> None:
+        """Moves a file that was written into its place."""
+        os.replace(os.path.join(self.beside, path), os.path.join(self.folder, path))
+
+    def page(self, template: str, values: Mapping[str, Any]) -> bytes:
+        """The bytes of a page."""
+        return self.templates.get_template(template).render(values).encode()
+
+    def write_static(self) -> None:
+        """The stylesheet and the script."""
+        for name in "style.css", "pages.js":
+            with open(os.path.join(HERE, "static", name), "rb") as file:
+                self.put(name, file.read())
+
+    def write_sources(self, facts: views.Facts, names: Collection[str]) -> None:
+        """A page of each of these sources."""
+        links = facts.links("")
+        for name in sorted(names):
+            source = views.source_of(facts, name, links)
+            path, digest = f"source/{name}.html", digest_of([self.look, repr(source)])
+            if not self.is_there(path, digest):
+                history = views.history_of(facts, self.state.events(name))
+                self.put(path, self.page("source.html", {"source": source, "history": history, "up": "../"}))
+            self.digests_now[path] = digest
+
+    def write_runs(self, facts: views.Facts) -> None:
+        """A page of each run, and the list of all. That of an earlier run changes once the next one is there."""
+        numbers = [run.number for run in facts.runs]
+        pages: dict[int, list[str]] = {}
+        for path in self.digests:
+            if path.startswith("run/"):
+                pages.setdefault(int(re.split("[/.-]", path)[1]), []).append(path)
+        for place, run in enumerate(facts.runs):
+            after = numbers[place + 1] if place + 1 < len(numbers) else None
+            before = numbers[place - 1] if place else None
+            digest = digest_of([self.look, repr((run, before, after))])
+            path = f"run/{run.number}.html"
+            if self.is_there(path, digest):
+                self.digests_now |= {page: self.digests[page] for page in pages[run.number]}
+                continue
+            read = facts.newest if run == facts.newest.kept.run else read_run(self.state.run(run.number))
+            self.write_run(facts, read, {"before": before, "after": after})
+            self.digests_now[path] = digest
+        self.put("runs.html", self.page("runs.html", {"runs": facts.runs[::-1], "up": ""}))
+
+    def write_run(self, facts: views.Facts, read: Newest, values: Mapping[str, Any]) -> None:
+        """The page of a run; those that are many are on pages behind it."""
+        run = read.kept.run
+        counts = counted(map(reason_words, read.excuses.excuses))
+        values = {**values, "run": run, "hints": hints_of(facts, read), "up": "../",
+                  "counts": [(REASON_TITLES[word], count) for word, count in counts.items()]}
+        for parts, rows in parts_of(str(run.number), moved_in(read), lambda row: row.name):
+            here = next(part for part in parts if part.is_here)
+            self.put(f"run/{here.link}", self.page("run.html", {
+                **values, "rows": rows, "list": parts, "is_first": parts[0].is_here}))
+
+    def write_testing(self, facts: views.Facts) -> None:
+        """What is in testing."""
+        sources = facts.testing.sources if facts.testing else {}
+        rows = [(name, version, facts.binaries.get(name, ())) for name, version in sources.items()]
+        for parts, some in parts_of("testing", rows, lambda row: row[0]):
+            here = next(part for part in parts if part.is_here)
+            self.put(here.link, self.page("testing.html", {
+                "run": facts.newest.kept.run, "rows": some, "list": parts, "number": len(rows), "up": "",
+                "is_known": facts.testing is not None}))
+
+    def write_lists(self, facts: views.Facts) -> None:
+        """The sources that don't move, all of them and by each reason and outcome, and last the first page."""
+        rows = views.rows_of(facts)
+        run = facts.newest.kept.run
+        titles = {**REASON_TITLES, **OUTCOME_TITLES}
+        some = {word: [row for row in rows if word in row.words] for word in titles}
+        counts = [Count("excuses.html", "all", len(rows))]
+        counts += [Count(f"excuses-{word}.html", title, len(some[word])) for word, title in titles.items()]
+        some[""] = list(rows)
+        for word, of_word in some.items():
+            values = {"run": run, "title": f"Sources that don't move: {titles[word]}" if word else
+                      "Sources that don't move", "number": len(of_word), "lists": counts, "up": "",
+                      "here": f"excuses-{word}.html" if word else "excuses.html",
+                      "reasons": REASON_TITLES, "outcomes": OUTCOME_TITLES}
+            for parts, shown in parts_of(f"excuses-{word}" if word else "excuses", of_word, lambda row: row.name):
+                here = next(part for part in parts if part.is_here)
+                self.put(here.link, self.page("excuses.html", {**values, "rows": shown, "list": parts}))
+        self.write_front(facts, len(rows), counts[1:])
+
+    def write_front(self, facts: views.Facts, unmoved: int, counts: Sequence[Count]) -> None:
+        """The first page."""
+        offenders = views.offenders_of(facts, facts.links("source/"))
+        run = facts.newest.kept.run
+        self.put("index.html", self.page("front.html", {
+            "run": run, "unmoved": unmoved, "moved": run.excuses - unmoved, "fetched": facts.newest.kept.fetched,
+            "counts": counts, "offenders": offenders[:OFFENDERS], "more_offenders": len(offenders[OFFENDERS:]),
+            "runs": facts.runs[:-NEWEST - 1:-1], "up": ""}))
+
+
+def parts_of(name: str, rows: Sequence[Of],
+             named: Callable[[Of], str]) -> Iterator[tuple[Sequence[Part], Sequence[Of]]]:
+    """The parts of a list, with the rows of each, of which there is one at least."""
+    cut = [rows[place:place + ROWS] for place in range(0, len(rows), ROWS)] or [rows]
+    titles = [f"{named(some[0])} to {named(some[-1])}" if some else "" for some in cut]
+    links = [f"{name}.html", *(f"{name}-{number}.html" for number in range(2, len(cut) + 1))]
+    for place, some in enumerate(cut):
+        yield [Part(link, title, other == place) for other, (link, title) in enumerate(zip(links, titles))], some
+
+
+def hints_of(facts: views.Facts, read: Newest) -> Sequence[Hint]:
+    """The removals and groups that a run judged, in order."""
+    links = facts.links("../source/")
+    found = []
+    for change in read.update.changes:
+        if change.hint is None:
+            continue
+        outcome = views.change_line(change, links)
+        text = facts.hints.get(change.hint, "") or " ".join(
+            f"{item.source}/{item.version}" for item in change.items)
+        found.append(Hint(f"{change.word.value.capitalize()} hint {change.hint}", shortened(text), outcome))
+    return found
+
+
+def moved_in(read: Newest) -> Sequence[Moved]:
+    """The sources that moved in a run, by name, and behind them those that wait."""
+    before = {excuse.source: excuse.testing or "" for excuse in read.excuses.excuses}
+    found = []
+    for change in read.update.changes:
+        if change.outcome in (Outcome.ACCEPTED, Outcome.WAITS) and change.word is not Word.REMOVE:
+            word = "wait" if change.word is Word.WAIT else "accept"
+            told = views.moved_sentence(change)
+            found += [Moved(item.source, before.get(item.source, ""), item.version, word, told)
+                      for item in change.items]
+    return sorted(found, key=lambda row: (row.word, row.name))
+
+
+def digest_of(parts: Iterable[str]) -> str:
+    """A digest of texts."""
+    return hashlib.blake2b("\0".join(parts).encode(), digest_size=16).hexdigest()
+
+
+def own_files() -> Iterator[bytes]:
+    """What makes the pages: where it changes, each of them is looked at."""
+    for folder in "", "templates", "static":
+        for name in sorted(os.listdir(os.path.join(HERE, folder))):
+            if name.endswith((".py", ".html", ".css", ".js")):
+                with open(os.path.join(HERE, folder, name), "rb") as file:
+                    yield file.read()

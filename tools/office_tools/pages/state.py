@@ -1,0 +1,260 @@
+"""What was fetched of an office and kept for later calls: a database of SQLite in a file.
+
+Each run stands in it with its texts and what it changed of each source, or not at all. All of it can be fetched again,
+so a file of another schema is made anew.
+"""
+import contextlib
+import datetime
+import json
+import sqlite3
+import zlib
+from dataclasses import dataclass
+from typing import Iterable, Iterator, Mapping, Optional, Sequence
+
+from office_tools.faults import Fault
+from office_tools.reports import Run
+
+SCHEMA = 1
+
+TABLES = """
+CREATE TABLE run (number INTEGER PRIMARY KEY, line TEXT NOT NULL, fetched TEXT NOT NULL, excuses BLOB NOT NULL,
+    updated BLOB NOT NULL) STRICT;
+CREATE TABLE event (source TEXT NOT NULL, run INTEGER NOT NULL, testing TEXT NOT NULL, unstable TEXT NOT NULL,
+    reasons TEXT NOT NULL, outcome TEXT NOT NULL, PRIMARY KEY (source, run)) STRICT, WITHOUT ROWID;
+CREATE TABLE last (source TEXT PRIMARY KEY, run INTEGER NOT NULL, testing TEXT NOT NULL, unstable TEXT NOT NULL,
+    reasons TEXT NOT NULL, outcome TEXT NOT NULL) STRICT, WITHOUT ROWID;
+CREATE TABLE testing (run INTEGER PRIMARY KEY, told BLOB NOT NULL) STRICT;
+CREATE TABLE why (source TEXT PRIMARY KEY, run INTEGER NOT NULL, since INTEGER NOT NULL, excuse TEXT NOT NULL,
+    told TEXT NOT NULL) STRICT;
+CREATE TABLE hint (number INTEGER PRIMARY KEY, told TEXT) STRICT;
+CREATE TABLE page (path TEXT PRIMARY KEY, digest TEXT NOT NULL) STRICT;
+CREATE TABLE built (made_by TEXT NOT NULL) STRICT;
+"""
+
+
+@dataclass(frozen=True)
+class Event:
+    """From which run on a source stands as told: its versions, its reasons, and what the run did with it as JSON.
+
+    A version or the reasons may be empty: a source without an excuse has none.
+    """
+
+    run: int
+    testing: str
+    unstable: str
+    reasons: str
+    outcome: str
+
+    @property
+    def standing(self) -> tuple[str, ...]:
+        """All but the run: a source has another event only where this differs."""
+        return (self.testing, self.unstable, self.reasons, self.outcome)
+
+
+@dataclass(frozen=True)
+class KeptRun:
+    """A run as it was fetched, with the time at which it was."""
+
+    run: Run
+    fetched: str
+    excuses: str
+    update: str
+
+
+@dataclass(frozen=True)
+class Why:
+    """What the office answered about a source, and what its excuse was then but for the age.
+
+    `run` is the last one behind which it was asked, and `since` the first one from which on it always told the same.
+    """
+
+    run: int
+    since: int
+    excuse: str
+    told: str
+
+
+class State:
+    """The database, open for one caller."""
+
+    def __init__(self, path: str) -> None:
+        self.path = path
+        with self.faults():
+            self.database = sqlite3.connect(path, isolation_level=None)
+            self.database.execute("PRAGMA journal_mode = WAL")
+            if self.database.execute("PRAGMA user_version").fetchone() != (SCHEMA,):
+                self.make()
+
+    def make(self) -> None:
+        """Makes the tables, in the place of all that are there."""
+        with self.transaction():
+            for name, in self.database.execute("SELECT name FROM sqlite_schema WHERE type = 'table'").fetchall():
+                self.database.execute(f'DROP TABLE "{name}"')
+            for statement in TABLES.split(";"):
+                self.database.execute(statement)
+            self.database.execute(f"PRAGMA user_version = {SCHEMA}")
+
+    @contextlib.contextmanager
+    def faults(self) -> Iterator[None]:
+        """Within it a fault of SQLite is told with the file's name."""
+        try:
+            yield
+        except sqlite3.Error as fault:
+            raise Fault(f"{self.path}: {fault}") from fault
+
+    @contextlib.contextmanager
+    def transaction(self) -> Iterator[None]:
+        """What is done within it stands whole, or not at all."""
+        with self.faults():
+            self.database.execute("BEGIN IMMEDIATE")
+            try:
+                yield
+                self.database.execute("COMMIT")
+            except BaseException:
+                self.database.execute("ROLLBACK")
+                raise
+
+    def close(self) -> None:
+        """Closes the database."""
+        with self.faults():
+            self.database.close()
+
+    def runs(self) -> Sequence[Run]:
+        """The lines of the kept runs, in order."""
+        with self.faults():
+            return [run_in(line) for line, in self.database.execute("SELECT line FROM run ORDER BY number")]
+
+    def run(self, number: int) -> KeptRun:
+        """A kept run."""
+        with self.faults():
+            found = self.database.execute(
+                "SELECT line, fetched, excuses, updated FROM run WHERE number = ?", (number,)).fetchone()
+        return KeptRun(run_in(found[0]), found[1], unpacked(found[2]), unpacked(found[3]))
+
+    def drop_from(self, number: int) -> None:
+        """Drops all runs from this one on, and what was asked behind them."""
+        with self.transaction():
+            self.database.execute("DELETE FROM run WHERE number >= ?", (number,))
+            for table in "event", "last", "testing", "why":
+                self.database.execute(f"DELETE FROM {table} WHERE run >= ?", (number,))
+            # Of the columns beside max(run) SQLite gives those of the row that has it.
+            self.database.execute("INSERT OR IGNORE INTO last SELECT source, max(run), testing, unstable, reasons, "
+                                  "outcome FROM event GROUP BY source")
+            self.database.execute("UPDATE page SET digest = ''")
+            self.database.execute("DELETE FROM hint")
+            self.database.execute("DELETE FROM built")
+
+    def add(self, kept: KeptRun, events: Mapping[str, Event], hints: Iterable[int]) -> None:
+        """Keeps a run, an event of each source that it changed, and that the texts of these hints are wanted."""
+        with self.transaction():
+            self.database.execute("INSERT INTO run VALUES (?, ?, ?, ?, ?)", (
+                kept.run.number, line_of(kept.run), kept.fetched, packed(kept.excuses), packed(kept.update)))
+            rows = [(source, event.run, *event.standing) for source, event in events.items()]
+            self.database.executemany("INSERT INTO event VALUES (?, ?, ?, ?, ?, ?)", rows)
+            self.database.executemany("INSERT OR REPLACE INTO last VALUES (?, ?, ?, ?, ?, ?)", rows)
+            self.want_hints(hints)
+            self.database.execute("DELETE FROM built")
+
+    def last_events(self) -> Mapping[str, Event]:
+        """The last event of each source."""
+        with self.faults():
+            return {source: Event(*parts) for source, *parts in self.database.execute("SELECT * FROM last")}
+
+    def events(self, source: str) -> Sequence[Event]:
+        """The events of a source, the last one first."""
+        with self.faults():
+            found = self.database.execute("SELECT run, testing, unstable, reasons, outcome FROM event "
+                                          "WHERE source = ? ORDER BY run DESC", (source,))
+            return [Event(*parts) for parts in found]
+
+    def testing(self) -> Optional[tuple[int, str]]:
+        """What is in testing after a run, with the run's number."""
+        with self.faults():
+            found = self.database.execute("SELECT run, told FROM testing").fetchone()
+        return (found[0], unpacked(found[1])) if found else None
+
+    def keep_testing(self, run: int, told: str) -> None:
+        """Keeps what is in testing after a run, in the place of what was kept."""
+        with self.transaction():
+            self.database.execute("DELETE FROM testing")
+            self.database.execute("INSERT INTO testing VALUES (?, ?)", (run, packed(told)))
+            self.database.execute("DELETE FROM built")
+
+    def whys(self) -> Mapping[str, Why]:
+        """What was answered about sources."""
+        with self.faults():
+            return {source: Why(*parts) for source, *parts in self.database.execute("SELECT * FROM why")}
+
+    def keep_whys(self, whys: Mapping[str, Why], hints: Iterable[int]) -> None:
+        """Keeps answers about sources, each in the place of an earlier one, and which hints they name."""
+        with self.transaction():
+            self.database.executemany("INSERT OR REPLACE INTO why VALUES (?, ?, ?, ?, ?)", (
+                (source, why.run, why.since, why.excuse, why.told) for source, why in whys.items()))
+            self.want_hints(hints)
+            self.database.execute("DELETE FROM built")
+
+    def want_hints(self, numbers: Iterable[int]) -> None:
+        """Keeps within a transaction that the texts of these hints are wanted."""
+        self.database.executemany("INSERT OR IGNORE INTO hint VALUES (?, NULL)", ((number,) for number in numbers))
+
+    def wanted_hints(self) -> Sequence[int]:
+        """The hints whose texts weren't asked for yet."""
+        with self.faults():
+            found = self.database.execute("SELECT number FROM hint WHERE told IS NULL ORDER BY number").fetchall()
+        return [number for number, in found]
+
+    def hints(self) -> Mapping[int, str]:
+        """The texts of hints by their numbers; an empty one couldn't be had."""
+        with self.faults():
+            return dict(self.database.execute("SELECT number, told FROM hint WHERE told IS NOT NULL").fetchall())
+
+    def keep_hints(self, hints: Mapping[int, str]) -> None:
+        """Keeps texts of hints."""
+        with self.transaction():
+            self.database.executemany("INSERT OR REPLACE INTO hint VALUES (?, ?)", hints.items())
+            self.database.execute("DELETE FROM built")
+
+    def digests(self) -> Mapping[str, str]:
+        """Of each page that was written a digest of what it was made of."""
+        with self.faults():
+            return dict(self.database.execute("SELECT path, digest FROM page").fetchall())
+
+    def keep_digests(self, digests: Mapping[str, str], gone: Sequence[str] = ()) -> None:
+        """Keeps digests of pages that were written, and forgets those of pages that are gone."""
+        with self.transaction():
+            self.database.executemany("INSERT OR REPLACE INTO page VALUES (?, ?)", digests.items())
+            self.database.executemany("DELETE FROM page WHERE path = ?", ((path,) for path in gone))
+
+    def built(self) -> Optional[str]:
+        """What made the pages, if all of them were made since anything was kept."""
+        with self.faults():
+            found = self.database.execute("SELECT made_by FROM built").fetchone()
+        return found[0] if found else None
+
+    def keep_built(self, made_by: str) -> None:
+        """All pages are made of what is kept."""
+        with self.transaction():
+            self.database.execute("DELETE FROM built")
+            self.database.execute("INSERT INTO built VALUES (?)", (made_by,))
+
+
+def packed(text: str) -> bytes:
+    """A text, compressed: by the fastest level, since testing is packed at each run."""
+    return zlib.compress(text.encode(), 1)
+
+
+def unpacked(data: bytes) -> str:
+    """A text that was compressed."""
+    return zlib.decompress(data).decode()
+
+
+def line_of(run: Run) -> str:
+    """The line of a run as it is kept."""
+    return json.dumps([value.isoformat() if isinstance(value, datetime.date) else value
+                       for value in vars(run).values()])
+
+
+def run_in(line: str) -> Run:
+    """The line of a run that was kept."""
+    number, date, *counts = json.loads(line)
+    return Run(number, datetime.date.fromisoformat(date), *counts)

@@ -1,0 +1,267 @@
+"""What the pages show, made of what is kept: the templates print these records and decide nothing."""
+import collections
+import datetime
+import functools
+from dataclasses import dataclass
+from typing import Mapping, Optional, Sequence
+
+from office_tools import reports
+from office_tools.pages.fetching import without_age, hints_named, Newest
+from office_tools.pages.outcomes import NOTHING, outcome_in, outcomes_of, reason_words, SourceOutcome, What
+from office_tools.pages.sentences import breaks, old_enough, outcome_sentence, reason_sentence
+from office_tools.pages.state import Event, State, Why
+from office_tools.pages.told import Line, linked, lines_of, Links, Piece, shortened
+from office_tools.reports import Excuse, Reason, ReasonKind
+
+HINT_LINES: Mapping[ReasonKind, str] = {
+    ReasonKind.TOO_YOUNG: "old enough ", ReasonKind.BLOCKED: "blocked ", ReasonKind.REMOVAL: "removal asked "}
+"""What the lines begin with that name the hints behind a reason."""
+
+
+@dataclass(frozen=True)
+class Standing:
+    """From which run on a source stood so: its versions, what kept it out, what the run did, and whether it moved."""
+
+    run: int
+    date: str
+    testing: str
+    unstable: str
+    told: str
+    has_moved: bool
+
+
+@dataclass(frozen=True)
+class Source:
+    """What the page of a source shows.
+
+    `unstable` and `age` are empty where it has no excuse, or moved in the newest run. `told` is what keeps it out, and
+    what the newest run did with it if that was no move. `lines` are what the office answered about it, the
+    same since run `since`. `last` is its last event. What is told here stays the same from run to run as long as the
+    source stands the same.
+    """
+
+    name: str
+    testing: str
+    unstable: str
+    age: str
+    told: Sequence[Line]
+    lines: Sequence[Line]
+    since: Optional[int]
+    proposal: Sequence[str]
+    binaries: Sequence[str]
+    last: Optional[Event]
+
+
+@dataclass(frozen=True)
+class Row:
+    """A source in a list of those that don't move. `words` are its reasons and its outcome, by which a list is cut."""
+
+    name: str
+    testing: str
+    unstable: str
+    age: int
+    needed: int
+    day: str
+    words: Sequence[str]
+    told: Sequence[Line]
+
+
+@dataclass(frozen=True)
+class Facts:
+    """All that is kept, read, and what is counted of it once."""
+
+    newest: Newest
+    runs: Sequence[reports.Run]
+    testing: Optional[reports.Testing]
+    last: Mapping[str, Event]
+    whys: Mapping[str, Why]
+    hints: Mapping[int, str]
+    bugs: str
+    outcomes: Mapping[str, Sequence[SourceOutcome]]
+    excuses: Mapping[str, Excuse]
+    binaries: Mapping[str, Sequence[str]]
+    packages: Mapping[str, str]
+
+    @property
+    def date(self) -> datetime.date:
+        """The day of the newest run."""
+        return self.newest.excuses.date
+
+    @functools.cached_property
+    def names(self) -> frozenset[str]:
+        """The sources that have a page."""
+        in_testing = self.testing.sources if self.testing else ()
+        return frozenset([*in_testing, *self.excuses, *self.last, *self.outcomes])
+
+    @functools.cached_property
+    def dates(self) -> Mapping[int, str]:
+        """The day of each run."""
+        return {run.number: run.date.isoformat() for run in self.runs}
+
+    def links(self, folder: str) -> Links:
+        """Where names lead. `folder` is the way to the folder of the sources' pages, with a slash at its end."""
+        return Links(lambda name: f"{folder}{name}.html" if name in self.names else "",
+                     lambda name: f"{folder}{self.packages[name]}.html" if name in self.packages else "",
+                     lambda number: self.bugs.replace("%s", number), self.hints)
+
+
+def facts_of(state: State, newest: Newest, bugs: str) -> Facts:
+    """All that is kept, read."""
+    kept = state.testing()
+    testing = reports.read_testing(kept[1]) if kept is not None and kept[0] == newest.number else None
+    rows = testing.rows if testing else ()
+    return Facts(newest, state.runs(), testing, state.last_events(), state.whys(), state.hints(), bugs,
+                 outcomes_of(newest.update), {excuse.source: excuse for excuse in newest.excuses.excuses},
+                 binaries_of(rows), {row.package: row.source for row in rows})
+
+
+def binaries_of(rows: Sequence[reports.Row]) -> Mapping[str, Sequence[str]]:
+    """The binary packages of each source: each package and version once, with its architectures."""
+    found: dict[str, dict[tuple[str, str], list[str]]] = {}
+    for row in rows:
+        found.setdefault(row.source, {}).setdefault((row.package, row.version), []).append(row.architecture)
+    return {source: [f"{package} {version} ({', '.join(archs)})" for (package, version), archs in sorted(of.items())]
+            for source, of in found.items()}
+
+
+def why_of(facts: Facts, excuse: Excuse) -> Optional[Why]:
+    """What the office answered about a source, if its excuse is the same but for the age."""
+    why = facts.whys.get(excuse.source)
+    return why if why is not None and why.excuse == without_age(excuse) else None
+
+
+def reason_lines(facts: Facts, excuse: Excuse, links: Links) -> Sequence[Line]:
+    """A sentence for each reason, with the bug as a link, and with the hints behind it where they are known."""
+    why = why_of(facts, excuse)
+    lines = why.told.splitlines() if why else []
+    return tuple(Line((*reason_pieces(reason, excuse, facts.date, links), *hint_pieces(reason, lines, facts.hints)))
+                 for reason in excuse.reasons)
+
+
+def reason_pieces(reason: Reason, excuse: Excuse, date: datetime.date, links: Links) -> Sequence[Piece]:
+    """The sentence of a reason. That of the age has its day, which stays from run to run."""
+    if reason.kind is ReasonKind.TOO_YOUNG:
+        return (Piece(f"Too young: old enough on {old_enough(excuse, date)}"),)
+    sentence = reason_sentence(reason, excuse)
+    if reason.bug is None:
+        return (Piece(sentence),)
+    number = str(reason.bug)
+    return (Piece(sentence.removesuffix(number)), Piece("#" + number, links.bug(number)))
+
+
+def hint_pieces(reason: Reason, lines: Sequence[str], hints: Mapping[int, str]) -> Sequence[Piece]:
+    """The hints behind a reason, by number and text."""
+    beginning = HINT_LINES.get(reason.kind)
+    if beginning is None:
+        return ()
+    numbers = hints_named(line for line in lines if line.startswith(beginning))
+    return tuple(Piece(f" (hint {number}{': ' + shortened(hints[number], 120) if hints.get(number) else ''})")
+                 for number in numbers)
+
+
+def told_of(facts: Facts, excuse: Optional[Excuse], outcomes: Sequence[SourceOutcome], links: Links) -> Sequence[Line]:
+    """What keeps a source out, and what the newest run did with it."""
+    return (*(reason_lines(facts, excuse, links) if excuse else ()),
+            *(outcome_line(outcome, links) for outcome in outcomes if outcome.what is not What.NONE))
+
+
+def row_of(facts: Facts, excuse: Excuse, links: Links) -> Row:
+    """A source as it stands in a list of those that don't move."""
+    outcomes = facts.outcomes.get(excuse.source, NOTHING)
+    words = (*reason_words(excuse), outcomes[-1].what.value)
+    return Row(excuse.source, excuse.testing or "", excuse.unstable, excuse.age, excuse.needed,
+               old_enough(excuse, facts.date).isoformat(), words, told_of(facts, excuse, outcomes, links))
+
+
+def outcome_line(outcome: SourceOutcome, links: Links) -> Line:
+    """What a run did with a source, with the package that would break as a link, and with the text of the hint."""
+    names = {outcome.offender.package} if outcome.offender else set()
+    pieces = linked(outcome_sentence(outcome), names, links.package)
+    wish = links.hints.get(outcome.hint, "") if outcome.hint is not None else ""
+    if wish:
+        pieces.append(Piece(f" ({shortened(wish, 120)})"))
+    return Line(tuple(pieces))
+
+
+def change_line(change: reports.Change, links: Links) -> Line:
+    """What a run did by a hint."""
+    if change.outcome is reports.Outcome.ACCEPTED:
+        return Line((Piece("accepted"),))
+    if change.offender is not None:
+        return Line(tuple(linked("refused: it " + breaks(change.offender), {change.offender.package}, links.package)))
+    item = change.items[0]
+    return Line(tuple(linked(f"refused: {item.source} {item.version} isn't a candidate", {item.source}, links.source)))
+
+
+def moved_sentence(change: reports.Change) -> str:
+    """How a source moved, or why it waits."""
+    if change.offender is not None:
+        return "waits: its move " + breaks(change.offender)
+    return "moved alone" if change.hint is None else f"moved in the group of easy hint {change.hint}"
+
+
+def rows_of(facts: Facts) -> Sequence[Row]:
+    """The sources of the newest run that don't move, by name."""
+    links = facts.links("source/")
+    return [row_of(facts, excuse, links) for excuse in facts.newest.excuses.excuses
+            if facts.outcomes.get(excuse.source, NOTHING)[-1].what is not What.ACCEPT]
+
+
+def source_of(facts: Facts, name: str, links: Links) -> Source:
+    """What the page of a source shows."""
+    outcomes = facts.outcomes.get(name, NOTHING)
+    has_moved = outcomes[-1].what is What.ACCEPT
+    excuse = None if has_moved else facts.excuses.get(name)
+    why = why_of(facts, excuse) if excuse else None
+    return Source(
+        name, testing_version(facts, name), excuse.unstable if excuse else "",
+        age_sentence(excuse, facts.date) if excuse else "",
+        () if has_moved else told_of(facts, excuse, outcomes, links),
+        lines_of(name, why.told, links) if why else (),
+        why.since if why else None,
+        proposal_lines(name), facts.binaries.get(name, ()), facts.last.get(name))
+
+
+def testing_version(facts: Facts, name: str) -> str:
+    """The version in testing, where it is known."""
+    if facts.testing is not None:
+        return facts.testing.sources.get(name, "")
+    excuse = facts.excuses.get(name)
+    return excuse.testing or "" if excuse else ""
+
+
+def age_sentence(excuse: Excuse, date: datetime.date) -> str:
+    """How old a source has to be, by its day, which stays from run to run."""
+    is_old = excuse.age >= excuse.needed
+    return f"needs {excuse.needed} days: old enough {'since' if is_old else 'on'} {old_enough(excuse, date)}"
+
+
+def history_of(facts: Facts, events: Sequence[Event]) -> Sequence[Standing]:
+    """How a source stood from run to run, the newest first."""
+    return [Standing(event.run, facts.dates.get(event.run, ""), event.testing, event.unstable, event_sentence(event),
+                     outcome_in(event.outcome).what is What.ACCEPT) for event in events]
+
+
+def event_sentence(event: Event) -> str:
+    """What kept a source out, or what a run did with it."""
+    outcome = outcome_sentence(outcome_in(event.outcome))
+    return "; ".join(filter(None, [event.reasons, outcome])) or "No excuse any more"
+
+
+def proposal_lines(name: str) -> Sequence[str]:
+    """What the office proposes for a source that doesn't move: hints that free it, or blocks that show that none does.
+
+    No office has a command that tells it, so there are none. A command `office propose` will print them, hints first
+    and behind them a block for each source that no group frees: ask for its text where `/why` is asked for, keep it
+    beside that answer, and cut it into the lines of this source here. The template shows them under a heading.
+    """
+    return ()
+
+
+def offenders_of(facts: Facts, links: Links) -> Sequence[tuple[int, Piece, str]]:
+    """The packages that sources wait for, those with the most sources first: how many, the package, and where."""
+    counts = collections.Counter(outcomes[-1].offender for outcomes in facts.outcomes.values()
+                                 if outcomes[-1].what is What.WAIT)
+    ranked = sorted(counts.items(), key=lambda item: (-item[1], str(item[0])))
+    return [(count, Piece(offender.package, links.package(offender.package)), offender.architecture)
+            for offender, count in ranked if offender is not None]

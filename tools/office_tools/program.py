@@ -1,0 +1,53 @@
+"""The program `office` itself: its commands are run, and asked for each verdict."""
+import os
+import subprocess
+from typing import Sequence
+
+from office_tools import bags, reports
+from office_tools.faults import Fault, cause_of
+
+UNANSWERED = 4  # status of a command whose office didn't answer
+SECONDS = 3600
+
+
+def name() -> str:
+    """The program's name: `office`, or what the environment's OFFICE states."""
+    return os.environ.get("OFFICE") or "office"
+
+
+def run(words: Sequence[str], given: bytes = b"") -> subprocess.CompletedProcess[bytes]:
+    """Runs the program with these words; a `Fault` says that it isn't there or has no end."""
+    try:
+        return subprocess.run([name(), *words], input=given, capture_output=True, timeout=SECONDS, check=False)
+    except (OSError, subprocess.TimeoutExpired) as fault:
+        raise Fault(f"{name()}: {cause_of(fault)}", UNANSWERED) from fault
+
+
+def output(words: Sequence[str], given: bytes = b"") -> bytes:
+    """What a command prints that ends with status 0; else its last sentence is the `Fault`."""
+    ran = run(words, given)
+    if ran.returncode:
+        told = ran.stderr.decode(errors="backslashreplace").strip().split("\n")[-1]
+        raise Fault(told or f"{name()} {words[0]}: status {ran.returncode}", UNANSWERED)
+    return ran.stdout
+
+
+def replies(setup: str, texts: Sequence[bytes]) -> Sequence[str]:
+    """What an office in memory answers to these messages, one after the other: `held ..` or `refused ..`."""
+    told = output(["replay", "--conf", setup], b"".join(map(bags.framed, texts)))
+    found = told.decode(errors="backslashreplace").split("\n")[:len(texts)]
+    for reply in found:
+        if not reply.startswith(("held ", "refused ")) or reply in ("refused NoMemory", "refused Store"):
+            raise Fault(f"{name()} replay: {reply}", UNANSWERED)
+    return found
+
+
+def exported(setup: str, store: str) -> Sequence[bytes]:
+    """All messages that a store keeps, which no office has open."""
+    return list(bags.messages_in(output(["export", "--conf", setup, "--db", store])))
+
+
+def testing(setup: str, store: str) -> reports.Testing:
+    """What is in testing in such a store."""
+    told = output(["report", "testing", "--conf", setup, "--db", store])
+    return reports.read_testing(told.decode(), f"{name()} report testing")

@@ -1,0 +1,319 @@
+"""The reports of the office's runs, read: excuses, updates, testing, and the list of runs.
+
+Each reader takes the text of a report and the name that its faults begin with, such as a file's or a URL.
+"""
+import datetime
+import enum
+import re
+from dataclasses import dataclass
+from typing import Mapping, Optional, Sequence
+
+from office_tools.faults import Fault
+
+NAME = r"[a-z0-9][a-z0-9+.-]+"
+HEAD = r"%s (\d+) (\d{4}-\d{2}-\d{2})"
+
+
+class ReasonKind(enum.Enum):
+    """Why a source is no candidate, by the words that its line begins with."""
+
+    TOO_YOUNG = "too young"
+    NEW_BUG = "new bug"
+    NO_BINARIES = "no binaries"
+    MISSING = "missing on"
+    BLOCKED = "blocked"
+    REMOVAL = "removal asked"
+
+
+@dataclass(frozen=True)
+class Reason:
+    """A reason of an excuse: as it is written, and the bug or the architecture that it names."""
+
+    text: str
+    kind: ReasonKind
+    bug: Optional[int] = None
+    architecture: Optional[str] = None
+
+
+@dataclass(frozen=True)
+class Excuse:
+    """A source that is newer in unstable: its versions, its age and the days needed, and what keeps it out."""
+
+    source: str
+    testing: Optional[str]
+    unstable: str
+    age: int
+    needed: int
+    reasons: Sequence[Reason]
+
+    @property
+    def is_candidate(self) -> bool:
+        """Whether the run may move it: nothing keeps it out."""
+        return not self.reasons
+
+
+@dataclass(frozen=True)
+class Excuses:
+    """The excuses of a run, by their sources' names."""
+
+    run: int
+    date: datetime.date
+    excuses: Sequence[Excuse]
+
+
+class Word(enum.Enum):
+    """What a line of an update begins with."""
+
+    ACCEPT = "accept"
+    WAIT = "wait"
+    REMOVE = "remove"
+    EASY = "easy"
+
+
+class Outcome(enum.Enum):
+    """What a run did with the sources of a line."""
+
+    ACCEPTED = "accepted"
+    WAITS = "waits"
+    UNINSTALLABLE = "refused: it would leave a package uninstallable"
+    NO_CANDIDATE = "refused: a source is no candidate at that version"
+
+
+@dataclass(frozen=True)
+class Item:
+    """A source and a version of it."""
+
+    source: str
+    version: str
+
+
+@dataclass(frozen=True)
+class Offender:
+    """The package that a change would leave uninstallable, and the architecture."""
+
+    architecture: str
+    package: str
+
+
+@dataclass(frozen=True)
+class Change:
+    """A line of an update.
+
+    `hint` is the number of the hint of a removal or a group. `items` are the sources that the line names: none where
+    a group is refused since it would leave the `offender` uninstallable.
+    """
+
+    line: str
+    word: Word
+    outcome: Outcome
+    items: Sequence[Item]
+    hint: Optional[int] = None
+    offender: Optional[Offender] = None
+
+
+@dataclass(frozen=True)
+class Update:
+    """What a run did, in the order of its decisions."""
+
+    run: int
+    date: datetime.date
+    changes: Sequence[Change]
+
+
+@dataclass(frozen=True)
+class Row:
+    """A binary package in testing, and its source."""
+
+    architecture: str
+    package: str
+    version: str
+    source: str
+
+
+@dataclass(frozen=True)
+class Testing:
+    """What is in testing after this many runs: each source's version, and the binary packages."""
+
+    finished: int
+    sources: Mapping[str, str]
+    rows: Sequence[Row]
+
+
+@dataclass(frozen=True)
+class Run:
+    """A finished run: its date, and how many lines of each sort its reports have."""
+
+    number: int
+    date: datetime.date
+    excuses: int
+    candidates: int
+    accepted: int
+    groups: int
+    removed: int
+    waiting: int
+
+
+REASON_FORMS: Sequence[tuple[re.Pattern[str], ReasonKind]] = (
+    (re.compile("too young"), ReasonKind.TOO_YOUNG),
+    (re.compile(r"new bug (?P<bug>\d+)"), ReasonKind.NEW_BUG),
+    (re.compile("no binaries"), ReasonKind.NO_BINARIES),
+    (re.compile(r"missing on (?P<architecture>\S+)"), ReasonKind.MISSING),
+    (re.compile("blocked"), ReasonKind.BLOCKED),
+    (re.compile("removal asked"), ReasonKind.REMOVAL))
+
+ITEMS = r"(?P<items>\S+ \S+(?: \S+ \S+)*)"
+LEFT = r"uninstallable (?P<architecture>\S+) (?P<package>\S+)"
+
+CHANGE_FORMS: Sequence[tuple[re.Pattern[str], Word, Outcome]] = (
+    (re.compile(r"accept (?P<items>\S+ \S+)"), Word.ACCEPT, Outcome.ACCEPTED),
+    (re.compile(r"wait (?P<items>\S+ \S+) " + LEFT), Word.WAIT, Outcome.WAITS),
+    (re.compile(r"remove (?P<hint>\d+) accept (?P<items>\S+ \S+)"), Word.REMOVE, Outcome.ACCEPTED),
+    (re.compile(r"remove (?P<hint>\d+) refuse (?P<items>\S+ \S+) " + LEFT), Word.REMOVE, Outcome.UNINSTALLABLE),
+    (re.compile(r"easy (?P<hint>\d+) accept " + ITEMS), Word.EASY, Outcome.ACCEPTED),
+    (re.compile(r"easy (?P<hint>\d+) refuse (?P<item>[^ /]+/\S+) not a candidate"), Word.EASY, Outcome.NO_CANDIDATE),
+    (re.compile(r"easy (?P<hint>\d+) refuse " + LEFT), Word.EASY, Outcome.UNINSTALLABLE))
+
+RUN_FORM = (r"run (\d+) (\d{4}-\d{2}-\d{2}) excuses (\d+) candidates (\d+) accept (\d+) easy (\d+) remove (\d+) "
+            r"wait (\d+)")
+
+
+class Lines:
+    """The lines of a report, read from the first to the last."""
+
+    def __init__(self, text: str, name: str) -> None:
+        if text and not text.endswith("\n"):
+            raise Fault(f"{name}: its last line has no end")
+        self.name = name
+        self.lines = text.split("\n")[:-1]
+        self.place = 0
+
+    def next_is(self, form: str) -> Optional[re.Match[str]]:
+        """The match of the next line, which is then read, where it is of this form."""
+        found = re.fullmatch(form, self.lines[self.place]) if self.is_left() else None
+        if found is not None:
+            self.place += 1
+        return found
+
+    def need(self, form: str, what: str) -> re.Match[str]:
+        """The same, where any other line is a fault."""
+        found = self.next_is(form)
+        if found is None:
+            raise self.fault(f"{what} is due here")
+        return found
+
+    def fault(self, cause: str) -> Fault:
+        """A fault at the next line."""
+        return Fault(f"{self.name}:{self.place + 1}: {cause}")
+
+    def is_left(self) -> bool:
+        """Whether there is a next line."""
+        return self.place < len(self.lines)
+
+    def day(self, text: str) -> datetime.date:
+        """The day that the last line states."""
+        try:
+            return datetime.date.fromisoformat(text)
+        except ValueError as fault:
+            raise Fault(f"{self.name}:{self.place}: {text} is no day") from fault
+
+
+def read_excuses(text: str, name: str = "excuses") -> Excuses:
+    """The excuses of a run."""
+    lines = Lines(text, name)
+    run, day = lines.need(HEAD % "excuses", "the line `excuses K DATE`").groups()
+    date = lines.day(day)
+    excuses = []
+    while lines.is_left():
+        excuses.append(read_excuse(lines))
+    return Excuses(int(run), date, excuses)
+
+
+def read_excuse(lines: Lines) -> Excuse:
+    """The next excuse."""
+    source, testing, unstable = lines.need(rf"({NAME}) (\S+) (\S+)", "a source with two versions").groups()
+    age, needed = lines.need(r" age (\d+) of (\d+)", "its age").groups()
+    reasons: list[Reason] = []
+    while True:
+        end = lines.next_is(" (not a )?candidate")
+        if end is not None:
+            break
+        reasons.append(read_reason(lines))
+    if bool(reasons) != bool(end[1]):
+        lines.place -= 1
+        raise lines.fault("a source is a candidate where it has no reason, and there alone")
+    return Excuse(source, None if testing == "-" else testing, unstable, int(age), int(needed), tuple(reasons))
+
+
+def read_reason(lines: Lines) -> Reason:
+    """The next reason of an excuse."""
+    text = lines.need(r" (\S.*)", "a reason, or whether it is a candidate")[1]
+    for form, kind in REASON_FORMS:
+        found = form.fullmatch(text)
+        if found:
+            part = found.groupdict()
+            return Reason(text, kind, int(part["bug"]) if "bug" in part else None, part.get("architecture"))
+    lines.place -= 1
+    raise lines.fault("the office has no such reason")
+
+
+def read_update(text: str, name: str = "update") -> Update:
+    """The update of a run."""
+    lines = Lines(text, name)
+    run, day = lines.need(HEAD % "update", "the line `update K DATE`").groups()
+    date = lines.day(day)
+    changes = []
+    while lines.is_left():
+        changes.append(read_change(lines))
+    return Update(int(run), date, changes)
+
+
+def read_change(lines: Lines) -> Change:
+    """The next line of an update."""
+    line = lines.lines[lines.place]
+    for form, word, outcome in CHANGE_FORMS:
+        found = form.fullmatch(line)
+        if found:
+            lines.place += 1
+            part = found.groupdict()
+            offender = Offender(part["architecture"], part["package"]) if "package" in part else None
+            return Change(line, word, outcome, items_of(part), int(part["hint"]) if "hint" in part else None, offender)
+    raise lines.fault("the office has no such line in an update")
+
+
+def items_of(part: Mapping[str, str]) -> Sequence[Item]:
+    """The sources with versions that a line of an update names."""
+    if "item" in part:
+        source, _, version = part["item"].partition("/")
+        return (Item(source, version),)
+    words = part["items"].split(" ") if "items" in part else []
+    return tuple(Item(source, version) for source, version in zip(words[::2], words[1::2]))
+
+
+def read_testing(text: str, name: str = "testing") -> Testing:
+    """What is in testing."""
+    lines = Lines(text, name)
+    finished = int(lines.need(r"testing (\d+)", "the line `testing F`")[1])
+    sources: dict[str, str] = {}
+    while True:
+        found = lines.next_is(rf"source ({NAME}) (\S+)")
+        if found is None:
+            break
+        sources[found[1]] = found[2]
+    rows = []
+    while lines.is_left():
+        row = Row(*lines.need(r"binary (\S+) (\S+) (\S+) (\S+)", "a source or a binary").groups())
+        if row.source not in sources:
+            lines.place -= 1
+            raise lines.fault(f"the source {row.source} isn't in testing")
+        rows.append(row)
+    return Testing(finished, sources, rows)
+
+
+def read_runs(text: str, name: str = "runs") -> Sequence[Run]:
+    """The finished runs, as `office runs` and `GET /runs` tell them."""
+    lines = Lines(text, name)
+    runs = []
+    while lines.is_left():
+        number, day, *counts = lines.need(RUN_FORM, "the line of a run").groups()
+        runs.append(Run(int(number), lines.day(day), *map(int, counts)))
+    return runs

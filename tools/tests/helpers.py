@@ -1,0 +1,63 @@
+"""What the tests share. It puts the package into the path, so each test imports it first.
+
+The environment's OFFICE names the built program. What needs it is skipped where it isn't named.
+"""
+import os
+import re
+import socket
+import subprocess
+import sys
+import unittest
+from typing import Optional, Sequence
+
+TOOLS = os.path.dirname(os.path.dirname(os.path.realpath(__file__)))
+TOP = os.path.dirname(TOOLS)
+EXAMPLES = os.path.join(TOP, "examples")
+SETUP = os.path.join(EXAMPLES, "setup.conf")
+OFFICE = os.path.realpath(os.environ["OFFICE"]) if os.environ.get("OFFICE") else ""
+
+sys.path.insert(0, TOOLS)
+
+needs_office = unittest.skipUnless(OFFICE, "OFFICE names no built program")
+
+
+def example(name: str) -> bytes:
+    """A file of the examples."""
+    with open(os.path.join(EXAMPLES, name), "rb") as file:
+        return file.read()
+
+
+def tool(name: str, *words: str, given: bytes = b"") -> "subprocess.CompletedProcess[str]":
+    """Runs the command of this package with this whole name, such as office-from-packages."""
+    return subprocess.run([os.path.join(TOOLS, "bin", name), *words], input=given.decode(), text=True,
+                          capture_output=True, timeout=600, check=False)
+
+
+def office(*words: str, given: bytes = b"") -> "subprocess.CompletedProcess[bytes]":
+    """Runs the built program."""
+    return subprocess.run([OFFICE, *words], input=given, capture_output=True, timeout=600, check=False)
+
+
+class Serving:
+    """A running `office serve` in memory, or over a store, for a `with`."""
+
+    def __init__(self, setup: str = SETUP, store: Optional[str] = None) -> None:
+        with socket.socket() as free:
+            free.bind(("127.0.0.1", 0))
+            port = free.getsockname()[1]
+        self.url = f"http://127.0.0.1:{port}"
+        self.words: Sequence[str] = [OFFICE, "serve", "--conf", setup, "--port", str(port),
+                                     *(["--db", store] if store else [])]
+
+    def __enter__(self) -> "Serving":
+        self.process = subprocess.Popen(self.words, stdin=subprocess.DEVNULL, stdout=subprocess.PIPE)
+        assert self.process.stdout is not None
+        line = self.process.stdout.readline()
+        assert re.fullmatch(rb"listening \d+\n", line), line
+        return self
+
+    def __exit__(self, *_: object) -> None:
+        self.process.terminate()
+        self.process.wait()
+        assert self.process.stdout is not None
+        self.process.stdout.close()

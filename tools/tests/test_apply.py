@@ -1,0 +1,255 @@
+"""office-apply: what its manual page and docs/ARCHIVE.md say of it. Managers are tried by tests/archive."""
+import fcntl
+import os
+import shutil
+import tempfile
+import unittest
+
+from helpers import tool
+from office_tools import reports
+from office_tools.apply import marks
+from office_tools.apply.contents import Contents, Indexes, Row, Source, difference, wanted
+from office_tools.apply.turn import Turn
+from office_tools.faults import Fault
+
+TESTING = """testing 3
+source app 2.0-1+b1
+source cyc 1-1+gone
+source guide 5-1
+source smooth-lib 1.0-1
+binary amd64 app 2.0-1+b1 app
+binary amd64 cyc 1-1+gone cyc
+binary amd64 lib1 1.0-1 smooth-lib
+binary all guide-doc 5-1 guide
+"""
+PACKAGES = """Package: app
+Version: 2.0-1+b1
+Architecture: amd64
+Source: app (2.0-1)
+Depends: lib1
+
+Package: cyc
+Version: 1-1
+Architecture: amd64
+
+Package: lib1
+Version: 1.0-1
+Architecture: amd64
+Source: lib
+
+Package: guide-doc
+Version: 5-1
+Architecture: all
+Source: guide
+"""
+SOURCES = "".join(f"Package: {name}\nVersion: {version}\n\n" for name, version in
+                  (("app", "2.0-1"), ("cyc", "1-1"), ("guide", "5-1")))
+
+
+def row(name, version, architecture="amd64", place="amd64"):
+    return Row(place, architecture, name, version)
+
+
+class Marks(unittest.TestCase):
+
+    def test_source_versions(self):
+        for told, there in [("2.0-1+b1", "2.0-1"), ("2.0-1+b12", "2.0-1"), ("1-1+gone", "1-1"), ("1.0+b", "1.0+b"),
+                            ("1.0+b0", "1.0+b0"), ("1.0+b1.1", "1.0+b1.1"), ("1:0.4-1", "1:0.4-1")]:
+            self.assertEqual(marks.source_version(told), there)
+
+    def test_package_versions(self):
+        self.assertEqual(marks.package_version("2.0-1+b1"), "2.0-1+b1")
+        self.assertEqual(marks.package_version("1-1+gone"), "1-1")
+
+    def test_sources(self):
+        self.assertTrue(marks.is_made_up("smooth-lib"))
+        self.assertFalse(marks.is_made_up("smoother"))
+
+
+class Wanted(unittest.TestCase):
+
+    def want(self, text, *architectures, indexes=Indexes.EACH):
+        return wanted(reports.read_testing(text), architectures, indexes)
+
+    def test_marks_are_taken_off(self):
+        found = self.want(TESTING, "amd64", indexes=Indexes.ONCE)
+        self.assertEqual(found.sources, {Source("app", "2.0-1"), Source("cyc", "1-1"), Source("guide", "5-1")})
+        self.assertEqual(found.rows, {row("app", "2.0-1+b1"), row("cyc", "1-1"), row("lib1", "1.0-1"),
+                                      row("guide-doc", "5-1", "all", "all")})
+
+    def test_all_is_in_each_index(self):
+        found = self.want(TESTING, "amd64", "arm64")
+        self.assertLessEqual({row("guide-doc", "5-1", "all", "amd64"), row("guide-doc", "5-1", "all", "arm64")},
+                             found.rows)
+
+    def test_refusals(self):
+        with self.assertRaises(Fault) as no_run:
+            self.want("testing 0\n", "amd64")
+        with self.assertRaises(Fault) as strange:
+            self.want(TESTING, "arm64")
+        self.assertEqual((no_run.exception.status, strange.exception.status), (3, 3))
+        self.assertIn("amd64", strange.exception.cause)
+
+
+class Differences(unittest.TestCase):
+
+    def test_sources_that_stay(self):
+        """A source without packages isn't the office's; the source of a package that stays has to stay."""
+        old, new = row("lib1", "1.0-1"), row("lib2", "2.0-1")
+        want = Contents(frozenset({Source("lib", "2.0-1")}), frozenset({old, new}))
+        have = Contents(frozenset({Source("lib", "1.0-1"), Source("udeb", "1"), Source("gone", "1")}),
+                        frozenset({old, row("gone", "1")}),
+                        {old: Source("lib", "1.0-1"), row("gone", "1"): Source("gone", "1")})
+        found = difference(want, have)
+        self.assertEqual(found.idle, [Source("lib", "1.0-1"), Source("udeb", "1")])
+        self.assertEqual(list(found.lines()), [
+            "missing: source lib 2.0-1", "missing: binary amd64 lib2 2.0-1", "too much: source gone 1",
+            "too much: binary amd64 gone 1"])
+
+
+class Manager:
+    """An archive in memory, which notes what is asked of it."""
+
+    indexes = Indexes.ONCE
+
+    def __init__(self, testing, origin, copies=True):
+        self.there, self.from_there, self.copies = testing, origin, copies
+        self.shown, self.asked = testing, []
+
+    def architectures(self):
+        return ["amd64"]
+
+    def testing(self):
+        return self.there
+
+    def origin(self):
+        return self.from_there
+
+    def copy(self, come):
+        self.asked.append("copy")
+        if self.copies:
+            self.there = Contents(self.there.sources | come.sources, self.there.rows | come.rows,
+                                  {**self.there.built_of, **self.from_there.built_of})
+
+    def remove(self, go):
+        self.asked.append("remove")
+        self.there = Contents(self.there.sources - go.sources, self.there.rows - go.rows, self.there.built_of)
+
+    def is_published(self, have):
+        return have == self.shown
+
+    def publish(self):
+        self.asked.append("publish")
+        self.shown = self.there
+
+
+class Turns(unittest.TestCase):
+    TESTING = "testing 1\nsource new 1\nbinary amd64 new 1 new\n"
+    NEW = Contents(frozenset({Source("new", "1")}), frozenset({row("new", "1")}), {row("new", "1"): Source("new", "1")})
+    OLD = Contents(frozenset({Source("old", "1")}), frozenset({row("old", "1")}), {row("old", "1"): Source("old", "1")})
+
+    def turn(self, manager, text=TESTING):
+        return Turn(manager, reports.read_testing(text), lambda line: None, lambda line: None)
+
+    def test_comes_before_it_goes(self):
+        manager = Manager(self.OLD, self.NEW)
+        self.assertEqual(self.turn(manager).apply(), 0)
+        self.assertEqual(manager.asked, ["copy", "remove", "publish"])
+        self.assertEqual(manager.shown, self.NEW)
+        self.assertEqual(self.turn(manager).apply(), 0)
+        self.assertEqual(len(manager.asked), 3)
+
+    def test_ended_before_it_was_published(self):
+        manager = Manager(self.NEW, self.NEW)
+        manager.shown = self.OLD
+        self.assertEqual(self.turn(manager).compare(), 1)
+        self.assertEqual(self.turn(manager).apply(), 0)
+        self.assertEqual(manager.asked, ["publish"])
+
+    def test_refusals_change_nothing(self):
+        for manager, text, status, asked in [
+                (Manager(self.OLD, self.OLD), self.TESTING, 3, []),
+                (Manager(self.OLD, self.NEW), "testing 1\n", 3, []),
+                (Manager(self.OLD, self.NEW), "testing 0\n", 3, []),
+                (Manager(self.OLD, self.NEW, copies=False), self.TESTING, 4, ["copy"])]:
+            with self.assertRaises(Fault) as refused:
+                self.turn(manager, text).apply()
+            self.assertEqual((refused.exception.status, manager.asked), (status, asked))
+            self.assertEqual((manager.there, manager.shown), (self.OLD, self.OLD))
+
+    def test_dry_run(self):
+        manager = Manager(self.OLD, self.NEW)
+        self.assertEqual(self.turn(manager).compare(), 1)
+        self.assertEqual((manager.asked, manager.there), ([], self.OLD))
+
+
+class Command(unittest.TestCase):
+
+    def setUp(self):
+        self.folder = tempfile.mkdtemp()
+        self.addCleanup(shutil.rmtree, self.folder)
+        self.testing = self.file("testing", TESTING)
+
+    def file(self, name, text):
+        path = os.path.join(self.folder, name)
+        with open(path, "w", encoding="utf-8") as file:
+            file.write(text)
+        return path
+
+    def apply(self, *words):
+        return tool("office-apply", "--testing", self.testing, *words)
+
+    def test_heidi(self):
+        """dak takes a line `PACKAGE VERSION ARCHITECTURE`, and `source` for the architecture of a source."""
+        path = os.path.join(self.folder, "HeidiResult")
+        self.assertEqual(self.apply("--dry-run", "heidi", path).returncode, 1)
+        self.assertFalse(os.path.exists(path))
+        self.assertEqual(self.apply("heidi", path).returncode, 0)
+        with open(path, encoding="utf-8") as file:
+            self.assertEqual(file.read(), "app 2.0-1+b1 amd64\ncyc 1-1 amd64\nguide-doc 5-1 all\nlib1 1.0-1 amd64\n"
+                                          "app 2.0-1 source\ncyc 1-1 source\nguide 5-1 source\n")
+        before = os.stat(path)
+        told = self.apply("heidi", path)
+        self.assertEqual((told.returncode, len(told.stdout.splitlines())), (0, 1))
+        self.assertEqual(os.stat(path).st_ino, before.st_ino)
+
+    def test_compare(self):
+        sources = ("--sources", self.file("Sources", SOURCES))
+        packages = self.file("Packages", PACKAGES)
+        self.assertEqual(self.apply("compare", *sources, packages).returncode, 0)
+        self.file("Packages", PACKAGES.replace("5-1", "5-2"))
+        told = self.apply("compare", *sources, packages)
+        self.assertEqual((told.returncode, told.stdout.splitlines()[:2]),
+                         (1, ["missing: binary all guide-doc 5-1", "too much: binary all guide-doc 5-2"]))
+
+    def test_select(self):
+        """Each row's paragraph as it stands in the first file that has it."""
+        told = self.apply("select", "amd64", self.file("Packages", PACKAGES + "\nPackage: other\nVersion: 1\n"
+                                                                              "Architecture: amd64\n"))
+        self.assertEqual((told.returncode, told.stdout), (0, PACKAGES + "\n"))
+        told = self.apply("select", "amd64", self.file("Packages", PACKAGES.replace("5-1", "5-2")))
+        self.assertEqual((told.returncode, told.stderr), (1, "office-apply: the files have no all guide-doc 5-1\n"))
+
+    def test_refusals(self):
+        for words, status, cause in [
+                (("reprepro", self.folder, "ordered", "testing"), 3, "it is no archive of reprepro"),
+                (("heidi", self.file("odd", "a b\n")), 3, "it isn't PACKAGE VERSION ARCHITECTURE"),
+                (("compare", self.folder), 3, "its indexes aren't those that its file Release states"),
+                (("compare", os.path.join(self.folder, "nothing")), 1, "No such file or directory"),
+                (("--url", "http://127.0.0.1:1", "heidi", "x"), 2, "exclude each other")]:
+            told = self.apply(*words)
+            self.assertEqual(told.returncode, status, told.stderr)
+            self.assertIn(cause, told.stderr)
+        number = os.open(self.folder, os.O_RDONLY)
+        fcntl.flock(number, fcntl.LOCK_EX)
+        told = self.apply("reprepro", self.folder, "ordered", "testing")
+        os.close(number)
+        self.assertEqual((told.returncode, told.stderr),
+                         (3, f"office-apply: {self.folder}: another office-apply works on this archive\n"))
+        told = tool("office-apply", "--url", "http://127.0.0.1:1", "heidi", "x")
+        self.assertEqual(told.returncode, 4)
+        self.assertTrue(told.stderr.startswith("office-apply: http://127.0.0.1:1/testing: "), told.stderr)
+
+
+if __name__ == "__main__":
+    unittest.main()

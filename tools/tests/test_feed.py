@@ -1,0 +1,272 @@
+"""office-feed: what its manual page and docs/ARCHIVE.md say of it. A whole archive is fed by tests/archive."""
+import fcntl
+import hashlib
+import os
+import shutil
+import tempfile
+import unittest
+
+from helpers import SETUP, Serving, needs_office, tool
+from office_tools import bags
+from office_tools.feed.mailbox import Outgoing
+from office_tools.messages import label_of, paragraphs
+from office_tools.service import Kept, Service
+
+CHANGES = """Format: 1.8
+Date: Sat, 01 Mar 2025 09:00:00 +0000
+Source: lib
+Architecture: source amd64
+Version: 1
+Urgency: high
+"""
+
+
+def package(name, version, *, source="", depends="", architecture="amd64"):
+    """A paragraph of Packages."""
+    fields = [("Package", name), ("Source", source), ("Version", version), ("Architecture", architecture),
+              ("Depends", depends)]
+    return "".join(f"{field}: {value}\n" for field, value in fields if value) + "\n"
+
+
+FIRST = package("lib1", "1", source="lib") + package("app", "1", depends="lib1") + \
+    package("app", "1", depends="lib1", architecture="arm64") + package("lib1", "1", source="lib", architecture="arm64")
+
+
+class Folder(unittest.TestCase):
+
+    def setUp(self):
+        self.folder = tempfile.mkdtemp()
+        self.addCleanup(shutil.rmtree, self.folder)
+
+    def path(self, name):
+        return os.path.join(self.folder, name)
+
+    def file(self, name, text):
+        os.makedirs(os.path.dirname(self.path(name)), exist_ok=True)
+        with open(self.path(name), "w", encoding="utf-8") as file:
+            file.write(text)
+        return self.path(name)
+
+
+class OutgoingMail(Folder):
+    """What a feed that was ended had written down is sent as it stands, if the office doesn't keep it."""
+
+    def left(self, **kept):
+        texts = [f"From: {sender}\nNumber: {number}\nKind: none\n".encode()
+                 for sender, number in (("ftp", 3), ("ftp", 4), ("bd", 1), ("clock", 2))]
+        outgoing = Outgoing(self.folder)
+        outgoing.write(texts)
+        counts = {sender: Kept(number, number, number) for sender, number in kept.items()}
+        return [(label.sender, label.number) for label in map(label_of, outgoing.left(counts))]
+
+    def test_what_lacks(self):
+        self.assertEqual(self.left(ftp=2, bd=0, clock=1), [("ftp", 3), ("ftp", 4), ("bd", 1), ("clock", 2)])
+        self.assertEqual(self.left(ftp=3, bd=1, clock=1), [("ftp", 4), ("clock", 2)])
+        self.assertEqual(self.left(ftp=4, bd=1, clock=2), [])
+
+    def test_what_is_anothers(self):
+        self.assertEqual(self.left(ftp=1, clock=1), [("clock", 2)])
+
+    def test_nothing(self):
+        outgoing = Outgoing(self.folder)
+        outgoing.write([])
+        self.assertEqual(outgoing.left({}), [])
+        outgoing.clear()
+
+
+@needs_office
+class Feeds(Folder):
+    """Over a running office of both architectures of examples/setup.conf."""
+
+    def setUp(self):
+        super().setUp()
+        self.office = Serving(SETUP)
+        self.office.__enter__()
+        self.addCleanup(self.office.__exit__)
+        self.service = Service(self.office.url)
+
+    def feed(self, packages, day, *more, status=0):
+        """What the command prints and tells."""
+        ended = tool("office-feed", "--url", self.office.url, "--cache", self.path("cache"), "--day", day, *more,
+                     self.file("Packages", packages))
+        self.assertEqual(ended.returncode, status, ended.stderr)
+        return ended.stdout.splitlines(), ended.stderr.splitlines()
+
+    def hint(self, number):
+        return next(paragraphs(self.service.kept_text("rt", number) or b""))
+
+    def test_days(self):
+        """Urgency and day of .changes; nothing twice; a source that is gone, and back."""
+        self.file("changes/lib.changes", CHANGES)
+        more = ("--changes", self.path("changes"))
+        self.assertEqual(self.feed(FIRST, "2025-03-03", *more)[0],
+                         ["uploads 2, drops 0, builds 2, hints 0, unhints 0, orders 1", "ready 1 finished 1"])
+        self.assertIn("lib - 1\n age 2 of 2\n candidate\n", self.service.good_text("/excuses/1"))
+        self.assertIn("app - 1\n age 0 of 5\n too young\n", self.service.good_text("/excuses/1"))
+        self.assertEqual(self.feed(FIRST, "2025-03-03", *more)[0][0],
+                         "uploads 0, drops 0, builds 0, hints 0, unhints 0, orders 0")
+        self.assertEqual(self.feed(FIRST, "2025-03-08", *more)[0][1], "ready 2 finished 2")
+        self.assertEqual(self.service.good_text("/update/2"), "update 2 2025-03-08\naccept app 1\n")
+        without = FIRST.replace("Package: app", "Package: appendix").replace("\nVersion: 1\nArchitecture: amd64\nDep",
+                                                                             "\nVersion: 2\nArchitecture: amd64\nDep")
+        self.assertEqual(self.feed(without, "2025-03-09")[0][0],
+                         "uploads 1, drops 2, builds 1, hints 1, unhints 0, orders 1")
+        self.assertEqual((self.hint(1).value("Hint"), self.hint(1).value("Gone")), ("remove app/1", "app 1"))
+        self.assertEqual(self.service.good_text("/update/3"), "update 3 2025-03-09\nremove 1 accept app 1\n")
+        self.assertEqual(self.feed(without + FIRST, "2025-03-10")[0][0],
+                         "uploads 0, drops 0, builds 0, hints 0, unhints 1, orders 1")
+        self.assertEqual(self.hint(2).value("Cancels"), "1")
+
+    def test_order(self):
+        self.assertEqual(self.feed(FIRST, "2025-03-03", "--no-order")[0][1], "ready 0 finished 0")
+        self.assertEqual(self.feed(FIRST, "2025-03-03")[0][1], "ready 1 finished 1")
+        self.assertEqual(self.feed(FIRST, "2025-03-03", "--order")[0][1], "ready 2 finished 2")
+
+    def test_dry_run(self):
+        ended = tool("office-feed", "--url", self.office.url, "--cache", self.path("cache"), "--day", "2025-03-03",
+                     "--dry-run", self.file("Packages", FIRST))
+        self.assertEqual(ended.returncode, 1, ended.stderr)
+        self.assertEqual(len(list(bags.messages_in(ended.stdout.encode()))), 4)
+        self.assertEqual(sum(count.kept for count in self.service.kept().values()), 0)
+
+    def test_cache_of_another_office(self):
+        self.feed(FIRST, "2025-03-03")
+        self.feed(FIRST, "2025-03-03")
+        with Serving(SETUP) as other:
+            told = tool("office-feed", "--url", other.url, "--cache", self.path("cache"), "--day", "2025-03-04",
+                        self.file("Packages", FIRST))
+            self.assertEqual(told.stdout.splitlines()[0], "uploads 2, drops 0, builds 2, hints 0, unhints 0, orders 1")
+        self.assertIn("it isn't what this office keeps, and is made anew", told.stderr)
+
+    def test_a_run_that_waits(self):
+        """No order is piled upon one that waits."""
+        self.service.post("/mail", b"From: clock\nNumber: 1\nKind: run\nDay: 2025-03-01\nCovers: bts 1\n")
+        printed, told = self.feed(FIRST, "2025-03-03", status=1)
+        self.assertEqual(printed[0], "uploads 2, drops 0, builds 2, hints 0, unhints 0, orders 0")
+        self.assertEqual(told, ["office-feed: run 1 waits for bts 1 of 1"])
+
+    def test_refusals(self):
+        self.feed(FIRST, "2025-03-03", "--no-order")
+        only = FIRST.replace("arm64", "amd64")
+        self.assertIn("the indexes have no package of arm64, and the office was told 2 of arm64: all would be dropped",
+                      self.feed(only, "2025-03-03", status=3)[1][-1])
+        self.assertIn("the office has another setup than the archive",
+                      self.feed(FIRST + package("odd", "1", architecture="riscv64"), "2025-03-03", status=3)[1][-1])
+        self.service.post("/mail", b"From: rt\nNumber: 2\nKind: none\n")
+        self.assertEqual(self.feed(FIRST, "2025-03-03", status=3)[1],
+                         ["office-feed: rt 1 isn't kept, and rt 2 is: send what lacks first, or a message of the kind "
+                          "none in its place"])
+        number = os.open(self.path("cache"), os.O_RDONLY)
+        fcntl.flock(number, fcntl.LOCK_EX)
+        self.assertIn("another office-feed works for this office", self.feed(FIRST, "2025-03-03", status=3)[1][-1])
+        os.close(number)
+
+
+SPARE_SETUP = """Architectures: amd64 arm64
+
+Sender: ftp
+Role: upload
+
+Sender: again1
+Role: build
+
+Sender: bd
+Role: build
+
+Sender: bts
+Role: bugs
+
+Sender: rt
+Role: release
+
+Sender: clock
+Role: runs
+"""
+
+
+@needs_office
+class Rebuilding(Folder):
+    """A rebuild is told under a version of its own, as often as there are spare senders."""
+
+    def feed(self, packages, *more, rebuilds=("--rebuilds",)):
+        ended = tool("office-feed", "--url", self.service.url, "--cache", self.path("cache"), "--day", "2025-03-09",
+                     *rebuilds, *more, self.file("Packages", packages))
+        self.assertEqual(ended.returncode, 0, ended.stderr)
+        return ended.stdout.splitlines()[0], ended.stderr.splitlines()
+
+    BOTH = package("lib1", "1", source="lib") + package("lib-data", "1", source="lib", architecture="all") + \
+        package("lib1", "1", source="lib", architecture="arm64")
+
+    def test_told_before_it_was_asked_for(self):
+        """A rebuild that didn't move is told so that it does, all of it by the spare sender; and it is told once."""
+        self.file("changes/lib.changes", CHANGES)
+        with Serving(self.file("setup.conf", SPARE_SETUP)) as office:
+            self.service = Service(office.url)
+            self.feed(self.BOTH, "--changes", self.path("changes"))
+            once = self.BOTH.replace("Source: lib\nVersion: 1\nArchitecture: a", "Source: lib (1)\nVersion: 1+b1\n"
+                                     "Architecture: a").replace("lib (1)\nVersion: 1+b1\nArchitecture: all",
+                                                                "lib\nVersion: 1\nArchitecture: all")
+            self.feed(once, rebuilds=())
+            self.assertEqual(self.service.good_text("/update/2"), "update 2 2025-03-09\n")
+            self.assertEqual(self.feed(once)[0], "uploads 1, drops 0, builds 1, hints 0, unhints 0, orders 1")
+            self.assertEqual(self.service.good_text("/update/3"), "update 3 2025-03-09\naccept lib 1+b1\n")
+            self.assertEqual(self.service.good_text("/testing").splitlines()[2:], [
+                "binary amd64 lib1 1+b1 lib", "binary arm64 lib1 1+b1 lib", "binary all lib-data 1 lib"])
+            self.assertEqual(self.feed(once)[0], "uploads 0, drops 0, builds 0, hints 0, unhints 0, orders 0")
+
+    def test_as_often_as_there_are_spare_senders(self):
+        self.file("changes/lib.changes", CHANGES)
+        both = self.BOTH
+        with Serving(self.file("setup.conf", SPARE_SETUP)) as office:
+            self.service = Service(office.url)
+            self.feed(both, "--changes", self.path("changes"))
+            self.assertEqual(self.service.good_text("/update/1"), "update 1 2025-03-09\naccept lib 1\n")
+            once = both.replace("Version: 1\nArchitecture: amd64", "Version: 1+b1\nArchitecture: amd64") \
+                .replace("lib\nVersion: 1+b1", "lib (1)\nVersion: 1+b1")
+            self.assertEqual(self.feed(once), ("uploads 1, drops 0, builds 2, hints 0, unhints 0, orders 1",
+                                               ["office-feed: lib: rebuilt: told as 1+b1"]))
+            self.assertEqual(self.service.good_text("/update/2"), "update 2 2025-03-09\naccept lib 1+b1\n")
+            self.assertEqual(self.service.good_text("/testing").splitlines()[2:], [
+                "binary amd64 lib1 1+b1 lib", "binary arm64 lib1 1 lib", "binary all lib-data 1 lib"])
+            self.assertEqual(self.feed(once)[0], "uploads 0, drops 0, builds 0, hints 0, unhints 0, orders 0")
+            told = self.feed(once.replace("1+b1", "1+b2"))[1]
+            self.assertEqual(told, ["office-feed: lib 1: rebuilt, and left out: no spare sender of builds is left for "
+                                    "lib-data"])
+
+
+class Fetching(Folder):
+
+    def test_apt_fetches_into_a_folder_that_is_named_from_here(self):
+        """An archive without signature, of one architecture, as apt takes it."""
+        self.file("archive/dists/x/main/binary-amd64/Packages", FIRST)
+        self.file("archive/dists/x/Release", "Suite: x\nArchitectures: amd64\nComponents: main\nSHA256:\n "
+                  f"{hashlib.sha256(FIRST.encode()).hexdigest()} {len(FIRST)} main/binary-amd64/Packages\n")
+        here = os.getcwd()
+        os.chdir(self.folder)
+        self.addCleanup(os.chdir, here)
+        told = tool("office-feed", "--url", "http://127.0.0.1:1", "--cache", "cache", "--apt",
+                    f"deb [trusted=yes arch=amd64] file:{self.folder}/archive x main")
+        self.assertEqual(told.returncode, 4, told.stderr)
+        self.assertIn("http://127.0.0.1:1/kept: ", told.stderr)
+
+
+class Words(Folder):
+
+    def test_refusals(self):
+        packages = self.file("Packages", FIRST)
+        for words, status, cause in [
+                ((), 2, "name files Packages, or lines for apt by --apt"),
+                ((packages, "--apt", "deb file:/nowhere x main"), 2, "name files Packages"),
+                (("--day", "2025-3-1", packages), 2, "invalid day value"),
+                (("--url", "http://127.0.0.1:1", "--cache", self.folder, packages), 4, "http://127.0.0.1:1/kept: "),
+                (("--url", "http://127.0.0.1:1", "--cache", self.folder, "--apt", "deb file:/nowhere x main"), 4,
+                 "apt-get: "),
+                (("--url", "http://127.0.0.1:1", "--cache", self.folder, self.file("none", "")), 3,
+                 "the indexes have no package")]:
+            told = tool("office-feed", *words)
+            self.assertEqual(told.returncode, status, told.stderr)
+            self.assertIn(cause, told.stderr)
+
+
+if __name__ == "__main__":
+    unittest.main()

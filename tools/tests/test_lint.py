@@ -1,0 +1,355 @@
+"""What office-lint tells of single messages: each slip that a message may have, beside what is due of it."""
+import datetime
+import os
+import tempfile
+import unittest
+from unittest import mock
+
+from helpers import SETUP, Serving, example, needs_office, office, tool
+from office_tools import bags
+from office_tools.lint.office import MailOffice, ServiceMail
+from office_tools.lint.slips import Days, Look, slips
+from office_tools.messages import Kind, Label, paragraphs
+from office_tools.service import Service
+
+TODAY = "2025-03-22"
+
+
+def message(sender, number, kind, *lines):
+    """A message of these further lines."""
+    return "\n".join([f"From: {sender}", f"Number: {number}", f"Kind: {kind}", *lines, ""]).encode()
+
+
+def hint(number, wish):
+    return message("rt", number, "hint", "Hint: " + wish)
+
+
+def upload(number, source, version, day="2025-03-14"):
+    return message("ftp", number, "upload", "Source: " + source, "Version: " + version, "Urgency: low", "Day: " + day)
+
+
+def build(number, *lines):
+    return message("bd", number, "build", "", *lines)
+
+
+def order(number, covers, day="2025-03-22"):
+    return message("clock", number, "run", "Day: " + day, "Covers: " + covers)
+
+
+def bug(number, *lines):
+    return message("bts", number, "bug", "Bug: 1001", *lines)
+
+
+# An office that keeps this. Unstable has greeter 2.0-1 and mailer 5-2, and the hint rt 9 stands.
+KEPT = [
+    upload(1, "greeter", "1.0-1"), upload(2, "greeter", "2.0-1"), upload(3, "mailer", "5-2"), upload(4, "chess", "7-1"),
+    build(1, "Package: greeter", "Version: 2.0-1", "Architecture: amd64"),
+    build(2, "Package: mailer", "Version: 5-2", "Architecture: amd64"),
+    build(3, "Package: mailer", "Version: 5-2", "Architecture: arm64"),
+    *[message("rt", number, "none") for number in range(1, 9)], hint(9, "block chess"),
+    message("bts", 1, "none"), order(1, "ftp 1", "2025-03-02"), order(2, "ftp 3, bd 3, rt 8, bts 1", "2025-03-10")]
+
+# A name, a message, and the lines that are due of it: `LINE: ..`.
+SLIPS = [
+    ("a hint for a misspelt source", hint(10, "unblock greeeter/2.0-1"), ["4: warning: no source greeeter"]),
+    ("a block of a misspelt source", hint(10, "block greeeter"), ["4: warning: no source greeeter"]),
+    ("a removal of another version", hint(10, "remove mailer/9-9"), ["4: warning: unstable has mailer 5-2"]),
+    ("days for a version to come", hint(10, "age-days 99 mailer/5-3"), ["4: warning: unstable has mailer 5-2"]),
+    ("a group with a misspelt source", hint(10, "easy greeter/2.0-1 nosuch/1-1"), ["4: warning: no source nosuch"]),
+    ("a good hint", hint(10, "unblock greeter/2.0-1"), []),
+    ("all is blocked", hint(10, "block-all source"), []),
+    ("no such hint", message("rt", 10, "unhint", "Cancels: 77"),
+     ["4: warning: no hint in force has the number 77"]),
+    ("a message that is no hint", message("rt", 10, "unhint", "Cancels: 8"),
+     ["4: warning: no hint in force has the number 8"]),
+    ("a hint in force", message("rt", 10, "unhint", "Cancels: 9"), []),
+    ("a bug of a misspelt source", bug(2, "Source: chesss", "Severity: serious"), ["5: warning: no source chesss"]),
+    ("a drop of a misspelt package",
+     message("ftp", 5, "drop", "Package: greeetr", "Architecture: amd64", "Version: 2.0-1"),
+     ["4: warning: unstable has no row of greeetr on amd64: this drops nothing"]),
+    ("a drop up to a lower version",
+     message("ftp", 5, "drop", "Package: greeter", "Architecture: amd64", "Version: 1.0-1"),
+     ["4: warning: unstable has 2.0-1 of greeter on amd64: this drops nothing"]),
+    ("a drop on another architecture",
+     message("ftp", 5, "drop", "Package: greeter", "Architecture: arm64", "Version: 2.0-1"),
+     ["4: warning: unstable has no row of greeter on arm64: this drops nothing"]),
+    ("a good drop", message("ftp", 5, "drop", "Package: greeter", "Architecture: amd64", "Version: 2.0-1"), []),
+    ("an upload below unstable", upload(5, "greeter", "1.5-1"),
+     ["5: warning: unstable has greeter 2.0-1: this upload changes nothing"]),
+    ("the same version in other letters", upload(5, "greeter", "0:2.0-01"),
+     ["5: warning: unstable has greeter 2.0-1: this upload changes nothing"]),
+    ("a good upload", upload(5, "greeter", "2.0-2"), []),
+    ("a build of a misspelt source",
+     build(4, "Package: mailer", "Version: 5-2", "Architecture: amd64", "Source: mailerr"),
+     ["8: warning: no source mailerr"]),
+    ("a build of a version to come", build(4, "Package: mailer", "Version: 5-3", "Architecture: amd64"),
+     ["5: warning: unstable has mailer 5-2"]),
+    ("a rebuild", build(4, "Package: mailer", "Version: 5-2+b1", "Architecture: amd64", "Source: mailer (5-2)"), []),
+    ("misspelt optional fields", bug(2, "Source: chess", "Severity: serious", "Foundin: 7-1", "Fixd: 7-2"),
+     ["7: warning: the office reads no field Foundin here: is Found meant?",
+      "8: warning: the office reads no field Fixd here: is Fixed meant?"]),
+    ("a misspelt list of what is needed",
+     build(4, "Package: mailer", "Version: 5-2", "Architecture: amd64", "Depend: greeter", "Conflicts: exim"),
+     ["8: warning: the office reads no field Depend here: is Depends meant?"]),
+    ("an upload of ten years ago", upload(5, "greeter", "2.0-2", "2015-03-14"),
+     ["7: warning: day 2015-03-14 is more than 30 days before today"]),
+    ("an upload to come", upload(5, "greeter", "2.0-2", "2099-03-14"),
+     ["7: warning: day 2099-03-14 is after today, 2025-03-22"]),
+    ("a good order", order(3, "ftp 4, rt 9"), []),
+    ("a run to come", order(3, "ftp 4, rt 9", "2052-03-12"),
+     ["4: warning: day 2052-03-12 is after today, 2025-03-22"]),
+    ("a run over mail that isn't there", order(3, "ftp 4, bd 4000, rt 9"),
+     ["5: warning: bd 4 isn't kept: this run and all later ones wait"]),
+    ("a sender left out", order(3, "ftp 4"), ["5: warning: rt 9 to 9 isn't covered"]),
+    ("a number that an earlier order is above", order(3, "ftp 4, bd 2, rt 9"),
+     ["5: warning: bd: an earlier order covers 3: this changes nothing"]),
+    ("a day that an earlier order is behind", order(3, "ftp 4, rt 9", "2025-03-09"),
+     ["4: warning: an earlier order has day 2025-03-10: this one has no effect"]),
+    ("an order twice, with another text", order(2, "ftp 4"),
+     ["1: refused OtherText: another text is kept under this number"]),
+    ("a number that was skipped", hint(12, "block mailer"), ["2: warning: number 12 of rt: 10 is the next"]),
+    ("a number that is kept", hint(9, "block chess"), []),
+]
+
+# A name, a message, its refusal and the line, and what has to stand in the cause.
+REFUSALS = [
+    ("another architecture", build(4, "Package: aa", "Version: 1", "Architecture: amd64", "",
+                                   "Package: bb", "Version: 1", "Architecture: i386"),
+     "11: refused UnknownArchitecture: bb: 'i386': "),
+    ("a bad version", upload(5, "greeter", "1.0_1"), "5: refused BadValue Version: '1.0_1': "),
+    ("a bad day", upload(5, "greeter", "3", "2025-02-30"), "7: refused BadValue Day: '2025-02-30': "),
+    ("another role's kind", message("bd", 4, "hint", "Hint: block aa"),
+     "3: refused WrongRole: 'hint': bd sends build, none"),
+    ("no kind", message("ftp", 5, "uplod"), "3: refused UnknownKind: 'uplod': "),
+    ("a bad number", b"From: ftp\nNumber: 05\nKind: none\n", "2: refused BadNumber: '05': "),
+    ("no such sender", b"From: ftpd\nNumber: 5\nKind: none\n",
+     "1: refused UnknownSender: 'ftpd': a sender of the setup is due: ftp, bd, bts, rt, clock"),
+    ("no such field", b"\nFrom: ftp\nNumber: 5\n", "2: refused MissingField Kind: there is no field Kind"),
+    ("a binary without a version", build(4, "Package: aa", "Version: 1", "Architecture: all", "", "Package: bb",
+                                         "Architecture: all"),
+     "9: refused MissingField Version: bb has no field Version"),
+    ("a build of nothing", message("bd", 4, "build"), "1: refused MissingField Package: a build has a paragraph for "),
+    ("a paragraph too many", upload(5, "aa", "1") + b"\nX: 1\n",
+     "9: refused TooManyParagraphs: a paragraph too many: the kind upload has one alone"),
+    ("a line of prose", message("ftp", 5, "none", "all of it"), "4: refused BadParagraph: 'all of it' has no colon"),
+    ("a comment", message("ftp", 5, "none", "# a: b"),
+     "4: refused BadParagraph: '# a' is no name of a field: comments aren't taken"),
+    ("a field twice", message("ftp", 5, "none", "kind: none"),
+     "4: refused BadParagraph: the field kind stands twice"),
+    ("a first line that continues", b" From: ftp\n", "1: refused BadParagraph: ' From: ftp' continues no field"),
+    ("another coding", b"From: ftp\nNumber: 5\nKind: none\nNote: \xe9\n", "4: refused BadParagraph: "),
+    ("no text at all", b"", "1: refused MissingField From: "),
+    ("a message too long", message("ftp", 5, "none", "Note: " + "x" * 65536), "4: refused TooLong: it has "),
+    ("a clause with architectures",
+     build(4, "Package: aa", "Version: 1", "Architecture: all", "", "Package: bb", "Version: 1", "Architecture: all",
+           "Depends: cc (>= 1), dd,", " ee [amd64]"),
+     "13: refused BadValue Depends: bb: clause 3, 'ee [amd64]': architecture lists aren't taken"),
+    ("a clause with a profile",
+     build(4, "Package: aa", "Version: 1", "Architecture: all", "Pre-Depends: bb | cc <!nocheck>"),
+     "8: refused BadValue Pre-Depends: aa: clause 1, 'bb | cc <!nocheck>': build profiles aren't taken"),
+    ("alternatives of what is provided",
+     build(4, "Package: aa", "Version: 1", "Architecture: all", "Provides: bb, cc | dd"),
+     "8: refused BadValue Provides: aa: clause 2, 'cc | dd': "),
+    ("a block with a version", hint(10, "block broken/0.9-1"),
+     "4: refused BadValue Hint: 'block broken/0.9-1': `block` takes names without versions"),
+    ("another office's hint", hint(10, "urgent greeter/2.0-1"), "4: refused BadValue Hint: 'urgent' is no hint: "),
+    ("an item without a version", hint(10, "easy greeter/2.0-1 mailer"),
+     "4: refused BadValue Hint: 'mailer': NAME/VERSION is due"),
+    ("a group that names a source twice", hint(10, "easy aa/1 aa/2"),
+     "4: refused BadValue Hint: 'easy aa/1 aa/2': a source stands twice"),
+    ("days that are none", hint(10, "age-days ten aa/1"), "4: refused BadValue Hint: 'ten': a number of days "),
+    ("a hint of nothing", hint(10, "unblock"), "4: refused BadValue Hint: 'unblock': it names no source"),
+    ("an order over a sender that isn't there", order(3, "ftp 4, bdd 3"),
+     "5: refused BadValue Covers: 'bdd 3': a sender of ftp, bd, bts, rt, a space and a number are due"),
+    ("an order over the orders", order(3, "clock 2, ftp 4"), "5: refused BadValue Covers: 'clock 2': "),
+    ("an order that names a sender twice", order(3, "ftp 4, ftp 3"), "5: refused BadValue Covers: 'ftp 4, ftp 3': "),
+]
+
+# The messages of a sample over examples/archive, in the groups that are looked at together, and what is due.
+SAMPLE = [
+    {"h1": hint(3, "unblock greeeter/2.0-1")},
+    {"h3": hint(3, "age-days 9 libgreet/1.2-1")},
+    {"u1": message("rt", 3, "unhint", "Cancels: 77")},
+    {"h4": hint(3, "block broken/0.9-1")},
+    {"b1": bug(2, "Source: greeter", "Severity: serious", "Foundin: 0.9-1")},
+    {"up": upload(4, "libgreet", "1.5-1", "2099-03-14")},
+    {"dr": message("ftp", 4, "drop", "Package: greetr", "Architecture: amd64", "Version: 1")},
+    {"bu": build(4, "Package: greeter", "Version: 0.9-2", "Architecture: amd64", "Depends: libc6,",
+                 " libgreet1 [amd64]")},
+    {"n1": message("bts", 2, "none"), "n2": message("bd", 4, "none"),
+     "or": order(3, "ftp 3, bd 99, rt 2", "2025-03-21")},
+    {"or2": order(3, "ftp 2", "2025-03-21")},
+    {"cm": b"#c\n" + message("ftp", 4, "none")},
+    {"ot": order(2, "")},
+]
+DUE = """\
+h1:4: warning: no source greeeter
+h3:4: warning: libgreet 1.2-1 is in testing already
+u1:4: warning: no hint in force has the number 77
+h4:4: refused BadValue Hint: 'block broken/0.9-1': `block` takes names without versions
+b1:7: warning: the office reads no field Foundin here: is Found meant?
+up:7: warning: day 2099-03-14 is after today, 2025-03-22
+up:5: warning: unstable has libgreet 2.0-1: this upload changes nothing
+dr:4: warning: unstable has no row of greetr on amd64: this drops nothing
+bu:9: refused BadValue Depends: greeter: clause 2, 'libgreet1 [amd64]': architecture lists aren't taken
+or:5: warning: bd 5 isn't kept: this run and all later ones wait
+or:5: warning: bts 2 to 2 isn't covered
+or2:5: warning: ftp: an earlier order covers 3: this changes nothing
+cm:1: refused BadParagraph: '#c' has no colon
+ot:1: refused OtherText: another text is kept under this number
+"""
+
+
+class Folder(unittest.TestCase):
+    """A test in a folder of its own, over an office that keeps mail."""
+
+    KEPT = b"".join(map(bags.framed, KEPT))
+
+    def setUp(self):
+        kept = tempfile.TemporaryDirectory()
+        self.addCleanup(kept.cleanup)
+        before = os.getcwd()
+        self.addCleanup(os.chdir, before)
+        os.chdir(kept.name)
+        told = office("replay", "--conf", SETUP, "--db", "store.db", given=self.KEPT)
+        self.assertEqual((told.returncode, told.stderr), (0, b""))
+
+    def lint(self, *words, today=TODAY):
+        """What office-lint prints, and its status."""
+        told = tool("office-lint", "--conf", SETUP, "--today", today, *words)
+        self.assertEqual(told.stderr, "")
+        return told.stdout, told.returncode
+
+    def put(self, name, text):
+        with open(name, "wb") as file:
+            file.write(text)
+        return name
+
+
+@needs_office
+class Slips(Folder):
+
+    def test_slips(self):
+        for name, text, due in SLIPS:
+            with self.subTest(name):
+                status = 3 if any("refused" in line for line in due) else 1 if due else 0
+                told = "".join(f"m:{line}\n" for line in due)
+                self.assertEqual(self.lint("--db", "store.db", self.put("m", text)), (told, status))
+
+    def test_refusals(self):
+        for name, text, due in REFUSALS:
+            with self.subTest(name):
+                told, status = self.lint("--db", "store.db", self.put("m", text))
+                self.assertEqual(status, 3)
+                self.assertEqual(told.count("\n"), 1)
+                self.assertEqual(told[:len("m:" + due)].rstrip("\n"), "m:" + due)
+
+    def test_days(self):
+        text = upload(5, "greeter", "2.0-2", "2025-02-01")
+        words = ["--db", "store.db", self.put("m", text)]
+        due = "m:7: warning: day 2025-02-01 is more than 30 days before today\n"
+        self.assertEqual(self.lint(*words, today="2025-03-04"), (due, 1))
+        self.assertEqual(self.lint(*words, today="2025-03-03"), ("", 0))
+        self.assertEqual(self.lint("--days", "31", *words, today="2025-03-04"), ("", 0))
+
+    def test_bag(self):
+        """A bag is judged as a whole: an upload and its build, or a hint for what the bag brings, are no slips."""
+        texts = [upload(5, "duo", "1-1"), build(4, "Package: duo", "Version: 1-1", "Architecture: all"),
+                 hint(10, "age-days 0 duo/1-1"), message("rt", 11, "unhint", "Cancels: 10"),
+                 message("rt", 12, "unhint", "Cancels: 10"), order(3, "ftp 5, bd 4, rt 12")]
+        self.put("bag", b"".join(map(bags.framed, texts)))
+        due = "bag#5:4: warning: no hint in force has the number 10\n"
+        self.assertEqual(self.lint("--db", "store.db", "bag"), (due, 1))
+
+    def test_drop_and_build(self):
+        """A drop takes the row of its version out, and no build up to it comes in again."""
+        lines = ["Package: greeter", "Architecture: amd64"]
+        gone = message("ftp", 5, "drop", *lines, "Version: 2.0-1")
+        again = build(4, *lines, "Version: 2.0-1", "Source: greeter")
+        above = build(5, *lines, "Version: 2.0-1+b1", "Source: greeter (2.0-1)")
+        more = [message("ftp", number, "drop", *lines, "Version: 2.0-1+b1") for number in (6, 7, 8)]
+        self.put("bag", b"".join(map(bags.framed, [gone, again, more[0], above, more[1], more[2]])))
+        row = "4: warning: unstable has no row of greeter on amd64: this drops nothing\n"
+        self.assertEqual(self.lint("--db", "store.db", "bag"), (f"bag#3:{row}bag#5:{row}bag#6:{row}", 1))
+
+    def test_no_whole_bag(self):
+        self.put("bag", b"mail 5\nhello\nmail")
+        told = tool("office-lint", "--conf", SETUP, "bag")
+        self.assertEqual((told.stdout, told.returncode), ("", 3))
+        self.assertEqual(told.stderr, "office-lint: bag: it is no whole bag: BadHeader at byte 12\n")
+
+    def test_words(self):
+        for words in [["--force", "m"], ["--send", "m"], ["--today", "2025-3-1", "m"], ["--days", "-1", "m"], [],
+                      ["--url", "http://127.0.0.1:1", "--db", "store.db", "m"]]:
+            told = tool("office-lint", "--conf", SETUP, *words)
+            self.assertEqual((told.stdout, told.returncode), ("", 2), words)
+
+    def test_no_office(self):
+        told = tool("office-lint", "--conf", SETUP, "--url", "http://127.0.0.1:1", self.put("m", b""))
+        self.assertEqual((told.stdout, told.returncode), ("", 4))
+        self.assertEqual(told.stderr, "office-lint: http://127.0.0.1:1/kept: Connection refused\n")
+
+
+@needs_office
+class Sample(Folder):
+
+    KEPT = example("archive.bag")
+
+    def test_sample(self):
+        told, statuses = "", []
+        for group in SAMPLE:
+            names = [self.put(name, text) for name, text in group.items()]
+            lines, status = self.lint("--db", "store.db", *names)
+            told += lines
+            statuses.append(status)
+        self.assertEqual(told, DUE)
+        self.assertEqual(statuses, [1, 1, 1, 3, 1, 1, 1, 3, 1, 1, 3, 3])
+
+
+@needs_office
+class Sending(Folder):
+    """What is mailed to a service."""
+
+    def send(self, serving, *words):
+        return self.lint("--url", serving.url, "--send", *words)
+
+    def test_sending(self):
+        good, slip, bad = upload(5, "duo", "1-1"), hint(10, "block duoo"), message("rt", 10, "hint")
+        late = message("rt", 11, "none")
+        for name, text in [("good", good), ("slip", slip), ("bad", bad), ("late", late)]:
+            self.put(name, text)
+        with Serving(store="store.db") as serving:
+            service = Service(serving.url)
+            self.assertEqual(self.lint("--url", serving.url, "good"), ("", 0))
+            self.assertEqual(service.kept()["ftp"].kept, 4)
+            self.assertEqual(self.send(serving, "good"), ("good: held ftp 5\n", 0))
+            self.assertEqual(service.kept_text("ftp", 5), good)
+            # What isn't sent isn't there for the messages behind it.
+            due = ("slip:4: warning: no source duoo\nbad:1: refused MissingField Hint: there is no field Hint\n"
+                   "late:2: warning: number 11 of rt: 10 is the next\n")
+            self.assertEqual(self.send(serving, "slip", "bad", "late"), (due, 3))
+            self.assertEqual(service.kept()["rt"].kept, 9)
+            due = "slip:4: warning: no source duoo\nslip: held rt 10\nlate: held rt 11\n"
+            self.assertEqual(self.send(serving, "--force", "slip", "late"), (due, 1))
+            self.assertEqual(service.kept_text("rt", 10), slip)
+
+    def test_too_much_mail(self):
+        """What rests on mail that isn't read is left out, and the verdict, counts and days are looked at."""
+        text, days = hint(12, "block duoo"), Days(datetime.date(2025, 3, 22), 30)
+        for most, knows in [(5000, (True, True)), (10, (True, False)), (1, (False, False))]:
+            with Serving(store="store.db") as serving, mock.patch("office_tools.lint.office.MOST", most):
+                state = MailOffice(SETUP, ServiceMail(Service(serving.url))).state()
+            self.assertEqual((state.knows_orders, state.knows_unstable), knows)
+            told = slips(Look(Label("rt", 12), Kind.HINT, next(paragraphs(text)), (), state, days))
+            self.assertEqual([slip.line for slip in told], [2, 4] if knows[1] else [2])
+
+    def test_another_setup(self):
+        self.put("conf", b"Architectures: amd64\n\nSender: ftp\nRole: upload\n\nSender: rt\nRole: release\n")
+        with Serving(store="store.db") as serving:
+            told = tool("office-lint", "--url", serving.url, "--conf", "conf", self.put("m", b""))
+        self.assertEqual((told.stdout, told.returncode), ("", 4))
+        self.assertEqual(told.stderr, "office-lint: conf: the office has other senders: ftp bd bts rt clock\n")
+
+
+if __name__ == "__main__":
+    unittest.main()

@@ -1,0 +1,84 @@
+"""office-signed: mail that real keys signed, checked by gpgv."""
+import hashlib
+import os
+import shutil
+import subprocess
+import tempfile
+import unittest
+
+from helpers import TOOLS, Serving, needs_office
+from office_tools.service import Service
+
+TEXT = b"From: ftp\nNumber: 1\nKind: none\nOffice: trixie\n"
+
+
+@needs_office
+@unittest.skipUnless(shutil.which("gpg") and shutil.which("gpgv"), "there is no gpg or gpgv")
+class Signed(unittest.TestCase):
+
+    @classmethod
+    def setUpClass(cls):
+        cls.folder = tempfile.TemporaryDirectory()
+        cls.addClassCleanup(cls.folder.cleanup)
+        cls.keys = os.path.join(cls.folder.name, "keys")
+        cls.home = os.path.join(cls.folder.name, "home")
+        os.mkdir(cls.keys)
+        os.mkdir(cls.home, 0o700)
+        for user in ("ftp", "rt", "other"):
+            cls.gpg("--passphrase", "", "--quick-generate-key", f"{user}@example.org", "ed25519", "sign", "never")
+            if user != "other":
+                with open(os.path.join(cls.keys, f"{user}.gpg"), "wb") as file:
+                    file.write(cls.gpg("--export", f"{user}@example.org"))
+
+    @classmethod
+    def tearDownClass(cls):
+        subprocess.run(["gpgconf", "--homedir", cls.home, "--kill", "all"], check=False)
+
+    @classmethod
+    def gpg(cls, *words, given=b""):
+        words = ["gpg", "--homedir", cls.home, "--batch", "-q", *words]
+        return subprocess.run(words, input=given, stdout=subprocess.PIPE, stderr=subprocess.DEVNULL, check=True).stdout
+
+    def sign(self, user, text, how="--sign"):
+        return self.gpg("-u", f"{user}@example.org", how, given=text)
+
+    def post(self, serving, signed, office="trixie"):
+        words = [os.path.join(TOOLS, "bin", "office-signed"), self.keys, office, serving.url]
+        told = subprocess.run(words, input=signed, capture_output=True, check=False)
+        return told.stdout.decode(), told.stderr.decode().split("\n")[0], told.returncode
+
+    def test_signed(self):
+        with Serving() as serving:
+            signed = self.sign("ftp", TEXT)
+            for _ in range(2):
+                self.assertEqual(self.post(serving, signed), ("held ftp 1\n", "", 0))
+            self.assertEqual(Service(serving.url).kept_text("ftp", 1), TEXT)
+            kept = os.path.join(self.folder.name, "signed", "ftp-" + hashlib.sha256(TEXT).hexdigest())
+            with open(kept, "rb") as file:
+                self.assertEqual(file.read(), signed)
+            other = self.sign("ftp", TEXT + b"Note: other\n")
+            self.assertEqual(self.post(serving, other), ("refused OtherText\n", "", 3))
+
+    def test_refusals(self):
+        as_rt = TEXT.replace(b"From: ftp", b"From: rt")
+        clear = self.sign("ftp", TEXT, "--clearsign")
+        told = "office-signed: "
+        with Serving() as serving:
+            for signed, office, due in [
+                    (self.sign("ftp", TEXT), "sid", (told + "it is for trixie, and not for sid", 3)),
+                    (self.sign("ftp", as_rt), "trixie", (told + "ftp signed it, and not rt", 3)),
+                    (self.sign("ftp", b"X: y\n\n" + TEXT), "trixie",
+                     (told + "it is for no named office, and not for trixie", 3)),
+                    (self.sign("ftp", b"X: y\nOffice: trixie\n\n" + TEXT), "trixie",
+                     (told + "ftp signed it, and not None", 3)),
+                    (self.sign("other", TEXT), "trixie", (told + "no key fits", 1)),
+                    (clear.replace(b"Number: 1", b"Number: 2"), "trixie", (told + "no key fits", 1)),
+                    (TEXT, "trixie", (told + "no key fits", 1)),
+                    (b"", "trixie", (told + "no key fits", 1)),
+                    (self.sign("ftp", TEXT + b"Note: " + b"x" * 65536), "trixie", (told + "no key fits", 1))]:
+                self.assertEqual(self.post(serving, signed, office), ("", *due))
+            self.assertEqual(Service(serving.url).kept()["ftp"].kept, 0)
+
+
+if __name__ == "__main__":
+    unittest.main()
