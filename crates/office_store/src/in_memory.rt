@@ -10,7 +10,7 @@ ghost use Rattle.office_store_tables.specs.Entries.{source_map, entry_map};
 ghost use Rattle.office_store_tables.specs.Finishing.{FinishesRun};
 ghost use Rattle.office_store_tables.specs.Legible.{IsWhole, AreNamed, SaysOnce};
 ghost use Rattle.office_store_tables.specs.TableContent.{is_arch_place, release_place, suite_in};
-ghost use Rattle.office_store_tables.specs.TableSteps.{Same};
+ghost use Rattle.office_store_tables.specs.ReadsOnly.{ReadsOnly, BeginsOurs, Finds};
 ghost use Rattle.office_store_tables.specs.Tables.{IsTrusted, IsOurs, Lasts, kept_rows};
 
 use deb_control::NoMemory;
@@ -74,15 +74,12 @@ pub(crate) fn next_testing<S: Alter>(
     setup: &Setup,
     in_memory: &mut Option<Testing>,
 ) -> Result<Testing, KeepFault>
-    requires ours { IsTrusted (state S.Store conn.old) → IsOurs (state S.Store conn.old) }
-    ensures before { IsTrusted (state S.Store conn.new) → IsTrusted (state S.Store conn.old) }
-    ensures lasts { Lasts (state S.Store conn.old) (state S.Store conn.new) }
-    ensures open { HasCleanDisk (state S.Store conn.new) → IsTrusted (state S.Store conn.old) → OnOk result (IsTrusted (state S.Store conn.new)) }
-    ensures same { IsTrusted (state S.Store conn.new) → Same (state S.Store conn.old) (state S.Store conn.new) }
+    requires ours { BeginsOurs S.Store conn.old }
+    ensures reads { ReadsOnly S.Store conn.old conn.new result }
     ensures stays { in_memory.new ≡ in_memory.old }
     ensures bad { IsTrusted (state S.Store conn.new) → IsWhole (kept_rows ((state S.Store conn.new).now.trees 1)) ((state S.Store conn.new).now.trees 1) → AreNamed setup.now (state S.Store conn.new).now.trees → result ≢ Err (KeepFault.Store Cause.BadRow) }
     ensures known { IfOk result (λ testing. KnowsArchs setup.now.archs testing.rows) }
-    ensures value { IsTrusted (state S.Store conn.new) → IfOk result (λ testing. (in_memory.old ≡ Some testing) ⊎ (testing ≡ suite_in setup.now (kept_rows ((state S.Store conn.new).now.trees 1)) (source_map ((state S.Store conn.new).now.trees 4)) (entry_map ((state S.Store conn.new).now.trees 6)))) }
+    ensures value { Finds S.Store conn.new result (λ db testing. (in_memory.old ≡ Some testing) ⊎ (testing ≡ suite_in setup.now (kept_rows (db 1)) (source_map (db 4)) (entry_map (db 6)))) }
 {
     match share(setup, in_memory)? {
         Some(testing) => Ok(testing),

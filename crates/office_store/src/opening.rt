@@ -1,12 +1,12 @@
 //! Opening an office's tables in a database, fresh or kept.
-ghost use Rattle.std.specs.Prelude.{◌≡◌, ◌≢◌, ◌⊎◌, false, IsTrue, Some, None, Err, IfOk, IfErr, OnOk, OnErr};
+ghost use Rattle.std.specs.Prelude.{◌≡◌, ◌≢◌, ◌⊎◌, false, Some, None, Err, IfOk, IfErr, OnOk, OnErr};
 ghost use Rattle.std.specs.Option.{option_copied};
 ghost use Rattle.sqlite.specs.Order.{column};
 ghost use Rattle.sqlite.specs.Held.{state};
 ghost use Rattle.sqlite.specs.State.{HasCleanDisk};
 ghost use Rattle.office_mail.specs.Lists.{Lists};
 ghost use Rattle.office_store_tables.specs.Tables.{IsTrusted, IsOurs, number_in, text_in, Endures, Lasts};
-ghost use Rattle.office_store_tables.specs.TableSteps.{Same};
+ghost use Rattle.office_store_tables.specs.ReadsOnly.{ReadsOnly, BeginsOurs, Finds};
 ghost use Rattle.office_store.specs.Opening.{open_fault, text_by, shown_office, text_of_one, kept_text, lists_by, IsKeptFor, IsOpened, IsKeptForOther, IsUnknown, IsUnreadable, IsAlone, IsTakeable};
 ghost use Rattle.office_store_tables.specs.Creating.{IsBlank};
 ghost use Rattle.office_store_tables.specs.Layout.{no_schema, has_none, HasEachBefore};
@@ -169,12 +169,9 @@ fn same_or_other(alloc: Global, kept: &Setup, setup: &Setup) -> Result<(), OpenF
 
 /// Goes on over the office's tables, where they are kept for this setup.
 fn go_on<S: Alter>(alloc: Global, conn: &mut Connection<S>, setup: &Setup) -> Result<(), OpenFault>
-    requires ours { IsTrusted (state S.Store conn.old) → IsOurs (state S.Store conn.old) }
-    ensures before { IsTrusted (state S.Store conn.new) → IsTrusted (state S.Store conn.old) }
-    ensures lasts { Lasts (state S.Store conn.old) (state S.Store conn.new) }
-    ensures open { HasCleanDisk (state S.Store conn.new) → IsTrusted (state S.Store conn.old) → OnOk result (IsTrusted (state S.Store conn.new)) }
-    ensures same { IsTrusted (state S.Store conn.new) → Same (state S.Store conn.old) (state S.Store conn.new) }
-    ensures kept { IsTrusted (state S.Store conn.new) → OnOk result (lists_by (kept_text ((state S.Store conn.new).now.trees 0)) ≡ Some setup.now) }
+    requires ours { BeginsOurs S.Store conn.old }
+    ensures reads { ReadsOnly S.Store conn.old conn.new result }
+    ensures kept { Finds S.Store conn.new result (λ db _. lists_by (kept_text (db 0)) ≡ Some setup.now) }
     ensures other { IsTrusted (state S.Store conn.new) → result ≡ Err OpenFault.OtherSetup → (kept : Lists) × (lists_by (kept_text ((state S.Store conn.new).now.trees 0)) ≡ Some kept) × (kept ≢ setup.now) }
     ensures unknown { IsTrusted (state S.Store conn.new) → result ≡ Err OpenFault.UnknownSchema → lists_by (kept_text ((state S.Store conn.new).now.trees 0)) ≡ None }
     ensures bad { result ≢ Err (OpenFault.Store BadRow) }

@@ -7,6 +7,7 @@ pub mod ReportReads
 pub mod NextFacts
 pub mod KeepAllLemmas
 pub use Rattle.office_store_testing_tables.proofs.StateLemmas
+pub use Rattle.office_store_testing_tables.proofs.ReadingLemmas
 pub use Rattle.office_store_testing_tables.proofs.KeyedFacts
 pub use Rattle.office_store_testing_tables.proofs.LetterFacts
 pub use Rattle.office_store_testing_tables.proofs.MailLemmas

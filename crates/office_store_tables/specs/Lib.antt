@@ -4,6 +4,7 @@ pub use Rattle.office_store_testing_tables.specs.Texts
 pub use Rattle.office_store_testing_tables.specs.Tables
 pub use Rattle.office_store_testing_tables.specs.TableSteps
 pub use Rattle.office_store_testing_tables.specs.StepsWithin
+pub use Rattle.office_store_testing_tables.specs.ReadsOnly
 pub use Rattle.office_store_testing_tables.specs.Entries
 pub use Rattle.office_store_testing_tables.specs.EntrySteps
 pub use Rattle.office_store_testing_tables.specs.FactTables

@@ -6,7 +6,8 @@ ghost use Rattle.sqlite.specs.Held.{state};
 ghost use Rattle.sqlite.specs.Values.{bound};
 ghost use Rattle.sqlite.specs.State.{HasCleanDisk};
 ghost use Rattle.office_store_testing_tables.specs.Tables.{IsTrusted, IsOurs, kept_rows, Lasts};
-ghost use Rattle.office_store_testing_tables.specs.TableSteps.{Same, AddsLetter, AddsLetters, letter_parameters, AreSmall, IsCrowded, IsOnlyNumber, ShowsLeast};
+ghost use Rattle.office_store_testing_tables.specs.TableSteps.{AddsLetter, AddsLetters, letter_parameters, AreSmall, IsCrowded, IsOnlyNumber, ShowsLeast};
+ghost use Rattle.office_store_testing_tables.specs.ReadsOnly.{ReadsOnly, BeginsOurs, Finds};
 ghost use Rattle.office_store_testing_tables.specs.StepsWithin.{StepsWithin, BeginsInside, Yields};
 
 use office_store_keeper::{Cause, KeepFault, NewLetter};
@@ -17,12 +18,9 @@ use sqlite::{Alter, Connection, Error, Row, Transaction, params};
 
 /// The row of mail with this sender's place and the least number from one on, if there is one.
 fn least_from<S: Alter>(conn: &mut Connection<S>, sender: u32, from: u32) -> Result<Vec<Row>, Error>
-    requires ours { IsTrusted (state S.Store conn.old) → IsOurs (state S.Store conn.old) }
-    ensures before { IsTrusted (state S.Store conn.new) → IsTrusted (state S.Store conn.old) }
-    ensures lasts { Lasts (state S.Store conn.old) (state S.Store conn.new) }
-    ensures open { HasCleanDisk (state S.Store conn.new) → IsTrusted (state S.Store conn.old) → OnOk result (IsTrusted (state S.Store conn.new)) }
-    ensures same { IsTrusted (state S.Store conn.new) → Same (state S.Store conn.old) (state S.Store conn.new) }
-    ensures rows { IsTrusted (state S.Store conn.new) → IfOk result (λ rows. ShowsLeast sender from ((state S.Store conn.new).now.trees 1) rows.items) }
+    requires ours { BeginsOurs S.Store conn.old }
+    ensures reads { ReadsOnly S.Store conn.old conn.new result }
+    ensures rows { Finds S.Store conn.new result (λ db rows. ShowsLeast sender from (db 1) rows.items) }
 {
     conn.query_all(
         "SELECT sender, number, body FROM mail WHERE sender = ?1 AND number >= ?2 ORDER BY number LIMIT 1",
@@ -52,12 +50,9 @@ pub fn next_number<S: Alter>(
     sender: u32,
     from: u32,
 ) -> Result<Option<u32>, KeepFault>
-    requires ours { IsTrusted (state S.Store conn.old) → IsOurs (state S.Store conn.old) }
-    ensures before { IsTrusted (state S.Store conn.new) → IsTrusted (state S.Store conn.old) }
-    ensures lasts { Lasts (state S.Store conn.old) (state S.Store conn.new) }
-    ensures open { HasCleanDisk (state S.Store conn.new) → IsTrusted (state S.Store conn.old) → OnOk result (IsTrusted (state S.Store conn.new)) }
-    ensures same { IsTrusted (state S.Store conn.new) → Same (state S.Store conn.old) (state S.Store conn.new) }
-    ensures next { IsTrusted (state S.Store conn.new) → IfOk result (λ number. IsNextNumber (kept_rows ((state S.Store conn.new).now.trees 1)) sender from number) }
+    requires ours { BeginsOurs S.Store conn.old }
+    ensures reads { ReadsOnly S.Store conn.old conn.new result }
+    ensures next { Finds S.Store conn.new result (λ db number. IsNextNumber (kept_rows (db 1)) sender from number) }
     ensures bad { IsTrusted (state S.Store conn.new) → result ≡ Err (KeepFault.Store Cause.BadRow) → AreSmall (kept_rows ((state S.Store conn.new).now.trees 1)) → IsCrowded ((state S.Store conn.new).now.trees 1) }
 {
     let rows = least_from(conn, sender, from)?;

@@ -1,5 +1,5 @@
 //! The tables of the office and of its finished runs.
-ghost use Rattle.std.specs.Prelude.{◌≡◌, ◌≢◌, ◌<◌, ℕ, Err, ◌∷◌, [], Some, pos, map, filter, IfOk, OnOk};
+ghost use Rattle.std.specs.Prelude.{◌≡◌, ◌≢◌, ◌<◌, ℕ, Err, ◌∷◌, [], Some, pos, map, filter, IfOk};
 ghost use Rattle.std.specs.List.Sorted.{IsPermutation};
 ghost use Rattle.std.specs.FinMap.{get};
 ghost use Rattle.std.specs.Str.{IsUtf8};
@@ -11,9 +11,9 @@ ghost use Rattle.office_store_keeper.specs.declared.values.Reports.{Reports as R
 ghost use Rattle.sqlite.specs.Order.{column};
 ghost use Rattle.sqlite.specs.declared.types.Value.TheVariants.{Int, Text as Words};
 ghost use Rattle.sqlite.specs.Held.{state};
-ghost use Rattle.sqlite.specs.State.{HasCleanDisk};
-ghost use Rattle.office_store_testing_tables.specs.Tables.{IsTrusted, IsOurs, said_in as said_rows, run_map, Lasts};
-ghost use Rattle.office_store_testing_tables.specs.TableSteps.{Same, IsOnlyOffice, IsOnlyRun, AddsRun, Silences, SaysMore, RecordsRun, office_columns, is_run, run_columns};
+ghost use Rattle.office_store_testing_tables.specs.Tables.{IsTrusted, said_in as said_rows, run_map};
+ghost use Rattle.office_store_testing_tables.specs.TableSteps.{IsOnlyOffice, IsOnlyRun, AddsRun, Silences, SaysMore, RecordsRun, office_columns, is_run, run_columns};
+ghost use Rattle.office_store_testing_tables.specs.ReadsOnly.{ReadsOnly, BeginsOurs, Finds};
 ghost use Rattle.office_store_testing_tables.specs.StepsWithin.{StepsWithin, BeginsInside, Yields};
 
 use deb_control::Text;
@@ -55,24 +55,18 @@ fn only_said(rows: &[Row]) -> Result<Said, KeepFault>
 
 /// The rows of the office, in any order.
 pub fn office_rows<S: Alter>(conn: &mut Connection<S>) -> Result<Vec<Row>, Error>
-    requires ours { IsTrusted (state S.Store conn.old) → IsOurs (state S.Store conn.old) }
-    ensures before { IsTrusted (state S.Store conn.new) → IsTrusted (state S.Store conn.old) }
-    ensures lasts { Lasts (state S.Store conn.old) (state S.Store conn.new) }
-    ensures open { HasCleanDisk (state S.Store conn.new) → IsTrusted (state S.Store conn.old) → OnOk result (IsTrusted (state S.Store conn.new)) }
-    ensures same { IsTrusted (state S.Store conn.new) → Same (state S.Store conn.old) (state S.Store conn.new) }
-    ensures rows { IsTrusted (state S.Store conn.new) → IfOk result (λ rows. IsPermutation (map office_columns ((state S.Store conn.new).now.trees 0)) rows.items) }
+    requires ours { BeginsOurs S.Store conn.old }
+    ensures reads { ReadsOnly S.Store conn.old conn.new result }
+    ensures rows { Finds S.Store conn.new result (λ db rows. IsPermutation (map office_columns (db 0)) rows.items) }
 {
     conn.query_all("SELECT id, schema, setup, finished FROM office", &[])
 }
 
 /// What the office says of itself.
 pub(crate) fn said<S: Alter>(conn: &mut Connection<S>) -> Result<Said, KeepFault>
-    requires ours { IsTrusted (state S.Store conn.old) → IsOurs (state S.Store conn.old) }
-    ensures before { IsTrusted (state S.Store conn.new) → IsTrusted (state S.Store conn.old) }
-    ensures lasts { Lasts (state S.Store conn.old) (state S.Store conn.new) }
-    ensures open { HasCleanDisk (state S.Store conn.new) → IsTrusted (state S.Store conn.old) → OnOk result (IsTrusted (state S.Store conn.new)) }
-    ensures same { IsTrusted (state S.Store conn.new) → Same (state S.Store conn.old) (state S.Store conn.new) }
-    ensures value { IsTrusted (state S.Store conn.new) → IfOk result (λ said. said_rows ((state S.Store conn.new).now.trees 0) ≡ Some said) }
+    requires ours { BeginsOurs S.Store conn.old }
+    ensures reads { ReadsOnly S.Store conn.old conn.new result }
+    ensures value { Finds S.Store conn.new result (λ db said. said_rows (db 0) ≡ Some said) }
     ensures bad { IsTrusted (state S.Store conn.new) → SaysOnce ((state S.Store conn.new).now.trees 0) → result ≢ Err (KeepFault.Store Cause.BadRow) }
 {
     let rows = office_rows(conn)?;
@@ -81,12 +75,9 @@ pub(crate) fn said<S: Alter>(conn: &mut Connection<S>) -> Result<Said, KeepFault
 
 /// How many runs are finished.
 pub fn finished<S: Alter>(conn: &mut Connection<S>) -> Result<u32, KeepFault>
-    requires ours { IsTrusted (state S.Store conn.old) → IsOurs (state S.Store conn.old) }
-    ensures before { IsTrusted (state S.Store conn.new) → IsTrusted (state S.Store conn.old) }
-    ensures lasts { Lasts (state S.Store conn.old) (state S.Store conn.new) }
-    ensures open { HasCleanDisk (state S.Store conn.new) → IsTrusted (state S.Store conn.old) → OnOk result (IsTrusted (state S.Store conn.new)) }
-    ensures same { IsTrusted (state S.Store conn.new) → Same (state S.Store conn.old) (state S.Store conn.new) }
-    ensures value { IsTrusted (state S.Store conn.new) → IfOk result (λ n. n ≡ count_said (said_rows ((state S.Store conn.new).now.trees 0))) }
+    requires ours { BeginsOurs S.Store conn.old }
+    ensures reads { ReadsOnly S.Store conn.old conn.new result }
+    ensures value { Finds S.Store conn.new result (λ db n. n ≡ count_said (said_rows (db 0))) }
     ensures bad { IsTrusted (state S.Store conn.new) → SaysOnce ((state S.Store conn.new).now.trees 0) → result ≢ Err (KeepFault.Store Cause.BadRow) }
 {
     let said = said(conn)?;
@@ -125,12 +116,9 @@ fn only_reports(rows: &[Row], run: u32) -> Result<Option<Reports>, KeepFault>
 
 /// The rows of this run, in any order.
 fn run_rows<S: Alter>(conn: &mut Connection<S>, run: u32) -> Result<Vec<Row>, Error>
-    requires ours { IsTrusted (state S.Store conn.old) → IsOurs (state S.Store conn.old) }
-    ensures before { IsTrusted (state S.Store conn.new) → IsTrusted (state S.Store conn.old) }
-    ensures lasts { Lasts (state S.Store conn.old) (state S.Store conn.new) }
-    ensures open { HasCleanDisk (state S.Store conn.new) → IsTrusted (state S.Store conn.old) → OnOk result (IsTrusted (state S.Store conn.new)) }
-    ensures same { IsTrusted (state S.Store conn.new) → Same (state S.Store conn.old) (state S.Store conn.new) }
-    ensures rows { IsTrusted (state S.Store conn.new) → IfOk result (λ rows. IsPermutation (map run_columns (filter (is_run run) ((state S.Store conn.new).now.trees 3))) rows.items) }
+    requires ours { BeginsOurs S.Store conn.old }
+    ensures reads { ReadsOnly S.Store conn.old conn.new result }
+    ensures rows { Finds S.Store conn.new result (λ db rows. IsPermutation (map run_columns (filter (is_run run) (db 3))) rows.items) }
 {
     conn.query_all(
         "SELECT number, excuses, updates FROM run WHERE number = ?1",
@@ -140,12 +128,9 @@ fn run_rows<S: Alter>(conn: &mut Connection<S>, run: u32) -> Result<Vec<Row>, Er
 
 /// The reports that stand under a run's number, or none.
 fn recorded<S: Alter>(conn: &mut Connection<S>, run: u32) -> Result<Option<Reports>, KeepFault>
-    requires ours { IsTrusted (state S.Store conn.old) → IsOurs (state S.Store conn.old) }
-    ensures before { IsTrusted (state S.Store conn.new) → IsTrusted (state S.Store conn.old) }
-    ensures lasts { Lasts (state S.Store conn.old) (state S.Store conn.new) }
-    ensures open { HasCleanDisk (state S.Store conn.new) → IsTrusted (state S.Store conn.old) → OnOk result (IsTrusted (state S.Store conn.new)) }
-    ensures same { IsTrusted (state S.Store conn.new) → Same (state S.Store conn.old) (state S.Store conn.new) }
-    ensures value { IsTrusted (state S.Store conn.new) → IfOk result (λ reports. reports ≡ get (run_map ((state S.Store conn.new).now.trees 3)) run) }
+    requires ours { BeginsOurs S.Store conn.old }
+    ensures reads { ReadsOnly S.Store conn.old conn.new result }
+    ensures value { Finds S.Store conn.new result (λ db reports. reports ≡ get (run_map (db 3)) run) }
     ensures bad { IsTrusted (state S.Store conn.new) → (finished : ℕ) → AreReported ((state S.Store conn.new).now.trees 3) finished → result ≢ Err (KeepFault.Store Cause.BadRow) }
 {
     let rows = run_rows(conn, run)?;
@@ -154,13 +139,10 @@ fn recorded<S: Alter>(conn: &mut Connection<S>, run: u32) -> Result<Option<Repor
 
 /// The two reports of a finished run; none of another.
 pub fn reports<S: Alter>(conn: &mut Connection<S>, run: u32) -> Result<Option<Reports>, KeepFault>
-    requires ours { IsTrusted (state S.Store conn.old) → IsOurs (state S.Store conn.old) }
-    ensures before { IsTrusted (state S.Store conn.new) → IsTrusted (state S.Store conn.old) }
-    ensures lasts { Lasts (state S.Store conn.old) (state S.Store conn.new) }
-    ensures open { HasCleanDisk (state S.Store conn.new) → IsTrusted (state S.Store conn.old) → OnOk result (IsTrusted (state S.Store conn.new)) }
-    ensures same { IsTrusted (state S.Store conn.new) → Same (state S.Store conn.old) (state S.Store conn.new) }
+    requires ours { BeginsOurs S.Store conn.old }
+    ensures reads { ReadsOnly S.Store conn.old conn.new result }
     ensures bad { IsTrusted (state S.Store conn.new) → (once : SaysOnce ((state S.Store conn.new).now.trees 0)) → AreReported ((state S.Store conn.new).now.trees 3) once.said.finished → result ≢ Err (KeepFault.Store Cause.BadRow) }
-    ensures value { IsTrusted (state S.Store conn.new) → IfOk result (λ reports. reports ≡ item_from_one run (reports_to (run_map ((state S.Store conn.new).now.trees 3)) (count_said (said_rows ((state S.Store conn.new).now.trees 0))))) }
+    ensures value { Finds S.Store conn.new result (λ db reports. reports ≡ item_from_one run (reports_to (run_map (db 3)) (count_said (said_rows (db 0))))) }
 {
     if run == 0 {
         return Ok(None);

@@ -23,6 +23,3 @@ returns-clause-other g c trusted failed =
 
 pub returns-clause-unknown : goal.returns-clause-unknown
 returns-clause-unknown g c trusted failed = sym (said g c trusted) ∙ c.judge.ensures.unknown failed
-
-pub returns-clause-same : goal.returns-clause-same
-returns-clause-same g c trusted = c.in_ok-rows.ensures.same trusted

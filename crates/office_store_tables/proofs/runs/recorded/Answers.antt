@@ -12,8 +12,5 @@ pub returns-clause-bad : goal.returns-clause-bad
 returns-clause-bad g c trusted finished reported bad =
     run_reads ((state g.S.Store c.run_rows.new.conn).now.trees 3) c.args.run finished c.in_ok-rows.rows.items (c.in_ok-rows.ensures.rows trusted) reported (rw c.as_slice.ensures.value at (c.only_reports.ensures.none bad)) (rw c.as_slice.ensures.value at (c.only_reports.ensures.one bad))
 
-pub returns-in_err-rows-clause-open : goal.returns-in_err-rows-clause-open
-returns-in_err-rows-clause-open g c clean trusted = IfOk-from_err c.from_residual.result _ c.from_residual.ensures.0
-
 pub returns-in_err-rows-clause-value : goal.returns-in_err-rows-clause-value
 returns-in_err-rows-clause-value g c trusted = IfOk-from_err c.from_residual.result _ c.from_residual.ensures.0

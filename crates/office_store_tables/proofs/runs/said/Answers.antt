@@ -13,8 +13,5 @@ pub returns-clause-bad : goal.returns-clause-bad
 returns-clause-bad g c trusted once bad =
     c.only_said.ensures.bad bad once.said once.schema once.finished once.setup (c.as_slice.ensures.value ∙ said_shown ((state g.S.Store c.office_rows.new.conn).now.trees 0) c.in_ok-rows.rows.items (c.in_ok-rows.ensures.rows trusted) once)
 
-pub returns-in_err-rows-clause-open : goal.returns-in_err-rows-clause-open
-returns-in_err-rows-clause-open g c clean trusted = IfOk-from_err c.from_residual.result _ c.from_residual.ensures.0
-
 pub returns-in_err-rows-clause-value : goal.returns-in_err-rows-clause-value
 returns-in_err-rows-clause-value g c trusted = IfOk-from_err c.from_residual.result _ c.from_residual.ensures.0

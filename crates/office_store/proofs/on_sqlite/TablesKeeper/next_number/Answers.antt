@@ -17,19 +17,19 @@ returns-clause-next g c trusted =
     let old = state g.S.Store inside.conn in
     let new = state g.S.Store c.next_number.new.conn in
     subst (λ v. IfOk c.count.result (λ number. IsNextNumber (kept_rows ((state g.S.Store v.conn).now.trees 1)) c.args.sender c.args.from number)) c.self.view_is
-    (value_before c.count.result c.next_number.result (λ (d : Database) number. IsNextNumber (kept_rows (d.trees 1)) c.args.sender c.args.from number) old new c.count.ensures.same (c.next_number.ensures.same trusted) (c.next_number.ensures.next trusted))
+    (value_before c.count.result c.next_number.result (λ (d : Database) number. IsNextNumber (kept_rows (d.trees 1)) c.args.sender c.args.from number) old new c.count.ensures.same (c.next_number.ensures.reads.same trusted) (c.next_number.ensures.next trusted))
 
 pub returns-clause-legible : goal.returns-clause-legible
 returns-clause-legible g c trusted =
     let inside = c.self.inside in
     subst (λ v. IsLegibleStore v.setup (state g.S.Store v.conn).now.trees v.in_memory → IsLegibleStore inside.setup (state g.S.Store c.next_number.new.conn).now.trees inside.in_memory) c.self.view_is
-    (store_same inside.setup (state g.S.Store inside.conn) (state g.S.Store c.next_number.new.conn) inside.in_memory (c.next_number.ensures.same trusted))
+    (store_same inside.setup (state g.S.Store inside.conn) (state g.S.Store c.next_number.new.conn) inside.in_memory (c.next_number.ensures.reads.same trusted))
 
 pub returns-clause-bad : goal.returns-clause-bad
 returns-clause-bad g c trusted legible own =
     let inside = c.self.inside in
     let new = state g.S.Store c.next_number.new.conn in
-    let same = c.next_number.ensures.same trusted in
+    let same = c.next_number.ensures.reads.same trusted in
     let was = subst (λ v. IsLegible v.setup (state g.S.Store v.conn).now.trees) (sym c.self.view_is) legible.tables in
     let is = legible_same inside.setup (state g.S.Store inside.conn) new same was in
     let texts = subst (λ v. AreOwnTexts v.setup (kept_rows ((state g.S.Store v.conn).now.trees 1))) (sym c.self.view_is) own in

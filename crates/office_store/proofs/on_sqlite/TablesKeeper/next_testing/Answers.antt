@@ -11,7 +11,7 @@ returns-clause-value g c trusted =
     let inside = c.self.inside in
     let old = state g.S.Store inside.conn in
     let new = state g.S.Store c.next_testing.new.conn in
-    let same = c.next_testing.ensures.same trusted in
+    let same = c.next_testing.ensures.reads.same trusted in
     subst (λ v. IsLegibleStore inside.setup new.now.trees c.next_testing.new.in_memory → IfOk c.count.result (λ testing. testing ≡ (content_in v.setup (state g.S.Store v.conn).now.trees).testing)) c.self.view_is
     (λ is.
     let was = store_before inside.setup old new inside.in_memory same (subst (IsLegibleStore inside.setup new.now.trees) c.next_testing.ensures.stays is) in
@@ -23,12 +23,12 @@ returns-clause-legible g c trusted =
     let old = state g.S.Store inside.conn in
     let new = state g.S.Store c.next_testing.new.conn in
     subst (λ v. IsLegibleStore v.setup (state g.S.Store v.conn).now.trees v.in_memory → IsLegibleStore inside.setup new.now.trees c.next_testing.new.in_memory) c.self.view_is
-    (λ was. subst (IsLegibleStore inside.setup new.now.trees) (sym c.next_testing.ensures.stays) (store_same inside.setup old new inside.in_memory (c.next_testing.ensures.same trusted) was))
+    (λ was. subst (IsLegibleStore inside.setup new.now.trees) (sym c.next_testing.ensures.stays) (store_same inside.setup old new inside.in_memory (c.next_testing.ensures.reads.same trusted) was))
 
 pub returns-clause-bad : goal.returns-clause-bad
 returns-clause-bad g c trusted legible own =
     let inside = c.self.inside in
     let new = state g.S.Store c.next_testing.new.conn in
     let was = subst (λ v. IsLegible v.setup (state g.S.Store v.conn).now.trees) (sym c.self.view_is) legible.tables in
-    let is = legible_same inside.setup (state g.S.Store inside.conn) new (c.next_testing.ensures.same trusted) was in
+    let is = legible_same inside.setup (state g.S.Store inside.conn) new (c.next_testing.ensures.reads.same trusted) was in
     never_bad c.count.result c.next_testing.result c.count.ensures.same (c.next_testing.ensures.bad trusted is.mail is.testing)
