@@ -89,3 +89,9 @@ returns-in-Err-clause-all g c =
     c.args.bag.now c.rounds.bag c.take_texts-taken.new.bag texts w0 w1 w2 c.in-Err.end (l.so_far (holds_first keeper s0 s1 s2 step.carries h)) (refused_first keeper s0 s1 s2 step.carries) c.in-Err.ensures.last
     (subst (λ (ts : List (List ℕ)). DeliversTexts (state_of keeper s1) (state_of keeper s2) ts w1 w2 c.in_ok-lost_more.lost_more (StoreRefused keeper s1 s2)) c.deref.ensures.value (step.ok (holds_next keeper s0 s1 s2 l.carries step.carries h)))
     (refused_next keeper s0 s1 s2 l.carries) c.either-lost.ensures
+
+pub returns-in_err-lost_more-clause-counts : goal.returns-in_err-lost_more-clause-counts
+returns-in_err-lost_more-clause-counts g c = counts_twice c.args.bag.now c.rounds.bag c.take_texts-taken.new.bag c.rounds.invariant.counts c.take_texts-taken.ensures.counts
+
+pub returns-in-Err-clause-counts : goal.returns-in-Err-clause-counts
+returns-in-Err-clause-counts g c = counts_twice c.args.bag.now c.rounds.bag c.take_texts-taken.new.bag c.rounds.invariant.counts c.take_texts-taken.ensures.counts

@@ -26,3 +26,12 @@ messages-preserved g c =
       calls = omega (arith, l.calls, c.next.ensures.calls);
       counts = counts_twice c.args.bag.now c.messages.bag c.next.new.self l.counts c.next.ensures.counts;
     }
+
+pub returns-then-bytes-ge-FULL-clause-counts : goal.returns-then-bytes-ge-FULL-clause-counts
+returns-then-bytes-ge-FULL-clause-counts g c = counts_twice c.args.bag.now c.messages.bag c.next.new.self c.messages.invariant.counts c.next.ensures.counts
+
+pub returns-in-Ok-None-clause-counts : goal.returns-in-Ok-None-clause-counts
+returns-in-Ok-None-clause-counts g c = counts_twice c.args.bag.now c.messages.bag c.next.new.self c.messages.invariant.counts c.next.ensures.counts
+
+pub returns-in-Err-clause-counts : goal.returns-in-Err-clause-counts
+returns-in-Err-clause-counts g c = counts_twice c.args.bag.now c.messages.bag c.next.new.self c.messages.invariant.counts c.next.ensures.counts

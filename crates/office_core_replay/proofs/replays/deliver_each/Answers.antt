@@ -90,3 +90,12 @@ returns-in-Err-clause-all g c =
     let s1 = c.loop-text.office in
     λ h. delivers_all (StoreRefused keeper s0 s1) (state_of keeper s0) (state_of keeper s1) c.args.bag.now c.loop-text.bag c.next.new.self (g.W.Sink.written c.args.writer.now) (g.W.Sink.written c.loop-text.writer) (Some c.in-Err.fault) c.loop-text.lost
     (c.loop-text.invariant.so_far h) c.in-Err.ensures.fault
+
+pub returns-in_err-mark-in-Ok-Some-clause-counts : goal.returns-in_err-mark-in-Ok-Some-clause-counts
+returns-in_err-mark-in-Ok-Some-clause-counts g c = counts_twice c.args.bag.now c.loop-text.bag c.next.new.self c.loop-text.invariant.counts c.next.ensures.counts
+
+pub returns-in-Ok-None-clause-counts : goal.returns-in-Ok-None-clause-counts
+returns-in-Ok-None-clause-counts g c = counts_twice c.args.bag.now c.loop-text.bag c.next.new.self c.loop-text.invariant.counts c.next.ensures.counts
+
+pub returns-in-Err-clause-counts : goal.returns-in-Err-clause-counts
+returns-in-Err-clause-counts g c = counts_twice c.args.bag.now c.loop-text.bag c.next.new.self c.loop-text.invariant.counts c.next.ensures.counts
