@@ -14,8 +14,10 @@ if [ $# -lt 1 ] || [ $# -gt 2 ] || [ ! -x "$1" ] || [ "${2:-without-kit}" != wit
 fi
 bench=$(cd "$(dirname "$0")" && pwd)
 office=$(realpath -e -- "$1")
-packages=$bench/../examples/Packages
 told=$(mktemp -d)
+# (one package of the example has a version that no reader of versions takes)
+packages=$told/Packages
+awk -v RS= -v ORS='\n\n' '!/\nVersion: [^\n]*_/' "$bench/../examples/Packages" > "$packages"
 passed=0
 failed=0
 
