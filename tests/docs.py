@@ -22,17 +22,16 @@ from pathlib import Path
 WORDS = {'office', 'rt', 'cd', 'cat', 'curl', 'grep', 'sed', 'cp', 'rm', 'mkdir', 'printf', 'sqlite3', 'cmp', 'make',
          'systemctl', 'journalctl', 'apt', 'apt-get'}
 SECONDS = 600
-KIT = 'it needs the kit, and proves before it runs'
 # What isn't run, in which document, and why. An empty text of the environment's APT keeps apt's commands out.
 NOT_RUN = [
-    ('README.md', r'\.ci/run', KIT + ': the gate takes more than an hour'),
-    ('README.md', r'rt try ', KIT.split(',')[0]),
+    ('README.md', r'\.ci/run', 'it needs the kit and an hour'),
     ('README.md', r'(office|\.\.) .*   ', 'it is a table of the commands'),
     ('docs/FIRST_WEEK.md', r'apt-get |/usr/lib/apt/|.*bookworm', 'it needs the network and root: APT=1 runs it'),
-    ('docs/MANUAL.md', r'office-mirror --state ', 'it needs two machines'),
+    ('share/README.md', r'office-mirror --state ', 'it needs two machines'),
+    ('share/README.md', r'systemctl |apt |make |share/', 'it changes the machine, or is run by share/check.sh'),
 ]
 # What is run in the place of a command: the program is given, so it isn't built first.
-INSTEAD = [(r'\brt run -- ', 'office ')]
+INSTEAD = [(r'\brt try --data (\S+?)=(\S+) -- (.*) --conf \1', r'office \3 --conf \2')]
 # Commands that end with another status than 0: here nothing is refused, so grep finds nothing; a run waits for mail.
 ENDS = {"office replay --conf examples/setup.conf < bag |\n    sed '/^ready /,$d' | grep -n refused": 1,
         'office waiting --conf examples/setup.conf < part': 1}
@@ -40,7 +39,9 @@ ENDS = {"office replay --conf examples/setup.conf < bag |\n    sed '/^ready /,$d
 REFUSED = 22
 SENTENCE = re.compile(r'curl: \(22\) .*\n')
 # What a document takes as given, made before its commands.
-GIVEN = {'share/man/office.1': 'cp examples/setup.conf setup.conf; cp examples/archive/01-ftp-1-upload-lib message'}
+GIVEN = {'share/man/office.1': 'cp examples/setup.conf setup.conf; cp examples/archive/01-ftp-1-upload-lib message',
+         'share/README.md': 'cp examples/setup.conf setup.conf; '
+                            'office replay --conf setup.conf --db store.db < examples/archive.bag > replayed'}
 
 
 class Command:
@@ -82,7 +83,7 @@ def is_command(document, line):
         # What `office mail --list` tells of the sender rt.
         return False
     word = line.split(' ')[0]
-    is_path = re.fullmatch(r'(share|examples|tests)/\S+|/usr/lib/\S+|\.\.', word)
+    is_path = re.fullmatch(r'(share|examples|tests|\.ci)/\S+|/usr/lib/\S+|\.\.', word)
     return bool(word in WORDS or is_path or re.fullmatch(r'office-[a-z-]+', word))
 
 

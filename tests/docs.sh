@@ -1,6 +1,6 @@
 #!/bin/sh
-# Runs the commands of README.md, docs/MANUAL.md, docs/FIRST_WEEK.md and the manual page as they are written, each
-# document in a clean copy of the repository, and compares what they print with what the documents show.
+# Runs the commands of README.md, docs/MANUAL.md, docs/FIRST_WEEK.md, share/README.md and the manual page as they are
+# written, each document in a clean copy of the repository, and compares what they print with what the documents show.
 #
 # Usage: tests/docs.sh OFFICE
 #
@@ -29,7 +29,7 @@ export CURL_HOME PATH PYTHONDONTWRITEBYTECODE
 
 passed=0
 failed=0
-for document in README.md docs/MANUAL.md docs/FIRST_WEEK.md share/man/office.1; do
+for document in README.md docs/MANUAL.md docs/FIRST_WEEK.md share/README.md share/man/office.1; do
     copy=$work/copy
     rm -rf "$copy"
     mkdir "$copy"

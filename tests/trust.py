@@ -1,6 +1,6 @@
 #!/usr/bin/env python3
-"""Finds each file and each name that docs/TRUST.md cites, the counts of lines that it and README.md give, the code that
-pages of docs/ quote, and the program's version in CHANGELOG.md.
+"""Finds each file and each name that docs/TRUST.md and the pages of crates cite, the files that other pages cite, the
+counts of lines that TRUST.md and README.md give, the code that pages quote, and the program's version in CHANGELOG.md.
 
 usage: trust.py [TOP]     (exit status 0: all are there; 1: a line for each that isn't)
 
@@ -8,6 +8,8 @@ A citation stands in backticks. One with a slash is a path, from the top or from
 the top. Any other is a name, and has to stand as a whole word in a file that the same part of its row or paragraph
 cites: in a table a name of the columns "call" and "file" in a file of these two, a name of the column "definitions" in
 a file behind it. A name in a paragraph without a file may stand in any source. The counts are those of trusted.py.
+The page of a crate is `crates/NAME/README.md`. Its paths may begin at its own folder too, or at that of a crate whose
+name begins with NAME. The first word of each other citation has to stand in a source of crates/ or tests/.
 A quotation is a fence of Rust whose first line is a comment with a path: the rest of it has to stand in that file, with
 a line of two points where lines are left out.
 """
@@ -19,16 +21,18 @@ from pathlib import Path
 TOP = Path(sys.argv[1] if len(sys.argv) > 1 else Path(__file__).resolve().parents[1])
 PAGE = TOP / 'docs' / 'TRUST.md'
 SOURCES = {'.rt', '.antt', '.py', '.sh'}
+# The name of a file or a folder on the page of a crate.
+IS_FILE = re.compile(r'\w[\w.-]*(?:/[\w.-]+)+/?|[\w.-]+\.(?:rt|antt|py|sh|txt|md)')
 # Words of the toolchain and folders that each crate has: they name nothing in particular.
-PLAIN = {'src/', 'specs/', 'proofs/', 'must-fail/', 'crates/', 'use'}
+PLAIN = {'src/', 'specs/', 'proofs/', 'must-fail/', 'crates/', 'use', 'crates/NAME/README.md'}
 
 def is_path(word):
     """Whether a citation names a file or a folder."""
     return '/' in word or word.endswith(('.txt', '.md')) or re.fullmatch(r'[\w.-]+\.(rt|antt|py|sh)', word)
 
-def found(path):
-    """The file or folder that a path names, from the top or from crates/."""
-    for base in (TOP, TOP / 'crates'):
+def found(path, more=()):
+    """The file or folder that a path names, from the top, from crates/ or from one of more folders."""
+    for base in (TOP, TOP / 'crates', *more):
         if (base / path).exists():
             return base / path
     return None
@@ -80,10 +84,46 @@ def faults_of(number, part):
         if not is_path(word) and not has(name, places):
             yield f'docs/TRUST.md:{number}: {name} isn\'t in {", ".join(paths) or "any source"}'
 
+def pages(*patterns):
+    """The pages of these patterns."""
+    return sorted(page for pattern in patterns for page in TOP.glob(pattern))
+
+def citations(page):
+    """Each citation of a page outside of its quotations, with the number of its line."""
+    text = re.sub(r'(?s)```.*?```', lambda fence: '\n' * fence[0].count('\n'), page.read_text())
+    for number, line in enumerate(text.split('\n'), 1):
+        yield from ((number, word) for word in re.findall(r'`([^`]+)`', line))
+
+def crate_faults():
+    """What the pages of crates cite that isn't there."""
+    sources = [text for folder in ('crates', 'tests') for text in texts(TOP / folder)]
+    words = {word for text in sources for word in re.findall(r"[\w']+", text)}
+    for page in pages('crates/*/README.md'):
+        folders = pages(f'crates/{page.parent.name}*')
+        for number, cited in citations(page):
+            name = re.match(r"(?:\w+(?:::|\.))*([^\W\d][\w']*)", cited)
+            if IS_FILE.fullmatch(cited):
+                if not found(cited, folders):
+                    yield f'{page.relative_to(TOP)}:{number}: there is no {cited}'
+            elif name and name[1] not in words:
+                yield f'{page.relative_to(TOP)}:{number}: {name[1]} isn\'t in any source'
+
+def file_faults():
+    """What other pages cite of the repository's files that isn't there: pages, and what is below a folder of the top or
+    of crates/ that isn't built. A folder in capitals, as NAME, stands for any."""
+    folders = {folder.name for folder in pages('*', 'crates/*')}
+    for page in pages('*.md', 'docs/*.md', 'bench/*.md', 'share/*.md'):
+        for number, cited in citations(page) if page != PAGE else []:
+            steps = Path(cited).parts
+            is_left_out = any(step.isupper() or step == 'out' for step in steps)
+            is_meant = IS_FILE.fullmatch(cited) and (steps[0] in folders or cited.endswith('.md')) and not is_left_out
+            if is_meant and not found(cited, [TOP / 'docs', page.parent]):
+                yield f'{page.relative_to(TOP)}:{number}: there is no {cited}'
+
 def quotations():
     """The quotations of the pages that don't stand in their files, and how many there are."""
     missing, count = [], 0
-    for page in sorted((TOP / 'docs').glob('*.md')):
+    for page in pages('*.md', 'docs/*.md', 'crates/*/README.md'):
         for path, code in re.findall(r'(?s)```rust\n// (\S+)\n(.*?)```', page.read_text()):
             count += 1
             whole = found(path).read_text() if found(path) else ''
@@ -108,7 +148,7 @@ def main():
         for part in parts(cells):
             cited += len(re.findall(r'`([^`]+)`', part))
             faults += faults_of(number, part)
-    faults += counted()
+    faults += [*crate_faults(), *file_faults(), *counted()]
     missing, quoted = quotations()
     faults += missing
     for fault in faults:

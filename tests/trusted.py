@@ -1,7 +1,7 @@
 #!/usr/bin/env python3
 """Computes which definitions of crates/*/specs a reader must believe: those that a public contract reaches.
 
-usage: trusted.py [TOP] [--claims | --list | --check | --twice | --why=NAME]
+usage: trusted.py [TOP] [--claims | --list | --check | --write | --twice | --why=NAME]
 
 A public contract is what a caller from outside reads of an item that lib.rt passes on as `pub`, also by `pub use` of
 another crate: a function with its `requires` and `ensures`, a trait, the fields of a type, what its `impl Model` and
@@ -10,11 +10,13 @@ definitions and all that these name, and to what contracts see of types. All oth
 It counts lines without comments, blank ones and `use`, twice: from the items of the crates that users call (USERS),
 but for what only crates above call (INNER), which decides what is a step, and from the `pub` items of every crate.
   TOP         the top of the repository (the one that this file is in)
-  --claims    for each claim of CLAIMS the lines that a reader must believe for it, those of them that no claim above it
-              needs, and last what no claim needs: laws on which nothing rests, and other calls
+  --claims    for each claim of CLAIMS its row of docs/TRUST.md: the lines that a reader must believe for it, those of
+              them that no claim above it needs, and last what no claim needs: laws on which nothing rests, other calls
   --list      each definition, its lines, and whether it is believed, a step, or a step that contracts of a crate cite
-  --check     a line for each file whose first line says falsely what it is, and for each count of lines in README.md and
-              docs/TRUST.md that is another one here; status 1 if there is a line
+  --check     a line for each file whose first line says falsely what it is, for each claim whose row in README.md or
+              docs/TRUST.md lacks or has another count, and for each other count of lines there that is none here;
+              status 1 if there is a line
+  --write     puts the counts of this tree into both pages
   --twice     the definitions that stand in two crates under one name with one text
   --why=NAME  what names each definition of this name, back to a public contract
 """
@@ -30,10 +32,11 @@ INNER = {('office_core_replay', 'settle_behind')}
 # What is claimed, each with the calls and laws whose contracts say it. `crate` alone stands for all of a crate's calls.
 CLAIMS = [
     ('the headline', ['office_core::headline']),
-    ('.. of calls, requests and whole replays', [
-        'office_core::steps_follow', 'office_core::runs_stay', 'office_core::empty_is_sound', 'office_core::Office::deliver',
-        'office_core::Office::deliver_together', 'office_core::Office::settle', 'office_core_replay::replays_are_steps',
-        'office_core_replay::replay', 'office_mail::same_set', 'office_mail::later_mail']),
+    ('.. of calls and whole replays', [
+        'office_core::steps_follow', 'office_core::same_texts', 'office_core::runs_stay', 'office_core::empty_is_sound',
+        'office_core::Office::deliver', 'office_core::Office::deliver_together', 'office_core::Office::settle',
+        'office_core_replay::replays_are_steps', 'office_core_replay::replay', 'office_mail::same_set',
+        'office_mail::later_mail']),
     ('versions', ['deb_version::Version', 'deb_version::order_is_total', 'deb_version::key_is_by_blocks']),
     ('control data', ['deb_control::Paragraphs', 'deb_control::Paragraph', 'deb_control::Clauses', 'deb_control::Provisions',
                       'deb_control::Binary', 'deb_control::Relation']),
@@ -331,26 +334,51 @@ def lines_of(definitions):
     return sum(d.count for d in definitions)
 
 def claims(tree, users):
-    """Rows of TRUST's table: a claim, the lines to believe for it, and those of them that no claim above it needs."""
+    """Each claim, the lines to believe for it, and those of them that no claim above it needs; last what none needs."""
     seen = set()
     for claim, starts in CLAIMS:
         found = set(tree.claimed(starts))
-        yield f'| {claim} | {lines_of(found):,} | {lines_of(found - seen):,} |'
+        yield claim, lines_of(found), lines_of(found - seen)
         seen |= found
     laws = {i for crate in USERS for i in tree.surface(crate) if i.kind == 'fn' and not i.body[1:-1].strip()}
     left = set(tree.reached(laws, sorted(laws, key=lambda i: i.name))) & set(users) - seen
-    yield f'| laws on which nothing else rests | | {lines_of(left):,} |'
-    yield f'| other calls | | {lines_of(set(users) - seen - left):,} |'
+    yield 'laws on which nothing else rests', None, lines_of(left)
+    yield 'other calls', None, lines_of(set(users) - seen - left)
+
+def trust_row(claim, lines, more):
+    """A claim's row in the tables of TRUST."""
+    return f'| **{claim}**: {f"{lines:,} lines, {more:,} more" if lines else f"{more:,} lines more"} | | | |'
 
 def figure_faults(tree, users, top):
-    """The rows of claims that TRUST hasn't, and the counts of lines in both pages that are none."""
-    trust, rows = (Path(top) / 'docs' / 'TRUST.md').read_text(), [*claims(tree, users)]
+    """The rows of claims that TRUST and README haven't, and the counts of lines in both pages that are none."""
+    trust, readme = ((Path(top) / page).read_text() for page in ('docs/TRUST.md', 'README.md'))
+    counted = [*claims(tree, users)]
+    rows = [trust_row(*row) for row in counted]
     yield from (f'docs/TRUST.md: it has no row {row}' for row in rows if row not in trust.split('\n'))
+    yield from (f'README.md: it has no row | {claim} | .. | {lines:,} |' for claim, lines, _ in counted
+                if lines and not re.search(rf'(?m)^\| {re.escape(claim)} \|.* \| {lines:,} \|$', readme))
     whole = lines_of(tree.named.values())
-    known = {f'{n:,}' for n in (lines_of(users), whole - lines_of(users), lines_of(tree.claimed(CLAIMS[0][1])))}
+    known = {f'{n:,}' for n in (lines_of(users), whole - lines_of(users))}
+    told = known | {f'{lines or more:,}' for _, lines, more in counted}
+    for page, text in (('docs/TRUST.md', trust), ('README.md', readme)):
+        others = [n for n in re.findall(r'\b[\d,]+(?=\s+(?:other\s+)?lines\b)', text) if n not in told]
+        yield from (f'{page}: {count} lines, which are {", ".join(sorted(known))}' for count in others)
+
+def write_figures(tree, users, top):
+    """Puts the counts of lines of this tree into both pages, and names each page that it changes."""
+    counted, all_users = [*claims(tree, users)], lines_of(users)
+    forms = [(r'(?<=together need )[\d,]+(?= lines)', f'{all_users:,}'),
+             (r'(?<=The other )[\d,]+(?= lines)', f'{lines_of(tree.named.values()) - all_users:,}')]
+    forms += [(rf'(?m)^\| \*\*{re.escape(row[0])}\*\*: .*$', trust_row(*row)) for row in counted]
+    forms += [(rf'(?m)(^\| {re.escape(claim)} \|.* \| )[\d,]+(?= \|$)', rf'\g<1>{lines:,}')
+              for claim, lines, _ in counted if lines]
     for page in ('docs/TRUST.md', 'README.md'):
-        told = re.findall(r'\b[\d,]+(?=\s+(?:other\s+)?lines\b)', (Path(top) / page).read_text())
-        yield from (f'{page}: {count} lines, which are {", ".join(sorted(known))}' for count in told if count not in known)
+        old = new = (Path(top) / page).read_text()
+        for form, text in forms:
+            new = re.sub(form, text, new)
+        if new != old:
+            (Path(top) / page).write_text(new)
+            yield f'{page}: its counts are written anew'
 
 def main():
     option, _, name = next((a for a in sys.argv[1:] if a.startswith('--')), '').partition('=')
@@ -361,7 +389,8 @@ def main():
     faults += figure_faults(tree, users, tops[0])
     kinds = {d: 'believed' if d in users else 'cited step' if d in every else 'step' for d in tree.named.values()}
     lines = {'': lambda: table(tree, users, every), '--check': lambda: faults, '--twice': lambda: twice(tree),
-             '--claims': lambda: claims(tree, users),
+             '--write': lambda: write_figures(tree, users, tops[0]),
+             '--claims': lambda: (trust_row(*row) for row in claims(tree, users)),
              '--list': lambda: (f'{d.file.label}\t{d.name}\t{d.count}\t{kind}' for d, kind in kinds.items()),
              '--why': lambda: (trail(d, users) for d in users if d.name == name)}
     sys.stdout.writelines(f'{line}\n' for line in lines[option]())

@@ -1,9 +1,9 @@
 #!/usr/bin/env python3
-"""The proxy of docs/MANUAL.md: nginx binds each user to the sender of that name, as the manual's text has it.
+"""The proxy of share/README.md: nginx binds each user to the sender of that name, as the page's text has it.
 
   proxy.py PROGRAM [PORT]
 
-PROGRAM is the built program, `crates/office/out/office`. The text is read from the manual, and only its ports and the
+PROGRAM is the built program, `crates/office/out/office`. The text is read from the page, and only its ports and the
 file of its users are others. The service listens at PORT (18760), nginx at the next two. Where nginx isn't installed,
 nothing is tried, and the last line says so. Exit status 0 where each request was answered as it is due.
 """
@@ -23,7 +23,7 @@ program = os.path.abspath(sys.argv[1])
 port = int(sys.argv[2]) if len(sys.argv) > 2 else 18760
 NGINX = shutil.which("nginx", path=os.environ["PATH"] + ":/usr/sbin")
 USERS = ["ftp", "bd", "bts", "rt", "clock", "op"]
-# What stands around the manual's text: all files are in the folder, and nothing runs in the background.
+# What stands around the page's text: all files are in the folder, and nothing runs in the background.
 AROUND = """daemon off; pid nginx.pid; error_log error.log; worker_processes 1;%s
 events { worker_connections 64; }
 http {
@@ -45,10 +45,10 @@ def want(what, due, got):
         faults.append("%s: due %r, got %r" % (what, due, got))
 
 
-def text_of_the_manual():
-    """The block of the manual that configures nginx, for this test's ports and users."""
-    with open(os.path.join(TOP, "docs", "MANUAL.md"), encoding="utf-8") as manual:
-        blocks = re.findall(r"(?m)(?:^(?:    .*)?\n)+", manual.read())
+def text_of_the_page():
+    """The block of the page that configures nginx, for this test's ports and users."""
+    with open(os.path.join(TOP, "share", "README.md"), encoding="utf-8") as page:
+        blocks = re.findall(r"(?m)(?:^(?:    .*)?\n)+", page.read())
     text = next(block for block in blocks if "map $request_body" in block)
     for old, new in [("listen 443 ssl;", "listen 127.0.0.1:%d;" % (port + 1)), ("/etc/nginx/office.users", "users"),
                      ("127.0.0.1:8081", "127.0.0.1:%d" % (port + 2)), ("127.0.0.1:8080", "127.0.0.1:%d" % port)]:
@@ -170,7 +170,7 @@ def main():
     with tempfile.TemporaryDirectory() as folder:
         os.chmod(folder, 0o755)
         with open(os.path.join(folder, "conf"), "w", encoding="utf-8") as conf:
-            conf.write(AROUND % (" user root;" if os.geteuid() == 0 else "", text_of_the_manual()))
+            conf.write(AROUND % (" user root;" if os.geteuid() == 0 else "", text_of_the_page()))
         with open(os.path.join(folder, "users"), "w", encoding="utf-8") as users:
             users.write("".join("%s:{PLAIN}secret\n" % user for user in USERS))
         service = subprocess.Popen([program, "serve", "--conf", CONF, "--port", str(port)], stdout=subprocess.PIPE)

@@ -15,7 +15,7 @@ with open(os.path.join(TOP, "docs/RULES.md"), encoding="utf-8") as file:
 
 def table(head):
     """The rows of the table of the rules whose head has these cells, each a list of its cells."""
-    text = RULES.split("| " + " | ".join(head) + " |\n")[1].split("\n\n")[0]
+    text = RULES.split("| " + " | ".join(head) + " |\n")[1].split("\n\n")[0].rstrip("\n")
     return [[cell.strip() for cell in line.strip("|").split("|")] for line in text.split("\n")[1:]]
 
 
@@ -43,10 +43,10 @@ class Tables(unittest.TestCase):
             self.assertEqual([(rule.name, rule.needed) for rule in rules], due, kind)
 
     def test_words(self):
-        self.assertEqual([urgency.value for urgency in Urgency],
-                         [word for word, _ in words(re.search(r"`Urgency` \(.*?\) is (.*?), without", RULES, re.S)[1])])
+        urgencies = re.search(r"`Urgency`\s+\(.*?\)\s+is\s+(.*?),\s+without", RULES, re.S)
+        self.assertEqual([urgency.value for urgency in Urgency], [word for word, _ in words(urgencies[1])])
         self.assertEqual([severity.value for severity in Severity],
-                         [word for word, _ in words(re.search(r"`Severity` is (.*?)\. The", RULES, re.S)[1])])
+                         [word for word, _ in words(re.search(r"`Severity`\s+is\s+(.*?)\.\s+The", RULES, re.S)[1])])
 
 
 class Reading(unittest.TestCase):
@@ -134,9 +134,15 @@ def made():
 class Writing(unittest.TestCase):
 
     def test_each_kind(self):
-        """The texts are the examples of the rules, which state an urgency and covers in another way."""
+        """The texts are the examples of the rules, but for an urgency and covers; most stand in tables."""
         due = {messages.sender_and_number(text.encode()): text.encode()
-               for text in re.findall(r"```\n(From: .*?)```", RULES, re.S)}
+               for text in re.split(r"\n(?=From: )", re.search(r"```\n(From: .*?)```", RULES, re.S)[1])}
+        for label, fields in table(("Message", "Its further fields, each in a line")):
+            sender, number, kind = words(label)[0][0].split()
+            lines = [f"From: {sender}", f"Number: {number}", f"Kind: {kind}", *(field for field, _ in words(fields))]
+            due[sender, int(number)] = "".join(line + "\n" for line in lines).encode()
+        for number, (_, _, example_of) in enumerate(table(("Hint", "What it asks", "Example")), 1):
+            due["rt", number] = f"From: rt\nNumber: {number}\nKind: hint\nHint: {words(example_of)[0][0]}\n".encode()
         due["ftp", 1] = due["ftp", 1].replace(b"HIGH (fix)", b"high")
         due["clock", 1] = due["clock", 1].replace(b"rt 8, , ftp 2", b"rt 8, ftp 2")
         self.assertEqual({messages.sender_and_number(text): text for text in made()}, due)
