@@ -49,15 +49,16 @@ move_chain() {
         tail -n 1 "$told/replayed"
 }
 
-try replay "$bench/replay/run.sh" "$office" mail:20 waiting:20 backwards:20 idle:20 first:20 runs:20 both:20
+try replay "$bench/replay/run.sh" "$office" mail:20 waiting:20 backwards:20 idle:20 first:20 runs:20 both:20 nine:20
 try replay_store env DB=1 "$bench/replay/run.sh" "$office" runs:20
 try replay_file env ROUNDS=1 python3 "$bench/replay/over_file.py" "$office" runs:20 both:20
+try serving_pages env ROUNDS=1 python3 "$bench/serving/pages.py" "$office" 20
 try serving env ROUNDS=1 REQUESTS=10 python3 "$bench/serving/run.py" "$office" 20
 try pages env WHY=5 python3 "$bench/pages/run.py" "$office" 50
 try replay_phases python3 "$bench/replay/phases.py" "$office" both:20
 try replay_trials count_trials
 try moves_chain move_chain
-try limit env ROUNDS=1 "$bench/limit/run.sh" "$office" runs:20 both:20 "$packages"
+try limit env ROUNDS=1 "$bench/limit/run.sh" "$office" runs:20 both:20 nine:20 sixteen:20 "$packages"
 try asking env ROUNDS=1 python3 "$bench/asking/run.py" "$office" one:20
 try asking_mail env ROUNDS=1 python3 "$bench/asking/over_mail.py" "$office" 100
 try reopen env ROUNDS=1 python3 "$bench/reopen/run.py" "$office" one:20

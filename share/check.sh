@@ -255,7 +255,7 @@ package_is_clean() {
 }
 
 options_are_told() {
-    for command in compare replay serve waiting report runs mail export check; do
+    for command in compare replay serve waiting report runs why try propose hints order lint mail export check; do
         "$program" "$command" --help | sed -n 's/^  *\(-h, \)\{0,1\}--\([a-z]*\).*/\2/p' > "$work/options"
         grep -qx help "$work/options" || { echo "$command --help tells no option" && return 1; }
         while read -r option; do
@@ -340,7 +340,6 @@ try_tool "office-pages: reports of two runs are refused" \
     ends 1 ../tools/bin/office-pages --excuses "$work/update" --update "$work/excuses" "$work"
 try_tool "office-pages: no words" ends 2 ../tools/bin/office-pages
 try_tool "office-pages: no folder" ends 1 ../tools/bin/office-pages "$work/none"
-try_tool "office-from-packages: the examples' indexes" indexes_are_read
 try_tool "office-from-packages: no words" ends 2 ../tools/bin/office-from-packages
 try_tool "office-from-packages: no file" \
     ends 1 ../tools/bin/office-from-packages --uploaded 2025-03-01 --run 2025-03-06 "$work/week" "$work/none"
@@ -356,6 +355,7 @@ try_by lintian "debian/build: lintian" package_is_clean
 if [ -n "$program" ]; then
     OFFICE=$program
     export OFFICE
+    try_tool "office-from-packages: the examples' indexes" indexes_are_read
     try "manual page and completions: the options of the program's help" options_are_told
     try "the program's version, and that of CHANGELOG.md" version_is_told
     try "manual page: the replay of its example" example_is_true

@@ -39,6 +39,8 @@ try() {
 try clients python3 "$here/service/clients.py" "$office"
 try stores python3 "$here/service/stores.py" "$office"
 try asking python3 "$here/service/asking.py" "$office"
+try live python3 "$here/service/live.py" "$office"
+try proposals python3 "$here/service/proposals.py" "$office"
 try replicas python3 "$here/service/replicas.py" "$office"
 try proxy python3 "$here/service/proxy.py" "$office"
 try peers sh "$here/peers/store.sh" --by "$office"

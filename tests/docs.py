@@ -24,7 +24,6 @@ WORDS = {'office', 'rt', 'cd', 'cat', 'curl', 'grep', 'sed', 'cp', 'rm', 'mkdir'
 SECONDS = 600
 # What isn't run, in which document, and why. An empty text of the environment's APT keeps apt's commands out.
 NOT_RUN = [
-    ('README.md', r'\.ci/run', 'it needs the kit and an hour'),
     ('README.md', r'(office|\.\.) .*   ', 'it is a table of the commands'),
     ('docs/FIRST_WEEK.md', r'apt-get |/usr/lib/apt/|.*bookworm', 'it needs the network and root: APT=1 runs it'),
     ('share/README.md', r'office-mirror --state ', 'it needs two machines'),

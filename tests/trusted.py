@@ -26,7 +26,7 @@ from collections import defaultdict
 from pathlib import Path
 
 USERS = ['deb_version', 'deb_control', 'testing_install', 'testing_rules', 'office_mail', 'office_store',
-         'office_core_queries', 'office_core_check', 'office_http', 'office_cli_words', 'office_cli',
+         'office_core_queries', 'office_core_check', 'office_http', 'testing_rules_refusals', 'office_cli_words', 'office_cli',
          'office']
 INNER = {('office_core_replay', 'settle_behind')}
 # What is claimed, each with the calls and laws whose contracts say it. `crate` alone stands for all of a crate's calls.
@@ -51,6 +51,7 @@ CLAIMS = [
     ('the words', ['office_cli_words::read_words', 'office_cli_words::compare_status']),
     ('a store in a file', ['office_store::Tables', 'office_store::open_store', 'office_store::open_tables']),
     ('certificates', ['testing_install_why::certificate', 'testing_install_why::is_shown']),
+    ('what no group frees', ['testing_rules_refusals::no_group_frees']),
     ('whole stores, bags of kept mail, lists', ['office_core_check', 'office_core_queries']),
 ]
 STEPS = '-- Steps: no contract of a call that users make rests on this file.'

@@ -20,8 +20,8 @@ for name in "$@"; do
             > "$work/told" 2>&1 || { tail -3 "$work/told"; exit 1; }
         setup=$work/archive/setup.conf bag=$work/archive/bag
     else
-        setup=$top/bench/replay/setup.conf bag=$work/bag
-        case $name in both:*) setup=$top/bench/replay/both.conf ;; esac
+        setup=$work/conf bag=$work/bag
+        python3 "$top/bench/replay/bag.py" "${name%:*}" conf > "$setup"
         python3 "$top/bench/replay/bag.py" "${name%:*}" "${name#*:}" > "$bag"
     fi
     python3 "$here/turns.py" "$office" "$work/plain" "$setup" "$bag" "${ROUNDS:-5}"

@@ -34,7 +34,9 @@ def measure(office, shape, sources, folder, rounds):
     outputs = [os.path.join(folder, name) for name in ("by_memory", "by_file")]
     with open(bag, "wb") as written:
         subprocess.run([sys.executable, os.path.join(HERE, "bag.py"), shape, sources], stdout=written, check=True)
-    setup = os.path.join(HERE, "both.conf" if shape == "both" else "setup.conf")
+    setup = os.path.join(folder, "conf")
+    with open(setup, "wb") as written:
+        subprocess.run([sys.executable, os.path.join(HERE, "bag.py"), shape, "conf"], stdout=written, check=True)
     words = [office, "replay", "--conf", setup]
     took = {"memory": [], "file": []}
     for _ in range(rounds):

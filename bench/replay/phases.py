@@ -12,6 +12,7 @@ import fcntl
 import os
 import subprocess
 import sys
+import tempfile
 import termios
 import time
 
@@ -76,9 +77,15 @@ def phases(office, setup, stages):
 def main():
     office, bag = sys.argv[1:3]
     shape, sources = bag.split(":")
-    setup = os.path.join(HERE, "both.conf" if shape == "both" else "setup.conf")
-    text = subprocess.run([sys.executable, os.path.join(HERE, "bag.py"), shape, sources], stdout=subprocess.PIPE, check=True).stdout
+    words = [sys.executable, os.path.join(HERE, "bag.py"), shape]
+    text = subprocess.run([*words, sources], stdout=subprocess.PIPE, check=True).stdout
     stages = stages_of(text.rstrip(b"\n"))
+    with tempfile.NamedTemporaryFile(suffix=".conf") as conf:
+        subprocess.run([*words, "conf"], stdout=conf, check=True)
+        tell(office, bag, conf.name, stages)
+
+
+def tell(office, bag, setup, stages):
     for _ in range(int(sys.argv[3]) if len(sys.argv) > 3 else 1):
         took, peak = phases(office, setup, stages)
         runs = [spent for name, spent in took if name == "run"]

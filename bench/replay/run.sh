@@ -11,8 +11,8 @@ trap 'rm -rf "$bags"' EXIT
 [ $# -gt 0 ] || set -- mail:1000 mail:5000 mail:34000 waiting:1000 waiting:5000 waiting:34000 backwards:34000 idle:34000
 for bag in "$@"; do
     python3 "$here/bag.py" "${bag%:*}" "${bag#*:}" > "$bags/bag"
-    setup=$here/setup.conf
-    case $bag in both:*) setup=$here/both.conf ;; esac
+    setup=$bags/conf
+    python3 "$here/bag.py" "${bag%:*}" conf > "$setup"
     rm -f "$bags/store" "$bags/store-wal"
     python3 - "$office" "$setup" "$bags/bag" "$bag" "${DB:+$bags/store}" << 'PYTHON'
 import resource, subprocess, sys, time

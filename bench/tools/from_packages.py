@@ -43,7 +43,7 @@ def archive(sources, newer):
 
 def seconds(*words):
     """The seconds of processor and the megabytes that the tool takes, and what it prints."""
-    process = subprocess.Popen([TOOL, "--uploaded", "2025-03-01", "--run", "2025-03-06", *words],
+    process = subprocess.Popen([TOOL, "--uploaded", "2025-03-01", "--run", "2025-03-06", "--no-hints", *words],
                                stdout=subprocess.PIPE, stderr=subprocess.DEVNULL, text=True)
     printed = process.stdout.read().strip()
     process.stdout.close()

@@ -41,7 +41,9 @@ _office() {
         --port | --connections | --run | --day) return ;;
     esac
     if ((COMP_CWORD == 1)); then
-        _office_words 'compare replay serve waiting report runs why try mail export check --help --version' "$current"
+        _office_words 'compare replay serve waiting report runs why try propose hints order lint mail export check' \
+            "$current"
+        _office_words '--help --version' "$current"
         return
     fi
     case $command in
@@ -54,14 +56,16 @@ _office() {
         replay | waiting) _office_words "$(_office_options --conf --db)" "$current" ;;
         report)
             case $COMP_CWORD in
-                2) _office_words 'testing' "$current" ;;
+                2) _office_words 'testing unstable' "$current" ;;
                 3) [[ ${COMP_WORDS[2]} == [0-9]* ]] && _office_words 'excuses update' "$current" ;;
             esac
             _office_words "$(_office_options --conf --db)" "$current"
             ;;
-        runs | export | check) _office_words "$(_office_options --conf --db)" "$current" ;;
+        runs | hints | export | check) _office_words "$(_office_options --conf --db)" "$current" ;;
         why) _office_words "$(_office_options --conf --db --run)" "$current" ;;
-        try) _office_words "$(_office_options --conf --db --day --all)" "$current" ;;
+        try | propose) _office_words "$(_office_options --conf --db --day --all)" "$current" ;;
+        order) _office_words "$(_office_options --day --conf --db)" "$current" ;;
+        lint) _office_words "$(_office_options --conf)" "$current" ;;
         mail) _office_words "$(_office_options --conf --db --list)" "$current" ;;
         serve) _office_words "$(_office_options --conf --port --db --connections)" "$current" ;;
     esac

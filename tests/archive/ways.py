@@ -1,4 +1,5 @@
-"""Adopts a testing that isn't clean, and looks before an order as docs/ARCHIVE.md says.
+"""Adopts a testing that isn't clean, looks before an order as docs/ARCHIVE.md says, and moves groups as the office
+proposes them.
 
 Usage: ways.py OFFICE FOLDER
 """
@@ -20,7 +21,9 @@ CALM = Upload("calm", "1-1", FIRST, [Package("calm")], "critical")
 RIVALS = [Upload("rival", "1-1", NEXT, [Package("rival", conflicts="calm")], "critical"),
           Upload("both", "1-1", NEXT, [Package("both-of-them", "calm, rival")], "critical"),
           Upload("fine", "1-1", NEXT, [Package("fine", "calm")], "critical")]
-ALL = [*TWELVE, *UNCLEAN, LONE, CALM, *RIVALS]
+KNOT = [Upload(name, "1-1", FIRST, [Package(name, needed)], "critical")
+        for name, needed in (("above", "knota"), ("knota", "knotb"), ("knotb", "knota"))]
+ALL = [*TWELVE, *UNCLEAN, LONE, CALM, *RIVALS, *KNOT]
 
 
 def adopted(program: str, folder: str) -> str:
@@ -105,12 +108,38 @@ def looked(program: str, folder: str) -> str:
     return "looked before an order: a package that libsolv can't install is blocked, all else moves"
 
 
+def proposed(program: str, folder: str) -> str:
+    """Sources that need each other are moved by the hints that the feed mails; the next feed takes these back."""
+    office = Office(program, folder)
+    archive = Reprepro(folder)
+    stage = Stage(office, archive, folder, os.path.join(os.path.dirname(folder), "built"))
+    office.start()
+    try:
+        stage.takes([CALM, *KNOT])
+        stage.line = archive.ready()
+        stage.feed(FIRST, "--propose")
+        expect("update 1", ["accept calm 1-1", *(f"wait {name} 1-1 uninstallable amd64 {name}"
+                                                 for name in ("above", "knota", "knotb"))], list(office.update(1)))
+        expect("update 2", ["easy 1 accept knota 1-1 knotb 1-1", "accept above 1-1"], list(office.update(2)))
+        stage.apply()
+        expect("testing", sorted(office.rows()), sorted(archived(archive)))
+        clients.look(archive, folder)
+        for number in (2, 2):
+            stage.feed(NEXT, "--propose")
+            expect("mail of rt", number, office.service.kept()["rt"].kept)
+        expect("hints in force", [], list(office.service.hints().items))
+        expect("update 3", [], list(office.update(3)))
+    finally:
+        office.stop()
+    return "proposed: a knot and what rests on it moved by the feed's hint, which the next feed took back"
+
+
 def main(words: Sequence[str]) -> None:
-    """Tries both."""
+    """Tries all of them."""
     program, folder = words
     build_all(ALL, os.path.join(folder, "built"))
     told = []
-    for name, way in (("adopted", adopted), ("looked", looked)):
+    for name, way in (("adopted", adopted), ("looked", looked), ("proposed", proposed)):
         os.makedirs(os.path.join(folder, name))
         told.append(way(program, os.path.join(folder, name)))
     print("\n".join(told))

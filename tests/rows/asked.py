@@ -78,12 +78,15 @@ def sent_by(row):
 
 
 def origin_lines(office, source):
-    """Where the reasons come from that keep a source out, over the testing that an office's last run left."""
+    """How it stands with a source, and where the reasons come from that keep it out, over the testing that an office's last
+    run left."""
     known, upload = office.known, office.known.sources.get(source)
     if upload is None:
-        return []
+        return ["unknown " + source]
     _, version, _, day, sender, number = upload
     lines, old = ["upload %s %d %s" % (SENDERS[sender], number, day)], office.sources.get(source)
+    if old is not None and vcmp(old, version) == 0:
+        lines.insert(0, "in testing " + version)
     _, need, aged, why = known.excuse(source) or (0, 0, [], [])
     for reason in why:
         words = reason.split()

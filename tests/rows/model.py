@@ -128,6 +128,7 @@ class Office:
         self.kept, self.finished = {}, 0
         self.sources, self.rows = {}, {}
         self.reports, self.facts, self.known = {}, [], None
+        self.behind_groups = {}, {}, {}  # rows, sources and candidates where the last run's single moves began
 
     def deliver(self, text):
         ps = paragraphs(text)
@@ -319,6 +320,7 @@ class Office:
                     self.rows = new
                     for s, _ in todo:
                         self.sources[s] = left.pop(s)
+        self.behind_groups = self.rows, dict(self.sources), dict(left)
         last = ""
         while True:
             turn = [s for s in sorted(left) if s > last] + [s for s in sorted(left) if s <= last]

@@ -19,6 +19,7 @@ import sqlite3
 import subprocess
 import sys
 import tempfile
+import urllib.error
 import urllib.request
 sys.dont_write_bytecode = True
 TESTS = os.path.join(os.path.dirname(os.path.abspath(__file__)), "..")
@@ -129,7 +130,7 @@ def over_earlier_runs(seed, office, store, sources):
         for source, text in zip(sources, parts):
             fault = why_fault(left, source, said(office, run, source), text)
             want("%d: why %s in run %d" % (seed, source, run), None, fault)
-        want("%d: why in run %d" % (seed, run), 0 if all(text.count("\n") > 1 for text in parts) else 1, status)
+        want("%d: why in run %d" % (seed, run), 0 if all(source in left.known.sources for source in sources) else 1, status)
         again = call("why", *sources, "--run", str(run), "--conf", CONF, bag=bag)
         want("%d: why in run %d over a bag" % (seed, run), (got, status), again)
 
@@ -219,7 +220,7 @@ def over_a_store(seed, office, store):
     for source in sources if office.finished else []:
         got, status = call("why", source, "--conf", CONF, "--db", store)
         fault = why_fault(office, source, said(office, office.finished, source), got)
-        want("%d: why %s" % (seed, source), (None, 0 if len(got.splitlines()) > 1 else 1), (fault, status))
+        want("%d: why %s" % (seed, source), (None, 0 if source in office.known.sources else 1), (fault, status))
         again = call("why", source, "--run", str(office.finished), "--conf", CONF, "--db", store)
         want("%d: why %s in the last run" % (seed, source), (got, status), again)
     got = call("why", sources[0], "--run", str(office.finished + 1), "--conf", CONF, "--db", store)
@@ -246,15 +247,25 @@ def by_service(seed, office, store, due, sources):
     pages += [("/update/%d" % run, office.reports[run][1]) for run in range(1, office.finished + 1)]
     pages += [("/runs", run_lines(office)), ("/kept", mail_lines(office))]
     pages += [("/kept/%s/%d" % (SENDERS[of], number), text) for (of, number), text in sorted(office.kept.items())]
-    pages += [("/why/%s" % name, call("why", name, *stored)[0]) for name in sources]
+    known = office.known.sources if office.known else {}
+    told = {name: call("why", name, *stored)[0] if name in known else "refused NoSource\n" for name in sources}
+    pages += [("/why/%s" % name, text) for name, text in told.items()]
     tries = [["block %s" % name for name in names] for names in (sources[:1], sources) if names]
     pages += [("/try", call("try", *hints, *stored)[0], "\n".join(hints).encode()) for hints in tries]
     words = [program, "serve", *stored[:2], "--port", str(port), "--connections", str(len(pages)), *stored[2:]]
     with subprocess.Popen(words, stdout=subprocess.PIPE) as service:
         service.stdout.readline()
         for path, text, *body in pages:
-            with urllib.request.urlopen("http://127.0.0.1:%d%s" % (port, path), *body, timeout=20) as reply:
-                want("%d: %s" % (seed, path), text, reply.read().decode())
+            want("%d: %s" % (seed, path), text, answer(path, *body))
+
+
+def answer(path, *body):
+    """What the service answers, also where it refuses."""
+    try:
+        with urllib.request.urlopen("http://127.0.0.1:%d%s" % (port, path), *body, timeout=20) as reply:
+            return reply.read().decode()
+    except urllib.error.HTTPError as refused:
+        return refused.read().decode()
 
 
 def one(seed, folder):

@@ -1,31 +1,50 @@
-"""Many kept messages of a service, asked for by few connections at a time and handed out in order."""
-import collections
-import concurrent.futures
-from typing import Iterable, Iterator, Optional
+"""The kept messages of a sender of a service, asked for in parts and handed out in order."""
+from typing import Iterator, Protocol
 
-from office_tools.messages import Label
-from office_tools.service import Service
+from office_tools import bags
+from office_tools.faults import Fault
+from office_tools.messages import Label, label_of
+from office_tools.service import UNANSWERED, Service
 
-CONNECTIONS = 4
-AHEAD = 64  # messages that are asked for before the one that is handed out
+GREATEST = 999_999_999  # the greatest number of a message
 
 
-def texts(service: Service, labels: Iterable[Label]) -> Iterator[tuple[Label, Optional[bytes]]]:
-    """Each of these messages as the service keeps it, in this order; None where it keeps none.
+class Done(Protocol):
+    """Numbers that needn't be asked for."""
 
-    The service answers one connection at a time. While it does, the others wait in the system's queue, so the service
-    has the next request at once.
-    """
-    waiting: collections.deque[tuple[Label, "concurrent.futures.Future[Optional[bytes]]"]] = collections.deque()
-    pool = concurrent.futures.ThreadPoolExecutor(CONNECTIONS)
-    try:
-        for label in labels:
-            waiting.append((label, pool.submit(service.kept_text, label.sender, label.number)))
-            if len(waiting) >= AHEAD:
-                first, text = waiting.popleft()
-                yield first, text.result()
-        while waiting:
-            first, text = waiting.popleft()
-            yield first, text.result()
-    finally:
-        pool.shutdown(cancel_futures=True)
+    def has(self, number: int) -> bool:
+        """Whether a number is one of them."""
+
+    def next_missing(self, first: int) -> int:
+        """The least number from this one on that is none of them."""
+
+
+class Nothing:
+    """No number at all."""
+
+    def has(self, number: int) -> bool:
+        """No number is there."""
+        return False
+
+    def next_missing(self, first: int) -> int:
+        """Each number is missing."""
+        return first
+
+
+def letters(service: Service, sender: str, first: int = 1, done: Done = Nothing()) -> Iterator[tuple[Label, bytes]]:
+    """Each kept message of a sender from a number on that isn't done, by number, whatever gaps there are."""
+    while True:
+        first = done.next_missing(first)
+        if first > GREATEST:
+            return
+        last = first
+        for text in bags.messages_in(service.bag(sender, first)):
+            label = label_of(text)
+            if label is None or label.sender != sender or label.number < last:
+                raise Fault(f"{service.url}/bag/{sender}/{first}: no office answers there", UNANSWERED)
+            last = label.number + 1
+            if not done.has(label.number):
+                yield label, text
+        if last == first:
+            return
+        first = last

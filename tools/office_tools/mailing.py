@@ -1,16 +1,35 @@
 """Mail to a running office."""
-from office_tools.faults import Fault
-from office_tools.service import UNANSWERED, Service
+from typing import Optional
+
+from office_tools.messages import label_of
+from office_tools.service import NO_ROUTE, Service
 
 SERVERS_FAULT = 500  # the first code that says that the server failed, and not the request
 
 
-def mailed(service: Service, text: bytes) -> str:
-    """The reply to a message, `held ..` or `refused ..`. If there is no such reply, it is a `Fault` of status 4."""
-    reply = service.post("/mail", text)
+def mailed(service: Service, text: bytes, sender: Optional[str] = None) -> str:
+    """The reply to a message, `held ..` or `refused ..`. If there is no such reply, it is a `Fault` of status 4.
+
+    It is posted as mail of this sender, so the office refuses it where it is another's. If none is named, and the user
+    at a proxy is its sender, it is posted as that one's mail.
+    """
+    label = label_of(text)
+    if sender is None and label is not None and label.sender == service.user:
+        sender = label.sender
+    return replied(service, "/mail" if sender is None else f"/mail/{sender}", text)
+
+
+def verdict(service: Service, text: bytes) -> str:
+    """What the reply to a message would be, which isn't kept."""
+    return replied(service, "/lint", text)
+
+
+def replied(service: Service, path: str, text: bytes) -> str:
+    """The reply to a message that is posted to a path."""
+    reply = service.post(path, text)
     is_verdict = reply.text.startswith("held ") if reply.is_good else reply.text.startswith("refused ")
-    if not is_verdict or reply.status >= SERVERS_FAULT:
-        raise Fault(f"{service.url}/mail: {reply.told}", UNANSWERED)
+    if not is_verdict or reply.status >= SERVERS_FAULT or reply.text == NO_ROUTE:
+        raise service.bad(path, reply)
     return reply.text
 
 

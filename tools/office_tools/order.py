@@ -1,25 +1,14 @@
 """office-order: the next order of a running office, over all mail that it keeps without a gap."""
 import argparse
-import datetime
 import sys
-from typing import Mapping, Sequence
+from typing import Sequence
 
 from office_tools.accounts import service_at
 from office_tools.days import day, today
 from office_tools.mailing import is_held, mailed
-from office_tools.senders import runs_sender
-from office_tools.service import Kept
 
 URL = "http://127.0.0.1:8080"
 REFUSED = 3
-
-
-def order(runs: str, kept: Mapping[str, Kept], day: datetime.date) -> bytes:
-    """The text of the next order: it covers all mail without a gap, and names no sender of whom there is none."""
-    covers = [f" {sender} {count.unbroken}" for sender, count in kept.items() if sender != runs and count.unbroken]
-    number = kept[runs].unbroken + 1
-    return (f"From: {runs}\nNumber: {number}\nKind: run\nDay: {day.isoformat()}\n"
-            f"Covers:{','.join(covers)}\n").encode()
 
 
 def parser() -> argparse.ArgumentParser:
@@ -40,8 +29,7 @@ def main(words: Sequence[str]) -> int:
     """Prints the order, or mails it."""
     asked = parser().parse_args(words)
     service = service_at(asked.url)
-    kept = service.kept()
-    text = order(runs_sender(service, kept), kept, asked.day)
+    text = service.order(asked.day)
     if not asked.send:
         sys.stdout.write(text.decode())
         return 0

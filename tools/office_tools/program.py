@@ -51,3 +51,26 @@ def testing(setup: str, store: str) -> reports.Testing:
     """What is in testing in such a store."""
     told = output(["report", "testing", "--conf", setup, "--db", store])
     return reports.read_testing(told.decode(), f"{name()} report testing")
+
+
+def unstable(setup: str, store: str) -> reports.Unstable:
+    """What the next run sees of unstable in such a store if its order covers all mail without a gap."""
+    told = output(["report", "unstable", "--conf", setup, "--db", store])
+    return reports.read_unstable(told.decode(), f"{name()} report unstable")
+
+
+def hints(setup: str, store: str) -> reports.Hints:
+    """The hints in force in such a store."""
+    return reports.read_hints(output(["hints", "--conf", setup, "--db", store]).decode(), f"{name()} hints")
+
+
+def proposed(setup: str, bag: bytes, day: str) -> tuple[Sequence[str], Sequence[str]]:
+    """The hints for groups that an office with this mail proposes for a run of that day over all of it.
+
+    Beside them stands what is told of groups that it leaves out.
+    """
+    ran = run(["propose", "--all", "--day", day, "--conf", setup], bag)
+    told = ran.stderr.decode(errors="backslashreplace").splitlines()
+    if ran.returncode not in (0, 1):
+        raise Fault(told[-1] if told else f"{name()} propose: status {ran.returncode}", UNANSWERED)
+    return ran.stdout.decode().splitlines(), [line for line in told if not line.startswith("office: run ")]

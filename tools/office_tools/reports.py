@@ -140,6 +140,52 @@ class Testing:
 
 
 @dataclass(frozen=True)
+class Unstable:
+    """What the next run, behind this many, sees of unstable if its order covers all mail that is kept without a gap.
+
+    A row may be of a source that isn't there.
+    """
+
+    finished: int
+    sources: Mapping[str, str]
+    rows: Sequence[Row]
+
+
+class ItemStanding(enum.Enum):
+    """How it stands with an item of a hint in force."""
+
+    IN_FORCE = "in force"
+    MOVED = "moved"
+    NO_SOURCE = "no source"
+    OTHER_VERSION = "unstable"
+
+
+@dataclass(frozen=True)
+class HintItem:
+    """An item of a hint in force.
+
+    `words` is the hint without its items, as `age-days 3`. `is_covered` says whether a finished run covers the hint.
+    `other` is unstable's version where the item names another one.
+    """
+
+    number: int
+    is_covered: bool
+    words: str
+    item: str
+    standing: ItemStanding
+    other: Optional[str] = None
+
+
+@dataclass(frozen=True)
+class Hints:
+    """The items of all hints in force behind this many runs, by the hints' numbers, and who sent them, if any are."""
+
+    finished: int
+    sender: Optional[str]
+    items: Sequence[HintItem]
+
+
+@dataclass(frozen=True)
 class Run:
     """A finished run: its date, and how many lines of each sort its reports have."""
 
@@ -175,6 +221,10 @@ CHANGE_FORMS: Sequence[tuple[re.Pattern[str], Word, Outcome]] = (
 
 RUN_FORM = (r"run (\d+) (\d{4}-\d{2}-\d{2}) excuses (\d+) candidates (\d+) accept (\d+) easy (\d+) remove (\d+) "
             r"wait (\d+)")
+
+
+HINT_FORM = (r"(\S+) (\d+) (covered|new) (\S+(?: \d+)?) (\S+): "
+             r"(?:(in force|moved|no source)|unstable (\S+))")
 
 
 class Lines:
@@ -293,20 +343,54 @@ def read_testing(text: str, name: str = "testing") -> Testing:
     """What is in testing."""
     lines = Lines(text, name)
     finished = int(lines.need(r"testing (\d+)", "the line `testing F`")[1])
-    sources: dict[str, str] = {}
-    while True:
-        found = lines.next_is(rf"source ({NAME}) (\S+)")
-        if found is None:
-            break
-        sources[found[1]] = found[2]
+    sources = read_sources(lines)
     rows = []
     while lines.is_left():
-        row = Row(*lines.need(r"binary (\S+) (\S+) (\S+) (\S+)", "a source or a binary").groups())
+        row = read_row(lines)
         if row.source not in sources:
             lines.place -= 1
             raise lines.fault(f"the source {row.source} isn't in testing")
         rows.append(row)
     return Testing(finished, sources, rows)
+
+
+def read_unstable(text: str, name: str = "unstable") -> Unstable:
+    """What is in unstable."""
+    lines = Lines(text, name)
+    finished = int(lines.need(r"unstable (\d+)", "the line `unstable F`")[1])
+    sources = read_sources(lines)
+    rows = []
+    while lines.is_left():
+        rows.append(read_row(lines))
+    return Unstable(finished, sources, rows)
+
+
+def read_sources(lines: Lines) -> Mapping[str, str]:
+    """The sources that come next, with their versions."""
+    sources: dict[str, str] = {}
+    while True:
+        found = lines.next_is(rf"source ({NAME}) (\S+)")
+        if found is None:
+            return sources
+        sources[found[1]] = found[2]
+
+
+def read_row(lines: Lines) -> Row:
+    """The next binary package."""
+    return Row(*lines.need(r"binary (\S+) (\S+) (\S+) (\S+)", "a source or a binary").groups())
+
+
+def read_hints(text: str, name: str = "hints") -> Hints:
+    """The hints in force, as `office hints` and `GET /hints` tell them."""
+    lines = Lines(text, name)
+    finished = int(lines.need(r"hints (\d+)", "the line `hints F`")[1])
+    sender: Optional[str] = None
+    items = []
+    while lines.is_left():
+        sender, number, age, words, item, told, other = lines.need(HINT_FORM, "an item of a hint").groups()
+        standing = ItemStanding(told or "unstable")
+        items.append(HintItem(int(number), age == "covered", words, item, standing, other))
+    return Hints(finished, sender, items)
 
 
 def read_runs(text: str, name: str = "runs") -> Sequence[Run]:

@@ -1,5 +1,6 @@
 """A client of the service `office serve`: one request a connection, as the service has it."""
 import base64
+import datetime
 import http.client
 import re
 import ssl
@@ -16,6 +17,8 @@ LONGEST_TOLD = 200  # characters of an answer that are told
 
 KEPT_LINE = re.compile(r"mail (\S+) (\d+) kept(?:, 1 to (\d+))?(?:, greatest (\d+))?")
 STATUS_LINE = re.compile(r"ready (\d+) finished (\d+)\n")
+NO_ROUTE = "refused NoRoute"
+OLDER = "it is an office of an earlier version, and these tools need one that has this page"
 
 
 @dataclass(frozen=True)
@@ -118,8 +121,13 @@ class Service:
         """The body of a GET that is answered with 200; another answer is a `Fault`."""
         reply = self.get(path)
         if not reply.is_good:
-            raise Fault(f"{self.url}{path}: {reply.told}", UNANSWERED)
+            raise self.bad(path, reply)
         return reply.body
+
+    def bad(self, path: str, reply: Reply) -> Fault:
+        """The fault of an answer that isn't the wanted one. An office of an earlier version has fewer pages."""
+        is_older = reply.status == http.client.NOT_FOUND and reply.text == NO_ROUTE
+        return Fault(f"{self.url}{path}: {reply.told}{f': {OLDER}' if is_older else ''}", UNANSWERED)
 
     def good_text(self, path: str) -> str:
         """The same as characters."""
@@ -158,8 +166,33 @@ class Service:
         if reply.status == http.client.NOT_FOUND and reply.text == "refused NoMessage":
             return None
         if not reply.is_good:
-            raise Fault(f"{self.url}{path}: {reply.told}", UNANSWERED)
+            raise self.bad(path, reply)
         return reply.body
+
+    def bag(self, sender: str, first: int) -> bytes:
+        """The kept messages of a sender from a number on, as a bag: what fits into 65,536 bytes, and one at least."""
+        return self.good(f"/bag/{sender}/{first}")
+
+    def order(self, day: datetime.date) -> bytes:
+        """The text of the next order, over all mail that is kept without a gap."""
+        return self.good(f"/order/{day.isoformat()}")
+
+    def hints(self) -> reports.Hints:
+        """The hints in force, and how it stands with each of their items."""
+        return reports.read_hints(self.good_text("/hints"), self.url + "/hints")
+
+    def unstable(self) -> reports.Unstable:
+        """What the next run sees of unstable if its order covers all mail without a gap."""
+        return reports.read_unstable(self.good_text("/unstable"), self.url + "/unstable")
+
+    def proposed(self) -> Optional[str]:
+        """The hints for groups that the office proposes, one a line; None where no run is finished."""
+        reply = self.get("/propose")
+        if reply.status == http.client.NOT_FOUND and reply.text == "refused NoRun":
+            return None
+        if not reply.is_good:
+            raise self.bad("/propose", reply)
+        return reply.body.decode()
 
     def testing(self) -> reports.Testing:
         """What is in testing."""

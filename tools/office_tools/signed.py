@@ -67,16 +67,14 @@ def limited() -> None:
 
 
 def look_at(found: Opened, office: str) -> None:
-    """A text that is for another office, or from another sender than its key's, is a `Fault`."""
+    """A text that is for another office is a `Fault`. Whether it is its key's sender's is for the office to say."""
     try:
         first = next(paragraphs(found.text), None)
     except ParagraphFault as fault:
         raise Fault(fault.cause, REFUSED) from fault
-    sender, named = (first.value("From"), first.value("Office")) if first else (None, None)
+    named = first.value("Office") if first else None
     if named != office:
         raise Fault(f"it is for {named or 'no named office'}, and not for {office}", REFUSED)
-    if sender != found.sender:
-        raise Fault(f"{found.sender} signed it, and not {sender}", REFUSED)
 
 
 def parser() -> argparse.ArgumentParser:
@@ -108,7 +106,7 @@ def main(words: Sequence[str]) -> int:
         raise Fault(f"it has more than {LONGEST} bytes", REFUSED)
     found = opened(signed, asked.keys)
     look_at(found, asked.office)
-    reply = mailed(service, found.text)
+    reply = mailed(service, found.text, found.sender)
     print(reply)
     if not is_held(reply):
         return REFUSED

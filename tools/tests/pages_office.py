@@ -106,10 +106,22 @@ KEPT = {
     ("ftp", 2): "From: ftp\nNumber: 2\nKind: upload\nSource: greeter\nVersion: 0.9-2\nUrgency: low\nDay: 2025-03-01\n"}
 
 
+HINTS = """hints {finished}
+rt 2 covered block libgreet: in force
+rt 9 new easy libgreet/2.0-1: in force
+rt 9 new easy stuck/2-0: unstable 2-1
+"""
+BLOCK = """stuck stuck 2-1 uninstallable amd64 greeter
+1 greeter 0.9-2 of greeter in testing, needs libgreet1: nothing
+unstable nothing
+"""
+
+
 def routes(finished: int) -> Mapping[str, str]:
     """What the office answers once so many of the runs are finished."""
     found = {"/runs": "".join(RUNS[run] for run in range(1, finished + 1)),
-             "/testing": TESTING.get(finished, "testing 0\n"),
+             "/testing": TESTING.get(finished, "testing 0\n"), "/hints": HINTS.format(finished=finished),
+             "/propose": "", "/propose/stuck": BLOCK,
              "/kept": "mail ftp 5 kept, 1 to 5, greatest 5\nmail rt 9 kept, 1 to 9, greatest 9\n"}
     for run in range(1, finished + 1):
         found |= {f"/excuses/{run}": EXCUSES[run], f"/update/{run}": UPDATES[run]}
@@ -124,6 +136,7 @@ class FakeOffice:
     def __init__(self, finished: int) -> None:
         self.answers = dict(routes(finished))
         self.asked: list[str] = []
+        self.is_older = False
         self.first: dict[str, str] = {}  # answers that are given once, in front of the others
 
     def __enter__(self) -> "FakeOffice":
@@ -153,7 +166,8 @@ class FakeOffice:
         self.server.shutdown()
         self.server.server_close()
 
-    @staticmethod
-    def refusal(path: str) -> str:
+    def refusal(self, path: str) -> str:
         """The body of a 404."""
+        if self.is_older and path.startswith(("/hints", "/propose")):
+            return "refused NoRoute\n"
         return "refused NoMessage\n" if path.startswith("/kept/") else "refused NoRun\n"

@@ -74,9 +74,8 @@ class OutgoingMail(Folder):
         outgoing.clear()
 
 
-@needs_office
-class Feeds(Folder):
-    """Over a running office of both architectures of examples/setup.conf."""
+class Feeding(Folder):
+    """Feeds of a running office of both architectures of examples/setup.conf."""
 
     def setUp(self):
         super().setUp()
@@ -94,6 +93,10 @@ class Feeds(Folder):
 
     def hint(self, number):
         return next(paragraphs(self.service.kept_text("rt", number) or b""))
+
+
+@needs_office
+class Feeds(Feeding):
 
     def test_days(self):
         """Urgency and day of .changes; nothing twice; a source that is gone, and back."""
@@ -160,6 +163,69 @@ class Feeds(Folder):
         fcntl.flock(number, fcntl.LOCK_EX)
         self.assertIn("another office-feed works for this office", self.feed(FIRST, "2025-03-03", status=3)[1][-1])
         os.close(number)
+
+
+KNOT = "".join(package(name, "1", depends=other, architecture=arch) for arch in ("amd64", "arm64")
+               for name, other in (("one", "two"), ("two", "one")))
+
+
+@needs_office
+class Proposing(Feeding):
+    """Groups that the office proposes: mailed with an order, or written down; and taken back once they have moved."""
+
+    def knot(self, *more):
+        """A feed of two sources that need each other, old enough by their files .changes."""
+        for name in ("one", "two"):
+            self.file(f"changes/{name}.changes", CHANGES.replace("Source: lib", f"Source: {name}"))
+        return self.feed(KNOT, "2025-03-09", "--changes", self.path("changes"), *more)[0]
+
+    def test_mailed(self):
+        self.assertEqual(self.knot("--propose"), [
+            "uploads 2, drops 0, builds 2, hints 0, unhints 0, orders 1", "ready 1 finished 1",
+            "proposed 1, orders 1", "ready 2 finished 2"])
+        self.assertEqual((self.hint(1).value("Hint"), self.hint(1).value("Proposed")),
+                         ("easy one/1 two/1", "2025-03-09"))
+        self.assertEqual(self.service.good_text("/update/2"), "update 2 2025-03-09\neasy 1 accept one 1 two 1\n")
+        # Its group has moved, so it is taken back; nothing is proposed any more.
+        self.assertEqual(self.feed(KNOT, "2025-03-09", "--propose")[0], [
+            "uploads 0, drops 0, builds 0, hints 0, unhints 1, orders 1", "ready 3 finished 3",
+            "proposed 0, orders 0", "ready 3 finished 3"])
+        self.assertEqual(self.hint(2).value("Cancels"), "1")
+        self.assertEqual(self.feed(KNOT, "2025-03-09", "--propose")[0][0],
+                         "uploads 0, drops 0, builds 0, hints 0, unhints 0, orders 0")
+
+    def test_no_order(self):
+        """Without orders the hints stand until somebody orders a run, and are mailed once."""
+        self.knot()
+        self.assertEqual(self.feed(KNOT, "2025-03-09", "--propose", "--no-order")[0][2], "proposed 1, orders 0")
+        self.assertEqual(self.feed(KNOT, "2025-03-09", "--propose", "--no-order")[0][2], "proposed 0, orders 0")
+        self.assertEqual(self.service.kept()["rt"].kept, 1)
+
+    def test_written_down(self):
+        printed = self.knot("--proposals", self.path("hints"))
+        self.assertEqual(printed[2:], [f"proposed 1, in {self.path('hints')}"])
+        with open(self.path("hints"), "rb") as file:
+            self.assertEqual(list(bags.messages_in(file.read())), [
+                b"From: rt\nNumber: 1\nKind: hint\nHint: easy one/1 two/1\nProposed: 2025-03-09\n"])
+        self.assertEqual(self.service.kept()["rt"].kept, 0)
+        self.assertEqual(self.feed(KNOT, "2025-03-09", "--propose", "--proposals", "x", status=2)[1][-1],
+                         "office-feed: error: name one of --propose and --proposals")
+
+    def test_what_is_over(self):
+        """A proposal for versions that aren't unstable's any more is taken back; a person's hint isn't."""
+        self.knot()
+        self.service.post("/mail", b"From: rt\nNumber: 1\nKind: hint\nHint: easy one/1 two/1\nProposed: x\n")
+        self.service.post("/mail", b"From: rt\nNumber: 2\nKind: hint\nHint: easy one/1 two/1\n")
+        newer = KNOT.replace("Version: 1", "Version: 2")
+        self.assertEqual(self.feed(newer, "2025-03-10", "--no-order")[0][0],
+                         "uploads 2, drops 0, builds 2, hints 0, unhints 0, orders 0")
+        self.assertEqual(self.feed(newer, "2025-03-10", "--no-order")[0][0],
+                         "uploads 0, drops 0, builds 0, hints 0, unhints 1, orders 0")
+        self.assertEqual(self.hint(3).value("Cancels"), "1")
+
+    def test_no_run(self):
+        """Behind no run there is nothing to propose."""
+        self.assertEqual(self.feed(KNOT, "2025-03-09", "--propose", "--no-order")[0][2], "proposed 0, orders 0")
 
 
 SPARE_SETUP = """Architectures: amd64 arm64

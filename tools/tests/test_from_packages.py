@@ -6,10 +6,11 @@ import os
 import shutil
 import tempfile
 import unittest
+from unittest import mock
 
 from helpers import EXAMPLES, example, needs_office, office, tool
-from office_tools import bags, setups
-from office_tools.messages import Kind, kind_of, paragraphs
+from office_tools import bags, messages, setups
+from office_tools.messages import Kind, Label, kind_of, paragraphs
 
 DAYS = ("--uploaded", "2025-03-01", "--run", "2025-03-06")
 PACKAGES = EXAMPLES + "/Packages"
@@ -40,16 +41,20 @@ class Folder(unittest.TestCase):
             file.write(text if isinstance(text, bytes) else text.encode())
         return path
 
-    def convert(self, *words):
-        """What the command prints, and what it tells; it has to end with status 0."""
-        ended = tool("office-from-packages", *words)
+    def convert(self, *words, hints=False):
+        """What the command prints, and what it tells; it has to end with status 0. Hints need the program."""
+        ended = tool("office-from-packages", *([] if hints else ["--no-hints"]), *words)
         self.assertEqual(ended.returncode, 0, ended.stderr)
         return ended.stdout, ended.stderr.splitlines()
 
-    def bag(self, name):
-        """The messages of a bag, each a list of its paragraphs."""
+    def messages(self, name):
+        """The messages of a bag."""
         with open(self.path(name + "/bag"), "rb") as file:
-            return [list(paragraphs(text)) for text in bags.messages_in(file.read())]
+            return list(bags.messages_in(file.read()))
+
+    def bag(self, name):
+        """The same, each a list of its paragraphs."""
+        return [list(paragraphs(text)) for text in self.messages(name)]
 
     def values(self, name, kind, field):
         """The values of a field of the messages of a kind."""
@@ -59,8 +64,9 @@ class Folder(unittest.TestCase):
 class FirstWeek(Folder):
     """The archive of examples/."""
 
+    @needs_office
     def test_first_day(self):
-        printed, told = self.convert(*DAYS, *SOURCES, self.path("week"), PACKAGES)
+        printed, told = self.convert(*DAYS, *SOURCES, self.path("week"), PACKAGES, hints=True)
         self.assertEqual(printed, "uploads 8, drops 0, builds 6, hints 1, orders 1\n")
         self.assertEqual(told, [
             "office-from-packages: odd-tool 1.0_1: left out: bad version '1.0_1'",
@@ -69,18 +75,20 @@ class FirstWeek(Folder):
             "it is kept for packages that were built with it alone",
             "office-from-packages: broken 0.9-1 amd64: left out: nothing installable meets libgone1 (>= 2)"])
         self.assertEqual(self.values("week", Kind.HINT, "Hint"), ["easy base/12-1 libbase/3.2-4"])
+        self.assertEqual(self.values("week", Kind.HINT, "Proposed"), ["2025-03-06"])
         self.assertEqual(self.values("week", Kind.RUN, "Covers"), ["ftp 8, bd 6, rt 1"])
         with open(self.path("week/setup.conf"), "rb") as file:
             setup = setups.parse(file.read())
         self.assertEqual(list(setup.architectures), ["amd64"])
         self.assertEqual(setup.senders, setups.parse(example("setup.conf")).senders)
 
+    @needs_office
     def test_next_day(self):
-        self.convert(*DAYS, *SOURCES, self.path("week"), PACKAGES)
+        self.convert(*DAYS, *SOURCES, self.path("week"), PACKAGES, hints=True)
         packages = example("Packages").decode().replace("\nVersion: 5-2", "\nVersion: 5-3")
         self.file("Packages", packages.replace("greeter-l10n", "greeter-locales"))
         printed, _ = self.convert(*NEXT, "--after", self.path("week/bag"), *SOURCES, self.path("next"),
-                                  self.path("Packages"))
+                                  self.path("Packages"), hints=True)
         self.assertEqual(printed, "uploads 1, drops 1, builds 2, hints 0, orders 1\n")
         self.assertEqual([text[0].value("Number") for text in self.bag("next")], ["9", "10", "7", "8", "2"])
         self.assertEqual(self.values("next", Kind.RUN, "Covers"), ["ftp 10, bd 8, rt 1"])
@@ -88,7 +96,7 @@ class FirstWeek(Folder):
 
     @needs_office
     def test_office_takes_it(self):
-        self.convert(*DAYS, *SOURCES, self.path("week"), PACKAGES)
+        self.convert(*DAYS, *SOURCES, self.path("week"), PACKAGES, hints=True)
         with open(self.path("week/bag"), "rb") as file:
             data = file.read()
         told = office("replay", "--conf", self.path("week/setup.conf"), given=data).stdout.decode().split("\n")
@@ -97,45 +105,51 @@ class FirstWeek(Folder):
         self.assertIn("ready 1 finished 1", told)
 
 
+@needs_office
 class Hints(Folder):
-    """Hints for sources that need each other, on the first day and on later ones."""
+    """Hints for groups, as the program proposes them, on the first day and on later ones."""
 
     def archive(self, one, two):
-        return package("one", one, depends="two") + package("two", two, depends="one") + package("alone", "1")
+        return package("one", one, depends=f"two (= {two})") + package("two", two, depends=f"one (= {one})") + \
+            package("alone", "1")
 
-    def convert_next(self, one, two, *words):
+    def convert_next(self, one, two, *words, days=NEXT):
         """The hints of the day behind one on which both sources had version 1."""
-        self.convert(*DAYS, self.path("first"), self.file("Packages", self.archive("1", "1")))
+        self.convert(*DAYS, self.path("first"), self.file("Packages", self.archive("1", "1")), hints=True)
         self.assertEqual(self.values("first", Kind.HINT, "Hint"), ["easy one/1 two/1"])
-        self.convert(*NEXT, "--after", self.path("first/bag"), *words, self.path("next"),
-                     self.file("Packages", self.archive(one, two)))
+        self.convert(*days, "--after", self.path("first/bag"), *words, self.path("next"),
+                     self.file("Packages", self.archive(one, two)), hints=True)
         return self.values("next", Kind.HINT, "Hint")
 
     def test_nothing_is_new(self):
         self.assertEqual(self.convert_next("1", "1"), [])
 
     def test_one_is_new(self):
-        """The other one is in the mail already: no hint names it again."""
+        """The other one can't move with it: no group frees it."""
         self.assertEqual(self.convert_next("2", "1"), [])
 
     def test_both_are_new(self):
         self.assertEqual(self.convert_next("2", "2"), ["easy one/2 two/2"])
 
-    def test_what_is_in_testing(self):
-        in_testing = self.file("both", "testing 1\nsource one 1\nsource two 1\n")
-        self.assertEqual(self.convert_next("2", "1", "--testing", in_testing), [])
-        self.assertEqual(self.convert_next("2", "2", "--testing", in_testing), ["easy one/2 two/2"])
+    def test_too_young(self):
+        """The office proposes what would move on the day of the run."""
+        self.assertEqual(self.convert_next("2", "2", days=("--uploaded", "2025-03-07", "--run", "2025-03-08")), [])
 
-    def test_what_waits(self):
-        """A group of which nothing moved is asked for again with the new version, and as it was it isn't."""
-        empty = self.file("empty", "testing 1\n")
-        self.assertEqual(self.convert_next("2", "1", "--testing", empty), ["easy one/2 two/1"])
-        self.assertEqual(self.convert_next("1", "1", "--testing", empty), [])
+    def test_what_stands(self):
+        """A hint that was sent before isn't sent again."""
+        self.convert(*DAYS, self.path("first"), self.file("Packages", self.archive("1", "1")), hints=True)
+        hint = next(text for text in self.messages("first") if kind_of(next(paragraphs(text))) is Kind.HINT)
+        with open(self.path("first/bag"), "rb") as file:
+            data = file.read()
+        without = data.replace(bags.framed(hint), bags.framed(messages.none(Label("rt", 1))))
+        for sent, due in [(data, []), (without, ["easy one/1 two/1"])]:
+            self.convert(*NEXT, "--after", self.file("sent", sent), self.path("next"), self.path("Packages"),
+                         hints=True)
+            self.assertEqual(self.values("next", Kind.HINT, "Hint"), due)
 
     def test_no_hints(self):
         self.assertEqual(self.convert_next("2", "2", "--no-hints"), [])
 
-    @needs_office
     def test_the_office_moves_them(self):
         self.assertEqual(self.convert_next("2", "2"), ["easy one/2 two/2"])
         data = b""
@@ -145,6 +159,17 @@ class Hints(Folder):
         told = office("replay", "--conf", self.path("first/setup.conf"), given=data).stdout.decode().split("\n")
         self.assertIn("easy 2 accept one 2 two 2", told)
         self.assertFalse([line for line in told if line.startswith("easy") and "refuse" in line])
+
+
+class NoProgram(Folder):
+
+    def test_hints_need_the_program(self):
+        with mock.patch.dict(os.environ, {"OFFICE": self.path("none")}):
+            ended = tool("office-from-packages", *DAYS, self.path("out"), PACKAGES)
+            self.convert(*DAYS, self.path("out"), PACKAGES)
+        self.assertEqual(ended.returncode, 4)
+        self.assertEqual(ended.stderr.splitlines()[-1],
+                         f"office-from-packages: {self.path('none')}: No such file or directory")
 
 
 class Changes(Folder):
@@ -273,7 +298,7 @@ class Files(Folder):
                 self.assertEqual(self.convert(*DAYS, self.path("out"), self.file(name, compress(whole))), (plain, told))
                 with open(self.path("out/bag"), "rb") as found, open(self.path("plain/bag"), "rb") as due:
                     self.assertEqual(found.read(), due.read())
-        ended = tool("office-from-packages", *DAYS, self.path("out"), "-", given=whole)
+        ended = tool("office-from-packages", *DAYS, "--no-hints", self.path("out"), "-", given=whole)
         self.assertEqual((ended.stdout, ended.stderr.splitlines()), (plain, told))
 
     def test_faults(self):
@@ -287,8 +312,7 @@ class Files(Folder):
                 ((self.file("bytes", b"Package: \xff\n"),), f"{self.path('bytes')}: it is no text in UTF-8"),
                 ((self.file("bad.gz", b"no gzip"),), f"{self.path('bad.gz')}: "),
                 (("--after", self.path("none"), one), f"{self.path('none')}: No such file or directory"),
-                (("--after", one, one), f"{one}: it is no whole bag: BadHeader at byte 0"),
-                (("--testing", one, one), f"{one}:1: the line `testing F` is due here")]:
+                (("--after", one, one), f"{one}: it is no whole bag: BadHeader at byte 0")]:
             with self.subTest(cause=cause):
                 ended = tool("office-from-packages", *DAYS, self.path("out"), *words)
                 self.assertEqual(ended.returncode, 1, ended.stderr)

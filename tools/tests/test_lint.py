@@ -1,15 +1,10 @@
 """What office-lint tells of single messages: each slip that a message may have, beside what is due of it."""
-import datetime
 import os
 import tempfile
 import unittest
-from unittest import mock
 
 from helpers import SETUP, Serving, example, needs_office, office, tool
 from office_tools import bags
-from office_tools.lint.office import MailOffice, ServiceMail
-from office_tools.lint.slips import Days, Look, slips
-from office_tools.messages import Kind, Label, paragraphs
 from office_tools.service import Service
 
 TODAY = "2025-03-22"
@@ -333,15 +328,45 @@ class Sending(Folder):
             self.assertEqual(self.send(serving, "--force", "slip", "late"), (due, 1))
             self.assertEqual(service.kept_text("rt", 10), slip)
 
-    def test_too_much_mail(self):
-        """What rests on mail that isn't read is left out, and the verdict, counts and days are looked at."""
-        text, days = hint(12, "block duoo"), Days(datetime.date(2025, 3, 22), 30)
-        for most, knows in [(5000, (True, True)), (10, (True, False)), (1, (False, False))]:
-            with Serving(store="store.db") as serving, mock.patch("office_tools.lint.office.MOST", most):
-                state = MailOffice(SETUP, ServiceMail(Service(serving.url))).state()
-            self.assertEqual((state.knows_orders, state.knows_unstable), knows)
-            told = slips(Look(Label("rt", 12), Kind.HINT, next(paragraphs(text)), (), state, days))
-            self.assertEqual([slip.line for slip in told], [2, 4] if knows[1] else [2])
+    def test_slips_of_a_service(self):
+        """A running office is asked message by message, and tells the same."""
+        with Serving(store="store.db") as serving:
+            for name, text, due in SLIPS:
+                with self.subTest(name):
+                    told = "".join(f"m:{line}\n" for line in due)
+                    self.assertEqual(self.lint("--url", serving.url, self.put("m", text))[0], told)
+
+    def test_refusals_of_a_service(self):
+        with Serving(store="store.db") as serving:
+            for name, text, due in REFUSALS:
+                with self.subTest(name):
+                    told, status = self.lint("--url", serving.url, self.put("m", text))
+                    self.assertEqual((status, told[:len("m:" + due)].rstrip("\n")), (3, "m:" + due))
+
+    def test_a_number_twice(self):
+        """The second text of a number is refused, also if the first one is only looked at."""
+        first, second = message("rt", 10, "none"), message("rt", 10, "none", "Note: other")
+        self.put("bag", b"".join(map(bags.framed, [first, second, first])))
+        due = "bag#2:1: refused OtherText: another text is kept under this number\n"
+        with Serving(store="store.db") as serving:
+            self.assertEqual(self.lint("--url", serving.url, "bag"), (due, 3))
+        self.assertEqual(self.lint("--db", "store.db", "bag"), (due, 3))
+
+    def test_what_was_kept_before(self):
+        """A kept drop takes a build out that comes later, and a kept unhint a hint."""
+        lines = ["Package: greeter", "Architecture: amd64"]
+        gone = message("ftp", 5, "drop", *lines, "Version: 2.0-1")
+        ahead = message("rt", 10, "unhint", "Cancels: 11")
+        again = build(4, *lines, "Version: 2.0-1", "Source: greeter")
+        texts = [again, message("ftp", 6, "drop", *lines, "Version: 2.0-1"), hint(11, "block chess"),
+                 message("rt", 12, "unhint", "Cancels: 11")]
+        self.put("bag", b"".join(map(bags.framed, texts)))
+        due = ("bag#2:4: warning: unstable has no row of greeter on amd64: this drops nothing\n"
+               "bag#4:4: warning: no hint in force has the number 11\n")
+        with Serving(store="store.db") as serving:
+            for text in (gone, ahead):
+                Service(serving.url).post("/mail", text)
+            self.assertEqual(self.lint("--url", serving.url, "bag"), (due, 1))
 
     def test_another_setup(self):
         self.put("conf", b"Architectures: amd64\n\nSender: ftp\nRole: upload\n\nSender: rt\nRole: release\n")

@@ -28,7 +28,7 @@ class Remembered(unittest.TestCase):
         for _ in range(300):
             some, others = ({draw.randint(1, 12) for _ in range(draw.randint(0, 8))} for _ in range(2))
             last = draw.randint(0, 14)
-            self.assertEqual(list(numbers(*some).missing(last)), [n for n in range(1, last + 1) if n not in some])
+            self.assertEqual(numbers(*some).next_missing(last), next(n for n in range(last, 20) if n not in some))
             self.assertEqual(numbers(*some).upto(last), numbers(*(n for n in some if n <= last)))
             self.assertEqual(joined(numbers(*some), numbers(*others)), numbers(*some, *others))
             self.assertEqual([n for n in range(15) if numbers(*some).has(n)], sorted(some))
@@ -96,7 +96,7 @@ class Mirror(unittest.TestCase):
             self.assertEqual(told.stderr, f"office-mirror: {empty.url}: sent 11\n")
 
     def test_gaps(self):
-        """Mail behind a gap is brought, too, and far behind one it is told that it isn't."""
+        """Mail behind a gap is brought, too, however far behind it is."""
         none = b"From: bd\nNumber: %d\nKind: none\n"
         self.post(0, none % 1, none % 3, none % 9)
         self.assertEqual(self.turn("--state", self.state), ("office-mirror: B: sent 3\n", 0))
@@ -104,12 +104,18 @@ class Mirror(unittest.TestCase):
         self.post(0, none % 999999999)
         self.assertEqual(self.turn("--state", self.state)[1], 0)
         self.assertEqual(self.services[1].kept(), self.services[0].kept())
-        self.post(0, none % 999999)
+        self.post(0, none % 999999, none % 2)
         self.post(0, b"From: rt\nNumber: 1\nKind: none\n")
-        told, status = self.turn("--state", self.state)
-        self.assertIn("office-mirror: A: bd: mail far behind a gap is left out: fill the gap first\n", told)
-        self.assertEqual(status, 3)
-        self.assertEqual(self.services[1].kept()["rt"].kept, 1)
+        self.assertEqual(self.turn("--state", self.state)[1], 0)
+        self.assertEqual(self.services[1].kept(), self.services[0].kept())
+
+    def test_parts(self):
+        """Mail of more than one part of a bag is brought whole."""
+        note = b"From: bts\nNumber: %d\nKind: none\nNote: " + b"x" * 30000 + b"\n"
+        self.post(0, *(note % number for number in range(1, 8)))
+        self.assertEqual(self.turn(), ("office-mirror: B: sent 7\n", 0))
+        told = tool("office-mirror", self.one.url, "-")
+        self.assertEqual(list(bags.messages_in(told.stdout.encode())), [note % number for number in range(1, 8)])
 
     def test_bag(self):
         self.post(0, *TEXTS)

@@ -214,7 +214,7 @@ class AllRuns(Pages):
         self.make("--url", self.office.url)
         stamps, asked = self.stamps(), len(self.office.asked)
         self.make("--url", self.office.url)
-        self.assertEqual(self.office.asked[asked:], ["/runs"])
+        self.assertEqual(self.office.asked[asked:], ["/runs", "/hints"])
         self.assertEqual(self.stamps(), stamps)
 
     def test_a_new_run_changes_the_pages_that_it_changes(self):
@@ -285,6 +285,53 @@ class AllRuns(Pages):
         self.make("--url", self.office.url)
         self.assertEqual([path for path in self.office.asked[asked:] if path.startswith("/why/")],
                          ["/why/libgreet", "/why/app"])
+
+    def test_hints_and_how_they_stand(self):
+        self.make("--url", self.office.url)
+        cells = self.page("hints.html").cells
+        self.assertEqual([cells[place:place + 5] for place in range(0, len(cells), 5)], [
+            ["2", "block", "libgreet", "in force", "yes"], ["9", "easy", "libgreet/2.0-1", "in force", "new"],
+            ["9", "easy", "stuck/2-0", "unstable has 2-1", "new"]])
+        self.assertIn("source/stuck.html", self.page("hints.html").links)
+        # What is told of hints changes between two runs, too.
+        self.office.answers["/hints"] = "hints 2\nrt 2 covered block libgreet: in force\n"
+        self.make("--url", self.office.url)
+        self.assertEqual(len(self.page("hints.html").cells), 5)
+
+    def test_what_is_proposed_for_one_source(self):
+        self.make("--url", self.office.url)
+        self.assertIn("stuck stuck 2-1 uninstallable amd64 greeter", self.page("source/stuck.html").items)
+        self.assertIn("unstable nothing", self.page("source/stuck.html").items)
+        self.assertNotIn("What the office proposes", self.read("source/app.html"))
+        self.assertEqual([path for path in self.office.asked if path.startswith("/propose")],
+                         ["/propose", "/propose/stuck"])
+        # Where nothing is found, that is told.
+        self.finish_third()
+        self.make("--url", self.office.url)
+        self.assertNotIn("What the office proposes", self.read("source/stuck.html"))
+
+    def test_no_group_is_found(self):
+        self.office.answers["/propose/stuck"] = ""
+        self.make("--url", self.office.url)
+        self.assertIn("No hint: the office found no group that frees it.", self.page("source/stuck.html").items)
+
+    def test_what_is_proposed_for_a_group(self):
+        self.office.answers["/propose"] = "easy app/1-1 stuck/2-1\n"
+        self.make("--url", self.office.url)
+        self.assertIn("easy app/1-1 stuck/2-1", self.page("source/stuck.html").items)
+        self.assertNotIn("/propose/stuck", self.office.asked)
+
+    def test_an_office_of_an_earlier_version(self):
+        """It has no such pages, which is told in a sentence; all else is there."""
+        self.office.answers = {path: told for path, told in routes(2).items()
+                               if not path.startswith(("/propose", "/hints"))}
+        self.office.is_older = True
+        told = self.make("--url", self.office.url)
+        self.assertEqual(told, f"office-pages: {self.office.url}/hints: 404: refused NoRoute: it is an office of an "
+                         "earlier version, and these tools need one that has this page: so no page shows the state of "
+                         "hints, nor proposals\n")
+        self.assertIn("No hint is known to be in force.", self.read("hints.html"))
+        self.assertNotIn("What the office proposes", self.read("source/stuck.html"))
 
     def test_no_time_to_ask_why(self):
         self.make("--url", self.office.url, "--why-seconds", "0")

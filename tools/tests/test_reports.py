@@ -5,7 +5,7 @@ import unittest
 from helpers import SETUP, example, needs_office, office
 from office_tools import reports
 from office_tools.faults import Fault
-from office_tools.reports import Item, Offender, Outcome, Reason, ReasonKind, Row, Word
+from office_tools.reports import HintItem, Hints, Item, ItemStanding, Offender, Outcome, Reason, ReasonKind, Row, Word
 
 EXCUSES = """excuses 7 2025-04-01
 c++lib 1.0-1 2:1.0-1+b1
@@ -30,6 +30,17 @@ easy 6 refuse uninstallable arm64 libx1
 accept three 3
 wait stuck 2-1 uninstallable amd64 stuck-bin
 """
+HINTS = """hints 2
+rt 1 covered age-days 3 libgreet/1.2-1: moved
+rt 2 covered block libgreet: in force
+rt 3 new unblock greeeter/2.0-1: no source
+rt 4 new easy libgreet/2.0-9: unstable 2.0-1
+rt 5 new block-all source: in force
+"""
+UNSTABLE = """unstable 7
+source c++lib 2.0-1
+binary amd64 one-bin 1.0+b1 one
+"""
 TESTING = """testing 7
 source c++lib 1.0-1
 source one 1.0
@@ -39,6 +50,27 @@ binary all c++lib-doc 1.0-1 c++lib
 
 
 class Reports(unittest.TestCase):
+
+    def test_hints(self):
+        found = reports.read_hints(HINTS)
+        self.assertEqual((found.finished, found.sender), (2, "rt"))
+        self.assertEqual(found.items[0], HintItem(1, True, "age-days 3", "libgreet/1.2-1", ItemStanding.MOVED))
+        self.assertEqual([item.standing for item in found.items[1:]], [
+            ItemStanding.IN_FORCE, ItemStanding.NO_SOURCE, ItemStanding.OTHER_VERSION, ItemStanding.IN_FORCE])
+        self.assertEqual((found.items[3].other, found.items[3].words, found.items[3].is_covered),
+                         ("2.0-1", "easy", False))
+        self.assertEqual(reports.read_hints("hints 0\n"), Hints(0, None, []))
+        for bad in ("", "hints\n", HINTS + "rt 6 new block aa: waits\n", HINTS + "rt 6 old block aa: moved\n"):
+            with self.assertRaises(Fault):
+                reports.read_hints(bad)
+
+    def test_unstable(self):
+        """A row may be of a source that isn't there."""
+        found = reports.read_unstable(UNSTABLE)
+        self.assertEqual((found.finished, found.sources), (7, {"c++lib": "2.0-1"}))
+        self.assertEqual(found.rows, [Row("amd64", "one-bin", "1.0+b1", "one")])
+        with self.assertRaises(Fault):
+            reports.read_unstable(TESTING)
 
     def test_excuses(self):
         excuses = reports.read_excuses(EXCUSES)

@@ -1,14 +1,18 @@
 """The client of the service: docs/RULES.md, part 13."""
 import base64
+import datetime
 import http.server
 import socket
 import threading
 import unittest
 
 from helpers import Serving, example, needs_office
+from office_tools import bags, mailing
 from office_tools.faults import Fault
+from office_tools.letters import letters
+from office_tools.reports import Hints
+from office_tools.senders import runs_sender
 from office_tools.service import Kept, Service, Status
-from office_tools import bags
 
 
 class Peer(http.server.BaseHTTPRequestHandler):
@@ -83,6 +87,38 @@ class Offices(unittest.TestCase):
                 service.excuses(3)
             self.assertEqual((service.post("/mail", b"").status, service.post("/mail", b"").text),
                              (400, "refused MissingField From"))
+
+    def test_live_pages(self):
+        """Hints, unstable, the next order, parts of the mail, proposals, and messages that are looked at."""
+        texts = list(bags.messages_in(example("archive.bag")))
+        with Serving() as serving:
+            service = Service(serving.url)
+            self.assertIsNone(service.proposed())
+            self.assertEqual(service.hints(), Hints(0, None, []))
+            for text in texts:
+                service.post("/mail", text)
+            self.assertEqual([item.item for item in service.hints().items],
+                             ["libgreet/1.2-1", "greeter/0.9-2", "libgreet"])
+            self.assertEqual(service.unstable().sources, {"greeter": "0.9-2", "libgreet": "2.0-1"})
+            self.assertEqual(service.order(datetime.date(2025, 3, 21)),
+                             b"From: clock\nNumber: 3\nKind: run\nDay: 2025-03-21\n"
+                             b"Covers: ftp 3, bd 3, bts 1, rt 2\n")
+            self.assertEqual(runs_sender(service), "clock")
+            builds = [text for text in texts if text.startswith(b"From: bd\n")]
+            self.assertEqual([text for _, text in letters(service, "bd", 2)], builds[1:])
+            self.assertEqual(service.proposed(), "")
+            self.assertEqual(mailing.verdict(service, texts[0]), "held ftp 1")
+            self.assertEqual(mailing.verdict(service, texts[0] + b"X: y\n"), "refused OtherText")
+            self.assertEqual(mailing.verdict(service, b""), "refused MissingField From")
+
+    def test_older_office(self):
+        """An office that hasn't a page says so, and the tools say why."""
+        with Serving() as serving:
+            service = Service(serving.url)
+            with self.assertRaisesRegex(Fault, r"/none: 404: refused NoRoute: it is an office of an earlier version"):
+                service.good("/none")
+            with self.assertRaisesRegex(Fault, r"/none: 404: refused NoRoute: it is an office of an earlier version"):
+                mailing.replied(service, "/none", b"")
 
 
 if __name__ == "__main__":

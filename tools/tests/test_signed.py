@@ -66,17 +66,17 @@ class Signed(unittest.TestCase):
         with Serving() as serving:
             for signed, office, due in [
                     (self.sign("ftp", TEXT), "sid", (told + "it is for trixie, and not for sid", 3)),
-                    (self.sign("ftp", as_rt), "trixie", (told + "ftp signed it, and not rt", 3)),
                     (self.sign("ftp", b"X: y\n\n" + TEXT), "trixie",
                      (told + "it is for no named office, and not for trixie", 3)),
-                    (self.sign("ftp", b"X: y\nOffice: trixie\n\n" + TEXT), "trixie",
-                     (told + "ftp signed it, and not None", 3)),
                     (self.sign("other", TEXT), "trixie", (told + "no key fits", 1)),
                     (clear.replace(b"Number: 1", b"Number: 2"), "trixie", (told + "no key fits", 1)),
                     (TEXT, "trixie", (told + "no key fits", 1)),
                     (b"", "trixie", (told + "no key fits", 1)),
                     (self.sign("ftp", TEXT + b"Note: " + b"x" * 65536), "trixie", (told + "no key fits", 1))]:
                 self.assertEqual(self.post(serving, signed, office), ("", *due))
+            for text, refusal in [(as_rt, "refused OtherSender\n"),
+                                  (b"X: y\nOffice: trixie\n\n" + TEXT, "refused MissingField From\n")]:
+                self.assertEqual(self.post(serving, self.sign("ftp", text)), (refusal, "", 3))
             self.assertEqual(Service(serving.url).kept()["ftp"].kept, 0)
 
 

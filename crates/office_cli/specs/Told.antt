@@ -1,11 +1,15 @@
 -- Steps: no contract of a call that users make rests on this file.
 -- What is told without a run, and its exit status.
-use Rattle.std.specs.Prelude.{◌≡◌, ◌⊎◌, ◌<◌, ℕ, List, Option, Some, None, option_map, length}
+use Rattle.std.specs.Prelude.{◌≡◌, ◌⊎◌, ◌<◌, ◌==◌, ℕ, List, Option, Some, None, if◌then◌else◌, option_map, length}
 use Rattle.office_core_facts.specs.Outcome.{testing_after, testing_text}
 use Rattle.office_core_facts.specs.OfficeState.{OfficeState}
 use Rattle.office_core_facts.specs.State.{reports_at}
+use Rattle.office_core_outcome.specs.declared.proposal.Proposal.{Proposal}
+use Rattle.office_core_queries.specs.NextOrder.{order_text}
+use Rattle.office_core_why.specs.UnstableText.{IsUnstableText}
+use Rattle.jiff_core.specs.declared.civil.date.Date.{Date}
 use Rattle.office_cli_words.specs.declared.reports.Report.{Report}
-use Rattle.office_cli_words.specs.declared.reports.Report.TheVariants.{Testing, Excuses, Update}
+use Rattle.office_cli_words.specs.declared.reports.Report.TheVariants.{Testing, Unstable, Excuses, Update}
 use Rattle.office_core_queries.specs.declared.mail.MailCount.{MailCount}
 use Rattle.office_core_queries.specs.Mail.{AreMailCounts, mail_text}
 use Rattle.office_core_orders.specs.declared.waiting_lines.Awaited.{Awaited}
@@ -14,10 +18,12 @@ use Rattle.office_cli.specs.declared.reasons.WhichRun.{WhichRun}
 use Rattle.office_cli.specs.declared.reasons.WhichRun.TheVariants.{Last, Earlier, Unfinished}
 
 -- the text of a report in an office's state, none where its run isn't finished
-abbrev pub report_text : OfficeState → Report → Option (List ℕ)
-report_text state Testing = Some (testing_text state.setup state.finished (testing_after state.setup state.kept state.finished))
-report_text state (Excuses run) = option_map (λ reports. reports.excuses) (reports_at state run)
-report_text state (Update run) = option_map (λ reports. reports.updates) (reports_at state run)
+abbrev pub IsReportText : OfficeState → Report → Option (List ℕ) → Type 0
+IsReportText state Testing told = told ≡ Some (testing_text state.setup state.finished (testing_after state.setup state.kept state.finished))
+IsReportText state Unstable None = ⊥
+IsReportText state Unstable (Some text) = IsUnstableText state.setup state.kept state.finished text
+IsReportText state (Excuses run) told = told ≡ option_map (λ reports. reports.excuses) (reports_at state run)
+IsReportText state (Update run) told = told ≡ option_map (λ reports. reports.updates) (reports_at state run)
 
 -- 0 where a run waits for its order, 1 where it waits for mail
 abbrev pub status_of_awaited : Awaited → ℕ
@@ -29,6 +35,18 @@ pub record TellsMail (state : OfficeState) (text : List ℕ) : Type 0 where
   pub counts : List MailCount
   pub counted : AreMailCounts state.kept (length state.setup.senders) counts
   pub text_is : text ≡ mail_text state.setup counts
+
+-- a text is the next order on a day
+pub record TellsOrder (state : OfficeState) (day : Date) (text : List ℕ) : Type 0 where
+  pub counts : List MailCount
+  pub counted : AreMailCounts state.kept (length state.setup.senders) counts
+  pub text_is : text ≡ order_text state.setup counts day
+
+-- 0 where hints are proposed, or where so many sources were asked for and the run with the hints moves each of them; else 1
+abbrev pub status_of_proposal : ℕ → Proposal → ℕ
+status_of_proposal asked proposal =
+    if asked == 0 then (if length proposal.hints.items == 0 then 1 else 0)
+    else (if length proposal.freed.items == asked then 0 else 1)
 
 -- The run that is asked about, where so many are finished: the last finished one, where it or none is named; an earlier one;
 -- or one that isn't finished.

@@ -1,14 +1,17 @@
 //! What is asked of an office about its runs and its mail.
 
 ghost use Rattle.std.specs.Prelude.{◌≡◌, IfOk};
-ghost use Rattle.office_cli.specs.Told.{TellsMail};
+ghost use Rattle.office_cli.specs.Told.{TellsMail, TellsOrder};
 ghost use Rattle.office_core.specs.Preserves.{Asks, Holds};
 ghost use Rattle.office_core_facts.specs.State.{state_of};
 
 use crate::telling::{print_text, refuse, refuse_output};
 use deb_control::Text;
+use jiff_core::civil::Date;
 use office_core_orders::StoreFault;
-use office_core_queries::{AskFault, export, mail_counts, mail_text, runs_text, write_list};
+use office_core_queries::{
+    AskFault, export, mail_counts, mail_text, order_text, runs_text, write_list,
+};
 use office_http::Office;
 use office_mail::ToWrite;
 use office_store::Keeper;
@@ -25,6 +28,10 @@ pub enum Question {
     List,
     /// A bag of all its mail.
     Export,
+    /// The next order on a day, over all mail without a gap.
+    Order(Date),
+    /// The hints in force, by all mail without a gap.
+    Hints,
 }
 
 /// Prints the answer to a question, and gives the exit status.
@@ -34,6 +41,8 @@ pub fn tell_answer<K: Keeper>(rt: &HostRuntime, office: &mut Office<K>, question
         Question::Mail => tell_text(rt, counted_text(office)),
         Question::List => tell_list(rt, office),
         Question::Export => tell_export(rt, office),
+        Question::Order(day) => tell_text(rt, order_on(office, day)),
+        Question::Hints => tell_text(rt, office.hints_text()),
     }
 }
 
@@ -52,6 +61,15 @@ fn counted_text<K: Keeper>(office: &mut Office<K>) -> Result<Text, StoreFault>
 {
     let counts = mail_counts(office)?;
     Ok(mail_text(office.alloc(), office.setup(), &counts)?)
+}
+
+/// The text of the next order on a day, over all mail without a gap.
+fn order_on<K: Keeper>(office: &mut Office<K>, day: Date) -> Result<Text, StoreFault>
+    ensures text { Holds K.Keeper office.old office.new → IfOk result (λ text. TellsOrder (state_of K.Keeper office.old) day text) }
+    ensures asks { Asks K.Keeper office.old office.new }
+{
+    let counts = mail_counts(office)?;
+    Ok(order_text(office.alloc(), office.setup(), &counts, day)?)
 }
 
 /// Prints each message that is kept, and gives the exit status. Where it fails, what was had before is printed.

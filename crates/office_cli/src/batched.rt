@@ -28,6 +28,11 @@ impl<'a> BatchedWriter<'a> {
         }
     }
 
+    /// What is held back.
+    pub fn held(&self) -> &[u8] {
+        self.held.as_slice()
+    }
+
     /// Sends what was held back. What can't be sent is dropped.
     fn send(&mut self) -> io::Result<()> {
         let mut stream = self.stream;

@@ -1,14 +1,17 @@
 //! What the office's program does with an office: it replays bags of mail from standard input, serves mail and reports
 //! over HTTP on loopback, tells earlier reports and what a run waits for, over a store in memory or in a file, answers
 //! questions about the runs and the mail of a store in a file, checks such a store, tells why sources stand where a run
-//! left them, and tries hints.
+//! left them, tries hints and proposes some, and tells which messages of a bag are refused.
 #![tactic(auto)]
 
 mod asking;
 mod batched;
 mod checking;
+mod front;
 mod noted;
+mod proposals;
 mod reasons;
+mod refusals;
 mod service;
 mod tasks;
 mod teller;

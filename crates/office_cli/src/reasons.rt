@@ -1,6 +1,6 @@
 //! Why sources stand where a run left them.
 
-ghost use Rattle.std.specs.Prelude.{◌≡◌, IfOk};
+ghost use Rattle.std.specs.Prelude.{◌≡◌, if◌then◌else◌, IfOk};
 ghost use Rattle.office_cli.specs.Told.{IsAsked};
 ghost use Rattle.office_core_facts.specs.State.{IsSound, state_of};
 
@@ -8,15 +8,15 @@ use crate::tasks::{
     end_store, find_file, out_of_memory, replay_to, tell_setup, tell_store, tell_unfound,
 };
 use crate::telling::{print_text, refuse};
-use deb_control::Text;
 use office_core_check::{office_after, why_of_run};
+use office_core_why::WhyText;
 use office_http::{Office, StoreFault};
 use office_mail::Setup;
 use office_store::{Keeper, Plain, open_store, read_setup};
 use sqlite::Unknown;
 use std::io;
 
-/// The exit status where the run isn't finished, or says nothing of a source.
+/// The exit status where the run isn't finished, or unstable hasn't a source.
 const SILENT: u8 = 1;
 
 /// The run that is asked about, beside the finished ones.
@@ -198,17 +198,15 @@ fn tell_sources<K: Keeper>(
 /// exit status. Nothing is printed where no run is finished.
 fn tell_source<K: Keeper>(rt: &HostRuntime, office: &mut Office<K>, run: u32, source: &str) -> u8 {
     match why_of_run(office, run, source) {
-        Ok(Some(text)) => print_text(rt, &text, status_of(&text)),
+        Ok(Some(why)) => print_text(rt, &why.text, status_of(&why)),
         Ok(None) => SILENT,
         Err(fault) => refuse(rt, fault),
     }
 }
 
-/// The exit status for a text on a source, whose first line says nothing of it.
-fn status_of(text: &Text) -> u8 {
-    if text.as_str().lines().count() > 1 {
-        0
-    } else {
-        SILENT
-    }
+/// The exit status for what is told of a source: 1 where unstable hasn't it.
+fn status_of(why: &WhyText) -> u8
+    ensures { result ≡ (if why.now.is_known then 0 else 1) }
+{
+    if why.is_known { 0 } else { SILENT }
 }

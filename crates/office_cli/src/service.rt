@@ -5,7 +5,9 @@ ghost use Rattle.std.specs.IoError.{error_kind};
 ghost use Rattle.office_cli.specs.Service.{fault_by, status_of_service};
 
 use crate::batched::BatchedWriter;
+use crate::front::FrontKeepingReader;
 use crate::noted::FaultKeepingReader;
+use crate::refusals::tell_refused;
 use crate::timed::DeadlineReader;
 use office_http::{Office, ServeFault, Served, serve_one};
 use office_mail::{FromRead, ToWrite};
@@ -124,22 +126,21 @@ fn accept(rt: &HostRuntime, listener: &TcpListener) -> Result<TcpStream, Service
     Err(ServiceFault::NotTaken)
 }
 
-/// Serves a connection. A client that is silent, or doesn't take its reply, is one whose read or write fails.
+/// Serves a connection. A client that is silent, or doesn't take its reply, is one whose read or write fails. Mail that is
+/// refused is told on standard error.
 fn serve_stream<K: Keeper>(rt: &HostRuntime, stream: &TcpStream, office: &mut Office<K>) {
     let _ = stream.set_write_timeout(Some(Duration::from_millis(REPLY)));
-    let mut request = FaultKeepingReader::new(DeadlineReader::new(
-        rt,
-        stream,
-        Duration::from_millis(REQUEST),
-    ));
+    let limited = DeadlineReader::new(rt, stream, Duration::from_millis(REQUEST));
+    let mut request = FrontKeepingReader::new(FaultKeepingReader::new(limited));
     let mut reader = FromRead::new(&mut request);
     let mut reply = BatchedWriter::new(stream);
     let mut writer = ToWrite::new(&mut reply);
     let served = serve_one(office, &mut reader, &mut writer);
     drop(reader);
+    tell_refused(rt, request.front(), reply.held());
     match sent(served, &mut reply) {
         Ok(_) => end(rt, stream),
-        Err(ServeFault::Read) => tell_unread(rt, request.fault()),
+        Err(ServeFault::Read) => tell_unread(rt, request.into_reader().fault()),
         Err(ServeFault::Write) => {
             let _ = eprintln!(rt; "office: a reply can't be written: its connection is closed");
         }

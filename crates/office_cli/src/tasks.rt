@@ -1,5 +1,5 @@
 //! What the program's words ask for: a comparison, the version, why sources stand where a run left them, a trial of
-//! hints, or a task over a store.
+//! hints, a proposal of some, or a task over a store.
 
 use crate::asking::{Question, tell_answer};
 use crate::checking::tell_check;
@@ -8,10 +8,11 @@ use crate::reasons::why_for;
 use crate::service::{serve, service_status};
 use crate::teller::Teller;
 use crate::telling::{tell_report, tell_version, tell_waiting};
-use crate::trials::try_for;
+use crate::trials::{propose_for, refuse_day, try_for};
 use office_cli_words::{Report, Words, compare, refuse_report};
 use office_http::{Office, Replayed, WriteFault, replay_status, replay_watched};
 use office_mail::{Bag, BagFault, FromRead, Setup, ToWrite};
+use office_mail_setup::values::day_in;
 use office_store::{
     ConfFault, FileFault, Keeper, Plain, Tables, close_store, conf_status, open_store, read_setup,
     store_status,
@@ -22,6 +23,9 @@ use std::{fs, io, mem};
 
 /// The exit status where memory ran out.
 const FAILED: u8 = 4;
+
+/// The exit status where a message of a bag is refused.
+const REFUSED: u8 = 1;
 
 /// What is done in an office, once its store is there.
 #[derive(Clone, Copy)]
@@ -38,6 +42,8 @@ enum Task {
     Report(Report),
     /// A question is answered.
     Answer(Question),
+    /// The refused messages of the bag on standard input are told.
+    Lint,
 }
 
 /// Does what words ask for, and gives the exit status.
@@ -72,6 +78,16 @@ pub fn run_command(rt: &HostRuntime, words: Words) -> u8 {
             all,
             hints,
         } => try_for(rt, conf, db, day, all, &hints),
+        Words::Lint { conf } => run_for(rt, conf, None, Task::Lint),
+        Words::Order { day, conf, db } => order_for(rt, day, conf, db),
+        Words::Hints { conf, db } => answer_for(rt, conf, db, Question::Hints),
+        Words::Propose {
+            conf,
+            db,
+            day,
+            all,
+            sources,
+        } => propose_for(rt, conf, db, day, all, &sources),
         Words::Version => tell_version(rt),
     }
 }
@@ -84,6 +100,14 @@ fn mail_question(list: bool) -> Question {
 /// Answers a question for the setup in a file, from the store in another.
 fn answer_for(rt: &HostRuntime, conf: &str, db: &str, question: Question) -> u8 {
     run_for(rt, conf, Some(db), Task::Answer(question))
+}
+
+/// Tells the next order on a day for the setup in a file, from the store in another.
+fn order_for(rt: &HostRuntime, day: &str, conf: &str, db: &str) -> u8 {
+    match day_in(day) {
+        Some(date) => answer_for(rt, conf, db, Question::Order(date)),
+        None => refuse_day(rt, day),
+    }
 }
 
 pub(crate) fn out_of_memory(rt: &HostRuntime) -> u8 {
@@ -125,7 +149,7 @@ pub(crate) fn find_file(rt: &HostRuntime, path: &str) -> io::Result<()> {
 fn find_store_file(rt: &HostRuntime, path: &str, task: Task) -> io::Result<()> {
     match task {
         Task::Waiting | Task::Report(_) | Task::Answer(_) => find_file(rt, path),
-        Task::Replay | Task::Serve { .. } | Task::BagWaiting => Ok(()),
+        Task::Replay | Task::Serve { .. } | Task::BagWaiting | Task::Lint => Ok(()),
     }
 }
 
@@ -207,6 +231,7 @@ fn run_over<K: Keeper>(rt: &HostRuntime, office: &mut Office<K>, task: Task) -> 
         Task::BagWaiting => deliver_and_tell(rt, office),
         Task::Report(report) => tell_report(rt, office, report),
         Task::Answer(question) => tell_answer(rt, office, question),
+        Task::Lint => lint_over(rt, office),
     }
 }
 
@@ -216,6 +241,15 @@ fn replay_over<K: Keeper>(rt: &HostRuntime, office: &mut Office<K>) -> u8 {
         return out_of_memory(rt);
     };
     replay_to(rt, office, &mut output)
+}
+
+/// Delivers the bag on standard input, of which only the refused messages are told.
+fn lint_over<K: Keeper>(rt: &HostRuntime, office: &mut Office<K>) -> u8 {
+    let mut teller = Teller::new(rt);
+    match replay_told(rt, office, &mut io::sink(), &mut teller) {
+        0 if teller.has_refused() => REFUSED,
+        status => status,
+    }
 }
 
 /// Delivers the bag on standard input, and tells what the first run that isn't ready waits for. Where the bag is refused
@@ -233,10 +267,20 @@ pub(crate) fn replay_to<K: Keeper, W: Write>(
     office: &mut Office<K>,
     output: &mut W,
 ) -> u8 {
+    replay_told(rt, office, output, &mut Teller::new(rt))
+}
+
+/// Replays the bag on standard input in an office, of which a teller tells, and gives the exit status.
+fn replay_told<K: Keeper, W: Write>(
+    rt: &HostRuntime,
+    office: &mut Office<K>,
+    output: &mut W,
+    teller: &mut Teller<'_>,
+) -> u8 {
     let mut writer = ToWrite::new(&mut *output);
     let mut input = FaultKeepingReader::new(rt.stdin());
     let mut bag = Bag::new(rt.alloc(), FromRead::new(&mut input));
-    let mut replayed = replay_watched(office, &mut bag, &mut writer, &mut Teller::new(rt));
+    let mut replayed = replay_watched(office, &mut bag, &mut writer, teller);
     drop(bag);
     if output.flush().is_err() {
         replayed = Err(WriteFault);

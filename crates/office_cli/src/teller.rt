@@ -20,6 +20,8 @@ pub struct Teller<'a> {
     rt: &'a HostRuntime,
     messages: u64,
     finished: u32,
+    /// Whether a message was refused.
+    refused: bool,
     /// When the pace was told, where standard error is a terminal.
     told: Option<Instant>,
 }
@@ -36,8 +38,14 @@ impl<'a> Teller<'a> {
             rt,
             messages: 0,
             finished: 0,
+            refused: false,
             told,
         }
+    }
+
+    /// Whether a message was refused.
+    pub fn has_refused(&self) -> bool {
+        self.refused
     }
 
     /// Tells which message was refused, and the reply.
@@ -77,6 +85,7 @@ impl Watcher for Teller<'_> {
         self.messages = self.messages.saturating_add(1);
         if let Err(fault) = reply {
             if !is_loss(*fault) {
+                self.refused = true;
                 self.tell_refusal(text, *fault);
             }
         }
@@ -99,19 +108,19 @@ fn is_loss(fault: DeliverFault) -> bool {
 }
 
 /// The sender and the number of a message, where its first paragraph has both in plain letters.
-fn sender_and_number<'a>(first: &Paragraph<'a>) -> Option<(&'a str, &'a str)> {
+pub(crate) fn sender_and_number<'a>(first: &Paragraph<'a>) -> Option<(&'a str, &'a str)> {
     let sender = plain_field(first, "From")?;
     let number = plain_field(first, "Number")?;
     Some((sender, number))
 }
 
-/// A field's value, where it is short and has visible letters of ASCII alone: a terminal shows it as it is.
+/// A field's value, if it is plain.
 fn plain_field<'a>(paragraph: &Paragraph<'a>, name: &str) -> Option<&'a str> {
     let value = paragraph.field(name)?;
-    let is_plain = value.bytes().all(|byte| byte.is_ascii_graphic());
-    if is_plain && !value.is_empty() && value.len() <= ROOM {
-        Some(value)
-    } else {
-        None
-    }
+    if is_plain(value) { Some(value) } else { None }
+}
+
+/// Whether a text is short and has visible letters of ASCII alone: a terminal shows it as it is.
+pub(crate) fn is_plain(text: &str) -> bool {
+    !text.is_empty() && text.len() <= ROOM && text.bytes().all(|byte| byte.is_ascii_graphic())
 }

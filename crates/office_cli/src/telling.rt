@@ -1,7 +1,8 @@
-//! What is told without a run: a report of an earlier run, what the first run that isn't ready waits for, the version.
+//! What is told without a run: a report of an earlier run, testing, unstable, what the first run that isn't ready waits for,
+//! the version.
 
 ghost use Rattle.std.specs.Prelude.{◌≡◌, IfOk};
-ghost use Rattle.office_cli.specs.Told.{report_text, status_of_awaited};
+ghost use Rattle.office_cli.specs.Told.{IsReportText, status_of_awaited};
 ghost use Rattle.office_core_facts.specs.State.{IsSound, state_of};
 
 use deb_control::Text;
@@ -30,8 +31,8 @@ pub fn tell_version(rt: &HostRuntime) -> u8 {
     }
 }
 
-/// Prints a report of an earlier run, or testing, and gives the exit status. Nothing is printed where that run isn't
-/// finished.
+/// Prints a report of an earlier run, testing or unstable, and gives the exit status. Nothing is printed where that run
+/// isn't finished.
 pub fn tell_report<K: Keeper>(rt: &HostRuntime, office: &mut Office<K>, report: Report) -> u8 {
     match report_text(office, report) {
         Ok(Some(text)) => print_text(rt, &text, 0),
@@ -45,12 +46,13 @@ fn report_text<K: Keeper>(
     office: &mut Office<K>,
     report: Report,
 ) -> Result<Option<Text>, StoreFault>
-    ensures text { K.is_trusted office.new → IsSound K.Keeper office.old → IfOk result (λ text. text ≡ report_text (state_of K.Keeper office.old) report) }
+    ensures text { K.is_trusted office.new → IsSound K.Keeper office.old → IfOk result (IsReportText (state_of K.Keeper office.old) report) }
     // Nothing is finished and nothing else changes.
     ensures same { K.is_trusted office.new → K.content office.new ≡ K.content office.old }
 {
     match report {
         Report::Testing => Ok(Some(office.testing_text()?)),
+        Report::Unstable => Ok(Some(office.unstable_text()?)),
         Report::Excuses(run) => office.excuses_text(run),
         Report::Update(run) => office.update_text(run),
     }

@@ -1,10 +1,11 @@
-//! Hints that are tried before they are mailed.
+//! Hints that are tried before they are mailed, and hints that are proposed.
 
+use crate::proposals::print_proposal;
 use crate::tasks::{
     end_store, find_file, out_of_memory, replay_to, tell_setup, tell_store, tell_unfound,
 };
 use crate::telling::{print_text, refuse};
-use deb_control::{NoMemory, Text};
+use deb_control::{NoMemory, Text, is_package_name};
 use office_core_orders::{DeliverFault, fault_words, name_at};
 use office_core_outcome::{
     RefusedHint, Trial, TrialOptions, TrialReport, has_changes, release_place, tried_text,
@@ -26,6 +27,15 @@ const USAGE: u8 = 2;
 /// The exit status where a hint is refused, or the day of the run isn't known.
 const REFUSED: u8 = 3;
 
+/// What is asked about the next run.
+#[derive(Clone, Copy)]
+enum Ask<'a> {
+    /// What these hints would change in it.
+    Try(&'a [Text]),
+    /// Hints that free these sources in it, or that move groups where none is named.
+    Propose(&'a [Text]),
+}
+
 /// Tries hints for the setup in a file, over the store in another or over the bag on standard input, and gives the exit
 /// status.
 pub fn try_for(
@@ -42,10 +52,31 @@ pub fn try_for(
     let Ok(hints) = texts_of(rt.alloc(), hints) else {
         return out_of_memory(rt);
     };
-    match read_setup(rt, conf) {
-        Ok(setup) => try_over(rt, db, setup, &hints, terms),
-        Err(fault) => tell_setup(rt, conf, &fault),
+    ask_for(rt, conf, db, Ask::Try(&hints), terms)
+}
+
+/// Proposes hints for the setup in a file, over the store in another or over the bag on standard input, and gives the exit
+/// status.
+pub fn propose_for(
+    rt: &HostRuntime,
+    conf: &str,
+    db: Option<&str>,
+    day: Option<&str>,
+    all: bool,
+    sources: &[&str],
+) -> u8 {
+    let Some(terms) = terms_of(day, all) else {
+        return refuse_day(rt, day.unwrap_or(""));
+    };
+    for source in sources {
+        if !is_package_name(source.as_bytes()) {
+            return refuse_name(rt, source);
+        }
     }
+    let Ok(sources) = texts_of(rt.alloc(), sources) else {
+        return out_of_memory(rt);
+    };
+    ask_for(rt, conf, db, Ask::Propose(&sources), terms)
 }
 
 /// What a trial takes beside the hints, none where a text is no day.
@@ -59,61 +90,69 @@ fn terms_of(day: Option<&str>, all: bool) -> Option<TrialOptions> {
     }
 }
 
-/// Copies of the hints.
-fn texts_of(alloc: Global, hints: &[&str]) -> Result<Vec<Text>, NoMemory> {
-    let mut texts = Vec::new(alloc);
-    for hint in hints {
-        texts.push(Text::from_str(alloc, hint)?)?;
+/// Copies of texts.
+fn texts_of(alloc: Global, texts: &[&str]) -> Result<Vec<Text>, NoMemory> {
+    let mut copies = Vec::new(alloc);
+    for text in texts {
+        copies.push(Text::from_str(alloc, text)?)?;
     }
-    Ok(texts)
+    Ok(copies)
 }
 
-/// Tries hints over the store in a file, or over the bag on standard input.
-fn try_over(
+/// Asks about the next run for the setup in a file, over the store in another or over the bag on standard input.
+fn ask_for(
     rt: &HostRuntime,
+    conf: &str,
     db: Option<&str>,
-    setup: Setup,
-    hints: &[Text],
+    ask: Ask<'_>,
     terms: TrialOptions,
 ) -> u8 {
-    match db {
-        Some(path) => try_stored(rt, path, setup, hints, terms),
-        None => try_in_memory(rt, setup, hints, terms),
+    match (read_setup(rt, conf), db) {
+        (Ok(setup), Some(path)) => ask_stored(rt, path, setup, ask, terms),
+        (Ok(setup), None) => ask_in_memory(rt, setup, ask, terms),
+        (Err(fault), _) => tell_setup(rt, conf, &fault),
     }
 }
 
-/// Tries hints over the store in a file.
-fn try_stored(
-    rt: &HostRuntime,
-    path: &str,
-    setup: Setup,
-    hints: &[Text],
-    terms: TrialOptions,
-) -> u8 {
+/// Asks about the next run over the store in a file.
+fn ask_stored(rt: &HostRuntime, path: &str, setup: Setup, ask: Ask<'_>, terms: TrialOptions) -> u8 {
     if let Err(fault) = find_file(rt, path) {
         return tell_unfound(rt, path, fault);
     }
     match open_store(rt, path, Unknown, &setup) {
         Ok(tables) => {
             let mut office = Office::new(rt.alloc(), setup, tables);
-            let status = tell_trial(rt, &mut office, hints, terms);
+            let status = tell_next(rt, &mut office, ask, terms);
             end_store(rt, path, office.into_keeper(), status)
         }
         Err(fault) => tell_store(rt, path, &fault),
     }
 }
 
-/// Tries hints over the bag on standard input. Where the bag is refused or mail was lost, that alone is told.
-fn try_in_memory(rt: &HostRuntime, setup: Setup, hints: &[Text], terms: TrialOptions) -> u8 {
+/// Asks about the next run over the bag on standard input. Where the bag is refused or mail was lost, that alone is told.
+fn ask_in_memory(rt: &HostRuntime, setup: Setup, ask: Ask<'_>, terms: TrialOptions) -> u8 {
     match Plain::new(rt.alloc(), &setup) {
         Ok(plain) => {
             let mut office = Office::new(rt.alloc(), setup, plain);
             match replay_to(rt, &mut office, &mut io::sink()) {
-                0 => tell_trial(rt, &mut office, hints, terms),
+                0 => tell_next(rt, &mut office, ask, terms),
                 status => status,
             }
         }
         Err(_) => out_of_memory(rt),
+    }
+}
+
+/// Prints what is asked about the next run of an office, and gives the exit status.
+fn tell_next<K: Keeper>(
+    rt: &HostRuntime,
+    office: &mut Office<K>,
+    ask: Ask<'_>,
+    terms: TrialOptions,
+) -> u8 {
+    match ask {
+        Ask::Try(hints) => tell_trial(rt, office, hints, terms),
+        Ask::Propose(sources) => tell_proposal(rt, office, sources, terms),
     }
 }
 
@@ -153,6 +192,26 @@ fn refuse_hint(rt: &HostRuntime, hints: &[Text], refused: RefusedHint) -> u8 {
     REFUSED
 }
 
+/// Prints the hints that are proposed for the next run of an office, and gives the exit status.
+fn tell_proposal<K: Keeper>(
+    rt: &HostRuntime,
+    office: &mut Office<K>,
+    sources: &[Text],
+    terms: TrialOptions,
+) -> u8 {
+    match office.propose(terms, sources) {
+        Ok(Some(proposal)) => print_proposal(rt, office.setup(), sources, &proposal),
+        Ok(None) => refuse_dateless(rt),
+        Err(fault) => refuse(rt, fault),
+    }
+}
+
+/// Says on standard error that a text is no name of a source, and gives the exit status.
+fn refuse_name(rt: &HostRuntime, name: &str) -> u8 {
+    let _ = eprintln!(rt; "office: '{name}': no name of a source");
+    USAGE
+}
+
 /// Says on standard error that the run has no day, and gives the exit status.
 fn refuse_dateless(rt: &HostRuntime) -> u8 {
     let _ = eprintln!(rt; "office: no run is finished: name the day of the next one by --day");
@@ -160,7 +219,7 @@ fn refuse_dateless(rt: &HostRuntime) -> u8 {
 }
 
 /// Says on standard error that a text is no day, and gives the exit status.
-fn refuse_day(rt: &HostRuntime, day: &str) -> u8 {
+pub(crate) fn refuse_day(rt: &HostRuntime, day: &str) -> u8 {
     let _ = eprintln!(rt; "office: '{day}': no day: write it as 2025-03-20");
     USAGE
 }

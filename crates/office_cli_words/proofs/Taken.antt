@@ -1,6 +1,6 @@
 -- Words in which clap finds no fault ask for something.
 use Rattle.std.proofs.Common.{◌≡◌, ℕ, Bool, true, false, not, ◌&&◌, codes, cond, List, [], ◌∷◌, Option, Some, None, refl, sym, subst, arith}
-use Rattle.std.specs.Prelude.{⊤, find, is_some, option_and_then, option_map}
+use Rattle.std.specs.Prelude.{⊤, find, is_some, option_and_then, option_map, unwrap_or}
 use Rattle.std.specs.List.{list_any}
 use Rattle.std.specs.Option.{option_map_or}
 use Rattle.clap.specs.Facts.{explicit_source}
@@ -11,7 +11,7 @@ use Rattle.clap.specs.Kinds.{check_kinds, or_else}
 use Rattle.clap.specs.Simple.{App, Shape, argument_words, built, built_leaf, entered, filled, help_rule, inherited, label_of, names_of, rows_at, subcommand_of, with_index}
 use Rattle.clap.specs.Walk.{Row, Rule, Text, all_of, answers_to, finished, first_of, has_row, nothing_held, rows_after, settled, stop_after, walk, walk_from, with_default}
 use Rattle.office_cli_words.specs.Program as program
-use Rattle.office_cli_words.specs.Asked.{Asked, ToCheck, ToExport, ToReplay, ToTellMail, ToTellRuns, ToTellWaiting, ToTellWhy, ToTry, asked_by, command_in, compare_of, is_set, number_in, number_of, of_store, of_values, report_from, serve_of, stored_in}
+use Rattle.office_cli_words.specs.Asked.{Asked, ToCheck, ToExport, ToLint, ToPropose, ToReplay, ToTellHints, ToTellMail, ToTellOrder, ToTellRuns, ToTellWaiting, ToTellWhy, ToTry, asked_by, command_in, compare_of, is_set, number_in, number_of, of_store, of_values, report_from, serve_of, stored_in}
 use Rattle.office_cli_words.proofs.Walks.{EachKeeps, never_none, no_kinds}
 use Rattle.office_cli_words.proofs.Values.{Good, HasFirst, fits, default_there, given_all, given_first, keeps_flag, keeps_help, keeps_value, keeps_values, level_leaves, no_default, numbers_accepted, row_first}
 
@@ -33,7 +33,7 @@ compare_read (Some v1) None v2 a b c = absurd b
 compare_read (Some v1) (Some op) None a b c = absurd c
 
 compare_reads : Reads (leaf program.compare)
-unfolding program.of_three program.of_five program.of_nine program.office
+unfolding program.of_three program.of_five program.of_nine program.of_eleven program.office
 compare_reads words none =
     let rows = rows_after (leaf program.compare).rules [] words in
     let keeps : EachKeeps Good false (leaf program.compare).rules = (
@@ -55,7 +55,7 @@ replay_read (Some conf) rows a = refl
 replay_read None rows a = absurd a
 
 replay_reads : Reads (leaf program.replay)
-unfolding program.of_three program.of_five program.of_nine program.office
+unfolding program.of_three program.of_five program.of_nine program.of_eleven program.office
 replay_reads words none =
     let rows = rows_after (leaf program.replay).rules [] words in
     let keeps : EachKeeps Good false (leaf program.replay).rules = (
@@ -73,7 +73,7 @@ waiting_read (Some conf) rows a = refl
 waiting_read None rows a = absurd a
 
 waiting_reads : Reads (leaf program.waiting)
-unfolding program.of_three program.of_five program.of_nine program.office
+unfolding program.of_three program.of_five program.of_nine program.of_eleven program.office
 waiting_reads words none =
     let rows = rows_after (leaf program.waiting).rules [] words in
     let keeps : EachKeeps Good false (leaf program.waiting).rules = (
@@ -94,7 +94,7 @@ report_read (Some conf) None run word a b c = absurd b
 report_read (Some conf) (Some db) None word a b c = absurd c
 
 report_reads : Reads (leaf program.report)
-unfolding program.of_three program.of_five program.of_nine program.office
+unfolding program.of_three program.of_five program.of_nine program.of_eleven program.office
 report_reads words none =
     let rows = rows_after (leaf program.report).rules [] words in
     let keeps : EachKeeps Good false (leaf program.report).rules = (
@@ -122,7 +122,7 @@ store_read ask (Some conf) None a b = absurd b
 -- a command that takes a setup and a store, whatever its name
 looking_reads : (name : Text) (ask : Text → Text → Asked) (words : List Text) → level_fault (leaf (program.looking name)) [] nothing_held words false [] ≡ []
     → is_some (stored_in ask (rows_after (leaf (program.looking name)).rules [] words)) ≡ true
-unfolding program.of_three program.of_five program.of_nine program.office
+unfolding program.of_three program.of_five program.of_nine program.of_eleven program.office
 looking_reads name ask words none =
     let rows = rows_after (leaf (program.looking name)).rules [] words in
     let keeps : EachKeeps Good false (leaf (program.looking name)).rules = (
@@ -136,19 +136,19 @@ looking_reads name ask words none =
     store_read ask (first_of (codes "conf") rows) (first_of (codes "db") rows) (given_first (codes "conf") rows left.0 (left.1.0 refl)) (given_first (codes "db") rows left.0 (left.1.1.0 refl))
 
 runs_reads : Reads (leaf program.runs)
-unfolding program.of_three program.of_five program.of_nine program.office
+unfolding program.of_three program.of_five program.of_nine program.of_eleven program.office
 runs_reads words none = looking_reads (codes "runs") ToTellRuns words none
 
 export_reads : Reads (leaf program.export)
-unfolding program.of_three program.of_five program.of_nine program.office
+unfolding program.of_three program.of_five program.of_nine program.of_eleven program.office
 export_reads words none = looking_reads (codes "export") ToExport words none
 
 check_reads : Reads (leaf program.check)
-unfolding program.of_three program.of_five program.of_nine program.office
+unfolding program.of_three program.of_five program.of_nine program.of_eleven program.office
 check_reads words none = looking_reads (codes "check") ToCheck words none
 
 mail_reads : Reads (leaf program.mail)
-unfolding program.of_three program.of_five program.of_nine program.office
+unfolding program.of_three program.of_five program.of_nine program.of_eleven program.office
 mail_reads words none =
     let rows = rows_after (leaf program.mail).rules [] words in
     let keeps : EachKeeps Good false (leaf program.mail).rules = (
@@ -171,7 +171,7 @@ values_read ask None values a b = absurd a
 values_read ask (Some conf) None a b = absurd (cc)
 
 why_reads : Reads (leaf program.why)
-unfolding program.of_three program.of_five program.of_nine program.office
+unfolding program.of_three program.of_five program.of_nine program.of_eleven program.office
 why_reads words none =
     let rows = rows_after (leaf program.why).rules [] words in
     let run_rule = ready 2 program.run in
@@ -193,7 +193,7 @@ why_reads words none =
     (given_first (codes "conf") rows left.0 (left.1.1.0 refl)) (given_all (codes "SOURCE") rows (left.1.0 refl))
 
 try_reads : Reads (leaf program.tries)
-unfolding program.of_three program.of_five program.of_nine program.office
+unfolding program.of_three program.of_five program.of_nine program.of_eleven program.office
 try_reads words none =
     let rows = rows_after (leaf program.tries).rules [] words in
     let keeps : EachKeeps Good false (leaf program.tries).rules = (
@@ -216,6 +216,76 @@ try_reads words none =
     values_read (λ conf hints. ToTry (is_set (codes "all") rows) conf (first_of (codes "db") rows) (first_of (codes "day") rows) hints) (first_of (codes "conf") rows) (all_of (codes "HINT") rows)
     (given_first (codes "conf") rows left.0 (left.1.1.0 refl)) (given_all (codes "HINT") rows (left.1.0 refl))
 
+lint_read : (conf : Option Text) → HasFirst (codes "conf") conf → is_some (option_map ToLint conf) ≡ true
+lint_read (Some conf) a = refl
+lint_read None a = absurd a
+
+lint_reads : Reads (leaf program.lint)
+unfolding program.of_three program.of_five program.of_nine program.of_eleven program.office
+lint_reads words none =
+    let rows = rows_after (leaf program.lint).rules [] words in
+    let keeps : EachKeeps Good false (leaf program.lint).rules = (
+      keeps_value false (ready 1 program.conf) refl refl refl (λ values fine. refl),
+      (keeps_help false (ready 1 help_rule) refl, tt),
+    ) in
+    let left = level_leaves (leaf program.lint) words keeps (refl, (refl, tt)) none in
+    lint_read (first_of (codes "conf") rows) (given_first (codes "conf") rows left.0 (left.1.0 refl))
+
+order_read : (day conf db : Option Text) → HasFirst (codes "day") day → HasFirst (codes "conf") conf → HasFirst (codes "db") db
+    → is_some (option_and_then (λ (day : Text). of_store (ToTellOrder day) conf db) day) ≡ true
+order_read (Some day) conf db a b c = store_read (ToTellOrder day) conf db b c
+order_read None conf db a b c = absurd a
+
+order_reads : Reads (leaf program.order)
+unfolding program.of_three program.of_five program.of_nine program.of_eleven program.office
+order_reads words none =
+    let rows = rows_after (leaf program.order).rules [] words in
+    let keeps : EachKeeps Good false (leaf program.order).rules = (
+      keeps_value false (ready 1 program.dated) refl refl refl (λ values fine. refl),
+      (
+        keeps_value false (ready 1 program.conf) refl refl refl (λ values fine. refl),
+        (
+          keeps_value false (ready 1 program.stored) refl refl refl (λ values fine. refl),
+          (keeps_help false (ready 1 help_rule) refl, tt),
+        ),
+      ),
+    ) in
+    let left = level_leaves (leaf program.order) words keeps (refl, (refl, (refl, (refl, tt)))) none in
+    order_read (first_of (codes "day") rows) (first_of (codes "conf") rows) (first_of (codes "db") rows)
+    (given_first (codes "day") rows left.0 (left.1.0 refl)) (given_first (codes "conf") rows left.0 (left.1.1.0 refl)) (given_first (codes "db") rows left.0 (left.1.1.1.0 refl))
+
+hints_reads : Reads (leaf program.hints)
+unfolding program.of_three program.of_five program.of_nine program.of_eleven program.office
+hints_reads words none = looking_reads (codes "hints") ToTellHints words none
+
+propose_read : (conf : Option Text) (rows : List Row) → HasFirst (codes "conf") conf
+    → is_some (option_map (λ (conf : Text). ToPropose (is_set (codes "all") rows) conf (first_of (codes "db") rows) (first_of (codes "day") rows) (unwrap_or (all_of (codes "SOURCE") rows) [])) conf) ≡ true
+propose_read (Some conf) rows a = refl
+propose_read None rows a = absurd a
+
+propose_reads : Reads (leaf program.propose)
+unfolding program.of_three program.of_five program.of_nine program.of_eleven program.office
+propose_reads words none =
+    let rows = rows_after (leaf program.propose).rules [] words in
+    let keeps : EachKeeps Good false (leaf program.propose).rules = (
+      keeps_values false (ready 1 program.sources) refl refl refl (λ values fine. refl),
+      (
+        keeps_value false (ready 2 program.conf) refl refl refl (λ values fine. refl),
+        (
+          keeps_value false (ready 2 program.db) refl refl refl (λ values fine. refl),
+          (
+            keeps_value false (ready 2 program.day) refl refl refl (λ values fine. refl),
+            (
+              keeps_flag false (ready 2 program.all) (codes "true") [] refl refl (λ values. refl),
+              (keeps_help false (ready 2 help_rule) refl, tt),
+            ),
+          ),
+        ),
+      ),
+    ) in
+    let left = level_leaves (leaf program.propose) words keeps (refl, (refl, (refl, (refl, (refl, (refl, tt)))))) none in
+    propose_read (first_of (codes "conf") rows) rows (given_first (codes "conf") rows left.0 (left.1.1.0 refl))
+
 -- a first value of a number is one
 number_there : (id : Text) (o : Option Text) → (fits_number : (v : Text) → fits id (v ∷ []) ≡ true → is_some (number_in v) ≡ true) → HasFirst id o → is_some (option_and_then number_in o) ≡ true
 number_there id None number has = absurd has
@@ -237,7 +307,7 @@ reads_one true h = refl
 reads_one false h = h
 
 serve_reads : Reads (leaf program.serve)
-unfolding program.of_three program.of_five program.of_nine program.office
+unfolding program.of_three program.of_five program.of_nine program.of_eleven program.office
 serve_reads words none =
     let rows = rows_after (leaf program.serve).rules [] words in
     let port_rule = ready 1 program.port in
@@ -319,6 +389,6 @@ command_reads a words required each none =
 
 -- words in which clap finds no fault ask for something
 pub taken_words_ask : (words : List Text) → fault_of program.office words ≡ [] → is_some (asked_by (subcommand_of program.office words)) ≡ true
-unfolding program.of_three program.of_five program.of_nine program.office
+unfolding program.of_three program.of_five program.of_nine program.of_eleven program.office
 taken_words_ask words none =
-    command_reads (built program.office) (argument_words program.office words) refl (compare_reads, (replay_reads, (serve_reads, (waiting_reads, (report_reads, (runs_reads, (mail_reads, (export_reads, (check_reads, (why_reads, (try_reads, tt))))))))))) none
+    command_reads (built program.office) (argument_words program.office words) refl (compare_reads, (replay_reads, (serve_reads, (waiting_reads, (report_reads, (runs_reads, (mail_reads, (export_reads, (check_reads, (why_reads, (try_reads, (lint_reads, (order_reads, (hints_reads, (propose_reads, tt))))))))))))))) none

@@ -1,5 +1,5 @@
 -- What the words of the command line ask for.
-use Rattle.std.specs.Prelude.{◌≡◌, ⊤, Result, Ok, Err, ℕ, Bool, false, ◌&&◌, ◌==◌, ◌^◌, codes, length, List, [], ◌∷◌, map, Option, Some, None, option_map, option_and_then, nat_lt, if◌then◌else◌}
+use Rattle.std.specs.Prelude.{◌≡◌, ⊤, Result, Ok, Err, ℕ, Bool, false, ◌&&◌, ◌==◌, ◌^◌, codes, length, List, [], ◌∷◌, map, Option, Some, None, option_map, option_and_then, nat_lt, if◌then◌else◌, unwrap_or}
 use Rattle.std.specs.List.{list_all}
 use Rattle.std.specs.Option.{option_map_or}
 use Rattle.std.specs.Str.{bytes_eq}
@@ -11,14 +11,15 @@ use Rattle.office_cli_words.specs.Program.{office}
 use Rattle.office_cli_words.specs.declared.Words.{Words}
 use Rattle.office_cli_words.specs.declared.WordsFault.{WordsFault}
 use Rattle.office_cli_words.specs.declared.WordsFault.TheVariants.{NoMemory, Usage}
-use Rattle.office_cli_words.specs.declared.Words.TheVariants.{Compare, Replay, Serve, Waiting, Report, UnknownReport, Runs, Mail, Export, Check, Why, Try, Version}
+use Rattle.office_cli_words.specs.declared.Words.TheVariants.{Compare, Replay, Serve, Waiting, Report, UnknownReport, Runs, Mail, Export, Check, Why, Try, Lint, Order, Hints, Propose, Version}
 use Rattle.office_cli_words.specs.declared.reports.Report.{Report as ReportName}
-use Rattle.office_cli_words.specs.declared.reports.Report.TheVariants.{Testing, Excuses, Update}
+use Rattle.office_cli_words.specs.declared.reports.Report.TheVariants.{Testing, Unstable, Excuses, Update}
 
 -- what is asked: to compare two versions by an operator; to replay a bag for the setup in a file, over a store in a file or in memory;
 -- to serve so many connections for it on a port; to tell what a run waits for; to tell a report, or one that isn't known; to tell the
 -- finished runs; to tell the kept mail, by counts or message by message; to export it; to check the store; to tell what a run said of
--- sources; to try hints on a day, over the covered mail or over all; or the version
+-- sources; to try hints on a day, over the covered mail or over all; to tell which messages of a bag are refused; to tell the next order on
+-- a day, or the hints in force; to tell hints that move groups, or free sources, on the same terms as a trial; or the version
 pub data Asked : Type 0 where
   ToCompare : Text → Text → Text → Asked
   ToReplay : Text → Option Text → Asked
@@ -32,6 +33,10 @@ pub data Asked : Type 0 where
   ToCheck : Text → Text → Asked
   ToTellWhy : Text → Option Text → Option ℕ → List Text → Asked
   ToTry : Bool → Text → Option Text → Option Text → List Text → Asked
+  ToLint : Text → Asked
+  ToTellOrder : Text → Text → Text → Asked
+  ToTellHints : Text → Text → Asked
+  ToPropose : Bool → Text → Option Text → Option Text → List Text → Asked
   ToTellVersion : Asked
 
 abbrev pub asked : Words → Asked
@@ -47,6 +52,10 @@ asked (Export conf db) = ToExport conf.now db.now
 asked (Check conf db) = ToCheck conf.now db.now
 asked (Why conf db run sources) = ToTellWhy conf.now (option_map (λ text. text.now) db) run (map (λ text. text.now) sources.items)
 asked (Try conf db day all hints) = ToTry all conf.now (option_map (λ text. text.now) db) (option_map (λ text. text.now) day) (map (λ text. text.now) hints.items)
+asked (Lint conf) = ToLint conf.now
+asked (Order day conf db) = ToTellOrder day.now conf.now db.now
+asked (Hints conf db) = ToTellHints conf.now db.now
+asked (Propose conf db day all sources) = ToPropose all conf.now (option_map (λ text. text.now) db) (option_map (λ text. text.now) day) (map (λ text. text.now) sources.items)
 asked Version = ToTellVersion
 
 -- decimal digits, of a number of 32 bits
@@ -72,9 +81,16 @@ run_report word run =
     else if bytes_eq word (codes "update") then Some (Update run)
     else None
 
--- the report that two words name: `testing` alone, or a run and one of its two reports
+-- the report that one word names
+abbrev pub report_alone : Text → Option ReportName
+report_alone word =
+    if bytes_eq word (codes "testing") then Some Testing
+    else if bytes_eq word (codes "unstable") then Some Unstable
+    else None
+
+-- the report that two words name: `testing` or `unstable` alone, or a run and one of its two reports
 abbrev pub report_of : Text → Option Text → Option ReportName
-report_of word None = if bytes_eq word (codes "testing") then Some Testing else None
+report_of word None = report_alone word
 report_of run (Some word) = option_and_then (run_report word) (run_in run)
 
 -- what was given to each command
@@ -135,6 +151,17 @@ why_in rows = of_values (λ conf sources. ToTellWhy conf (first_of (codes "db") 
 abbrev pub try_in : List Row → Option Asked
 try_in rows = of_values (λ conf hints. ToTry (is_set (codes "all") rows) conf (first_of (codes "db") rows) (first_of (codes "day") rows) hints) (first_of (codes "conf") rows) (all_of (codes "HINT") rows)
 
+abbrev pub lint_in : List Row → Option Asked
+lint_in rows = option_map ToLint (first_of (codes "conf") rows)
+
+abbrev pub order_in : List Row → Option Asked
+order_in rows = option_and_then (λ (day : Text). stored_in (ToTellOrder day) rows) (first_of (codes "day") rows)
+
+abbrev pub propose_in : List Row → Option Asked
+propose_in rows =
+    option_map (λ (conf : Text). ToPropose (is_set (codes "all") rows) conf (first_of (codes "db") rows) (first_of (codes "day") rows) (unwrap_or (all_of (codes "SOURCE") rows) []))
+    (first_of (codes "conf") rows)
+
 abbrev pub command_in : Text → List Row → Option Asked
 command_in name rows =
     if bytes_eq name (codes "compare") then compare_in rows
@@ -148,6 +175,10 @@ command_in name rows =
     else if bytes_eq name (codes "check") then stored_in ToCheck rows
     else if bytes_eq name (codes "why") then why_in rows
     else if bytes_eq name (codes "try") then try_in rows
+    else if bytes_eq name (codes "lint") then lint_in rows
+    else if bytes_eq name (codes "order") then order_in rows
+    else if bytes_eq name (codes "hints") then stored_in ToTellHints rows
+    else if bytes_eq name (codes "propose") then propose_in rows
     else None
 
 -- by the command that the words name and what they give it

@@ -102,6 +102,28 @@ all = record (new_rule (codes "all")) { long = Some (codes "all"); action = Some
 abbrev pub tries : App
 tries = with_rule (with_rule (with_rule (with_rule (with_rule (new_app (codes "try")) (places (codes "HINT"))) conf) db) day) all
 
+-- `lint --conf F`
+abbrev pub lint : App
+lint = with_rule (new_app (codes "lint")) conf
+
+-- `order --day DAY --conf F --db F`
+abbrev pub dated : Rule
+dated = needed (codes "day")
+
+abbrev pub order : App
+order = with_rule (with_rule (with_rule (new_app (codes "order")) dated) conf) stored
+
+-- `hints`, which takes a setup and a store
+abbrev pub hints : App
+hints = looking (codes "hints")
+
+-- `propose [SOURCE..] --conf F [--db F] [--day DAY] [--all]`
+abbrev pub sources : Rule
+sources = record (new_rule (codes "SOURCE")) { action = Some Append }
+
+abbrev pub propose : App
+propose = with_rule (with_rule (with_rule (with_rule (with_rule (new_app (codes "propose")) sources) conf) db) day) all
+
 -- `office COMMAND ..`: a command has to be named, and no words at all are a call for help
 abbrev pub bare : App
 bare = record (new_app (codes "office")) {
@@ -124,6 +146,10 @@ of_five = with_subcommand (with_subcommand of_three waiting.top) report.top
 unfoldable pub of_nine : App
 of_nine = with_subcommand (with_subcommand (with_subcommand (with_subcommand of_five runs.top) mail.top) export.top) check.top
 
--- the program's command, which also tells what a run said of sources, and tries hints
+-- the command that also tells what a run said of sources, and tries hints
+unfoldable pub of_eleven : App
+of_eleven = with_subcommand (with_subcommand of_nine why.top) tries.top
+
+-- the program's command, which also tells which messages of a bag are refused, the next order, the hints in force, and hints that move groups
 unfoldable pub office : App
-office = with_subcommand (with_subcommand of_nine why.top) tries.top
+office = with_subcommand (with_subcommand (with_subcommand (with_subcommand of_eleven lint.top) order.top) hints.top) propose.top

@@ -13,12 +13,14 @@ const ABOUT: &str = "Decides which Debian source packages migrate from unstable 
 const AFTER: &str =
     "office --version tells the version. Each command has its own help: office compare --help, office replay --help,
 office serve --help, office waiting --help, office report --help, office runs --help, office mail --help,
-office export --help, office check --help, office why --help, office try --help.
+office export --help, office check --help, office why --help, office try --help, office lint --help,
+office order --help, office hints --help, office propose --help.
 
 Exit status: 0 done, or the comparison is true; 1 the comparison is false, an ordered run waits for mail, the run of a
-report isn't finished, the store isn't what its mail gives, the run says nothing of a source, or hints change nothing;
-2 usage, or help was asked for; 3 a version, the setup, the bag or a hint was refused; 4 memory, a file, the store, the
-socket or the output failed.";
+report isn't finished, the store isn't what its mail gives, unstable doesn't have a source, hints change nothing, a
+message is refused, or no hint moves a group or frees a source; 2 usage, or help was asked for; 3 a version, the setup,
+the bag or a hint was refused, or no day of the next run is known; 4 memory, a file, the store, the socket or the output
+failed.";
 
 const COMPARE: &str =
     "Compares two versions as Debian Policy 5.6.12 orders them: status 0 true, 1 false";
@@ -56,16 +58,19 @@ Without --db the messages of a bag on standard input are delivered first, to an 
 store in the file is looked at, and standard input isn't read. Status 0: the run's order is awaited; 1: the run is
 ordered, and waits for mail.";
 
-const REPORT: &str = "Tells a report of an earlier run, or testing, from the store in a file";
+const REPORT: &str =
+    "Tells a report of an earlier run, testing or unstable, from the store in a file";
 
 const AFTER_REPORT: &str =
     "Examples: office report 3 excuses --conf examples/setup.conf --db store.db
           office report 3 update --conf examples/setup.conf --db store.db
           office report testing --conf examples/setup.conf --db store.db
+          office report unstable --conf examples/setup.conf --db store.db
 
-No run is finished by it. Status 1, and nothing is printed: that run isn't finished.";
+Unstable is what the kept mail gives up to each sender's first gap, and testing what the last run left. No run is
+finished by it. Status 1, and nothing is printed: that run isn't finished.";
 
-const RUN: &str = "The number of a finished run, from 1 on, or testing";
+const RUN: &str = "The number of a finished run, from 1 on, or testing, or unstable";
 
 const TOLD: &str = "excuses or update, behind the number of a run";
 
@@ -108,10 +113,11 @@ const WHY: &str = "Tells why a source stands where the last run left it, or an e
 const AFTER_WHY: &str = "Examples: office why libgreet --conf examples/setup.conf --db store.db
           office why libgreet greeter --run 2 --conf examples/setup.conf < examples/archive.bag
 
-For each source a line why RUN SOURCE, then its excuse, where each reason comes from, and each line of the run's update
-that names it: that it moves, that it waits and for what, or that another one waits for a package of its name; and of a
-source that waits, what shows that it can't move alone. An earlier run is made anew, in memory, from the same mail.
-Status 1: the run isn't finished, or nothing is told of one of the sources.";
+For each source a line why RUN SOURCE, then its excuse, or that it is in testing at unstable's version, or unknown;
+where each reason comes from, and each line of the run's update that names it: that it moves, that it waits and for
+what, or that another one waits for a package of its name; and of a source that waits, what shows that it can't move
+alone. An earlier run is made anew, in memory, from the same mail. Status 1: the run isn't finished, or unstable doesn't
+have one of the sources.";
 
 const SOURCE: &str = "The name of a source";
 
@@ -132,6 +138,45 @@ const DAY: &str = "The day of the run, as 2025-03-20; without it that of the las
 
 const ALL: &str =
     "Covers all mail that is kept without a gap, and not only what the last run covered";
+
+const LINT: &str = "Tells which messages of a bag on standard input are refused, and keeps nothing";
+
+const AFTER_LINT: &str = "Example: office lint --conf examples/setup.conf < examples/first.bag
+
+The bag is replayed in an office in memory, and each refusal is told on standard error, with the place of its message.
+Nothing else is told. Status 0: all messages would be held; 1: one is refused.";
+
+const ORDER: &str =
+    "Tells the next order over all mail that the store in a file keeps without a gap";
+
+const AFTER_ORDER: &str =
+    "Example: office order --day 2025-03-20 --conf examples/setup.conf --db store.db
+
+Prints a message of the sender of orders, which covers of each sender all mail up to its first gap. It can be mailed
+as it stands. Senders of whom nothing is kept aren't named.";
+
+const DATED: &str = "The day of the order, as 2025-03-20";
+
+const HINTS: &str =
+    "Tells the hints in force, by the mail that the store in a file keeps without a gap";
+
+const AFTER_HINTS: &str = "Example: office hints --conf examples/setup.conf --db store.db
+
+Behind the line hints F, F being the number of finished runs, a line for each item of each hint: SENDER N covered or
+new, the hint, and how it stands: in force; moved, if testing has that version; no source, if unstable has none of that
+name; or the version that unstable has.";
+
+const PROPOSE: &str =
+    "Tells hints that move groups of sources in the next run, or those that free some sources";
+
+const AFTER_PROPOSE: &str = "Examples: office propose --conf examples/setup.conf --db store.db
+          office propose libgreet --day 2025-03-20 --all --conf examples/setup.conf --db store.db
+
+Prints easy hints, one in a line, in the order in which they are to be numbered: a run that covers them moves each
+group. With a SOURCE the hints that free it; standard error tells of each source that has none. Nothing is kept.
+Status 1: there is no hint, or one of the sources isn't moved; 3: no run is finished, and no day is named.";
+
+const FREED: &str = "The name of a source that is to move";
 
 const SETUP: &str =
     "The file of the setup: the architectures, and the senders of mail with their roles";
@@ -245,6 +290,28 @@ fn day_option<'a>(alloc: Global) -> Arg<'a>
         .long("day")
         .value_name("DAY")
         .help(DAY)
+}
+
+/// `--day DAY`, which is needed.
+fn dated_option<'a>(alloc: Global) -> Arg<'a>
+    ensures rule { rule_of result ≡ program.dated }
+    ensures local { result.global ≡ false }
+{
+    Arg::new(alloc, "day")
+        .long("day")
+        .value_name("DAY")
+        .help(DATED)
+        .required(true)
+}
+
+/// Sources by their place, which may be left out.
+fn freed_place<'a>(alloc: Global) -> Arg<'a>
+    ensures rule { rule_of result ≡ program.sources }
+    ensures local { result.global ≡ false }
+{
+    Arg::new(alloc, "SOURCE")
+        .help(FREED)
+        .action(ArgAction::Append)
 }
 
 /// `--all`.
@@ -423,6 +490,36 @@ fn try_command<'a>(alloc: Global) -> Result<Command<'a>, AllocError>
     with_arg(four, all_option(alloc))
 }
 
+/// `lint --conf SETUP`.
+fn lint_command<'a>(alloc: Global) -> Result<Command<'a>, AllocError>
+    ensures { IfOk result (λ c. app_of c ≡ program.lint) }
+{
+    let bare = named(alloc, "lint", LINT, AFTER_LINT);
+    with_arg(bare, conf_option(alloc))
+}
+
+/// `order --day DAY --conf SETUP --db FILE`.
+fn order_command<'a>(alloc: Global) -> Result<Command<'a>, AllocError>
+    ensures { IfOk result (λ c. app_of c ≡ program.order) }
+{
+    let bare = named(alloc, "order", ORDER, AFTER_ORDER);
+    let one = with_arg(bare, dated_option(alloc));
+    let two = with_arg(one, conf_option(alloc));
+    with_arg(two, stored_option(alloc))
+}
+
+/// `propose [SOURCE..] --conf SETUP [--db FILE] [--day DAY] [--all]`.
+fn propose_command<'a>(alloc: Global) -> Result<Command<'a>, AllocError>
+    ensures { IfOk result (λ c. app_of c ≡ program.propose) }
+{
+    let bare = named(alloc, "propose", PROPOSE, AFTER_PROPOSE);
+    let one = with_arg(bare, freed_place(alloc));
+    let two = with_arg(one, conf_option(alloc));
+    let three = with_arg(two, db_option(alloc, LOOKED_AT));
+    let four = with_arg(three, day_option(alloc));
+    with_arg(four, all_option(alloc))
+}
+
 /// The command without its subcommands.
 fn bare_command<'a>(alloc: Global) -> Command<'a>
     ensures { app_of result ≡ program.bare }
@@ -465,10 +562,21 @@ fn command_of_nine<'a>(alloc: Global) -> Result<Command<'a>, AllocError>
     with_command(eight, check)
 }
 
+/// The command that also tells what a run said of sources, and tries hints.
+fn command_of_eleven<'a>(alloc: Global) -> Result<Command<'a>, AllocError>
+    ensures { IfOk result (λ c. app_of c ≡ program.of_eleven) }
+{
+    let ten = with_command(command_of_nine(alloc), why_command(alloc));
+    with_command(ten, try_command(alloc))
+}
+
 /// The program's command.
 pub(crate) fn office_command<'a>(alloc: Global) -> Result<Command<'a>, AllocError>
     ensures { IfOk result (λ c. app_of c ≡ program.office) }
 {
-    let ten = with_command(command_of_nine(alloc), why_command(alloc));
-    with_command(ten, try_command(alloc))
+    let twelve = with_command(command_of_eleven(alloc), lint_command(alloc));
+    let thirteen = with_command(twelve, order_command(alloc));
+    let hints = looking_command(alloc, "hints", HINTS, AFTER_HINTS);
+    let fourteen = with_command(thirteen, hints);
+    with_command(fourteen, propose_command(alloc))
 }

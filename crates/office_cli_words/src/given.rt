@@ -1,8 +1,8 @@
 //! What was given to each command.
 
-ghost use Rattle.std.specs.Prelude.{◌≡◌, map, option_map, IfOk};
+ghost use Rattle.std.specs.Prelude.{◌≡◌, map, option_map, IfOk, [], unwrap_or};
 ghost use Rattle.clap.specs.Words.{all_of, first_of, found_of, rows_of, subcommand_rows_of};
-ghost use Rattle.office_cli_words.specs.Asked.{ToCheck, ToExport, ToTellRuns, asked, asked_by, command_in, compare_in, is_set, mail_in, number_of, replay_in, report_in, report_of, serve_in, asked_report, stored_in, try_in, waiting_in, why_in};
+ghost use Rattle.office_cli_words.specs.Asked.{ToCheck, ToExport, ToTellHints, ToTellRuns, asked, asked_by, command_in, compare_in, is_set, lint_in, mail_in, number_of, order_in, propose_in, replay_in, report_in, report_of, serve_in, asked_report, stored_in, try_in, waiting_in, why_in};
 
 use crate::Words;
 use crate::reports::{number_in, report_of};
@@ -192,6 +192,59 @@ fn try_words<'a>(alloc: Global, given: &ArgMatches<'a>) -> Result<Option<Words<'
     }
 }
 
+fn lint_words<'a>(given: &ArgMatches<'a>) -> Option<Words<'a>>
+    ensures { option_map asked result ≡ lint_in (rows_of (found_of given.now)) }
+{
+    let conf = text_of(given, "conf")?;
+    Some(Words::Lint { conf })
+}
+
+fn order_words<'a>(given: &ArgMatches<'a>) -> Option<Words<'a>>
+    ensures { option_map asked result ≡ order_in (rows_of (found_of given.now)) }
+{
+    let day = text_of(given, "day")?;
+    let conf = text_of(given, "conf")?;
+    let db = text_of(given, "db")?;
+    Some(Words::Order { day, conf, db })
+}
+
+fn hints_words<'a>(given: &ArgMatches<'a>) -> Option<Words<'a>>
+    ensures { option_map asked result ≡ stored_in ToTellHints (rows_of (found_of given.now)) }
+{
+    let conf = text_of(given, "conf")?;
+    let db = text_of(given, "db")?;
+    Some(Words::Hints { conf, db })
+}
+
+/// The texts given under a name, none where the name isn't given.
+fn listed_texts<'a>(
+    alloc: Global,
+    given: &ArgMatches<'a>,
+    name: &str,
+) -> Result<Vec<&'a str>, AllocError>
+    ensures { IfOk result (λ texts. map (λ text. text.now) texts.items ≡ unwrap_or (all_of name.now (rows_of (found_of given.now))) []) }
+{
+    match texts_of(alloc, given, name)? {
+        Some(texts) => Ok(texts),
+        None => Ok(Vec::new(alloc)),
+    }
+}
+
+fn propose_words<'a>(alloc: Global, given: &ArgMatches<'a>) -> Result<Option<Words<'a>>, AllocError>
+    ensures { IfOk result (λ words. option_map asked words ≡ propose_in (rows_of (found_of given.now))) }
+{
+    let Some(conf) = text_of(given, "conf") else {
+        return Ok(None);
+    };
+    Ok(Some(Words::Propose {
+        conf,
+        db: text_of(given, "db"),
+        day: text_of(given, "day"),
+        all: is_set(given, "all"),
+        sources: listed_texts(alloc, given, "SOURCE")?,
+    }))
+}
+
 fn command_words<'a>(
     alloc: Global,
     name: &str,
@@ -211,6 +264,10 @@ fn command_words<'a>(
         "check" => Ok(check_words(given)),
         "why" => why_words(alloc, given),
         "try" => try_words(alloc, given),
+        "lint" => Ok(lint_words(given)),
+        "order" => Ok(order_words(given)),
+        "hints" => Ok(hints_words(given)),
+        "propose" => propose_words(alloc, given),
         _ => Ok(None),
     }
 }

@@ -101,6 +101,30 @@ pub enum Words<'a> {
         all: bool,
         hints: Vec<&'a str>,
     },
+    /// Tell which messages of the bag on standard input are refused, for the setup in a file.
+    Lint {
+        conf: &'a str,
+    },
+    /// Tell the text of an order on a day over all mail that the store in a file keeps without a gap.
+    Order {
+        day: &'a str,
+        conf: &'a str,
+        db: &'a str,
+    },
+    /// Tell the hints in force, by the mail that the store in a file keeps.
+    Hints {
+        conf: &'a str,
+        db: &'a str,
+    },
+    /// Tell hints that move groups of sources in the next run, or those that free these sources, for the setup in a file:
+    /// over a store in a file, or over the bag on standard input; on a day, and over the covered mail or over all.
+    Propose {
+        conf: &'a str,
+        db: Option<&'a str>,
+        day: Option<&'a str>,
+        all: bool,
+        sources: Vec<&'a str>,
+    },
     /// Tell the program's version.
     Version,
 }
@@ -172,8 +196,10 @@ fn read_command<'a>(alloc: Global, words: &'a [&'a str]) -> Result<Words<'a>, Wo
 /// are read as clap reads them in the command `office` with its subcommands `compare V1 OP V2`, `replay --conf F
 /// [--db F]`, `serve --conf F --port N [--db F] [--connections C]`, `waiting --conf F [--db F]`, `report RUN [REPORT]
 /// --conf F --db F`, `runs --conf F --db F`, `mail --conf F --db F [--list]`, `export --conf F --db F`, `check --conf F
-/// --db F`, `why SOURCE.. --conf F [--db F] [--run K]` and `try HINT.. --conf F [--db F] [--day DAY] [--all]`, where N is
-/// from 1 to 65,535, C from 0 to 1,000,000, which it is where it isn't given, and K from 1 to 999,999,999.
+/// --db F`, `why SOURCE.. --conf F [--db F] [--run K]`, `try HINT.. --conf F [--db F] [--day DAY] [--all]`, `lint --conf
+/// F`, `order --day DAY --conf F --db F`, `hints --conf F --db F` and `propose [SOURCE..] --conf F [--db F] [--day DAY]
+/// [--all]`, where N is from 1 to 65,535, C from 0 to 1,000,000, which it is where it isn't given, and K from 1 to
+/// 999,999,999.
 ///
 /// Refused as `Usage` are words in which clap finds a fault, a request for help among them.
 pub fn read_words<'a>(alloc: Global, words: &'a [&'a str]) -> Result<Words<'a>, WordsFault>

@@ -1,17 +1,19 @@
 //! The numbers and the reports that words name.
 
 ghost use Rattle.std.specs.Prelude.{◌≡◌, option_map};
-ghost use Rattle.office_cli_words.specs.Asked.{number_in, report_of, run_in, run_report};
+ghost use Rattle.office_cli_words.specs.Asked.{number_in, report_alone, report_of, run_in, run_report};
 
 /// Why words name no report.
 const NO_REPORT: &str =
-    "no report: name testing, or the number of a run from 1 on, and excuses or update behind it";
+    "no report: name testing or unstable, or the number of a run from 1 on, and excuses or update behind it";
 
-/// A report of an earlier run, or testing.
+/// A report of an earlier run, testing, or unstable.
 #[derive(Clone, Copy, Debug, PartialEq, Eq)]
 pub enum Report {
     /// What is in testing.
     Testing,
+    /// What is in unstable, by all mail without a gap.
+    Unstable,
     /// The excuses of a run.
     Excuses(u32),
     /// The update of a run.
@@ -49,13 +51,23 @@ fn run_report(word: &str, run: u32) -> Option<Report>
     }
 }
 
-/// The report that two words name: `testing` alone, or a run and one of its two reports.
+/// The report that one word names.
+fn report_alone(word: &str) -> Option<Report>
+    ensures { result ≡ report_alone word.now }
+{
+    match word {
+        "testing" => Some(Report::Testing),
+        "unstable" => Some(Report::Unstable),
+        _ => None,
+    }
+}
+
+/// The report that two words name: `testing` or `unstable` alone, or a run and one of its two reports.
 pub(crate) fn report_of(run: &str, word: Option<&str>) -> Option<Report>
     ensures { result ≡ report_of run.now (option_map (λ text. text.now) word.entry) }
 {
     match word {
-        None if run == "testing" => Some(Report::Testing),
-        None => None,
+        None => report_alone(run),
         Some(word) => run_report(word, run_in(run)?),
     }
 }

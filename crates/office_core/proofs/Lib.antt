@@ -1,3 +1,4 @@
+pub mod AnsweringFacts
 pub mod CarryFacts
 pub mod CountSteps
 pub mod FinishFacts

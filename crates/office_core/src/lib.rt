@@ -2,6 +2,7 @@
 //! (Debian Developer's Reference 5.13) as their mail is there.
 #![tactic(auto)]
 
+mod answering;
 mod asked;
 mod counting;
 mod gathering;

@@ -1,12 +1,12 @@
 //! The office: what it takes, finishes and reports.
 #![tactic(auto, using(office_core_orders::proofs::LastFacts::lasting))]
 
-ghost use Rattle.std.specs.Prelude.{is_ok, ◌≡◌, ◌+◌, ◌-◌, ◌≤◌, ◌<◌, ◌∷◌, [], None, IfOk, IfSome, OnOk, OnErr, length};
+ghost use Rattle.std.specs.Prelude.{is_none, is_ok, ◌≡◌, ◌+◌, ◌-◌, ◌≤◌, ◌<◌, ◌∷◌, [], None, IfOk, IfSome, OnOk, OnErr, length};
 ghost use Rattle.std.specs.FinMap.{get};
 ghost use Rattle.std.specs.Option.{option_map};
 ghost use Rattle.testing_rules_laws.specs.Watched.{AllWatchedWork};
 ghost use Rattle.office_mail.specs.Kept.{kept_from};
-ghost use Rattle.office_mail.specs.Runs.{IsReady, IsReadyCount};
+ghost use Rattle.office_mail.specs.Runs.{IsReady, IsReadyCount, latest_day, orders_to};
 ghost use Rattle.office_store_keeper.specs.Content.{IsNextNumber};
 ghost use Rattle.office_store_keeper.specs.Provenance.{AreOwnTexts};
 ghost use Rattle.office_core_orders.specs.Counted.{Counted, CountedDelivery};
@@ -17,9 +17,13 @@ ghost use Rattle.office_core_orders.specs.StaysTrusted.{StaysTrusted};
 ghost use Rattle.office_core_facts.specs.Outcome.{testing_after, testing_text};
 ghost use Rattle.office_core_facts.specs.State.{IsSound, KeepsFacts, state_of, answer_to, AnswersDelivery, reports_at};
 ghost use Rattle.office_core_orders.specs.Waiting.{Awaits, AwaitsSome};
+ghost use Rattle.office_core_why.specs.Hints.{IsHintsText};
+ghost use Rattle.office_core_why.specs.UnstableText.{IsUnstableText};
 ghost use Rattle.office_core_why.specs.Why.{IsWhy};
-ghost use Rattle.office_core_outcome.specs.Trial.{IsTrial};
+ghost use Rattle.office_core_outcome.specs.Proposal.{IsProposed};
+ghost use Rattle.office_core_outcome.specs.Trial.{IsTrial, trial_date};
 
+use crate::answering::answer;
 use crate::counting::{count_replies, count_reply};
 use crate::gathering::{Reply, keep_texts};
 use crate::posting::deliver;
@@ -31,8 +35,8 @@ use office_core_facts::message_cache::MessageCache;
 use office_core_orders::ready::ready_count;
 use office_core_orders::waiting::waiting;
 use office_core_orders::{DeliverFault, Held, Progress, StoreFault, Waiting, stored};
-use office_core_outcome::{Trial, TrialOptions, try_hints};
-use office_core_why::why_text;
+use office_core_outcome::{Proposal, Trial, TrialOptions, propose, try_hints};
+use office_core_why::{WhyText, hints_text, unstable_text, why_text};
 use office_mail::{RunOrder, Setup};
 use office_store_keeper::{Keeper, MailText, Reports};
 use std::alloc::Global;
@@ -161,6 +165,20 @@ impl<K: Keeper> Office<K> {
         );
         count_reply(&mut self.counts, &reply);
         reply
+    }
+
+    /// What `deliver` would answer to a text now. Nothing is kept.
+    pub fn answer(&mut self, text: &[u8]) -> Result<Held, DeliverFault>
+        ensures answer { K.is_trusted self.new → IsSound K.Keeper self.old → AnswersDelivery result (answer_to (K.setup self.old) (K.content self.old).kept text.now) }
+        ensures same { K.is_trusted self.new → K.content self.new ≡ K.content self.old }
+        ensures setup { K.setup self.new ≡ K.setup self.old }
+        ensures place { IfOk result (λ held. held.sender < length (K.setup self.old).senders) }
+        ensures sound { K.is_trusted self.new → IsSound K.Keeper self.old → IsSound K.Keeper self.new }
+        ensures before { K.is_trusted self.new → K.is_trusted self.old }
+        ensures lasts { StaysTrusted K.Keeper self.old self.new (is_ok result) }
+        ensures counted { CountedDelivery (K.refusals self.old) (K.refusals self.new) result }
+    {
+        answer(self.alloc, &self.setup, &mut self.keeper, text)
     }
 
     /// How many texts the store keeps best together.
@@ -299,6 +317,34 @@ impl<K: Keeper> Office<K> {
         )
     }
 
+    /// `easy` hints that the next run would do if they were covered too: those that free these sources, or all that the
+    /// search finds where none is named; there is no proposal where there is no date. An empty list is a proposal too.
+    /// Nothing is kept, and no run is finished. It fails for want of memory or of the store alone.
+    pub fn propose(
+        &mut self,
+        terms: TrialOptions,
+        sources: &[Text],
+    ) -> Result<Option<Proposal>, StoreFault>
+        ensures proposed { K.is_trusted self.new → IsSound K.Keeper self.old → IfOk result (λ proposal. IfSome proposal (IsProposed (K.setup self.old) (K.content self.old).kept (state_of K.Keeper self.old).finished terms sources.now)) }
+        ensures dated { K.is_trusted self.new → IsSound K.Keeper self.old
+            → IfOk result (λ proposal. is_none proposal ≡ is_none (trial_date (latest_day (orders_to (K.setup self.old) (K.content self.old).kept (state_of K.Keeper self.old).finished)) terms.day)) }
+        ensures same { K.is_trusted self.new → K.content self.new ≡ K.content self.old }
+        ensures setup { K.setup self.new ≡ K.setup self.old }
+        ensures sound { K.is_trusted self.new → IsSound K.Keeper self.old → IsSound K.Keeper self.new }
+        ensures before { K.is_trusted self.new → K.is_trusted self.old }
+        ensures lasts { StaysTrusted K.Keeper self.old self.new (is_ok result) }
+        ensures counted { Counted (K.refusals self.old) (K.refusals self.new) result }
+    {
+        propose(
+            self.alloc,
+            &self.setup,
+            &mut self.keeper,
+            &mut self.known,
+            terms,
+            sources,
+        )
+    }
+
     /// The text of testing, as the last finished run left it. It fails for want of memory or of the store alone.
     pub fn testing_text(&mut self) -> Result<Text, StoreFault>
         ensures text { K.is_trusted self.new → IsSound K.Keeper self.old → IfOk result (λ text. text ≡ testing_text (K.setup self.old) (state_of K.Keeper self.old).finished (testing_after (K.setup self.old) (K.content self.old).kept (state_of K.Keeper self.old).finished)) }
@@ -341,9 +387,38 @@ impl<K: Keeper> Office<K> {
         Ok(update_in(reports))
     }
 
-    /// Why a source stands where the last finished run left it, none where no run is finished. It fails for want of memory
-    /// or of the store alone.
-    pub fn why_text(&mut self, source: &str) -> Result<Option<Text>, StoreFault>
+    /// The hints in force over all mail without a gap: a line for each thing that a hint names, with the hint's message,
+    /// whether a finished run covers it, and how it stands with what the hint names. Nothing is kept. It fails for want of
+    /// memory or of the store alone.
+    pub fn hints_text(&mut self) -> Result<Text, StoreFault>
+        ensures text { K.is_trusted self.new → IsSound K.Keeper self.old → IfOk result (IsHintsText (K.setup self.old) (K.content self.old).kept (state_of K.Keeper self.old).finished) }
+        ensures same { K.is_trusted self.new → K.content self.new ≡ K.content self.old }
+        ensures setup { K.setup self.new ≡ K.setup self.old }
+        ensures sound { K.is_trusted self.new → IsSound K.Keeper self.old → IsSound K.Keeper self.new }
+        ensures before { K.is_trusted self.new → K.is_trusted self.old }
+        ensures lasts { StaysTrusted K.Keeper self.old self.new (is_ok result) }
+        ensures counted { Counted (K.refusals self.old) (K.refusals self.new) result }
+    {
+        hints_text(self.alloc, &self.setup, &mut self.keeper, &mut self.known)
+    }
+
+    /// Unstable over all mail without a gap: its sources and its rows, in the lines of the text of testing. Nothing is kept.
+    /// It fails for want of memory or of the store alone.
+    pub fn unstable_text(&mut self) -> Result<Text, StoreFault>
+        ensures text { K.is_trusted self.new → IsSound K.Keeper self.old → IfOk result (IsUnstableText (K.setup self.old) (K.content self.old).kept (state_of K.Keeper self.old).finished) }
+        ensures same { K.is_trusted self.new → K.content self.new ≡ K.content self.old }
+        ensures setup { K.setup self.new ≡ K.setup self.old }
+        ensures sound { K.is_trusted self.new → IsSound K.Keeper self.old → IsSound K.Keeper self.new }
+        ensures before { K.is_trusted self.new → K.is_trusted self.old }
+        ensures lasts { StaysTrusted K.Keeper self.old self.new (is_ok result) }
+        ensures counted { Counted (K.refusals self.old) (K.refusals self.new) result }
+    {
+        unstable_text(self.alloc, &self.setup, &mut self.keeper, &mut self.known)
+    }
+
+    /// Why a source stands where the last finished run left it, and whether unstable has it; none where no run is finished.
+    /// It fails for want of memory or of the store alone.
+    pub fn why_text(&mut self, source: &str) -> Result<Option<WhyText>, StoreFault>
         ensures why { K.is_trusted self.new → IsSound K.Keeper self.old → IfOk result (IsWhy (K.setup self.old) (K.content self.old).kept (state_of K.Keeper self.old).finished source.now) }
         ensures same { K.is_trusted self.new → K.content self.new ≡ K.content self.old }
         ensures setup { K.setup self.new ≡ K.setup self.old }

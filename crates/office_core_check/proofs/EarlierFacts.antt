@@ -7,6 +7,7 @@ use Rattle.office_store_keeper.specs.Content.{Content}
 use Rattle.office_store_keeper.specs.MemoryState.{content_of}
 use Rattle.office_core_facts.specs.State.{IsOffice}
 use Rattle.office_core_why.specs.Why.{IsWhy, IsWhyAfter}
+use Rattle.office_core_why.specs.declared.WhyText.{WhyText}
 use Rattle.office_core_check.specs.Comparing.{IsMade}
 use Rattle.office_core_check.specs.Earlier.{IsAfter, IsToldAfter, IsToldOfRun}
 use Rattle.office_core_check.specs.Whole.{AreOfSenders, IsFinished}
@@ -20,13 +21,13 @@ made_of_no_office setup c run front None e finished made are office = absurd (cc
 made_of_no_office setup c run front (Some d) e finished made are office = no_difference setup c d office (unmade_differs setup c run d finished.1 made are)
 
 -- what is told of the last finished run is told of the run with its number
-pub told_of_last : (setup : Lists) (content : Content) (run : ℕ) (source : List ℕ) (text : Option (List ℕ)) → length content.reports ≡ run
+pub told_of_last : (setup : Lists) (content : Content) (run : ℕ) (source : List ℕ) (text : Option WhyText) → length content.reports ≡ run
     → IsWhy setup content.kept (length content.reports) source text → IsToldOfRun setup content.kept (length content.reports) run source text
 told_of_last setup content run source None last none = λ same. same ∙ none
 told_of_last setup content run source (Some text) last why = (sym last, subst (λ (n : ℕ). IsWhyAfter setup content.kept n source text) last why)
 
 -- an office that is as a run left a store tells of that run, over the mail that the store keeps
-pub told_after : (setup : Lists) (content : Content) (run : ℕ) (office : Bounded) (source : List ℕ) (text : Option (List ℕ)) → IsAfter setup content run (Some office)
+pub told_after : (setup : Lists) (content : Content) (run : ℕ) (office : Bounded) (source : List ℕ) (text : Option WhyText) → IsAfter setup content run (Some office)
     → IsToldOfRun office.plain.setup (content_of office.plain).kept (length (content_of office.plain).reports) run source text → IsToldAfter setup content.kept run source text
 told_after setup content run office source None after told =
     let one : 1 ≤ run = after.0.0 in

@@ -6,6 +6,7 @@ use Rattle.office_store_keeper.specs.Content.{Content}
 use Rattle.office_store_keeper.specs.MemoryState.{content_of}
 use Rattle.office_core_facts.specs.State.{IsOffice}
 use Rattle.office_core_why.specs.Why.{IsWhyAfter}
+use Rattle.office_core_why.specs.declared.WhyText.{WhyText}
 use Rattle.office_core_check.specs.Whole.{IsFinished}
 use Rattle.office_core_check.specs.declared.memory.Bounded.{Bounded}
 
@@ -24,11 +25,11 @@ IsAfter setup content run (Some office) = IsFinished content run × HoldsAfter s
 
 -- What an office with so many finished runs tells of a source for a run: why the source stands where that run left it.
 -- Nothing is told of another run than the last finished one, nor where no run is finished.
-abbrev pub IsToldOfRun : Lists → Kept → ℕ → ℕ → List ℕ → Option (List ℕ) → Type 0
+abbrev pub IsToldOfRun : Lists → Kept → ℕ → ℕ → List ℕ → Option WhyText → Type 0
 IsToldOfRun setup kept finished run source None = run ≡ finished → run ≡ 0
-IsToldOfRun setup kept finished run source (Some text) = (run ≡ finished) × IsWhyAfter setup kept run source text
+IsToldOfRun setup kept finished run source (Some why) = (run ≡ finished) × IsWhyAfter setup kept run source why
 
 -- why a source stands where a run left it
-abbrev pub IsToldAfter : Lists → Kept → ℕ → List ℕ → Option (List ℕ) → Type 0
+abbrev pub IsToldAfter : Lists → Kept → ℕ → List ℕ → Option WhyText → Type 0
 IsToldAfter setup kept run source None = ⊥
-IsToldAfter setup kept run source (Some text) = IsWhyAfter setup kept run source text
+IsToldAfter setup kept run source (Some why) = IsWhyAfter setup kept run source why

@@ -10,6 +10,7 @@ ghost use Rattle.office_core_orders.specs.declared.faults.StoreFault.TheVariants
 ghost use Rattle.office_core_orders.specs.ReadsStore.{ReadsStore};
 ghost use Rattle.office_core_orders.specs.StaysTrusted.{StaysTrusted};
 ghost use Rattle.office_core_facts.specs.State.{IsSound, state_of};
+ghost use Rattle.office_core_why.specs.declared.WhyText.{WhyText};
 ghost use Rattle.office_core_check.specs.Comparing.{IsAnew, IsMadeAfter};
 ghost use Rattle.office_core_check.specs.Earlier.{IsAfter, IsToldAfter, IsToldOfRun};
 ghost use Rattle.office_core_check.specs.Reading.{IsFront};
@@ -18,9 +19,9 @@ ghost use Rattle.office_core_check.specs.declared.memory.Bounded.{Bounded};
 
 use crate::delivering::{make_anew, new_office};
 use crate::memory::Bounded;
-use deb_control::Text;
 use office_core::Office;
 use office_core_orders::StoreFault;
+use office_core_why::WhyText;
 use office_mail::Setup;
 use office_store_keeper::Keeper;
 use std::alloc::Global;
@@ -121,7 +122,7 @@ pub fn why_of_run<K: Keeper>(
     office: &mut Office<K>,
     run: u32,
     source: &str,
-) -> Result<Option<Text>, StoreFault>
+) -> Result<Option<WhyText>, StoreFault>
     ensures why { K.is_trusted office.new → IsSound K.Keeper office.old → IfOk result (IsToldOfRun (K.setup office.old) (K.content office.old).kept (state_of K.Keeper office.old).finished run source.now) }
     ensures same { K.is_trusted office.new → K.content office.new ≡ K.content office.old }
     ensures setup { K.setup office.new ≡ K.setup office.old }
@@ -141,6 +142,6 @@ pub fn why_of_run<K: Keeper>(
 /// What an office that is as a run left it tells of a source for that run is why the source stands where that run left
 /// it.
 pub fn told_after_run()
-    ensures { (setup : Lists) (content : Content) (run : ℕ) (office : Bounded) (source : List ℕ) (text : Option (List ℕ)) → IsAfter setup content run (Some office) →
-        IsToldOfRun office.plain.setup (content_of office.plain).kept (length (content_of office.plain).reports) run source text → IsToldAfter setup content.kept run source text }
+    ensures { (setup : Lists) (content : Content) (run : ℕ) (office : Bounded) (source : List ℕ) (why : Option WhyText) → IsAfter setup content run (Some office) →
+        IsToldOfRun office.plain.setup (content_of office.plain).kept (length (content_of office.plain).reports) run source why → IsToldAfter setup content.kept run source why }
 {}

@@ -1,5 +1,7 @@
 pub mod AgainFacts
+pub mod CountFacts
 pub mod CoverFacts
+pub mod CoveredFacts
 pub mod FinishedFacts
 pub mod GivenFacts
 pub mod CacheFacts
@@ -9,5 +11,6 @@ pub mod ReportFacts
 pub mod RestoringFacts
 pub mod SaidFacts
 pub mod SaidLetters
+pub mod SeenFacts
 pub mod TakenFacts
 pub mod WalkFacts

@@ -161,11 +161,11 @@ pub get-covered : (setup : Lists) (kept : Kept) (k : ℕ) (p : Place) → get (c
 unfolding covered
 get-covered setup kept k p = get-retain_keys kept (is_covered (cover setup kept k)) p (λ x e. ap (is_covered (cover setup kept k)) (sym (exact_places p x e)))
 
-kept_by : (b : Bool) (o : Option (List ℕ)) (text : List ℕ) → cond b o None ≡ Some text → (b ≡ true) × (o ≡ Some text)
+pub kept_by : (b : Bool) (o : Option (List ℕ)) (text : List ℕ) → cond b o None ≡ Some text → (b ≡ true) × (o ≡ Some text)
 kept_by true o text e = (refl, e)
 kept_by false o text e = absurd (cc (e))
 
-covers_place : (covers : ℕ → ℕ) (p : Place) → is_covered covers p ≡ true → (1 ≤ p.1) × (p.1 ≤ covers p.0)
+pub covers_place : (covers : ℕ → ℕ) (p : Place) → is_covered covers p ≡ true → (1 ≤ p.1) × (p.1 ≤ covers p.0)
 covers_place covers p h = ⊎_elim
     (λ (lt : p.1 < 1). absurd (cc (sym (ap (λ b. b && nat_le p.1 (covers p.0)) (lt-leb 1 p.1 lt)) ∙ h)))
     (λ (low : 1 ≤ p.1). ⊎_elim
@@ -174,10 +174,10 @@ covers_place covers p h = ⊎_elim
     (cases_lt (covers p.0) p.1))
     (cases_lt p.1 1)
 
-place_covered : (covers : ℕ → ℕ) (p : Place) → 1 ≤ p.1 → p.1 ≤ covers p.0 → is_covered covers p ≡ true
+pub place_covered : (covers : ℕ → ℕ) (p : Place) → 1 ≤ p.1 → p.1 ≤ covers p.0 → is_covered covers p ≡ true
 place_covered covers p low high = ap (λ b. b && nat_le p.1 (covers p.0)) (le-leb 1 p.1 low) ∙ le-leb p.1 (covers p.0) high
 
-some_of : {A : Type 0} (o : Option A) (x : A) → o ≡ Some x → IsSome o
+pub some_of : {A : Type 0} (o : Option A) (x : A) → o ≡ Some x → IsSome o
 some_of o x e = rw e refl
 
 pub same_messages : (setup : Lists) (kept : Kept) (k : ℕ) → ((p : Place) → IsSome (get kept p) → IsPlace setup p) → SameElements (said_within setup kept (cover setup kept k) (length setup.senders)) (covered_items setup kept k)

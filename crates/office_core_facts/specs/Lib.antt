@@ -1,7 +1,9 @@
 pub mod Cached
+pub mod Counting
 pub mod Known
 pub mod OfficeState
 pub mod Outcome
+pub mod Seen
 pub mod State
 pub mod Taking
 pub mod Walk

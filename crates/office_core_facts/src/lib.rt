@@ -2,9 +2,13 @@
 #![tactic(auto)]
 
 pub mod copying;
+mod counting;
 pub mod covered;
+pub mod covers;
 pub mod finished;
 pub mod message_cache;
+pub mod release;
 pub mod restoring;
 pub mod retaking;
+pub mod seen;
 pub mod taking;

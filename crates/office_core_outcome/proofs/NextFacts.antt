@@ -19,10 +19,11 @@ use Rattle.office_core_orders.specs.Ready.{HasPlaces}
 use Rattle.office_core_facts.specs.Walk.{item_of, said_within}
 use Rattle.office_core_outcome.proofs.OutcomeFacts.{outcome_is, outcome_of-later}
 use Rattle.office_core_facts.proofs.WalkFacts.{of_text, one_of_each, place_within, same_messages, within_place}
-use Rattle.office_core_outcome.specs.Hints.{release, hint_letters, with_letters}
+use Rattle.office_core_facts.specs.Seen.{covers_all, items_within, release, AreTrialCovers, IsTrialCover}
+use Rattle.office_core_outcome.specs.Hints.{hint_letters, with_letters}
 use Rattle.office_core_outcome.specs.NextRun.{HasCome, covers_with}
-use Rattle.office_core_outcome.specs.Trial.{AreTrialCovers, IsTrialCover, covers_all, decided, items_within, trial_date, tried}
-use Rattle.office_core_outcome.proofs.CoveredFacts.{says_within, within_says}
+use Rattle.office_core_outcome.specs.Trial.{decided, trial_date, tried}
+use Rattle.office_core_facts.proofs.CoveredFacts.{says_within, within_says}
 use Rattle.office_core_outcome.proofs.HintFacts.{letter_among, letter_at_number, letters_or_mail, mail_among, numbers_within}
 use Rattle.office_core_outcome.proofs.TriedOutcome.{outcome_same}
 

@@ -16,8 +16,9 @@ use Rattle.office_core_outcome.specs.declared.RefusedHint.{RefusedHint}
 use Rattle.office_core_outcome.specs.declared.TrialOptions.{TrialOptions}
 use Rattle.office_core_outcome.specs.declared.Trial.{Trial}
 use Rattle.office_core_outcome.specs.declared.Trial.TheVariants.{Told, Refused}
-use Rattle.office_core_outcome.specs.Hints.{first_refused, release, hint_letters, with_letters}
-use Rattle.office_core_outcome.specs.Trial.{AreTrialCovers, IsTrial, decided, items_within, told_on, trial_date, tried, unless_refused}
+use Rattle.office_core_facts.specs.Seen.{items_within, release, AreTrialCovers}
+use Rattle.office_core_outcome.specs.Hints.{first_refused, hint_letters, with_letters}
+use Rattle.office_core_outcome.specs.Trial.{IsTrial, decided, told_on, trial_date, tried, unless_refused}
 
 module _ (setup : Lists) (content : Content) (date : Date) (covers : ℕ → ℕ) (hints : List (List ℕ)) (letters : List Letter) (run first : ℕ) (plain hinted : Decided) (office : IsOffice setup content)
     (lettered : letters ≡ hint_letters setup (covers (release setup)) hints) (next : run ≡ length content.reports + 1) (behind : first ≡ covers (release setup) + 1) where

@@ -4,18 +4,13 @@ use Rattle.testing_rules_model.specs.Covered.{Covered}
 use Rattle.office_mail.specs.declared.message.Message.{Message}
 use Rattle.office_mail.specs.declared.message.MailFault.{MailFault}
 use Rattle.office_mail.specs.declared.message.MailFault.TheVariants.{BadNumber}
-use Rattle.office_mail_setup.specs.declared.setup.Role.TheVariants.{Release}
 use Rattle.office_mail.specs.Lists.{Lists}
 use Rattle.office_mail.specs.Read.{read}
-use Rattle.office_mail.specs.Setup.{place_of_role}
 use Rattle.office_store_keeper.specs.declared.values.Letter.{Letter}
 use Rattle.office_core_orders.specs.Replies.{name_at}
 use Rattle.office_core_facts.specs.Outcome.{item_at}
+use Rattle.office_core_facts.specs.Seen.{release}
 use Rattle.office_core_outcome.specs.declared.RefusedHint.{RefusedHint}
-
--- the release team's sender
-abbrev pub release : Lists → ℕ
-release setup = place_of_role Release setup.senders
 
 -- the text of a message that gives a hint
 unfoldable pub hint_text : Lists → ℕ → List ℕ → List ℕ

@@ -1,5 +1,6 @@
 pub mod RuleSteps
-pub mod Counting
 pub mod Hints
 pub mod NextRun
 pub mod Trial
+pub mod Proposal
+pub mod Settled

@@ -8,7 +8,8 @@ use Rattle.office_mail.specs.Lists.{Lists}
 use Rattle.office_mail.specs.Kept.{Kept, Within}
 use Rattle.office_mail.specs.Runs.{order_at}
 use Rattle.office_store_keeper.specs.declared.values.Letter.{Letter}
-use Rattle.office_core_outcome.specs.Hints.{release, hint_letters}
+use Rattle.office_core_facts.specs.Seen.{release}
+use Rattle.office_core_outcome.specs.Hints.{hint_letters}
 
 -- letters of a sender are kept
 abbrev pub AreKeptLetters : Kept → ℕ → List Letter → Type 0

@@ -6,14 +6,16 @@ ghost use Rattle.testing_rules_laws.specs.StandsFor.{StandsFor};
 ghost use Rattle.testing_rules_laws.specs.Suite.{Suite};
 ghost use Rattle.office_core_facts.specs.Outcome.{outcome, testing_text};
 ghost use Rattle.office_core_outcome.specs.RuleSteps.{outcome_left};
-ghost use Rattle.office_core_outcome.specs.Hints.{release, with_letters};
+ghost use Rattle.office_core_facts.specs.Seen.{release};
+ghost use Rattle.office_core_outcome.specs.Hints.{with_letters};
 ghost use Rattle.office_core_outcome.specs.Trial.{decided};
 
-use crate::{RunOutcome, release_place, run_beside};
+use crate::{RunOutcome, run_beside};
 use deb_control::{NoMemory, Text};
 use jiff_core::civil::Date;
 use office_core_facts::covered::take_letters;
 use office_core_facts::message_cache::MessageCache;
+use office_core_facts::release::release_place;
 use office_core_orders::StoreFault;
 use office_mail::Setup;
 use office_store_keeper::Letter;
@@ -94,7 +96,7 @@ fn decide(
 }
 
 /// The facts take what messages of the release team say. It fails for want of memory alone.
-fn take_all(
+pub(crate) fn take_all(
     alloc: Global,
     setup: &Setup,
     facts: &mut Facts,

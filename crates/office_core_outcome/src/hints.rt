@@ -2,10 +2,12 @@
 
 ghost use Rattle.std.specs.Prelude.{◌≡◌, ◌≤◌, ◌+◌, ◌++◌, ◌∷◌, [], None, Some, IfOk, OnOk, IfErr, length};
 ghost use Rattle.office_mail.specs.Read.{read};
-ghost use Rattle.office_core_outcome.specs.Hints.{release, hint_text, hint_letter, hint_letters, refusal_in, hint_refusal, first_refused};
+ghost use Rattle.office_core_facts.specs.Seen.{release};
+ghost use Rattle.office_core_outcome.specs.Hints.{hint_text, hint_letter, hint_letters, refusal_in, hint_refusal, first_refused};
 
-use crate::{RefusedHint, release_place};
+use crate::RefusedHint;
 use deb_control::Text;
+use office_core_facts::release::release_place;
 use office_core_orders::{StoreFault, name_at};
 use office_mail::{MailFault, Setup, read_message};
 use office_store_keeper::{Letter, MailText};

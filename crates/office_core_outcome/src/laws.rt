@@ -6,11 +6,15 @@ ghost use Rattle.office_mail.specs.Lists.{Lists};
 ghost use Rattle.office_mail.specs.Runs.{IsReady, latest_day, orders_to};
 ghost use Rattle.office_core_facts.specs.Outcome.{outcome_of};
 ghost use Rattle.office_core_orders.specs.Ready.{HasPlaces};
-ghost use Rattle.office_core_outcome.specs.Hints.{release};
+ghost use Rattle.office_core_facts.specs.Seen.{release, AreTrialCovers};
 ghost use Rattle.office_core_outcome.specs.NextRun.{HasCome};
-ghost use Rattle.office_core_outcome.specs.Trial.{AreTrialCovers, IsTrial, decided, trial_date, tried};
+ghost use Rattle.office_core_outcome.specs.Proposal.{IsProposed, tried_decisions};
+ghost use Rattle.office_core_outcome.specs.Trial.{IsTrial, decided, trial_date, tried};
+ghost use Rattle.office_core_outcome.specs.declared.proposal.Proposal.{Proposal};
 ghost use Rattle.office_core_outcome.specs.declared.TrialOptions.{TrialOptions};
 ghost use Rattle.office_core_outcome.specs.declared.Trial.{Trial};
+ghost use Rattle.office_core_outcome.specs.declared.Trial.TheVariants.{Told};
+ghost use Rattle.testing_rules_reports.specs.Reports.{update_text};
 
 /// A tried hint is a promise: where the messages of the hints have come under their numbers, and the order of the next run
 /// has the date of the trial, and covers what it did and the hints, that run decides what the trial was told of it. Other
@@ -25,4 +29,13 @@ pub fn try_is_next_run()
 pub fn trials_have_one_end()
     ensures { (setup : Lists) (kept : Kept) (k : ℕ) (terms : TrialOptions) (hints : List (List ℕ)) (x y : Trial) → HasPlaces setup kept → release setup < length setup.senders
         → IsTrial setup kept k terms hints x → IsTrial setup kept k terms hints y → x ≡ y }
+{}
+
+/// A proposal is a trial: where its hints are tried on the same terms, over the covers that it has, the trial is told, and
+/// the run with the hints writes down just the decisions of which the proposal speaks.
+pub fn proposals_are_trials()
+    ensures trial { (setup : Lists) (kept : Kept) (k : ℕ) (terms : TrialOptions) (sources : List (List ℕ)) (p : Proposal) → (proposed : IsProposed setup kept k terms sources p)
+        → IsTrial setup kept k terms p.hints.items (Told (tried setup kept k p.date proposed.covers p.hints.items)) }
+    ensures updates { (setup : Lists) (kept : Kept) (k : ℕ) (date : Date) (covers : ℕ → ℕ) (hints : List (List ℕ))
+        → (tried setup kept k date covers hints).with.updates ≡ update_text setup.archs (k + 1) date (tried_decisions setup kept k date covers hints) }
 {}

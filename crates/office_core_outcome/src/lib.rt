@@ -1,20 +1,24 @@
 //! A run by the rules over facts: testing as it leaves it, and its two reports; and what the next run would decide if some
-//! hints were covered too. Nothing is kept.
+//! hints were covered too, and which hints it would do. Nothing is kept.
 #![tactic(auto)]
 
-mod counting;
-mod covers;
 mod deciding;
 mod hints;
 pub mod laws;
-mod release;
+mod proposal;
+mod proposing;
 mod rules;
+mod search_notes;
+mod settling;
 mod trying;
 
 use jiff_core::civil::Date;
+pub use office_core_facts::release::release_place;
 use office_mail::MailFault;
-pub use release::release_place;
+pub use proposal::{AskedSource, Proposal, SearchNotes, SourceEnd, proposal_text};
+pub use proposing::propose;
 pub use rules::{RunOutcome, run_beside};
+pub use testing_rules_groups::{DeadSource, LongGroup};
 pub use testing_rules_reports::{Decided, TrialReport, has_changes, tried_text};
 pub use trying::try_hints;
 

@@ -1,6 +1,7 @@
 //! What a run writes and leaves.
 ghost use Rattle.std.specs.Prelude.{◌≡◌, IfOk};
 ghost use Rattle.office_core_facts.specs.Outcome.{Outcome, outcome};
+ghost use Rattle.office_core_outcome.specs.Proposal.{decisions_by};
 ghost use Rattle.office_core_outcome.specs.RuleSteps.{outcome_left};
 ghost use Rattle.testing_rules_laws.specs.Covered.{Covered};
 ghost use Rattle.testing_rules_laws.specs.Reports.{excuses_text, update_text};
@@ -119,4 +120,21 @@ fn reports(
         excuses: Text::from_string(excuses),
         updates: Text::from_string(updates),
     })
+}
+
+/// What a run over a testing that is lent decides, before it is told in texts.
+pub fn decisions_over(
+    alloc: Global,
+    setup: &Setup,
+    date: Date,
+    facts: &Facts,
+    testing: &mut Testing,
+) -> Result<Update, NoMemory>
+    ensures { IfOk result (λ u. (s : Covered) → StandsFor facts.now s testing.old → u ≡ decisions_by setup.now date s testing.old) }
+{
+    let archs = setup.archs();
+    let excuses = excuses(alloc, archs, facts, testing, date)?;
+    let update = migrate(alloc, archs, facts, &excuses, testing)?;
+    drop(excuses);
+    Ok(update)
 }

@@ -12,18 +12,20 @@ ghost use Rattle.office_core_orders.specs.ReadsStore.{ReadsStore};
 ghost use Rattle.office_core_orders.specs.Ready.{FirstOrders};
 ghost use Rattle.office_core_facts.specs.State.{IsOffice};
 ghost use Rattle.office_core_orders.specs.StaysTrusted.{StaysTrusted};
-ghost use Rattle.office_core_outcome.specs.Hints.{release, hint_letters, with_letters};
-ghost use Rattle.office_core_outcome.specs.Trial.{IsTrial, decided, items_within, told_on, tried, trial_date};
+ghost use Rattle.office_core_facts.specs.Seen.{items_within, release};
+ghost use Rattle.office_core_outcome.specs.Hints.{hint_letters, with_letters};
+ghost use Rattle.office_core_outcome.specs.Trial.{IsTrial, decided, told_on, tried, trial_date};
 
-use crate::covers::trial_covers;
 use crate::deciding::decide_both;
 use crate::hints::take_hints;
-use crate::{Trial, TrialOptions, release_place};
+use crate::{Trial, TrialOptions};
 use deb_control::Text;
 use jiff_core::civil::Date;
 use office_core_facts::copying::known_to;
 use office_core_facts::covered::KnownFacts;
+use office_core_facts::covers::trial_covers;
 use office_core_facts::finished::{cover_at, finished_orders, remember};
+use office_core_facts::release::release_place;
 use office_core_orders::{StoreFault, stored};
 use office_mail::{RunOrder, Setup, latest_day};
 use office_store_keeper::{Keeper, Letter};
@@ -39,7 +41,7 @@ fn later(a: Date, b: Date) -> Date
 }
 
 /// The date of a trial: the later of that of the last run and a day that is given.
-fn trial_date(last: Option<Date>, day: Option<Date>) -> Option<Date>
+pub(crate) fn trial_date(last: Option<Date>, day: Option<Date>) -> Option<Date>
     ensures { result ≡ trial_date last day }
 {
     match (last, day) {

@@ -128,7 +128,7 @@ there_senders kept a (suc n) s m t low high some few e = ⊎_elim
     one_first t (sender_texts kept a) (flat_map (sender_texts kept) (range_with_len (a + 1) n)) (there_within kept a 999_999_999 m t some few (subst (λ (k : ℕ). get kept (k, m) ≡ Some t) at e)))
     (cases_lt a s)
 
-there_texts : (kept : Kept) (n s m : ℕ) (t : List ℕ) → s < n → 1 ≤ m → m ≤ 999_999_999 → get kept (s, m) ≡ Some t → IsOneOf t (texts_to kept n)
+pub there_texts : (kept : Kept) (n s m : ℕ) (t : List ℕ) → s < n → 1 ≤ m → m ≤ 999_999_999 → get kept (s, m) ≡ Some t → IsOneOf t (texts_to kept n)
 unfolding texts_to
 there_texts kept n s m t lt some few e = there_senders kept 0 n s m t (omega arith) (omega (arith, lt)) some few e
 

@@ -1,7 +1,9 @@
 pub mod Asking
+pub mod BagPart
 pub mod Export
 pub mod Listing
 pub mod Mail
+pub mod NextOrder
 pub mod Numbers
 pub mod RunLines
 pub mod Walk

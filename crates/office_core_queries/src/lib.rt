@@ -1,5 +1,5 @@
-//! What is told of an office's kept mail: the mail as a bag, a list of it, how much it is, and a line for each finished
-//! run.
+//! What is told of an office's kept mail: the mail as a bag or in parts of it, a list of it, how much it is, and the order
+//! that would cover it; and a line for each finished run.
 #![tactic(auto)]
 
 pub mod backup_laws;
@@ -10,7 +10,9 @@ mod hints;
 mod listing;
 mod mail;
 mod message_line;
+mod next_order;
 mod numbers;
+mod parts;
 mod run_lines;
 mod walk;
 
@@ -18,4 +20,6 @@ pub use exporting::export;
 pub use faults::AskFault;
 pub use listing::write_list;
 pub use mail::{MailCount, mail_counts, mail_text};
+pub use next_order::order_text;
+pub use parts::bag_part;
 pub use run_lines::runs_text;

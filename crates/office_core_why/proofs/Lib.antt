@@ -1,1 +1,2 @@
+pub mod SeenFacts
 pub mod WhyFacts

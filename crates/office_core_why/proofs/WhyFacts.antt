@@ -1,5 +1,8 @@
 -- What is told of a source: by facts that stand for messages, and by the reports of the last finished run.
 use Rattle.std.proofs.Common.{◌≡◌, ℕ, ◌<◌, ◌≤◌, List, [], ◌∷◌, length, filter, Option, Some, None, sym, ap, subst, ◌∙◌, refl, arith}
+use Rattle.std.specs.Borrow.{Bor}
+use Rattle.std.specs.Prelude.{is_some}
+use Rattle.std.specs.Option.{option_copied}
 use Rattle.jiff_core.specs.declared.civil.date.Date.{Date}
 use Rattle.testing_rules_items.specs.Words.{Text}
 use Rattle.testing_rules_model.specs.declared.excuse.Excuse.{Excuse}
@@ -25,9 +28,10 @@ use Rattle.office_core_facts.proofs.TakenFacts.{said_within-same}
 use Rattle.office_core_facts.proofs.WalkFacts.{stands_for_covered}
 use Rattle.office_core_why.specs.Telling.{IsToldWith, unstable_of}
 use Rattle.office_core_why.specs.Why.{IsTold, IsToldBy, IsToldOf, IsWhy, Unstable, unstable_in}
+use Rattle.office_core_why.specs.declared.WhyText.{WhyText}
 
 -- facts give unstable as the messages do that they stand for
-unstable_stands : (archs : List Text) (f : FactLists) (s : Covered) (t : Suite) → StandsFor f s t → unstable_of archs f ≡ unstable_in archs s
+pub unstable_stands : (archs : List Text) (f : FactLists) (s : Covered) (t : Suite) → StandsFor f s t → unstable_of archs f ≡ unstable_in archs s
 unstable_stands archs f s t stands =
     let rows : built_rows archs f.rows ≡ unstable_rows archs s = ap (built_rows archs) stands.rows in
     let hints : filter (is_in_force f.unhints) f.hints ≡ in_force s =
@@ -35,11 +39,11 @@ unstable_stands archs f s t stands =
     λ i. record { sources = stands.sources i; rows = rows i; bugs = stands.bugs i; hints = hints i }
 
 -- so what is told by them is told over these messages
-pub told_over : (senders archs : List Text) (f : FactLists) (s : Covered) (t : Suite) (excuses : List Excuse) (run : ℕ) (date : Date) (reports : Reports) (source text : Text) → StandsFor f s t → excuses ≡ excuses_of archs s t date
-    → IsToldBy senders archs (unstable_of archs f) t excuses run reports source text → IsToldOf senders archs s t run date reports source text
-told_over senders archs f s t excuses run date reports source text stands are told =
-    subst (λ (es : List Excuse). IsToldBy senders archs (unstable_in archs s) t es run reports source text) are
-    (subst (λ (u : Unstable). IsToldBy senders archs u t excuses run reports source text) (unstable_stands archs f s t stands) told)
+pub told_over : (senders archs : List Text) (f : FactLists) (s : Covered) (t : Suite) (excuses : List Excuse) (run : ℕ) (date : Date) (reports : Reports) (source : Text) (told : WhyText) → StandsFor f s t → excuses ≡ excuses_of archs s t date
+    → IsToldBy senders archs (unstable_of archs f) t excuses run reports source told → IsToldOf senders archs s t run date reports source told
+told_over senders archs f s t excuses run date reports source told stands are by =
+    subst (λ (es : List Excuse). IsToldBy senders archs (unstable_in archs s) t es run reports source told) are
+    (subst (λ (u : Unstable). IsToldBy senders archs u t excuses run reports source told) (unstable_stands archs f s t stands) by)
 
 -- facts that stand for what is said up to the covers of the finished runs stand for their covered mail
 pub stands_covered : (setup : Lists) (content : Content) (f : FactLists) (covers : ℕ → ℕ) → IsOffice setup content → ((s : ℕ) → s < length setup.senders → covers s ≡ cover_of (orders_to setup content.kept (length content.reports)) s)
@@ -58,21 +62,21 @@ dated_none [] e = refl
 dated_none (x ∷ xs) e = absurd (cc e)
 
 -- what is told with the reports of a run
-told_with : (setup : Lists) (content : Content) (source : Text) (found : Option Text) (date : Date) (reports : Reports) → IsOffice setup content → latest_day (orders_to setup content.kept (length content.reports)) ≡ Some date → reports ≡ reports_of setup content.kept (length content.reports)
+told_with : (setup : Lists) (content : Content) (source : Text) (found : Option WhyText) (date : Date) (reports : Reports) → IsOffice setup content → latest_day (orders_to setup content.kept (length content.reports)) ≡ Some date → reports ≡ reports_of setup content.kept (length content.reports)
     → IsToldWith setup (covered_items setup content.kept (length content.reports)) content.testing (length content.reports) date (Some reports) source found → IsWhy setup content.kept (length content.reports) source found
 told_with setup content source None date reports office dated are told = absurd told
-told_with setup content source (Some text) date reports office dated are told =
+told_with setup content source (Some why) date reports office dated are told =
     let kept = content.kept in
     let k : ℕ = length content.reports in
     record {
       date = date;
       dated = dated;
-      told = subst (λ (t : Suite). IsTold setup (covered_items setup kept k) t k date (reports_of setup kept k) source text) office.testing_is
-          (subst (λ (r : Reports). IsTold setup (covered_items setup kept k) content.testing k date r source text) are told);
+      told = subst (λ (t : Suite). IsTold setup (covered_items setup kept k) t k date (reports_of setup kept k) source why) office.testing_is
+          (subst (λ (r : Reports). IsTold setup (covered_items setup kept k) content.testing k date r source why) are told);
     }
 
 -- what is told after the last finished run is why a source stands where it does
-pub why_told : (setup : Lists) (content : Content) (orders : List RunOrder) (run : ℕ) (source : Text) (found : Option Text) (date : Date) → IsOffice setup content → FirstOrders setup content.kept orders → length orders ≡ length content.reports → run ≡ length content.reports → latest_day orders ≡ Some date
+pub why_told : (setup : Lists) (content : Content) (orders : List RunOrder) (run : ℕ) (source : Text) (found : Option WhyText) (date : Date) → IsOffice setup content → FirstOrders setup content.kept orders → length orders ≡ length content.reports → run ≡ length content.reports → latest_day orders ≡ Some date
     → IsToldWith setup (covered_items setup content.kept (length content.reports)) content.testing run date (item_from_one run content.reports) source found → IsWhy setup content.kept (length content.reports) source found
 why_told setup content orders run source found date office first all is dated told =
     let k : ℕ = length content.reports in
@@ -85,3 +89,8 @@ why_told setup content orders run source found date office first all is dated to
 -- where there is no day, no run is finished
 pub why_none : (setup : Lists) (content : Content) (orders : List RunOrder) (source : Text) → length orders ≡ length content.reports → latest_day orders ≡ None → IsWhy setup content.kept (length content.reports) source None
 why_none setup content orders source all none = sym all ∙ dated_none orders none
+
+-- what is lent is there where the element is
+pub is_some-copied : {A : Type 0} (lent : Option (Bor A)) (found : Option A) → option_copied lent ≡ found → is_some lent ≡ is_some found
+is_some-copied None found e = ap is_some e
+is_some-copied (Some x) found e = ap is_some e

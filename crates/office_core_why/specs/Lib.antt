@@ -1,2 +1,5 @@
+pub mod Hints
+pub mod SeenText
 pub mod Telling
+pub mod UnstableText
 pub mod Why

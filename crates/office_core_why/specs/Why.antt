@@ -1,6 +1,6 @@
 -- Why a source stands where the last finished run left it. That a source is told by itself is this office's own; what is told are the rules
 -- of the run (Debian Developer's Reference 5.13.2).
-use Rattle.std.specs.Prelude.{◌≡◌, ◌⊎◌, ℕ, Bool, true, false, List, [], ◌++◌, map, filter, Option, Some, None}
+use Rattle.std.specs.Prelude.{◌≡◌, ◌⊎◌, ℕ, Bool, true, false, if◌then◌else◌, List, [], ◌∷◌, ◌++◌, codes, map, filter, is_some, Option, Some, None}
 use Rattle.jiff_core.specs.declared.civil.date.Date.{Date}
 use Rattle.testing_rules_items.specs.Words.{Text}
 use Rattle.testing_rules_model.specs.declared.excuse.Excuse.{Excuse}
@@ -13,7 +13,7 @@ use Rattle.testing_rules_model.specs.Excuses.{excuses_of, testing_version}
 use Rattle.testing_rules_model.specs.Moves.{source_in}
 use Rattle.testing_rules_model.specs.Suite.{Suite}
 use Rattle.testing_rules_model.specs.Unstable.{bug_states, in_force, is_of_source, unstable_rows, unstable_sources}
-use Rattle.testing_rules_model.specs.Updates.{offender_alone}
+use Rattle.testing_rules_model.specs.Updates.{is_in_testing, offender_alone}
 use Rattle.testing_rules_excuses.specs.Lines.{IsOriginText}
 use Rattle.testing_rules_excuses.specs.Said.{SaidLists}
 use Rattle.testing_rules_excuses.specs.States.{excuse_of}
@@ -23,7 +23,9 @@ use Rattle.office_mail.specs.Kept.{Kept}
 use Rattle.office_mail.specs.Runs.{latest_day, orders_to}
 use Rattle.office_store_keeper.specs.declared.values.Reports.{Reports}
 use Rattle.office_core_facts.specs.Outcome.{covered_items, reports_of, testing_after}
+use Rattle.testing_rules_reports.specs.Reports.{line}
 use Rattle.testing_rules_reports.specs.Sources.{source_text, waits_in}
+use Rattle.office_core_why.specs.declared.WhyText.{WhyText}
 
 -- unstable as messages give it: its sources and rows, the states of bugs, and the hints in force
 pub record Unstable : Type 0 where
@@ -42,6 +44,12 @@ sender_names setup = map (λ sender. sender.name) setup.senders
 -- what is said of an unstable source beside a testing
 abbrev pub said_in : Unstable → Suite → UploadIn → SaidLists
 said_in unstable t u = record { rows = filter (is_of_source u) unstable.rows; bugs = unstable.bugs; hints = unstable.hints; testing = testing_version t u.source }
+
+-- The line on a source that has nothing to move: it is unknown if unstable, from which all of testing comes, doesn't have it; or testing has it
+-- at unstable's version, which the line gives.
+abbrev pub standing_line : Suite → Text → Option UploadIn → Text
+standing_line t source None = line (codes "unknown" ∷ source ∷ [])
+standing_line t source (Some u) = if is_in_testing t source u.version then line (codes "in testing" ∷ u.version ∷ []) else []
 
 -- The lines on where the reasons come from that keep a source out: its upload, and what gave each reason of its excuse. There are none of a
 -- source that unstable hasn't.
@@ -62,29 +70,30 @@ abbrev pub IsRefusedWhere : Bool → List Text → Unstable → Suite → List E
 IsRefusedWhere true archs unstable t excuses excuse text = IsRefused archs unstable t excuses excuse text
 IsRefusedWhere false archs unstable t excuses excuse text = text ≡ []
 
--- What is told of a source, by a run's reports, and the unstable, the testing and the excuses that it left: what the reports say of it, where
--- the reasons come from behind its excuse, and at the end why it can't move alone.
-pub record IsToldBy (senders archs : List Text) (unstable : Unstable) (t : Suite) (excuses : List Excuse) (run : ℕ) (reports : Reports) (source text : Text) : Type 0 where
+-- What is told of a source, by a run's reports, and the unstable, the testing and the excuses that it left: what the reports say of it, how
+-- it stands and where the reasons come from behind its excuse, and at the end why it can't move alone. It is known if unstable has it.
+pub record IsToldBy (senders archs : List Text) (unstable : Unstable) (t : Suite) (excuses : List Excuse) (run : ℕ) (reports : Reports) (source : Text) (told : WhyText) : Type 0 where
   pub origins : Text
   pub refusal : Text
   pub come : AreOrigins senders archs unstable t (excuse_of excuses source) (source_in unstable.sources source) origins
   pub refused : IsRefusedWhere (waits_in source reports.updates) archs unstable t excuses (excuse_of excuses source) refusal
-  pub is : text ≡ source_text run source reports.excuses reports.updates origins ++ refusal
+  pub is : told.text ≡ source_text run source reports.excuses reports.updates (standing_line t source (source_in unstable.sources source) ++ origins) ++ refusal
+  pub known : told.is_known ≡ is_some (source_in unstable.sources source)
 
 -- the same over covered messages and the testing that a run of this date left: the excuses are those of the messages beside that testing
-abbrev pub IsToldOf : List Text → List Text → Covered → Suite → ℕ → Date → Reports → Text → Text → Type 0
-IsToldOf senders archs s t run date reports source text = IsToldBy senders archs (unstable_in archs s) t (excuses_of archs s t date) run reports source text
+abbrev pub IsToldOf : List Text → List Text → Covered → Suite → ℕ → Date → Reports → Text → WhyText → Type 0
+IsToldOf senders archs s t run date reports source told = IsToldBy senders archs (unstable_in archs s) t (excuses_of archs s t date) run reports source told
 
-abbrev pub IsTold : Lists → Covered → Suite → ℕ → Date → Reports → Text → Text → Type 0
-IsTold setup s t run date reports source text = IsToldOf (sender_names setup) setup.archs s t run date reports source text
+abbrev pub IsTold : Lists → Covered → Suite → ℕ → Date → Reports → Text → WhyText → Type 0
+IsTold setup s t run date reports source told = IsToldOf (sender_names setup) setup.archs s t run date reports source told
 
 -- the same of run k, which was on this day
-pub record IsWhyAfter (setup : Lists) (kept : Kept) (k : ℕ) (source text : Text) : Type 0 where
+pub record IsWhyAfter (setup : Lists) (kept : Kept) (k : ℕ) (source : Text) (why : WhyText) : Type 0 where
   pub date : Date
   pub dated : latest_day (orders_to setup kept k) ≡ Some date
-  pub told : IsTold setup (covered_items setup kept k) (testing_after setup kept k) k date (reports_of setup kept k) source text
+  pub told : IsTold setup (covered_items setup kept k) (testing_after setup kept k) k date (reports_of setup kept k) source why
 
 -- why a source stands where run k left it, which is the last finished one; none where no run is finished
-abbrev pub IsWhy : Lists → Kept → ℕ → Text → Option Text → Type 0
+abbrev pub IsWhy : Lists → Kept → ℕ → Text → Option WhyText → Type 0
 IsWhy setup kept k source None = k ≡ 0
-IsWhy setup kept k source (Some text) = IsWhyAfter setup kept k source text
+IsWhy setup kept k source (Some why) = IsWhyAfter setup kept k source why

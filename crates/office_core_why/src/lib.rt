@@ -1,7 +1,22 @@
-//! Why a source stands where the last finished run of an office left it, in lines.
+//! Why a source stands where the last finished run of an office left it, in lines; and over all mail without a gap the hints
+//! in force and unstable.
 #![tactic(auto)]
 
+mod hints;
+pub mod laws;
+mod seen;
+mod standing;
 mod told;
+mod unstable;
 mod why;
 
+use deb_control::Text;
+pub use seen::{hints_text, unstable_text};
 pub use why::why_text;
+
+/// What is told of a source, and whether unstable has it.
+#[derive(Drop)]
+pub struct WhyText {
+    pub text: Text,
+    pub is_known: bool,
+}

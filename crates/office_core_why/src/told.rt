@@ -11,6 +11,8 @@ ghost use Rattle.testing_rules_reports.specs.Sources as lines;
 ghost use Rattle.office_core_why.specs.Telling.{unstable_of};
 ghost use Rattle.office_core_why.specs.Why.{AreOrigins, IsRefused, IsRefusedWhere, IsTold, IsToldBy, IsToldOf, said_in, sender_names};
 
+use crate::WhyText;
+use crate::standing::standing_line;
 use deb_control::{NoMemory, Text};
 use jiff_core::civil::Date;
 use office_mail::Setup;
@@ -37,7 +39,7 @@ fn sender_names(alloc: Global, setup: &Setup) -> Result<Vec<Text>, NoMemory>
 }
 
 /// A text without a line.
-fn no_lines(alloc: Global) -> Text
+pub(crate) fn no_lines(alloc: Global) -> Text
     ensures { result ≡ [] }
 {
     Text::from_string(String::new(alloc))
@@ -135,18 +137,28 @@ fn refusal_by(
     }
 }
 
-/// What the reports of a run say of a source, with the lines on where the reasons come from.
+/// A text, and another one behind it.
+fn joined(alloc: Global, first: &Text, second: &Text) -> Result<Text, NoMemory>
+    ensures { IfOk result (λ text. text ≡ first.now ++ second.now) }
+{
+    let text = format!(in alloc; "{}{}", first.as_str(), second.as_str())?;
+    Ok(Text::from_string(text))
+}
+
+/// What the reports of a run say of a source, with the lines on how it stands and where the reasons come from.
 fn with_origins(
     alloc: Global,
     run: u32,
     reports: &Reports,
     source: &str,
+    standing: &Text,
     origins: &Text,
 ) -> Result<Text, NoMemory>
-    ensures { IfOk result (λ text. text ≡ lines.source_text run source.now reports.now.excuses reports.now.updates origins.now) }
+    ensures { IfOk result (λ text. text ≡ lines.source_text run source.now reports.now.excuses reports.now.updates (standing.now ++ origins.now)) }
 {
     let (excuses, update) = (reports.excuses.as_str(), reports.updates.as_str());
-    source_text(alloc, run, source, excuses, update, origins.as_str())
+    let inner = joined(alloc, standing, origins)?;
+    source_text(alloc, run, source, excuses, update, inner.as_str())
 }
 
 /// What the reports of a run say of a source, with the lines on why the source can't move alone.
@@ -155,14 +167,14 @@ fn with_reasons(
     run: u32,
     reports: &Reports,
     source: &str,
+    standing: &Text,
     origins: &Text,
     refusal: &Text,
 ) -> Result<Text, NoMemory>
-    ensures { IfOk result (λ text. text ≡ lines.source_text run source.now reports.now.excuses reports.now.updates origins.now ++ refusal.now) }
+    ensures { IfOk result (λ text. text ≡ lines.source_text run source.now reports.now.excuses reports.now.updates (standing.now ++ origins.now) ++ refusal.now) }
 {
-    let said = with_origins(alloc, run, reports, source, origins)?;
-    let text = format!(in alloc; "{}{}", said.as_str(), refusal.as_str())?;
-    Ok(Text::from_string(text))
+    let said = with_origins(alloc, run, reports, source, standing, origins)?;
+    joined(alloc, &said, refusal)
 }
 
 /// What is told of a source by the excuses that a run left.
@@ -176,14 +188,20 @@ fn lines_from_excuses(
     run: u32,
     reports: &Reports,
     source: &str,
-) -> Result<Text, NoMemory>
-    ensures told { IfOk result (λ text. IsToldBy senders.now archs.now (unstable_of archs.now facts.now) testing.old excuses.now run reports.now source.now text) }
+) -> Result<WhyText, NoMemory>
+    ensures told { IfOk result (λ told. IsToldBy senders.now archs.now (unstable_of archs.now facts.now) testing.old excuses.now run reports.now source.now told) }
     ensures same { testing.new ≡ testing.old }
 {
     let update = reports.updates.as_str();
+    let upload = source_in(facts.sources(), source);
+    let standing = standing_line(alloc, testing, source, upload)?;
     let origins = origins_in(alloc, senders, archs, facts, testing, excuses, source)?;
     let refusal = refusal_by(alloc, archs, facts, testing, excuses, update, source)?;
-    with_reasons(alloc, run, reports, source, &origins, &refusal)
+    let text = with_reasons(alloc, run, reports, source, &standing, &origins, &refusal)?;
+    Ok(WhyText {
+        text,
+        is_known: upload.is_some(),
+    })
 }
 
 /// What is told of a source after a run of a date, whose senders have these names, over the messages that the facts stand
@@ -198,8 +216,8 @@ fn lines_after_run(
     date: Date,
     reports: &Reports,
     source: &str,
-) -> Result<Text, NoMemory>
-    ensures told { IfOk result (λ text. (s : Covered) → StandsFor facts.now s testing.old → IsToldOf senders.now archs.now s testing.old run date reports.now source.now text) }
+) -> Result<WhyText, NoMemory>
+    ensures told { IfOk result (λ told. (s : Covered) → StandsFor facts.now s testing.old → IsToldOf senders.now archs.now s testing.old run date reports.now source.now told) }
     ensures same { testing.new ≡ testing.old }
 {
     let excuses = excuses(alloc, archs, facts, testing, date)?;
@@ -227,8 +245,8 @@ pub(crate) fn lines_from_run(
     date: Date,
     reports: &Reports,
     source: &str,
-) -> Result<Text, NoMemory>
-    ensures told { IfOk result (λ text. (s : Covered) → StandsFor facts.now s testing.old → IsTold setup.now s testing.old run date reports.now source.now text) }
+) -> Result<WhyText, NoMemory>
+    ensures told { IfOk result (λ told. (s : Covered) → StandsFor facts.now s testing.old → IsTold setup.now s testing.old run date reports.now source.now told) }
     ensures same { testing.new ≡ testing.old }
 {
     let senders = sender_names(alloc, setup)?;

@@ -15,8 +15,8 @@ ghost use Rattle.office_core_facts.specs.State.{IsOffice};
 ghost use Rattle.office_core_why.specs.Why.{IsWhy};
 ghost use Rattle.office_core_why.specs.Telling.{IsToldWith};
 
+use crate::WhyText;
 use crate::told::lines_from_run;
-use deb_control::Text;
 use jiff_core::civil::Date;
 use office_core_facts::covered::{KnownFacts, covers};
 use office_core_facts::finished::{facts_within, finished_orders, remember};
@@ -38,13 +38,13 @@ fn lines_from_reports(
     date: Date,
     reports: &Reports,
     source: &str,
-) -> Result<Option<Text>, StoreFault>
+) -> Result<Option<WhyText>, StoreFault>
     ensures told { IfOk result (λ found. (s : Covered) → StandsFor facts.now s testing.old → IsToldWith setup.now s testing.old run date (Some reports.now) source.now found) }
     ensures same { testing.new ≡ testing.old }
     ensures no_store { IfErr result (λ fault. fault ≡ StoreFault.NoMemory) }
 {
-    let text = lines_from_run(alloc, setup, facts, testing, run, date, reports, source)?;
-    Ok(Some(text))
+    let told = lines_from_run(alloc, setup, facts, testing, run, date, reports, source)?;
+    Ok(Some(told))
 }
 
 /// What is told of a source by the reports of a run, over the testing that is kept, which is given back with what
@@ -58,7 +58,7 @@ fn tell_by<K: Keeper>(
     date: Date,
     reports: &Reports,
     source: &str,
-) -> Result<Option<Text>, StoreFault>
+) -> Result<Option<WhyText>, StoreFault>
     ensures told { K.is_trusted keeper.new → K.is_legible keeper.old → IfOk result (λ found. (s : Covered) → StandsFor facts.now s (K.content keeper.old).testing
         → IsToldWith setup.now s (K.content keeper.old).testing run date (Some reports.now) source.now found) }
     ensures looks { ReadsStore K.Keeper keeper.old keeper.new result }
@@ -87,7 +87,7 @@ fn tell<K: Keeper>(
     run: u32,
     date: Date,
     source: &str,
-) -> Result<Option<Text>, StoreFault>
+) -> Result<Option<WhyText>, StoreFault>
     ensures told { K.is_trusted keeper.new → K.is_legible keeper.old → IfOk result (λ found. (s : Covered) → StandsFor facts.now s (K.content keeper.old).testing
         → IsToldWith setup.now s (K.content keeper.old).testing run date (item_from_one run (K.content keeper.old).reports) source.now found) }
     ensures looks { ReadsStore K.Keeper keeper.old keeper.new result }
@@ -108,7 +108,7 @@ fn tell_unknown<K: Keeper>(
     run: u32,
     date: Date,
     source: &str,
-) -> Result<Option<Text>, StoreFault>
+) -> Result<Option<WhyText>, StoreFault>
     ensures told { K.is_trusted keeper.new → K.is_legible keeper.old → IsOffice setup.now (K.content keeper.old) → FirstOrders setup.now (K.content keeper.old).kept orders.now → length orders.now ≡ length (K.content keeper.old).reports
         → IfOk result (IsToldWith setup.now (covered_items setup.now (K.content keeper.old).kept (length (K.content keeper.old).reports)) (K.content keeper.old).testing run date (item_from_one run (K.content keeper.old).reports) source.now) }
     ensures looks { ReadsStore K.Keeper keeper.old keeper.new result }
@@ -130,7 +130,7 @@ fn tell_known<K: Keeper>(
     run: u32,
     date: Date,
     source: &str,
-) -> Result<Option<Text>, StoreFault>
+) -> Result<Option<WhyText>, StoreFault>
     ensures told { K.is_trusted keeper.new → K.is_legible keeper.old → IsOffice setup.now (K.content keeper.old) → FirstOrders setup.now (K.content keeper.old).kept orders.now → length orders.now ≡ length (K.content keeper.old).reports
         → IfSome known.now (λ known. AreKnown setup.now (K.content keeper.old) known)
         → IfOk result (IsToldWith setup.now (covered_items setup.now (K.content keeper.old).kept (length (K.content keeper.old).reports)) (K.content keeper.old).testing run date (item_from_one run (K.content keeper.old).reports) source.now) }
@@ -153,7 +153,7 @@ fn why_on<K: Keeper>(
     run: u32,
     date: Date,
     source: &str,
-) -> Result<Option<Text>, StoreFault>
+) -> Result<Option<WhyText>, StoreFault>
     ensures known { K.is_trusted keeper.new → FirstOrders setup.now (K.content keeper.old).kept orders.now → run ≡ length (K.content keeper.old).reports
         → IfSome known.old (λ known. AreKnown setup.now (K.content keeper.old) known) → IfSome known.new (λ known. AreKnown setup.now (K.content keeper.old) known) }
     ensures told { K.is_trusted keeper.new → K.is_legible keeper.old → IsOffice setup.now (K.content keeper.old) → FirstOrders setup.now (K.content keeper.old).kept orders.now → length orders.now ≡ length (K.content keeper.old).reports → run ≡ length (K.content keeper.old).reports
@@ -175,7 +175,7 @@ fn why_after<K: Keeper>(
     orders: &[RunOrder],
     run: u32,
     source: &str,
-) -> Result<Option<Text>, StoreFault>
+) -> Result<Option<WhyText>, StoreFault>
     ensures known { K.is_trusted keeper.new → FirstOrders setup.now (K.content keeper.old).kept orders.now → run ≡ length (K.content keeper.old).reports
         → IfSome known.old (λ known. AreKnown setup.now (K.content keeper.old) known) → IfSome known.new (λ known. AreKnown setup.now (K.content keeper.old) known) }
     ensures why { K.is_trusted keeper.new → K.is_legible keeper.old → IsOffice setup.now (K.content keeper.old) → FirstOrders setup.now (K.content keeper.old).kept orders.now → length orders.now ≡ length (K.content keeper.old).reports → run ≡ length (K.content keeper.old).reports
@@ -190,9 +190,9 @@ fn why_after<K: Keeper>(
 }
 
 /// Why a source stands where the last finished run of an office with this store left it, none where no run is finished: the
-/// lines of the run's reports that are of the source; where the reasons come from that keep it out; and of a source that
-/// waits, what shows that it can't move alone. What is known of the mail is used, or else recalled from the store and known
-/// from then on.
+/// lines of the run's reports that are of the source; how it stands, if it has nothing to move; where the reasons come from
+/// that keep it out; and of a source that waits, what shows that it can't move alone. What is known of the mail is used, or
+/// else recalled from the store and known from then on.
 ///
 /// It fails for want of memory or of the store alone.
 pub fn why_text<K: Keeper>(
@@ -201,7 +201,7 @@ pub fn why_text<K: Keeper>(
     keeper: &mut K,
     known: &mut Option<KnownFacts>,
     source: &str,
-) -> Result<Option<Text>, StoreFault>
+) -> Result<Option<WhyText>, StoreFault>
     requires known { K.is_trusted keeper.old → IfSome known.old (λ known. AreKnown setup.now (K.content keeper.old) known) }
     ensures why { K.is_trusted keeper.new → K.is_legible keeper.old → IsOffice setup.now (K.content keeper.old) → IfOk result (IsWhy setup.now (K.content keeper.old).kept (length (K.content keeper.old).reports) source.now) }
     ensures known { K.is_trusted keeper.new → IfSome known.new (λ known. AreKnown setup.now (K.content keeper.new) known) }

@@ -1,10 +1,11 @@
 -- One state has one answer to a request.
-use Rattle.std.proofs.Common.{◌≡◌, ℕ, ◌+◌, List, ◌++◌, length, flat_map, Option, Some, None, Ok, refl, ap, subst, ◌∙◌, arith}
+use Rattle.std.proofs.Common.{◌≡◌, ◌≢◌, ◌⊎◌, inl, inr, ℕ, ◌+◌, List, ◌++◌, length, flat_map, Option, Some, None, Ok, refl, ap, subst, ◌∙◌, arith}
 use Rattle.std.specs.Option.{option_map}
 use Rattle.office_mail.specs.Kept.{Kept}
 use Rattle.office_mail.specs.Lists.{Lists}
-use Rattle.office_mail.specs.Runs.{IsReadyCount}
+use Rattle.office_mail.specs.Runs.{IsReadyCount, cover}
 use Rattle.office_mail.specs.declared.message.RunOrder.{RunOrder}
+use Rattle.office_core_orders.specs.Ready.{HasPlaces}
 use Rattle.office_core_orders.specs.Replies.{status_line}
 use Rattle.office_core_orders.specs.WaitingLines.{lack_line, awaited_lines, waiting_text}
 use Rattle.office_core_orders.specs.declared.waiting_lines.Awaited.{Awaited}
@@ -13,18 +14,24 @@ use Rattle.office_core_orders.specs.declared.waiting_lines.Lack.{Lack}
 use Rattle.office_http_requests.specs.declared.reply.Answer.{Answer}
 use Rattle.office_http_requests.specs.declared.reply.Answer.TheVariants.{Status, Told}
 use Rattle.office_http_requests.specs.declared.request.Action.{Action}
-use Rattle.office_http_requests.specs.declared.request.Action.TheVariants.{Deliver, Settle, Try}
+use Rattle.office_http_requests.specs.declared.request.Action.TheVariants.{Deliver, DeliverOf, Look, Settle, Try, TryOn}
 use Rattle.office_http_requests.specs.declared.request.Asked.{Asked}
 use Rattle.office_http_requests.specs.declared.request.Asked.TheVariants as asks
 use Rattle.office_http_requests.specs.declared.request.Page.{Page}
 use Rattle.office_http_requests.specs.declared.request.Page.TheVariants as page
 use Rattle.office_http_requests.specs.declared.request.Posted.{Posted}
 use Rattle.office_core_outcome.specs.declared.Trial.{Trial}
+use Rattle.office_core_facts.proofs.SeenFacts.{seen_once}
 use Rattle.office_core_facts.specs.OfficeState.{OfficeState}
+use Rattle.office_core_facts.specs.Outcome.{testing_after}
+use Rattle.office_core_why.specs.Hints.{hints_text}
+use Rattle.office_core_why.specs.UnstableText.{unstable_text}
+use Rattle.office_core_why.specs.declared.WhyText.{WhyText}
+use Rattle.testing_rules_model.specs.Covered.{Covered}
 use Rattle.office_core_orders.specs.Waiting.{Awaits, AwaitsBy}
 use Rattle.office_core_orders.proofs.WaitingFacts.{one_list}
-use Rattle.office_http.specs.Serve.{action_answer, body_of, page_answer, post_answer, answer_of, report_answer, Found, IsFound, IsFoundBy, IsFoundByPost, IsFoundFor}
-use Rattle.office_http.specs.Trials.{tried_answer}
+use Rattle.office_http.specs.Serve.{action_answer, body_of, page_answer, post_answer, answer_of, proposal_answer, why_answer, AsksProposal, Found, IsFound, IsFoundBy, IsFoundByPost, IsFoundFor}
+use Rattle.office_http.specs.Trials.{terms_of, tried_answer}
 
 one_count : (setup : Lists) (kept : Kept) (n m : ℕ) → IsReadyCount setup kept n → IsReadyCount setup kept m → n ≡ m
 one_count setup kept n m h g = omega (arith, h.none_above m g.holds, g.none_above n h.holds)
@@ -47,29 +54,44 @@ same_text s n m x y e h g =
     ap (λ (k : ℕ). waits s k x) e
     ∙ ap (λ (l : List ℕ). Told (status_line m s.finished ++ l)) (same_lines s.setup s.kept (m + 1) _ x y (subst (λ (k : ℕ). Awaits s.setup s.kept (k + 1) x) e h) g)
 
-one_page : (s : OfficeState) (p : Page) (x y : Found) → IsFoundFor s x p → IsFoundFor s y p → ((source : List ℕ) → p ≡ page.Why source → x.why ≡ y.why) → page_answer s x p ≡ page_answer s y p
-one_page s page.Status x y h g told = ap (λ (k : ℕ). Status (record { ready = k; finished = s.finished })) (one_count s.setup s.kept x.ready y.ready h g)
-one_page s page.Testing x y h g told = refl
-one_page s (page.Excuses run) x y h g told = refl
-one_page s (page.Update run) x y h g told = refl
-one_page s page.Runs x y h g told = refl
-one_page s page.Kept x y h g told = refl
-one_page s (page.Letter sender number) x y h g told = refl
-one_page s (page.Why source) x y h g told = ap (λ (o : Option (List ℕ)). report_answer (Ok o)) (told source refl)
-one_page s page.Waiting x y h g told = same_text s x.ready y.ready x.awaited y.awaited (one_count s.setup s.kept x.ready y.ready h.0 g.0) h.1 g.1
+one_page : (s : OfficeState) (p : Page) (x y : Found) → IsFoundFor s x p → IsFoundFor s y p → ((source : List ℕ) → p ≡ page.Why source → x.why ≡ y.why) → ((p ≡ page.Hints) ⊎ (p ≡ page.Unstable) → HasPlaces s.setup s.kept) → (AsksProposal (asks.Tell p) → x.proposal ≡ y.proposal) → page_answer s x p ≡ page_answer s y p
+one_page s page.Status x y h g told places proposed = ap (λ (k : ℕ). Status (record { ready = k; finished = s.finished })) (one_count s.setup s.kept x.ready y.ready h g)
+one_page s page.Testing x y h g told places proposed = refl
+one_page s (page.Excuses run) x y h g told places proposed = refl
+one_page s (page.Update run) x y h g told places proposed = refl
+one_page s page.Runs x y h g told places proposed = refl
+one_page s page.Kept x y h g told places proposed = refl
+one_page s (page.Letter sender number) x y h g told places proposed = refl
+one_page s (page.Why source) x y h g told places proposed = ap (λ (o : Option WhyText). why_answer (Ok o)) (told source refl)
+one_page s page.Waiting x y h g told places proposed = same_text s x.ready y.ready x.awaited y.awaited (one_count s.setup s.kept x.ready y.ready h.0 g.0) h.1 g.1
+one_page s (page.Bag sender from) x y h g told places proposed = refl
+one_page s (page.Order day) x y h g told places proposed = refl
+one_page s page.Hints x y h g told places proposed =
+    ap (λ (seen : Covered). Told (hints_text s.setup s.finished (cover s.setup s.kept s.finished) seen (testing_after s.setup s.kept s.finished))) (seen_once s.setup s.kept x.seen y.seen (places (inl refl)) h g)
+one_page s page.Unstable x y h g told places proposed = ap (λ (seen : Covered). Told (unstable_text s.setup.archs s.finished seen)) (seen_once s.setup s.kept x.seen y.seen (places (inr refl)) h g)
+one_page s page.Propose x y h g told places proposed = ap proposal_answer (proposed (inl refl))
+one_page s (page.ProposeFor source) x y h g told places proposed = ap proposal_answer (proposed (inr (source, refl)))
 
-one_action : (s : OfficeState) (action : Action) (body : List ℕ) (x y : Found) → IsFoundBy s x action body → IsFoundBy s y action body → (action ≡ Try → x.trial ≡ y.trial) → action_answer s x action body ≡ action_answer s y action body
+one_action : (s : OfficeState) (action : Action) (body : List ℕ) (x y : Found) → IsFoundBy s x action body → IsFoundBy s y action body → (terms_of action ≢ None → x.trial ≡ y.trial) → action_answer s x action body ≡ action_answer s y action body
 one_action s Deliver body x y h g tried = refl
+one_action s (DeliverOf sender) body x y h g tried = refl
+one_action s Look body x y h g tried = refl
 one_action s Settle body x y h g tried = ap (λ (k : ℕ). Status (record { ready = k; finished = k })) (one_count s.setup s.kept x.ready y.ready h g)
-one_action s Try body x y h g tried = ap (λ (t : Trial). tried_answer s.setup body t) (tried refl)
+one_action s Try body x y h g tried = ap (λ (t : Trial). tried_answer s.setup body t) (tried (λ e. absurd (cc (e))))
+one_action s (TryOn day) body x y h g tried = ap (λ (t : Trial). tried_answer s.setup body t) (tried (λ e. absurd (cc (e))))
 
-one_post : (s : OfficeState) (action : Action) (body : Option (List ℕ)) (x y : Found) → IsFoundByPost s x (option_map (λ (b : List ℕ). (action, b)) body) → IsFoundByPost s y (option_map (λ (b : List ℕ). (action, b)) body) → (action ≡ Try → x.trial ≡ y.trial)
+one_post : (s : OfficeState) (action : Action) (body : Option (List ℕ)) (x y : Found) → IsFoundByPost s x (option_map (λ (b : List ℕ). (action, b)) body) → IsFoundByPost s y (option_map (λ (b : List ℕ). (action, b)) body) → (terms_of action ≢ None → x.trial ≡ y.trial)
     → post_answer s x (option_map (λ (b : List ℕ). (action, b)) body) ≡ post_answer s y (option_map (λ (b : List ℕ). (action, b)) body)
 one_post s action None x y h g tried = refl
 one_post s action (Some body) x y h g tried = one_action s action body x y h g tried
 
+-- a page of hints or of unstable
+seen_page : (p : Page) → (p ≡ page.Hints) ⊎ (p ≡ page.Unstable) → (asks.Tell p ≡ asks.Tell page.Hints) ⊎ (asks.Tell p ≡ asks.Tell page.Unstable)
+seen_page p (inl e) = inl (ap (λ (q : Page). asks.Tell q) e)
+seen_page p (inr e) = inr (ap (λ (q : Page). asks.Tell q) e)
+
 pub one_answer : (s : OfficeState) (asked : Asked) (rest : List ℕ) (x y : Found) → IsFound s x asked rest → IsFound s y asked rest → ((source : List ℕ) → asked ≡ asks.Tell (page.Why source) → x.why ≡ y.why)
-    → ((p : Posted) → asked ≡ asks.Post p → p.action ≡ Try → x.trial ≡ y.trial) → answer_of s x asked rest ≡ answer_of s y asked rest
-one_answer s (asks.Refused r) rest x y h g told tried = refl
-one_answer s (asks.Tell p) rest x y h g told tried = one_page s p x y h g (λ source e. told source (ap (λ (q : Page). asks.Tell q) e))
-one_answer s (asks.Post p) rest x y h g told tried = one_post s p.action (body_of p.length rest) x y h g (tried p refl)
+    → ((p : Posted) → asked ≡ asks.Post p → terms_of p.action ≢ None → x.trial ≡ y.trial) → ((asked ≡ asks.Tell page.Hints) ⊎ (asked ≡ asks.Tell page.Unstable) → HasPlaces s.setup s.kept) → (AsksProposal asked → x.proposal ≡ y.proposal) → answer_of s x asked rest ≡ answer_of s y asked rest
+one_answer s (asks.Refused r) rest x y h g told tried places proposed = refl
+one_answer s (asks.Tell p) rest x y h g told tried places proposed = one_page s p x y h g (λ source e. told source (ap (λ (q : Page). asks.Tell q) e)) (λ seen. places (seen_page p seen)) proposed
+one_answer s (asks.Post p) rest x y h g told tried places proposed = one_post s p.action (body_of p.length rest) x y h g (tried p refl)

@@ -1,5 +1,7 @@
+pub mod BoundFacts
 pub mod AnswerFacts
 pub mod CountFacts
 pub mod ConnectionFacts
+pub mod ProposalFacts
 pub mod ServeFacts
 pub mod StepFacts

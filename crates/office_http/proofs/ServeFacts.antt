@@ -1,8 +1,9 @@
 -- What a connection comes to. P, Q and R say that the store refused: in a first part, in what follows, and in both.
-use Rattle.std.proofs.Common.{◌≡◌, inl, inr, ⊎_elim, ℕ, ◌+◌, ◌-◌, ◌≤◌, ◌<◌, Bool, true, false, cond, nat_le, List, [], ◌++◌, length, take, drop, Option, Some, None, Result, Ok, Err, IfOk, IfErr, IfSome, OnOk, is_ok, refl, sym, ap, subst, ◌∙◌, arith, append_assoc, append-nil, ◌⊎◌}
+use Rattle.std.proofs.Common.{◌≡◌, inl, inr, ⊎_elim, ℕ, ◌+◌, ◌-◌, ◌≤◌, ◌<◌, Bool, true, false, not, ◌&&◌, cond, nat_le, List, [], ◌∷◌, ◌++◌, length, take, drop, Option, Some, None, Result, Ok, Err, IfOk, IfErr, IfSome, OnOk, is_ok, unwrap_or, refl, sym, ap, subst, ◌∙◌, arith, append_assoc, append-nil, ◌⊎◌}
 use Rattle.std.specs.Option.{option_map}
 use Rattle.std.specs.FinMap.{get}
 use Rattle.std.specs.Str.{is_utf8}
+use Rattle.jiff_core.specs.declared.civil.date.Date.{Date}
 use Rattle.std.specs.Io.KnownBytes.{Appends, Consumes, IsAtEnd}
 use Rattle.std.proofs.KnownBytes.{Appends-nil, Appends-trans, Consumes-nil, Consumes-trans}
 use Rattle.std.proofs.lemmas.Bool.Decides.{nat_tests}
@@ -14,6 +15,7 @@ use Rattle.httparse.specs.declared.spans.RequestSpans.{RequestSpans}
 use Rattle.office_mail.specs.declared.message.MailFault.TheVariants as mail
 use Rattle.office_mail.specs.Kept.{Kept, kept_from}
 use Rattle.office_mail.specs.Lists.{Lists}
+use Rattle.office_mail.specs.Read.{read}
 use Rattle.office_mail.specs.Runs.{IsReady, IsReadyCount}
 use Rattle.office_mail.proofs.KeptFacts.{kept_from-nil}
 use Rattle.office_core_orders.specs.declared.faults.DeliverFault.{DeliverFault}
@@ -28,9 +30,9 @@ use Rattle.office_core_orders.specs.declared.waiting_lines.Awaited.TheVariants.{
 use Rattle.office_http_requests.specs.declared.reply.Refusal.{Refusal}
 use Rattle.office_http_requests.specs.declared.reply.Refusal.TheVariants as refusal
 use Rattle.office_http_requests.specs.declared.reply.Answer.{Answer}
-use Rattle.office_http_requests.specs.declared.reply.Answer.TheVariants.{Refused, Delivered, Status, Told}
+use Rattle.office_http_requests.specs.declared.reply.Answer.TheVariants.{Refused, Delivered, Status, Told, Letter}
 use Rattle.office_http_requests.specs.declared.request.Action.{Action}
-use Rattle.office_http_requests.specs.declared.request.Action.TheVariants.{Deliver, Settle, Try}
+use Rattle.office_http_requests.specs.declared.request.Action.TheVariants.{Deliver, DeliverOf, Look, Settle, Try, TryOn}
 use Rattle.office_http_requests.specs.declared.request.Page.{Page}
 use Rattle.office_http_requests.specs.declared.request.Page.TheVariants as page
 use Rattle.office_http_requests.specs.declared.request.Posted.{Posted}
@@ -41,7 +43,9 @@ use Rattle.office_http.specs.declared.serve.ServeFault.TheVariants.{Read, Write}
 use Rattle.office_http.specs.declared.serve.Served.{Served}
 use Rattle.office_http_requests.specs.Asked.{asked_of, body_size, is_head_method}
 use Rattle.office_core_replay.specs.Losses.{TextCounted, DeliveryCounted}
+use Rattle.office_core_queries.specs.BagPart.{bag_part}
 use Rattle.office_core_queries.specs.Mail.{mail_text}
+use Rattle.office_core_queries.specs.NextOrder.{order_text}
 use Rattle.office_core_queries.specs.RunLines.{runs_text}
 use Rattle.office_core_facts.specs.Outcome.{testing_text, testing_after}
 use Rattle.office_core_orders.specs.Replies.{reply_by, mark_of, if_taken}
@@ -49,23 +53,29 @@ use Rattle.office_http_requests.specs.Reply.{continue_bytes, refused, reply_in, 
 use Rattle.office_http_requests.specs.Request.{body_room, head_room, BeginsWith}
 use Rattle.office_http_requests.specs.RequestSteps.{Came, IsHeadAt}
 use Rattle.office_core_facts.specs.OfficeState.{OfficeState}
-use Rattle.office_core_facts.specs.State.{answer_to, reports_at}
+use Rattle.office_core_facts.specs.State.{AnswersDelivery, answer_to, reports_at}
 use Rattle.office_core_orders.specs.Written.{AppendsFront}
+use Rattle.office_core_outcome.specs.Trial.{IsTrial}
+use Rattle.office_core_outcome.specs.declared.proposal.Proposal.{Proposal}
 use Rattle.office_core_outcome.specs.declared.Trial.TheVariants.{NoDate}
-use Rattle.office_http.specs.Serve.{mail_counts, page_answer, refusal_for, report_answer, letter_answer, delivery_answer, by_fault, posted_body, post_answer, answer_of, waits_of, continued, kept_by, settles, Does, Exchange, Found, IsFoundByPost, IsFoundFor, IsUnread, IsServed, Moves, Replied, RepliedFront, Serves, IsAwaited, StopsBefore, StopsServe}
+use Rattle.office_core_outcome.specs.declared.TrialOptions.{TrialOptions}
+use Rattle.office_http.specs.Serve.{mail_counts, page_answer, action_answer, is_of_other, unless_other, if_known, proposal_answer, refusal_for, report_answer, why_answer, letter_answer, delivery_answer, by_fault, posted_body, post_answer, answer_of, waits_of, continued, kept_by, settles, Does, Exchange, Found, IsFoundBy, IsFoundByPost, IsFoundFor, IsProposedFor, IsUnread, IsServed, Moves, Replied, RepliedFront, Serves, IsAwaited, StopsBefore, StopsServe}
+use Rattle.office_core_why.specs.Hints.{IsHintsText}
+use Rattle.office_core_why.specs.UnstableText.{IsUnstableText}
 use Rattle.office_core_why.specs.Why.{IsWhy}
-use Rattle.office_http.specs.Trials.{hints_in, trial_answer}
-use Rattle.office_http.specs.ServeSteps.{answer_or, status_answer, text_answer, Tells, TellsAwaited, TellsTrial, Runs, Answers, ServesHead, ServesFront, StopsRequest}
+use Rattle.office_core_why.specs.declared.WhyText.{WhyText}
+use Rattle.office_http.specs.Trials.{hints_in, trial_answer, tried_answer, terms_of}
+use Rattle.office_http.specs.ServeSteps.{answer_or, part_answer, status_answer, text_answer, Tells, TellsAwaited, TellsProposal, TellsTrial, Runs, Answers, ServesHead, ServesFront, StopsRequest}
 use Rattle.office_core_replay.proofs.ReplayFacts.{Leaves, reply_by-mark, delivery_counted, kept_after}
 use Rattle.office_core_replay.proofs.RiseFacts.{delivery_weaker, text_weaker}
 use Rattle.office_core_replay.specs.DeliverySteps.{Settles}
 
 -- where nothing is found that the answer tells
 abbrev nothing : Found
-nothing = record { ready = 0; awaited = Order; why = None; trial = NoDate }
+nothing = record { ready = 0; awaited = Order; why = None; trial = NoDate; seen = []; proposal = None }
 
 abbrev ready_runs : ℕ → Found
-ready_runs n = record { ready = n; awaited = Order; why = None; trial = NoDate }
+ready_runs n = record nothing { ready = n }
 
 -- pages
 told_missed : (rose : Type 0) (s : OfficeState) (p : Page) (f : StoreFault) → TextCounted rose (Some f) → Tells s p (Refused (refusal_for f)) rose
@@ -87,12 +97,12 @@ told_update rose s run (Err fault.NoMemory) is err = told_missed rose s (page.Up
 told_update rose s run (Err fault.Store) is err = told_missed rose s (page.Update run) fault.Store (err refl)
 
 pub told_waiting : (rose : Type 0) (s : OfficeState) (r : Result (List ℕ) StoreFault) → IfOk r (λ text. TellsAwaited s text) → (r ≡ Err fault.Store → rose) → Tells s page.Waiting (text_answer r) rose
-told_waiting rose s (Ok t) h err = record { fault = None; by_store = tt; found = record { ready = h.ready; awaited = h.awaited; why = None; trial = NoDate }; is = λ e. (h.counts, h.awaits); answer_is = ap Told h.text_is }
+told_waiting rose s (Ok t) h err = record { fault = None; by_store = tt; found = record nothing { ready = h.ready; awaited = h.awaited }; is = λ e. (h.counts, h.awaits); answer_is = ap Told h.text_is }
 told_waiting rose s (Err fault.NoMemory) h err = told_missed rose s page.Waiting fault.NoMemory tt
 told_waiting rose s (Err fault.Store) h err = told_missed rose s page.Waiting fault.Store (err refl)
 
-pub told_why : (rose : Type 0) (s : OfficeState) (source : List ℕ) (r : Result (Option (List ℕ)) StoreFault) → IfOk r (IsWhy s.setup s.kept s.finished source) → (r ≡ Err fault.Store → rose) → Tells s (page.Why source) (report_answer r) rose
-told_why rose s source (Ok t) is err = record { fault = None; by_store = tt; found = record { ready = 0; awaited = Order; why = t; trial = NoDate }; is = λ e. is; answer_is = refl }
+pub told_why : (rose : Type 0) (s : OfficeState) (source : List ℕ) (r : Result (Option WhyText) StoreFault) → IfOk r (IsWhy s.setup s.kept s.finished source) → (r ≡ Err fault.Store → rose) → Tells s (page.Why source) (why_answer r) rose
+told_why rose s source (Ok t) is err = record { fault = None; by_store = tt; found = record nothing { why = t }; is = λ e. is; answer_is = refl }
 told_why rose s source (Err fault.NoMemory) is err = told_missed rose s (page.Why source) fault.NoMemory tt
 told_why rose s source (Err fault.Store) is err = told_missed rose s (page.Why source) fault.Store (err refl)
 
@@ -116,6 +126,39 @@ told_letter rose s sender number (Ok t) is err = record { fault = None; by_store
 told_letter rose s sender number (Err fault.NoMemory) is err = told_missed rose s (page.Letter sender number) fault.NoMemory tt
 told_letter rose s sender number (Err fault.Store) is err = told_missed rose s (page.Letter sender number) fault.Store (err refl)
 
+pub told_order : (rose : Type 0) (s : OfficeState) (day : Date) (r : Result (List ℕ) StoreFault) → IfOk r (λ t. t ≡ order_text s.setup (mail_counts s.setup s.kept) day) → (r ≡ Err fault.Store → rose) → Tells s (page.Order day) (text_answer r) rose
+told_order rose s day r is err = told_page rose s (page.Order day) (order_text s.setup (mail_counts s.setup s.kept) day) r tt refl is err
+
+pub told_bag : (rose : Type 0) (s : OfficeState) (sender from : ℕ) (r : Result (List ℕ) StoreFault) → IfOk r (λ t. t ≡ bag_part s.kept sender from) → (r ≡ Err fault.Store → rose) → Tells s (page.Bag sender from) (part_answer r) rose
+told_bag rose s sender from (Ok t) is err = record { fault = None; by_store = tt; found = nothing; is = λ e. tt; answer_is = ap Letter is }
+told_bag rose s sender from (Err fault.NoMemory) is err = told_missed rose s (page.Bag sender from) fault.NoMemory tt
+told_bag rose s sender from (Err fault.Store) is err = told_missed rose s (page.Bag sender from) fault.Store (err refl)
+
+-- what all mail without a gap says
+pub told_hints : (rose : Type 0) (s : OfficeState) (r : Result (List ℕ) StoreFault) → IfOk r (IsHintsText s.setup s.kept s.finished) → (r ≡ Err fault.Store → rose) → Tells s page.Hints (text_answer r) rose
+told_hints rose s (Ok t) h err = record { fault = None; by_store = tt; found = record nothing { seen = h.seen }; is = λ e. h.is_seen; answer_is = ap Told h.is }
+told_hints rose s (Err fault.NoMemory) h err = told_missed rose s page.Hints fault.NoMemory tt
+told_hints rose s (Err fault.Store) h err = told_missed rose s page.Hints fault.Store (err refl)
+
+pub told_unstable : (rose : Type 0) (s : OfficeState) (r : Result (List ℕ) StoreFault) → IfOk r (IsUnstableText s.setup s.kept s.finished) → (r ≡ Err fault.Store → rose) → Tells s page.Unstable (text_answer r) rose
+told_unstable rose s (Ok t) h err = record { fault = None; by_store = tt; found = record nothing { seen = h.seen }; is = λ e. h.is_seen; answer_is = ap Told h.is }
+told_unstable rose s (Err fault.NoMemory) h err = told_missed rose s page.Unstable fault.NoMemory tt
+told_unstable rose s (Err fault.Store) h err = told_missed rose s page.Unstable fault.Store (err refl)
+
+-- hints that are proposed, for no source or for one
+told_proposed : (rose : Type 0) (s : OfficeState) (p : Page) (sources : List (List ℕ)) (r : Result Answer StoreFault) → ((proposal : Option Proposal) → IsProposedFor s sources proposal → IsFoundFor s (record nothing { proposal = proposal }) p)
+    → ((proposal : Option Proposal) → page_answer s (record nothing { proposal = proposal }) p ≡ proposal_answer proposal) → IfOk r (TellsProposal s sources) → (r ≡ Err fault.Store → rose) → Tells s p (answer_or r) rose
+told_proposed rose s p sources (Ok answer) found answers h err =
+    record { fault = None; by_store = tt; found = record nothing { proposal = h.proposal }; is = λ e. found h.proposal h.proposed; answer_is = h.answer_is ∙ sym (answers h.proposal) }
+told_proposed rose s p sources (Err fault.NoMemory) found answers h err = told_missed rose s p fault.NoMemory tt
+told_proposed rose s p sources (Err fault.Store) found answers h err = told_missed rose s p fault.Store (err refl)
+
+pub told_propose : (rose : Type 0) (s : OfficeState) (r : Result Answer StoreFault) → IfOk r (TellsProposal s []) → (r ≡ Err fault.Store → rose) → Tells s page.Propose (answer_or r) rose
+told_propose rose s r h err = told_proposed rose s page.Propose [] r (λ proposal is. is) (λ proposal. refl) h err
+
+pub told_propose_for : (rose : Type 0) (s : OfficeState) (source : List ℕ) (r : Result Answer StoreFault) → IfOk r (TellsProposal s (source ∷ [])) → (r ≡ Err fault.Store → rose) → Tells s (page.ProposeFor source) (answer_or r) rose
+told_propose_for rose s source r h err = told_proposed rose s (page.ProposeFor source) (source ∷ []) r (λ proposal is. is) (λ proposal. refl) h err
+
 -- an answer that names no sender has a place for its name
 pub place_status : (setup : Lists) (r : Result Progress StoreFault) → HasPlace setup (status_answer r)
 place_status setup (Ok p) = tt
@@ -134,6 +177,19 @@ pub place_letter : (setup : Lists) (r : Result (Option (List ℕ)) StoreFault) �
 place_letter setup (Ok None) = tt
 place_letter setup (Ok (Some t)) = tt
 place_letter setup (Err f) = tt
+
+place_known : (setup : Lists) (known : Bool) (text : List ℕ) → HasPlace setup (if_known known text)
+place_known setup true text = tt
+place_known setup false text = tt
+
+pub place_why : (setup : Lists) (r : Result (Option WhyText) StoreFault) → HasPlace setup (why_answer r)
+place_why setup (Ok None) = tt
+place_why setup (Ok (Some why)) = place_known setup why.is_known why.text
+place_why setup (Err f) = tt
+
+pub place_part : (setup : Lists) (r : Result (List ℕ) StoreFault) → HasPlace setup (part_answer r)
+place_part setup (Ok t) = tt
+place_part setup (Err f) = tt
 
 pub place_or : (setup : Lists) (r : Result Answer StoreFault) → IfOk r (λ answer. HasPlace setup answer) → HasPlace setup (answer_or r)
 place_or setup (Ok answer) h = h
@@ -215,6 +271,85 @@ delivered P Q R before mid after text r l l_rises f f_rises =
       };
     }
 
+-- what neither keeps nor settles does nothing
+still_moves : (rose : Type 0) (before after : OfficeState) (action : Action) (body : List ℕ) (f : Option StoreFault) (ready : ℕ) → kept_by before action body f ≡ before.kept → settles before action body f ≡ false → (action ≡ Settle → ⊥) → after ≡ before → Moves before after action body f ready rose
+still_moves rose before after action body f ready kept still other same = record {
+  setup = ap (λ (s : OfficeState). s.setup) same;
+  kept = ap (λ (s : OfficeState). s.kept) same ∙ sym kept;
+  grows = omega (arith, ap (λ (s : OfficeState). s.finished) same);
+  still = λ h. ap (λ (s : OfficeState). s.finished) same;
+  settled = λ h e. absurd (other h);
+  met = None;
+  met_by_store = tt;
+  all_ready = λ h e. absurd (let no : true ≡ false = sym h ∙ still in cc);
+  only_ready = λ h. subst (λ (s : OfficeState). IsReady s.setup s.kept s.finished) (sym same) h;
+}
+
+-- a text that is only looked at
+pub looked : (rose : Type 0) (before after : OfficeState) (text : List ℕ) (r : Result Held DeliverFault) → AnswersDelivery r (answer_to before.setup before.kept text) → after ≡ before → (r ≡ Err Store → rose) → Runs before after Look text (delivery_answer r) rose
+looked rose before after text r due same err =
+    let m : Mark = mark_of r in
+    record {
+      fault = lost_of m;
+      by_store = loss_counted rose m (delivery_counted rose r err);
+      found = nothing;
+      is = λ e. tt;
+      answer_is = answered m r (answer_to before.setup before.kept text) (reply_by-mark r (answer_to before.setup before.kept text) due);
+      moves = still_moves rose before after Look text (lost_of m) 0 refl refl (λ e. absurd (cc (e))) same;
+    }
+
+-- a delivery of a sender's own text, by its path, is a delivery
+own_kept : (s : OfficeState) (sender : ℕ) (body : List ℕ) (f : Option StoreFault) → is_of_other sender (read s.setup body) ≡ false → kept_by s Deliver body f ≡ kept_by s (DeliverOf sender) body f
+own_kept s sender body None own = sym (ap (λ (b : Bool). cond b s.kept (kept_from s.setup s.kept (body ∷ []))) own)
+own_kept s sender body (Some f) own = refl
+
+own_settles : (s : OfficeState) (sender : ℕ) (body : List ℕ) (f : Option StoreFault) → is_of_other sender (read s.setup body) ≡ false → settles s Deliver body f ≡ settles s (DeliverOf sender) body f
+own_settles s sender body None own = sym (ap (λ (b : Bool). not b && is_ok (answer_to s.setup s.kept body)) own)
+own_settles s sender body (Some f) own = refl
+
+pub delivered_own : (rose : Type 0) (before after : OfficeState) (sender : ℕ) (body : List ℕ) (answer : Answer) → is_of_other sender (read before.setup body) ≡ false → Runs before after Deliver body answer rose → Runs before after (DeliverOf sender) body answer rose
+delivered_own rose before after sender body answer own r = record {
+  fault = r.fault;
+  by_store = r.by_store;
+  found = r.found;
+  is = λ e. tt;
+  answer_is = r.answer_is ∙ ap (by_fault r.fault) (sym (ap (λ (b : Bool). unless_other b (delivery_answer (answer_to before.setup before.kept body))) own));
+  moves = record {
+    setup = r.moves.setup;
+    kept = r.moves.kept ∙ own_kept before sender body r.fault own;
+    grows = r.moves.grows;
+    still = λ h. r.moves.still (own_settles before sender body r.fault own ∙ h);
+    settled = λ h. absurd (cc (h));
+    met = r.moves.met;
+    met_by_store = r.moves.met_by_store;
+    all_ready = λ h e. r.moves.all_ready (own_settles before sender body r.fault own ∙ h) e;
+    only_ready = r.moves.only_ready;
+  };
+}
+
+-- one of another sender's does nothing
+pub delivered_other : (rose : Type 0) (s : OfficeState) (sender : ℕ) (body : List ℕ) → is_of_other sender (read s.setup body) ≡ true → Runs s s (DeliverOf sender) body (Refused refusal.OtherSender) rose
+delivered_other rose s sender body other = record {
+  fault = None;
+  by_store = tt;
+  found = nothing;
+  is = λ e. tt;
+  answer_is = sym (ap (λ (b : Bool). unless_other b (delivery_answer (answer_to s.setup s.kept body))) other);
+  moves = still_moves rose s s (DeliverOf sender) body None 0 (ap (λ (b : Bool). cond b s.kept (kept_from s.setup s.kept (body ∷ []))) other)
+      (ap (λ (b : Bool). not b && is_ok (answer_to s.setup s.kept body)) other) (λ e. absurd (cc (e))) refl;
+}
+
+-- nor does a text that memory doesn't suffice to read
+pub delivered_short : (rose : Type 0) (s : OfficeState) (sender : ℕ) (body : List ℕ) → Runs s s (DeliverOf sender) body (Refused refusal.NoMemory) rose
+delivered_short rose s sender body = record {
+  fault = Some fault.NoMemory;
+  by_store = tt;
+  found = nothing;
+  is = λ e. absurd (cc (e));
+  answer_is = refl;
+  moves = still_moves rose s s (DeliverOf sender) body (Some fault.NoMemory) 0 refl refl (λ e. absurd (cc (e))) refl;
+}
+
 -- a settle
 settle_missed : (rose : Type 0) (before after : OfficeState) (text : List ℕ) (f : StoreFault) → TextCounted rose (Some f) → after.setup ≡ before.setup → after.kept ≡ before.kept → before.finished ≤ after.finished → IsReady before.setup before.kept after.finished → Runs before after Settle text (Refused (refusal_for f)) rose
 settle_missed rose before after text f by_store s k g o = record {
@@ -248,45 +383,60 @@ settled rose before after text (Ok p) counted fin s k g o err = record {
 settled rose before after text (Err fault.NoMemory) counted fin s k g o err = settle_missed rose before after text fault.NoMemory tt s k g o
 settled rose before after text (Err fault.Store) counted fin s k g o err = settle_missed rose before after text fault.Store (err refl) s k g o
 
--- a trial does nothing
-tried_moves : (rose : Type 0) (before after : OfficeState) (body : List ℕ) (f : Option StoreFault) (ready : ℕ) → after ≡ before → Moves before after Try body f ready rose
-tried_moves rose before after body f ready same = record {
-  setup = ap (λ (s : OfficeState). s.setup) same;
-  kept = ap (λ (s : OfficeState). s.kept) same;
-  grows = omega (arith, ap (λ (s : OfficeState). s.finished) same);
-  still = λ h. ap (λ (s : OfficeState). s.finished) same;
-  settled = λ h e. absurd (cc (h));
-  met = None;
-  met_by_store = tt;
-  all_ready = λ h e. absurd (cc (h));
-  only_ready = λ h. subst (λ (s : OfficeState). IsReady s.setup s.kept s.finished) (sym same) h;
-}
+-- a trial does nothing, and is answered by what it is told
+some_same : (x y : TrialOptions) → Some x ≡ Some y → x ≡ y
+some_same x y e = ap (λ (o : Option TrialOptions). unwrap_or o x) e
 
-tried_missed : (rose : Type 0) (before after : OfficeState) (body : List ℕ) (f : StoreFault) → TextCounted rose (Some f) → after ≡ before → Runs before after Try body (Refused (refusal_for f)) rose
-tried_missed rose before after body f by same = record { fault = Some f; by_store = by; found = nothing; is = λ e. absurd (cc (e)); answer_is = refl; moves = tried_moves rose before after body (Some f) 0 same }
+trial_moves : (rose : Type 0) (before after : OfficeState) (action : Action) (terms : TrialOptions) (body : List ℕ) (f : Option StoreFault) (ready : ℕ) → terms_of action ≡ Some terms → after ≡ before → Moves before after action body f ready rose
+trial_moves rose before after Try terms body f ready by same = still_moves rose before after Try body f ready refl refl (λ e. absurd (cc (e))) same
+trial_moves rose before after (TryOn day) terms body f ready by same = still_moves rose before after (TryOn day) body f ready refl refl (λ e. absurd (cc (e))) same
+trial_moves rose before after Deliver terms body f ready by same = absurd (cc (by))
+trial_moves rose before after (DeliverOf sender) terms body f ready by same = absurd (cc (by))
+trial_moves rose before after Look terms body f ready by same = absurd (cc (by))
+trial_moves rose before after Settle terms body f ready by same = absurd (cc (by))
+
+trial_said : (s : OfficeState) (found : Found) (action : Action) (terms : TrialOptions) (body : List ℕ) → terms_of action ≡ Some terms → tried_answer s.setup body found.trial ≡ action_answer s found action body
+trial_said s found Try terms body by = refl
+trial_said s found (TryOn day) terms body by = refl
+trial_said s found Deliver terms body by = absurd (cc (by))
+trial_said s found (DeliverOf sender) terms body by = absurd (cc (by))
+trial_said s found Look terms body by = absurd (cc (by))
+trial_said s found Settle terms body by = absurd (cc (by))
+
+trial_found : (s : OfficeState) (found : Found) (action : Action) (terms : TrialOptions) (body : List ℕ) → terms_of action ≡ Some terms → (is_utf8 body ≡ true → IsTrial s.setup s.kept s.finished terms (hints_in body) found.trial) → IsFoundBy s found action body
+trial_found s found Try terms body by is = λ g. subst (λ (t : TrialOptions). IsTrial s.setup s.kept s.finished t (hints_in body) found.trial) (sym (some_same _ terms by)) (is g)
+trial_found s found (TryOn day) terms body by is = λ g. subst (λ (t : TrialOptions). IsTrial s.setup s.kept s.finished t (hints_in body) found.trial) (sym (some_same _ terms by)) (is g)
+trial_found s found Deliver terms body by is = absurd (cc (by))
+trial_found s found (DeliverOf sender) terms body by is = absurd (cc (by))
+trial_found s found Look terms body by is = absurd (cc (by))
+trial_found s found Settle terms body by is = absurd (cc (by))
+
+tried_missed : (rose : Type 0) (before after : OfficeState) (action : Action) (terms : TrialOptions) (body : List ℕ) (f : StoreFault) → terms_of action ≡ Some terms → TextCounted rose (Some f) → after ≡ before → Runs before after action body (Refused (refusal_for f)) rose
+tried_missed rose before after action terms body f by counted same = record { fault = Some f; by_store = counted; found = nothing; is = λ e. absurd (cc (e)); answer_is = refl; moves = trial_moves rose before after action terms body (Some f) 0 by same }
 
 -- the hints of a body
-pub tried : (rose : Type 0) (before after : OfficeState) (body : List ℕ) (r : Result Answer StoreFault) → is_utf8 body ≡ true → IfOk r (λ answer. TellsTrial before (hints_in body) answer) → after ≡ before → (r ≡ Err fault.Store → rose) → Runs before after Try body (answer_or r) rose
-tried rose before after body (Ok answer) legible h same err = record {
+pub tried : (rose : Type 0) (before after : OfficeState) (action : Action) (terms : TrialOptions) (body : List ℕ) (r : Result Answer StoreFault) → terms_of action ≡ Some terms → is_utf8 body ≡ true → IfOk r (λ answer. TellsTrial before terms (hints_in body) answer) → after ≡ before → (r ≡ Err fault.Store → rose) → Runs before after action body (answer_or r) rose
+tried rose before after action terms body (Ok answer) by legible h same err = record {
   fault = None;
   by_store = tt;
-  found = record { ready = 0; awaited = Order; why = None; trial = h.trial };
-  is = λ e g. h.tried;
-  answer_is = h.answer_is ∙ sym (ap (λ b. cond b (trial_answer before.setup (hints_in body) h.trial) (Delivered (Err (Mail mail.BadParagraph)))) legible);
-  moves = tried_moves rose before after body None 0 same;
+  found = record nothing { trial = h.trial };
+  is = λ e. trial_found before (record nothing { trial = h.trial }) action terms body by (λ g. h.tried);
+  answer_is = h.answer_is ∙ sym (ap (λ b. cond b (trial_answer before.setup (hints_in body) h.trial) (Delivered (Err (Mail mail.BadParagraph)))) legible)
+      ∙ trial_said before (record nothing { trial = h.trial }) action terms body by;
+  moves = trial_moves rose before after action terms body None 0 by same;
 }
-tried rose before after body (Err fault.NoMemory) legible h same err = tried_missed rose before after body fault.NoMemory tt same
-tried rose before after body (Err fault.Store) legible h same err = tried_missed rose before after body fault.Store (err refl) same
+tried rose before after action terms body (Err fault.NoMemory) by legible h same err = tried_missed rose before after action terms body fault.NoMemory by tt same
+tried rose before after action terms body (Err fault.Store) by legible h same err = tried_missed rose before after action terms body fault.Store by (err refl) same
 
 -- a body that isn't UTF-8
-pub tried_bad : (rose : Type 0) (s : OfficeState) (body : List ℕ) → is_utf8 body ≡ false → Runs s s Try body (Delivered (Err (Mail mail.BadParagraph))) rose
-tried_bad rose s body bad = record {
+pub tried_bad : (rose : Type 0) (s : OfficeState) (action : Action) (terms : TrialOptions) (body : List ℕ) → terms_of action ≡ Some terms → is_utf8 body ≡ false → Runs s s action body (Delivered (Err (Mail mail.BadParagraph))) rose
+tried_bad rose s action terms body by bad = record {
   fault = None;
   by_store = tt;
   found = nothing;
-  is = λ e g. absurd (let no : true ≡ false = sym g ∙ bad in cc);
-  answer_is = sym (ap (λ b. cond b (trial_answer s.setup (hints_in body) NoDate) (Delivered (Err (Mail mail.BadParagraph)))) bad);
-  moves = tried_moves rose s s body None 0 refl;
+  is = λ e. trial_found s nothing action terms body by (λ g. absurd (let no : true ≡ false = sym g ∙ bad in cc));
+  answer_is = sym (ap (λ b. cond b (trial_answer s.setup (hints_in body) NoDate) (Delivered (Err (Mail mail.BadParagraph)))) bad) ∙ trial_said s nothing action terms body by;
+  moves = trial_moves rose s s action terms body None 0 by refl;
 }
 
 -- where a fault was met before anything was done
@@ -294,7 +444,10 @@ does_nothing : (rose : Type 0) (s : OfficeState) (o : Option (Action × List ℕ
 does_nothing rose s None f ready h = refl
 does_nothing rose s (Some (Deliver, body)) f ready by = record { setup = refl; kept = refl; grows = omega arith; still = λ h. refl; settled = λ h e. absurd (cc (e)); met = Some f; met_by_store = by; all_ready = λ h e. absurd (cc (e)); only_ready = λ h. h }
 does_nothing rose s (Some (Settle, body)) f ready by = record { setup = refl; kept = refl; grows = omega arith; still = λ h. refl; settled = λ h e. absurd (cc (e)); met = Some f; met_by_store = by; all_ready = λ h e. absurd (cc (e)); only_ready = λ h. h }
-does_nothing rose s (Some (Try, body)) f ready by = tried_moves rose s s body (Some f) ready refl
+does_nothing rose s (Some (DeliverOf sender, body)) f ready by = still_moves rose s s (DeliverOf sender) body (Some f) ready refl refl (λ e. absurd (cc (e))) refl
+does_nothing rose s (Some (Look, body)) f ready by = still_moves rose s s Look body (Some f) ready refl refl (λ e. absurd (cc (e))) refl
+does_nothing rose s (Some (Try, body)) f ready by = still_moves rose s s Try body (Some f) ready refl refl (λ e. absurd (cc (e))) refl
+does_nothing rose s (Some (TryOn day, body)) f ready by = still_moves rose s s (TryOn day) body (Some f) ready refl refl (λ e. absurd (cc (e))) refl
 
 pub short_answers : (rose : Type 0) (s : OfficeState) (l0 l1 w0 w1 : Option (List ℕ)) (front : List ℕ) (asked : Asked) (more : List ℕ) (goes_on : Bool) → Consumes l0 l1 more → (length more ≡ 0) ⊎ (length (front ++ more) ≤ body_size asked) → Appends w0 w1 (continued goes_on) → (goes_on ≡ true → waits_of asked ≡ true) → Answers s s l0 l1 w0 w1 front asked (Refused refusal.NoMemory) rose
 short_answers rose s l0 l1 w0 w1 front asked more goes_on took few wrote waited = record {

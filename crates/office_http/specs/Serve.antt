@@ -1,5 +1,5 @@
 -- What one connection comes to: the reply as a function of the request, of the office's state and of the faults that were met.
-use Rattle.std.specs.Prelude.{◌≡◌, ⊤, ◌⊎◌, ◌≤◌, ◌<◌, ◌+◌, ℕ, Bool, true, false, List, [], ◌∷◌, ◌++◌, ◌==◌, length, map, take, nat_le, if◌then◌else◌, Option, Some, None, Result, Ok, Err, is_ok}
+use Rattle.std.specs.Prelude.{◌≡◌, ⊤, ◌⊎◌, ◌≤◌, ◌<◌, ◌+◌, ℕ, Bool, true, false, not, ◌&&◌, List, [], ◌∷◌, ◌++◌, ◌==◌, length, map, take, nat_le, if◌then◌else◌, Option, Some, None, Result, Ok, Err, is_ok}
 use Rattle.std.specs.Option.{option_map}
 use Rattle.std.specs.FinMap.{get}
 use Rattle.std.specs.List.{range_with_len}
@@ -7,10 +7,13 @@ use Rattle.std.specs.Str.{is_utf8}
 use Rattle.std.specs.Io.KnownBytes.{Appends, Consumes, IsAtEnd}
 use Rattle.httparse.specs.Grammar.{RequestHead, HasNoRequest, NeverHasRequest}
 use Rattle.httparse.specs.Spans.{RequestExceeds, RequestOverflows}
+use Rattle.office_mail.specs.declared.message.MailFault.{MailFault}
 use Rattle.office_mail.specs.declared.message.MailFault.TheVariants as mail
+use Rattle.office_mail.specs.declared.message.Message.{Message}
 use Rattle.office_mail.specs.Kept.{Kept, kept_from}
 use Rattle.office_mail.specs.Lists.{Lists}
-use Rattle.office_mail.specs.Runs.{IsReady, IsReadyCount, greatest}
+use Rattle.office_mail.specs.Read.{read}
+use Rattle.office_mail.specs.Runs.{IsReady, IsReadyCount, cover, greatest, latest_day, orders_to}
 use Rattle.office_store_keeper.specs.declared.values.Letter.{Letter as KeptLetter}
 use Rattle.office_core_orders.specs.declared.faults.DeliverFault.{DeliverFault}
 use Rattle.office_core_orders.specs.declared.faults.DeliverFault.TheVariants.{Mail, OtherText, Store}
@@ -24,7 +27,7 @@ use Rattle.office_http_requests.specs.declared.reply.Refusal.TheVariants as refu
 use Rattle.office_http_requests.specs.declared.reply.Answer.{Answer}
 use Rattle.office_http_requests.specs.declared.reply.Answer.TheVariants.{Refused, Delivered, Status, Told, Letter}
 use Rattle.office_http_requests.specs.declared.request.Action.{Action}
-use Rattle.office_http_requests.specs.declared.request.Action.TheVariants.{Deliver, Settle, Try}
+use Rattle.office_http_requests.specs.declared.request.Action.TheVariants.{Deliver, DeliverOf, Look, Settle, Try, TryOn}
 use Rattle.office_http_requests.specs.declared.request.Page.{Page}
 use Rattle.office_http_requests.specs.declared.request.Page.TheVariants as page
 use Rattle.office_http_requests.specs.declared.request.Asked.{Asked}
@@ -32,21 +35,30 @@ use Rattle.office_http_requests.specs.declared.request.Asked.TheVariants as asks
 use Rattle.office_http.specs.declared.serve.ServeFault.{ServeFault}
 use Rattle.office_http.specs.declared.serve.ServeFault.TheVariants.{Read, Write}
 use Rattle.office_core_outcome.specs.declared.Trial.{Trial}
-use Rattle.office_core_outcome.specs.Trial.{IsTrial}
+use Rattle.office_core_outcome.specs.Trial.{IsTrial, trial_date}
+use Rattle.office_core_outcome.specs.Proposal.{IsProposed, proposal_text}
+use Rattle.office_core_outcome.specs.declared.proposal.Proposal.{Proposal}
 use Rattle.office_http_requests.specs.Asked.{asked_of, body_size, is_head_method}
 use Rattle.office_core_replay.specs.Losses.{TextCounted}
 use Rattle.office_core_queries.specs.declared.mail.MailCount.{MailCount}
+use Rattle.office_core_queries.specs.BagPart.{bag_part}
 use Rattle.office_core_queries.specs.Mail.{letters_of, mail_text}
+use Rattle.office_core_queries.specs.NextOrder.{order_text}
 use Rattle.office_core_queries.specs.RunLines.{runs_text}
 use Rattle.office_core_facts.specs.Outcome.{testing_text, testing_after}
 use Rattle.office_http_requests.specs.Reply.{refused, reply_in, reply_bytes, continue_bytes}
 use Rattle.office_http_requests.specs.Request.{BeginsWith, body_room, field_room, head_room}
 use Rattle.office_core_facts.specs.OfficeState.{OfficeState}
+use Rattle.office_core_facts.specs.Seen.{IsSeen}
 use Rattle.office_core_facts.specs.State.{answer_to, reports_at}
 use Rattle.office_core_orders.specs.Waiting.{Awaits}
 use Rattle.office_core_orders.specs.Written.{AppendsFront}
-use Rattle.office_http.specs.Trials.{hints_in, request_terms, tried_answer}
+use Rattle.office_http.specs.Trials.{hints_in, request_terms, terms_on, tried_answer}
+use Rattle.office_core_why.specs.Hints.{hints_text}
+use Rattle.office_core_why.specs.UnstableText.{unstable_text}
 use Rattle.office_core_why.specs.Why.{IsWhy}
+use Rattle.office_core_why.specs.declared.WhyText.{WhyText}
+use Rattle.testing_rules_model.specs.Covered.{Covered}
 
 -- how a fault of memory or of the store is told
 abbrev pub refusal_for : StoreFault → Refusal
@@ -57,6 +69,15 @@ abbrev pub report_answer : Result (Option (List ℕ)) StoreFault → Answer
 report_answer (Ok (Some text)) = Told text
 report_answer (Ok None) = Refused refusal.NoRun
 report_answer (Err f) = Refused (refusal_for f)
+
+-- what is told of a source, unless unstable hasn't it
+abbrev pub if_known : Bool → List ℕ → Answer
+if_known known text = if known then Told text else Refused refusal.NoSource
+
+abbrev pub why_answer : Result (Option WhyText) StoreFault → Answer
+why_answer (Ok (Some why)) = if_known why.is_known why.text
+why_answer (Ok None) = Refused refusal.NoRun
+why_answer (Err f) = Refused (refusal_for f)
 
 abbrev pub letter_answer : Result (Option (List ℕ)) StoreFault → Answer
 letter_answer (Ok (Some text)) = Letter text
@@ -78,6 +99,15 @@ delivery_answer (Err (Mail mail.WrongRole)) = Delivered (Err (Mail mail.WrongRol
 delivery_answer (Err (Mail mail.TooManyParagraphs)) = Delivered (Err (Mail mail.TooManyParagraphs))
 delivery_answer (Err (Mail mail.UnknownArchitecture)) = Delivered (Err (Mail mail.UnknownArchitecture))
 delivery_answer (Err (Mail (mail.BadValue field))) = Delivered (Err (Mail (mail.BadValue field)))
+
+-- a text is a message of another sender
+abbrev pub is_of_other : ℕ → Result Message MailFault → Bool
+is_of_other sender (Ok message) = not (message.sender == sender)
+is_of_other sender (Err fault) = false
+
+-- the answer to a text that a sender's path delivers
+abbrev pub unless_other : Bool → Answer → Answer
+unless_other other due = if other then Refused refusal.OtherSender else due
 
 -- the answer where this fault was met, or none
 abbrev pub by_fault : Option StoreFault → Answer → Answer
@@ -102,12 +132,24 @@ abbrev pub mail_counts : Lists → Kept → List MailCount
 mail_counts setup kept = map (mail_count kept) (range_with_len 0 (length setup.senders))
 
 -- What is found of an office beside its state, as far as a request asks for it: how many runs are ready, what the next
--- one waits for, what is told of a source, and what a trial of hints is told.
+-- one waits for, what is told of a source, what a trial of hints is told, what all mail without a gap says, and which hints
+-- are proposed.
 pub record Found : Type 0 where
   pub ready : ℕ
   pub awaited : Awaited
-  pub why : Option (List ℕ)
+  pub why : Option WhyText
   pub trial : Trial
+  pub seen : Covered
+  pub proposal : Option Proposal
+
+-- the hints that are proposed; there is no proposal where no run is finished
+abbrev pub proposal_answer : Option Proposal → Answer
+proposal_answer None = Refused refusal.NoRun
+proposal_answer (Some proposal) = Told (proposal_text proposal.hints.items)
+
+abbrev pub IsProposedFor : OfficeState → List (List ℕ) → Option Proposal → Type 0
+IsProposedFor s sources None = trial_date (latest_day (orders_to s.setup s.kept s.finished)) request_terms.day ≡ None
+IsProposedFor s sources (Some proposal) = IsProposed s.setup s.kept s.finished request_terms sources proposal
 
 -- the text that a page tells, where this is found
 abbrev pub page_answer : OfficeState → Found → Page → Answer
@@ -119,13 +161,23 @@ page_answer s found page.Waiting = Told (waiting_text s.setup (record { progress
 page_answer s found page.Runs = Told (runs_text s)
 page_answer s found page.Kept = Told (mail_text s.setup (mail_counts s.setup s.kept))
 page_answer s found (page.Letter sender number) = letter_answer (Ok (get s.kept (sender, number)))
-page_answer s found (page.Why source) = report_answer (Ok found.why)
+page_answer s found (page.Bag sender from) = Letter (bag_part s.kept sender from)
+page_answer s found (page.Why source) = why_answer (Ok found.why)
+page_answer s found (page.Order day) = Told (order_text s.setup (mail_counts s.setup s.kept) day)
+page_answer s found page.Hints = Told (hints_text s.setup s.finished (cover s.setup s.kept s.finished) found.seen (testing_after s.setup s.kept s.finished))
+page_answer s found page.Unstable = Told (unstable_text s.setup.archs s.finished found.seen)
+page_answer s found page.Propose = proposal_answer found.proposal
+page_answer s found (page.ProposeFor source) = proposal_answer found.proposal
 
--- the answer to a POST with this body: what is due to the delivery, the status after the settle, or what the hints would change
+-- The answer to a POST with this body: what is due to the delivery, the status after the settle, or what the hints would
+-- change. A text that is only looked at is answered as if it were delivered.
 abbrev pub action_answer : OfficeState → Found → Action → List ℕ → Answer
 action_answer s found Deliver body = delivery_answer (answer_to s.setup s.kept body)
+action_answer s found (DeliverOf sender) body = unless_other (is_of_other sender (read s.setup body)) (delivery_answer (answer_to s.setup s.kept body))
+action_answer s found Look body = delivery_answer (answer_to s.setup s.kept body)
 action_answer s found Settle body = Status (record { ready = found.ready; finished = found.ready })
 action_answer s found Try body = tried_answer s.setup body found.trial
+action_answer s found (TryOn day) body = tried_answer s.setup body found.trial
 
 -- the body that a request has, of the bytes after its head; none where they are too few
 abbrev pub body_of : ℕ → List ℕ → Option (List ℕ)
@@ -157,13 +209,22 @@ IsFoundFor s found page.Waiting = IsReadyCount s.setup s.kept found.ready × Awa
 IsFoundFor s found page.Runs = ⊤
 IsFoundFor s found page.Kept = ⊤
 IsFoundFor s found (page.Letter sender number) = ⊤
+IsFoundFor s found (page.Bag sender from) = ⊤
 IsFoundFor s found (page.Why source) = IsWhy s.setup s.kept s.finished source found.why
+IsFoundFor s found (page.Order day) = ⊤
+IsFoundFor s found page.Hints = IsSeen s.setup s.kept found.seen
+IsFoundFor s found page.Unstable = IsSeen s.setup s.kept found.seen
+IsFoundFor s found page.Propose = IsProposedFor s [] found.proposal
+IsFoundFor s found (page.ProposeFor source) = IsProposedFor s (source ∷ []) found.proposal
 
 -- and as far as the answer to a POST does
 abbrev pub IsFoundBy : OfficeState → Found → Action → List ℕ → Type 0
 IsFoundBy s found Deliver body = ⊤
+IsFoundBy s found (DeliverOf sender) body = ⊤
+IsFoundBy s found Look body = ⊤
 IsFoundBy s found Settle body = IsReadyCount s.setup s.kept found.ready
 IsFoundBy s found Try body = is_utf8 body ≡ true → IsTrial s.setup s.kept s.finished request_terms (hints_in body) found.trial
+IsFoundBy s found (TryOn day) body = is_utf8 body ≡ true → IsTrial s.setup s.kept s.finished (terms_on day) (hints_in body) found.trial
 
 abbrev pub IsFoundByPost : OfficeState → Found → Option (Action × List ℕ) → Type 0
 IsFoundByPost s found None = ⊤
@@ -175,6 +236,10 @@ IsFound s found (asks.Refused r) rest = ⊤
 IsFound s found (asks.Tell page) rest = IsFoundFor s found page
 IsFound s found (asks.Post p) rest = IsFoundByPost s found (posted_body (asks.Post p) rest)
 
+-- a request for proposals
+abbrev pub AsksProposal : Asked → Type 0
+AsksProposal asked = (asked ≡ asks.Tell page.Propose) ⊎ ((source : List ℕ) × (asked ≡ asks.Tell (page.ProposeFor source)))
+
 -- whether a client waits for 100 Continue
 abbrev pub waits_of : Asked → Bool
 waits_of (asks.Refused r) = false
@@ -184,24 +249,34 @@ waits_of (asks.Post p) = p.waits
 abbrev pub continued : Bool → List ℕ
 continued goes_on = if goes_on then continue_bytes else []
 
--- what is kept after a POST: the whole body is delivered once, unless a fault was met
+-- What is kept after a POST: the whole body is delivered once, unless a fault was met. On a sender's path it is delivered only if it is no
+-- message of another sender.
 abbrev pub kept_by : OfficeState → Action → List ℕ → Option StoreFault → Kept
 kept_by s Deliver body None = kept_from s.setup s.kept (body ∷ [])
 kept_by s Deliver body (Some f) = s.kept
+kept_by s (DeliverOf sender) body None = if is_of_other sender (read s.setup body) then s.kept else kept_from s.setup s.kept (body ∷ [])
+kept_by s (DeliverOf sender) body (Some f) = s.kept
+kept_by s Look body fault = s.kept
 kept_by s Settle body fault = s.kept
 kept_by s Try body fault = s.kept
+kept_by s (TryOn day) body fault = s.kept
 
--- the texts that a request delivers
-abbrev pub delivered_by : Option (Action × List ℕ) → Option StoreFault → List (List ℕ)
-delivered_by (Some (Deliver, body)) None = body ∷ []
-delivered_by _ _ = []
+-- the texts that a request delivers to an office with this setup
+abbrev pub delivered_by : Lists → Option (Action × List ℕ) → Option StoreFault → List (List ℕ)
+delivered_by setup (Some (Deliver, body)) None = body ∷ []
+delivered_by setup (Some (DeliverOf sender, body)) None = if is_of_other sender (read setup body) then [] else body ∷ []
+delivered_by setup _ _ = []
 
 -- whether a POST settles: a delivery that is held, and a settle
 abbrev pub settles : OfficeState → Action → List ℕ → Option StoreFault → Bool
 settles s Deliver body None = is_ok (answer_to s.setup s.kept body)
 settles s Deliver body (Some f) = false
+settles s (DeliverOf sender) body None = not (is_of_other sender (read s.setup body)) && is_ok (answer_to s.setup s.kept body)
+settles s (DeliverOf sender) body (Some f) = false
+settles s Look body fault = false
 settles s Settle body fault = true
 settles s Try body fault = false
+settles s (TryOn day) body fault = false
 
 -- what a POST does
 pub record Moves (before after : OfficeState) (action : Action) (body : List ℕ) (fault : Option StoreFault) (ready : ℕ) (rose : Type 0) : Type 0 where
@@ -273,6 +348,8 @@ IsUnread left input refusal.NoMemory = ⊤
 IsUnread left input refusal.NoRoute = ⊥
 IsUnread left input refusal.NoRun = ⊥
 IsUnread left input refusal.NoMessage = ⊥
+IsUnread left input refusal.NoSource = ⊥
+IsUnread left input refusal.OtherSender = ⊥
 IsUnread left input refusal.OnlyGet = ⊥
 IsUnread left input refusal.OnlyPost = ⊥
 IsUnread left input refusal.LengthRequired = ⊥

@@ -8,7 +8,7 @@ use Rattle.office_core_orders.specs.declared.faults.StoreFault.{StoreFault}
 use Rattle.office_core_orders.specs.declared.waiting_lines.Awaited.{Awaited}
 use Rattle.office_core_orders.specs.WaitingLines.{waiting_text}
 use Rattle.office_http_requests.specs.declared.reply.Answer.{Answer}
-use Rattle.office_http_requests.specs.declared.reply.Answer.TheVariants.{Refused, Status, Told}
+use Rattle.office_http_requests.specs.declared.reply.Answer.TheVariants.{Refused, Status, Told, Letter}
 use Rattle.office_http_requests.specs.declared.request.Action.{Action}
 use Rattle.office_http_requests.specs.declared.request.Page.{Page}
 use Rattle.office_http_requests.specs.declared.request.Asked.{Asked}
@@ -21,9 +21,11 @@ use Rattle.office_core_facts.specs.OfficeState.{OfficeState}
 use Rattle.office_core_orders.specs.Waiting.{Awaits}
 use Rattle.office_core_orders.specs.Written.{AppendsFront}
 use Rattle.office_core_outcome.specs.declared.Trial.{Trial}
+use Rattle.office_core_outcome.specs.declared.TrialOptions.{TrialOptions}
 use Rattle.office_core_outcome.specs.Trial.{IsTrial}
-use Rattle.office_http.specs.Serve.{refusal_for, by_fault, page_answer, action_answer, posted_body, answer_of, waits_of, continued, Found, IsFound, IsFoundBy, IsFoundFor, Moves, Does, IsWhole, IsAwaited, StopsBefore, Exchange}
-use Rattle.office_http.specs.Trials.{request_terms, trial_answer}
+use Rattle.office_core_outcome.specs.declared.proposal.Proposal.{Proposal}
+use Rattle.office_http.specs.Serve.{refusal_for, by_fault, page_answer, action_answer, posted_body, answer_of, proposal_answer, waits_of, continued, Found, IsFound, IsFoundBy, IsFoundFor, IsProposedFor, Moves, Does, IsWhole, IsAwaited, StopsBefore, Exchange}
+use Rattle.office_http.specs.Trials.{trial_answer}
 
 -- the answers of the office's calls
 abbrev pub status_answer : Result Progress StoreFault → Answer
@@ -33,6 +35,10 @@ status_answer (Err f) = Refused (refusal_for f)
 abbrev pub text_answer : Result (List ℕ) StoreFault → Answer
 text_answer (Ok text) = Told text
 text_answer (Err f) = Refused (refusal_for f)
+
+abbrev pub part_answer : Result (List ℕ) StoreFault → Answer
+part_answer (Ok bag) = Letter bag
+part_answer (Err f) = Refused (refusal_for f)
 
 -- the text on what the run behind the ready ones waits for
 pub record TellsAwaited (s : OfficeState) (text : List ℕ) : Type 0 where
@@ -48,10 +54,16 @@ answer_or (Ok answer) = answer
 answer_or (Err f) = Refused (refusal_for f)
 
 -- the answer to hints by what their trial is told
-pub record TellsTrial (s : OfficeState) (hints : List (List ℕ)) (answer : Answer) : Type 0 where
+pub record TellsTrial (s : OfficeState) (terms : TrialOptions) (hints : List (List ℕ)) (answer : Answer) : Type 0 where
   pub trial : Trial
-  pub tried : IsTrial s.setup s.kept s.finished request_terms hints trial
+  pub tried : IsTrial s.setup s.kept s.finished terms hints trial
   pub answer_is : answer ≡ trial_answer s.setup hints trial
+
+-- the answer to a request for hints that free these sources, or that move groups
+pub record TellsProposal (s : OfficeState) (sources : List (List ℕ)) (answer : Answer) : Type 0 where
+  pub proposal : Option Proposal
+  pub proposed : IsProposedFor s sources proposal
+  pub answer_is : answer ≡ proposal_answer proposal
 
 -- a page was told
 pub record Tells (s : OfficeState) (page : Page) (answer : Answer) (rose : Type 0) : Type 0 where

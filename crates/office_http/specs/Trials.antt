@@ -1,11 +1,14 @@
 -- What is answered to a request that tries hints. That a service takes such requests is this office's own.
-use Rattle.std.specs.Prelude.{ℕ, false, List, [], ◌∷◌, ◌++◌, ◌==◌, length, codes, if◌then◌else◌, slice_index_or, None, Err}
+use Rattle.std.specs.Prelude.{ℕ, true, false, List, [], ◌∷◌, ◌++◌, ◌==◌, length, codes, if◌then◌else◌, slice_index_or, Option, Some, None, Err}
 use Rattle.std.specs.Str.{is_utf8}
 use Rattle.std.specs.Str.Lines.{lines}
+use Rattle.jiff_core.specs.declared.civil.date.Date.{Date}
 use Rattle.office_mail.specs.declared.message.MailFault.TheVariants as mail
 use Rattle.office_mail.specs.Lists.{Lists}
 use Rattle.office_core_orders.specs.declared.faults.DeliverFault.TheVariants.{Mail}
 use Rattle.office_core_orders.specs.Replies.{fault_words, name_at}
+use Rattle.office_http_requests.specs.declared.request.Action.{Action}
+use Rattle.office_http_requests.specs.declared.request.Action.TheVariants.{Deliver, DeliverOf, Look, Settle, Try, TryOn}
 use Rattle.office_http_requests.specs.declared.reply.Refusal.TheVariants as refusal
 use Rattle.office_http_requests.specs.declared.reply.Answer.{Answer}
 use Rattle.office_http_requests.specs.declared.reply.Answer.TheVariants.{Refused, Delivered, Told, BadHint}
@@ -13,12 +16,25 @@ use Rattle.office_core_outcome.specs.declared.RefusedHint.{RefusedHint}
 use Rattle.office_core_outcome.specs.declared.TrialOptions.{TrialOptions}
 use Rattle.office_core_outcome.specs.declared.Trial.{Trial}
 use Rattle.office_core_outcome.specs.declared.Trial.TheVariants as trial
-use Rattle.office_core_outcome.specs.Hints.{release}
+use Rattle.office_core_facts.specs.Seen.{release}
 use Rattle.testing_rules_reports.specs.Tried.{tried_text}
 
 -- a trial that a request asks for covers the mail of the release team alone, and has no day of its own
 abbrev pub request_terms : TrialOptions
 request_terms = record { day = None; all = false }
+
+-- one that is asked for on a day covers all mail without a gap, and is on that day or later
+abbrev pub terms_on : Date → TrialOptions
+terms_on day = record { day = Some day; all = true }
+
+-- the terms of an action that tries hints
+abbrev pub terms_of : Action → Option TrialOptions
+terms_of Try = Some request_terms
+terms_of (TryOn day) = Some (terms_on day)
+terms_of Deliver = None
+terms_of (DeliverOf sender) = None
+terms_of Look = None
+terms_of Settle = None
 
 -- the hints of a body, one in each line; an empty body has an empty one
 abbrev pub hints_in : List ℕ → List (List ℕ)

@@ -2,6 +2,7 @@
 #![tactic(auto)]
 
 pub mod laws;
+mod proposals;
 mod serve;
 pub mod service_laws;
 mod trials;

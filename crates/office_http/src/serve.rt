@@ -5,33 +5,40 @@ ghost use Rattle.httparse.specs.Grammar.{RequestHead};
 ghost use Rattle.httparse.specs.Spans.{IsRequestAt};
 ghost use Rattle.httparse.specs.declared.spans.HeaderSpan.{HeaderSpan};
 ghost use Rattle.office_mail.specs.Counts.{HasRisen};
+ghost use Rattle.office_mail.specs.Read.{read};
 ghost use Rattle.office_http_requests.specs.Asked.{asked_of, body_size};
 ghost use Rattle.office_core_queries.specs.Mail.{mail_text};
+ghost use Rattle.office_core_queries.specs.NextOrder.{order_text};
 ghost use Rattle.office_core.specs.Preserves.{Asks, Preserves, Holds, StoreRefused};
 ghost use Rattle.office_core.specs.Laws.{RunsStand};
 ghost use Rattle.office_http_requests.specs.Reply.{continue_bytes, refused, reply_bytes, HasPlace};
 ghost use Rattle.office_http_requests.specs.Request.{body_room, head_room};
 ghost use Rattle.office_http_requests.specs.RequestSteps.{IsHeadAt};
-ghost use Rattle.office_http.specs.Serve.{mail_counts, refusal_for, report_answer, letter_answer, delivery_answer, waits_of, Does, StopsBefore, Serves, StopsServe};
+ghost use Rattle.office_http.specs.Serve.{if_known, mail_counts, refusal_for, report_answer, why_answer, letter_answer, delivery_answer, is_of_other, waits_of, Does, StopsBefore, Serves, StopsServe};
 ghost use Rattle.office_core_why.specs.Why.{IsWhy};
-ghost use Rattle.office_http.specs.ServeSteps.{answer_or, status_answer, text_answer, Tells, TellsAwaited, Runs, Answers, StopsRequest, ServesHead};
+ghost use Rattle.office_http.specs.ServeSteps.{answer_or, part_answer, status_answer, text_answer, Tells, TellsAwaited, Runs, Answers, StopsRequest, ServesHead};
+ghost use Rattle.office_http.specs.Trials.{terms_of};
 ghost use Rattle.office_core_facts.specs.State.{state_of};
 ghost use Rattle.office_core_orders.specs.Counted.{Counted};
 ghost use Rattle.office_core_orders.specs.Written.{AppendsFront};
 
-use crate::trials::try_body;
-use deb_control::Text;
+use crate::proposals::{propose_for, propose_groups};
+use crate::trials::{request_terms, terms_on, try_body};
+use deb_control::{NoMemory, Text};
 use httparse::spans::{EMPTY_HEADER_SPAN, HeaderSpan, RequestSpans};
+use jiff_core::civil::Date;
 use office_core::Office;
 use office_core_orders::{DeliverFault, Held, Progress, StoreFault, WriteFault, waiting_text};
-use office_core_queries::{MailCount, mail_counts, mail_text, runs_text};
+use office_core_outcome::TrialOptions;
+use office_core_queries::{MailCount, bag_part, mail_counts, mail_text, order_text, runs_text};
 use office_core_replay::settle_behind;
+use office_core_why::WhyText;
 use office_http_requests::routes::routes;
 use office_http_requests::{
     Action, Answer, Asked, BodyRead, FIELD_ROOM, HeadRead, Page, Posted, Refusal, asked_of,
     is_head_method, read_head, read_up_to, write_answer, write_continue,
 };
-use office_mail::{Feed, MailFault, ReadFailed, Setup, Sink};
+use office_mail::{Feed, MailFault, ReadFailed, Setup, Sink, read_message};
 use office_store_keeper::{Keeper, MailText};
 use std::alloc::Global;
 use thiserror::Error;
@@ -111,6 +118,37 @@ fn report_answer(report: Result<Option<Text>, StoreFault>) -> Answer
     }
 }
 
+/// The answer on a source, by what is told of it.
+fn why_answer(told: Result<Option<WhyText>, StoreFault>) -> Answer
+    ensures { result ≡ why_answer told }
+{
+    match told {
+        Ok(Some(why)) => known_answer(why.is_known, why.text),
+        Ok(None) => Answer::Refused(Refusal::NoRun),
+        Err(fault) => Answer::Refused(refusal_for(fault)),
+    }
+}
+
+/// A text on a source, unless unstable hasn't the source.
+fn known_answer(is_known: bool, text: Text) -> Answer
+    ensures { result ≡ if_known is_known text }
+{
+    if is_known {
+        return Answer::Told(text);
+    }
+    drop(text);
+    Answer::Refused(Refusal::NoSource)
+}
+
+fn part_answer(bag: Result<MailText, StoreFault>) -> Answer
+    ensures { result ≡ part_answer bag }
+{
+    match bag {
+        Ok(bag) => Answer::Letter(bag),
+        Err(fault) => Answer::Refused(refusal_for(fault)),
+    }
+}
+
 fn letter_answer(text: Result<Option<MailText>, StoreFault>) -> Answer
     ensures { result ≡ letter_answer text }
 {
@@ -170,8 +208,21 @@ fn counted_text<K: Keeper>(office: &mut Office<K>) -> Result<Text, StoreFault>
     Ok(mail_text(office.alloc(), office.setup(), &counts)?)
 }
 
-/// The text that tells of a source what the last finished run says, none where no run is finished.
-fn source_text<K: Keeper>(office: &mut Office<K>, source: Text) -> Result<Option<Text>, StoreFault>
+/// The text of the next order, on a day, over all mail without a gap.
+fn order_on<K: Keeper>(office: &mut Office<K>, day: Date) -> Result<Text, StoreFault>
+    ensures asks { Asks K.Keeper office.old office.new }
+    ensures text { Holds K.Keeper office.old office.new → IfOk result (λ text. text ≡ order_text (K.setup office.old) (mail_counts (K.setup office.old) (K.content office.old).kept) day) }
+    ensures counted { Counted (K.refusals office.old) (K.refusals office.new) result }
+{
+    let counts = counted_mail(office)?;
+    Ok(order_text(office.alloc(), office.setup(), &counts, day)?)
+}
+
+/// What is told of a source by the last finished run, none where no run is finished.
+fn source_text<K: Keeper>(
+    office: &mut Office<K>,
+    source: Text,
+) -> Result<Option<WhyText>, StoreFault>
     ensures asks { Asks K.Keeper office.old office.new }
     ensures tells { Holds K.Keeper office.old office.new → IfOk result (IsWhy (K.setup office.old) (K.content office.old).kept (state_of K.Keeper office.old).finished source) }
     ensures counted { Counted (K.refusals office.old) (K.refusals office.new) result }
@@ -196,7 +247,13 @@ fn tell<K: Keeper>(office: &mut Office<K>, page: Page) -> Answer
         Page::Runs => text_answer(runs_text(office)),
         Page::Kept => text_answer(counted_text(office)),
         Page::Letter { sender, number } => letter_answer(office.kept_text(sender, number)),
-        Page::Why(source) => report_answer(source_text(office, source)),
+        Page::Bag { sender, from } => part_answer(bag_part(office, sender, from)),
+        Page::Why(source) => why_answer(source_text(office, source)),
+        Page::Order(day) => text_answer(order_on(office, day)),
+        Page::Hints => text_answer(office.hints_text()),
+        Page::Unstable => text_answer(office.unstable_text()),
+        Page::Propose => answer_or(propose_groups(office)),
+        Page::ProposeFor(source) => answer_or(propose_for(office, source)),
     }
 }
 
@@ -220,6 +277,39 @@ fn deliver<K: Keeper>(office: &mut Office<K>, text: &[u8]) -> Answer
     delivery_answer(deliver_and_settle(office, text))
 }
 
+/// Whether a text is a message of another sender. It fails for want of memory alone.
+fn is_of_other(alloc: Global, setup: &Setup, sender: u32, text: &[u8]) -> Result<bool, NoMemory>
+    ensures { IfOk result (λ other. other ≡ is_of_other sender (read setup.now text.now)) }
+{
+    match read_message(alloc, setup, text) {
+        Ok(message) => Ok(message.sender != sender),
+        Err(MailFault::NoMemory) => Err(NoMemory),
+        Err(_) => Ok(false),
+    }
+}
+
+/// Delivers a text that is no message of another sender, settles where it is held, and answers.
+fn deliver_of<K: Keeper>(office: &mut Office<K>, sender: u32, text: &[u8]) -> Answer
+    ensures carries { Preserves K.Keeper office.old office.new }
+    ensures place { HasPlace (K.setup office.old) result }
+    ensures runs { Holds K.Keeper office.old office.new → Runs (state_of K.Keeper office.old) (state_of K.Keeper office.new) (Action.DeliverOf sender) text.now result (StoreRefused K.Keeper office.old office.new) }
+{
+    match is_of_other(office.alloc(), office.setup(), sender, text) {
+        Ok(false) => deliver(office, text),
+        Ok(true) => Answer::Refused(Refusal::OtherSender),
+        Err(_) => Answer::Refused(Refusal::NoMemory),
+    }
+}
+
+/// Answers as a delivery of the text would be answered, and keeps nothing.
+fn look<K: Keeper>(office: &mut Office<K>, text: &[u8]) -> Answer
+    ensures carries { Preserves K.Keeper office.old office.new }
+    ensures place { HasPlace (K.setup office.old) result }
+    ensures runs { Holds K.Keeper office.old office.new → Runs (state_of K.Keeper office.old) (state_of K.Keeper office.new) Action.Look text.now result (StoreRefused K.Keeper office.old office.new) }
+{
+    delivery_answer(office.answer(text))
+}
+
 fn settle<K: Keeper>(office: &mut Office<K>, text: &[u8]) -> Answer
     ensures carries { Preserves K.Keeper office.old office.new }
     ensures place { HasPlace (K.setup office.old) result }
@@ -228,14 +318,14 @@ fn settle<K: Keeper>(office: &mut Office<K>, text: &[u8]) -> Answer
     status_answer(office.settle())
 }
 
-/// Tries the hints of a body. A body that isn't UTF-8 is answered as mail that isn't.
-fn try_bytes<K: Keeper>(office: &mut Office<K>, body: &[u8]) -> Answer
+/// Tries the hints of a body on these terms. A body that isn't UTF-8 is answered as mail that isn't.
+fn try_bytes<K: Keeper>(office: &mut Office<K>, terms: TrialOptions, body: &[u8]) -> Answer
     ensures carries { Preserves K.Keeper office.old office.new }
     ensures place { HasPlace (K.setup office.old) result }
-    ensures runs { Holds K.Keeper office.old office.new → Runs (state_of K.Keeper office.old) (state_of K.Keeper office.new) Action.Try body.now result (StoreRefused K.Keeper office.old office.new) }
+    ensures runs { Holds K.Keeper office.old office.new → (action : Action) → terms_of action ≡ Some terms → Runs (state_of K.Keeper office.old) (state_of K.Keeper office.new) action body.now result (StoreRefused K.Keeper office.old office.new) }
 {
     match str::from_utf8(body) {
-        Ok(text) => answer_or(try_body(office, text)),
+        Ok(text) => answer_or(try_body(office, terms, text)),
         Err(_) => Answer::Delivered(Err(DeliverFault::Mail(MailFault::BadParagraph))),
     }
 }
@@ -248,8 +338,11 @@ fn run<K: Keeper>(office: &mut Office<K>, action: Action, body: &[u8]) -> Answer
 {
     match action {
         Action::Deliver => deliver(office, body),
+        Action::DeliverOf(sender) => deliver_of(office, sender, body),
+        Action::Look => look(office, body),
         Action::Settle => settle(office, body),
-        Action::Try => try_bytes(office, body),
+        Action::Try => try_bytes(office, request_terms(), body),
+        Action::TryOn(day) => try_bytes(office, terms_on(day), body),
     }
 }
 

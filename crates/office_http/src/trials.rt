@@ -2,16 +2,17 @@
 ghost use Rattle.std.specs.Prelude.{◌≡◌, ◌∷◌, [], IfErr, IfOk, slice_index_or};
 ghost use Rattle.office_core_facts.specs.State.{state_of};
 ghost use Rattle.office_http.specs.ServeSteps.{TellsTrial};
-ghost use Rattle.office_http.specs.Trials.{hints_in, refused_line, trial_answer};
+ghost use Rattle.office_http.specs.Trials.{hints_in, refused_line, request_terms, terms_on, trial_answer};
 ghost use Rattle.office_core_orders.specs.Counted.{Counted};
 ghost use Rattle.office_core_orders.specs.Replies.{name_at};
 ghost use Rattle.office_http_requests.specs.Reply.{HasPlace};
 ghost use Rattle.office_core.specs.Preserves.{Asks, Holds};
-ghost use Rattle.office_core_outcome.specs.Hints.{release};
+ghost use Rattle.office_core_facts.specs.Seen.{release};
 ghost use Rattle.testing_rules_reports.specs.LentLines.{lent_lines};
 ghost use Rattle.testing_rules_reports.specs.Tried.{tried_text};
 
 use deb_control::{NoMemory, Text};
+use jiff_core::civil::Date;
 use office_core::Office;
 use office_core_orders::{DeliverFault, StoreFault, fault_words, name_at};
 use office_core_outcome::{
@@ -22,6 +23,26 @@ use office_mail::Setup;
 use office_store_keeper::Keeper;
 use std::alloc::{AllocError, Global};
 use testing_rules_reports::lines_of;
+
+/// What a trial takes that covers the mail of the release team alone, and has no day of its own.
+pub(crate) fn request_terms() -> TrialOptions
+    ensures { result ≡ request_terms }
+{
+    TrialOptions {
+        day: None,
+        all: false,
+    }
+}
+
+/// What a trial takes that covers all mail without a gap, on this day or later.
+pub(crate) fn terms_on(day: Date) -> TrialOptions
+    ensures { result ≡ terms_on day }
+{
+    TrialOptions {
+        day: Some(day),
+        all: true,
+    }
+}
 
 /// Copies of texts.
 fn copies(alloc: Global, texts: &[&str]) -> Result<Vec<Text>, AllocError>
@@ -126,30 +147,34 @@ fn answer_told(
     Ok(answer?)
 }
 
-/// The answer to hints that are tried over the office, for the mail of the release team and with no day of their own.
-fn try_hints<K: Keeper>(office: &mut Office<K>, hints: &[Text]) -> Result<Answer, StoreFault>
+/// The answer to hints that are tried over the office on these terms.
+fn try_hints<K: Keeper>(
+    office: &mut Office<K>,
+    terms: TrialOptions,
+    hints: &[Text],
+) -> Result<Answer, StoreFault>
     ensures asks { Asks K.Keeper office.old office.new }
     ensures place { IfOk result (λ answer. HasPlace (K.setup office.old) answer) }
-    ensures tells { Holds K.Keeper office.old office.new → IfOk result (λ answer. TellsTrial (state_of K.Keeper office.old) hints.now answer) }
+    ensures tells { Holds K.Keeper office.old office.new → IfOk result (λ answer. TellsTrial (state_of K.Keeper office.old) terms hints.now answer) }
     ensures counted { Counted (K.refusals office.old) (K.refusals office.new) result }
 {
-    let terms = TrialOptions {
-        day: None,
-        all: false,
-    };
     let trial = office.try_hints(hints, terms)?;
     answer_told(office.alloc(), office.setup(), hints, trial)
 }
 
-/// The answer to the hints of a body that are tried over the office.
-pub(crate) fn try_body<K: Keeper>(office: &mut Office<K>, body: &str) -> Result<Answer, StoreFault>
+/// The answer to the hints of a body that are tried over the office on these terms.
+pub(crate) fn try_body<K: Keeper>(
+    office: &mut Office<K>,
+    terms: TrialOptions,
+    body: &str,
+) -> Result<Answer, StoreFault>
     ensures asks { Asks K.Keeper office.old office.new }
     ensures place { IfOk result (λ answer. HasPlace (K.setup office.old) answer) }
-    ensures tells { Holds K.Keeper office.old office.new → IfOk result (λ answer. TellsTrial (state_of K.Keeper office.old) (hints_in body.now) answer) }
+    ensures tells { Holds K.Keeper office.old office.new → IfOk result (λ answer. TellsTrial (state_of K.Keeper office.old) terms (hints_in body.now) answer) }
     ensures counted { Counted (K.refusals office.old) (K.refusals office.new) result }
 {
     let hints = hints_in(office.alloc(), body)?;
-    let answer = try_hints(office, &hints);
+    let answer = try_hints(office, terms, &hints);
     drop(hints);
     answer
 }

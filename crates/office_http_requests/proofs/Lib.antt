@@ -1,3 +1,4 @@
+pub mod DayFacts
 pub mod FramingFacts
 pub mod HeadFacts
 pub mod LengthFacts

@@ -1,6 +1,8 @@
 -- A row of bytes alone answers no path but its own, and one that begins with bytes no path that doesn't begin with them.
-use Rattle.std.proofs.Common.{◌≡◌, ◌≢◌, ◌<◌, ℕ, ◌-◌, Bool, true, false, cond, List, [], ◌∷◌, ◌++◌, map, codes, Option, option_map, refl, sym, ap, ◌∙◌, arith, ◌==◌}
+use Rattle.std.proofs.Common.{◌≡◌, ◌≢◌, ◌<◌, ℕ, ◌-◌, Bool, true, false, cond, nat_lt, List, [], ◌∷◌, ◌++◌, map, codes, Option, option_map, refl, sym, ap, ◌∙◌, arith, ◌==◌}
 use Rattle.std.proofs.lemmas.Bool.Decides.{nat_tests}
+use Rattle.std.specs.Cmp.{first_so, second_so}
+use Rattle.std.specs.List.{list_all}
 use Rattle.httparse.specs.Grammar.{RequestHead}
 use Rattle.httparse.specs.Spans.{name_and_value}
 use Rattle.matchit.proofs.OnLiterals.{matchit_on_literals}
@@ -10,9 +12,9 @@ use Rattle.matchit.specs.Router.{RouteOf}
 use Rattle.matchit.specs.Seek.{own, step, or_else, param_step, seek}
 use Rattle.office_mail.specs.Lists.{Lists}
 use Rattle.office_http_requests.specs.Asked.{asked_at, asked_by, asked_by_table, asked_of, framing_of, path_of, post_asked, tell_asked}
-use Rattle.office_http_requests.specs.Routes.{office_routes, six_routes, ten_routes, route_in, route_of, plain, with_letter, with_name}
-use Rattle.office_http_requests.specs.declared.request.Action.TheVariants.{Try}
-use Rattle.office_http_requests.specs.declared.request.Page.TheVariants.{Waiting, Runs, Kept}
+use Rattle.office_http_requests.specs.Routes.{IsBeside, new_fronts, new_paths, office_routes, six_routes, ten_routes, twelve_routes, route_in, route_of, plain, with_letter, with_name}
+use Rattle.office_http_requests.specs.declared.request.Action.TheVariants.{Look, Try}
+use Rattle.office_http_requests.specs.declared.request.Page.TheVariants.{Waiting, Runs, Kept, Hints, Unstable, Propose}
 use Rattle.office_http_requests.specs.declared.routes.Route.{Route}
 use Rattle.office_http_requests.specs.declared.routes.Route.TheVariants as route
 
@@ -119,45 +121,132 @@ try_row = plain (codes "/try") route.Try ∷ []
 abbrev why : RouteOf Route
 why = (with_name (codes "/why/") (codes "/why/{source}") (6, 12) route.Why).1
 
+abbrev why_row : RowsOf (RouteOf Route)
+why_row = with_name (codes "/why/") (codes "/why/{source}") (6, 12) route.Why ∷ []
+
+-- those behind the twelve
+abbrev bag : RouteOf Route
+bag = (with_letter (codes "/bag/") (codes "/bag/{sender}/{from}") ((6, 12) ∷ (15, 19) ∷ []) route.Bag).1
+
+abbrev hints_row : RowsOf (RouteOf Route)
+hints_row = plain (codes "/hints") route.Hints ∷ []
+
+abbrev lint_row : RowsOf (RouteOf Route)
+lint_row = plain (codes "/lint") route.Lint ∷ []
+
+abbrev mail_of : List ℕ × RouteOf Route
+mail_of = with_name (codes "/mail/") (codes "/mail/{sender}") (7, 13) route.MailOf
+
+abbrev order : List ℕ × RouteOf Route
+order = with_name (codes "/order/") (codes "/order/{day}") (8, 11) route.Order
+
+abbrev propose_for : List ℕ × RouteOf Route
+propose_for = with_name (codes "/propose/") (codes "/propose/{source}") (10, 16) route.ProposeFor
+
+abbrev propose_row : RowsOf (RouteOf Route)
+propose_row = plain (codes "/propose") route.Propose ∷ []
+
+abbrev try_on : List ℕ × RouteOf Route
+try_on = with_name (codes "/try/") (codes "/try/{day}") (6, 9) route.TryOn
+
+abbrev unstable_row : RowsOf (RouteOf Route)
+unstable_row = plain (codes "/unstable") route.Unstable ∷ []
+
+-- the rows behind each of these
+abbrev behind_unstable : RowsOf (RouteOf Route)
+behind_unstable = update_row ++ (waiting_row ++ why_row)
+
+abbrev behind_try_on : RowsOf (RouteOf Route)
+behind_try_on = try_row ++ (unstable_row ++ behind_unstable)
+
+abbrev behind_propose : RowsOf (RouteOf Route)
+behind_propose = runs_row ++ (status_rows ++ try_on ∷ behind_try_on)
+
+abbrev behind_order : RowsOf (RouteOf Route)
+behind_order = propose_for ∷ (propose_row ++ behind_propose)
+
+abbrev behind_mail_of : RowsOf (RouteOf Route)
+behind_mail_of = mail_row ++ order ∷ behind_order
+
+abbrev behind_hints : RowsOf (RouteOf Route)
+behind_hints = letter_row ++ (kept_row ++ (lint_row ++ mail_of ∷ behind_mail_of))
+
+-- those in front of them that stay
+abbrev to_kept : RowsOf (RouteOf Route)
+to_kept = excuses_row ++ (letter_row ++ kept_row)
+
+abbrev to_mail : RowsOf (RouteOf Route)
+to_mail = excuses_row ++ (letter_row ++ (kept_row ++ mail_row))
+
 -- the rows in front of that of trials
 abbrev rows_before : RowsOf (RouteOf Route)
 rows_before = excuses_row ++ (letter_row ++ (kept_row ++ (mail_row ++ (runs_row ++ status_rows))))
 
-ten_answer : (path : List ℕ) → path ≢ codes "/try" → ((rest : List ℕ) → path ≢ codes "/why/" ++ rest) → route_of path ≡ route_in ten_routes path
-unfolding office_routes ten_routes
-ten_answer path other beside =
-    let of_try : IsText (codes "/try") = (omega arith, (omega arith, (omega arith, (omega arith, tt)))) in
-    let of_why : IsText (codes "/why/") = (omega arith, (omega arith, (omega arith, (omega arith, (omega arith, tt))))) in
+-- bytes are text
+is_text : (t : List ℕ) → list_all (λ c. nat_lt c 256) t ≡ true → IsText t
+is_text [] h = tt
+is_text (c ∷ t) h =
+    let small : nat_lt c 256 ≡ true = first_so _ _ h in
+    let below : c < 256 = grind (arith, nat_tests) in
+    (below, is_text t (second_so _ _ h))
+
+-- a row of bytes alone, and one that ends in parameters, where the path is beside them
+without : (text path : List ℕ) (rs more : RowsOf (RouteOf Route)) (key : RouteOf Route) → list_all (λ c. nat_lt c 256) text ≡ true → path ≢ text → seek 0 (rs ++ (text, key) ∷ more) path ≡ seek 0 (rs ++ more) path
+without text path rs more key small other = seek_others text path rs more key (is_text text small) other
+
+without_below : (front t path : List ℕ) (rs more : RowsOf (RouteOf Route)) (key : RouteOf Route) → list_all (λ c. nat_lt c 256) front ≡ true → ((rest : List ℕ) → path ≢ front ++ rest) → seek 0 (rs ++ (front ++ t, key) ∷ more) path ≡ seek 0 (rs ++ more) path
+without_below front t path rs more key small beside = seek_beside front t path rs more key (is_text front small) beside
+
+twelve_answer : (path : List ℕ) → IsBeside new_paths new_fronts path → route_of path ≡ route_in twelve_routes path
+unfolding office_routes twelve_routes
+twelve_answer path beside =
+    let texts = beside.0 in
+    let fronts = beside.1 in
     ap (λ (o : Option (RouteOf Route)). option_map (λ (r : RouteOf Route). r.value) o)
-    (seek_beside (codes "/why/") (param_token ∷ []) path (rows_before ++ (try_row ++ (update_row ++ waiting_row))) [] why of_why beside
-    ∙ seek_others (codes "/try") path rows_before (update_row ++ waiting_row) (plain (codes "/try") route.Try).1 of_try other)
+    (without_below (codes "/bag/") (param_token ∷ 47 ∷ param_token ∷ []) path [] (excuses_row ++ (hints_row ++ behind_hints)) bag refl fronts.0
+    ∙ without (codes "/hints") path excuses_row behind_hints (plain (codes "/hints") route.Hints).1 refl texts.0
+    ∙ without (codes "/lint") path to_kept (mail_of ∷ behind_mail_of) (plain (codes "/lint") route.Lint).1 refl texts.1.0
+    ∙ without_below (codes "/mail/") (param_token ∷ []) path to_kept behind_mail_of mail_of.1 refl fronts.1.0
+    ∙ without_below (codes "/order/") (param_token ∷ []) path to_mail behind_order order.1 refl fronts.1.1.0
+    ∙ without_below (codes "/propose/") (param_token ∷ []) path to_mail (propose_row ++ behind_propose) propose_for.1 refl fronts.1.1.1.0
+    ∙ without (codes "/propose") path to_mail behind_propose (plain (codes "/propose") route.Propose).1 refl texts.1.1.0
+    ∙ without_below (codes "/try/") (param_token ∷ []) path rows_before behind_try_on try_on.1 refl fronts.1.1.1.1.0
+    ∙ without (codes "/unstable") path (rows_before ++ try_row) behind_unstable (plain (codes "/unstable") route.Unstable).1 refl texts.1.1.1.0)
+
+ten_answer : (path : List ℕ) → path ≢ codes "/try" → ((rest : List ℕ) → path ≢ codes "/why/" ++ rest) → route_in twelve_routes path ≡ route_in ten_routes path
+unfolding twelve_routes ten_routes
+ten_answer path other beside =
+    ap (λ (o : Option (RouteOf Route)). option_map (λ (r : RouteOf Route). r.value) o)
+    (without_below (codes "/why/") (param_token ∷ []) path (rows_before ++ (try_row ++ (update_row ++ waiting_row))) [] why refl beside
+    ∙ without (codes "/try") path rows_before (update_row ++ waiting_row) (plain (codes "/try") route.Try).1 refl other)
 
 six_answer : (path : List ℕ) → path ≢ codes "/waiting" → path ≢ codes "/runs" → path ≢ codes "/kept" → ((rest : List ℕ) → path ≢ codes "/kept/" ++ rest) → route_in ten_routes path ≡ route_in six_routes path
 unfolding ten_routes six_routes
 six_answer path waiting runs kept below =
-    let of_waiting : IsText (codes "/waiting") = (omega arith, (omega arith, (omega arith, (omega arith, (omega arith, (omega arith, (omega arith, (omega arith, tt)))))))) in
-    let of_runs : IsText (codes "/runs") = (omega arith, (omega arith, (omega arith, (omega arith, (omega arith, tt))))) in
-    let of_below : IsText (codes "/kept/") = (omega arith, (omega arith, (omega arith, (omega arith, (omega arith, (omega arith, tt)))))) in
-    let of_kept : IsText (codes "/kept") = (omega arith, (omega arith, (omega arith, (omega arith, (omega arith, tt))))) in
     ap (λ (o : Option (RouteOf Route)). option_map (λ (r : RouteOf Route). r.value) o)
-    (seek_beside (codes "/kept/") (param_token ∷ 47 ∷ param_token ∷ []) path excuses_row (kept_row ++ (mail_row ++ (runs_row ++ (status_rows ++ (update_row ++ waiting_row))))) letter of_below below
-    ∙ seek_others (codes "/kept") path excuses_row (mail_row ++ (runs_row ++ (status_rows ++ (update_row ++ waiting_row)))) (plain (codes "/kept") route.Kept).1 of_kept kept
-    ∙ seek_others (codes "/runs") path (excuses_row ++ mail_row) (status_rows ++ (update_row ++ waiting_row)) (plain (codes "/runs") route.Runs).1 of_runs runs
-    ∙ seek_others (codes "/waiting") path (excuses_row ++ (mail_row ++ (status_rows ++ update_row))) [] (plain (codes "/waiting") route.Waiting).1 of_waiting waiting)
+    (without_below (codes "/kept/") (param_token ∷ 47 ∷ param_token ∷ []) path excuses_row (kept_row ++ (mail_row ++ (runs_row ++ (status_rows ++ (update_row ++ waiting_row))))) letter refl below
+    ∙ without (codes "/kept") path excuses_row (mail_row ++ (runs_row ++ (status_rows ++ (update_row ++ waiting_row)))) (plain (codes "/kept") route.Kept).1 refl kept
+    ∙ without (codes "/runs") path (excuses_row ++ mail_row) (status_rows ++ (update_row ++ waiting_row)) (plain (codes "/runs") route.Runs).1 refl runs
+    ∙ without (codes "/waiting") path (excuses_row ++ (mail_row ++ (status_rows ++ update_row))) [] (plain (codes "/waiting") route.Waiting).1 refl waiting)
 
 -- the laws
-pub later_stay : (setup : Lists) (head : RequestHead) → path_of head.target ≢ codes "/try" → ((rest : List ℕ) → path_of head.target ≢ codes "/why/" ++ rest) → asked_of setup head ≡ asked_by_table ten_routes setup head
-unfolding asked_of asked_by
-later_stay setup head other beside =
-    let path = path_of head.target in
-    ap (λ (o : Option Route). asked_at setup o head.method path head.minor (framing_of (map name_and_value head.fields))) (ten_answer path other beside)
+by_route : (setup : Lists) (head : RequestHead) (o p : Option Route) → o ≡ p → asked_at setup o head.method (path_of head.target) head.minor (framing_of (map name_and_value head.fields)) ≡ asked_at setup p head.method (path_of head.target) head.minor (framing_of (map name_and_value head.fields))
+by_route setup head o p same = ap (λ (o : Option Route). asked_at setup o head.method (path_of head.target) head.minor (framing_of (map name_and_value head.fields))) same
 
-pub others_stay : (setup : Lists) (head : RequestHead) → path_of head.target ≢ codes "/waiting" → path_of head.target ≢ codes "/runs" → path_of head.target ≢ codes "/kept" → ((rest : List ℕ) → path_of head.target ≢ codes "/kept/" ++ rest)
+pub newer_stay : (setup : Lists) (head : RequestHead) → IsBeside new_paths new_fronts (path_of head.target) → asked_of setup head ≡ asked_by_table twelve_routes setup head
+unfolding asked_of asked_by
+newer_stay setup head beside = by_route setup head (route_of (path_of head.target)) (route_in twelve_routes (path_of head.target)) (twelve_answer (path_of head.target) beside)
+
+pub later_stay : (setup : Lists) (head : RequestHead) → IsBeside new_paths new_fronts (path_of head.target) → path_of head.target ≢ codes "/try" → ((rest : List ℕ) → path_of head.target ≢ codes "/why/" ++ rest) → asked_of setup head ≡ asked_by_table ten_routes setup head
+later_stay setup head beside other below =
+    newer_stay setup head beside
+    ∙ by_route setup head (route_in twelve_routes (path_of head.target)) (route_in ten_routes (path_of head.target)) (ten_answer (path_of head.target) other below)
+
+pub others_stay : (setup : Lists) (head : RequestHead) → IsBeside new_paths new_fronts (path_of head.target) → path_of head.target ≢ codes "/waiting" → path_of head.target ≢ codes "/runs" → path_of head.target ≢ codes "/kept" → ((rest : List ℕ) → path_of head.target ≢ codes "/kept/" ++ rest)
     → path_of head.target ≢ codes "/try" → ((rest : List ℕ) → path_of head.target ≢ codes "/why/" ++ rest) → asked_of setup head ≡ asked_by_table six_routes setup head
-others_stay setup head waiting runs kept below other beside =
-    let path = path_of head.target in
-    later_stay setup head other beside
-    ∙ ap (λ (o : Option Route). asked_at setup o head.method path head.minor (framing_of (map name_and_value head.fields))) (six_answer path waiting runs kept below)
+others_stay setup head beside waiting runs kept below other sources =
+    later_stay setup head beside other sources
+    ∙ by_route setup head (route_in ten_routes (path_of head.target)) (route_in six_routes (path_of head.target)) (six_answer (path_of head.target) waiting runs kept below)
 
 told_at : (setup : Lists) (head : RequestHead) (path : List ℕ) → path_of head.target ≡ path → asked_of setup head ≡ asked_at setup (route_of path) head.method path head.minor (framing_of (map name_and_value head.fields))
 unfolding asked_of asked_by
@@ -178,3 +267,19 @@ kept_told setup head e = told_at setup head (codes "/kept") e
 pub try_told : (setup : Lists) (head : RequestHead) → path_of head.target ≡ codes "/try" → asked_of setup head ≡ post_asked Try head.method head.minor (framing_of (map name_and_value head.fields))
 unfolding office_routes matchit_on_literals
 try_told setup head e = told_at setup head (codes "/try") e
+
+pub hints_told : (setup : Lists) (head : RequestHead) → path_of head.target ≡ codes "/hints" → asked_of setup head ≡ tell_asked Hints head.method
+unfolding office_routes matchit_on_literals
+hints_told setup head e = told_at setup head (codes "/hints") e
+
+pub unstable_told : (setup : Lists) (head : RequestHead) → path_of head.target ≡ codes "/unstable" → asked_of setup head ≡ tell_asked Unstable head.method
+unfolding office_routes matchit_on_literals
+unstable_told setup head e = told_at setup head (codes "/unstable") e
+
+pub propose_told : (setup : Lists) (head : RequestHead) → path_of head.target ≡ codes "/propose" → asked_of setup head ≡ tell_asked Propose head.method
+unfolding office_routes matchit_on_literals
+propose_told setup head e = told_at setup head (codes "/propose") e
+
+pub lint_told : (setup : Lists) (head : RequestHead) → path_of head.target ≡ codes "/lint" → asked_of setup head ≡ post_asked Look head.method head.minor (framing_of (map name_and_value head.fields))
+unfolding office_routes matchit_on_literals
+lint_told setup head e = told_at setup head (codes "/lint") e

@@ -1,27 +1,29 @@
 -- How long a body may be.
 use Rattle.std.proofs.Common.{◌≡◌, ℕ, ◌≤◌, Bool, true, false, ◌&&◌, ◌==◌, ◌+◌, nat_le, List, [], ◌∷◌, take, drop, map, codes, Option, Some, None, refl, cond, arith}
 use Rattle.std.proofs.lemmas.Bool.Decides.{nat_tests}
+use Rattle.std.specs.Option.{option_map_or}
 use Rattle.std.specs.Str.{bytes_eq}
 use Rattle.std.specs.Str.Parse.{digits_value}
 use Rattle.httparse.specs.Grammar.{RequestHead}
 use Rattle.httparse.specs.Spans.{name_and_value}
-use Rattle.deb_control.specs.Relations.{is_package_name}
+use Rattle.jiff_core.specs.declared.civil.date.Date.{Date}
 use Rattle.office_mail.specs.Lists.{Lists}
+use Rattle.office_mail_setup.specs.Values.{day_in, package_in}
 use Rattle.office_http_requests.specs.Routes.{route_of}
 use Rattle.office_http_requests.specs.declared.routes.Route.{Route}
 use Rattle.office_http_requests.specs.declared.routes.Route.TheVariants as route
 use Rattle.office_http_requests.specs.declared.reply.Refusal.{Refusal}
-use Rattle.office_http_requests.specs.declared.reply.Refusal.TheVariants.{NoRoute, OnlyGet, OnlyPost}
+use Rattle.office_http_requests.specs.declared.reply.Refusal.TheVariants.{NoMessage, NoRoute, OnlyGet, OnlyPost}
 use Rattle.office_http_requests.specs.declared.request.Stated.{Stated}
 use Rattle.office_http_requests.specs.declared.request.Stated.TheVariants.{Absent, Bad, TooLong, Exactly}
 use Rattle.office_http_requests.specs.declared.request.Framing.{Framing}
 use Rattle.office_http_requests.specs.declared.request.Action.{Action}
-use Rattle.office_http_requests.specs.declared.request.Action.TheVariants.{Deliver, Settle, Try}
+use Rattle.office_http_requests.specs.declared.request.Action.TheVariants.{Deliver, DeliverOf, Look, Settle, Try, TryOn}
 use Rattle.office_http_requests.specs.declared.request.Page.{Page}
-use Rattle.office_http_requests.specs.declared.request.Page.TheVariants.{Status, Testing, Excuses, Update, Waiting, Runs, Kept, Why}
+use Rattle.office_http_requests.specs.declared.request.Page.TheVariants.{Status, Testing, Excuses, Update, Waiting, Runs, Kept, Bag, Why, Order, Hints, Unstable, Propose, ProposeFor}
 use Rattle.office_http_requests.specs.declared.request.Asked.{Asked}
 use Rattle.office_http_requests.specs.declared.request.Asked.TheVariants.{Refused, Tell}
-use Rattle.office_http_requests.specs.Asked.{Line, are_digits, number_stated, stated, values_named, framing_of, posted_length, posted_by, post_asked, tell_asked, asked_at, asked_by, asked_of, letter_by, path_of, plain_number, sender_place, slash_at, body_size}
+use Rattle.office_http_requests.specs.Asked.{Line, are_digits, number_stated, stated, values_named, framing_of, posted_length, posted_by, post_asked, tell_asked, asked_at, asked_by, asked_of, bag_by, letter_by, numbered_asked, path_of, plain_number, sender_place, slash_at, body_size}
 use Rattle.office_http_requests.specs.Request.{body_room}
 
 abbrev stated_size : Stated → ℕ
@@ -52,7 +54,10 @@ length_fits : (action : Action) (s : Stated) (coded waits : Bool) → stated_siz
 length_fits Settle Absent true waits h = omega arith
 length_fits Settle Absent false waits h = omega arith
 length_fits Deliver Absent coded waits h = omega arith
+length_fits (DeliverOf sender) Absent coded waits h = omega arith
+length_fits Look Absent coded waits h = omega arith
 length_fits Try Absent coded waits h = omega arith
+length_fits (TryOn day) Absent coded waits h = omega arith
 length_fits action Bad coded waits h = omega arith
 length_fits action TooLong true waits h = omega arith
 length_fits action TooLong false waits h = omega arith
@@ -75,10 +80,32 @@ letter_fits : (sender : Option ℕ) (number : ℕ) → body_size (letter_by send
 letter_fits None number = omega arith
 letter_fits (Some sender) number = omega arith
 
+bag_fits : (sender : Option ℕ) (from : ℕ) → body_size (bag_by sender from) ≤ body_room
+bag_fits None from = omega arith
+bag_fits (Some sender) from = go (from == 0)
+  where
+    go : (b : Bool) → body_size (cond b (Refused NoMessage) (Tell (Bag sender from))) ≤ body_room
+    go true = omega arith
+    go false = omega arith
+
+numbered_fits : (ask : Option ℕ → ℕ → Asked) (setup : Lists) (text method : List ℕ) → ((sender : Option ℕ) (number : ℕ) → body_size (ask sender number) ≤ body_room) → body_size (numbered_asked ask setup text method) ≤ body_room
+numbered_fits ask setup text method each =
+    if_fits (bytes_eq method (codes "GET")) (ask (sender_place setup (take (slash_at text) text)) (plain_number (drop (slash_at text + 1) text))) OnlyGet
+    (each (sender_place setup (take (slash_at text) text)) (plain_number (drop (slash_at text + 1) text)))
+
+-- what is asked by a part of the path, or nothing
+or_fits : {V : Type 0} (ask : V → Asked) (o : Option V) → ((v : V) → body_size (ask v) ≤ body_room) → body_size (option_map_or ask o (Refused NoRoute)) ≤ body_room
+or_fits ask None each = omega arith
+or_fits ask (Some v) each = each v
+
 asked_fits : (setup : Lists) (o : Option Route) (method path : List ℕ) (minor : ℕ) (framing : Framing) → stated_size framing.length ≤ body_room → body_size (asked_at setup o method path minor framing) ≤ body_room
 asked_fits setup None method path minor framing h = omega arith
 asked_fits setup (Some route.Mail) method path minor framing h = post_fits Deliver method minor framing h
+asked_fits setup (Some route.MailOf) method path minor framing h = or_fits (λ (sender : ℕ). post_asked (DeliverOf sender) method minor framing) (sender_place setup (drop 6 path)) (λ sender. post_fits (DeliverOf sender) method minor framing h)
+asked_fits setup (Some route.Lint) method path minor framing h = post_fits Look method minor framing h
 asked_fits setup (Some route.Settle) method path minor framing h = post_fits Settle method minor framing h
+asked_fits setup (Some route.Try) method path minor framing h = post_fits Try method minor framing h
+asked_fits setup (Some route.TryOn) method path minor framing h = or_fits (λ (day : Date). post_asked (TryOn day) method minor framing) (day_in (drop 5 path)) (λ day. post_fits (TryOn day) method minor framing h)
 asked_fits setup (Some route.Status) method path minor framing h = tell_fits Status method
 asked_fits setup (Some route.Testing) method path minor framing h = tell_fits Testing method
 asked_fits setup (Some route.Excuses) method path minor framing h = tell_fits _ method
@@ -86,11 +113,14 @@ asked_fits setup (Some route.Update) method path minor framing h = tell_fits _ m
 asked_fits setup (Some route.Waiting) method path minor framing h = tell_fits Waiting method
 asked_fits setup (Some route.Runs) method path minor framing h = tell_fits Runs method
 asked_fits setup (Some route.Kept) method path minor framing h = tell_fits Kept method
-asked_fits setup (Some route.Letter) method path minor framing h =
-    let text = drop 6 path in
-    if_fits (bytes_eq method (codes "GET")) (letter_by (sender_place setup (take (slash_at text) text)) (plain_number (drop (slash_at text + 1) text))) OnlyGet (letter_fits (sender_place setup (take (slash_at text) text)) (plain_number (drop (slash_at text + 1) text)))
-asked_fits setup (Some route.Why) method path minor framing h = if_fits (is_package_name (drop 5 path)) (tell_asked (Why (drop 5 path)) method) NoRoute (tell_fits (Why (drop 5 path)) method)
-asked_fits setup (Some route.Try) method path minor framing h = post_fits Try method minor framing h
+asked_fits setup (Some route.Letter) method path minor framing h = numbered_fits letter_by setup (drop 6 path) method letter_fits
+asked_fits setup (Some route.Bag) method path minor framing h = numbered_fits bag_by setup (drop 5 path) method bag_fits
+asked_fits setup (Some route.Why) method path minor framing h = or_fits (λ (source : List ℕ). tell_asked (Why source) method) (package_in (drop 5 path)) (λ source. tell_fits (Why source) method)
+asked_fits setup (Some route.Order) method path minor framing h = or_fits (λ (day : Date). tell_asked (Order day) method) (day_in (drop 7 path)) (λ day. tell_fits (Order day) method)
+asked_fits setup (Some route.Hints) method path minor framing h = tell_fits Hints method
+asked_fits setup (Some route.Unstable) method path minor framing h = tell_fits Unstable method
+asked_fits setup (Some route.Propose) method path minor framing h = tell_fits Propose method
+asked_fits setup (Some route.ProposeFor) method path minor framing h = or_fits (λ (source : List ℕ). tell_asked (ProposeFor source) method) (package_in (drop 9 path)) (λ source. tell_fits (ProposeFor source) method)
 
 -- no body that is read is longer than 65,536 bytes
 pub body_fits : (setup : Lists) (head : RequestHead) → body_size (asked_of setup head) ≤ body_room

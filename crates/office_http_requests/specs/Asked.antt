@@ -1,7 +1,7 @@
 -- What a request asks for, by its head.
 use Rattle.std.specs.Prelude.{ℕ, ◌^◌, Bool, true, false, ◌&&◌, ◌==◌, nat_le, nat_lt, if◌then◌else◌, List, [], ◌∷◌, drop, take, length, ◌+◌, map, codes, Option, Some, None, Result, Ok, Err, unwrap_or}
 use Rattle.std.specs.List.{list_all, list_any, before_first, position}
-use Rattle.std.specs.Option.{option_map}
+use Rattle.std.specs.Option.{option_map, option_map_or}
 use Rattle.std.specs.Char.{is_ascii_digit}
 use Rattle.std.specs.Str.{bytes_eq, str_eq_ignore_ascii_case}
 use Rattle.std.specs.Str.Parse.{digits_value}
@@ -9,9 +9,10 @@ use Rattle.httparse.specs.Grammar.{RequestHead}
 use Rattle.httparse.specs.Spans.{name_and_value}
 use Rattle.matchit.specs.Rows.{RowsOf}
 use Rattle.matchit.specs.Router.{RouteOf}
-use Rattle.deb_control.specs.Relations.{is_package_name}
 use Rattle.office_mail.specs.Lists.{Lists}
 use Rattle.office_mail.specs.Read.{sender_named}
+use Rattle.jiff_core.specs.declared.civil.date.Date.{Date}
+use Rattle.office_mail_setup.specs.Values.{day_in, package_in}
 use Rattle.office_mail_setup.specs.declared.setup.Role.{Role}
 use Rattle.office_http_requests.specs.Routes.{route_in, route_of}
 use Rattle.office_http_requests.specs.declared.routes.Route.{Route}
@@ -23,9 +24,9 @@ use Rattle.office_http_requests.specs.declared.request.Stated.{Stated}
 use Rattle.office_http_requests.specs.declared.request.Stated.TheVariants.{Absent, Bad, TooLong, Exactly}
 use Rattle.office_http_requests.specs.declared.request.Framing.{Framing}
 use Rattle.office_http_requests.specs.declared.request.Action.{Action}
-use Rattle.office_http_requests.specs.declared.request.Action.TheVariants.{Deliver, Settle, Try}
+use Rattle.office_http_requests.specs.declared.request.Action.TheVariants.{Deliver, DeliverOf, Look, Settle, Try, TryOn}
 use Rattle.office_http_requests.specs.declared.request.Page.{Page}
-use Rattle.office_http_requests.specs.declared.request.Page.TheVariants.{Status, Testing, Excuses, Update, Waiting, Runs, Kept, Letter, Why}
+use Rattle.office_http_requests.specs.declared.request.Page.TheVariants.{Status, Testing, Excuses, Update, Waiting, Runs, Kept, Letter, Why, Bag, Order, Hints, Unstable, Propose, ProposeFor}
 use Rattle.office_http_requests.specs.declared.request.Asked.{Asked}
 use Rattle.office_http_requests.specs.declared.request.Asked.TheVariants.{Refused, Tell, Post}
 
@@ -116,7 +117,10 @@ plain_number text = if has_leading_zero text then 0 else number_or_zero text
 abbrev pub absent_length : Action → Bool → Result ℕ Refusal
 absent_length Settle coded = if coded then Err LengthRequired else Ok 0
 absent_length Deliver coded = Err LengthRequired
+absent_length (DeliverOf sender) coded = Err LengthRequired
+absent_length Look coded = Err LengthRequired
 absent_length Try coded = Err LengthRequired
+absent_length (TryOn day) coded = Err LengthRequired
 
 abbrev pub posted_length : Action → Stated → Bool → Result ℕ Refusal
 posted_length action Absent coded = absent_length action coded
@@ -153,21 +157,40 @@ abbrev pub letter_by : Option ℕ → ℕ → Asked
 letter_by None number = Refused NoMessage
 letter_by (Some sender) number = Tell (Letter sender number)
 
+-- the kept mail of a sender from a number on, as a bag; a name of no sender, and what is no message's number, are refused
+abbrev pub bag_by : Option ℕ → ℕ → Asked
+bag_by None from = Refused NoMessage
+bag_by (Some sender) from = if from == 0 then Refused NoMessage else Tell (Bag sender from)
+
 -- what a GET asks for by a sender's name and a number, with a slash between them
-abbrev pub letter_asked : Lists → List ℕ → List ℕ → Asked
-letter_asked setup text method =
-    if bytes_eq method (codes "GET") then letter_by (sender_place setup (take (slash_at text) text)) (plain_number (drop (slash_at text + 1) text)) else Refused OnlyGet
+abbrev pub numbered_asked : (Option ℕ → ℕ → Asked) → Lists → List ℕ → List ℕ → Asked
+numbered_asked ask setup text method =
+    if bytes_eq method (codes "GET") then ask (sender_place setup (take (slash_at text) text)) (plain_number (drop (slash_at text + 1) text)) else Refused OnlyGet
+
+-- a POST to the mail of a sender; the path of a name of no sender is the path of nothing
+abbrev pub mail_of_asked : Lists → List ℕ → List ℕ → ℕ → Framing → Asked
+mail_of_asked setup name method minor framing =
+    option_map_or (λ sender. post_asked (DeliverOf sender) method minor framing) (sender_place setup name) (Refused NoRoute)
 
 -- what a GET asks for by the name of a source (Debian Policy 5.6.1); any other text there is the path of nothing
-abbrev pub why_asked : List ℕ → List ℕ → Asked
-why_asked name method = if is_package_name name then tell_asked (Why name) method else Refused NoRoute
+abbrev pub source_asked : (List ℕ → Page) → List ℕ → List ℕ → Asked
+source_asked tell name method = option_map_or (λ source. tell_asked (tell source) method) (package_in name) (Refused NoRoute)
 
--- By the route of the path. A report names its run behind the second slash, a kept text its sender there, and then its
--- number; what is told of a source names the source there.
+-- what is asked for by a day (ISO 8601); any other text there is the path of nothing
+abbrev pub day_asked : (Date → Asked) → List ℕ → Asked
+day_asked ask text = option_map_or ask (day_in text) (Refused NoRoute)
+
+-- By the route of the path. A report names its run behind the second slash; a kept text, and a part of the kept mail, its
+-- sender there, and then a number. Mail of a sender names the sender there, what is told of a source the source, and an
+-- order and a trial their day.
 abbrev pub asked_at : Lists → Option Route → List ℕ → List ℕ → ℕ → Framing → Asked
 asked_at setup None method path minor framing = Refused NoRoute
 asked_at setup (Some route.Mail) method path minor framing = post_asked Deliver method minor framing
+asked_at setup (Some route.MailOf) method path minor framing = mail_of_asked setup (drop 6 path) method minor framing
+asked_at setup (Some route.Lint) method path minor framing = post_asked Look method minor framing
 asked_at setup (Some route.Settle) method path minor framing = post_asked Settle method minor framing
+asked_at setup (Some route.Try) method path minor framing = post_asked Try method minor framing
+asked_at setup (Some route.TryOn) method path minor framing = day_asked (λ day. post_asked (TryOn day) method minor framing) (drop 5 path)
 asked_at setup (Some route.Status) method path minor framing = tell_asked Status method
 asked_at setup (Some route.Testing) method path minor framing = tell_asked Testing method
 asked_at setup (Some route.Excuses) method path minor framing = tell_asked (Excuses (plain_number (drop 9 path))) method
@@ -175,9 +198,14 @@ asked_at setup (Some route.Update) method path minor framing = tell_asked (Updat
 asked_at setup (Some route.Waiting) method path minor framing = tell_asked Waiting method
 asked_at setup (Some route.Runs) method path minor framing = tell_asked Runs method
 asked_at setup (Some route.Kept) method path minor framing = tell_asked Kept method
-asked_at setup (Some route.Letter) method path minor framing = letter_asked setup (drop 6 path) method
-asked_at setup (Some route.Why) method path minor framing = why_asked (drop 5 path) method
-asked_at setup (Some route.Try) method path minor framing = post_asked Try method minor framing
+asked_at setup (Some route.Letter) method path minor framing = numbered_asked letter_by setup (drop 6 path) method
+asked_at setup (Some route.Bag) method path minor framing = numbered_asked bag_by setup (drop 5 path) method
+asked_at setup (Some route.Why) method path minor framing = source_asked Why (drop 5 path) method
+asked_at setup (Some route.Order) method path minor framing = day_asked (λ day. tell_asked (Order day) method) (drop 7 path)
+asked_at setup (Some route.Hints) method path minor framing = tell_asked Hints method
+asked_at setup (Some route.Unstable) method path minor framing = tell_asked Unstable method
+asked_at setup (Some route.Propose) method path minor framing = tell_asked Propose method
+asked_at setup (Some route.ProposeFor) method path minor framing = source_asked ProposeFor (drop 9 path) method
 
 unfoldable pub asked_by : Lists → List ℕ → List ℕ → ℕ → Framing → Asked
 asked_by setup method target minor framing = asked_at setup (route_of (path_of target)) method (path_of target) minor framing

@@ -4,21 +4,29 @@ ghost use Rattle.httparse.specs.Grammar.{RequestHead};
 ghost use Rattle.httparse.specs.Spans.{name_and_value};
 ghost use Rattle.office_mail.specs.Lists.{Lists};
 ghost use Rattle.office_http_requests.specs.Asked.{asked_by_table, asked_of, framing_of, path_of, post_asked, tell_asked};
-ghost use Rattle.office_http_requests.specs.Routes.{six_routes, ten_routes};
-ghost use Rattle.office_http_requests.specs.declared.request.Action.TheVariants.{Try};
-ghost use Rattle.office_http_requests.specs.declared.request.Page.TheVariants.{Waiting, Runs, Kept};
+ghost use Rattle.office_http_requests.specs.Routes.{IsBeside, new_fronts, new_paths, six_routes, ten_routes, twelve_routes};
+ghost use Rattle.office_http_requests.specs.declared.request.Action.TheVariants.{Look, Try};
+ghost use Rattle.office_http_requests.specs.declared.request.Page.TheVariants.{Waiting, Runs, Kept, Hints, Unstable, Propose};
 
-/// The routes `/waiting`, `/runs`, `/kept` and `/try`, and those below `/kept/` and `/why/`, leave what the other paths ask
-/// for.
+/// The routes that came behind the first six leave what the other paths ask for.
 pub fn old_requests_stay()
-    ensures others { (setup : Lists) (head : RequestHead) → path_of head.target ≢ codes "/waiting" → path_of head.target ≢ codes "/runs" → path_of head.target ≢ codes "/kept" → ((rest : List ℕ) → path_of head.target ≢ codes "/kept/" ++ rest)
+    // Those behind the first twelve, which are `/lint`, `/hints`, `/unstable` and `/propose`, and those below `/mail/`, `/bag/`,
+    // `/order/`, `/try/` and `/propose/`, leave what all other paths ask for.
+    ensures newer { (setup : Lists) (head : RequestHead) → IsBeside new_paths new_fronts (path_of head.target) → asked_of setup head ≡ asked_by_table twelve_routes setup head }
+    // So do `/try` and those below `/why/`.
+    ensures later { (setup : Lists) (head : RequestHead) → IsBeside new_paths new_fronts (path_of head.target) → path_of head.target ≢ codes "/try" → ((rest : List ℕ) → path_of head.target ≢ codes "/why/" ++ rest) → asked_of setup head ≡ asked_by_table ten_routes setup head }
+    // So do `/waiting`, `/runs`, `/kept` and those below `/kept/`.
+    ensures others { (setup : Lists) (head : RequestHead) → IsBeside new_paths new_fronts (path_of head.target) → path_of head.target ≢ codes "/waiting" → path_of head.target ≢ codes "/runs" → path_of head.target ≢ codes "/kept" → ((rest : List ℕ) → path_of head.target ≢ codes "/kept/" ++ rest)
         → path_of head.target ≢ codes "/try" → ((rest : List ℕ) → path_of head.target ≢ codes "/why/" ++ rest) → asked_of setup head ≡ asked_by_table six_routes setup head }
-    // The last two of them leave what all others ask for, those of kept mail too.
-    ensures later { (setup : Lists) (head : RequestHead) → path_of head.target ≢ codes "/try" → ((rest : List ℕ) → path_of head.target ≢ codes "/why/" ++ rest) → asked_of setup head ≡ asked_by_table ten_routes setup head }
-    // There a GET asks what a run waits for, for the finished runs, or how much mail is kept, and other methods are refused.
+    // There a GET asks what a run waits for, for the finished runs, how much mail is kept, for the hints in force, for
+    // unstable, or for hints that move groups, and other methods are refused.
     ensures waiting { (setup : Lists) (head : RequestHead) → path_of head.target ≡ codes "/waiting" → asked_of setup head ≡ tell_asked Waiting head.method }
     ensures runs { (setup : Lists) (head : RequestHead) → path_of head.target ≡ codes "/runs" → asked_of setup head ≡ tell_asked Runs head.method }
     ensures kept { (setup : Lists) (head : RequestHead) → path_of head.target ≡ codes "/kept" → asked_of setup head ≡ tell_asked Kept head.method }
-    // There a POST asks for a trial of hints.
+    ensures in_force { (setup : Lists) (head : RequestHead) → path_of head.target ≡ codes "/hints" → asked_of setup head ≡ tell_asked Hints head.method }
+    ensures unstable { (setup : Lists) (head : RequestHead) → path_of head.target ≡ codes "/unstable" → asked_of setup head ≡ tell_asked Unstable head.method }
+    ensures proposals { (setup : Lists) (head : RequestHead) → path_of head.target ≡ codes "/propose" → asked_of setup head ≡ tell_asked Propose head.method }
+    // There a POST asks for a trial of hints, or how a delivery would be answered.
     ensures hints { (setup : Lists) (head : RequestHead) → path_of head.target ≡ codes "/try" → asked_of setup head ≡ post_asked Try head.method head.minor (framing_of (map name_and_value head.fields)) }
+    ensures looks { (setup : Lists) (head : RequestHead) → path_of head.target ≡ codes "/lint" → asked_of setup head ≡ post_asked Look head.method head.minor (framing_of (map name_and_value head.fields)) }
 {}

@@ -1,10 +1,10 @@
-//! What a path asks for that names a kept text by its sender and its number.
-ghost use Rattle.std.specs.Prelude.{◌≡◌, ◌<◌, ◌≤◌, IfSome, length};
+//! What a path asks for that names a sender, and perhaps a number of its mail.
+ghost use Rattle.std.specs.Prelude.{◌≡◌, ◌<◌, ◌≤◌, ◌+◌, IfSome, drop, length, take};
 ghost use Rattle.std.specs.List.{position};
-ghost use Rattle.office_http_requests.specs.Asked.{is_slash, letter_asked, sender_place, slash_at};
+ghost use Rattle.office_http_requests.specs.Asked.{bag_by, is_slash, letter_by, mail_of_asked, numbered_asked, plain_number, sender_place, slash_at};
 
 use crate::reply::Refusal;
-use crate::request::{Asked, Page, plain_number};
+use crate::request::{Action, Asked, Framing, Page, plain_number, post_asked};
 use office_mail::Setup;
 use std::cmp::min;
 
@@ -41,21 +41,56 @@ fn sender_place(setup: &Setup, name: &[u8]) -> Option<u32>
     None
 }
 
-/// What is asked for by a sender's name and a number, with a slash between them.
+/// The place of a sender and a number, whose texts a slash separates.
+fn sender_and_number(setup: &Setup, text: &[u8]) -> (Option<u32>, u32)
+    ensures sender { result.0 ≡ sender_place setup.now (take (slash_at text.now) text.now) }
+    ensures number { result.1 ≡ plain_number (drop (slash_at text.now + 1) text.now) }
+{
+    let slash = slash_at(text);
+    let (name, _) = text.split_at(slash);
+    let (_, number) = text.split_at(min(slash + 1, text.len()));
+    (sender_place(setup, name), plain_number(number))
+}
+
+/// The kept text that is asked for by a sender's name and a number, with a slash between them.
 pub fn letter_asked(setup: &Setup, text: &[u8], method: &[u8]) -> Asked
-    ensures { result ≡ letter_asked setup.now text.now method.now }
+    ensures { result ≡ numbered_asked letter_by setup.now text.now method.now }
 {
     if method != b"GET".as_slice() {
         return Asked::Refused(Refusal::OnlyGet);
     }
-    let slash = slash_at(text);
-    let (name, _) = text.split_at(slash);
-    let (_, number) = text.split_at(min(slash + 1, text.len()));
+    match sender_and_number(setup, text) {
+        (Some(sender), number) => Asked::Tell(Page::Letter { sender, number }),
+        (None, _) => Asked::Refused(Refusal::NoMessage),
+    }
+}
+
+/// The part of a sender's kept mail that is asked for by its name and the number from which it goes on, with a slash
+/// between them.
+pub fn bag_asked(setup: &Setup, text: &[u8], method: &[u8]) -> Asked
+    ensures { result ≡ numbered_asked bag_by setup.now text.now method.now }
+{
+    if method != b"GET".as_slice() {
+        return Asked::Refused(Refusal::OnlyGet);
+    }
+    match sender_and_number(setup, text) {
+        (Some(sender), from) if from > 0 => Asked::Tell(Page::Bag { sender, from }),
+        _ => Asked::Refused(Refusal::NoMessage),
+    }
+}
+
+/// What is asked for by a sender's name behind the path of mail.
+pub fn mail_of_asked(
+    setup: &Setup,
+    name: &[u8],
+    method: &[u8],
+    minor: u8,
+    framing: Framing,
+) -> Asked
+    ensures { result ≡ mail_of_asked setup.now name.now method.now minor framing }
+{
     match sender_place(setup, name) {
-        None => Asked::Refused(Refusal::NoMessage),
-        Some(sender) => Asked::Tell(Page::Letter {
-            sender,
-            number: plain_number(number),
-        }),
+        Some(sender) => post_asked(Action::DeliverOf(sender), method, minor, framing),
+        None => Asked::Refused(Refusal::NoRoute),
     }
 }

@@ -1,6 +1,7 @@
 //! What a request of the service asks for, and the bytes of its reply (RFC 9110, RFC 9112).
 #![tactic(auto)]
 
+mod days;
 mod head;
 pub mod laws;
 mod letters;

@@ -23,6 +23,10 @@ pub enum Refusal {
     NoRun,
     /// No text is kept under that sender's number, or there is no such sender.
     NoMessage,
+    /// The last finished run says nothing of a source of that name.
+    NoSource,
+    /// The text is a message of another sender than the path names.
+    OtherSender,
     /// The path takes GET alone.
     OnlyGet,
     /// The path takes POST alone.
@@ -45,6 +49,8 @@ impl Refusal {
             Refusal::NoRoute => "NoRoute",
             Refusal::NoRun => "NoRun",
             Refusal::NoMessage => "NoMessage",
+            Refusal::NoSource => "NoSource",
+            Refusal::OtherSender => "OtherSender",
             Refusal::OnlyGet => "MethodNotAllowed",
             Refusal::OnlyPost => "MethodNotAllowed",
             Refusal::LengthRequired => "LengthRequired",
@@ -64,6 +70,8 @@ impl Refusal {
             Refusal::NoRoute => StatusCode::NOT_FOUND,
             Refusal::NoRun => StatusCode::NOT_FOUND,
             Refusal::NoMessage => StatusCode::NOT_FOUND,
+            Refusal::NoSource => StatusCode::NOT_FOUND,
+            Refusal::OtherSender => StatusCode::FORBIDDEN,
             Refusal::OnlyGet => StatusCode::METHOD_NOT_ALLOWED,
             Refusal::OnlyPost => StatusCode::METHOD_NOT_ALLOWED,
             Refusal::LengthRequired => StatusCode::LENGTH_REQUIRED,

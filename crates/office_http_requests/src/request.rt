@@ -9,12 +9,14 @@ ghost use Rattle.office_http_requests.specs.Asked.{are_digits, number_under, num
 ghost use Rattle.office_http_requests.specs.Routes.{office_routes, route_of};
 ghost use Rattle.office_http_requests.specs.Request.{field_room};
 
-use crate::letters::letter_asked;
+use crate::days::{order_asked, try_on_asked};
+use crate::letters::{bag_asked, letter_asked, mail_of_asked};
 use crate::reply::Refusal;
 use crate::routes::{Route, find_route};
-use crate::sources::why_asked;
+use crate::sources::{propose_asked, why_asked};
 use deb_control::Text;
 use httparse::spans::{HeaderSpan, RequestSpans};
+use jiff_core::civil::Date;
 use matchit::Router;
 use office_mail::Setup;
 use std::alloc::{AllocError, Global};
@@ -47,9 +49,15 @@ pub struct Framing {
 #[derive(Clone, Copy, Debug, PartialEq, Eq)]
 pub enum Action {
     Deliver,
+    /// Delivers a text of the sender at a place of the setup, and of no other.
+    DeliverOf(u32),
+    /// Answers as a delivery, and keeps nothing.
+    Look,
     Settle,
     /// Tries the hints in the lines of the body.
     Try,
+    /// Tries them over all mail without a gap, in a run on this day or later.
+    TryOn(Date),
 }
 
 /// A POST: what it is for, how long its body is, and whether the client waits for `100 Continue`.
@@ -75,8 +83,20 @@ pub enum Page {
     Kept,
     /// The kept text of a number of a sender, who is told by its place in the setup.
     Letter { sender: u32, number: u32 },
+    /// The kept texts of a sender from a number on, as a bag: as many as fit into one body.
+    Bag { sender: u32, from: u32 },
     /// What is told of the source of a name.
     Why(Text),
+    /// An order on this day over all mail without a gap.
+    Order(Date),
+    /// The hints in force, by all mail without a gap.
+    Hints,
+    /// Unstable by all mail without a gap.
+    Unstable,
+    /// Hints that move groups of sources.
+    Propose,
+    /// Hints that free the source of a name, or what shows that none does.
+    ProposeFor(Text),
 }
 
 /// What a request asks for.
@@ -285,7 +305,10 @@ fn absent_length(action: Action, coded: bool) -> Result<u32, Refusal>
             }
         }
         Action::Deliver => Err(Refusal::LengthRequired),
+        Action::DeliverOf(_) => Err(Refusal::LengthRequired),
+        Action::Look => Err(Refusal::LengthRequired),
         Action::Try => Err(Refusal::LengthRequired),
+        Action::TryOn(_) => Err(Refusal::LengthRequired),
     }
 }
 
@@ -314,7 +337,7 @@ fn posted_length(action: Action, length: Stated, coded: bool) -> Result<u32, Ref
 }
 
 /// What is asked for on a route that takes POST.
-fn post_asked(action: Action, method: &[u8], minor: u8, framing: Framing) -> Asked
+pub(crate) fn post_asked(action: Action, method: &[u8], minor: u8, framing: Framing) -> Asked
     ensures { result ≡ post_asked action method.now minor framing }
 {
     if method != b"POST".as_slice() {
@@ -355,7 +378,11 @@ fn asked_at(
 {
     match route {
         Route::Mail => Ok(post_asked(Action::Deliver, method, minor, framing)),
+        Route::MailOf => Ok(mail_of_asked(setup, behind(path, 6), method, minor, framing)),
+        Route::Lint => Ok(post_asked(Action::Look, method, minor, framing)),
         Route::Settle => Ok(post_asked(Action::Settle, method, minor, framing)),
+        Route::Try => Ok(post_asked(Action::Try, method, minor, framing)),
+        Route::TryOn => Ok(try_on_asked(path, method, minor, framing)),
         Route::Status => Ok(tell_asked(Page::Status, method)),
         Route::Testing => Ok(tell_asked(Page::Testing, method)),
         Route::Excuses => Ok(tell_asked(Page::Excuses(run_in(path, 9)), method)),
@@ -364,8 +391,13 @@ fn asked_at(
         Route::Runs => Ok(tell_asked(Page::Runs, method)),
         Route::Kept => Ok(tell_asked(Page::Kept, method)),
         Route::Letter => Ok(letter_asked(setup, behind(path, 6), method)),
+        Route::Bag => Ok(bag_asked(setup, behind(path, 5), method)),
         Route::Why => why_asked(alloc, path, method),
-        Route::Try => Ok(post_asked(Action::Try, method, minor, framing)),
+        Route::Order => Ok(order_asked(path, method)),
+        Route::Hints => Ok(tell_asked(Page::Hints, method)),
+        Route::Unstable => Ok(tell_asked(Page::Unstable, method)),
+        Route::Propose => Ok(tell_asked(Page::Propose, method)),
+        Route::ProposeFor => propose_asked(alloc, path, method),
     }
 }
 

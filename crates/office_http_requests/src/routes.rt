@@ -1,6 +1,6 @@
 //! Where requests go.
 ghost use Rattle.std.specs.Prelude.{◌≡◌, [], IfOk, OnOk};
-ghost use Rattle.office_http_requests.specs.Routes.{office_routes, route_of, six_routes, ten_routes};
+ghost use Rattle.office_http_requests.specs.Routes.{office_routes, route_of, seventeen_routes, six_routes, ten_routes, twelve_routes};
 
 use matchit::{InsertError, Router};
 use std::alloc::Global;
@@ -9,7 +9,13 @@ use std::alloc::Global;
 #[derive(Clone, Copy, Debug, PartialEq, Eq)]
 pub enum Route {
     Mail,
+    /// The mail of one sender.
+    MailOf,
+    Lint,
     Settle,
+    Try,
+    /// A trial on a day.
+    TryOn,
     Status,
     Testing,
     Excuses,
@@ -18,8 +24,14 @@ pub enum Route {
     Runs,
     Kept,
     Letter,
+    Bag,
     Why,
-    Try,
+    Order,
+    Hints,
+    Unstable,
+    Propose,
+    /// Proposals for a source.
+    ProposeFor,
 }
 
 /// Puts the routes of mail and of what runs left into an empty table.
@@ -48,6 +60,42 @@ fn insert_asking(router: &mut Router<Route>) -> Result<(), InsertError>
     Ok(())
 }
 
+/// Puts those of sources and of trials beside them.
+fn insert_trials(router: &mut Router<Route>) -> Result<(), InsertError>
+    requires { router.old ≡ ten_routes }
+    ensures { OnOk result (router.new ≡ twelve_routes) }
+{
+    router.insert("/why/{source}", Route::Why)?;
+    router.insert("/try", Route::Try)?;
+    Ok(())
+}
+
+/// Puts those of the mail of one sender, of texts that are only looked at, of parts of the kept mail, of the next order and
+/// of a trial on a day beside them.
+fn insert_parts(router: &mut Router<Route>) -> Result<(), InsertError>
+    requires { router.old ≡ twelve_routes }
+    ensures { OnOk result (router.new ≡ seventeen_routes) }
+{
+    router.insert("/mail/{sender}", Route::MailOf)?;
+    router.insert("/lint", Route::Lint)?;
+    router.insert("/bag/{sender}/{from}", Route::Bag)?;
+    router.insert("/order/{day}", Route::Order)?;
+    router.insert("/try/{day}", Route::TryOn)?;
+    Ok(())
+}
+
+/// Puts those of hints, of unstable and of proposals beside them.
+fn insert_hints(router: &mut Router<Route>) -> Result<(), InsertError>
+    requires { router.old ≡ seventeen_routes }
+    ensures { OnOk result (router.new ≡ office_routes) }
+{
+    router.insert("/hints", Route::Hints)?;
+    router.insert("/unstable", Route::Unstable)?;
+    router.insert("/propose", Route::Propose)?;
+    router.insert("/propose/{source}", Route::ProposeFor)?;
+    Ok(())
+}
+
 /// The table of routes.
 pub fn routes(alloc: Global) -> Result<Router<Route>, InsertError>
     ensures { IfOk result (λ router. router ≡ office_routes) }
@@ -55,8 +103,9 @@ pub fn routes(alloc: Global) -> Result<Router<Route>, InsertError>
     let mut router = Router::new(alloc);
     insert_first(&mut router)?;
     insert_asking(&mut router)?;
-    router.insert("/why/{source}", Route::Why)?;
-    router.insert("/try", Route::Try)?;
+    insert_trials(&mut router)?;
+    insert_parts(&mut router)?;
+    insert_hints(&mut router)?;
     Ok(router)
 }
 

@@ -1,24 +1,43 @@
 //! What a path asks for that names a source.
 ghost use Rattle.std.specs.Prelude.{◌≡◌, IfOk, drop};
-ghost use Rattle.office_http_requests.specs.Asked.{why_asked};
+ghost use Rattle.office_mail_setup.specs.Values.{package_in};
+ghost use Rattle.office_http_requests.specs.Asked.{source_asked};
 
 use crate::reply::Refusal;
 use crate::request::{Asked, Page, behind, tell_asked};
 use deb_control::{Text, is_package_name};
 use std::alloc::{AllocError, Global};
 
-/// What is asked for by a path that ends with the name of a source (Debian Policy 5.6.1). It fails for want of memory
-/// alone.
-pub fn why_asked(alloc: Global, path: &str, method: &[u8]) -> Result<Asked, AllocError>
-    ensures { IfOk result (λ asked. asked ≡ why_asked (drop 5 path.now) method.now) }
+/// The name of a source that stands behind the front of a path (Debian Policy 5.6.1), none for any other text.
+fn source_behind(alloc: Global, path: &str, front: usize) -> Result<Option<Text>, AllocError>
+    ensures { IfOk result (λ source. source ≡ package_in (drop front path.now)) }
 {
-    let name = behind(path, 5);
+    let name = behind(path, front);
     if !is_package_name(name) {
-        return Ok(Asked::Refused(Refusal::NoRoute));
+        return Ok(None);
     }
     let Ok(source) = str::from_utf8(name) else {
-        return Ok(Asked::Refused(Refusal::NoRoute));
+        return Ok(None);
     };
-    let source = Text::from_str(alloc, source)?;
-    Ok(tell_asked(Page::Why(source), method))
+    Ok(Some(Text::from_str(alloc, source)?))
+}
+
+/// What is asked for by a path that ends with the name of a source of which is told. It fails for want of memory alone.
+pub fn why_asked(alloc: Global, path: &str, method: &[u8]) -> Result<Asked, AllocError>
+    ensures { IfOk result (λ asked. asked ≡ source_asked Page.Why (drop 5 path.now) method.now) }
+{
+    match source_behind(alloc, path, 5)? {
+        Some(source) => Ok(tell_asked(Page::Why(source), method)),
+        None => Ok(Asked::Refused(Refusal::NoRoute)),
+    }
+}
+
+/// What is asked for by a path that ends with the name of a source that is to be freed. It fails for want of memory alone.
+pub fn propose_asked(alloc: Global, path: &str, method: &[u8]) -> Result<Asked, AllocError>
+    ensures { IfOk result (λ asked. asked ≡ source_asked Page.ProposeFor (drop 9 path.now) method.now) }
+{
+    match source_behind(alloc, path, 9)? {
+        Some(source) => Ok(tell_asked(Page::ProposeFor(source), method)),
+        None => Ok(Asked::Refused(Refusal::NoRoute)),
+    }
 }

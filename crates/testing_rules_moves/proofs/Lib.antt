@@ -4,3 +4,4 @@ pub mod Lacking
 pub mod Remembering
 pub mod Runs
 pub mod Trying
+pub mod Behind

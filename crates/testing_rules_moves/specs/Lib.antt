@@ -1,3 +1,4 @@
 pub mod LentItems
 pub mod Refusals
 pub mod Runs
+pub mod Turns

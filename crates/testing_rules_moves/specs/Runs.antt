@@ -1,6 +1,6 @@
 -- Steps: no contract of a call that users make rests on this file.
 -- What a run goes by, and how far it has come.
-use Rattle.std.specs.Prelude.{List, [], Option, filter}
+use Rattle.std.specs.Prelude.{ℕ, List, [], Option, map, filter}
 use Rattle.std.specs.List.{flat_map}
 use Rattle.deb_control.specs.declared.relation.Clause.{Clause}
 use Rattle.testing_rules_live.specs.Lacks.{Lacks}
@@ -11,6 +11,7 @@ use Rattle.testing_rules_model.specs.declared.facts.UploadIn.{UploadIn}
 use Rattle.testing_rules_model.specs.declared.suite.RowIn.{RowIn}
 use Rattle.testing_rules_model.specs.declared.update.Offender.{Offender}
 use Rattle.testing_rules_model.specs.Suite.{Suite}
+use Rattle.testing_rules_items.specs.declared.item.HintItem.{HintItem}
 use Rattle.testing_rules_items.specs.Words.{Text}
 use Rattle.testing_rules_model.specs.Moves.{move_group, remove_source, offender_of}
 use Rattle.testing_rules_model.specs.Unstable.{is_in_force}
@@ -75,3 +76,15 @@ after_turns excuses hints unhints r =
     let grouped = go_on removed (λ b. in_turn (move_easy b.archs b.sources b.rows excuses) hints_in_force) in
     let single = go_on grouped (λ b. move_singles b.archs b.sources b.rows excuses) in
     go_on single (λ b. wait_all b.archs b.sources b.rows excuses)
+
+-- a run after the removals that hints ask for, and then the groups that some ask for
+abbrev pub run_after_groups : List Excuse → List HintIn → List HintIn → List UnhintIn → Run → Run
+run_after_groups excuses hints grouped unhints r =
+    let removed = go_on r (λ b. in_turn (remove_item b.archs) (flat_map removals_of (filter (is_in_force unhints) hints))) in
+    go_on removed (λ b. in_turn (move_easy b.archs b.sources b.rows excuses) (filter (is_in_force unhints) grouped))
+
+-- and one after the removals that hints ask for, and then of some items of a hint
+abbrev pub run_after_removals : List HintIn → ℕ → List HintItem → List UnhintIn → Run → Run
+run_after_removals hints number items unhints r =
+    let removed = go_on r (λ b. in_turn (remove_item b.archs) (flat_map removals_of (filter (is_in_force unhints) hints))) in
+    go_on removed (λ b. in_turn (remove_item b.archs) (map (λ i. (number, i)) items))

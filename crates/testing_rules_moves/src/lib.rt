@@ -1,14 +1,16 @@
 //! Which moves a run decides, each against testing as it then is.
 #![tactic(auto)]
 
-mod alone;
+mod beside;
 mod breaking;
 mod groups;
 mod live;
 mod migration;
 mod refusals;
 mod singles;
+mod turning;
 mod turns;
 
-pub use alone::broken_alone;
+pub use beside::{broken_by_group, broken_by_removal};
 pub use migration::migrate;
+pub use turning::{at_group, at_removal, hinted};

@@ -187,7 +187,12 @@ impl<'u, 'a> Turns<'u, 'a> {
     }
 
     /// The removals of one hint.
-    fn remove_items(&mut self, alloc: Global, hint: u32, items: &[HintItem]) -> Result<(), NoMemory>
+    pub fn remove_items(
+        &mut self,
+        alloc: Global,
+        hint: u32,
+        items: &[HintItem],
+    ) -> Result<(), NoMemory>
         ensures { OnOk result (self.new ≡ go_on self.old (λ b. in_turn (rules.remove_item b.archs) (map (λ i. (hint, i)) items.now))) }
     {
         for item in items {

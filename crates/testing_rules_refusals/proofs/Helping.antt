@@ -4,12 +4,10 @@ use Rattle.std.specs.Prelude.{◌==◌, codes, if◌then◌else◌}
 use Rattle.std.specs.List.{flat_map}
 use Rattle.std.proofs.lemmas.Bool.{true≢false}
 use Rattle.testing_rules_items.specs.Words.{Text, is_empty}
-use Rattle.testing_rules_model.specs.declared.excuse.Excuse.{Excuse}
-use Rattle.testing_rules_model.specs.declared.facts.UploadIn.{UploadIn}
 use Rattle.testing_rules_model.specs.declared.suite.LentRow.{LentRow}
 use Rattle.testing_rules_model.specs.JudgedRows.{lent}
 use Rattle.testing_rules_refusals.specs.Lines.{need_line}
-use Rattle.testing_rules_refusals.specs.Texts.{offer_line, offers_text, help_text, told_text}
+use Rattle.testing_rules_refusals.specs.Texts.{Known, comes_with, offer_line, offers_text, help_text, told_text}
 use Rattle.testing_rules_refusals.specs.Told.{ToldLine}
 
 isnt_none : {A : Type 0} (x : A) (xs : List A) → (length (x ∷ xs) == 0) ≡ true → ⊥
@@ -21,25 +19,24 @@ empty_at false [] e = absurd (true≢false e)
 empty_at true (x ∷ xs) e = absurd (isnt_none x xs e)
 empty_at false (x ∷ xs) e = refl
 
-module _ (archs : List Text) (sources : List UploadIn) (excuses : List Excuse) (moving : Text) where
+module _ (k : Known) where
   -- where no row would meet the clause, that is told
-  pub none_offered : (rows : List LentRow) → (length rows == 0) ≡ true → offers_text archs sources excuses moving (lent rows) ≡ codes "unstable nothing\n"
+  pub none_offered : (rows : List LentRow) → (length rows == 0) ≡ true → offers_text k (lent rows) ≡ codes "unstable nothing\n"
   none_offered [] e = refl
   none_offered (r ∷ rows) e = absurd (isnt_none r rows e)
 
   -- and else each of them
-  pub some_offered : (rows : List LentRow) → (length rows == 0) ≡ false → offers_text archs sources excuses moving (lent rows) ≡ flat_map (offer_line archs sources excuses moving) (lent rows)
+  pub some_offered : (rows : List LentRow) → (length rows == 0) ≡ false → offers_text k (lent rows) ≡ flat_map (offer_line k) (lent rows)
   some_offered [] e = absurd (true≢false e)
   some_offered (r ∷ rows) e = refl
 
   abbrev pub line_of : ToldLine → Text
-  line_of l = need_line (moving ∷ []) l.number l.need l.met_by
+  line_of l = need_line (comes_with k.sources k.coming l.need.row) l.number l.need l.met_by
 
   -- behind a line that nothing meets stands what would help
-  pub helped : (l : ToldLine) → (length l.met_by == 0) ≡ true → told_text archs sources excuses moving l ≡ line_of l ++ help_text archs sources excuses moving l
-  helped l e = ap (λ b. line_of l ++ (if b then help_text archs sources excuses moving l else [])) (empty_at true l.met_by e)
+  pub helped : (l : ToldLine) → (length l.met_by == 0) ≡ true → told_text k l ≡ line_of l ++ help_text k l
+  helped l e = ap (λ b. line_of l ++ (if b then help_text k l else [])) (empty_at true l.met_by e)
 
   -- and behind another one nothing
-  pub unhelped : (l : ToldLine) → (length l.met_by == 0) ≡ false → told_text archs sources excuses moving l ≡ line_of l
-  unhelped l e =
-      ap (λ b. line_of l ++ (if b then help_text archs sources excuses moving l else [])) (empty_at false l.met_by e) ∙ append-nil (line_of l)
+  pub unhelped : (l : ToldLine) → (length l.met_by == 0) ≡ false → told_text k l ≡ line_of l
+  unhelped l e = ap (λ b. line_of l ++ (if b then help_text k l else [])) (empty_at false l.met_by e) ∙ append-nil (line_of l)

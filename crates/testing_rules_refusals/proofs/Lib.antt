@@ -6,3 +6,8 @@ pub mod Helping
 pub mod Pushing
 pub mod Moving
 pub mod Sole
+pub mod Bounding
+pub mod Coming
+pub mod Working
+pub mod Freeing
+pub mod Blocks

@@ -5,4 +5,6 @@ pub mod Told
 pub mod Texts
 pub mod Alone
 pub mod ToldChange
+pub mod Stuck
+pub mod Standing
 pub mod Shown

@@ -1,5 +1,5 @@
 -- The lines of what shows that a row isn't installable. Their form is decided by this office.
-use Rattle.std.specs.Prelude.{ℕ, if◌then◌else◌, List, [], ◌∷◌, ◌++◌, codes, decimal}
+use Rattle.std.specs.Prelude.{ℕ, Bool, if◌then◌else◌, List, [], ◌∷◌, ◌++◌, codes, decimal}
 use Rattle.std.specs.List.{flat_map}
 use Rattle.std.specs.Option.{option_map_or}
 use Rattle.deb_control.specs.declared.relation.Alternative.{Alternative}
@@ -9,7 +9,6 @@ use Rattle.deb_control.specs.declared.relation.Op.{Op}
 use Rattle.deb_control.specs.declared.relation.Op.TheVariants.{Below, AtMost, Equal, AtLeast, Above}
 use Rattle.testing_rules_items.specs.Words.{Text}
 use Rattle.testing_rules_model.specs.declared.suite.RowIn.{RowIn}
-use Rattle.testing_rules_model.specs.Moves.{is_row_of}
 use Rattle.testing_rules_refusals.specs.Needs.{RowNeed}
 
 -- the sign of a relation (Debian Policy 7.1)
@@ -50,14 +49,14 @@ numbers_text (n ∷ ns) = decimal n ++ flat_map more_text ns
 abbrev pub package_text : RowIn → Text
 package_text r = r.binary.name ++ 32 ∷ r.binary.version ++ codes " of " ++ r.binary.source
 
--- whether the row comes in with the group
-abbrev pub place_text : List Text → RowIn → Text
-place_text group r = if is_row_of group r then codes " comes in, needs " else codes " in testing, needs "
+-- whether the row comes in
+abbrev pub place_text : Bool → Text
+place_text comes = if comes then codes " comes in, needs " else codes " in testing, needs "
 
--- the line with the number, whose clause the rows of the lines with the other numbers meet
-abbrev pub need_line : List Text → ℕ → RowNeed → List ℕ → Text
-need_line group number n numbers =
-    decimal number ++ 32 ∷ package_text n.row ++ place_text group n.row ++ clause_text n.clause ++ codes ": " ++ numbers_text numbers ++ 10 ∷ []
+-- the line with the number, of a row that comes in or not, whose clause the rows of the lines with the other numbers meet
+abbrev pub need_line : Bool → ℕ → RowNeed → List ℕ → Text
+need_line comes number n numbers =
+    decimal number ++ 32 ∷ package_text n.row ++ place_text comes ++ clause_text n.clause ++ codes ": " ++ numbers_text numbers ++ 10 ∷ []
 
 -- a row that leaves
 abbrev pub leaves_line : RowIn → Text

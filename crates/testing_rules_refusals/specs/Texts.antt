@@ -1,18 +1,33 @@
--- The text of what shows that a row isn't installable, where a source would move alone. Its form is decided by this office. Reasons have the
--- words of the report on excuses.
-use Rattle.std.specs.Prelude.{if◌then◌else◌, List, [], ◌∷◌, ◌++◌, codes}
+-- The text of what shows that a row isn't installable, where sources would move or one would be removed. Its form is decided by this office.
+-- Reasons have the words of the report on excuses.
+use Rattle.std.specs.Prelude.{Bool, ◌&&◌, if◌then◌else◌, List, [], ◌∷◌, ◌++◌, codes}
 use Rattle.std.specs.List.{flat_map}
 use Rattle.testing_rules_items.specs.Words.{Text, is_empty}
 use Rattle.testing_rules_model.specs.declared.excuse.Excuse.{Excuse}
 use Rattle.testing_rules_model.specs.declared.excuse.Reason.{Reason}
 use Rattle.testing_rules_model.specs.declared.facts.UploadIn.{UploadIn}
 use Rattle.testing_rules_model.specs.declared.suite.RowIn.{RowIn}
+use Rattle.testing_rules_model.specs.Boxed.{unboxed}
+use Rattle.testing_rules_model.specs.Moves.{is_row_of}
 use Rattle.testing_rules_excuses.specs.declared.states.State.{State}
 use Rattle.testing_rules_excuses.specs.declared.states.State.TheVariants.{Waits, NotCandidate, NotCurrent, ComesToo, InTesting}
-use Rattle.testing_rules_excuses.specs.States.{state_of}
+use Rattle.testing_rules_excuses.specs.States.{is_current_in, state_of}
+use Rattle.testing_rules_refusals.specs.declared.telling.Telling.{Telling}
 use Rattle.testing_rules_refusals.specs.Lines.{package_text, need_line, leaves_line}
 use Rattle.testing_rules_refusals.specs.Told.{ToldLine}
 use Rattle.testing_rules_reports.specs.Reports.{words, reason_words}
+
+-- what is known where lines are told: unstable's sources, the excuses of the run, the sources that come in, and those that no group frees
+pub record Known : Type 0 where
+  pub archs : List Text
+  pub sources : List UploadIn
+  pub excuses : List Excuse
+  pub coming : List Text
+  pub stuck : List Text
+
+-- as the code has it
+abbrev pub known_of : Telling → Known
+known_of t = record { archs = t.archs.now; sources = unboxed t.unstable.sources.now; excuses = t.excuses.now; coming = t.coming.now; stuck = t.stuck.now }
 
 -- a reason behind another
 abbrev pub other_reason : List Text → Reason → Text
@@ -31,28 +46,35 @@ state_text archs NotCurrent = codes "isn't current"
 state_text archs ComesToo = codes "comes too"
 state_text archs InTesting = codes "is in testing"
 
--- the line of a row of unstable, and how it stands with it
-abbrev pub unstable_line : List Text → RowIn → State → Text
-unstable_line archs r state = codes "unstable " ++ package_text r ++ 32 ∷ state_text archs state ++ 10 ∷ []
+-- the row is a current one of one of the sources (Debian Developer's Reference 5.13.2.1)
+abbrev pub comes_with : List UploadIn → List Text → RowIn → Bool
+comes_with sources group r = is_row_of group r && is_current_in sources r
 
--- the line of a row of unstable that would meet a clause, where a source moves alone
-abbrev pub offer_line : List Text → List UploadIn → List Excuse → Text → RowIn → Text
-offer_line archs sources excuses moving r = unstable_line archs r (state_of sources excuses moving r)
+-- the row's source, if it is one of the group, and else no name
+abbrev pub moving_with : List Text → RowIn → Text
+moving_with group r = if is_row_of group r then r.binary.source else []
+
+-- how it stands with a row of unstable, in words: a current row of a source that no group frees is stuck
+abbrev pub offer_words : Known → RowIn → Text
+offer_words k r = if comes_with k.sources k.stuck r then codes "is stuck" else state_text k.archs (state_of k.sources k.excuses (moving_with k.coming r) r)
+
+-- the line of a row of unstable that would meet a clause, and how it stands with it
+abbrev pub offer_line : Known → RowIn → Text
+offer_line k r = codes "unstable " ++ package_text r ++ 32 ∷ offer_words k r ++ 10 ∷ []
 
 -- the lines of the rows of unstable that would meet a clause, or that there is none
-abbrev pub offers_text : List Text → List UploadIn → List Excuse → Text → List RowIn → Text
-offers_text archs sources excuses moving [] = codes "unstable nothing" ++ 10 ∷ []
-offers_text archs sources excuses moving (r ∷ rows) = flat_map (offer_line archs sources excuses moving) (r ∷ rows)
+abbrev pub offers_text : Known → List RowIn → Text
+offers_text k [] = codes "unstable nothing" ++ 10 ∷ []
+offers_text k (r ∷ rows) = flat_map (offer_line k) (r ∷ rows)
 
 -- what stands behind a line whose clause nothing meets: the rows of testing that met it before, and those of unstable that would
-abbrev pub help_text : List Text → List UploadIn → List Excuse → Text → ToldLine → Text
-help_text archs sources excuses moving l = flat_map leaves_line l.leaving ++ offers_text archs sources excuses moving l.offers
+abbrev pub help_text : Known → ToldLine → Text
+help_text k l = flat_map leaves_line l.leaving ++ offers_text k l.offers
 
 -- a line, and what stands behind it
-abbrev pub told_text : List Text → List UploadIn → List Excuse → Text → ToldLine → Text
-told_text archs sources excuses moving l =
-    need_line (moving ∷ []) l.number l.need l.met_by ++ (if is_empty l.met_by then help_text archs sources excuses moving l else [])
+abbrev pub told_text : Known → ToldLine → Text
+told_text k l = need_line (comes_with k.sources k.coming l.need.row) l.number l.need l.met_by ++ (if is_empty l.met_by then help_text k l else [])
 
--- all lines, where unstable has these sources, these are the excuses, and this source moves alone
-abbrev pub refusal_text : List Text → List UploadIn → List Excuse → Text → List ToldLine → Text
-refusal_text archs sources excuses moving lines = flat_map (told_text archs sources excuses moving) lines
+-- all lines
+abbrev pub refusal_text : Known → List ToldLine → Text
+refusal_text k lines = flat_map (told_text k) lines

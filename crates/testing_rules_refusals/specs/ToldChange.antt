@@ -1,21 +1,34 @@
--- Steps: no contract of a call that users make rests on this file.
--- Why a change of testing is refused, in lines.
-use Rattle.std.specs.Prelude.{◌≡◌, List, [], ◌∷◌}
+-- Why a change of testing is refused, in lines: a group that moves as one (Debian Developer's Reference 5.13.2.3), or a removal (britney2's
+-- `remove`).
+use Rattle.std.specs.Prelude.{◌≡◌, List, []}
 use Rattle.testing_rules_items.specs.Words.{Text}
 use Rattle.testing_rules_model.specs.declared.excuse.Excuse.{Excuse}
 use Rattle.testing_rules_model.specs.declared.facts.UploadIn.{UploadIn}
 use Rattle.testing_rules_model.specs.declared.suite.RowIn.{RowIn}
 use Rattle.testing_rules_model.specs.declared.update.Offender.{Offender}
-use Rattle.testing_rules_model.specs.Moves.{rows_on}
+use Rattle.testing_rules_model.specs.Moves.{rows_on, move_group, remove_source}
+use Rattle.testing_rules_model.specs.Suite.{Suite}
 use Rattle.testing_rules_refusals.specs.Refusals.{IsRefusal}
-use Rattle.testing_rules_refusals.specs.Texts.{refusal_text}
+use Rattle.testing_rules_refusals.specs.Texts.{Known, refusal_text}
 use Rattle.testing_rules_refusals.specs.Told.{lines_of}
 use Rattle.testing_install_why.specs.declared.Step.{Step}
 
--- this text tells why the source can't come in alone, where that changes testing's rows from the old ones to the new ones
-pub record IsToldChange (archs : List Text) (sources : List UploadIn) (unstable : List RowIn) (excuses : List Excuse) (old new : List RowIn) (moving : Text) (text : Text) : Type 0 where
+-- This text tells why a change is refused that takes testing's rows from the old ones to the new ones, where it is known which sources come in.
+-- The lines are those of what shows that the offender's row isn't installable: over the rows on its architecture after the change, beside
+-- testing's rows there before it, and unstable's.
+pub record IsToldChange (known : Known) (unstable : List RowIn) (old new : List RowIn) (text : Text) : Type 0 where
   pub offender : Offender
   pub rows : List RowIn
   pub steps : List Step
-  pub refusal : IsRefusal archs old new (moving ∷ []) offender rows steps
-  pub told : text ≡ refusal_text archs sources excuses moving (lines_of rows steps (rows_on offender.arch old) (rows_on offender.arch unstable))
+  pub refusal : IsRefusal known.archs old new known.coming offender rows steps
+  pub told : text ≡ refusal_text known (lines_of rows steps (rows_on offender.arch old) (rows_on offender.arch unstable))
+
+-- this text tells why the group can't move as one
+abbrev pub IsToldMove : List Text → List UploadIn → List RowIn → List Excuse → Suite → List Text → Text → Type 0
+IsToldMove archs sources unstable excuses t group text =
+    IsToldChange (record { archs = archs; sources = sources; excuses = excuses; coming = group; stuck = [] }) unstable t.rows (move_group sources unstable group t).rows text
+
+-- this text tells why the source can't be removed
+abbrev pub IsToldRemoval : List Text → List UploadIn → List RowIn → List Excuse → Suite → Text → Text → Type 0
+IsToldRemoval archs sources unstable excuses t name text =
+    IsToldChange (record { archs = archs; sources = sources; excuses = excuses; coming = []; stuck = [] }) unstable t.rows (remove_source name t).rows text

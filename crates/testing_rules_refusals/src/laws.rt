@@ -1,17 +1,40 @@
 //! What holds of what is told.
 
-ghost use Rattle.std.specs.Prelude.{◌≡◌, List, Some};
+ghost use Rattle.std.specs.Prelude.{◌≡◌, ℕ, List, Some};
 ghost use Rattle.testing_rules_items.specs.Words.{Text};
 ghost use Rattle.testing_rules_model.specs.declared.excuse.Excuse.{Excuse as AnExcuse};
 ghost use Rattle.testing_rules_model.specs.declared.facts.UploadIn.{UploadIn as AnUpload};
 ghost use Rattle.testing_rules_model.specs.declared.suite.RowIn.{RowIn as ARow};
+ghost use Rattle.testing_rules_model.specs.declared.update.Decision.TheVariants.{EasyRefused, RemoveRefused};
 ghost use Rattle.testing_rules_model.specs.Suite.{Suite};
-ghost use Rattle.testing_rules_model.specs.Updates.{wait_for, waiting};
+ghost use Rattle.testing_rules_model.specs.Updates.{decide, move_as_one, remove_version, wait_for, waiting};
 ghost use Rattle.testing_rules_refusals.specs.Alone.{IsToldAlone};
+ghost use Rattle.testing_rules_refusals.specs.Stuck.{NoGroupFrees};
+ghost use Rattle.testing_rules_refusals.specs.ToldChange.{IsToldMove, IsToldRemoval};
 
 /// Where it is told why a source can't move alone over the testing that a run left, the run's line on the source says that
 /// it waits, and names the offender that is told of.
 pub fn told_as_the_run_says()
     ensures { (archs : List Text) (sources : List AnUpload) (unstable : List ARow) (excuses : List AnExcuse) (t : Suite) (e : AnExcuse) (text : Text)
         → (why : IsToldAlone archs sources unstable excuses t e text) → wait_for archs sources unstable t e ≡ Some (waiting e why.offender) }
+{}
+
+/// Where it is told why a group can't move as one over the testing at its hint's turn, the run refuses the hint, and names
+/// the offender that is told of.
+pub fn group_told_as_the_run_says()
+    ensures { (archs : List Text) (sources : List AnUpload) (unstable : List ARow) (excuses : List AnExcuse) (t : Suite) (group : List Text) (text : Text) (number : ℕ)
+        → (why : IsToldMove archs sources unstable excuses t group text) → move_as_one archs sources unstable number group t ≡ decide (EasyRefused number why.offender) t }
+{}
+
+/// Where it is told why a source can't be removed from the testing at the removal's turn, the run refuses the removal, and
+/// names the offender that is told of.
+pub fn removal_told_as_the_run_says()
+    ensures { (archs : List Text) (sources : List AnUpload) (unstable : List ARow) (excuses : List AnExcuse) (t : Suite) (name text : Text) (number : ℕ) (version : Text)
+        → (why : IsToldRemoval archs sources unstable excuses t name text) → remove_version archs number name version t ≡ decide (RemoveRefused number name version why.offender) t }
+{}
+
+/// Whatever groups are asked for behind a testing, and whatever moves alone behind them: a source whose blocks show there
+/// that it is stuck stays at its version. So no list of `easy` hints frees it.
+pub fn no_group_frees()
+    ensures { NoGroupFrees }
 {}

@@ -1,8 +1,8 @@
 //! Why a change of testing is refused: the first row that it would break, and line by line what shows that this row isn't
-//! installable after it.
+//! installable after it. And why no group at all frees a source, in blocks of such lines.
 #![tactic(auto)]
 
-mod alone;
+mod changes;
 mod failing;
 mod judged;
 pub mod laws;
@@ -11,12 +11,15 @@ mod needs;
 mod reach;
 mod refusal;
 mod shown;
+mod standing;
+mod stuck;
 mod telling;
 mod told;
 
-pub use alone::{refusal_alone, why_waits};
+pub use changes::{group_refusal, removal_refusal, why_waits};
 pub use lines::{push_clause, push_leaving, push_need, push_package};
 pub use needs::{Need, bearers, meeting, need_at};
 pub use refusal::{Refusal, refused};
-pub use telling::{LoneMove, refusal_text};
+pub use stuck::{Suspect, stuck_text};
+pub use telling::{Telling, refusal_text};
 pub use told::{Told, refusal_lines};

@@ -7,9 +7,8 @@ ghost use Rattle.testing_rules_refusals.specs.Lines as lines;
 ghost use Rattle.testing_rules_refusals.specs.Needs.{need_of};
 
 use crate::needs::Need;
-use deb_control::{Alternative, Clause, Op, Text};
+use deb_control::{Alternative, Clause, Op};
 use std::alloc::AllocError;
-use testing_rules_live::is_row_of;
 use testing_rules_model::LentRow;
 
 fn sign(op: Op) -> &'static str
@@ -88,27 +87,22 @@ pub fn push_package(text: &mut String, row: &LentRow) -> Result<(), AllocError>
     write!(text, "{name} {version} of {}", row.binary.source.as_str())
 }
 
-fn push_place(text: &mut String, group: &[Text], row: &LentRow) -> Result<(), AllocError>
-    ensures { OnOk result (string_bytes text.new ≡ string_bytes text.old ++ lines.place_text group.now (row_of row.now)) }
+fn push_place(text: &mut String, comes: bool) -> Result<(), AllocError>
+    ensures { OnOk result (string_bytes text.new ≡ string_bytes text.old ++ lines.place_text comes) }
 {
-    if is_row_of(group, row) {
+    if comes {
         text.push_str(" comes in, needs ")
     } else {
         text.push_str(" in testing, needs ")
     }
 }
 
-fn push_row(
-    text: &mut String,
-    group: &[Text],
-    number: usize,
-    row: &LentRow,
-) -> Result<(), AllocError>
-    ensures { OnOk result (string_bytes text.new ≡ string_bytes text.old ++ (decimal number ++ 32 ∷ lines.package_text (row_of row.now) ++ lines.place_text group.now (row_of row.now))) }
+fn push_row(text: &mut String, comes: bool, number: usize, row: &LentRow) -> Result<(), AllocError>
+    ensures { OnOk result (string_bytes text.new ≡ string_bytes text.old ++ (decimal number ++ 32 ∷ lines.package_text (row_of row.now) ++ lines.place_text comes)) }
 {
     write!(text, "{number} ")?;
     push_package(text, row)?;
-    push_place(text, group, row)
+    push_place(text, comes)
 }
 
 fn push_met(text: &mut String, clause: &Clause, numbers: &[usize]) -> Result<(), AllocError>
@@ -119,17 +113,18 @@ fn push_met(text: &mut String, clause: &Clause, numbers: &[usize]) -> Result<(),
     push_numbers(text, numbers)
 }
 
-/// The line with the number, whose clause the rows of the lines with the other numbers meet.
+/// The line with the number, of a row that comes in or not, whose clause the rows of the lines with the other numbers
+/// meet.
 pub fn push_need(
     text: &mut String,
-    group: &[Text],
+    comes: bool,
     number: usize,
     need: &Need,
     numbers: &[usize],
 ) -> Result<(), AllocError>
-    ensures { OnOk result (string_bytes text.new ≡ string_bytes text.old ++ lines.need_line group.now number (need_of need.now) numbers.now) }
+    ensures { OnOk result (string_bytes text.new ≡ string_bytes text.old ++ lines.need_line comes number (need_of need.now) numbers.now) }
 {
-    push_row(text, group, number, &need.row)?;
+    push_row(text, comes, number, &need.row)?;
     push_met(text, need.clause, numbers)?;
     text.push_str("\n")
 }

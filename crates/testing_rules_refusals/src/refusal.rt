@@ -31,7 +31,7 @@ pub struct Refusal<'a> {
 }
 
 /// Each row on the architecture, and whether it is installable there.
-fn judged_rows<'a>(
+pub(crate) fn judged_rows<'a>(
     alloc: Global,
     arch: u32,
     rows: &[LentRow<'a>],

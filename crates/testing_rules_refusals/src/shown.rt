@@ -106,7 +106,11 @@ fn steps_to(
 
 /// The steps that show that the row at the place isn't installable among these, all of which are there, where they are
 /// found.
-fn steps_for(alloc: Global, rows: &[LentRow], place: usize) -> Result<Option<Vec<Step>>, NoMemory>
+pub(crate) fn steps_for(
+    alloc: Global,
+    rows: &[LentRow],
+    place: usize,
+) -> Result<Option<Vec<Step>>, NoMemory>
     ensures { IfOk result (λ found. IfSome found (λ steps. IsShownBy (packages (lent rows.now)) all_there place steps.items)) }
 {
     let list = packages_of(alloc, rows)?;

@@ -1,12 +1,14 @@
-//! The text of what shows that a row isn't installable, where a source would move alone.
+//! The text of what shows that a row isn't installable, where sources would move or one would be removed.
 
 ghost use Rattle.std.specs.Prelude.{◌≡◌, ◌++◌, ◌∷◌, [], IfOk, OnOk, codes, map, string_bytes};
 ghost use Rattle.std.specs.List.{flat_map};
+ghost use Rattle.testing_rules_excuses.specs.States as states;
 ghost use Rattle.testing_rules_model.specs.Boxed.{unboxed};
 ghost use Rattle.testing_rules_model.specs.FactOrder.{AreBySource};
 ghost use Rattle.testing_rules_model.specs.JudgedRows.{lent, row_of};
 ghost use Rattle.testing_rules_refusals.specs.Lines.{package_text};
 ghost use Rattle.testing_rules_refusals.specs.Texts as texts;
+ghost use Rattle.testing_rules_refusals.specs.Texts.{known_of};
 ghost use Rattle.testing_rules_refusals.specs.Told.{told_of};
 
 use crate::lines::{push_leaving, push_need, push_package};
@@ -14,30 +16,22 @@ use crate::told::Told;
 use deb_control::Text;
 use deb_version::NoMemory;
 use std::alloc::{AllocError, Global};
-use std::slice;
 use testing_rules_excuses::{State, state_of};
-use testing_rules_facts::Unstable;
+use testing_rules_facts::{Unstable, is_current, source_in};
 use testing_rules_items::Archs;
-use testing_rules_model::{Excuse, LentRow, Reason};
+use testing_rules_live::is_row_of;
+use testing_rules_model::{Excuse, LentRow, Reason, UploadIn};
 use testing_rules_reports::push_reason_words;
 
-/// A source that would move alone, by its excuse, and what a run knows beside it: the architectures, unstable, and the
-/// excuses of all sources.
+/// What is known where lines are told: the architectures, unstable, the excuses of the run, the sources that come in, and
+/// those that no group frees.
 #[derive(Clone, Copy)]
-pub struct LoneMove<'g, 'a> {
+pub struct Telling<'g, 'a> {
     pub archs: &'g Archs,
     pub unstable: Unstable<'g, 'a>,
     pub excuses: &'g [Excuse],
-    pub excuse: &'g Excuse,
-}
-
-impl LoneMove<'_, '_> {
-    /// The group that moves: the source alone.
-    pub(crate) fn group(&self) -> &[Text]
-        ensures { result.now ≡ self.now.excuse.now.source ∷ [] }
-    {
-        slice::from_ref(&self.excuse.source)
-    }
+    pub coming: &'g [Text],
+    pub stuck: &'g [Text],
 }
 
 fn push_other_reasons(
@@ -89,46 +83,99 @@ fn push_unstable(text: &mut String, row: &LentRow) -> Result<(), AllocError>
     text.push_str(" ")
 }
 
-fn push_unstable_line(
-    text: &mut String,
-    archs: &Archs,
-    row: &LentRow,
-    state: &State,
-) -> Result<(), AllocError>
-    ensures { OnOk result (string_bytes text.new ≡ string_bytes text.old ++ texts.unstable_line archs.now (row_of row.now) state.now) }
+/// The row was built from its source's unstable version.
+pub(crate) fn is_current_in(sources: &[Box<UploadIn>], row: &LentRow) -> bool
+    requires { AreBySource (unboxed sources.now) }
+    ensures { result ≡ states.is_current_in (unboxed sources.now) (row_of row.now) }
 {
-    push_unstable(text, row)?;
-    push_state(text, archs, state)?;
-    text.push_str("\n")
+    match source_in(sources, row.binary.source.as_str()) {
+        Some(upload) => is_current(upload, row),
+        None => false,
+    }
+}
+
+/// The row is a current one of one of the sources.
+pub(crate) fn comes_with(sources: &[Box<UploadIn>], group: &[Text], row: &LentRow) -> bool
+    requires { AreBySource (unboxed sources.now) }
+    ensures { result ≡ texts.comes_with (unboxed sources.now) group.now (row_of row.now) }
+{
+    is_row_of(group, row) && is_current_in(sources, row)
+}
+
+/// The row's source, if it is one of the group, and else no name.
+fn moving_with<'a>(group: &[Text], row: &LentRow<'a>) -> &'a str
+    ensures { result.now ≡ texts.moving_with group.now (row_of row.now) }
+{
+    if is_row_of(group, row) {
+        row.binary.source.as_str()
+    } else {
+        ""
+    }
+}
+
+fn push_offer_state(
+    alloc: Global,
+    text: &mut String,
+    telling: &Telling,
+    row: &LentRow,
+) -> Result<(), NoMemory>
+    requires { AreBySource (unboxed telling.now.unstable.sources.now) }
+    ensures { OnOk result (string_bytes text.new ≡ string_bytes text.old ++ texts.state_text telling.now.archs.now (states.state_of (unboxed telling.now.unstable.sources.now) telling.now.excuses.now
+        (texts.moving_with telling.now.coming.now (row_of row.now)) (row_of row.now))) }
+{
+    let moving = moving_with(telling.coming, row);
+    let state = state_of(
+        alloc,
+        telling.unstable.sources,
+        telling.excuses,
+        moving,
+        row,
+    )?;
+    Ok(push_state(text, telling.archs, &state)?)
+}
+
+/// How it stands with a row of unstable.
+fn push_offer_words(
+    alloc: Global,
+    text: &mut String,
+    telling: &Telling,
+    row: &LentRow,
+) -> Result<(), NoMemory>
+    requires { AreBySource (unboxed telling.now.unstable.sources.now) }
+    ensures { OnOk result (string_bytes text.new ≡ string_bytes text.old ++ texts.offer_words (known_of telling.now) (row_of row.now)) }
+{
+    if comes_with(telling.unstable.sources, telling.stuck, row) {
+        return Ok(text.push_str("is stuck")?);
+    }
+    push_offer_state(alloc, text, telling, row)
 }
 
 fn push_offer(
     alloc: Global,
     text: &mut String,
-    lone: &LoneMove,
+    telling: &Telling,
     row: &LentRow,
 ) -> Result<(), NoMemory>
-    requires { AreBySource (unboxed lone.now.unstable.sources.now) }
-    ensures { OnOk result (string_bytes text.new ≡ string_bytes text.old
-        ++ texts.offer_line lone.now.archs.now (unboxed lone.now.unstable.sources.now) lone.now.excuses.now lone.now.excuse.now.source (row_of row.now)) }
+    requires { AreBySource (unboxed telling.now.unstable.sources.now) }
+    ensures { OnOk result (string_bytes text.new ≡ string_bytes text.old ++ texts.offer_line (known_of telling.now) (row_of row.now)) }
 {
-    let moving = lone.excuse.source.as_str();
-    let state = state_of(alloc, lone.unstable.sources, lone.excuses, moving, row)?;
-    Ok(push_unstable_line(text, lone.archs, row, &state)?)
+    push_unstable(text, row)?;
+    push_offer_words(alloc, text, telling, row)?;
+    Ok(text.push_str("\n")?)
 }
 
 fn push_each_offer(
     alloc: Global,
     text: &mut String,
-    lone: &LoneMove,
+    telling: &Telling,
     rows: &[LentRow],
 ) -> Result<(), NoMemory>
-    requires { AreBySource (unboxed lone.now.unstable.sources.now) }
+    requires { AreBySource (unboxed telling.now.unstable.sources.now) }
     ensures { OnOk result (string_bytes text.new ≡ string_bytes text.old
-        ++ flat_map (texts.offer_line lone.now.archs.now (unboxed lone.now.unstable.sources.now) lone.now.excuses.now lone.now.excuse.now.source) (lent rows.now)) }
+        ++ flat_map (texts.offer_line (known_of telling.now)) (lent rows.now)) }
 {
     for row in rows {
-        push_offer(alloc, text, lone, row)?;
+        push_offer(alloc, text, telling, row)?;
     }
     Ok(())
 }
@@ -138,40 +185,51 @@ fn push_each_offer(
 fn push_offers(
     alloc: Global,
     text: &mut String,
-    lone: &LoneMove,
+    telling: &Telling,
     rows: &[LentRow],
 ) -> Result<(), NoMemory>
-    requires { AreBySource (unboxed lone.now.unstable.sources.now) }
+    requires { AreBySource (unboxed telling.now.unstable.sources.now) }
     ensures { OnOk result (string_bytes text.new ≡ string_bytes text.old
-        ++ texts.offers_text lone.now.archs.now (unboxed lone.now.unstable.sources.now) lone.now.excuses.now lone.now.excuse.now.source (lent rows.now)) }
+        ++ texts.offers_text (known_of telling.now) (lent rows.now)) }
 {
     if rows.is_empty() {
         text.push_str("unstable nothing\n")?;
         return Ok(());
     }
-    push_each_offer(alloc, text, lone, rows)
+    push_each_offer(alloc, text, telling, rows)
 }
 
 /// What stands behind a line whose clause nothing meets.
-fn push_help(alloc: Global, text: &mut String, lone: &LoneMove, line: &Told) -> Result<(), NoMemory>
-    requires { AreBySource (unboxed lone.now.unstable.sources.now) }
+fn push_help(
+    alloc: Global,
+    text: &mut String,
+    telling: &Telling,
+    line: &Told,
+) -> Result<(), NoMemory>
+    requires { AreBySource (unboxed telling.now.unstable.sources.now) }
     ensures { OnOk result (string_bytes text.new ≡ string_bytes text.old
-        ++ texts.help_text lone.now.archs.now (unboxed lone.now.unstable.sources.now) lone.now.excuses.now lone.now.excuse.now.source (told_of line.now)) }
+        ++ texts.help_text (known_of telling.now) (told_of line.now)) }
 {
     push_leaving(text, &line.leaving)?;
-    push_offers(alloc, text, lone, &line.offers)
+    push_offers(alloc, text, telling, &line.offers)
 }
 
 /// A line, and what stands behind it.
 #[tactic(auto, using(crate::proofs::Helping::helped, crate::proofs::Helping::unhelped))]
-fn push_told(alloc: Global, text: &mut String, lone: &LoneMove, line: &Told) -> Result<(), NoMemory>
-    requires { AreBySource (unboxed lone.now.unstable.sources.now) }
+fn push_told(
+    alloc: Global,
+    text: &mut String,
+    telling: &Telling,
+    line: &Told,
+) -> Result<(), NoMemory>
+    requires { AreBySource (unboxed telling.now.unstable.sources.now) }
     ensures { OnOk result (string_bytes text.new ≡ string_bytes text.old
-        ++ texts.told_text lone.now.archs.now (unboxed lone.now.unstable.sources.now) lone.now.excuses.now lone.now.excuse.now.source (told_of line.now)) }
+        ++ texts.told_text (known_of telling.now) (told_of line.now)) }
 {
-    push_need(text, lone.group(), line.number, &line.need, &line.met_by)?;
+    let comes = comes_with(telling.unstable.sources, telling.coming, &line.need.row);
+    push_need(text, comes, line.number, &line.need, &line.met_by)?;
     if line.met_by.is_empty() {
-        return push_help(alloc, text, lone, line);
+        return push_help(alloc, text, telling, line);
     }
     Ok(())
 }
@@ -179,27 +237,27 @@ fn push_told(alloc: Global, text: &mut String, lone: &LoneMove, line: &Told) -> 
 fn push_each_told(
     alloc: Global,
     text: &mut String,
-    lone: &LoneMove,
+    telling: &Telling,
     told: &[Told],
 ) -> Result<(), NoMemory>
-    requires { AreBySource (unboxed lone.now.unstable.sources.now) }
+    requires { AreBySource (unboxed telling.now.unstable.sources.now) }
     ensures { OnOk result (string_bytes text.new ≡ string_bytes text.old
-        ++ flat_map (texts.told_text lone.now.archs.now (unboxed lone.now.unstable.sources.now) lone.now.excuses.now lone.now.excuse.now.source) (map told_of told.now)) }
+        ++ flat_map (texts.told_text (known_of telling.now)) (map told_of told.now)) }
 {
     for line in told {
-        push_told(alloc, text, lone, line)?;
+        push_told(alloc, text, telling, line)?;
     }
     Ok(())
 }
 
 /// The text of what shows that a row isn't installable: its lines, as they stand. Behind a line whose clause nothing meets
-/// are the rows of testing that met it before, which leave with the move, and how it stands with each row of unstable that
-/// would meet it. The one error is want of memory.
-pub fn refusal_text(alloc: Global, lone: &LoneMove, told: &[Told]) -> Result<Text, NoMemory>
-    requires { AreBySource (unboxed lone.now.unstable.sources.now) }
-    ensures { IfOk result (λ text. text ≡ texts.refusal_text lone.now.archs.now (unboxed lone.now.unstable.sources.now) lone.now.excuses.now lone.now.excuse.now.source (map told_of told.now)) }
+/// are the rows of testing that met it before, which leave, and how it stands with each row of unstable that would meet
+/// it. The one error is want of memory.
+pub fn refusal_text(alloc: Global, telling: &Telling, told: &[Told]) -> Result<Text, NoMemory>
+    requires { AreBySource (unboxed telling.now.unstable.sources.now) }
+    ensures { IfOk result (λ text. text ≡ texts.refusal_text (known_of telling.now) (map told_of told.now)) }
 {
     let mut text = String::new(alloc);
-    push_each_told(alloc, &mut text, lone, told)?;
+    push_each_told(alloc, &mut text, telling, told)?;
     Ok(Text::from_string(text))
 }

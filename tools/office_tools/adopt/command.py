@@ -14,10 +14,8 @@ from office_tools.faults import Fault
 from office_tools.files import write_whole
 from office_tools.from_packages import mail, told
 from office_tools.from_packages.binaries import Binary, fitting, read_binaries
-from office_tools.from_packages.groups import groups
 from office_tools.from_packages.sent import Sent
 from office_tools.from_packages.sources import Arrival, read_sources
-from office_tools.from_packages.suites import Suites
 from office_tools.messages import Label, Role, Urgency
 
 NAME = "office-adopt"
@@ -62,14 +60,13 @@ def setup_of(architectures: Sequence[str], count: int) -> setups.Setup:
     return setups.Setup(architectures, senders)
 
 
-def letters(binaries: Sequence[Binary], sources: Mapping[str, str], suites: Suites,
-            day: datetime.date) -> Sequence[bytes]:
+def letters(setup: str, binaries: Sequence[Binary], sources: Mapping[str, str], day: datetime.date) -> Sequence[bytes]:
     """All mail of the first run; behind its order the hints are taken back, since all that they ask is done by it."""
     sent = Sent()
     arrival = Arrival(Urgency.MEDIUM, max(day - datetime.timedelta(LONG_AGO), datetime.date(1970, 1, 1)).isoformat())
     came = list(mail.uploads(sources, sent, mail.Uploading({}, arrival)))
     made = list(mail.builds(binaries, sent))
-    wishes = list(mail.hints(groups(suites.needs()), sources, sent))
+    wishes = list(mail.hints(setup, sent, [*came, *made], day.isoformat()))
     first = mail.order(day.isoformat(), sent, {"ftp": len(came), "bd": len(made), "rt": len(wishes)})
     unhints = [messages.unhint(Label("rt", len(wishes) + number), number) for number in range(1, len(wishes) + 1)]
     print(f"uploads {len(came)}, builds {len(made)}, hints {len(wishes)}, orders 1, unhints {len(unhints)}")
@@ -128,10 +125,9 @@ def main(words: Sequence[str]) -> int:
           f"clauses taken out {len(gone)}")
     if asked.dry_run:
         return 0
-    texts = letters(binaries, sources, Suites(binaries, architectures), asked.day)
-    bag = b"".join(map(bags.framed, texts))
     setup = os.path.join(asked.folder, "setup.conf")
     write_whole(setup, setups.written(setup_of(architectures, asked.spare)))
+    bag = b"".join(map(bags.framed, letters(setup, binaries, sources, asked.day)))
     write_whole(os.path.join(asked.folder, "bag"), bag)
     return 0 if asked.no_check else checked(setup, bag, read_indexes([("", path) for path in asked.packages],
                                                                      asked.sources))

@@ -6,13 +6,16 @@ import sys
 from dataclasses import dataclass, replace
 from typing import Optional, Sequence
 
-from office_tools import days, order
+from office_tools import days
 from office_tools.accounts import service_at
+from office_tools.bags import framed
 from office_tools.faults import Fault
 from office_tools.feed import archive, mailbox
 from office_tools.feed.mailbox import REFUSED, Mailbox, Outgoing
-from office_tools.feed.news import News, Unstable, news
+from office_tools.feed.news import HINTS, News, Told, Unstable, news
 from office_tools.feed.told import NAME, take_over, tell
+from office_tools.files import write_whole
+from office_tools.from_packages import proposals
 from office_tools.from_packages.binaries import fitting, read_binaries
 from office_tools.from_packages.mail import Uploading
 from office_tools.from_packages.sources import Arrival, read_arrivals, read_sources
@@ -42,6 +45,10 @@ def parser() -> argparse.ArgumentParser:
                        help="order a run in any case, or never")
     words.add_argument("--rebuilds", action="store_true",
                        help="tell rebuilds of sources in testing so that they move, by the spare senders again1 ..")
+    words.add_argument("--propose", action="store_true",
+                       help="behind the run mail hints for the groups that the office proposes, and order a run again")
+    words.add_argument("--proposals", metavar="FILE",
+                       help="write these hints into a bag that a person may look at and mail, and mail none of them")
     words.add_argument("--dry-run", action="store_true", help="print what would be sent, as a bag, and send nothing")
     words.add_argument("--cache", metavar="DIR", help="where fetched mail and indexes are remembered")
     words.add_argument("--sources", action="append", default=[], metavar="SOURCES", help="a file Sources")
@@ -110,18 +117,48 @@ class Feed:
         lines = self.service.good_text("/waiting").splitlines()
         return [line for line in lines if " waits for " in line and f" waits for {self.runs} " not in line]
 
-    def order(self, day: datetime.date, is_asked: Optional[bool], found: News) -> int:
-        """Orders a run where one is due or asked for, and tells how it stands."""
-        kept = dict(self.service.kept())
-        due = is_asked is not False and (is_asked or bool(found.texts) or self.is_due(kept, day))
-        orders = [order.order(self.runs, kept, day)] if due and not self.waits() else []
+    def order(self, day: datetime.date, is_due: bool) -> int:
+        """Orders a run if one is due and no ordered one waits; gives how many orders this is."""
+        orders = [self.service.order(day)] if is_due and not self.waits() else []
         self.send(orders)
-        print(f"{found.summary()}, orders {len(orders)}")
+        return len(orders)
+
+    def ordered(self, day: datetime.date, is_asked: Optional[bool], found: News) -> int:
+        """Orders a run where one is due or asked for, and tells how it stands."""
+        is_due = is_asked is not False and (
+            is_asked or bool(found.texts) or self.is_due(dict(self.service.kept()), day))
+        print(f"{found.summary()}, orders {self.order(day, is_due)}")
+        return self.stands()
+
+    def stands(self) -> int:
+        """Tells how it stands, and what an ordered run waits for: the status."""
         print(self.service.good_text("/status"), end="")
         lines = self.waits()
         for line in lines:
             tell(line)
         return WAITS if lines else 0
+
+    def proposals(self, day: datetime.date) -> Sequence[bytes]:
+        """Hints for the groups that the office proposes, but for those that stand already."""
+        wishes = (self.service.proposed() or "").splitlines()
+        standing: dict[int, str] = {}
+        for item in self.service.hints().items:
+            standing[item.number] = f"{standing.get(item.number, item.words)} {item.item}"
+        new = [wish for wish in wishes if wish not in standing.values()]
+        return list(proposals.letters(new, HINTS, self.service.kept()[HINTS].unbroken, day.isoformat()))
+
+    def propose(self, day: datetime.date, is_asked: Optional[bool]) -> int:
+        """Mails hints for the groups that the office proposes, and orders a run over them where runs are ordered."""
+        hints = self.proposals(day)
+        self.send(hints)
+        print(f"proposed {len(hints)}, orders {self.order(day, bool(hints) and is_asked is not False)}")
+        return self.stands()
+
+    def write_proposals(self, day: datetime.date, path: str) -> None:
+        """Writes hints for the groups that the office proposes into a bag."""
+        hints = self.proposals(day)
+        write_whole(path, b"".join(map(framed, hints)))
+        print(f"proposed {len(hints)}, in {path}")
 
 
 def unstable_of(files: archive.Files) -> Unstable:
@@ -139,6 +176,8 @@ def main(words: Sequence[str]) -> int:
     asked = known.parse_args(words)
     if bool(asked.packages) == bool(asked.apt):
         known.error("name files Packages, or lines for apt by --apt")
+    if asked.propose and asked.proposals:
+        known.error("name one of --propose and --proposals")
     take_over()
     service = service_at(asked.url)
     folder = mailbox.folder_for(asked.cache, service)
@@ -147,16 +186,21 @@ def main(words: Sequence[str]) -> int:
         archive.Files(asked.packages, asked.sources)
     unstable = unstable_of(files)
     box = mailbox.fetch(service, folder)
-    feed = Feed(service, box, runs_sender(service, box.kept), Outgoing(folder))
+    feed = Feed(service, box, runs_sender(service), Outgoing(folder))
     if not asked.dry_run and feed.resume():
         box = mailbox.fetch(service, folder)
         feed = replace(feed, box=box)
     arrived = Arrival(Urgency.MEDIUM, asked.day.isoformat())
     arrivals = Uploading(read_arrivals(asked.changes, arrived), arrived)
-    found = news(unstable, box, service.testing(), arrivals, asked.rebuilds)
+    found = news(unstable, box, Told(service.testing(), service.hints()), arrivals, asked.rebuilds)
     if asked.dry_run:
         sys.stdout.buffer.write(found.bag())
         tell(found.summary())
         return int(bool(found.texts))
     feed.send(found.texts)
-    return feed.order(asked.day, asked.order, found)
+    status = feed.ordered(asked.day, asked.order, found)
+    if status == 0 and asked.propose:
+        status = feed.propose(asked.day, asked.order)
+    if status == 0 and asked.proposals:
+        feed.write_proposals(asked.day, asked.proposals)
+    return status

@@ -6,10 +6,11 @@ import urllib.parse
 from dataclasses import dataclass, field
 from typing import Mapping, Optional, Sequence
 
-from office_tools import bags, letters
+from office_tools import bags
 from office_tools.faults import Fault, cause_of
 from office_tools.feed.told import tell
 from office_tools.files import read_bytes, write_whole
+from office_tools.letters import letters
 from office_tools.messages import Label, Paragraph, label_of, paragraphs
 from office_tools.service import UNANSWERED, Kept, Service
 
@@ -106,11 +107,15 @@ def fetch(service: Service, folder: str) -> Mailbox:
         found = {}
     known = dict(found)
     wanted = [Label(sender, number) for sender, count in kept.items() for number in range(1, count.unbroken + 1)]
-    lacking = [label for label in wanted if label not in known]
-    for label, text in letters.texts(service, lacking):
-        if text is None:
-            raise Fault(f"{service.url}: {label.sender} {label.number} isn't kept any more", UNANSWERED)
-        known[label] = text
+    lacking = {label.sender: label.number for label in reversed(wanted) if label not in known}
+    for sender, first in lacking.items():
+        for label, text in letters(service, sender, first):
+            if label.number > kept[sender].unbroken:
+                break  # it came meanwhile
+            known[label] = text
+    gone = next((label for label in wanted if label not in known), None)
+    if gone is not None:
+        raise Fault(f"{service.url}: {gone.sender} {gone.number} isn't kept any more", UNANSWERED)
     box.texts = {label: known[label] for label in wanted}
     if lacking or is_anew or len(known) != len(wanted):
         write_whole(box.path, b"".join(map(bags.framed, box.texts.values())))

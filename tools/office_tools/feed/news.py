@@ -12,8 +12,10 @@ from office_tools.feed.mailbox import REFUSED, Mailbox
 from office_tools.feed.rebuilds import Rebuilds, rebuilds
 from office_tools.from_packages import mail
 from office_tools.from_packages.binaries import Binary, Key
+from office_tools.from_packages.proposals import PROPOSED
 from office_tools.from_packages.sent import Sent, read_sent
 from office_tools.messages import Kind, Label, Paragraph, kind_of, paragraphs
+from office_tools.reports import ItemStanding
 
 UPLOADS, BUILDS, HINTS = "ftp", "bd", "rt"
 GONE = "Gone"
@@ -63,9 +65,17 @@ class News:
         return b"".join(map(framed, self.texts))
 
 
-def news(unstable: Unstable, box: Mailbox, testing: reports.Testing, arrivals: mail.Uploading,
-         with_rebuilds: bool) -> News:
+@dataclass(frozen=True)
+class Told:
+    """What the office tells of testing, and of the hints in force."""
+
+    testing: reports.Testing
+    hints: reports.Hints
+
+
+def news(unstable: Unstable, box: Mailbox, told: Told, arrivals: mail.Uploading, with_rebuilds: bool) -> News:
     """What the archive has and the mail doesn't tell. A rebuild of a source is told so that it moves, if asked for."""
+    testing = told.testing
     sent = read_sent(box.path)
     look_at(unstable, box, sent)
     made_up = sent.versions
@@ -85,8 +95,9 @@ def news(unstable: Unstable, box: Mailbox, testing: reports.Testing, arrivals: m
     removals = list(standing(box))
     number = sent.last[HINTS]
     found.hints = list(removal_hints(unstable, testing, removals, made_up, number))
-    # Here the office would be asked for hints for groups that have to move as one, once it proposes any.
-    found.unhints = list(unhints(unstable, testing, removals, made_up, number + len(found.hints)))
+    back = [*taken_back(unstable, removals, made_up), *spent(box, told.hints)]
+    found.unhints = [messages.unhint(Label(HINTS, after), hint)
+                     for after, hint in enumerate(back, number + len(found.hints) + 1)]
     return found
 
 
@@ -149,16 +160,24 @@ def removal_hints(unstable: Unstable, testing: reports.Testing, removals: Sequen
                                      ("Hint", f"remove {source}/{version}"), (GONE, f"{source} {version}")])
 
 
-def unhints(unstable: Unstable, testing: reports.Testing, removals: Sequence[Removal], told: Mapping[str, str],
-            after: int) -> Iterator[bytes]:
-    """Takes back this command's hints for sources that are back, or that are told without their needs first."""
-    number = after
+def taken_back(unstable: Unstable, removals: Sequence[Removal], told: Mapping[str, str]) -> Iterator[int]:
+    """This command's hints for sources that are back, or that are told without their needs first."""
     for removal in removals:
         version = unstable.sources.get(removal.source)
         is_back = version is not None and is_same(version, removal.version)
         if removal.is_own and (is_back or leaves_later(told, removal.source, removal.version)):
-            number += 1
-            yield messages.unhint(Label(HINTS, number), removal.number)
+            yield removal.number
+
+
+def spent(box: Mailbox, hints: reports.Hints) -> Iterator[int]:
+    """The hints that were mailed for the office's proposals whose groups have moved, or can't move as told any more."""
+    for number, first in box.of(HINTS):
+        if kind_of(first) is Kind.HINT and first.value(PROPOSED) is not None:
+            standings = [item.standing for item in hints.items if item.number == number]
+            is_done = all(standing is ItemStanding.MOVED for standing in standings)
+            is_over = any(standing in (ItemStanding.NO_SOURCE, ItemStanding.OTHER_VERSION) for standing in standings)
+            if standings and (is_done or is_over):
+                yield number
 
 
 def leaves_later(told: Mapping[str, str], source: str, version: str) -> bool:

@@ -1,15 +1,14 @@
 """The command office-from-packages: its words, and what it writes."""
 import argparse
 import os
-from typing import Iterator, Mapping, Sequence
+from typing import Mapping, Sequence
 
-from office_tools import bags, reports, setups, versions
+from office_tools import bags, setups, versions
 from office_tools.days import day
 from office_tools.faults import Fault
-from office_tools.files import read_bytes, write_whole
+from office_tools.files import write_whole
 from office_tools.from_packages import mail
 from office_tools.from_packages.binaries import Binary, fitting, read_binaries
-from office_tools.from_packages.groups import groups, settled_of, without
 from office_tools.from_packages.sent import read_sent
 from office_tools.from_packages.sources import Arrival, read_arrivals, read_sources
 from office_tools.from_packages.suites import Suites
@@ -17,8 +16,8 @@ from office_tools.from_packages.told import NAME
 from office_tools.messages import Urgency
 
 DESCRIPTION = """Makes FOLDER/setup.conf and FOLDER/bag from the indexes of an archive: an upload for each source, its
-builds, hints for the sources that have to move together, and the first order, which covers all of these. With --after
-it makes the bag of what is new since. What isn't taken over is told on standard error, a line for each."""
+builds, hints for the groups that the program office proposes, and the first order, which covers all of these. With
+--after it makes the bag of what is new since. What isn't taken over is told on standard error, a line for each."""
 MOST_ARCHITECTURES = 16
 
 
@@ -33,9 +32,9 @@ def words() -> argparse.ArgumentParser:
                         "the uploads that they are of")
     parser.add_argument("--sources", action="append", default=[], metavar="SOURCES", help="a file Sources")
     parser.add_argument("--after", metavar="BAG", help="all mail that was sent before: only what is new is sent")
-    parser.add_argument("--testing", metavar="TESTING", help="what is in testing: no hint names what is there")
     parser.add_argument("--with-uninstallable", action="store_true", help="send what can't be installed, too")
-    parser.add_argument("--no-hints", action="store_true", help="don't look for sources that have to move as one")
+    parser.add_argument("--no-hints", action="store_true",
+                        help="don't ask the program office for groups that move as one")
     parser.add_argument("folder", metavar="FOLDER", help="where both files are written")
     parser.add_argument("packages", metavar="PACKAGES", nargs="+", help="a file Packages of one architecture")
     return parser
@@ -50,7 +49,6 @@ def main(given: Sequence[str]) -> int:
     binaries = list(fitting(found))
     current = read_sources(asked.sources, binaries)
     sent = read_sent(asked.after)
-    in_place = testing_of(asked.testing) if asked.testing else sent.versions
     arrived = Arrival(Urgency(asked.urgency), str(asked.uploaded))
     arrivals = mail.Uploading(read_arrivals(asked.changes, arrived), arrived)
     suites = Suites(current_of(binaries, current), architectures)
@@ -60,9 +58,12 @@ def main(given: Sequence[str]) -> int:
     came = list(mail.uploads(current, sent, arrivals))
     gone = list(mail.drops(binaries, sent, sent.last["ftp"] + len(came)))
     made = list(mail.builds(binaries, sent))
-    wishes = [] if asked.no_hints else list(mail.hints(new_groups(suites, current, in_place), current, sent))
+    setup = os.path.join(asked.folder, "setup.conf")
+    write_whole(setup, setups.written(setups.Setup(architectures, mail.SENDERS)))
+    wishes = [] if asked.no_hints else list(mail.hints(setup, sent, [*came, *gone, *made], str(asked.run)))
     order = mail.order(str(asked.run), sent, {"ftp": len(came) + len(gone), "bd": len(made), "rt": len(wishes)})
-    write(asked.folder, setups.Setup(architectures, mail.SENDERS), [*came, *gone, *made, *wishes, order])
+    texts = [*came, *gone, *made, *wishes, order]
+    write_whole(os.path.join(asked.folder, "bag"), b"".join(map(bags.framed, texts)))
     print(f"uploads {len(came)}, drops {len(gone)}, builds {len(made)}, hints {len(wishes)}, orders 1")
     return 0
 
@@ -70,22 +71,3 @@ def main(given: Sequence[str]) -> int:
 def current_of(binaries: Sequence[Binary], current: Mapping[str, str]) -> list[Binary]:
     """The packages that were built of their source's current version."""
     return [binary for binary in binaries if versions.compare(binary.source_version, current[binary.source]) == 0]
-
-
-def testing_of(path: str) -> Mapping[str, str]:
-    """The sources in testing with their versions, by the office's text."""
-    try:
-        return reports.read_testing(read_bytes(path).decode(), path).sources
-    except UnicodeDecodeError as fault:
-        raise Fault(f"{path}: it is no text in UTF-8") from fault
-
-
-def new_groups(suites: Suites, current: Mapping[str, str], in_place: Mapping[str, str]) -> Iterator[Sequence[str]]:
-    """The groups of sources that have to move as one, of those that aren't in place."""
-    return groups(without(suites.needs(), settled_of(current, in_place)))
-
-
-def write(folder: str, setup: setups.Setup, texts: Sequence[bytes]) -> None:
-    """Writes the setup and the bag."""
-    write_whole(os.path.join(folder, "setup.conf"), setups.written(setup))
-    write_whole(os.path.join(folder, "bag"), b"".join(map(bags.framed, texts)))

@@ -4,6 +4,7 @@ from typing import Iterator, Mapping, Optional, Sequence
 
 from office_tools import messages, versions
 from office_tools.bags import LONGEST
+from office_tools.from_packages import proposals
 from office_tools.from_packages.binaries import Binary
 from office_tools.from_packages.sent import Sent
 from office_tools.from_packages.sources import Arrival, Arrivals
@@ -72,20 +73,10 @@ def builds(binaries: Sequence[Binary], sent: Sent) -> Iterator[bytes]:
         yield messages.build(Label("bd", number), parts)
 
 
-def hints(groups: Iterator[Sequence[str]], current: Mapping[str, str], sent: Sent) -> Iterator[bytes]:
-    """A hint for each group of sources that has to move as one, if the same wasn't sent before."""
-    number = sent.last["rt"]
-    for group in groups:
-        wish = "easy " + " ".join(f"{name}/{current[name]}" for name in group)
-        if wish in sent.hints:
-            continue
-        text = messages.hint(Label("rt", number + 1), wish)
-        if len(text) > LONGEST:
-            tell(f"a group of {len(group)} sources, the first {group[0]}: no hint: it has {len(text)} bytes, and a "
-                 f"message at most {LONGEST}")
-        else:
-            number += 1
-            yield text
+def hints(setup: str, sent: Sent, texts: Sequence[bytes], day: str) -> Iterator[bytes]:
+    """A hint for each group that the office proposes for a run over these messages, too, but for those sent before."""
+    wishes = [wish for wish in proposals.proposed(setup, sent.bag, texts, day) if wish not in sent.hints]
+    return proposals.letters(wishes, "rt", sent.last["rt"], day)
 
 
 def order(day: str, sent: Sent, new: Mapping[str, int]) -> bytes:

@@ -14,8 +14,12 @@ from office_tools.messages import Kind, Paragraph, kind_of, label_of_first, para
 
 @dataclass
 class Sent:
-    """Each sender's last number, each source's version, each package's, up to which it was dropped, and the hints."""
+    """Each sender's last number, each source's version, each package's, up to which it was dropped, and the hints.
 
+    `bag` has all of this mail.
+    """
+
+    bag: bytes = b""
     last: Counter[str] = field(default_factory=Counter)
     versions: dict[str, str] = field(default_factory=dict)
     binaries: dict[Key, str] = field(default_factory=dict)
@@ -33,6 +37,7 @@ def read_sent(path: Optional[str]) -> Sent:
     if path is None:
         return sent
     data = read_bytes(path)
+    sent.bag = data
     try:
         for place, text in enumerate(bags.messages_in(data), 1):
             try:

@@ -1,13 +1,11 @@
-"""Which packages can be installed with all packages of the files there, and which sources rest on which."""
+"""Which packages can be installed with all packages of the files there."""
 from collections import defaultdict
-from typing import Iterator, Mapping, Optional, Sequence
+from typing import Mapping, Optional, Sequence
 
 from office_tools.from_packages.binaries import Binary, Key
 from office_tools.from_packages.sent import Sent
 from office_tools.from_packages.told import tell
 from office_tools.relations import Clause, written
-
-Needs = Mapping[str, set[str]]
 
 
 class Suite:
@@ -54,14 +52,6 @@ class Suite:
                     if not self.left[clause]:
                         todo += self.having[clause]
 
-    def needs(self, place: int) -> Iterator[str]:
-        """The sources that a package rests on."""
-        binary = self.binaries[place]
-        for clause in binary.clauses:
-            sources = [self.binaries[other].source for other in self.meeting[clause] if self.good[other]]
-            if binary.source not in sources:
-                yield sources[0]
-
 
 class Suites:
     """The suites of all architectures. Packages of `all` are judged on the first one."""
@@ -87,20 +77,3 @@ class Suites:
                 tell(f"{binary.name} {binary.version} {binary.architecture}: left out: nothing installable meets "
                      f"{written(clause)}")
                 self.gone.add(binary.key)
-
-    def needs(self) -> Needs:
-        """For each source that can move at all the sources that it rests on."""
-        bad: set[str] = set()
-        while True:
-            found = {binary.source for binary, _ in self.judged_bad() if binary.key not in self.gone} - bad
-            if not found:
-                break
-            bad |= found
-            for suite in self.suites:
-                suite.take_out([place for source in found for place in suite.of_source[source]])
-        needs: dict[str, set[str]] = defaultdict(set)
-        for suite in self.suites:
-            for place, binary in enumerate(suite.binaries):
-                if suite.good[place]:
-                    needs[binary.source].update(suite.needs(place))
-        return {**{source: set() for needed in needs.values() for source in needed}, **needs}

@@ -1,15 +1,14 @@
 """office-lint: looks at messages before they are mailed."""
 import argparse
-import sys
 from dataclasses import dataclass
 from typing import Iterator, Optional, Sequence
 
 from office_tools import bags
 from office_tools.accounts import service_at
 from office_tools.days import day, today
-from office_tools.faults import Fault, tell
+from office_tools.faults import Fault
 from office_tools.files import read_bytes
-from office_tools.lint.office import MOST, Mail, MailOffice, Office, ServiceMail, StoreMail
+from office_tools.lint.office import Office, ServiceOffice, StoreOffice
 from office_tools.lint.places import place_of
 from office_tools.lint.slips import Days, Look, slips
 from office_tools.lint.state import State
@@ -63,6 +62,8 @@ class Lint:
     def look_at(self, text: Text, verdict: str) -> int:
         """Tells what is wrong with a message, sends it where that is due, and takes it on: the status."""
         label = label_of(text.text)
+        if label is not None and is_held(verdict) and self.state.taken.get(label, text.text) != text.text:
+            verdict = "refused OtherText"  # of a message before this one
         if label is None or not is_held(verdict):
             place = place_of(self.office, text.text, verdict)
             print(f"{text.name}:{place.line}: {verdict}: {place.cause}", flush=True)
@@ -117,13 +118,6 @@ def parser() -> argparse.ArgumentParser:
     return words
 
 
-def mail_of(service: Optional[Service], conf: str, store: Optional[str]) -> Mail:
-    """The mail that is kept by a service, by a store, or by an office to which nothing was mailed."""
-    if service is not None:
-        return ServiceMail(service)
-    return StoreMail(conf, store)
-
-
 def main(words: Sequence[str]) -> int:
     """Looks at the messages of the files, and mails them where that is asked for."""
     known = parser()
@@ -138,18 +132,8 @@ def main(words: Sequence[str]) -> int:
     if asked.days < 0:
         known.error("--days needs a number from 0 on")
     service = service_at(url, asked.user) if url else None
-    office = MailOffice(asked.conf or CONF, mail_of(service, asked.conf, asked.db))
+    office = ServiceOffice(asked.conf or CONF, service) if service else StoreOffice(asked.conf, asked.db)
     texts = [text for path in asked.file for text in texts_of(path)]
-    verdicts = office.verdicts([text.text for text in texts])
     lint = Lint(office, Days(asked.today, asked.days), Sender(service if asked.send else None, asked.force))
-    told_unknown(lint.state)
-    sys.stdout.flush()
+    verdicts = office.verdicts([text.text for text in texts])
     return max((lint.look_at(text, verdict) for text, verdict in zip(texts, verdicts)), default=0)
-
-
-def told_unknown(state: State) -> None:
-    """Tells which warnings are left out, since there is too much mail to read."""
-    left = [name for name, is_known in (("orders", state.knows_orders), ("unstable and hints", state.knows_unstable))
-            if not is_known]
-    if left:
-        tell(NAME, f"more than {MOST} messages are kept: warnings that rest on {' and on '.join(left)} are left out")

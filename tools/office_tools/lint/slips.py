@@ -215,24 +215,13 @@ def same(version: str, other: Optional[str]) -> bool:
     return other is not None and versions.compare(version, other) == 0
 
 
-ALWAYS: Sequence[Check] = (number_behind_a_gap, misspelt_fields, day_after_today, day_long_ago)
-"""The warnings that rest on the counts of mail alone."""
-
-OVER_UNSTABLE: Sequence[Check] = (
-    upload_of_nothing_new, build_of_another_source, bug_of_no_source, drop_of_nothing, hint_of_another_source,
-    unhint_of_nothing)
-"""Those that rest on unstable and the hints in force."""
-
-OVER_ORDERS: Sequence[Check] = (order_leaves_mail_out, order_covers_less, order_of_an_earlier_day)
-"""Those that rest on the orders before."""
+CHECKS: Sequence[Check] = (
+    number_behind_a_gap, misspelt_fields, day_after_today, day_long_ago, upload_of_nothing_new, build_of_another_source,
+    bug_of_no_source, drop_of_nothing, hint_of_another_source, unhint_of_nothing, order_over_a_gap,
+    order_leaves_mail_out, order_covers_less, order_of_an_earlier_day)
 
 
 def slips(look: Look) -> Iterator[Warned]:
-    """All warnings of a message, as far as the state is known."""
-    for check in ALWAYS:
-        yield from check(look)
-    for check in OVER_UNSTABLE if look.state.knows_unstable else ():
-        yield from check(look)
-    yield from order_over_a_gap(look)
-    for check in OVER_ORDERS if look.state.knows_orders else ():
+    """All warnings of a message."""
+    for check in CHECKS:
         yield from check(look)

@@ -1,12 +1,13 @@
 """What an office keeps and will see in its next run, taken on by each message that is looked at."""
+import abc
 import re
 from dataclasses import dataclass, field
-from typing import Callable, Iterator, Mapping, Optional, TypeVar
+from typing import Callable, Iterable, Iterator, Mapping, Optional, TypeVar
 
 from office_tools import versions
-from office_tools.messages import Kind, Label, Paragraph, Role, kind_of, paragraphs
-from office_tools.reports import Testing
-from office_tools.service import Kept
+from office_tools.messages import KINDS_OF, Kind, Label, Paragraph, Role, kind_of, label_of_first, paragraphs
+from office_tools.reports import Hints, Testing, Unstable
+from office_tools.service import Kept as Count
 from office_tools.setups import Setup
 
 SOURCE = re.compile(r"([^\s(]+)\s*(?:\(\s*([^\s)]+)\s*\))?")
@@ -45,15 +46,39 @@ class Given:
     by: tuple[int, int, int]
 
 
+EARLIER = (-1, 0, 0)
+"""Stands for a message that was kept before, whose own place the office doesn't tell."""
+
+
+class Kept(abc.ABC):
+    """The mail that an office keeps."""
+
+    @abc.abstractmethod
+    def text(self, label: Label) -> Optional[bytes]:
+        """A message, or None where none is kept."""
+
+    @abc.abstractmethod
+    def mail(self, sender: str) -> Iterator[bytes]:
+        """All messages of a sender, by number."""
+
+
 @dataclass
 class Seen:
-    """What the mail says that a run over all of it sees: unstable, and the hints in force."""
+    """What a run over all mail sees of unstable and hints: what the office tells, and what was taken on since.
 
+    `earlier` gives the kept messages of a kind. They are asked for only where what the office tells isn't enough: it
+    tells neither of a drop nor of an unhint that reaches what comes later.
+    """
+
+    earlier: Callable[[Kind], Iterable[Paragraph]]
     sources: dict[str, Given] = field(default_factory=dict)
     rows: dict[Pair, Given] = field(default_factory=dict)
+    built: dict[Pair, list[Given]] = field(default_factory=dict)
     dropped: dict[Pair, Given] = field(default_factory=dict)
     hints: set[int] = field(default_factory=set)
+    hinted: set[int] = field(default_factory=set)
     cancelled: set[int] = field(default_factory=set)
+    has_kept_drops: bool = False
 
     def take(self, sender: int, number: int, text: bytes) -> None:
         """Takes a message of the sender with this place in the setup, under this number."""
@@ -63,26 +88,13 @@ class Seen:
             raise_to(self.sources, first.value("Source") or "", given(first, (sender, number, 0)))
         elif kind is Kind.BUILD:
             for place, binary in enumerate(binaries, 1):
-                self.build(pair_of(binary), given(binary, (sender, number, place)))
+                self.built.setdefault(pair_of(binary), []).append(given(binary, (sender, number, place)))
         elif kind is Kind.DROP:
-            self.drop(pair_of(first), given(first, (sender, number, 0)))
+            raise_to(self.dropped, pair_of(first), given(first, (sender, number, 0)))
         elif kind is Kind.HINT:
-            self.hints.add(number)
+            self.hinted.add(number)
         elif kind is Kind.UNHINT:
             self.cancelled.add(int(first.value("Cancels") or 0))
-
-    def build(self, pair: Pair, row: Given) -> None:
-        """A build: its row counts if no drop reaches its version."""
-        dropped = self.dropped.get(pair)
-        if dropped is None or versions.compare(row.version, dropped.version) > 0:
-            raise_to(self.rows, pair, row)
-
-    def drop(self, pair: Pair, dropped: Given) -> None:
-        """A drop: the row goes if it is at most of that version, and then no lower one is left."""
-        raise_to(self.dropped, pair, dropped)
-        row = self.rows.get(pair)
-        if row is not None and versions.compare(row.version, dropped.version) <= 0:
-            del self.rows[pair]
 
     def source(self, name: str) -> Optional[str]:
         """Unstable's version of a source."""
@@ -90,13 +102,30 @@ class Seen:
         return found.version if found else None
 
     def row(self, architecture: str, package: str) -> Optional[str]:
-        """Unstable's version of a package on an architecture."""
-        found = self.rows.get((architecture, package))
-        return found.version if found else None
+        """Unstable's version of a package on an architecture: the greatest one above all drops."""
+        pair = architecture, package
+        built = self.built.get(pair, [])
+        rows: dict[Pair, Given] = {}
+        for row in ([self.rows[pair]] if pair in self.rows else []) + built:
+            if self.is_above_drops(pair, row, pair not in self.rows):
+                raise_to(rows, pair, row)
+        return rows[pair].version if pair in rows else None
+
+    def is_above_drops(self, pair: Pair, row: Given, is_asked: bool) -> bool:
+        """Whether no drop reaches a row: none that was taken on, nor, where that is asked, one that was kept before."""
+        if is_asked and not self.has_kept_drops:
+            self.has_kept_drops = True
+            for first in self.earlier(Kind.DROP):
+                raise_to(self.dropped, pair_of(first), given(first, EARLIER))
+        dropped = self.dropped.get(pair)
+        return dropped is None or versions.compare(row.version, dropped.version) > 0
 
     def in_force(self, number: int) -> bool:
         """Whether a hint of this number stands."""
-        return number in self.hints and number not in self.cancelled
+        if number in self.cancelled or (number not in self.hints and number not in self.hinted):
+            return False
+        return number in self.hints or all(int(first.value("Cancels") or 0) != number
+                                           for first in self.earlier(Kind.UNHINT))
 
 
 def given(paragraph: Paragraph, by: tuple[int, int, int]) -> Given:
@@ -133,25 +162,40 @@ class Orders:
 
 
 class State:
-    """The state that warnings are judged by.
+    """The state that warnings are judged by."""
 
-    `knows_unstable` and `knows_orders` are false where there was too much mail to read, so that no warning is told
-    which rests on it.
-    """
-
-    def __init__(self, setup: Setup, counts: Mapping[str, Kept], testing: Testing,
-                 kept: Callable[[Label], Optional[bytes]]) -> None:
+    def __init__(self, setup: Setup, counts: Mapping[str, Count], testing: Testing, kept: Kept) -> None:
         self.setup = setup
         self.runs = setup.sender_of(Role.RUNS)
         self.places = {sender: place for place, sender in enumerate(setup.senders)}
-        self.unbroken = {sender: count.unbroken for sender, count in counts.items()}
+        self.greatest = {sender: count.greatest for sender, count in counts.items()}
+        self.before = {sender: count.unbroken for sender, count in counts.items()}
+        self.unbroken = dict(self.before)
         self.kept = kept
         self.testing = testing.sources
-        self.seen = Seen()
+        self.seen = Seen(self.earlier)
         self.orders = Orders()
         self.taken: dict[Label, bytes] = {}
-        self.knows_unstable = True
-        self.knows_orders = True
+        for text in kept.mail(self.runs) if counts[self.runs].kept else ():
+            self.orders.take(text)
+
+    def told(self, unstable: Unstable, hints: Hints) -> "State":
+        """The same, with what the office tells of unstable and of the hints in force."""
+        self.seen.sources.update((name, Given(version, EARLIER)) for name, version in unstable.sources.items())
+        self.seen.rows.update(
+            ((row.architecture, row.package), Given(row.version, EARLIER)) for row in unstable.rows)
+        self.seen.hints.update(item.number for item in hints.items)
+        return self
+
+    def earlier(self, kind: Kind) -> Iterator[Paragraph]:
+        """The first paragraphs of the messages of a kind that the office kept without a gap."""
+        role = next(role for role, kinds in KINDS_OF.items() if kind in kinds)
+        for sender in self.setup.senders_of(role):
+            for text in self.kept.mail(sender) if self.before[sender] else ():
+                first = next(paragraphs(text))
+                label = label_of_first(first)
+                if label is not None and label.number <= self.before[sender] and kind_of(first) is kind:
+                    yield first
 
     def see(self, label: Label, text: bytes) -> None:
         """Takes a message into what a run over it sees."""
@@ -162,7 +206,9 @@ class State:
 
     def text(self, label: Label) -> Optional[bytes]:
         """A message that is kept, or that was taken on."""
-        return self.taken.get(label) or self.kept(label)
+        if label in self.taken or label.number > self.greatest[label.sender]:
+            return self.taken.get(label)
+        return self.kept.text(label)
 
     def is_kept(self, label: Label) -> bool:
         """Whether a message of this number is there."""

@@ -3,7 +3,6 @@ import json
 import os
 import urllib.parse
 from dataclasses import dataclass, field
-from typing import Iterator
 
 from office_tools.faults import Fault, cause_of
 from office_tools.files import write_whole
@@ -32,13 +31,9 @@ class Numbers:
         """Those up to a number."""
         return Numbers([(first, min(end, last)) for first, end in self.ranges if first <= last])
 
-    def missing(self, last: int) -> Iterator[int]:
-        """The numbers from 1 to a number that aren't there."""
-        start = 1
-        for first, end in self.ranges:
-            yield from range(start, min(first, last + 1))
-            start = end + 1
-        yield from range(start, last + 1)
+    def next_missing(self, first: int) -> int:
+        """The least number from this one on that isn't there."""
+        return next((end + 1 for start, end in self.ranges if start <= first <= end), first)
 
 
 Held = dict[str, Numbers]

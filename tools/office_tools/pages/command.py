@@ -7,8 +7,8 @@ import os
 from typing import Iterator, Sequence
 
 from office_tools.faults import Fault, cause_of
-from office_tools.pages.fetching import fetch, fetch_answers, NAME
-from office_tools.pages.offices import FileOffice, Office, ServiceOffice, StoreOffice
+from office_tools.pages.fetching import fetch, fetch_answers
+from office_tools.pages.offices import FileOffice, NAME, Office, ServiceOffice, StoreOffice
 from office_tools.pages.site import Site
 from office_tools.pages.state import State
 

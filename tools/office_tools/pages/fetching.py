@@ -7,14 +7,14 @@ from typing import Collection, Iterable, Mapping, Optional, Sequence
 
 from office_tools import reports
 from office_tools.faults import Fault, tell
-from office_tools.pages.offices import finished_in, Office
+from office_tools.pages.offices import finished_in, NAME, Office
 from office_tools.pages.outcomes import NOTHING, outcome_in, outcomes_of, SourceOutcome, What
-from office_tools.pages.state import Event, KeptRun, State, Why
+from office_tools.pages.state import Event, KeptRun, Proposal, State, Why
 from office_tools.pages.told import behind_excuse
 from office_tools.reports import Excuse
 
-NAME = "office-pages"
 AT_ONCE = 100  # answers about sources that are kept at once
+HINTS, PROPOSED = "hints", "proposed"  # what is kept as it was told
 TURNS = 3  # how often testing is asked for, if a run is finished between two questions
 
 
@@ -47,6 +47,7 @@ def fetch(office: Office, state: State) -> Optional[Newest]:
         newest = read_run(state.run(state.runs()[-1].number))
         if fetch_testing(office, state, newest.number):
             fetch_hints(office, state)
+            fetch_told(office, state, newest.number)
             return newest
     raise Fault(f"a run was finished between two questions, {TURNS} times in a row")
 
@@ -127,6 +128,18 @@ def fetch_testing(office: Office, state: State, newest: int) -> bool:
     return finished == newest
 
 
+def fetch_told(office: Office, state: State, newest: int) -> None:
+    """Keeps the hints in force as they are now, and what is proposed behind the newest run, where this can be had."""
+    hints = office.hints()
+    if hints is not None:
+        state.keep_told(HINTS, newest, hints)
+    proposed = state.told(PROPOSED)
+    if proposed is None or proposed[0] != newest:
+        told = office.proposed()
+        if told is not None:
+            state.keep_told(PROPOSED, newest, told)
+
+
 def without_age(excuse: Excuse) -> str:
     """What an excuse says but for its age, which changes from day to day."""
     return " ".join([excuse.testing or "-", excuse.unstable, str(excuse.needed),
@@ -161,7 +174,8 @@ def fetch_answers(office: Office, state: State, newest: Newest, seconds: float) 
     names: set[str] = set()
     found: dict[str, Why] = {}
     before = state.whys()
-    for source, told in office.why(sources_to_ask(newest, before), time.monotonic() + seconds):
+    end = time.monotonic() + seconds
+    for source, told in office.why(sources_to_ask(newest, before), end):
         # If a run was finished meanwhile, what is told is of that one, which the next call fetches.
         if not told.startswith(f"why {newest.number} "):
             break
@@ -175,7 +189,36 @@ def fetch_answers(office: Office, state: State, newest: Newest, seconds: float) 
             found = {}
     keep_answers(state, found)
     fetch_hints(office, state)
-    return names
+    return names | fetch_proposals(office, state, newest, end)
+
+
+def fetch_proposals(office: Office, state: State, newest: Newest, until: float) -> set[str]:
+    """Asks until that time what is proposed for sources that wait and that no hint of the newest run names."""
+    proposed = state.told(PROPOSED)
+    if proposed is None:
+        return set()
+    grouped, outcomes, kept = sources_in(proposed[1]), outcomes_of(newest.update), state.proposals()
+    waiting = [excuse for excuse in newest.excuses.excuses
+               if excuse.source not in grouped and outcomes.get(excuse.source, NOTHING)[-1].what is What.WAIT]
+    found: dict[str, Proposal] = {}
+    for excuse in sorted(waiting, key=lambda excuse: kept[excuse.source].run if excuse.source in kept else 0):
+        before = kept.get(excuse.source)
+        if time.monotonic() >= until:
+            break
+        if before is not None and before.run == newest.number:
+            continue
+        told = office.proposed(excuse.source)
+        if told is None:
+            break
+        found[excuse.source] = Proposal(newest.number, without_age(excuse), told)
+    state.keep_proposals(found)
+    return {source for source, proposal in found.items()
+            if source not in kept or (kept[source].excuse, kept[source].told) != (proposal.excuse, proposal.told)}
+
+
+def sources_in(proposed: str) -> Mapping[str, str]:
+    """The hint of each source that is in one of these hints, which stand one a line."""
+    return {item.partition("/")[0]: line for line in proposed.splitlines() for item in line.split(" ")[1:]}
 
 
 def keep_answers(state: State, whys: Mapping[str, Why]) -> None:

@@ -1,15 +1,17 @@
 """Where reports come from: a service, a store that no office has open, or the files of one run."""
+import http.client
 import re
 import time
 from typing import Iterator, Mapping, Optional, Protocol, Sequence
 
 from office_tools import program, reports
-from office_tools.faults import Fault
+from office_tools.faults import Fault, tell
 from office_tools.files import read_bytes
 from office_tools.messages import Kind, kind_of, paragraphs
 from office_tools.pages.outcomes import run_of
-from office_tools.service import Service
+from office_tools.service import NO_ROUTE, Service
 
+NAME = "office-pages"
 AT_ONCE = 100  # sources about which the program is asked by one command, which opens the store once
 
 
@@ -34,6 +36,12 @@ class Office(Protocol):
     def hint(self, number: int) -> Optional[str]:
         """The text of a hint of the release team, where it can be had."""
 
+    def hints(self) -> Optional[str]:
+        """The hints in force, where they can be had."""
+
+    def proposed(self, source: str = "") -> Optional[str]:
+        """What it proposes for all groups that can move, or for one source, where it can be had."""
+
 
 class ServiceOffice:
     """The office that answers at a URL."""
@@ -41,6 +49,7 @@ class ServiceOffice:
     def __init__(self, url: str) -> None:
         self.service = Service(url)
         self.release: Optional[str] = None
+        self.is_older = False
 
     def runs(self) -> Sequence[reports.Run]:
         return reports.read_runs(self.service.good_text("/runs"), self.service.url + "/runs")
@@ -70,6 +79,26 @@ class ServiceOffice:
                 return wish
         return None
 
+    def hints(self) -> Optional[str]:
+        return self.newer("/hints")
+
+    def proposed(self, source: str = "") -> Optional[str]:
+        return self.newer(f"/propose/{source}" if source else "/propose")
+
+    def newer(self, path: str) -> Optional[str]:
+        """A page that an office of an earlier version hasn't, which is told once; None where it isn't there."""
+        if self.is_older:
+            return None
+        reply = self.service.get(path)
+        if reply.is_good:
+            return reply.body.decode(errors="backslashreplace")
+        if reply.status != http.client.NOT_FOUND:
+            raise self.service.bad(path, reply)
+        if reply.text == NO_ROUTE:
+            self.is_older = True
+            tell(NAME, f"{self.service.bad(path, reply).cause}: so no page shows the state of hints, nor proposals")
+        return None
+
 
 def hint_in(text: bytes) -> Optional[str]:
     """What a message asks for, where it is a hint."""
@@ -83,7 +112,7 @@ class StoreOffice:
 
     def __init__(self, setup: str, store: str) -> None:
         self.options = ["--conf", setup, "--db", store]
-        self.hints: Optional[Mapping[int, str]] = None
+        self.wishes: Optional[Mapping[int, str]] = None
 
     def told(self, *words: str) -> str:
         """What a command of the program prints."""
@@ -113,10 +142,18 @@ class StoreOffice:
                     yield head[2], part
 
     def hint(self, number: int) -> Optional[str]:
-        if self.hints is None:
+        if self.wishes is None:
             found = re.finditer(r"(?m)^\S+ (\d+) hint (.+)$", self.told("mail", "--list"))
-            self.hints = {int(match[1]): match[2] for match in found}
-        return self.hints.get(number)
+            self.wishes = {int(match[1]): match[2] for match in found}
+        return self.wishes.get(number)
+
+    def hints(self) -> Optional[str]:
+        return self.told("hints")
+
+    def proposed(self, source: str = "") -> Optional[str]:
+        # If nothing is proposed, or the source isn't freed, the status is 1.
+        ran = program.run(["propose", *([source] if source else []), *self.options])
+        return ran.stdout.decode() if ran.returncode in (0, 1) else None
 
 
 class FileOffice:
@@ -151,6 +188,12 @@ class FileOffice:
         return iter(())
 
     def hint(self, number: int) -> Optional[str]:
+        return None
+
+    def hints(self) -> Optional[str]:
+        return None
+
+    def proposed(self, source: str = "") -> Optional[str]:
         return None
 
 

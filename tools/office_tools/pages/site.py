@@ -94,13 +94,16 @@ class Site:
         self.write_sources(facts, facts.names)
         self.write_runs(facts)
         self.write_testing(facts)
+        self.put("hints.html", self.page("hints.html", {
+            "run": newest.kept.run, "rows": views.standing_rows(facts, facts.links("source/")), "up": ""}))
         self.put("excuses.json", excuses_json(newest.excuses, newest.update, newest.kept.fetched).encode())
         self.write_lists(facts)
         self.move_all()
 
     def build_answers(self, newest: Newest, names: Collection[str]) -> None:
         """Writes the pages that answers about these sources change, behind `build`."""
-        facts = dataclasses.replace(self.facts_of(newest), whys=self.state.whys(), hints=self.state.hints())
+        facts = dataclasses.replace(self.facts_of(newest), whys=self.state.whys(), hints=self.state.hints(),
+                                    proposals=self.state.proposals())
         self.digests_now = dict(self.digests)
         self.write_sources(facts, names)
         self.write_lists(facts)

@@ -14,7 +14,7 @@ from typing import Iterable, Iterator, Mapping, Optional, Sequence
 from office_tools.faults import Fault
 from office_tools.reports import Run
 
-SCHEMA = 1
+SCHEMA = 2
 
 TABLES = """
 CREATE TABLE run (number INTEGER PRIMARY KEY, line TEXT NOT NULL, fetched TEXT NOT NULL, excuses BLOB NOT NULL,
@@ -26,6 +26,8 @@ CREATE TABLE last (source TEXT PRIMARY KEY, run INTEGER NOT NULL, testing TEXT N
 CREATE TABLE testing (run INTEGER PRIMARY KEY, told BLOB NOT NULL) STRICT;
 CREATE TABLE why (source TEXT PRIMARY KEY, run INTEGER NOT NULL, since INTEGER NOT NULL, excuse TEXT NOT NULL,
     told TEXT NOT NULL) STRICT;
+CREATE TABLE told (name TEXT PRIMARY KEY, run INTEGER NOT NULL, told TEXT NOT NULL) STRICT;
+CREATE TABLE proposal (source TEXT PRIMARY KEY, run INTEGER NOT NULL, excuse TEXT NOT NULL, told TEXT NOT NULL) STRICT;
 CREATE TABLE hint (number INTEGER PRIMARY KEY, told TEXT) STRICT;
 CREATE TABLE page (path TEXT PRIMARY KEY, digest TEXT NOT NULL) STRICT;
 CREATE TABLE built (made_by TEXT NOT NULL) STRICT;
@@ -70,6 +72,15 @@ class Why:
 
     run: int
     since: int
+    excuse: str
+    told: str
+
+
+@dataclass(frozen=True)
+class Proposal:
+    """What the office proposed for a source behind a run, and what its excuse was then but for the age."""
+
+    run: int
     excuse: str
     told: str
 
@@ -135,7 +146,7 @@ class State:
         """Drops all runs from this one on, and what was asked behind them."""
         with self.transaction():
             self.database.execute("DELETE FROM run WHERE number >= ?", (number,))
-            for table in "event", "last", "testing", "why":
+            for table in "event", "last", "testing", "why", "told", "proposal":
                 self.database.execute(f"DELETE FROM {table} WHERE run >= ?", (number,))
             # Of the columns beside max(run) SQLite gives those of the row that has it.
             self.database.execute("INSERT OR IGNORE INTO last SELECT source, max(run), testing, unstable, reasons, "
@@ -192,6 +203,33 @@ class State:
                 (source, why.run, why.since, why.excuse, why.told) for source, why in whys.items()))
             self.want_hints(hints)
             self.database.execute("DELETE FROM built")
+
+    def told(self, name: str) -> Optional[tuple[int, str]]:
+        """A text that is kept as it was told, and behind which run."""
+        with self.faults():
+            found = self.database.execute("SELECT run, told FROM told WHERE name = ?", (name,)).fetchone()
+        return (found[0], found[1]) if found else None
+
+    def keep_told(self, name: str, run: int, text: str) -> None:
+        """Keeps a text as it was told, in the place of an earlier one."""
+        if self.told(name) == (run, text):
+            return
+        with self.transaction():
+            self.database.execute("INSERT OR REPLACE INTO told VALUES (?, ?, ?)", (name, run, text))
+            self.database.execute("DELETE FROM built")
+
+    def proposals(self) -> Mapping[str, Proposal]:
+        """What was proposed for sources."""
+        with self.faults():
+            return {source: Proposal(*parts) for source, *parts in self.database.execute("SELECT * FROM proposal")}
+
+    def keep_proposals(self, proposals: Mapping[str, Proposal]) -> None:
+        """Keeps what was proposed for sources, each in the place of an earlier answer."""
+        if proposals:
+            with self.transaction():
+                self.database.executemany("INSERT OR REPLACE INTO proposal VALUES (?, ?, ?, ?)", (
+                    (source, proposal.run, proposal.excuse, proposal.told) for source, proposal in proposals.items()))
+                self.database.execute("DELETE FROM built")
 
     def want_hints(self, numbers: Iterable[int]) -> None:
         """Keeps within a transaction that the texts of these hints are wanted."""

@@ -6,16 +6,18 @@ from dataclasses import dataclass
 from typing import Mapping, Optional, Sequence
 
 from office_tools import reports
-from office_tools.pages.fetching import without_age, hints_named, Newest
+from office_tools.pages.fetching import HINTS, PROPOSED, hints_named, Newest, sources_in, without_age
 from office_tools.pages.outcomes import NOTHING, outcome_in, outcomes_of, reason_words, SourceOutcome, What
 from office_tools.pages.sentences import breaks, old_enough, outcome_sentence, reason_sentence
-from office_tools.pages.state import Event, State, Why
+from office_tools.pages.state import Event, Proposal, State, Why
 from office_tools.pages.told import Line, linked, lines_of, Links, Piece, shortened
 from office_tools.reports import Excuse, Reason, ReasonKind
 
 HINT_LINES: Mapping[ReasonKind, str] = {
     ReasonKind.TOO_YOUNG: "old enough ", ReasonKind.BLOCKED: "blocked ", ReasonKind.REMOVAL: "removal asked "}
 """What the lines begin with that name the hints behind a reason."""
+
+NO_GROUP = "No hint: the office found no group that frees it."
 
 
 @dataclass(frozen=True)
@@ -67,6 +69,17 @@ class Row:
 
 
 @dataclass(frozen=True)
+class Item:
+    """An item of a hint in force, as the list of hints shows it, and how it stands."""
+
+    number: int
+    words: str
+    is_covered: bool
+    item: Piece
+    standing: str
+
+
+@dataclass(frozen=True)
 class Facts:
     """All that is kept, read, and what is counted of it once."""
 
@@ -76,6 +89,9 @@ class Facts:
     last: Mapping[str, Event]
     whys: Mapping[str, Why]
     hints: Mapping[int, str]
+    standing: Sequence[reports.HintItem]
+    proposed: Mapping[str, str]
+    proposals: Mapping[str, Proposal]
     bugs: str
     outcomes: Mapping[str, Sequence[SourceOutcome]]
     excuses: Mapping[str, Excuse]
@@ -110,7 +126,12 @@ def facts_of(state: State, newest: Newest, bugs: str) -> Facts:
     kept = state.testing()
     testing = reports.read_testing(kept[1]) if kept is not None and kept[0] == newest.number else None
     rows = testing.rows if testing else ()
-    return Facts(newest, state.runs(), testing, state.last_events(), state.whys(), state.hints(), bugs,
+    hints = state.told(HINTS)
+    proposed = state.told(PROPOSED)
+    return Facts(newest, state.runs(), testing, state.last_events(), state.whys(), state.hints(),
+                 reports.read_hints(hints[1]).items if hints else (),
+                 sources_in(proposed[1]) if proposed and proposed[0] == newest.number else {},
+                 state.proposals(), bugs,
                  outcomes_of(newest.update), {excuse.source: excuse for excuse in newest.excuses.excuses},
                  binaries_of(rows), {row.package: row.source for row in rows})
 
@@ -219,7 +240,7 @@ def source_of(facts: Facts, name: str, links: Links) -> Source:
         () if has_moved else told_of(facts, excuse, outcomes, links),
         lines_of(name, why.told, links) if why else (),
         why.since if why else None,
-        proposal_lines(name), facts.binaries.get(name, ()), facts.last.get(name))
+        proposal_lines(facts, excuse), facts.binaries.get(name, ()), facts.last.get(name))
 
 
 def testing_version(facts: Facts, name: str) -> str:
@@ -248,14 +269,26 @@ def event_sentence(event: Event) -> str:
     return "; ".join(filter(None, [event.reasons, outcome])) or "No excuse any more"
 
 
-def proposal_lines(name: str) -> Sequence[str]:
-    """What the office proposes for a source that doesn't move: hints that free it, or blocks that show that none does.
+def proposal_lines(facts: Facts, excuse: Optional[Excuse]) -> Sequence[str]:
+    """What the office proposes for a source that waits.
 
-    No office has a command that tells it, so there are none. A command `office propose` will print them, hints first
-    and behind them a block for each source that no group frees: ask for its text where `/why` is asked for, keep it
-    beside that answer, and cut it into the lines of this source here. The template shows them under a heading.
+    That is the hint of its group, else what it answered for this source alone: the hints on which it rests, and what
+    shows that no group frees it.
     """
-    return ()
+    if excuse is None or facts.outcomes.get(excuse.source, NOTHING)[-1].what is not What.WAIT:
+        return ()
+    if excuse.source in facts.proposed:
+        return (shortened(facts.proposed[excuse.source]),)
+    proposal = facts.proposals.get(excuse.source)
+    if proposal is None or proposal.excuse != without_age(excuse):
+        return ()
+    return tuple(map(shortened, proposal.told.splitlines())) or (NO_GROUP,)
+
+
+def standing_rows(facts: Facts, links: Links) -> Sequence[Item]:
+    """The items of the hints in force, by the hints' numbers."""
+    return [Item(item.number, item.words, item.is_covered, Piece(item.item, links.source(item.item.partition("/")[0])),
+                 f"unstable has {item.other}" if item.other else item.standing.value) for item in facts.standing]
 
 
 def offenders_of(facts: Facts, links: Links) -> Sequence[tuple[int, Piece, str]]:

@@ -1,4 +1,5 @@
-use Rattle.office_core_outcome.specs.Hints.{release, with_letters}
+use Rattle.office_core_facts.specs.Seen.{release}
+use Rattle.office_core_outcome.specs.Hints.{with_letters}
 use Rattle.office_core_outcome.proofs.deciding.decide_with.Goals as goal
 
 pub returns-clause-ok : goal.returns-clause-ok

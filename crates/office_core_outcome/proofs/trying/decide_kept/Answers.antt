@@ -5,7 +5,8 @@ use Rattle.testing_rules_laws.specs.Suite.{Suite}
 use Rattle.office_store_keeper.specs.Content.{Content}
 use Rattle.office_core_orders.proofs.GivingBack.{given_back}
 use Rattle.office_core_facts.specs.Outcome.{outcome}
-use Rattle.office_core_outcome.specs.Hints.{release, with_letters}
+use Rattle.office_core_facts.specs.Seen.{release}
+use Rattle.office_core_outcome.specs.Hints.{with_letters}
 use Rattle.office_core_outcome.specs.Trial.{decided}
 use Rattle.office_core_outcome.proofs.trying.decide_kept.Goals as goal
 

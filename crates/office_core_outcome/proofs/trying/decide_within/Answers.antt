@@ -4,9 +4,10 @@ use Rattle.testing_rules_laws.specs.Covered.{Covered}
 use Rattle.testing_rules_laws.specs.StandsFor.{StandsFor}
 use Rattle.office_store_keeper.specs.Content.{Content}
 use Rattle.office_core_facts.specs.Outcome.{outcome}
-use Rattle.office_core_outcome.specs.Hints.{release, with_letters}
-use Rattle.office_core_outcome.specs.Trial.{decided, items_within}
-use Rattle.office_core_outcome.proofs.CoveredFacts.{stands_within}
+use Rattle.office_core_facts.specs.Seen.{items_within, release}
+use Rattle.office_core_outcome.specs.Hints.{with_letters}
+use Rattle.office_core_outcome.specs.Trial.{decided}
+use Rattle.office_core_facts.proofs.CoveredFacts.{stands_within}
 use Rattle.office_core_outcome.proofs.trying.decide_within.Goals as goal
 
 pub returns-clause-without : goal.returns-clause-without

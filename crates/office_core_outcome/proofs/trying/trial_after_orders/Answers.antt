@@ -6,7 +6,7 @@ use Rattle.office_store_keeper.specs.Content.{Content}
 use Rattle.office_core_facts.specs.declared.covered.KnownFacts.{KnownFacts}
 use Rattle.office_core_facts.specs.Known.{AreKnown}
 use Rattle.office_core_facts.specs.State.{IsOffice}
-use Rattle.office_core_outcome.specs.Hints.{release}
+use Rattle.office_core_facts.specs.Seen.{release}
 use Rattle.office_core_outcome.specs.Trial.{IsTrial, told_on, trial_date}
 use Rattle.office_core_outcome.specs.declared.Trial.{Trial}
 use Rattle.office_core_outcome.specs.declared.Trial.TheVariants.{NoDate}

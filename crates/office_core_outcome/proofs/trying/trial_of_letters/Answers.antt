@@ -1,7 +1,7 @@
 use Rattle.std.proofs.Common.{◌≡◌, ◌+◌, ℕ, length, slice_index, ap, ◌∙◌, arith}
 use Rattle.office_store_keeper.specs.Content.{Content}
 use Rattle.office_core_orders.proofs.ReadyCount.{ready_bound}
-use Rattle.office_core_outcome.specs.Hints.{release}
+use Rattle.office_core_facts.specs.Seen.{release}
 use Rattle.office_core_outcome.proofs.TryFacts.{tried_is}
 use Rattle.office_core_outcome.proofs.trying.trial_of_letters.Goals as goal
 

@@ -1,7 +1,8 @@
 use Rattle.std.proofs.Common.{◌≡◌, ◌++◌, ℕ, List, slice_index, length, sym, ap, ◌∙◌}
 use Rattle.office_store_keeper.specs.Content.{Content}
 use Rattle.office_store_keeper.specs.declared.values.Letter.{Letter}
-use Rattle.office_core_outcome.specs.Hints.{first_refused, hint_letters, release}
+use Rattle.office_core_facts.specs.Seen.{release}
+use Rattle.office_core_outcome.specs.Hints.{first_refused, hint_letters}
 use Rattle.office_core_outcome.proofs.TryFacts.{told_refused, told_tried}
 use Rattle.office_core_outcome.proofs.trying.trial_over_covers.Goals as goal
 

@@ -1,10 +1,13 @@
-use Rattle.std.proofs.Common.{◌≡◌, ◌++◌, subst}
-use Rattle.std.proofs.lemmas.Result.{IfOk-weaker}
+use Rattle.std.proofs.Common.{◌≡◌, ◌++◌, List, ap, subst, ◌∙◌}
+use Rattle.std.specs.Option.{option_copied}
 use Rattle.testing_rules_items.specs.Words.{Text}
 use Rattle.testing_rules_excuses.specs.States.{excuse_of}
+use Rattle.testing_rules_model.specs.declared.facts.UploadIn.{UploadIn}
+use Rattle.testing_rules_model.specs.Moves.{source_in}
 use Rattle.testing_rules_reports.specs.Sources.{source_text, waits_in}
 use Rattle.office_core_why.specs.Telling.{unstable_of}
-use Rattle.office_core_why.specs.Why.{IsRefusedWhere, IsToldBy}
+use Rattle.office_core_why.specs.Why.{IsRefusedWhere, standing_line}
+use Rattle.office_core_why.proofs.WhyFacts.{is_some-copied}
 use Rattle.office_core_why.proofs.told.lines_from_excuses.Goals as goal
 
 pub returns-clause-told : goal.returns-clause-told
@@ -13,14 +16,14 @@ returns-clause-told c =
     let reports = a.reports.now in
     let origins : Text = c.in_ok-origins.origins in
     let refusal : Text = c.in_ok-refusal.refusal in
-    IfOk-weaker c.with_reasons.result
-    (λ text. text ≡ source_text a.run a.source.now reports.excuses reports.updates origins ++ refusal)
-    (IsToldBy a.senders.now a.archs.now (unstable_of a.archs.now a.facts.now) a.testing.now a.excuses.now a.run reports a.source.now)
-    (λ text is. record {
+    let found : option_copied c.source_in-upload.result ≡ source_in a.facts.now.sources a.source.now =
+    c.source_in-upload.ensures ∙ ap (λ (us : List UploadIn). source_in us a.source.now) c.sources.ensures.sources in
+    record {
       origins = origins;
       refusal = refusal;
       come = c.in_ok-origins.ensures;
       refused = subst (λ (update : Text). IsRefusedWhere (waits_in a.source.now update) a.archs.now (unstable_of a.archs.now a.facts.now) a.testing.now a.excuses.now (excuse_of a.excuses.now a.source.now) refusal) c.as_str-update.ensures c.in_ok-refusal.ensures.told;
-      is = is;
-    })
-    c.with_reasons.ensures
+      is = c.in_ok-text.ensures
+          ∙ ap (λ (line : Text). source_text a.run a.source.now reports.excuses reports.updates (line ++ origins) ++ refusal) (c.in_ok-standing.ensures ∙ ap (standing_line a.testing.now a.source.now) found);
+      known = c.is_some.ensures ∙ is_some-copied c.source_in-upload.result (source_in a.facts.now.sources a.source.now) found;
+    }

@@ -1,7 +1,7 @@
 use Rattle.office_core.specs.Preserves.{StoreRefused}
 use Rattle.office_core_facts.specs.State.{state_of}
 use Rattle.office_core.proofs.CarryFacts.{risen}
-use Rattle.office_http.proofs.ServeFacts.{told_status, told_testing, told_excuses, told_update, told_waiting, told_runs, told_kept, told_letter, told_why, place_status, place_text, place_report, place_letter}
+use Rattle.office_http.proofs.ServeFacts.{told_status, told_testing, told_excuses, told_update, told_waiting, told_runs, told_kept, told_letter, told_bag, told_why, told_order, told_hints, told_unstable, told_propose, told_propose_for, place_or, place_status, place_text, place_report, place_letter, place_part, place_why}
 use Rattle.office_http.proofs.serve.tell.Goals as goal
 
 pub returns-in-Status-clause-place : goal.returns-in-Status-clause-place
@@ -100,8 +100,20 @@ returns-in-Letter-clause-tells g c =
     let e = c.kept_text.ensures in
     λ h. rw (c.in-Letter.is, c.letter_answer.ensures) (told_letter (StoreRefused keeper s0 s1) (state_of keeper s0) c.in-Letter.sender c.in-Letter.number r (e.text h.0) (risen (keeper.refusals s0) (keeper.refusals s1) r e.counted))
 
+pub returns-in-Bag-clause-place : goal.returns-in-Bag-clause-place
+returns-in-Bag-clause-place g c = rw c.part_answer.ensures (place_part (g.K.Keeper.setup c.args.office.now) c.bag_part.result)
+
+pub returns-in-Bag-clause-tells : goal.returns-in-Bag-clause-tells
+returns-in-Bag-clause-tells g c =
+    let keeper = g.K.Keeper in
+    let s0 = c.args.office.now in
+    let s1 = c.bag_part.new.office in
+    let r = c.bag_part.result in
+    let e = c.bag_part.ensures in
+    λ h. rw (c.in-Bag.is, c.part_answer.ensures) (told_bag (StoreRefused keeper s0 s1) (state_of keeper s0) c.in-Bag.sender c.in-Bag.from r (e.part h) (risen (keeper.refusals s0) (keeper.refusals s1) r e.asks.counted))
+
 pub returns-in-Why-clause-place : goal.returns-in-Why-clause-place
-returns-in-Why-clause-place g c = rw c.report_answer-in-Why.ensures (place_report (g.K.Keeper.setup c.args.office.now) c.source_text.result)
+returns-in-Why-clause-place g c = rw c.why_answer.ensures (place_why (g.K.Keeper.setup c.args.office.now) c.source_text.result)
 
 pub returns-in-Why-clause-tells : goal.returns-in-Why-clause-tells
 returns-in-Why-clause-tells g c =
@@ -110,4 +122,64 @@ returns-in-Why-clause-tells g c =
     let s1 = c.source_text.new.office in
     let r = c.source_text.result in
     let e = c.source_text.ensures in
-    λ h. rw (c.in-Why.is, c.report_answer-in-Why.ensures) (told_why (StoreRefused keeper s0 s1) (state_of keeper s0) c.in-Why.source r (e.tells h) (risen (keeper.refusals s0) (keeper.refusals s1) r e.counted))
+    λ h. rw (c.in-Why.is, c.why_answer.ensures) (told_why (StoreRefused keeper s0 s1) (state_of keeper s0) c.in-Why.source r (e.tells h) (risen (keeper.refusals s0) (keeper.refusals s1) r e.counted))
+
+pub returns-in-Order-clause-place : goal.returns-in-Order-clause-place
+returns-in-Order-clause-place g c = rw c.text_answer-in-Order.ensures (place_text (g.K.Keeper.setup c.args.office.now) c.order_on.result)
+
+pub returns-in-Order-clause-tells : goal.returns-in-Order-clause-tells
+returns-in-Order-clause-tells g c =
+    let keeper = g.K.Keeper in
+    let s0 = c.args.office.now in
+    let s1 = c.order_on.new.office in
+    let r = c.order_on.result in
+    let e = c.order_on.ensures in
+    λ h. rw (c.in-Order.is, c.text_answer-in-Order.ensures) (told_order (StoreRefused keeper s0 s1) (state_of keeper s0) c.in-Order.day r (e.text h) (risen (keeper.refusals s0) (keeper.refusals s1) r e.counted))
+
+pub returns-in-Hints-clause-place : goal.returns-in-Hints-clause-place
+returns-in-Hints-clause-place g c = rw c.text_answer-in-Hints.ensures (place_text (g.K.Keeper.setup c.args.office.now) c.hints_text.result)
+
+pub returns-in-Hints-clause-tells : goal.returns-in-Hints-clause-tells
+returns-in-Hints-clause-tells g c =
+    let keeper = g.K.Keeper in
+    let s0 = c.args.office.now in
+    let s1 = c.hints_text.new.self in
+    let r = c.hints_text.result in
+    let e = c.hints_text.ensures in
+    λ h. rw (c.in-Hints.is, c.text_answer-in-Hints.ensures) (told_hints (StoreRefused keeper s0 s1) (state_of keeper s0) r (e.text h.0 h.1) (risen (keeper.refusals s0) (keeper.refusals s1) r e.counted))
+
+pub returns-in-Unstable-clause-place : goal.returns-in-Unstable-clause-place
+returns-in-Unstable-clause-place g c = rw c.text_answer-in-Unstable.ensures (place_text (g.K.Keeper.setup c.args.office.now) c.unstable_text.result)
+
+pub returns-in-Unstable-clause-tells : goal.returns-in-Unstable-clause-tells
+returns-in-Unstable-clause-tells g c =
+    let keeper = g.K.Keeper in
+    let s0 = c.args.office.now in
+    let s1 = c.unstable_text.new.self in
+    let r = c.unstable_text.result in
+    let e = c.unstable_text.ensures in
+    λ h. rw (c.in-Unstable.is, c.text_answer-in-Unstable.ensures) (told_unstable (StoreRefused keeper s0 s1) (state_of keeper s0) r (e.text h.0 h.1) (risen (keeper.refusals s0) (keeper.refusals s1) r e.counted))
+
+pub returns-in-Propose-clause-place : goal.returns-in-Propose-clause-place
+returns-in-Propose-clause-place g c = rw c.answer_or.ensures (place_or (g.K.Keeper.setup c.args.office.now) c.propose_groups.result c.propose_groups.ensures.place)
+
+pub returns-in-Propose-clause-tells : goal.returns-in-Propose-clause-tells
+returns-in-Propose-clause-tells g c =
+    let keeper = g.K.Keeper in
+    let s0 = c.args.office.now in
+    let s1 = c.propose_groups.new.office in
+    let r = c.propose_groups.result in
+    let e = c.propose_groups.ensures in
+    λ h. rw (c.in-Propose.is, c.answer_or.ensures) (told_propose (StoreRefused keeper s0 s1) (state_of keeper s0) r (e.tells h) (risen (keeper.refusals s0) (keeper.refusals s1) r e.counted))
+
+pub returns-in-ProposeFor-clause-place : goal.returns-in-ProposeFor-clause-place
+returns-in-ProposeFor-clause-place g c = rw c.answer_or-in-ProposeFor.ensures (place_or (g.K.Keeper.setup c.args.office.now) c.propose_for.result c.propose_for.ensures.place)
+
+pub returns-in-ProposeFor-clause-tells : goal.returns-in-ProposeFor-clause-tells
+returns-in-ProposeFor-clause-tells g c =
+    let keeper = g.K.Keeper in
+    let s0 = c.args.office.now in
+    let s1 = c.propose_for.new.office in
+    let r = c.propose_for.result in
+    let e = c.propose_for.ensures in
+    λ h. rw (c.in-ProposeFor.is, c.answer_or-in-ProposeFor.ensures) (told_propose_for (StoreRefused keeper s0 s1) (state_of keeper s0) c.in-ProposeFor.source r (e.tells h) (risen (keeper.refusals s0) (keeper.refusals s1) r e.counted))

@@ -24,12 +24,12 @@ returns-in-Ok-clause-runs g c =
     let body = c.args.body.now in
     let r = c.try_body.result in
     let e = c.try_body.ensures in
-    λ h. rw c.answer_or.ensures (tried (StoreRefused keeper s0 s1) (state_of keeper s0) (state_of keeper s1) body r (is_utf8-from_IsUtf8 body c.in-Ok.ensures.cases.1)
-    (subst (λ (t : List ℕ). IfOk r (λ a. TellsTrial (state_of keeper s0) (hints_in t) a)) c.in-Ok.ensures.cases.0 (e.tells h))
+    λ h action by. rw c.answer_or.ensures (tried (StoreRefused keeper s0 s1) (state_of keeper s0) (state_of keeper s1) action c.args.terms body r by (is_utf8-from_IsUtf8 body c.in-Ok.ensures.cases.1)
+    (subst (λ (t : List ℕ). IfOk r (λ a. TellsTrial (state_of keeper s0) c.args.terms (hints_in t) a)) c.in-Ok.ensures.cases.0 (e.tells h))
     (state_asked keeper s0 s1 e.asks h.0) (risen (keeper.refusals s0) (keeper.refusals s1) r e.counted))
 
 pub returns-in-Err-clause-runs : goal.returns-in-Err-clause-runs
 returns-in-Err-clause-runs g c =
     let s = c.args.office.now in
     let body = c.args.body.now in
-    λ h. tried_bad (StoreRefused g.K.Keeper s s) (state_of g.K.Keeper s) body (false_from_ne_true (is_utf8 body) (λ t. c.in-Err.ensures.cases.0 (IsUtf8-from_is_utf8 body t)))
+    λ h action by. tried_bad (StoreRefused g.K.Keeper s s) (state_of g.K.Keeper s) action c.args.terms body by (false_from_ne_true (is_utf8 body) (λ t. c.in-Err.ensures.cases.0 (IsUtf8-from_is_utf8 body t)))

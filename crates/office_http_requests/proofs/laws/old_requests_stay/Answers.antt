@@ -1,4 +1,4 @@
-use Rattle.office_http_requests.proofs.RouteFacts.{others_stay, later_stay, waiting_told, runs_told, kept_told, try_told}
+use Rattle.office_http_requests.proofs.RouteFacts.{newer_stay, others_stay, later_stay, waiting_told, runs_told, kept_told, try_told, hints_told, unstable_told, propose_told, lint_told}
 use Rattle.office_http_requests.proofs.laws.old_requests_stay.Goals as goal
 
 pub returns-clause-others : goal.returns-clause-others
@@ -18,3 +18,18 @@ returns-clause-later c = later_stay
 
 pub returns-clause-hints : goal.returns-clause-hints
 returns-clause-hints c = try_told
+
+pub returns-clause-newer : goal.returns-clause-newer
+returns-clause-newer c = newer_stay
+
+pub returns-clause-in_force : goal.returns-clause-in_force
+returns-clause-in_force c = hints_told
+
+pub returns-clause-unstable : goal.returns-clause-unstable
+returns-clause-unstable c = unstable_told
+
+pub returns-clause-proposals : goal.returns-clause-proposals
+returns-clause-proposals c = propose_told
+
+pub returns-clause-looks : goal.returns-clause-looks
+returns-clause-looks c = lint_told

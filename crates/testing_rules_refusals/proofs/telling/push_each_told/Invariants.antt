@@ -1,7 +1,6 @@
 use Rattle.std.proofs.Common.{◌≡◌, ◌++◌, string_bytes, take, map}
 use Rattle.std.specs.List.{flat_map}
-use Rattle.testing_rules_model.specs.Boxed.{unboxed}
-use Rattle.testing_rules_refusals.specs.Texts.{told_text}
+use Rattle.testing_rules_refusals.specs.Texts.{known_of, told_text}
 use Rattle.testing_rules_refusals.specs.Told.{told_of}
 use Rattle.testing_rules_refusals.proofs.telling.push_each_told.Given as goal
 
@@ -10,4 +9,4 @@ abbrev pub invariant-loop-line : goal.invariant-loop-line
 invariant-loop-line l =
     string_bytes l.text
     ≡ string_bytes l.fn.text
-    ++ flat_map (told_text l.lone.archs.now (unboxed l.lone.unstable.sources.now) l.lone.excuses.now l.lone.excuse.now.source) (map told_of (take l.line-index l.told))
+    ++ flat_map (told_text (known_of l.telling)) (map told_of (take l.line-index l.told))

@@ -1,0 +1,65 @@
+"""A server that is asked, and the processor time that it takes."""
+import socket
+import subprocess
+import sys
+import time
+
+
+def free_port():
+    with socket.socket() as one:
+        one.bind(("127.0.0.1", 0))
+        return one.getsockname()[1]
+
+
+class Server:
+    """A server on a port of its own, and its requests."""
+
+    def __init__(self, words):
+        self.port = free_port()
+        words = [word.format(port=self.port) for word in words]
+        self.process = subprocess.Popen(words, stdout=subprocess.DEVNULL, stderr=subprocess.DEVNULL)
+        for _ in range(600):
+            try:
+                socket.create_connection(("127.0.0.1", self.port)).close()
+                return
+            except OSError:
+                time.sleep(0.1)
+        sys.exit("no server answers")
+
+    def ask(self, request):
+        with socket.create_connection(("127.0.0.1", self.port)) as client:
+            client.sendall(request)
+            reply = b""
+            while part := client.recv(1 << 20):
+                reply += part
+        if not reply.startswith(b"HTTP/1.1 200"):
+            sys.exit(f"answered: {reply[:200]!r}")
+        return reply
+
+    def processor_time(self):
+        """Nanoseconds that its one thread has run."""
+        with open(f"/proc/{self.process.pid}/schedstat", encoding="ascii") as said:
+            return int(said.read().split()[0])
+
+    def time(self, request, count):
+        """Microseconds of processor that one of so many requests takes."""
+        before = self.processor_time()
+        for _ in range(count):
+            self.ask(request)
+        return (self.processor_time() - before) / count / 1000
+
+    def end(self):
+        self.process.terminate()
+        self.process.wait()
+
+
+def get(path):
+    return f"GET {path} HTTP/1.1\r\nHost: here\r\n\r\n".encode()
+
+
+def post_to(path, body):
+    return b"POST %s HTTP/1.1\r\nHost: here\r\nContent-Length: %d\r\n\r\n%s" % (path.encode(), len(body), body)
+
+
+def post(message):
+    return post_to("/mail", message)

@@ -1,0 +1,58 @@
+//! How far a sender's mail goes on without a gap.
+#![tactic(auto, using(office_core_orders::proofs::LastFacts::lasting))]
+
+ghost use Rattle.std.specs.Prelude.{◌≡◌, ◌≤◌, IfOk};
+ghost use Rattle.office_core_orders.specs.ReadsStore.{ReadsStore};
+ghost use Rattle.office_core_orders.specs.Ready.{GoesOn, HasNumbers};
+ghost use Rattle.office_core_facts.specs.Counting.{EndsBelow};
+ghost use Rattle.office_core_facts.specs.Seen.{IsUnbroken};
+
+use office_core_orders::StoreFault;
+use office_core_orders::orders::{count_block, next_size};
+use office_core_orders::stored::block_end;
+use office_store_keeper::Keeper;
+
+/// The greatest number of a message.
+const GREATEST: u32 = 999_999_999;
+
+/// The number up to which a sender's mail goes on without a gap behind another number.
+fn count_behind<K: Keeper>(keeper: &mut K, sender: u32, known: u32) -> Result<u32, StoreFault>
+    ensures goes_on { K.is_trusted keeper.new → IfOk result (λ last. GoesOn (K.content keeper.old).kept sender known last 999_999_999) }
+    ensures looks { ReadsStore K.Keeper keeper.old keeper.new result }
+{
+    let mut count = known;
+    let mut size = 1;
+    'loads: while count < GREATEST {
+        let end = block_end(count, size, GREATEST);
+        let last = count_block(keeper, sender, count, end)?;
+        if last < end {
+            return Ok(last);
+        }
+        count = end;
+        size = next_size(size);
+    }
+    Ok(count)
+}
+
+/// A number, or the least that is due.
+fn at_least(number: u32, least: u32) -> u32
+    ensures least { least ≤ result }
+    ensures same { least ≤ number → result ≡ number }
+{
+    if number < least { least } else { number }
+}
+
+/// The number up to which a sender's mail goes on without a gap, where it does so up to a number that is known; it isn't
+/// below that.
+pub(crate) fn count_on<K: Keeper>(
+    keeper: &mut K,
+    sender: u32,
+    known: u32,
+) -> Result<u32, StoreFault>
+    ensures unbroken { K.is_trusted keeper.new → HasNumbers (K.content keeper.old).kept sender known → EndsBelow (K.content keeper.old).kept sender → IfOk result (IsUnbroken (K.content keeper.old).kept sender) }
+    ensures ahead { IfOk result (λ last. known ≤ last) }
+    ensures looks { ReadsStore K.Keeper keeper.old keeper.new result }
+{
+    let count = count_behind(keeper, sender, known)?;
+    Ok(at_least(count, known))
+}

@@ -1,0 +1,69 @@
+use Rattle.std.proofs.Common.{◌≡◌, List, Option, IfOk, IfSome, is_none, length, sym, subst, ◌∙◌}
+use Rattle.office_mail.specs.declared.message.RunOrder.{RunOrder}
+use Rattle.office_mail.specs.Runs.{latest_day, orders_to}
+use Rattle.office_store_keeper.specs.Content.{Content}
+use Rattle.office_core_orders.specs.Ready.{FirstOrders}
+use Rattle.office_core_facts.specs.declared.covered.KnownFacts.{KnownFacts}
+use Rattle.office_core_facts.specs.Known.{AreKnown}
+use Rattle.office_core_facts.specs.State.{IsOffice}
+use Rattle.office_core_outcome.specs.Proposal.{IsProposed}
+use Rattle.office_core_outcome.specs.Trial.{trial_date}
+use Rattle.office_core_outcome.proofs.proposing.propose.Goals as goal
+
+pub returns-clause-proposed : goal.returns-clause-proposed
+returns-clause-proposed g c = λ trusted legible office.
+    let a = c.args in
+    let setup = a.setup.now in
+    let content : Content = g.K.Keeper.content a.keeper.now in
+    let finished = c.in_ok-finished.finished in
+    let orders : List RunOrder = c.in_ok-orders.orders.items in
+    let given : List RunOrder = c.deref.result.now in
+    let lent : given ≡ orders = c.deref.ensures.value in
+    let known : Option KnownFacts = a.known.now in
+    let later = c.proposed_for_next_run.ensures.looks.before trusted in
+    let earlier = c.in_ok-orders.ensures.looks.before later in
+    let at = c.in_ok-finished.ensures.looks.same earlier in
+    let is = c.in_ok-finished.ensures.value earlier in
+    let readable = c.in_ok-orders.ensures.looks.legible later (c.in_ok-finished.ensures.looks.legible earlier legible) in
+    let first : FirstOrders setup content.kept orders = subst (λ (m : Content). FirstOrders setup m.kept orders) at (c.in_ok-orders.ensures.first later) in
+    let are : orders ≡ orders_to setup content.kept (length content.reports) = subst (λ (m : Content). IsOffice setup m → finished ≡ length m.reports → orders ≡ orders_to setup m.kept (length m.reports)) at (c.in_ok-orders.ensures.orders later) office is in
+    subst (λ (m : Content). IsOffice setup m → FirstOrders setup m.kept given → given ≡ orders_to setup m.kept (length m.reports) → finished ≡ length m.reports → IfSome known (λ (k : KnownFacts). AreKnown setup m k)
+    → IfOk c.proposed_for_next_run.result (λ proposal. IfSome proposal (IsProposed setup m.kept (length m.reports) a.terms a.sources.now)))
+    (c.in_ok-orders.ensures.looks.same later ∙ at) (c.proposed_for_next_run.ensures.proposed trusted readable) office (subst (FirstOrders setup content.kept) (sym lent) first) (lent ∙ are) is
+    (c.requires.known (c.in_ok-finished.ensures.looks.before earlier))
+
+pub returns-clause-dated : goal.returns-clause-dated
+returns-clause-dated g c = λ trusted office.
+    let a = c.args in
+    let setup = a.setup.now in
+    let content : Content = g.K.Keeper.content a.keeper.now in
+    let finished = c.in_ok-finished.finished in
+    let orders : List RunOrder = c.in_ok-orders.orders.items in
+    let lent : c.deref.result.now ≡ orders = c.deref.ensures.value in
+    let later = c.proposed_for_next_run.ensures.looks.before trusted in
+    let earlier = c.in_ok-orders.ensures.looks.before later in
+    let at = c.in_ok-finished.ensures.looks.same earlier in
+    let is = c.in_ok-finished.ensures.value earlier in
+    let are : orders ≡ orders_to setup content.kept (length content.reports) = subst (λ (m : Content). IsOffice setup m → finished ≡ length m.reports → orders ≡ orders_to setup m.kept (length m.reports)) at (c.in_ok-orders.ensures.orders later) office is in
+    subst (λ (os : List RunOrder). IfOk c.proposed_for_next_run.result (λ proposal. is_none proposal ≡ is_none (trial_date (latest_day os) a.terms.day))) (lent ∙ are) c.proposed_for_next_run.ensures.dated
+
+pub returns-clause-known : goal.returns-clause-known
+returns-clause-known g c = λ trusted.
+    let a = c.args in
+    let setup = a.setup.now in
+    let content : Content = g.K.Keeper.content a.keeper.now in
+    let finished = c.in_ok-finished.finished in
+    let orders : List RunOrder = c.in_ok-orders.orders.items in
+    let given : List RunOrder = c.deref.result.now in
+    let lent : given ≡ orders = c.deref.ensures.value in
+    let old : Option KnownFacts = a.known.now in
+    let new : Option KnownFacts = c.proposed_for_next_run.new.known in
+    let later = c.proposed_for_next_run.ensures.looks.before trusted in
+    let earlier = c.in_ok-orders.ensures.looks.before later in
+    let at = c.in_ok-finished.ensures.looks.same earlier in
+    let same = c.in_ok-orders.ensures.looks.same later ∙ at in
+    let is = c.in_ok-finished.ensures.value earlier in
+    let first : FirstOrders setup content.kept orders = subst (λ (m : Content). FirstOrders setup m.kept orders) at (c.in_ok-orders.ensures.first later) in
+    subst (λ (m : Content). IfSome new (λ (k : KnownFacts). AreKnown setup m k)) (sym (c.proposed_for_next_run.ensures.looks.same trusted ∙ same))
+    (subst (λ (m : Content). FirstOrders setup m.kept given → finished ≡ length m.reports → IfSome old (λ (k : KnownFacts). AreKnown setup m k) → IfSome new (λ (k : KnownFacts). AreKnown setup m k)) same (c.proposed_for_next_run.ensures.known trusted)
+    (subst (FirstOrders setup content.kept) (sym lent) first) is (c.requires.known (c.in_ok-finished.ensures.looks.before earlier)))

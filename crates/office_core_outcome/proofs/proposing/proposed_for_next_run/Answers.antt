@@ -1,0 +1,21 @@
+use Rattle.std.proofs.Common.{◌≡◌, Option, IfOk, IfSome, length, subst}
+use Rattle.office_mail.specs.Runs.{orders_to}
+use Rattle.office_store_keeper.specs.Content.{Content}
+use Rattle.office_core_facts.specs.declared.covered.KnownFacts.{KnownFacts}
+use Rattle.office_core_facts.specs.Known.{AreKnown}
+use Rattle.office_core_facts.specs.State.{IsOffice}
+use Rattle.office_core_outcome.specs.Proposal.{IsProposed}
+use Rattle.office_core_outcome.proofs.proposing.proposed_for_next_run.Goals as goal
+
+pub returns-clause-known : goal.returns-clause-known
+returns-clause-known g c = λ trusted first is was. c.in_ok-remember.ensures.known (c.proposed_after_orders.ensures.looks.before trusted) first is was
+
+pub returns-clause-proposed : goal.returns-clause-proposed
+returns-clause-proposed g c = λ trusted legible office first are is was.
+    let a = c.args in
+    let setup = a.setup.now in
+    let earlier = c.proposed_after_orders.ensures.looks.before trusted in
+    let known : Option KnownFacts = c.remember.new.known in
+    subst (λ (m : Content). IsOffice setup m → a.orders.now ≡ orders_to setup m.kept (length m.reports) → a.finished ≡ length m.reports → IfSome known (λ (k : KnownFacts). AreKnown setup m k)
+    → IfOk c.proposed_after_orders.result (λ proposal. IfSome proposal (IsProposed setup m.kept (length m.reports) a.terms a.sources.now)))
+    (c.in_ok-remember.ensures.looks.same earlier) (c.proposed_after_orders.ensures.proposed trusted (c.in_ok-remember.ensures.looks.legible earlier legible)) office are is (c.in_ok-remember.ensures.known earlier first is was)

@@ -1,0 +1,83 @@
+//! Hints that are proposed for the next run.
+
+ghost use Rattle.std.specs.Prelude.{◌≡◌, ◌++◌, ◌∷◌, [], IfOk, OnOk, string_bytes};
+ghost use Rattle.office_core_outcome.specs.Proposal.{proposal_text};
+
+use deb_control::{NoMemory, Text};
+use jiff_core::civil::Date;
+use std::alloc::{AllocError, Global};
+use testing_rules_groups::{DeadSource, LongGroup};
+
+/// How the search ended for a source that was asked for.
+#[derive(Clone, Copy, Debug, PartialEq, Eq)]
+pub enum SourceEnd {
+    /// It is no candidate that hasn't moved behind the standing hints.
+    NoCandidate,
+    /// The run moves it in the group of a proposed hint.
+    Grouped,
+    /// The run moves it alone, or by a hint that stands already.
+    Alone,
+    /// No group frees it: it is one of the dead sources.
+    Dead,
+    /// No group was found, and nothing shows that there is none.
+    Open,
+}
+
+/// A source that was asked for, and how the search ended for it.
+#[derive(Drop)]
+pub struct AskedSource {
+    pub name: Text,
+    pub end: SourceEnd,
+}
+
+/// What is told beside a proposal. No promise speaks of it.
+#[derive(Drop)]
+pub struct SearchNotes {
+    /// How many candidates haven't moved behind the standing hints.
+    pub waiting: usize,
+
+    /// How many of those the run with the proposed hints moves.
+    pub moved: usize,
+
+    /// The candidates that no group frees.
+    pub dead: Vec<DeadSource>,
+
+    /// The groups whose hints would be too long.
+    pub long: Vec<LongGroup>,
+
+    /// How many of the groups that the search found the run refused.
+    pub refused: usize,
+
+    /// Each source that was asked for, in that order.
+    pub asked: Vec<AskedSource>,
+}
+
+/// The hints that are proposed for the next run: their numbers go on from `first`. `freed` are those of the sources asked
+/// for that the run with the hints moves.
+#[derive(Drop)]
+pub struct Proposal {
+    pub run: u32,
+    pub date: Date,
+    pub first: u32,
+    pub hints: Vec<Text>,
+    pub freed: Vec<Text>,
+    pub notes: SearchNotes,
+}
+
+/// Adds a line.
+fn push_line(text: &mut String, line: &str) -> Result<(), AllocError>
+    ensures { OnOk result (string_bytes text.new ≡ string_bytes text.old ++ line.now ++ 10 ∷ []) }
+{
+    writeln!(text, "{line}")
+}
+
+/// The proposed hints as text: a line for each.
+pub fn proposal_text(alloc: Global, hints: &[Text]) -> Result<Text, NoMemory>
+    ensures { IfOk result (λ text. text ≡ proposal_text hints.now) }
+{
+    let mut text = String::new(alloc);
+    'hints: for hint in hints {
+        push_line(&mut text, hint.as_str())?;
+    }
+    Ok(Text::from_string(text))
+}

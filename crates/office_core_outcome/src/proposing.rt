@@ -1,0 +1,270 @@
+//! The search for hints that the next run does.
+#![tactic(auto, using(office_core_orders::proofs::LastFacts::lasting))]
+
+ghost use Rattle.std.specs.Prelude.{is_ok, ◌≡◌, ◌≤◌, ◌<◌, ℕ, IfErr, IfOk, IfSome, OnOk, is_none, length, slice_index};
+ghost use Rattle.testing_rules_laws.specs.Covered.{Covered};
+ghost use Rattle.testing_rules_laws.specs.StandsFor.{StandsFor};
+ghost use Rattle.office_mail.specs.Runs.{cover_of, latest_day, orders_to};
+ghost use Rattle.office_core_orders.specs.Counted.{Counted};
+ghost use Rattle.office_core_orders.specs.Ready.{FirstOrders};
+ghost use Rattle.office_core_orders.specs.ReadsStore.{ReadsStore};
+ghost use Rattle.office_core_facts.specs.Known.{AreKnown};
+ghost use Rattle.office_core_facts.specs.State.{IsOffice};
+ghost use Rattle.office_core_orders.specs.StaysTrusted.{StaysTrusted};
+ghost use Rattle.office_core_facts.specs.Seen.{release};
+ghost use Rattle.office_core_outcome.specs.Proposal.{IsProposed, freed_by};
+ghost use Rattle.office_core_outcome.specs.Settled.{IsProposedOver, IsSettled};
+ghost use Rattle.office_core_outcome.specs.Trial.{trial_date};
+
+use crate::TrialOptions;
+use crate::proposal::{Proposal, SearchNotes};
+use crate::search_notes::{notes_on, parts_of};
+use crate::settling::{decisions_beside, freed_by, settle};
+use crate::trying::trial_date;
+use deb_control::{NoMemory, Text};
+use jiff_core::civil::Date;
+use office_core_facts::copying::known_to;
+use office_core_facts::covered::KnownFacts;
+use office_core_facts::covers::trial_covers;
+use office_core_facts::finished::{cover_at, finished_orders, remember};
+use office_core_facts::release::release_place;
+use office_core_orders::{StoreFault, stored};
+use office_mail::{RunOrder, Setup, latest_day};
+use office_store_keeper::Keeper;
+use std::alloc::Global;
+use testing_rules_excuses::excuses;
+use testing_rules_groups::{Found, find_groups};
+use testing_rules_laws::{Facts, Testing, Update};
+
+/// Hints of which the run does each, what it decides then, and what is told beside them.
+#[derive(Drop)]
+struct SettledHints {
+    hints: Vec<Text>,
+    freed: Vec<Text>,
+    update: Update,
+    notes: SearchNotes,
+}
+
+/// The decisions of the run with the hints that stand, unless none stands. It fails for want of memory alone.
+fn standing_decisions(
+    alloc: Global,
+    setup: &Setup,
+    date: Date,
+    facts: &Facts,
+    testing: &mut Testing,
+) -> Result<Update, NoMemory>
+    ensures { testing.new ≡ testing.old }
+{
+    if facts.hints().is_empty() {
+        return Ok(Update::of(Vec::new(alloc)));
+    }
+    decisions_beside(alloc, setup, date, facts, testing)
+}
+
+/// The groups that a search over the facts and testing finds. Testing stays. It fails for want of memory alone.
+fn groups_found(
+    alloc: Global,
+    setup: &Setup,
+    date: Date,
+    facts: &Facts,
+    testing: &mut Testing,
+    sources: &[Text],
+) -> Result<Found, NoMemory>
+    ensures { testing.new ≡ testing.old }
+{
+    let archs = setup.archs();
+    let update = standing_decisions(alloc, setup, date, facts, testing)?;
+    let excuses = excuses(alloc, archs, facts, testing, date)?;
+    let decisions = update.as_slice();
+    let found = find_groups(alloc, archs, facts, &excuses, testing, decisions, sources)?;
+    drop(excuses);
+    drop(update);
+    Ok(found)
+}
+
+/// Hints whose numbers go on behind this one, and of which the run does each. Testing and the facts stay. It fails for want of
+/// memory alone.
+fn settled_hints(
+    alloc: Global,
+    setup: &Setup,
+    date: Date,
+    facts: &Facts,
+    testing: &mut Testing,
+    number: u32,
+    sources: &[Text],
+) -> Result<SettledHints, StoreFault>
+    ensures same { testing.new ≡ testing.old }
+    ensures settled { IfOk result (λ o. IsSettled setup.now date number facts.now testing.old o.hints.items o.update) }
+    ensures freed { IfOk result (λ o. o.freed.items ≡ freed_by o.update sources.now) }
+    ensures no_store { IfErr result (λ fault. fault ≡ StoreFault.NoMemory) }
+{
+    let found = groups_found(alloc, setup, date, facts, testing, sources)?;
+    let (hints, beside) = parts_of(found);
+    let (hints, update) = settle(alloc, setup, date, facts, testing, number, hints)?;
+    let freed = freed_by(alloc, update.as_slice(), sources)?;
+    let notes = notes_on(
+        alloc,
+        beside,
+        update.as_slice(),
+        sources,
+        number,
+        hints.len(),
+    )?;
+    Ok(SettledHints {
+        hints,
+        freed,
+        update,
+        notes,
+    })
+}
+
+/// Hints of which the run over the testing that is kept does each. Testing is given back with what speeds the next run.
+fn settled_kept<K: Keeper>(
+    alloc: Global,
+    setup: &Setup,
+    keeper: &mut K,
+    date: Date,
+    facts: &Facts,
+    number: u32,
+    sources: &[Text],
+) -> Result<SettledHints, StoreFault>
+    ensures settled { K.is_trusted keeper.new → K.is_legible keeper.old → IfOk result (λ o. IsSettled setup.now date number facts.now (K.content keeper.old).testing o.hints.items o.update) }
+    ensures freed { IfOk result (λ o. o.freed.items ≡ freed_by o.update sources.now) }
+    ensures looks { ReadsStore K.Keeper keeper.old keeper.new result }
+{
+    let mut testing = stored::next_testing(keeper)?;
+    let settled = settled_hints(alloc, setup, date, facts, &mut testing, number, sources)?;
+    keeper.give_back(testing);
+    Ok(settled)
+}
+
+/// What is proposed over these covers.
+fn proposed_over_covers<K: Keeper>(
+    alloc: Global,
+    setup: &Setup,
+    keeper: &mut K,
+    known: &Option<KnownFacts>,
+    orders: &[RunOrder],
+    covers: &[u32],
+    finished: u32,
+    date: Date,
+    sources: &[Text],
+) -> Result<Proposal, StoreFault>
+    requires ahead { (s : ℕ) → s < length setup.now.senders → cover_of orders.now s ≤ slice_index covers.now s }
+    ensures proposed { K.is_trusted keeper.new → K.is_legible keeper.old → IsOffice setup.now (K.content keeper.old) → orders.now ≡ orders_to setup.now (K.content keeper.old).kept (length (K.content keeper.old).reports) → finished ≡ length (K.content keeper.old).reports
+        → slice_index covers.now (release setup.now) ≤ 999_999_999
+        → IfSome known.now (λ known. AreKnown setup.now (K.content keeper.old) known)
+        → IfOk result (IsProposedOver setup.now (K.content keeper.old).kept (length (K.content keeper.old).reports) date (slice_index covers.now) sources.now) }
+    ensures looks { ReadsStore K.Keeper keeper.old keeper.new result }
+{
+    let taken = known_to(alloc, setup, keeper, known, orders, covers)?;
+    let number = cover_at(covers, release_place(setup) as usize);
+    let settled = settled_kept(alloc, setup, keeper, date, &taken.facts, number, sources)?;
+    drop(taken);
+    let run = finished.saturating_add(1);
+    let first = number.saturating_add(1);
+    let SettledHints {
+        hints,
+        freed,
+        update,
+        notes,
+    } = settled;
+    drop(update);
+    Ok(Proposal {
+        run,
+        date,
+        first,
+        hints,
+        freed,
+        notes,
+    })
+}
+
+/// What is proposed behind the finished runs, of which these are the orders, unless there is no date.
+fn proposed_after_orders<K: Keeper>(
+    alloc: Global,
+    setup: &Setup,
+    keeper: &mut K,
+    known: &Option<KnownFacts>,
+    orders: &[RunOrder],
+    finished: u32,
+    terms: TrialOptions,
+    sources: &[Text],
+) -> Result<Option<Proposal>, StoreFault>
+    ensures proposed { K.is_trusted keeper.new → K.is_legible keeper.old → IsOffice setup.now (K.content keeper.old) → orders.now ≡ orders_to setup.now (K.content keeper.old).kept (length (K.content keeper.old).reports) → finished ≡ length (K.content keeper.old).reports
+        → IfSome known.now (λ known. AreKnown setup.now (K.content keeper.old) known)
+        → IfOk result (λ proposal. IfSome proposal (IsProposed setup.now (K.content keeper.old).kept (length (K.content keeper.old).reports) terms sources.now)) }
+    ensures dated { IfOk result (λ proposal. is_none proposal ≡ is_none (trial_date (latest_day orders.now) terms.day)) }
+    ensures looks { ReadsStore K.Keeper keeper.old keeper.new result }
+{
+    let covers = trial_covers(alloc, setup, keeper, orders, terms.all)?;
+    match trial_date(latest_day(orders), terms.day) {
+        Some(date) => {
+            let proposal = proposed_over_covers(
+                alloc, setup, keeper, known, orders, &covers, finished, date, sources,
+            )?;
+            Ok(Some(proposal))
+        }
+        None => Ok(None),
+    }
+}
+
+/// What is proposed for the next run, where what is known is recalled first, if nothing is known yet.
+fn proposed_for_next_run<K: Keeper>(
+    alloc: Global,
+    setup: &Setup,
+    keeper: &mut K,
+    known: &mut Option<KnownFacts>,
+    orders: &[RunOrder],
+    finished: u32,
+    terms: TrialOptions,
+    sources: &[Text],
+) -> Result<Option<Proposal>, StoreFault>
+    ensures known { K.is_trusted keeper.new → FirstOrders setup.now (K.content keeper.old).kept orders.now → finished ≡ length (K.content keeper.old).reports
+        → IfSome known.old (λ known. AreKnown setup.now (K.content keeper.old) known) → IfSome known.new (λ known. AreKnown setup.now (K.content keeper.old) known) }
+    ensures proposed { K.is_trusted keeper.new → K.is_legible keeper.old → IsOffice setup.now (K.content keeper.old) → FirstOrders setup.now (K.content keeper.old).kept orders.now
+        → orders.now ≡ orders_to setup.now (K.content keeper.old).kept (length (K.content keeper.old).reports) → finished ≡ length (K.content keeper.old).reports
+        → IfSome known.old (λ known. AreKnown setup.now (K.content keeper.old) known)
+        → IfOk result (λ proposal. IfSome proposal (IsProposed setup.now (K.content keeper.old).kept (length (K.content keeper.old).reports) terms sources.now)) }
+    ensures dated { IfOk result (λ proposal. is_none proposal ≡ is_none (trial_date (latest_day orders.now) terms.day)) }
+    ensures looks { ReadsStore K.Keeper keeper.old keeper.new result }
+{
+    remember(alloc, setup, keeper, known, orders, finished)?;
+    proposed_after_orders(
+        alloc, setup, keeper, known, orders, finished, terms, sources,
+    )
+}
+
+/// `easy` hints that the next run of an office with this store would do if they were covered too: those that free these
+/// sources, or all that the search finds where none is named. The run covers what a trial's does, and has its date; there
+/// is no proposal where there is no date. Nothing is kept. What is known of the mail is used, or else recalled from the store
+/// and known from then on. It isn't promised that all hints are found that there are: an empty list is a proposal too.
+///
+/// It fails for want of memory or of the store alone.
+pub fn propose<K: Keeper>(
+    alloc: Global,
+    setup: &Setup,
+    keeper: &mut K,
+    known: &mut Option<KnownFacts>,
+    terms: TrialOptions,
+    sources: &[Text],
+) -> Result<Option<Proposal>, StoreFault>
+    requires known { K.is_trusted keeper.old → IfSome known.old (λ known. AreKnown setup.now (K.content keeper.old) known) }
+    ensures proposed { K.is_trusted keeper.new → K.is_legible keeper.old → IsOffice setup.now (K.content keeper.old)
+        → IfOk result (λ proposal. IfSome proposal (IsProposed setup.now (K.content keeper.old).kept (length (K.content keeper.old).reports) terms sources.now)) }
+    ensures dated { K.is_trusted keeper.new → IsOffice setup.now (K.content keeper.old)
+        → IfOk result (λ proposal. is_none proposal ≡ is_none (trial_date (latest_day (orders_to setup.now (K.content keeper.old).kept (length (K.content keeper.old).reports))) terms.day)) }
+    ensures known { K.is_trusted keeper.new → IfSome known.new (λ known. AreKnown setup.now (K.content keeper.new) known) }
+    ensures same { K.is_trusted keeper.new → K.content keeper.new ≡ K.content keeper.old }
+    ensures setup { K.setup keeper.new ≡ K.setup keeper.old }
+    ensures before { K.is_trusted keeper.new → K.is_trusted keeper.old }
+    ensures legible { K.is_trusted keeper.new → K.is_legible keeper.old → K.is_legible keeper.new }
+    ensures lasts { StaysTrusted K.Keeper keeper.old keeper.new (is_ok result) }
+    ensures counted { Counted (K.refusals keeper.old) (K.refusals keeper.new) result }
+{
+    let finished = stored::finished(keeper)?;
+    let orders = finished_orders(alloc, setup, keeper, finished)?;
+    proposed_for_next_run(
+        alloc, setup, keeper, known, &orders, finished, terms, sources,
+    )
+}

@@ -1,0 +1,39 @@
+-- What comes by the path of a sender changes nothing of another sender.
+use Rattle.std.proofs.Common.{◌≡◌, ◌≢◌, ℕ, Bool, true, false, cond, List, [], ◌∷◌, Option, Some, None, Result, Ok, Err, IsSome, refl, sym, ap, subst, ◌∙◌, arith}
+use Rattle.std.specs.FinMap.{get, get-insert}
+use Rattle.std.specs.Ordering.{eq_by_cmp}
+use Rattle.std.proofs.lemmas.Bool.Decides.{nat_tests}
+use Rattle.office_mail.specs.declared.message.Message.{Message}
+use Rattle.office_mail.specs.declared.message.MailFault.{MailFault}
+use Rattle.office_mail.specs.Kept.{Kept, Place, kept_from, place_cmp, place_of}
+use Rattle.office_mail.specs.Lists.{Lists}
+use Rattle.office_mail.specs.Read.{read}
+use Rattle.office_mail.proofs.KeptFacts.{kept_from-fault, kept_from-free, kept_from-taken, places_total, tied}
+use Rattle.office_core_orders.specs.declared.faults.StoreFault.{StoreFault}
+use Rattle.office_core_facts.specs.OfficeState.{OfficeState}
+use Rattle.office_http_requests.specs.declared.request.Action.TheVariants.{DeliverOf}
+use Rattle.office_http.specs.Serve.{is_of_other, kept_by}
+
+own_sender : (sender : ℕ) (message : Message) → is_of_other sender (Ok message) ≡ false → message.sender ≡ sender
+own_sender sender message own = grind (arith, nat_tests)
+
+own_place : (setup : Lists) (kept : Kept) (sender : ℕ) (body : List ℕ) (p : Place) (r : Result Message MailFault) → read setup body ≡ r → is_of_other sender r ≡ false → get (kept_from setup kept (body ∷ [])) p ≢ get kept p → p.0 ≡ sender
+own_place setup kept sender body p (Err fault) is own changed = absurd (changed (ap (λ (k : Kept). get k p) (kept_from-fault setup kept body fault is)))
+own_place setup kept sender body p (Ok message) is own changed = by_place (get kept (place_of message)) refl
+  where
+    here : (b : Bool) → eq_by_cmp place_cmp p (place_of message) ≡ b → get (kept_from setup kept (body ∷ [])) p ≡ cond b (Some body) (get kept p) → p.0 ≡ sender
+    here true same put = ap (λ (q : Place). q.0) (tied (place_of message) p same) ∙ own_sender sender message own
+    here false other put = absurd (changed put)
+
+    by_place : (o : Option (List ℕ)) → get kept (place_of message) ≡ o → p.0 ≡ sender
+    by_place (Some text) taken = absurd (changed (ap (λ (k : Kept). get k p) (kept_from-taken setup kept body message is (subst IsSome (sym taken) refl))))
+    by_place None free =
+        here (eq_by_cmp place_cmp p (place_of message)) refl (ap (λ (k : Kept). get k p) (kept_from-free setup kept body message is free) ∙ get-insert places_total kept (place_of message) body p)
+
+pub bound : (s : OfficeState) (sender : ℕ) (body : List ℕ) (fault : Option StoreFault) (p : Place) → get (kept_by s (DeliverOf sender) body fault) p ≢ get s.kept p → p.0 ≡ sender
+bound s sender body (Some f) p changed = absurd (changed refl)
+bound s sender body None p changed = go (is_of_other sender (read s.setup body)) refl changed
+  where
+    go : (b : Bool) → is_of_other sender (read s.setup body) ≡ b → get (cond b s.kept (kept_from s.setup s.kept (body ∷ []))) p ≢ get s.kept p → p.0 ≡ sender
+    go true is same = absurd (same refl)
+    go false is same = own_place s.setup s.kept sender body p (read s.setup body) refl is same

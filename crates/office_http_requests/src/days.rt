@@ -1,0 +1,39 @@
+//! What a path asks for that names a day.
+ghost use Rattle.std.specs.Prelude.{◌≡◌, drop};
+ghost use Rattle.office_mail_setup.specs.Values.{day_in};
+ghost use Rattle.office_http_requests.specs.Asked.{day_asked, post_asked, tell_asked};
+
+use crate::reply::Refusal;
+use crate::request::{Action, Asked, Framing, Page, behind, post_asked, tell_asked};
+use jiff_core::civil::Date;
+use office_mail_setup::values::day_in;
+
+/// The day that stands behind the front of a path (ISO 8601), none for any other text.
+fn day_behind(path: &str, front: usize) -> Option<Date>
+    ensures { result ≡ day_in (drop front path.now) }
+{
+    match str::from_utf8(behind(path, front)) {
+        Ok(text) => day_in(text),
+        Err(_) => None,
+    }
+}
+
+/// What is asked for by a path that ends with the day of the next order.
+pub(crate) fn order_asked(path: &str, method: &[u8]) -> Asked
+    ensures { result ≡ day_asked (λ day. tell_asked (Page.Order day) method.now) (drop 7 path.now) }
+{
+    match day_behind(path, 7) {
+        Some(day) => tell_asked(Page::Order(day), method),
+        None => Asked::Refused(Refusal::NoRoute),
+    }
+}
+
+/// What is asked for by a path that ends with the day of a trial.
+pub(crate) fn try_on_asked(path: &str, method: &[u8], minor: u8, framing: Framing) -> Asked
+    ensures { result ≡ day_asked (λ day. post_asked (Action.TryOn day) method.now minor framing) (drop 5 path.now) }
+{
+    match day_behind(path, 5) {
+        Some(day) => post_asked(Action::TryOn(day), method, minor, framing),
+        None => Asked::Refused(Refusal::NoRoute),
+    }
+}

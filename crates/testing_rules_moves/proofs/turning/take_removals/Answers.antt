@@ -1,0 +1,13 @@
+use Rattle.std.proofs.Common.{◌∙◌, ap, map, List}
+use Rattle.testing_rules_model.specs.declared.facts.UnhintIn.{UnhintIn}
+use Rattle.testing_rules_items.specs.declared.item.HintItem.{HintItem}
+use Rattle.testing_rules_moves.specs.Runs.{Run, run_after_removals, go_on}
+use Rattle.testing_rules_model.specs.Updates.{in_turn, remove_item}
+use Rattle.testing_rules_moves.proofs.turning.take_removals.Goals as goal
+
+pub returns : goal.returns
+returns c =
+    let a = c.args in
+    c.in_ok-remove_items.ensures
+    ∙ ap (λ (r : Run). go_on r (λ b. in_turn (remove_item b.archs) (map (λ (i : HintItem). (a.number, i)) a.items.now))) c.in_ok-removals.ensures
+    ∙ ap (λ (us : List UnhintIn). run_after_removals a.hints.now a.number a.items.now us a.turns.now) c.in_ok-unhints.ensures

@@ -1,0 +1,403 @@
+//! Why a change of testing is refused: a group that would move as one, of which a source alone is one, or a removal.
+
+ghost use Rattle.std.specs.Prelude.{◌≡◌, [], Some, None, IfOk, IfSome, IfNone};
+ghost use Rattle.testing_rules_model.specs.Boxed.{unboxed};
+ghost use Rattle.testing_rules_model.specs.FactOrder.{AreBySource};
+ghost use Rattle.testing_rules_model.specs.InOrder.{AreByKey};
+ghost use Rattle.testing_rules_model.specs.JudgedRows.{lent};
+ghost use Rattle.testing_rules_model.specs.Moves as moves;
+ghost use Rattle.testing_rules_model.specs.Unstable.{built_rows};
+ghost use Rattle.testing_rules_model.specs.Updates.{offender_alone};
+ghost use Rattle.testing_rules_refusals.specs.Alone.{IsToldAlone};
+ghost use Rattle.testing_rules_refusals.specs.Refusals.{IsRefusal};
+ghost use Rattle.testing_rules_refusals.specs.Texts as texts;
+ghost use Rattle.testing_rules_refusals.specs.Texts.{known_of};
+ghost use Rattle.testing_rules_refusals.specs.Told.{lines_of};
+ghost use Rattle.testing_rules_refusals.specs.ToldChange.{IsToldChange, IsToldMove, IsToldRemoval};
+ghost use Rattle.testing_rules_suites.specs.AfterMoves as after;
+
+use crate::refusal::{Refusal, refused};
+use crate::shown::shown_of;
+use crate::telling::{Telling, refusal_text};
+use crate::told::refusal_lines;
+use deb_control::Text;
+use deb_version::NoMemory;
+use std::alloc::Global;
+use std::slice;
+use testing_rules_facts::{Facts, Unstable, built_rows};
+use testing_rules_items::Archs;
+use testing_rules_live::{moved_rows, rows_without};
+use testing_rules_model::{Excuse, LentRow, Offender};
+use testing_rules_moves::{broken_by_group, broken_by_removal};
+use testing_rules_suites::{Testing, lend_rows};
+
+/// The text of a refusal, where these were testing's rows before the change.
+pub(crate) fn text_of<'a>(
+    alloc: Global,
+    telling: &Telling<'_, 'a>,
+    old: &[LentRow<'a>],
+    refusal: &Refusal<'a>,
+) -> Result<Text, NoMemory>
+    requires { AreBySource (unboxed telling.now.unstable.sources.now) }
+    ensures { IfOk result (λ text. text ≡ texts.refusal_text (known_of telling.now)
+        (lines_of (lent refusal.now.rows.items) refusal.now.steps.items (moves.rows_on refusal.now.offender.arch (lent old.now))
+        (moves.rows_on refusal.now.offender.arch (lent telling.now.unstable.rows.now)))) }
+{
+    let told = refusal_lines(alloc, refusal, old, telling.unstable.rows)?;
+    refusal_text(alloc, telling, &told)
+}
+
+/// Why a change is refused by which sources come in, and which takes testing's rows from the old ones to the new ones. If
+/// it is known what that breaks, the rows are judged only where no steps are found without that.
+fn refusal_of<'a>(
+    alloc: Global,
+    telling: &Telling<'_, 'a>,
+    old: &[LentRow<'a>],
+    new: &[LentRow<'a>],
+    known: Option<Offender>,
+) -> Result<Option<Refusal<'a>>, NoMemory>
+    requires { IfSome known (λ offender. moves.offender_of telling.now.archs.now (lent old.now) (lent new.now) telling.now.coming.now ≡ Some offender) }
+    ensures some { IfOk result (λ found. IfSome found (λ r. IsRefusal telling.now.archs.now (lent old.now) (lent new.now) telling.now.coming.now r.offender (lent r.rows.items) r.steps.items)) }
+    ensures none { IfOk result (λ found. IfNone found (moves.offender_of telling.now.archs.now (lent old.now) (lent new.now) telling.now.coming.now ≡ None)) }
+{
+    if let Some(offender) = known {
+        if let Some(refusal) = shown_of(alloc, new, offender)? {
+            return Ok(Some(refusal));
+        }
+    }
+    refused(alloc, telling.archs, old, new, telling.coming)
+}
+
+/// Why a change is refused by which sources come in, in lines, where it takes testing's rows from the old ones to the new
+/// ones, and it may be known what that breaks.
+fn refusal_of_change<'a>(
+    alloc: Global,
+    telling: &Telling<'_, 'a>,
+    old: &[LentRow<'a>],
+    new: &[LentRow<'a>],
+    known: Option<Offender>,
+) -> Result<Option<Text>, NoMemory>
+    requires sources { AreBySource (unboxed telling.now.unstable.sources.now) }
+    requires breaks { IfSome known (λ offender. moves.offender_of telling.now.archs.now (lent old.now) (lent new.now) telling.now.coming.now ≡ Some offender) }
+    ensures some { IfOk result (λ told. IfSome told (λ text. IsToldChange (known_of telling.now) (lent telling.now.unstable.rows.now) (lent old.now) (lent new.now) text)) }
+    ensures none { IfOk result (λ told. IfNone told (moves.offender_of telling.now.archs.now (lent old.now) (lent new.now) telling.now.coming.now ≡ None)) }
+{
+    let Some(refusal) = refusal_of(alloc, telling, old, new, known)? else {
+        return Ok(None);
+    };
+    let text = text_of(alloc, telling, old, &refusal)?;
+    Ok(Some(text))
+}
+
+/// Why the sources that come in can't move as one, where testing has these rows, and it may be known what that breaks.
+fn refusal_of_move<'a>(
+    alloc: Global,
+    telling: &Telling<'_, 'a>,
+    old: &[LentRow<'a>],
+    known: Option<Offender>,
+) -> Result<Option<Text>, NoMemory>
+    requires sources { AreBySource (unboxed telling.now.unstable.sources.now) }
+    requires order { AreByKey (lent old.now) }
+    requires breaks { IfSome known (λ offender. moves.offender_of telling.now.archs.now (lent old.now)
+        (after.moved_rows (unboxed telling.now.unstable.sources.now) (lent telling.now.unstable.rows.now) telling.now.coming.now (lent old.now)) telling.now.coming.now ≡ Some offender) }
+    ensures some { IfOk result (λ told. IfSome told (λ text. IsToldChange (known_of telling.now) (lent telling.now.unstable.rows.now) (lent old.now)
+        (after.moved_rows (unboxed telling.now.unstable.sources.now) (lent telling.now.unstable.rows.now) telling.now.coming.now (lent old.now)) text)) }
+    ensures none { IfOk result (λ told. IfNone told (moves.offender_of telling.now.archs.now (lent old.now)
+        (after.moved_rows (unboxed telling.now.unstable.sources.now) (lent telling.now.unstable.rows.now) telling.now.coming.now (lent old.now)) telling.now.coming.now ≡ None)) }
+{
+    let new = moved_rows(alloc, old, telling.unstable, telling.coming)?;
+    refusal_of_change(alloc, telling, old, &new, known)
+}
+
+/// Why the source can't be removed, where testing has these rows, and that breaks the offender's row.
+fn refusal_without<'a>(
+    alloc: Global,
+    telling: &Telling<'_, 'a>,
+    old: &[LentRow<'a>],
+    name: &Text,
+    known: Option<Offender>,
+) -> Result<Option<Text>, NoMemory>
+    requires sources { AreBySource (unboxed telling.now.unstable.sources.now) }
+    requires breaks { IfSome known (λ offender. moves.offender_of telling.now.archs.now (lent old.now) (after.rows_without name.now (lent old.now)) telling.now.coming.now ≡ Some offender) }
+    ensures some { IfOk result (λ told. IfSome told (λ text. IsToldChange (known_of telling.now) (lent telling.now.unstable.rows.now) (lent old.now) (after.rows_without name.now (lent old.now)) text)) }
+    ensures none { IfOk result (λ told. IfNone told (moves.offender_of telling.now.archs.now (lent old.now) (after.rows_without name.now (lent old.now)) telling.now.coming.now ≡ None)) }
+{
+    let new = rows_without(alloc, old, name)?;
+    refusal_of_change(alloc, telling, old, &new, known)
+}
+
+/// Why the sources that come in can't move as one over testing, where it may be known what that breaks.
+fn move_if_known<'a>(
+    alloc: Global,
+    telling: &Telling<'_, 'a>,
+    testing: &'a Testing,
+    known: Option<Offender>,
+) -> Result<Option<Text>, NoMemory>
+    requires sources { AreBySource (unboxed telling.now.unstable.sources.now) }
+    requires breaks { IfSome known (λ offender. moves.offender_of telling.now.archs.now testing.now.rows
+        (moves.move_group (unboxed telling.now.unstable.sources.now) (lent telling.now.unstable.rows.now) telling.now.coming.now testing.now).rows telling.now.coming.now ≡ Some offender) }
+    ensures some { IfOk result (λ told. IfSome told (λ text. IsToldChange (known_of telling.now) (lent telling.now.unstable.rows.now) testing.now.rows
+        (moves.move_group (unboxed telling.now.unstable.sources.now) (lent telling.now.unstable.rows.now) telling.now.coming.now testing.now).rows text)) }
+    ensures none { IfOk result (λ told. IfNone told (moves.offender_of telling.now.archs.now testing.now.rows
+        (moves.move_group (unboxed telling.now.unstable.sources.now) (lent telling.now.unstable.rows.now) telling.now.coming.now testing.now).rows telling.now.coming.now ≡ None)) }
+{
+    let old = lend_rows(alloc, testing.rows())?;
+    refusal_of_move(alloc, telling, &old, known)
+}
+
+/// Why the source can't be removed from testing, where it may be known what that breaks.
+fn removal_if_known<'a>(
+    alloc: Global,
+    telling: &Telling<'_, 'a>,
+    testing: &'a Testing,
+    name: &Text,
+    known: Option<Offender>,
+) -> Result<Option<Text>, NoMemory>
+    requires sources { AreBySource (unboxed telling.now.unstable.sources.now) }
+    requires breaks { IfSome known (λ offender. moves.offender_of telling.now.archs.now testing.now.rows (moves.remove_source name.now testing.now).rows telling.now.coming.now ≡ Some offender) }
+    ensures some { IfOk result (λ told. IfSome told (λ text. IsToldChange (known_of telling.now) (lent telling.now.unstable.rows.now) testing.now.rows
+        (moves.remove_source name.now testing.now).rows text)) }
+    ensures none { IfOk result (λ told. IfNone told (moves.offender_of telling.now.archs.now testing.now.rows (moves.remove_source name.now testing.now).rows telling.now.coming.now ≡ None)) }
+{
+    let old = lend_rows(alloc, testing.rows())?;
+    refusal_without(alloc, telling, &old, name, known)
+}
+
+/// Why the group can't move as one over testing, where that breaks the offender's row and unstable has the facts' sources
+/// and these rows.
+fn group_over_rows<'a>(
+    alloc: Global,
+    archs: &Archs,
+    facts: &'a Facts,
+    rows: &[LentRow<'a>],
+    excuses: &[Excuse],
+    group: &[Text],
+    testing: &'a Testing,
+    offender: Offender,
+) -> Result<Option<Text>, NoMemory>
+    requires { moves.offender_of archs.now testing.now.rows (moves.move_group facts.now.sources (lent rows.now) group.now testing.now).rows group.now ≡ Some offender }
+    ensures some { IfOk result (λ told. IfSome told (λ text. IsToldMove archs.now facts.now.sources (lent rows.now) excuses.now testing.now group.now text)) }
+    ensures none { IfOk result (λ told. IfNone told (moves.offender_of archs.now testing.now.rows (moves.move_group facts.now.sources (lent rows.now) group.now testing.now).rows group.now ≡ None)) }
+{
+    let unstable = Unstable {
+        sources: facts.sources(),
+        rows,
+    };
+    let telling = Telling {
+        archs,
+        unstable,
+        excuses,
+        coming: group,
+        stuck: &[],
+    };
+    move_if_known(alloc, &telling, testing, Some(offender))
+}
+
+/// Why the source can't be removed from testing, where that breaks the offender's row and unstable has the facts' sources
+/// and these rows.
+fn removal_over_rows<'a>(
+    alloc: Global,
+    archs: &Archs,
+    facts: &'a Facts,
+    rows: &[LentRow<'a>],
+    excuses: &[Excuse],
+    name: &Text,
+    testing: &'a Testing,
+    offender: Offender,
+) -> Result<Option<Text>, NoMemory>
+    requires { moves.offender_of archs.now testing.now.rows (moves.remove_source name.now testing.now).rows [] ≡ Some offender }
+    ensures some { IfOk result (λ told. IfSome told (λ text. IsToldRemoval archs.now facts.now.sources (lent rows.now) excuses.now testing.now name.now text)) }
+    ensures none { IfOk result (λ told. IfNone told (moves.offender_of archs.now testing.now.rows (moves.remove_source name.now testing.now).rows [] ≡ None)) }
+{
+    let unstable = Unstable {
+        sources: facts.sources(),
+        rows,
+    };
+    let telling = Telling {
+        archs,
+        unstable,
+        excuses,
+        coming: &[],
+        stuck: &[],
+    };
+    removal_if_known(alloc, &telling, testing, name, Some(offender))
+}
+
+/// What moving the group over testing would break, where unstable has the facts' sources and these rows.
+fn group_broken(
+    alloc: Global,
+    archs: &Archs,
+    facts: &Facts,
+    rows: &[LentRow<'_>],
+    group: &[Text],
+    testing: &mut Testing,
+) -> Result<Option<Offender>, NoMemory>
+    requires { AreByKey (lent rows.now) }
+    ensures same { testing.new ≡ testing.old }
+    ensures offender { IfOk result (λ o. o ≡ moves.offender_of archs.now testing.old.rows (moves.move_group facts.now.sources (lent rows.now) group.now testing.old).rows group.now) }
+{
+    let unstable = Unstable {
+        sources: facts.sources(),
+        rows,
+    };
+    broken_by_group(alloc, archs, unstable, group, testing)
+}
+
+/// What removing the source from testing would break, where unstable has the facts' sources and these rows.
+fn removal_broken(
+    alloc: Global,
+    archs: &Archs,
+    facts: &Facts,
+    rows: &[LentRow<'_>],
+    name: &Text,
+    testing: &mut Testing,
+) -> Result<Option<Offender>, NoMemory>
+    requires { AreByKey (lent rows.now) }
+    ensures same { testing.new ≡ testing.old }
+    ensures offender { IfOk result (λ o. o ≡ moves.offender_of archs.now testing.old.rows (moves.remove_source name.now testing.old).rows []) }
+{
+    let unstable = Unstable {
+        sources: facts.sources(),
+        rows,
+    };
+    broken_by_removal(alloc, archs, unstable, name, testing)
+}
+
+/// Why the group can't move as one over testing, where that breaks the offender's row and the rows are built of the facts.
+fn group_over_facts<'f>(
+    alloc: Global,
+    archs: &Archs,
+    facts: &'f Facts,
+    rows: &[LentRow<'f>],
+    excuses: &[Excuse],
+    group: &[Text],
+    testing: &Testing,
+    offender: Offender,
+) -> Result<Option<Text>, NoMemory>
+    requires { moves.offender_of archs.now testing.now.rows (moves.move_group facts.now.sources (lent rows.now) group.now testing.now).rows group.now ≡ Some offender }
+    ensures some { IfOk result (λ told. IfSome told (λ text. IsToldMove archs.now facts.now.sources (lent rows.now) excuses.now testing.now group.now text)) }
+    ensures none { IfOk result (λ told. IfNone told (moves.offender_of archs.now testing.now.rows (moves.move_group facts.now.sources (lent rows.now) group.now testing.now).rows group.now ≡ None)) }
+{
+    group_over_rows(alloc, archs, facts, rows, excuses, group, testing, offender)
+}
+
+/// Why the source can't be removed, where that breaks the offender's row and the rows are built of the facts.
+fn removal_over_facts<'f>(
+    alloc: Global,
+    archs: &Archs,
+    facts: &'f Facts,
+    rows: &[LentRow<'f>],
+    excuses: &[Excuse],
+    name: &Text,
+    testing: &Testing,
+    offender: Offender,
+) -> Result<Option<Text>, NoMemory>
+    requires { moves.offender_of archs.now testing.now.rows (moves.remove_source name.now testing.now).rows [] ≡ Some offender }
+    ensures some { IfOk result (λ told. IfSome told (λ text. IsToldRemoval archs.now facts.now.sources (lent rows.now) excuses.now testing.now name.now text)) }
+    ensures none { IfOk result (λ told. IfNone told (moves.offender_of archs.now testing.now.rows (moves.remove_source name.now testing.now).rows [] ≡ None)) }
+{
+    removal_over_rows(alloc, archs, facts, rows, excuses, name, testing, offender)
+}
+
+/// Why the group can't move as one over testing, where unstable has the facts' sources and these rows.
+fn group_by_suites<'f>(
+    alloc: Global,
+    archs: &Archs,
+    facts: &'f Facts,
+    rows: &[LentRow<'f>],
+    excuses: &[Excuse],
+    group: &[Text],
+    testing: &mut Testing,
+) -> Result<Option<Text>, NoMemory>
+    requires { AreByKey (lent rows.now) }
+    ensures same { testing.new ≡ testing.old }
+    ensures some { IfOk result (λ told. IfSome told (λ text. IsToldMove archs.now facts.now.sources (lent rows.now) excuses.now testing.old group.now text)) }
+    ensures none { IfOk result (λ told. IfNone told (moves.offender_of archs.now testing.old.rows (moves.move_group facts.now.sources (lent rows.now) group.now testing.old).rows group.now ≡ None)) }
+{
+    let Some(offender) = group_broken(alloc, archs, facts, rows, group, testing)? else {
+        return Ok(None);
+    };
+    group_over_facts(alloc, archs, facts, rows, excuses, group, testing, offender)
+}
+
+/// Why the source can't be removed from testing, where unstable has the facts' sources and these rows.
+fn removal_by_suites<'f>(
+    alloc: Global,
+    archs: &Archs,
+    facts: &'f Facts,
+    rows: &[LentRow<'f>],
+    excuses: &[Excuse],
+    name: &Text,
+    testing: &mut Testing,
+) -> Result<Option<Text>, NoMemory>
+    requires { AreByKey (lent rows.now) }
+    ensures same { testing.new ≡ testing.old }
+    ensures some { IfOk result (λ told. IfSome told (λ text. IsToldRemoval archs.now facts.now.sources (lent rows.now) excuses.now testing.old name.now text)) }
+    ensures none { IfOk result (λ told. IfNone told (moves.offender_of archs.now testing.old.rows (moves.remove_source name.now testing.old).rows [] ≡ None)) }
+{
+    let Some(offender) = removal_broken(alloc, archs, facts, rows, name, testing)? else {
+        return Ok(None);
+    };
+    removal_over_facts(alloc, archs, facts, rows, excuses, name, testing, offender)
+}
+
+/// Why the group can't move as one over testing, in lines, by the facts and the excuses of a run. There is nothing exactly
+/// where that breaks nothing. Over the testing at the turn of the group's hint, the offender is that of the run's line on
+/// the hint. Testing stays as it is, and keeps the suites for the next call or run. Where it has them, it costs a few looks
+/// at each row of testing and of unstable, and what the move and the offender's clauses touch; else one judgement of all
+/// rows more. Where two rows of the offender's name stand on its architecture, that and each one before it are judged anew.
+/// The one error is want of memory.
+pub fn group_refusal(
+    alloc: Global,
+    archs: &Archs,
+    facts: &Facts,
+    excuses: &[Excuse],
+    group: &[Text],
+    testing: &mut Testing,
+) -> Result<Option<Text>, NoMemory>
+    ensures same { testing.new ≡ testing.old }
+    ensures some { IfOk result (λ told. IfSome told (λ text. IsToldMove archs.now facts.now.sources (built_rows archs.now facts.now.rows) excuses.now testing.old group.now text)) }
+    ensures none { IfOk result (λ told. IfNone told (moves.offender_of archs.now testing.old.rows
+        (moves.move_group facts.now.sources (built_rows archs.now facts.now.rows) group.now testing.old).rows group.now ≡ None)) }
+{
+    let rows = built_rows(alloc, archs, facts.rows())?;
+    group_by_suites(alloc, archs, facts, &rows, excuses, group, testing)
+}
+
+/// Why the source can't be removed from testing, in lines, by the facts and the excuses of a run. There is nothing exactly
+/// where that breaks nothing. Over the testing at the removal's turn, the offender is that of the run's line on it. Testing
+/// stays as it is, and it costs what `group_refusal` does. The one error is want of memory.
+pub fn removal_refusal(
+    alloc: Global,
+    archs: &Archs,
+    facts: &Facts,
+    excuses: &[Excuse],
+    name: &Text,
+    testing: &mut Testing,
+) -> Result<Option<Text>, NoMemory>
+    ensures same { testing.new ≡ testing.old }
+    ensures some { IfOk result (λ told. IfSome told (λ text. IsToldRemoval archs.now facts.now.sources (built_rows archs.now facts.now.rows) excuses.now testing.old name.now text)) }
+    ensures none { IfOk result (λ told. IfNone told (moves.offender_of archs.now testing.old.rows (moves.remove_source name.now testing.old).rows [] ≡ None)) }
+{
+    let rows = built_rows(alloc, archs, facts.rows())?;
+    removal_by_suites(alloc, archs, facts, &rows, excuses, name, testing)
+}
+
+/// Why the source of an excuse waits, in lines: what moving it alone over testing would break, by the facts and the excuses
+/// of a run. There is nothing exactly where that breaks nothing. Over the testing that the run left, the offender is that
+/// of the run's line on a source that waits. It is `group_refusal` of that source alone, and costs the same.
+pub fn why_waits(
+    alloc: Global,
+    archs: &Archs,
+    facts: &Facts,
+    excuses: &[Excuse],
+    excuse: &Excuse,
+    testing: &mut Testing,
+) -> Result<Option<Text>, NoMemory>
+    ensures same { testing.new ≡ testing.old }
+    ensures some { IfOk result (λ told. IfSome told (λ text. IsToldAlone archs.now facts.now.sources (built_rows archs.now facts.now.rows) excuses.now testing.old excuse.now text)) }
+    ensures none { IfOk result (λ told. IfNone told (offender_alone archs.now facts.now.sources (built_rows archs.now facts.now.rows) testing.old excuse.now ≡ None)) }
+{
+    let group = slice::from_ref(&excuse.source);
+    group_refusal(alloc, archs, facts, excuses, group, testing)
+}

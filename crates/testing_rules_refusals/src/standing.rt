@@ -1,0 +1,184 @@
+//! Which candidates live, and which rows may stand, whichever of them have moved.
+
+ghost use Rattle.std.specs.Prelude.{◌≡◌, ◌++◌, ℕ, List, IfOk, filter, map, option_copied};
+ghost use Rattle.std.specs.List.{list_any};
+ghost use Rattle.std.specs.Str.{bytes_eq};
+ghost use Rattle.testing_rules_excuses.specs.States as states;
+ghost use Rattle.testing_rules_items.specs.Words.{is_empty};
+ghost use Rattle.testing_rules_model.specs.Boxed.{unboxed};
+ghost use Rattle.testing_rules_model.specs.Excuses as rules;
+ghost use Rattle.testing_rules_model.specs.FactOrder.{AreBySource};
+ghost use Rattle.testing_rules_model.specs.JudgedRows.{lent};
+ghost use Rattle.testing_rules_model.specs.Moves as moves;
+ghost use Rattle.testing_rules_model.specs.Updates as updates;
+ghost use Rattle.testing_rules_refusals.specs.Standing.{comes_by, lives_beside};
+ghost use Rattle.testing_rules_refusals.specs.Stuck as stuck;
+ghost use Rattle.testing_rules_reports.specs.LentLines.{has_line, lent_lines};
+ghost use Rattle.testing_rules_suites.specs.AfterMoves as after;
+
+use crate::telling::is_current_in;
+use deb_control::Text;
+use deb_version::{NoMemory, Version};
+use std::alloc::{AllocError, Global};
+use std::collections::HashSet;
+use testing_rules_facts::{Unstable, is_same_version};
+use testing_rules_live::{rows_on, rows_without};
+use testing_rules_model::{Excuse, LentRow};
+use testing_rules_suites::{Testing, place_of_name};
+
+/// Names that are looked up by their hash.
+type NameSet<'a> = HashSet<&'a str>;
+
+/// The names, lent.
+fn lent_names<'a>(alloc: Global, names: &'a [Text]) -> Result<Vec<&'a str>, AllocError>
+    ensures { IfOk result (λ found. lent_lines found.items ≡ names.now) }
+{
+    let mut found = Vec::new(alloc);
+    for name in names {
+        found.push(name.as_str())?;
+    }
+    Ok(found)
+}
+
+/// The names as a set.
+fn set_of<'a>(alloc: Global, names: &[&'a str]) -> Result<NameSet<'a>, AllocError>
+    ensures { IfOk result (λ set. (name : List ℕ) → has_line set.keys name ≡ list_any (bytes_eq name) (lent_lines names.now)) }
+{
+    let set = names.iter().copied().collect(alloc)?;
+    Ok(set)
+}
+
+/// The names as a set.
+fn name_set<'a>(alloc: Global, names: &'a [Text]) -> Result<NameSet<'a>, AllocError>
+    ensures { IfOk result (λ set. (name : List ℕ) → has_line set.keys name ≡ list_any (bytes_eq name) names.now) }
+{
+    let found = lent_names(alloc, names)?;
+    set_of(alloc, &found)
+}
+
+/// Whether the set has the name.
+fn is_in_set(set: &NameSet, name: &str) -> bool
+    ensures { result ≡ has_line set.now.keys name.now }
+{
+    set.contains(name)
+}
+
+/// The source's version in testing.
+fn version_in<'a>(testing: &'a Testing, name: &str) -> Option<&'a Version>
+    ensures { option_copied result ≡ rules.testing_version testing.now name.now }
+{
+    let sources = testing.sources();
+    match place_of_name(sources, name) {
+        Ok(place) => Some(&sources[place].version),
+        Err(_) => None,
+    }
+}
+
+/// Testing has the source at the version.
+fn is_in_testing(testing: &Testing, name: &str, version: &Version) -> bool
+    ensures { result ≡ updates.is_in_testing testing.now name.now version.now }
+{
+    match version_in(testing, name) {
+        Some(there) => is_same_version(version, there),
+        None => false,
+    }
+}
+
+/// No reason keeps the source out.
+fn has_no_reason(excuse: &Excuse) -> bool
+    ensures { result ≡ is_empty excuse.now.reasons }
+{
+    excuse.reasons.as_slice().is_empty()
+}
+
+/// The excuse makes its source a candidate, which hasn't moved.
+fn is_remaining(testing: &Testing, excuse: &Excuse) -> bool
+    ensures { result ≡ updates.is_remaining testing.now excuse.now }
+{
+    has_no_reason(excuse) && !is_in_testing(testing, excuse.source.as_str(), &excuse.unstable)
+}
+
+/// The excuse makes its source a candidate that hasn't moved, and the set doesn't have its name.
+fn lives_beside(testing: &Testing, dead: &NameSet, excuse: &Excuse) -> bool
+    ensures { result ≡ lives_beside testing.now dead.now.keys excuse.now }
+{
+    is_remaining(testing, excuse) && !is_in_set(dead, excuse.source.as_str())
+}
+
+/// The candidates that haven't moved, but for those of the set.
+fn living_beside(
+    alloc: Global,
+    excuses: &[Excuse],
+    testing: &Testing,
+    dead: &NameSet,
+) -> Result<Vec<Text>, NoMemory>
+    ensures { IfOk result (λ names. names.items ≡ map (λ e. e.source) (filter (lives_beside testing.now dead.now.keys) excuses.now)) }
+{
+    let mut names = Vec::new(alloc);
+    for excuse in excuses {
+        if lives_beside(testing, dead, excuse) {
+            names.push(excuse.source.copy(alloc)?)?;
+        }
+    }
+    Ok(names)
+}
+
+/// The candidates that haven't moved, but for the dead.
+pub(crate) fn living(
+    alloc: Global,
+    excuses: &[Excuse],
+    testing: &Testing,
+    dead: &[Text],
+) -> Result<Vec<Text>, NoMemory>
+    ensures { IfOk result (λ names. names.items ≡ stuck.living excuses.now testing.now dead.now) }
+{
+    let dead = name_set(alloc, dead)?;
+    living_beside(alloc, excuses, testing, &dead)
+}
+
+/// The current rows of unstable of the sources that the set has.
+fn coming_by<'a>(
+    alloc: Global,
+    unstable: Unstable<'_, 'a>,
+    live: &NameSet,
+) -> Result<Vec<LentRow<'a>>, NoMemory>
+    requires { AreBySource (unboxed unstable.sources.now) }
+    ensures { IfOk result (λ rows. lent rows.items ≡ filter (comes_by (unboxed unstable.entry.sources.now) live.now.keys) (lent unstable.entry.rows.now)) }
+{
+    let mut coming = Vec::new(alloc);
+    for row in unstable.rows {
+        if is_in_set(live, row.binary.source.as_str()) && is_current_in(unstable.sources, row) {
+            coming.push(*row)?;
+        }
+    }
+    Ok(coming)
+}
+
+/// The rows of unstable that come with the sources.
+pub(crate) fn coming_rows<'a>(
+    alloc: Global,
+    unstable: Unstable<'_, 'a>,
+    live: &[Text],
+) -> Result<Vec<LentRow<'a>>, NoMemory>
+    requires { AreBySource (unboxed unstable.sources.now) }
+    ensures { IfOk result (λ rows. lent rows.items ≡ stuck.coming_rows (unboxed unstable.entry.sources.now) (lent unstable.entry.rows.now) live.now) }
+{
+    let live = name_set(alloc, live)?;
+    coming_by(alloc, unstable, &live)
+}
+
+/// The rows on the architecture that may stand once the source has moved: those of testing that aren't its, and these that
+/// may come.
+pub(crate) fn rows_that_may_stand<'a>(
+    alloc: Global,
+    arch: u32,
+    rows: &[LentRow<'a>],
+    coming: &[LentRow<'a>],
+    name: &Text,
+) -> Result<Vec<LentRow<'a>>, NoMemory>
+    ensures { IfOk result (λ there. lent there.items ≡ moves.rows_on arch (after.rows_without name.now (lent rows.now) ++ lent coming.now)) }
+{
+    let mut all = rows_without(alloc, rows, name)?;
+    all.extend_from_slice(coming)?;
+    Ok(rows_on(alloc, arch, &all)?)
+}

@@ -1,0 +1,600 @@
+//! What no group frees: blocks of lines, each of which shows that a source can't move while those of the blocks behind it
+//! don't.
+
+ghost use Rattle.std.specs.Prelude.{◌≡◌, ◌<◌, ◌++◌, ◌∷◌, [], true, false, length, IfOk, IfSome, OnOk, codes, string_bytes};
+ghost use Rattle.std.specs.List.{list_any};
+ghost use Rattle.std.specs.Option.{option_map_or};
+ghost use Rattle.std.specs.Str.{bytes_eq};
+ghost use Rattle.testing_rules_excuses.specs.States as states;
+ghost use Rattle.testing_rules_model.specs.Boxed.{unboxed};
+ghost use Rattle.testing_rules_model.specs.FactOrder.{AreBySource};
+ghost use Rattle.testing_rules_model.specs.JudgedRows.{lent, row_of};
+ghost use Rattle.testing_rules_model.specs.Moves as moves;
+ghost use Rattle.testing_rules_model.specs.Unstable.{built_rows};
+ghost use Rattle.testing_rules_refusals.specs.Standing as standing;
+ghost use Rattle.testing_rules_refusals.specs.Stuck as words;
+ghost use Rattle.testing_rules_refusals.specs.Texts as texts;
+ghost use Rattle.testing_rules_refusals.specs.Told as told_words;
+ghost use Rattle.testing_rules_reports.specs.Reports.{offender_text};
+ghost use Rattle.testing_rules_suites.specs.JudgedRows.{answers};
+
+use crate::changes::text_of;
+use crate::needs::need_at;
+use crate::refusal::{Refusal, judged_rows};
+use crate::shown::steps_for;
+use crate::standing::{coming_rows, living, rows_that_may_stand};
+use crate::telling::{Telling, is_current_in};
+use deb_control::{Clause, Text};
+use deb_version::NoMemory;
+use std::alloc::{AllocError, Global};
+use testing_install::meets;
+use testing_rules_excuses::excuse_of;
+use testing_rules_facts::{Facts, Unstable, built_rows};
+use testing_rules_items::Archs;
+use testing_rules_live::{fails_on, is_of, is_row_of, is_same_key};
+use testing_rules_model::{Excuse, LentRow, Offender};
+use testing_rules_suites::{RowAnswer, Testing, is_watched_on, lend_rows};
+
+/// A candidate that a search holds for dead: the package of which its move would break a row on an architecture, and the
+/// round of the search in which it was found so. What is dead by its round rests on those of smaller rounds alone.
+#[derive(Drop)]
+pub struct Suspect {
+    pub name: Text,
+    pub arch: u32,
+    pub package: Text,
+    pub round: u32,
+}
+
+/// What blocks go by: the architectures, unstable, the excuses of the run, and a testing with its rows.
+#[derive(Clone, Copy)]
+struct Ground<'g, 'a> {
+    archs: &'g Archs,
+    unstable: Unstable<'g, 'a>,
+    excuses: &'g [Excuse],
+    testing: &'g Testing,
+    rows: &'g [LentRow<'a>],
+}
+
+/// The row is watched on the architecture and has the package's name.
+fn is_watched_of(row: &LentRow, arch: u32, package_name: &str) -> bool
+    ensures name { result ≡ true → (row_of row.now).binary.name ≡ package_name.now }
+    ensures watched { result ≡ true → moves.is_watched_on arch (row_of row.now) ≡ true }
+{
+    row.binary.name.as_str() == package_name && is_watched_on(arch, row)
+}
+
+/// The row is watched on the architecture, has the package's name, and is the source's.
+fn is_own(row: &LentRow, arch: u32, package_name: &str, name: &str) -> bool
+    ensures name { result ≡ true → (row_of row.now).binary.name ≡ package_name.now }
+    ensures watched { result ≡ true → moves.is_watched_on arch (row_of row.now) ≡ true }
+    ensures own { result ≡ true → bytes_eq (row_of row.now).binary.source name.now ≡ true }
+{
+    is_watched_of(row, arch, package_name) && is_of(row, name)
+}
+
+/// The first place of a watched row of the package that is the source's.
+fn own_place(rows: &[LentRow], arch: u32, package_name: &str, name: &str) -> Option<usize>
+    ensures { IfSome result (λ place. standing.IsOwnAt arch package_name.now (lent rows.now) name.now place) }
+{
+    for place in 0..rows.len() {
+        if is_own(&rows[place], arch, package_name, name) {
+            return Some(place);
+        }
+    }
+    None
+}
+
+/// Some of the rows has the row's key.
+fn has_key_of(rows: &[LentRow], row: &LentRow) -> bool
+    ensures { result ≡ list_any (moves.is_same_key (row_of row.now)) (lent rows.now) }
+{
+    for other in rows {
+        if is_same_key(row, other) {
+            return true;
+        }
+    }
+    false
+}
+
+/// The row was installable.
+fn worked(before: &[RowAnswer], arch: u32, row: &LentRow) -> bool
+    ensures { result ≡ true → moves.was_installable (answers before.now) (row_of row.now) ≡ true }
+{
+    let lost = RowAnswer {
+        row: *row,
+        is_installable: false,
+    };
+    fails_on(arch, &[], before, lost)
+}
+
+/// None of these sources is the row's own, and none of these rows has its key.
+fn is_left(row: &LentRow, live: &[Text], coming: &[LentRow]) -> bool
+    ensures own { result ≡ true → moves.is_row_of live.now (row_of row.now) ≡ false }
+    ensures key { result ≡ true → list_any (moves.is_same_key (row_of row.now)) (lent coming.now) ≡ false }
+{
+    !is_row_of(live, row) && !has_key_of(coming, row)
+}
+
+/// The row is watched on the architecture, has the package's name, was installable, and is left by these sources.
+fn is_staying(
+    row: &LentRow,
+    arch: u32,
+    package_name: &str,
+    before: &[RowAnswer],
+    live: &[Text],
+    coming: &[LentRow],
+) -> bool
+    ensures name { result ≡ true → (row_of row.now).binary.name ≡ package_name.now }
+    ensures watched { result ≡ true → moves.is_watched_on arch (row_of row.now) ≡ true }
+    ensures worked { result ≡ true → moves.was_installable (answers before.now) (row_of row.now) ≡ true }
+    ensures own { result ≡ true → moves.is_row_of live.now (row_of row.now) ≡ false }
+    ensures key { result ≡ true → list_any (moves.is_same_key (row_of row.now)) (lent coming.now) ≡ false }
+{
+    is_watched_of(row, arch, package_name)
+        && is_left(row, live, coming)
+        && worked(before, arch, row)
+}
+
+/// The first place of a watched row of the package that stays.
+fn staying_place(
+    rows: &[LentRow],
+    arch: u32,
+    package_name: &str,
+    before: &[RowAnswer],
+    live: &[Text],
+    coming: &[LentRow],
+) -> Option<usize>
+    ensures { IfSome result (λ place. standing.IsStayingAt arch package_name.now (lent rows.now) (answers before.now) live.now (lent coming.now) place) }
+{
+    for place in 0..rows.len() {
+        if is_staying(&rows[place], arch, package_name, before, live, coming) {
+            return Some(place);
+        }
+    }
+    None
+}
+
+/// The first place of a row of the suspect's package that is due: it is the suspect's own, or else it stays.
+fn due_place(
+    alloc: Global,
+    ground: &Ground<'_, '_>,
+    live: &[Text],
+    coming: &[LentRow],
+    rows: &[LentRow],
+    suspect: &Suspect,
+) -> Result<Option<usize>, NoMemory>
+    requires old { lent ground.now.rows.now ≡ ground.now.testing.now.rows }
+    requires coming { lent coming.now ≡ words.coming_rows (unboxed ground.now.unstable.sources.now) (lent ground.now.unstable.rows.now) live.now }
+    requires rows { lent rows.now ≡ moves.rows_on suspect.now.arch (words.may_stand (unboxed ground.now.unstable.sources.now) (lent ground.now.unstable.rows.now) live.now suspect.now.name ground.now.testing.now) }
+    ensures { IfOk result (λ found. IfSome found (λ place. standing.IsDueAt (unboxed ground.now.unstable.sources.now) (lent ground.now.unstable.rows.now) live.now ground.now.testing.now
+        suspect.now.name (record { arch = suspect.now.arch; «package» = suspect.now.«package» }) (lent rows.now) place)) }
+{
+    let (arch, package) = (suspect.arch, suspect.package.as_str());
+    if let Some(place) = own_place(rows, arch, package, suspect.name.as_str()) {
+        return Ok(Some(place));
+    }
+    let before = judged_rows(alloc, arch, ground.rows)?;
+    Ok(staying_place(rows, arch, package, &before, live, coming))
+}
+
+/// Some of the names is this one.
+fn is_among(names: &[Text], name: &str) -> bool
+    ensures { result ≡ list_any (bytes_eq name.now) names.now }
+{
+    for other in names {
+        if name == other.as_str() {
+            return true;
+        }
+    }
+    false
+}
+
+/// The suspect's row and the steps that show that it isn't installable among the rows that may stand, where these live.
+fn shown_among<'a>(
+    alloc: Global,
+    ground: &Ground<'_, 'a>,
+    live: &[Text],
+    suspect: &Suspect,
+) -> Result<Option<Refusal<'a>>, NoMemory>
+    requires sources { AreBySource (unboxed ground.now.unstable.sources.now) }
+    requires old { lent ground.now.rows.now ≡ ground.now.testing.now.rows }
+    requires lives { list_any (bytes_eq suspect.now.name) live.now ≡ true }
+    requires listed { suspect.now.arch < length ground.now.archs.now }
+    ensures { IfOk result (λ found. IfSome found (λ r. standing.IsBlockOf ground.now.archs.now (unboxed ground.now.unstable.sources.now) (lent ground.now.unstable.rows.now) live.now ground.now.testing.now
+        suspect.now.name r.offender (lent r.rows.items) r.steps.items)) }
+{
+    let arch = suspect.arch;
+    let coming = coming_rows(alloc, ground.unstable, live)?;
+    let rows = rows_that_may_stand(alloc, arch, ground.rows, &coming, &suspect.name)?;
+    let Some(place) = due_place(alloc, ground, live, &coming, &rows, suspect)? else {
+        return Ok(None);
+    };
+    let Some(steps) = steps_for(alloc, &rows, place)? else {
+        return Ok(None);
+    };
+    let package = suspect.package.copy(alloc)?;
+    Ok(Some(Refusal {
+        offender: Offender { arch, package },
+        rows,
+        steps,
+    }))
+}
+
+/// The same, if the suspect is one of those that live, and its architecture is listed.
+fn block_of<'a>(
+    alloc: Global,
+    ground: &Ground<'_, 'a>,
+    live: &[Text],
+    suspect: &Suspect,
+) -> Result<Option<Refusal<'a>>, NoMemory>
+    requires sources { AreBySource (unboxed ground.now.unstable.sources.now) }
+    requires old { lent ground.now.rows.now ≡ ground.now.testing.now.rows }
+    ensures { IfOk result (λ found. IfSome found (λ r. standing.IsBlockOf ground.now.archs.now (unboxed ground.now.unstable.sources.now) (lent ground.now.unstable.rows.now) live.now ground.now.testing.now
+        suspect.now.name r.offender (lent r.rows.items) r.steps.items)) }
+{
+    if suspect.arch >= ground.archs.len() || !is_among(live, suspect.name.as_str()) {
+        return Ok(None);
+    }
+    shown_among(alloc, ground, live, suspect)
+}
+
+/// The first line of a block.
+fn push_stuck(
+    text: &mut String,
+    archs: &Archs,
+    name: &str,
+    version: &str,
+    offender: &Offender,
+) -> Result<(), AllocError>
+    ensures { OnOk result (string_bytes text.new ≡ string_bytes text.old ++ (codes "stuck " ++ name.now ++ 32 ∷ version.now ++ offender_text archs.now offender.now ++ 10 ∷ [])) }
+{
+    let (arch, package) = (archs.name(offender.arch), offender.package.as_str());
+    write!(text, "stuck {name} {version}")?;
+    writeln!(text, " uninstallable {arch} {package}")
+}
+
+/// The version at which the source would move, by its excuse.
+fn version_of<'a>(excuses: &'a [Excuse], name: &str) -> &'a str
+    ensures { result.now ≡ option_map_or (λ e. e.unstable) (states.excuse_of excuses.now name.now) (codes "-") }
+{
+    match excuse_of(excuses, name) {
+        Some(excuse) => excuse.unstable.text(),
+        None => "-",
+    }
+}
+
+/// The lines of a block behind its first one.
+fn lines_of<'a>(
+    alloc: Global,
+    ground: &Ground<'_, 'a>,
+    dead: &[Text],
+    live: &[Text],
+    refusal: &Refusal<'a>,
+) -> Result<Text, NoMemory>
+    requires { AreBySource (unboxed ground.now.unstable.sources.now) }
+    ensures { IfOk result (λ text. text ≡ texts.refusal_text (record { archs = ground.now.archs.now; sources = unboxed ground.now.unstable.sources.now; excuses = ground.now.excuses.now; coming = live.now; stuck = dead.now })
+        (told_words.lines_of (lent refusal.now.rows.items) refusal.now.steps.items (moves.rows_on refusal.now.offender.arch (lent ground.now.rows.now))
+        (moves.rows_on refusal.now.offender.arch (lent ground.now.unstable.rows.now)))) }
+{
+    let telling = Telling {
+        archs: ground.archs,
+        unstable: ground.unstable,
+        excuses: ground.excuses,
+        coming: live,
+        stuck: dead,
+    };
+    text_of(alloc, &telling, ground.rows, refusal)
+}
+
+/// All lines of a block.
+fn block_text<'a>(
+    alloc: Global,
+    ground: &Ground<'_, 'a>,
+    dead: &[Text],
+    live: &[Text],
+    name: &str,
+    refusal: &Refusal<'a>,
+) -> Result<Text, NoMemory>
+    requires { AreBySource (unboxed ground.now.unstable.sources.now) }
+    ensures { IfOk result (λ text. text ≡ words.stuck_line ground.now.archs.now ground.now.excuses.now (record { name = name.now; offender = refusal.now.offender; steps = refusal.now.steps.items })
+        ++ texts.refusal_text (record { archs = ground.now.archs.now; sources = unboxed ground.now.unstable.sources.now; excuses = ground.now.excuses.now; coming = live.now; stuck = dead.now })
+        (told_words.lines_of (lent refusal.now.rows.items) refusal.now.steps.items (moves.rows_on refusal.now.offender.arch (lent ground.now.rows.now))
+        (moves.rows_on refusal.now.offender.arch (lent ground.now.unstable.rows.now)))) }
+{
+    let mut text = String::new(alloc);
+    let version = version_of(ground.excuses, name);
+    push_stuck(&mut text, ground.archs, name, version, &refusal.offender)?;
+    let lines = lines_of(alloc, ground, dead, live, refusal)?;
+    text.push_str(lines.as_str())?;
+    Ok(Text::from_string(text))
+}
+
+/// The block of the suspect, where these are dead. There is none where the search was wrong of it.
+fn told_block(
+    alloc: Global,
+    ground: &Ground<'_, '_>,
+    dead: &[Text],
+    suspect: &Suspect,
+) -> Result<Option<Text>, NoMemory>
+    requires sources { AreBySource (unboxed ground.now.unstable.sources.now) }
+    requires old { lent ground.now.rows.now ≡ ground.now.testing.now.rows }
+    ensures { IfOk result (λ found. IfSome found (λ text. standing.IsToldBlock ground.now.archs.now (unboxed ground.now.unstable.sources.now) (lent ground.now.unstable.rows.now) ground.now.excuses.now ground.now.testing.now
+        dead.now suspect.now.name text)) }
+{
+    let live = living(alloc, ground.excuses, ground.testing, dead)?;
+    let Some(refusal) = block_of(alloc, ground, &live, suspect)? else {
+        return Ok(None);
+    };
+    let name = suspect.name.as_str();
+    let text = block_text(alloc, ground, dead, &live, name, &refusal)?;
+    Ok(Some(text))
+}
+
+/// Blocks that are told: their sources, and their text.
+#[derive(Drop)]
+struct ToldBlocks {
+    names: Vec<Text>,
+    text: Text,
+}
+
+/// No block yet.
+fn no_blocks(alloc: Global) -> ToldBlocks
+    ensures names { result.names.items ≡ [] }
+    ensures text { result.text ≡ [] }
+{
+    ToldBlocks {
+        names: Vec::new(alloc),
+        text: Text::from_string(String::new(alloc)),
+    }
+}
+
+/// A block in front of those that are told.
+fn with_block(
+    alloc: Global,
+    told: ToldBlocks,
+    name: &Text,
+    block: &Text,
+) -> Result<ToldBlocks, NoMemory>
+    ensures names { IfOk result (λ more. more.names.items ≡ name.now ∷ told.names.items) }
+    ensures text { IfOk result (λ more. more.text ≡ block.now ++ told.text) }
+{
+    let text = format!(in alloc; "{}{}", block.as_str(), told.text.as_str())?;
+    let mut names = told.names;
+    names.insert(0, name.copy(alloc)?)?;
+    Ok(ToldBlocks {
+        names,
+        text: Text::from_string(text),
+    })
+}
+
+/// The block of the suspect in front of those that are told, whose sources are dead for it.
+fn with_block_of(
+    alloc: Global,
+    ground: &Ground<'_, '_>,
+    told: ToldBlocks,
+    suspect: &Suspect,
+) -> Result<Option<ToldBlocks>, NoMemory>
+    requires sources { AreBySource (unboxed ground.now.unstable.sources.now) }
+    requires old { lent ground.now.rows.now ≡ ground.now.testing.now.rows }
+    requires told { standing.AreToldBlocks ground.now.archs.now (unboxed ground.now.unstable.sources.now) (lent ground.now.unstable.rows.now) ground.now.excuses.now ground.now.testing.now
+        told.names.items told.text }
+    ensures { IfOk result (λ found. IfSome found (λ more. standing.AreToldBlocks ground.now.archs.now (unboxed ground.now.unstable.sources.now) (lent ground.now.unstable.rows.now) ground.now.excuses.now ground.now.testing.now
+        more.names.items more.text)) }
+{
+    let Some(block) = told_block(alloc, ground, &told.names, suspect)? else {
+        return Ok(None);
+    };
+    let more = with_block(alloc, told, &suspect.name, &block)?;
+    Ok(Some(more))
+}
+
+/// The blocks of the suspects, the first one last, where those behind a block are dead. There are none where the search
+/// was wrong of one of them.
+fn told_blocks(
+    alloc: Global,
+    ground: &Ground<'_, '_>,
+    suspects: &[&Suspect],
+) -> Result<Option<ToldBlocks>, NoMemory>
+    requires sources { AreBySource (unboxed ground.now.unstable.sources.now) }
+    requires old { lent ground.now.rows.now ≡ ground.now.testing.now.rows }
+    ensures { IfOk result (λ found. IfSome found (λ told. standing.AreToldBlocks ground.now.archs.now (unboxed ground.now.unstable.sources.now) (lent ground.now.unstable.rows.now) ground.now.excuses.now ground.now.testing.now
+        told.names.items told.text)) }
+{
+    let mut told = no_blocks(alloc);
+    for suspect in suspects {
+        match with_block_of(alloc, ground, told, *suspect)? {
+            Some(more) => told = more,
+            None => return Ok(None),
+        }
+    }
+    Ok(Some(told))
+}
+
+/// The names of the suspects that were found in rounds before this one.
+fn names_before(alloc: Global, suspects: &[Suspect], round: u32) -> Result<Vec<Text>, NoMemory> {
+    let mut names = Vec::new(alloc);
+    for suspect in suspects {
+        if suspect.round < round {
+            names.push(suspect.name.copy(alloc)?)?;
+        }
+    }
+    Ok(names)
+}
+
+/// Wants the suspect of the name, if it was found in a round before this one.
+fn want(suspects: &[Suspect], round: u32, name: &str, wanted: &mut Vec<bool>) {
+    for place in 0..suspects.len() {
+        let suspect = &suspects[place];
+        if suspect.round < round && suspect.name.as_str() == name {
+            if let Some(mark) = wanted.get_mut(place) {
+                *mark = true;
+            }
+        }
+    }
+}
+
+/// Wants the suspects of rounds before this one that would bring a row that meets the clause.
+fn want_bearers(
+    ground: &Ground<'_, '_>,
+    suspects: &[Suspect],
+    round: u32,
+    clause: &Clause,
+    wanted: &mut Vec<bool>,
+)
+    requires { AreBySource (unboxed ground.now.unstable.sources.now) }
+{
+    for row in ground.unstable.rows {
+        if meets(row.binary, clause) && is_current_in(ground.unstable.sources, row) {
+            want(suspects, round, row.binary.source.as_str(), wanted);
+        }
+    }
+}
+
+/// Wants the suspects on which the block of this one rests: those of rounds before it whose rows its steps would need.
+fn want_for(
+    alloc: Global,
+    ground: &Ground<'_, '_>,
+    suspects: &[Suspect],
+    suspect: &Suspect,
+    wanted: &mut Vec<bool>,
+) -> Result<(), NoMemory>
+    requires sources { AreBySource (unboxed ground.now.unstable.sources.now) }
+    requires old { lent ground.now.rows.now ≡ ground.now.testing.now.rows }
+{
+    let dead = names_before(alloc, suspects, suspect.round)?;
+    let live = living(alloc, ground.excuses, ground.testing, &dead)?;
+    let Some(refusal) = block_of(alloc, ground, &live, suspect)? else {
+        return Ok(());
+    };
+    for before in 0..refusal.steps.len() {
+        if let Some(need) = need_at(&refusal.rows, &refusal.steps, before + 1) {
+            want_bearers(ground, suspects, suspect.round, need.clause, wanted);
+        }
+    }
+    Ok(())
+}
+
+/// No suspect is wanted but that of the name.
+fn want_first(alloc: Global, suspects: &[Suspect], name: &str) -> Result<Vec<bool>, NoMemory> {
+    let mut wanted = Vec::with_capacity(alloc, suspects.len())?;
+    for suspect in suspects {
+        wanted.push(suspect.name.as_str() == name)?;
+    }
+    Ok(wanted)
+}
+
+/// The wanted ones of the suspects.
+fn those_wanted<'s>(
+    alloc: Global,
+    suspects: &'s [Suspect],
+    wanted: &[bool],
+) -> Result<Vec<&'s Suspect>, NoMemory> {
+    let mut chosen = Vec::new(alloc);
+    for place in 0..suspects.len().min(wanted.len()) {
+        if wanted[place] {
+            chosen.push(&suspects[place])?;
+        }
+    }
+    Ok(chosen)
+}
+
+/// The suspects on whose blocks that of the source rests, itself the last one, if the suspects stand by their rounds.
+fn resting<'s>(
+    alloc: Global,
+    ground: &Ground<'_, '_>,
+    suspects: &'s [Suspect],
+    source: &str,
+) -> Result<Vec<&'s Suspect>, NoMemory>
+    requires sources { AreBySource (unboxed ground.now.unstable.sources.now) }
+    requires old { lent ground.now.rows.now ≡ ground.now.testing.now.rows }
+{
+    let mut wanted = want_first(alloc, suspects, source)?;
+    for behind in 0..suspects.len() {
+        let place = suspects.len() - 1 - behind;
+        if wanted.get(place) == Some(&true) {
+            want_for(alloc, ground, suspects, &suspects[place], &mut wanted)?;
+        }
+    }
+    those_wanted(alloc, suspects, &wanted)
+}
+
+/// The first of the names is the source's.
+fn is_first(names: &[Text], source: &str) -> bool
+    ensures { result ≡ standing.begins_with names.now source.now }
+{
+    match names.split_first() {
+        Some((first, _others)) => first.as_str() == source,
+        None => false,
+    }
+}
+
+/// The text of the blocks of the source, over this ground.
+fn text_over(
+    alloc: Global,
+    ground: &Ground<'_, '_>,
+    suspects: &[Suspect],
+    source: &str,
+) -> Result<Option<Text>, NoMemory>
+    requires sources { AreBySource (unboxed ground.now.unstable.sources.now) }
+    requires old { lent ground.now.rows.now ≡ ground.now.testing.now.rows }
+    ensures { IfOk result (λ found. IfSome found (words.IsStuckText ground.now.archs.now (unboxed ground.now.unstable.sources.now) (lent ground.now.unstable.rows.now) ground.now.excuses.now ground.now.testing.now source.now)) }
+{
+    let chosen = resting(alloc, ground, suspects, source)?;
+    let Some(told) = told_blocks(alloc, ground, &chosen)? else {
+        return Ok(None);
+    };
+    if !is_first(&told.names, source) {
+        return Ok(None);
+    }
+    Ok(Some(told.text))
+}
+
+/// The text of the blocks of the source, where unstable has the facts' sources and these rows.
+fn text_over_rows<'a>(
+    alloc: Global,
+    archs: &Archs,
+    facts: &'a Facts,
+    rows: &[LentRow<'a>],
+    excuses: &[Excuse],
+    testing: &'a Testing,
+    suspects: &[Suspect],
+    source: &str,
+) -> Result<Option<Text>, NoMemory>
+    ensures { IfOk result (λ found. IfSome found (words.IsStuckText archs.now facts.now.sources (lent rows.now) excuses.now testing.now source.now)) }
+{
+    let unstable = Unstable {
+        sources: facts.sources(),
+        rows,
+    };
+    let old = lend_rows(alloc, testing.rows())?;
+    let ground = Ground {
+        archs,
+        unstable,
+        excuses,
+        testing,
+        rows: &old,
+    };
+    text_over(alloc, &ground, suspects, source)
+}
+
+/// What shows that no group frees the source, in blocks of lines, by the facts and the excuses of a run, over a testing
+/// behind its removals and its groups. The suspects are what a search holds for dead, by their rounds. Their blocks are
+/// tested, so nothing rests on the search: there is no text where it was wrong, or where the source is none of them. A
+/// block costs a few looks at each row of testing and of unstable and at each excuse, and what its clauses touch; where the
+/// offender's row is one of testing that stays, one judgement of its architecture more. The one error is want of memory.
+pub fn stuck_text(
+    alloc: Global,
+    archs: &Archs,
+    facts: &Facts,
+    excuses: &[Excuse],
+    testing: &Testing,
+    suspects: &[Suspect],
+    source: &str,
+) -> Result<Option<Text>, NoMemory>
+    ensures { IfOk result (λ found. IfSome found (words.IsStuckText archs.now facts.now.sources (built_rows archs.now facts.now.rows) excuses.now testing.now source.now)) }
+{
+    let rows = built_rows(alloc, archs, facts.rows())?;
+    text_over_rows(
+        alloc, archs, facts, &rows, excuses, testing, suspects, source,
+    )
+}
