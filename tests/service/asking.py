@@ -325,6 +325,9 @@ CHANGES = [
     (changed_rows("DELETE FROM testing_source WHERE name = 'greeter'"), "testing"),
     (changed_rows("DELETE FROM fact WHERE rowid = (SELECT min(rowid) FROM fact)"), "facts"),
     (changed_rows("INSERT OR REPLACE INTO fact_delays VALUES (1, 1)"), "facts"),
+    (changed_rows("INSERT INTO run VALUES (3, 'x', 'y')"), "tables"),
+    (changed_rows("INSERT INTO mail VALUES (0, -1, x'00')"), "tables"),
+    (changed_rows("INSERT INTO mail VALUES (9, 1, x'00')"), "tables"),
 ]
 
 

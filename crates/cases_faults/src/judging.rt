@@ -9,6 +9,16 @@ use std::alloc::Global;
 /// A line that stands for a delivery, for the status or for a text.
 const REFUSED: &[u8] = b"refused NoMemory\n";
 
+/// The same where the store failed.
+const STORE_REFUSED: &[u8] = b"refused Store\n";
+
+/// What stands behind the line of a refusal, if one stands first.
+pub fn without_refusal(output: &[u8]) -> Option<&[u8]> {
+    output
+        .strip_prefix(REFUSED)
+        .or(output.strip_prefix(STORE_REFUSED))
+}
+
 /// The line of a bag that ended for want of memory.
 const BAG_REFUSED: &[u8] = b"bag refused NoMemory\n";
 

@@ -3,22 +3,25 @@
 //! memory: with ample memory a part is right, and whichever one growth is refused it is so too.
 #![tactic(auto)]
 
+mod deeds;
 mod failing;
 mod faults;
 mod given;
 mod judging;
 mod memory;
-mod moving;
 mod offices;
 mod reading;
 mod stopping;
 mod stops;
 mod writing;
 
+use deeds::{Deed, Over, try_deed};
 pub use faults::{Met, due};
-use given::{CONTINUE, EXPECT, letters_of};
-pub use offices::{close, new_office};
+use given::{CONTINUE, EXPECT};
+pub use given::{GROUP_TESTING, GROUP_UPDATE, Letter, TESTING, letters_of};
+pub use offices::{close, new_office, setup_of};
 use std::alloc::Global;
+use stopping::Way;
 
 /// A part, by what fails in it.
 #[derive(Clone, Copy)]
@@ -27,56 +30,63 @@ pub enum Part {
     Setup,
     /// Memory, where a binary paragraph is read.
     Binary,
-    /// Memory, where the moves of a group are made.
-    Moves,
     /// Memory, where the longest message is posted.
     Post,
-    /// Memory, where so many letters are replayed in an office in memory.
-    InMemory(usize),
-    /// Memory, where so many letters are replayed in an office over tables.
-    InTables(usize),
+    /// Memory, where so many letters are replayed in an office.
+    Letters(Over, usize),
     /// A read of a bag.
-    ReplayReads,
+    ReplayReads(Over),
     /// A read of a post with this header, whose client is told this before the reply.
     PostReads(&'static str, &'static str),
     /// No read of a bag that doesn't end.
     Endless,
     /// A write of what a replay prints.
-    ReplayWrites,
+    ReplayWrites(Over),
     /// A write of the reply to a post with this header, whose client is told this before it.
     PostWrites(&'static str, &'static str),
     /// The log of an office's store, for good.
-    Log,
+    Log(Way),
     /// The database of an office's store, for good.
-    Database,
+    Database(Way),
 }
 
 /// The parts, in turn.
-static PARTS: [(&str, Part); 18] = [
+static PARTS: [(&str, Part); 23] = [
     ("memory, a setup", Part::Setup),
     ("memory, a binary", Part::Binary),
-    ("memory, moves", Part::Moves),
     ("memory, the longest post", Part::Post),
-    ("memory, one run", Part::InMemory(3)),
-    ("memory, one run in tables", Part::InTables(3)),
-    ("memory, two runs", Part::InMemory(7)),
-    ("memory, two runs in tables", Part::InTables(7)),
-    ("memory, a group", Part::InMemory(6)),
-    ("reads, a replay", Part::ReplayReads),
+    ("memory, one run", Part::Letters(Over::Memory, 3)),
+    ("memory, one run in tables", Part::Letters(Over::Tables, 3)),
+    ("memory, two runs", Part::Letters(Over::Memory, 7)),
+    ("memory, two runs in tables", Part::Letters(Over::Tables, 7)),
+    ("memory, a group", Part::Letters(Over::Memory, 6)),
+    ("reads, a replay", Part::ReplayReads(Over::Memory)),
+    ("reads, a replay in tables", Part::ReplayReads(Over::Tables)),
     ("reads, a post", Part::PostReads("", "")),
     (
         "reads, a post that waits",
         Part::PostReads(EXPECT, CONTINUE),
     ),
     ("reads, a bag without an end", Part::Endless),
-    ("writes, a replay", Part::ReplayWrites),
+    ("writes, a replay", Part::ReplayWrites(Over::Memory)),
+    (
+        "writes, a replay in tables",
+        Part::ReplayWrites(Over::Tables),
+    ),
     ("writes, a post", Part::PostWrites("", "")),
     (
         "writes, a post that waits",
         Part::PostWrites(EXPECT, CONTINUE),
     ),
-    ("stops, the log", Part::Log),
-    ("stops, the database", Part::Database),
+    ("stops, the log", Part::Log(Way::Letters)),
+    ("stops, the database", Part::Database(Way::Letters)),
+    ("stops, the log of a replay", Part::Log(Way::Bag)),
+    ("stops, the database of a replay", Part::Database(Way::Bag)),
+    ("stops, the log of an old store", Part::Log(Way::OldStore)),
+    (
+        "stops, the database of an old store",
+        Part::Database(Way::OldStore),
+    ),
 ];
 
 /// The parts, in turn: the name of each.
@@ -87,13 +97,14 @@ pub fn parts() -> &'static [(&'static str, Part)] {
 /// Tries a part whose failures are this crate's own.
 fn try_failures(alloc: Global, part: Part) -> Result<(), Met> {
     match part {
-        Part::ReplayReads => reading::try_replay_reads(alloc),
+        Part::ReplayReads(over) => reading::try_replay_reads(alloc, over),
         Part::PostReads(more, front) => reading::try_post_reads(alloc, more, front),
         Part::Endless => reading::try_endless(alloc),
-        Part::ReplayWrites => writing::try_replay_writes(alloc),
+        Part::ReplayWrites(over) => writing::try_replay_writes(alloc, over),
         Part::PostWrites(more, front) => writing::try_post_writes(alloc, more, front),
-        Part::Log => stops::try_file(alloc, true),
-        _ => stops::try_file(alloc, false),
+        Part::Log(way) => stops::try_file(alloc, way, true),
+        Part::Database(way) => stops::try_file(alloc, way, false),
+        _ => Err(Met::Wrong("nothing is tried")),
     }
 }
 
@@ -102,10 +113,10 @@ fn try_part(alloc: Global, part: Part) -> Result<(), Met> {
     match part {
         Part::Setup => memory::try_setup(alloc),
         Part::Binary => memory::try_binary(alloc),
-        Part::Moves => moving::try_moves(alloc),
         Part::Post => memory::try_post(alloc),
-        Part::InMemory(count) => memory::try_in_memory(alloc, letters_of(count)),
-        Part::InTables(count) => memory::try_in_tables(alloc, letters_of(count)),
+        Part::Letters(over, count) => {
+            try_deed(alloc, over, Deed::Letters(letters_of(count))).map(|_met| ())
+        }
         _ => try_failures(alloc, part),
     }
 }

@@ -1,17 +1,13 @@
 //! Calls that may be refused memory: a refusal shows in its due place, and the same call with memory gives what is due.
 
-ghost use Rattle.std.specs.Prelude.{◌≡◌};
-
 use crate::failing::{Writer, reader_of, whole_writer};
 use crate::faults::{Met, due};
 use crate::given::{EXCUSES, GROUP_TESTING, GROUP_UPDATE, Letter, TESTING, UPDATES};
 use crate::judging::is_right;
-use crate::offices::{bag_of, longest_post, new_office, opened, replayed, serve_by, setup_of};
+use crate::offices::{bag_of, longest_post, new_office, replayed, serve_by, setup_of};
 use deb_control::{Binary, BinaryFault, Paragraph, ParagraphFault, Paragraphs};
 use office_http::{Office, Served};
-use office_mail::Setup;
 use office_store::Keeper;
-use sqlite::{Alter, Connection};
 use std::alloc::Global;
 
 /// A setup is read whole, or memory ran out.
@@ -153,7 +149,7 @@ fn tells_updates<K: Keeper>(office: &mut Office<K>, texts: &[&str]) -> Result<()
 
 /// A replay of these letters in an office that is new is right for the refusal that it shows, and the same replay once
 /// more leaves the testing and the reports that are due.
-fn try_replay<K: Keeper>(
+pub fn try_replay<K: Keeper>(
     alloc: Global,
     office: &mut Office<K>,
     letters: &[Letter],
@@ -175,59 +171,4 @@ fn try_replay<K: Keeper>(
     let (excuses, updates) = due_reports(letters.len());
     tells_excuses(office, excuses)?;
     tells_updates(office, updates)
-}
-
-/// These letters, in an office over a store in memory.
-pub fn try_in_memory(alloc: Global, letters: &[Letter]) -> Result<(), Met> {
-    let mut office = new_office(alloc)?;
-    let tried = try_replay(alloc, &mut office, letters);
-    drop(office);
-    tried
-}
-
-/// These letters, in an office over tables that are opened in this connection.
-fn try_over<S: Alter + Drop>(
-    alloc: Global,
-    setup: Setup,
-    conn: Connection<S>,
-    letters: &[Letter],
-) -> Result<(), Met> {
-    match opened(alloc, conn, &setup) {
-        Ok(tables) => {
-            let (tables, tried) = try_in(alloc, setup, tables, letters);
-            drop(tables.into_connection());
-            tried
-        }
-        Err((met, conn)) => {
-            drop(conn);
-            drop(setup);
-            Err(met)
-        }
-    }
-}
-
-/// These letters, in an office over a store, which is given back.
-fn try_in<K: Keeper>(
-    alloc: Global,
-    setup: Setup,
-    keeper: K,
-    letters: &[Letter],
-) -> (K, Result<(), Met>)
-    requires { K.setup keeper ≡ setup }
-{
-    let mut office = Office::new(alloc, setup, keeper);
-    let tried = try_replay(alloc, &mut office, letters);
-    (office.into_keeper(), tried)
-}
-
-/// These letters, in an office over tables in memory.
-pub fn try_in_tables(alloc: Global, letters: &[Letter]) -> Result<(), Met> {
-    let setup = setup_of(alloc)?;
-    match Connection::open_in_memory(alloc) {
-        Ok(conn) => try_over(alloc, setup, conn, letters),
-        Err(_) => {
-            drop(setup);
-            Err(Met::NoMemory)
-        }
-    }
 }

@@ -1,5 +1,6 @@
 //! One read that fails, at each place in turn.
 
+use crate::deeds::{Deed, Over, try_deed};
 use crate::failing::{Reader, Writer, whole_writer};
 use crate::faults::{Met, due};
 use crate::given::{BROKEN, ENDS, OUTPUT, first_letters};
@@ -30,30 +31,22 @@ fn broken_output(bytes: usize) -> &'static str {
     BROKEN.get(whole).copied().unwrap_or("")
 }
 
-/// A replay whose reader gives a byte a read and fails at one of the reads, and whether it did.
-fn replay_read(alloc: Global, bag: &[u8], fails_at: u32) -> Result<bool, Met> {
-    let mut office = new_office(alloc)?;
-    let mut writer = whole_writer(alloc);
-    let judged = judge_replay(alloc, &mut office, bag, fails_at, &mut writer);
-    drop(office);
-    judged
-}
-
-/// A replay whose reader fails, in an office that is new, to a writer that doesn't fail.
-fn judge_replay<K: Keeper>(
+/// A replay whose reader gives a byte a read and fails at one of the reads, in an office that is new, to a writer that
+/// doesn't fail; and whether it did.
+pub fn judge_replay<K: Keeper>(
     alloc: Global,
     office: &mut Office<K>,
     bag: &[u8],
     fails_at: u32,
-    writer: &mut Writer,
 ) -> Result<bool, Met> {
+    let mut writer = whole_writer(alloc);
     let mut reader = Reader {
         bytes: bag,
         most: 1,
         calls: 0,
         fails_at,
     };
-    let replayed = replay_by(alloc, office, &mut reader, writer);
+    let replayed = replay_by(alloc, office, &mut reader, &mut writer);
     let output = writer.taken.as_slice();
     if reader.calls < fails_at {
         due(output == OUTPUT.as_bytes(), "another output")?;
@@ -74,11 +67,11 @@ fn judge_replay<K: Keeper>(
 }
 
 /// A bag whose nth read fails, for each n: what came whole before it is delivered, and the output says so.
-pub fn try_replay_reads(alloc: Global) -> Result<(), Met> {
+pub fn try_replay_reads(alloc: Global, over: Over) -> Result<(), Met> {
     let bag = bag_of(alloc, first_letters(3))?;
     let mut failed = 0usize;
     for fails_at in 1..MOST {
-        if !replay_read(alloc, &bag, fails_at)? {
+        if !try_deed(alloc, over, Deed::Read(&bag, fails_at))? {
             break;
         }
         failed = failed.saturating_add(1);

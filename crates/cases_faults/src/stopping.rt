@@ -4,7 +4,9 @@ ghost use Rattle.std.specs.Prelude.{◌≡◌};
 
 use crate::faults::{Met, due};
 use crate::given::{EXCUSES, LETTERS, TESTING, UPDATES, first_letters};
+use crate::judging::without_refusal;
 use crate::offices::{bag_of, opened, replayed, setup_of};
+use deb_version::NoMemory;
 use office_http::{DeliverFault, Held, Office, Progress};
 use office_mail::{MailFault, Setup};
 use office_store::{Keeper, Tables};
@@ -19,9 +21,28 @@ pub enum Left {
     Everything,
 }
 
+/// What is done over the files, until one stops.
+#[derive(Clone, Copy)]
+pub enum Way {
+    /// Each letter is delivered, and a settle comes behind it.
+    Letters,
+    /// The bag of all letters is replayed, which keeps them together.
+    Bag,
+    /// A store of schema 1 is opened that keeps all letters.
+    OldStore,
+}
+
+/// What the log and the database have before anything is done.
+#[derive(Drop)]
+pub struct Start {
+    pub log: Vec<u8>,
+    pub db: Vec<u8>,
+}
+
 /// Two files, of which the log stops after so many calls, and the database after so many.
 #[derive(Clone, Copy)]
 pub struct Stop {
+    pub way: Way,
     pub log_calls: u64,
     pub db_calls: u64,
     pub left_of_log: Left,
@@ -33,8 +54,8 @@ pub struct Stop {
 struct Answers {
     /// The letters that were answered held.
     held: [bool; 7],
-    /// The letter whose delivery met the stop, if it wasn't a settle.
-    in_hand: Option<usize>,
+    /// The letters whose delivery met the stop, if it wasn't a settle: all of them may be kept, or none.
+    in_hand: [bool; 7],
     /// The runs that a settle said were finished.
     finished: u32,
     /// Each answer was the one that is due.
@@ -46,11 +67,33 @@ struct Answers {
 /// Nothing was answered.
 const NOTHING: Answers = Answers {
     held: [false; 7],
-    in_hand: None,
+    in_hand: [false; 7],
     finished: 0,
     all_due: true,
     wrong: false,
 };
+
+/// All letters are kept, and both runs are finished.
+const ALL_KEPT: Answers = Answers {
+    held: [true; 7],
+    finished: 2,
+    ..NOTHING
+};
+
+/// What was answered before anything is done in this way.
+fn begun(way: Way) -> Answers {
+    match way {
+        Way::Letters | Way::Bag => NOTHING,
+        Way::OldStore => ALL_KEPT,
+    }
+}
+
+/// Says of the letter at a place that it is one of these.
+fn mark(letters: &mut [bool; 7], place: usize) {
+    if let Some(flag) = letters.get_mut(place) {
+        *flag = true;
+    }
+}
 
 /// How many runs are ready once so many of the letters are kept in their order.
 fn runs_after(letters: usize) -> u32 {
@@ -88,14 +131,12 @@ fn note(place: usize, told: Result<Held, DeliverFault>, answers: &mut Answers) -
             if !is_due {
                 answers.wrong = true;
             }
-            if let Some(flag) = answers.held.get_mut(place) {
-                *flag = true;
-            }
+            mark(&mut answers.held, place);
             true
         }
         Err(DeliverFault::Store) | Err(DeliverFault::Mail(MailFault::NoMemory)) => {
             if answers.all_due {
-                answers.in_hand = Some(place);
+                mark(&mut answers.in_hand, place);
             }
             answers.all_due = false;
             false
@@ -121,20 +162,71 @@ fn deliver_all<K: Keeper>(office: &mut Office<K>) -> Answers {
     answers
 }
 
-/// Whether a store keeps the letters that were answered held, and none but these and the one in hand.
+/// What a replay of all letters prints, and its status.
+fn printed<K: Keeper>(alloc: Global, office: &mut Office<K>) -> Result<(Vec<u8>, u8), NoMemory> {
+    let bag = bag_of(alloc, first_letters(7))?;
+    replayed(alloc, office, &bag)
+}
+
+/// Replays all letters as one bag, and notes what its lines say.
+fn replay_all<K: Keeper>(alloc: Global, office: &mut Office<K>) -> Answers {
+    match printed(alloc, office) {
+        Ok((output, status)) => told_by(&output, status),
+        Err(_) => unopened(Way::Bag),
+    }
+}
+
+/// What the lines of a replay of all letters say, which ended with this status.
+fn told_by(output: &[u8], status: u8) -> Answers {
+    let mut answers = NOTHING;
+    let mut rest = output;
+    for (place, letter) in LETTERS.iter().enumerate() {
+        if let Some(later) = rest.strip_prefix(letter.reply.as_bytes()) {
+            rest = later;
+            mark(&mut answers.held, place);
+        } else if let Some(later) = without_refusal(rest) {
+            rest = later;
+            mark(&mut answers.in_hand, place);
+        } else {
+            answers.wrong = true;
+        }
+    }
+    let settled = rest.starts_with(b"ready 2 finished 2\n");
+    answers.finished = if settled { 2 } else { 0 };
+    answers.all_due = status == 0;
+    if status == 0 && !(settled && rest.ends_with(TESTING[2].as_bytes())) {
+        answers.wrong = true;
+    }
+    answers
+}
+
+/// Whether the letter at a place is one of these.
+fn has(letters: &[bool; 7], place: usize) -> bool {
+    letters.get(place).copied().unwrap_or(false)
+}
+
+/// Whether a store keeps the letters that were answered held, and none but these and those in hand, all or none of them.
 fn keeps_what_was_held<K: Keeper>(keeper: &mut K, answers: &Answers) -> bool {
     let mut all = true;
+    let mut kept = 0usize;
+    let mut lost = 0usize;
     for (place, letter) in LETTERS.iter().enumerate() {
-        let held = answers.held.get(place).copied().unwrap_or(false);
-        let may_be = held || answers.in_hand == Some(place);
+        let held = has(&answers.held, place);
+        let in_hand = has(&answers.in_hand, place);
         let is_right = match keeper.find(letter.sender, letter.number) {
-            Ok(Some(text)) => may_be && text.as_slice() == letter.text.as_bytes(),
-            Ok(None) => !held,
+            Ok(Some(text)) => {
+                kept = kept.saturating_add(if in_hand { 1 } else { 0 });
+                (held || in_hand) && text.as_slice() == letter.text.as_bytes()
+            }
+            Ok(None) => {
+                lost = lost.saturating_add(if in_hand { 1 } else { 0 });
+                !held
+            }
             Err(_) => false,
         };
         all = all && is_right;
     }
-    all
+    all && (kept == 0 || lost == 0)
 }
 
 /// Whether an office tells these reports of a run, or none.
@@ -210,56 +302,62 @@ fn connected<D: Disk + Drop>(
     }
 }
 
-/// The files of an office whose mail is delivered until a stop, as they are left, and what was answered.
+/// The files of an office in which this is done until a stop, as they are left, and what was answered.
 fn run_until_stop<D: Disk + Drop>(
     alloc: Global,
     setup: Setup,
     files: Files<D>,
+    way: Way,
 ) -> (Answers, Files<D>) {
     match connected(alloc, files) {
         Ok(conn) => {
-            let (conn, answers) = answered_over(alloc, setup, conn);
+            let (conn, answers) = answered_over(alloc, setup, conn, way);
             (answers, conn.into_store().close())
         }
         Err(files) => {
             drop(setup);
-            (unopened(), files)
+            (unopened(way), files)
         }
     }
 }
 
-/// A connection behind the delivery of the mail in an office over it, and what was answered.
+/// A connection behind what is done in an office over it, and what was answered.
 fn answered_over<S: Alter>(
     alloc: Global,
     setup: Setup,
     conn: Connection<S>,
+    way: Way,
 ) -> (Connection<S>, Answers) {
     match opened(alloc, conn, &setup) {
         Ok(tables) => {
-            let (tables, answers) = answered_in(alloc, setup, tables);
+            let (tables, answers) = answered_in(alloc, setup, tables, way);
             (tables.into_connection(), answers)
         }
         Err((_met, conn)) => {
             drop(setup);
-            (conn, unopened())
+            (conn, unopened(way))
         }
     }
 }
 
-/// A store behind the delivery of the mail in an office over it, and what was answered.
-fn answered_in<K: Keeper>(alloc: Global, setup: Setup, keeper: K) -> (K, Answers)
+/// A store behind what is done in an office over it, and what was answered.
+fn answered_in<K: Keeper>(alloc: Global, setup: Setup, keeper: K, way: Way) -> (K, Answers)
     requires { K.setup keeper ≡ setup }
 {
     let mut office = Office::new(alloc, setup, keeper);
-    let answers = deliver_all(&mut office);
+    let answers = match way {
+        Way::Letters => deliver_all(&mut office),
+        Way::Bag => replay_all(alloc, &mut office),
+        Way::OldStore => begun(way),
+    };
     (office.into_keeper(), answers)
 }
 
 /// The answers where nothing was opened.
-fn unopened() -> Answers {
+fn unopened(way: Way) -> Answers {
     Answers {
         all_due: false,
-        ..NOTHING
+        ..begun(way)
     }
 }
 
@@ -272,26 +370,91 @@ fn come_back(alloc: Global, file: Fuse<Memory>, left: Left) -> Result<Fuse<Memor
             Ok(file)
         }
         Left::Everything => {
-            let written = all_written(alloc, file.inner().bytes());
+            let written = file_of(alloc, file.inner().bytes(), u64::MAX);
             drop(file);
             written
         }
     }
 }
 
-/// A file that has synced these bytes.
-fn all_written(alloc: Global, bytes: &[u8]) -> Result<Fuse<Memory>, Met> {
+/// A file that has synced these bytes, and stops after so many calls.
+fn file_of(alloc: Global, bytes: &[u8], calls: u64) -> Result<Fuse<Memory>, Met> {
     let mut memory = Memory::new(alloc);
-    if memory.write_at(0, bytes).is_err() || memory.sync().is_err() {
+    if !bytes.is_empty() && (memory.write_at(0, bytes).is_err() || memory.sync().is_err()) {
         drop(memory);
         return Err(Met::NoMemory);
     }
-    Ok(Fuse::new(memory, u64::MAX))
+    Ok(Fuse::new(memory, calls))
 }
 
-/// A file that is new and stops after so many calls.
-fn new_file(alloc: Global, calls: u64) -> Fuse<Memory> {
-    Fuse::new(Memory::new(alloc), calls)
+/// Two files that have these bytes, and stop after so many calls each.
+fn files_of(
+    alloc: Global,
+    start: &Start,
+    log_calls: u64,
+    db_calls: u64,
+) -> Result<Files<Fuse<Memory>>, Met> {
+    let log = file_of(alloc, &start.log, log_calls)?;
+    match file_of(alloc, &start.db, db_calls) {
+        Ok(db) => Ok(Files { log, db }),
+        Err(met) => {
+            drop(log);
+            Err(met)
+        }
+    }
+}
+
+/// No bytes at all.
+fn nothing_yet(alloc: Global) -> Start {
+    Start {
+        log: Vec::new(alloc),
+        db: Vec::new(alloc),
+    }
+}
+
+/// What files have in which this is to be done.
+pub fn start_of(alloc: Global, way: Way) -> Result<Start, Met> {
+    match way {
+        Way::Letters | Way::Bag => Ok(nothing_yet(alloc)),
+        Way::OldStore => old_store(alloc),
+    }
+}
+
+/// What the files of a store of schema 1 have that keeps all letters, and has finished both runs.
+fn old_store(alloc: Global) -> Result<Start, Met> {
+    let setup = setup_of(alloc)?;
+    let start = nothing_yet(alloc);
+    match files_of(alloc, &start, u64::MAX, u64::MAX) {
+        Ok(files) => {
+            let (_answers, files) = run_until_stop(alloc, setup, files, Way::Letters);
+            bytes_of(alloc, aged(alloc, files))
+        }
+        Err(met) => {
+            drop(setup);
+            Err(met)
+        }
+    }
+}
+
+/// Files whose store is made one of schema 1.
+fn aged<D: Disk + Drop>(alloc: Global, files: Files<D>) -> Files<D> {
+    match connected(alloc, files) {
+        Ok(conn) => {
+            let mut conn = conn;
+            let _dropped = conn.execute("DROP TABLE fact_delays", &[]);
+            let _numbered = conn.execute("UPDATE office SET schema = 1", &[]);
+            conn.into_store().close()
+        }
+        Err(files) => files,
+    }
+}
+
+/// What files have.
+fn bytes_of(alloc: Global, files: Files<Fuse<Memory>>) -> Result<Start, Met> {
+    let log = Vec::from_slice(alloc, files.log.inner().bytes());
+    let db = Vec::from_slice(alloc, files.db.inner().bytes());
+    drop(files);
+    Ok(Start { log: log?, db: db? })
 }
 
 /// Whether neither file has stopped.
@@ -305,14 +468,18 @@ fn still_run<D: Disk>(files: &mut Files<D>) -> bool {
 }
 
 /// Whether files are stopped in a run over them; what they have when they are opened again is judged.
-pub fn stops(alloc: Global, stop: Stop) -> Result<bool, Met> {
+pub fn stops(alloc: Global, start: &Start, stop: Stop) -> Result<bool, Met> {
     let setup = setup_of(alloc)?;
-    let files = Files {
-        log: new_file(alloc, stop.log_calls),
-        db: new_file(alloc, stop.db_calls),
-    };
-    let (answers, files) = run_until_stop(alloc, setup, files);
-    judge_stop(alloc, stop, &answers, files)
+    match files_of(alloc, start, stop.log_calls, stop.db_calls) {
+        Ok(files) => {
+            let (answers, files) = run_until_stop(alloc, setup, files, stop.way);
+            judge_stop(alloc, stop, &answers, files)
+        }
+        Err(met) => {
+            drop(setup);
+            Err(met)
+        }
+    }
 }
 
 /// Whether these files were stopped in a run that was answered so; what they have is judged.

@@ -1,7 +1,7 @@
-//! Each of an office's two files stops after each of its calls.
+//! Each of a store's two files stops after each of its calls.
 
 use crate::faults::{Met, due};
-use crate::stopping::{Left, Stop, stops};
+use crate::stopping::{Left, Start, Stop, Way, start_of, stops};
 use std::alloc::Global;
 
 /// More calls than a run makes of a file.
@@ -16,7 +16,7 @@ static LOSSES: [(Left, Left); 4] = [
 ];
 
 /// A stop of the log, or of the database, after so many calls.
-fn stop_after(is_log: bool, calls: u64, left: (Left, Left)) -> Stop {
+fn stop_after(way: Way, is_log: bool, calls: u64, left: (Left, Left)) -> Stop {
     let (left_of_log, left_of_db) = left;
     let (log_calls, db_calls) = if is_log {
         (calls, u64::MAX)
@@ -24,6 +24,7 @@ fn stop_after(is_log: bool, calls: u64, left: (Left, Left)) -> Stop {
         (u64::MAX, calls)
     };
     Stop {
+        way,
         log_calls,
         db_calls,
         left_of_log,
@@ -32,10 +33,16 @@ fn stop_after(is_log: bool, calls: u64, left: (Left, Left)) -> Stop {
 }
 
 /// One file, the log or the database, stops after each number of its calls, until a run meets no stop.
-fn try_loss(alloc: Global, is_log: bool, left: (Left, Left)) -> Result<(), Met> {
+fn try_loss(
+    alloc: Global,
+    start: &Start,
+    way: Way,
+    is_log: bool,
+    left: (Left, Left),
+) -> Result<(), Met> {
     let mut met = 0u64;
     for calls in 0..MOST {
-        if !stops(alloc, stop_after(is_log, calls, left))? {
+        if !stops(alloc, start, stop_after(way, is_log, calls, left))? {
             break;
         }
         met = met.saturating_add(1);
@@ -43,10 +50,11 @@ fn try_loss(alloc: Global, is_log: bool, left: (Left, Left)) -> Result<(), Met> 
     due(met > 10 && met < MOST, "another count of stops")
 }
 
-/// The log or the database stops, with each loss.
-pub fn try_file(alloc: Global, is_log: bool) -> Result<(), Met> {
+/// The log or the database stops while this is done, with each loss.
+pub fn try_file(alloc: Global, way: Way, is_log: bool) -> Result<(), Met> {
+    let start = start_of(alloc, way)?;
     for left in &LOSSES {
-        try_loss(alloc, is_log, *left)?;
+        try_loss(alloc, &start, way, is_log, *left)?;
     }
     Ok(())
 }

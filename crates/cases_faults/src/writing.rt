@@ -1,5 +1,6 @@
 //! One write that fails, or takes no byte, at each place in turn.
 
+use crate::deeds::{Deed, Over, try_deed};
 use crate::failing::{Failure, Writer, reader_of};
 use crate::faults::{Met, due};
 use crate::given::{OUTPUT, REPLY, TESTING, first_letters};
@@ -13,7 +14,7 @@ const MOST: u32 = 400;
 
 /// A writer of one of the kinds that are tried.
 #[derive(Clone, Copy)]
-struct Kind {
+pub struct Kind {
     /// How many bytes it takes a write.
     most: usize,
     failure: Failure,
@@ -65,16 +66,6 @@ fn is_count(kind: Kind, failed: u32, bytes: usize) -> bool {
     }
 }
 
-/// A replay to a writer that fails at one of its writes, and whether it did: what was written is a front of the output,
-/// and the same bag again in that office ends in the testing that is due.
-fn replay_written(alloc: Global, bag: &[u8], kind: Kind, fails_at: u32) -> Result<bool, Met> {
-    let mut office = new_office(alloc)?;
-    let mut writer = writer_of(alloc, kind, fails_at);
-    let judged = judge_replay(alloc, &mut office, bag, &mut writer);
-    drop(office);
-    judged
-}
-
 /// The whole bag again in an office ends in the testing that is due.
 fn judge_again<K: Keeper>(alloc: Global, office: &mut Office<K>, bag: &[u8]) -> Result<(), Met> {
     let (again, status) = replayed(alloc, office, bag)?;
@@ -82,14 +73,17 @@ fn judge_again<K: Keeper>(alloc: Global, office: &mut Office<K>, bag: &[u8]) -> 
     due(again.ends_with(TESTING[1].as_bytes()), "another testing")
 }
 
-/// A replay in an office that is new, to a writer that fails at one of its writes, and whether it did.
-fn judge_replay<K: Keeper>(
+/// A replay in an office that is new, to a writer that fails at one of its writes, and whether it did: what was written is a
+/// front of the output, and the same bag again in that office ends in the testing that is due.
+pub fn judge_replay<K: Keeper>(
     alloc: Global,
     office: &mut Office<K>,
     bag: &[u8],
-    writer: &mut Writer,
+    kind: Kind,
+    fails_at: u32,
 ) -> Result<bool, Met> {
-    let told = replay_by(alloc, office, &mut reader_of(bag), writer);
+    let mut writer = writer_of(alloc, kind, fails_at);
+    let told = replay_by(alloc, office, &mut reader_of(bag), &mut writer);
     judge_again(alloc, office, bag)?;
     if writer.calls < writer.fails_at {
         due(
@@ -111,10 +105,10 @@ fn judge_replay<K: Keeper>(
 }
 
 /// A replay whose nth write fails, for each n.
-fn try_replays(alloc: Global, bag: &[u8], kind: Kind) -> Result<(), Met> {
+fn try_replays(alloc: Global, over: Over, bag: &[u8], kind: Kind) -> Result<(), Met> {
     let mut failed = 0u32;
     for fails_at in 1..MOST {
-        if !replay_written(alloc, bag, kind, fails_at)? {
+        if !try_deed(alloc, over, Deed::Write(bag, kind, fails_at))? {
             break;
         }
         failed = failed.saturating_add(1);
@@ -126,10 +120,10 @@ fn try_replays(alloc: Global, bag: &[u8], kind: Kind) -> Result<(), Met> {
 }
 
 /// A replay whose nth write fails, for each n and for each kind of writer.
-pub fn try_replay_writes(alloc: Global) -> Result<(), Met> {
+pub fn try_replay_writes(alloc: Global, over: Over) -> Result<(), Met> {
     let bag = bag_of(alloc, first_letters(3))?;
     for kind in &KINDS {
-        try_replays(alloc, &bag, *kind)?;
+        try_replays(alloc, over, &bag, *kind)?;
     }
     Ok(())
 }

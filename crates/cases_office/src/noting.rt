@@ -107,6 +107,10 @@ impl Keeper for Noting {
         };
         self.plain.facts()
     }
+
+    fn is_whole(&mut self, texts: u64) -> Result<bool, KeepFault> {
+        self.plain.is_whole(texts)
+    }
 }
 
 /// Adds what comes of a row in an office in memory, which is made anew over its store where the row says so; and then,

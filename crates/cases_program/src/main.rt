@@ -7,6 +7,7 @@
 #![tactic(auto)]
 
 mod client;
+mod moving;
 mod rows;
 mod sentences;
 mod words;
@@ -19,24 +20,36 @@ use words::{is_chosen, read_words};
 /// A part of the program's own calls.
 #[derive(Clone, Copy)]
 enum Call {
+    Moves,
     StoreFaults,
     MissingSetup,
     Client,
 }
 
 /// These parts, in turn.
-static CALLS: [(&str, Call); 3] = [
+static CALLS: [(&str, Call); 4] = [
+    ("memory, moves", Call::Moves),
     ("commands, the faults of a store", Call::StoreFaults),
     ("commands, a setup that is missing", Call::MissingSetup),
     ("commands, a client on loopback", Call::Client),
 ];
 
-/// What is said of a part of the program's own calls.
-fn said_of_call(rt: &HostRuntime, call: Call) -> &'static str {
-    let tried = match call {
+/// Tries a part of the program's own calls.
+fn try_call(rt: &HostRuntime, call: Call) -> Result<(), Met> {
+    match call {
+        Call::Moves => moving::try_moves(rt.alloc()),
         Call::StoreFaults => sentences::try_store_faults(rt.alloc()),
         Call::MissingSetup => sentences::try_missing_setup(rt),
         Call::Client => client::try_client(rt),
+    }
+}
+
+/// What is said of a part of the program's own calls. One that was refused memory in what it needs itself is tried once
+/// more.
+fn said_of_call(rt: &HostRuntime, call: Call) -> &'static str {
+    let tried = match try_call(rt, call) {
+        Err(Met::NoMemory) => try_call(rt, call),
+        tried => tried,
     };
     match tried {
         Ok(()) => "right",

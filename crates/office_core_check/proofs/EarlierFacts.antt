@@ -1,6 +1,6 @@
 -- What is said of an office that was made anew of a store's mail up to a run.
 use Rattle.std.proofs.Common.{◌≡◌, ℕ, ◌≤◌, true, List, length, Option, Some, None, sym, subst, ◌∙◌, arith}
-use Rattle.std.specs.Prelude.{is_some}
+use Rattle.std.specs.Prelude.{⊤, is_some}
 use Rattle.office_mail.specs.Kept.{Kept}
 use Rattle.office_mail.specs.Lists.{Lists}
 use Rattle.office_store_keeper.specs.Content.{Content}
@@ -18,7 +18,7 @@ use Rattle.office_core_check.proofs.FoundFacts.{no_difference, unmade_differs}
 -- where no office is made anew of a store's mail up to a finished run, the store isn't what an office leaves
 pub made_of_no_office : (setup : Lists) (c : Content) (run : ℕ) (front : Kept) (d : Option Difference) → is_some d ≡ true → IsFinished c run → IsMade setup c.kept run front d → AreOfSenders setup c.kept → IsOffice setup c → ⊥
 made_of_no_office setup c run front None e finished made are office = absurd (cc (e))
-made_of_no_office setup c run front (Some d) e finished made are office = no_difference setup c d office (unmade_differs setup c run d finished.1 made are)
+made_of_no_office setup c run front (Some d) e finished made are office = no_difference ⊤ setup c d tt office (unmade_differs ⊤ setup c run d finished.1 made are)
 
 -- what is told of the last finished run is told of the run with its number
 pub told_of_last : (setup : Lists) (content : Content) (run : ℕ) (source : List ℕ) (text : Option WhyText) → length content.reports ≡ run

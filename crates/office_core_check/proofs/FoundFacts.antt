@@ -1,7 +1,7 @@
 -- What a comparison of a store with an office made anew says of the store.
 use Rattle.std.proofs.Common.{◌≡◌, ℕ, ◌≤◌, Bool, true, false, cond, length, Option, Some, None, sym, ap, subst, ◌∙◌, refl, arith}
 use Rattle.std.specs.Prelude.{IfSome, option_map, is_some}
-use Rattle.std.specs.FinMap.{get}
+use Rattle.std.specs.FinMap.{get, len}
 use Rattle.testing_rules_model.specs.declared.fact_row.FactRow.{FactRow}
 use Rattle.testing_rules_model.specs.FactRows.{rows_of, times}
 use Rattle.testing_rules_model.specs.KeptFacts.{KeptFacts}
@@ -17,15 +17,15 @@ use Rattle.office_core_facts.specs.Outcome.{covered_items, reports_of, testing_a
 use Rattle.office_core_facts.specs.State.{IsOffice, KeepsFacts}
 use Rattle.office_core_orders.proofs.ReadyCount.{IsReady-down}
 use Rattle.office_core_facts.proofs.ReportFacts.{report_is}
-use Rattle.office_core_check.specs.Comparing.{IsCompared, IsMade, IsShort, IsUnlike, IsUnmade, found_by}
+use Rattle.office_core_check.specs.Comparing.{IsCompared, IsMade, IsReadAs, IsShort, IsUnlike, IsUnmade}
 use Rattle.office_core_check.specs.Reading.{IsFront}
 use Rattle.office_core_check.specs.Whole.{AreOfSenders, IsDifference, IsFound, excuses_at, update_at}
 use Rattle.office_core_check.specs.declared.Checked.{Checked}
 use Rattle.office_core_check.specs.declared.Checked.TheVariants.{Whole, Differs}
 use Rattle.office_core_check.specs.declared.Difference.{Difference}
-use Rattle.office_core_check.specs.declared.Difference.TheVariants.{Mail, RunMail, Excuses, Update, Testing, Facts}
+use Rattle.office_core_check.specs.declared.Difference.TheVariants.{Mail, RunMail, Excuses, Update, Testing, Facts, Tables}
 use Rattle.office_core_check.proofs.ComparedFacts.{kept_rows, same_from_one, same_sets}
-use Rattle.office_core_check.proofs.FrontFacts.{front_all}
+use Rattle.office_core_check.proofs.FrontFacts.{front_all, front_senders}
 
 -- an office's mail is of senders of the setup
 pub office_senders : (setup : Lists) (content : Content) → IsOffice setup content → AreOfSenders setup content.kept
@@ -68,30 +68,48 @@ update_is : (setup : Lists) (a : Content) (kept : Kept) (run : ℕ) → IsOffice
 update_is setup a kept run office same first last =
     ap (option_map (λ (r : Reports). r.updates)) (report_is setup a run office first last) ∙ ap (λ (k : Kept). Some (reports_of setup k run).updates) same
 
--- beside an office of the same mail and as many runs, what is unlike is a difference
-unlike_differs : (setup : Lists) (c a : Content) (runs : ℕ) (d : Difference) → IsOffice setup a → a.kept ≡ c.kept → length a.reports ≡ runs → length c.reports ≡ runs → IsUnlike c a runs d → IsDifference setup c d
-unlike_differs setup c a runs (Mail sender number) office kept one other h = absurd h
-unlike_differs setup c a runs (RunMail run) office kept one other h = absurd h
-unlike_differs setup c a runs (Excuses run) office kept one other h =
-    let last = h.1 in
-    ((h.0, omega (arith, last, other)), λ e. h.2 (e ∙ sym (excuses_are setup a c.kept run office kept h.0 (omega (arith, last, one)))))
-unlike_differs setup c a runs (Update run) office kept one other h =
-    let last = h.1 in
-    ((h.0, omega (arith, last, other)), λ e. h.2 (e ∙ sym (update_is setup a c.kept run office kept h.0 (omega (arith, last, one)))))
-unlike_differs setup c a runs Testing office kept one other h = λ e.
-    h (e ∙ sym (office.testing_is ∙ ap (λ (k : Kept). testing_after setup k (length a.reports)) kept ∙ ap (testing_after setup c.kept) (one ∙ sym other)))
-unlike_differs setup c a runs Facts office kept one other h = λ keeps.
-    h.1 (sym (ap rows_in (same_facts setup a c (sym kept) (other ∙ sym one) h.0 office.facts keeps)))
+module _ (legible : Type 0) where
+  -- beside an office of the same mail and as many runs, what is unlike is a difference
+  unlike_differs : (setup : Lists) (c a : Content) (runs : ℕ) (d : Difference) → IsOffice setup a → a.kept ≡ c.kept → length a.reports ≡ runs → length c.reports ≡ runs → IsUnlike c a runs d → IsDifference setup c legible d
+  unlike_differs setup c a runs (Mail sender number) office kept one other h = absurd h
+  unlike_differs setup c a runs (RunMail run) office kept one other h = absurd h
+  unlike_differs setup c a runs (Excuses run) office kept one other h =
+      let last = h.1 in
+      ((h.0, omega (arith, last, other)), λ e. h.2 (e ∙ sym (excuses_are setup a c.kept run office kept h.0 (omega (arith, last, one)))))
+  unlike_differs setup c a runs (Update run) office kept one other h =
+      let last = h.1 in
+      ((h.0, omega (arith, last, other)), λ e. h.2 (e ∙ sym (update_is setup a c.kept run office kept h.0 (omega (arith, last, one)))))
+  unlike_differs setup c a runs Testing office kept one other h = λ e.
+      h (e ∙ sym (office.testing_is ∙ ap (λ (k : Kept). testing_after setup k (length a.reports)) kept ∙ ap (testing_after setup c.kept) (one ∙ sym other)))
+  unlike_differs setup c a runs Facts office kept one other h = λ keeps.
+      h.1 (sym (ap rows_in (same_facts setup a c (sym kept) (other ∙ sym one) h.0 office.facts keeps)))
+  unlike_differs setup c a runs Tables office kept one other h = absurd h
 
--- what is found by a comparison with an office made anew
-pub compared_found : (setup : Lists) (c a : Content) (runs : ℕ) (d : Option Difference) → IsOffice setup a → length a.reports ≡ runs → length c.reports ≡ runs → IsFront c.kept (length setup.senders) 0 a.kept
-    → IsCompared c a runs d → AreOfSenders setup c.kept → IsFound setup c (found_by runs d)
-compared_found setup c a runs None office one other front same are =
-    let kept : a.kept ≡ c.kept = front_all setup c.kept a.kept front are in
-    let reports : c.reports ≡ a.reports = same_from_one c.reports a.reports runs other one same.0 in
-    let content : a ≡ c = same_content a c kept (sym reports) (sym same.1) (same_sets a.facts c.facts (sym same.2)) in
-    (sym other, subst (IsOffice setup) content office)
-compared_found setup c a runs (Some d) office one other front unlike are = unlike_differs setup c a runs d office (front_all setup c.kept a.kept front are) one other unlike
+  -- what is found where an office made anew is unlike
+  pub compared_differs : (setup : Lists) (c a : Content) (runs : ℕ) (d : Difference) → IsOffice setup a → length a.reports ≡ runs → length c.reports ≡ runs → IsFront c.kept (length setup.senders) 0 a.kept
+      → IsUnlike c a runs d → AreOfSenders setup c.kept → IsDifference setup c legible d
+  compared_differs setup c a runs d office one other front unlike are = unlike_differs setup c a runs d office (front_all setup c.kept a.kept front are) one other unlike
+
+  compared_whole : (setup : Lists) (c a : Content) (runs : ℕ) → IsOffice setup a → length a.reports ≡ runs → length c.reports ≡ runs → IsFront c.kept (length setup.senders) 0 a.kept
+      → IsCompared c a runs None → AreOfSenders setup c.kept → IsOffice setup c
+  compared_whole setup c a runs office one other front same are =
+      let kept : a.kept ≡ c.kept = front_all setup c.kept a.kept front are in
+      let reports : c.reports ≡ a.reports = same_from_one c.reports a.reports runs other one same.0 in
+      let content : a ≡ c = same_content a c kept (sym reports) (sym same.1) (same_sets a.facts c.facts (sym same.2)) in
+      subst (IsOffice setup) content office
+
+  -- what is found of the tables where an office made anew is like the store
+  pub tables_found : (setup : Lists) (c a : Content) (runs : ℕ) (found : Checked) → IsOffice setup a → length a.reports ≡ runs → length c.reports ≡ runs → IsFront c.kept (length setup.senders) 0 a.kept
+      → IsCompared c a runs None → IsReadAs (legible × (len c.kept ≡ len a.kept)) runs found → IsFound setup c legible found
+  tables_found setup c a runs (Whole k) office one other front same it =
+      (it.0 ∙ sym other, it.1.0, compared_whole setup c a runs office one other front same (front_senders setup c.kept a.kept front it.1.1))
+  tables_found setup c a runs (Differs Tables) office one other front same it = λ are so. it (so, ap len (sym (front_all setup c.kept a.kept front are)))
+  tables_found setup c a runs (Differs (Mail sender number)) office one other front same it = absurd it
+  tables_found setup c a runs (Differs (RunMail run)) office one other front same it = absurd it
+  tables_found setup c a runs (Differs (Excuses run)) office one other front same it = absurd it
+  tables_found setup c a runs (Differs (Update run)) office one other front same it = absurd it
+  tables_found setup c a runs (Differs Testing) office one other front same it = absurd it
+  tables_found setup c a runs (Differs Facts) office one other front same it = absurd it
 
 none_of : {A : Type 0} (o : Option A) → is_some o ≡ false → o ≡ None
 none_of None e = refl
@@ -110,29 +128,33 @@ made_by setup kept front runs (Some (Excuses run)) all short = absurd short
 made_by setup kept front runs (Some (Update run)) all short = absurd short
 made_by setup kept front runs (Some Testing) all short = absurd short
 made_by setup kept front runs (Some Facts) all short = absurd short
+made_by setup kept front runs (Some Tables) all short = absurd short
 
--- what is found where there is no office made anew
-pub unmade_differs : (setup : Lists) (c : Content) (runs : ℕ) (d : Difference) → runs ≤ length c.reports → IsUnmade setup c.kept runs d → AreOfSenders setup c.kept → IsDifference setup c d
-unmade_differs setup c runs (Mail sender number) size h are = h
-unmade_differs setup c runs (RunMail run) size h are =
-    let last = h.1 in
-    let kept : h.2.0 ≡ c.kept = front_all setup c.kept h.2.0 h.2.1 are in
-    ((h.0, omega (arith, last, size)), λ ready. h.2.2 (subst (λ (k : Kept). IsReady setup k run) (sym kept) ready))
-unmade_differs setup c runs (Excuses run) size h are = absurd h
-unmade_differs setup c runs (Update run) size h are = absurd h
-unmade_differs setup c runs Testing size h are = absurd h
-unmade_differs setup c runs Facts size h are = absurd h
+module _ (legible : Type 0) where
+  -- what is found where there is no office made anew
+  pub unmade_differs : (setup : Lists) (c : Content) (runs : ℕ) (d : Difference) → runs ≤ length c.reports → IsUnmade setup c.kept runs d → AreOfSenders setup c.kept → IsDifference setup c legible d
+  unmade_differs setup c runs (Mail sender number) size h are = h
+  unmade_differs setup c runs (RunMail run) size h are =
+      let last = h.1 in
+      let kept : h.2.0 ≡ c.kept = front_all setup c.kept h.2.0 h.2.1 are in
+      ((h.0, omega (arith, last, size)), λ ready. h.2.2 (subst (λ (k : Kept). IsReady setup k run) (sym kept) ready))
+  unmade_differs setup c runs (Excuses run) size h are = absurd h
+  unmade_differs setup c runs (Update run) size h are = absurd h
+  unmade_differs setup c runs Testing size h are = absurd h
+  unmade_differs setup c runs Facts size h are = absurd h
+  unmade_differs setup c runs Tables size h are = absurd h
 
--- what an office leaves differs nowhere
-pub no_difference : (setup : Lists) (c : Content) (d : Difference) → IsOffice setup c → IsDifference setup c d → ⊥
-no_difference setup c (Mail sender number) office h = h.2 (office.texts (sender, number) h.0 h.1)
-no_difference setup c (RunMail run) office h = h.1 (IsReady-down setup c.kept (length c.reports) run h.0.1 office.ready)
-no_difference setup c (Excuses run) office h = h.1 (excuses_are setup c c.kept run office refl h.0.0 h.0.1)
-no_difference setup c (Update run) office h = h.1 (update_is setup c c.kept run office refl h.0.0 h.0.1)
-no_difference setup c Testing office h = h office.testing_is
-no_difference setup c Facts office h = h office.facts
+  -- what an office leaves that reads as it writes it differs nowhere
+  pub no_difference : (setup : Lists) (c : Content) (d : Difference) → legible → IsOffice setup c → IsDifference setup c legible d → ⊥
+  no_difference setup c (Mail sender number) so office h = h.2 (office.texts (sender, number) h.0 h.1)
+  no_difference setup c (RunMail run) so office h = h.1 (IsReady-down setup c.kept (length c.reports) run h.0.1 office.ready)
+  no_difference setup c (Excuses run) so office h = h.1 (excuses_are setup c c.kept run office refl h.0.0 h.0.1)
+  no_difference setup c (Update run) so office h = h.1 (update_is setup c c.kept run office refl h.0.0 h.0.1)
+  no_difference setup c Testing so office h = h office.testing_is
+  no_difference setup c Facts so office h = h office.facts
+  no_difference setup c Tables so office h = h so
 
--- so it is found whole
-pub office_whole : (setup : Lists) (c : Content) (found : Checked) → IsOffice setup c → IsFound setup c found → found ≡ Whole (length c.reports)
-office_whole setup c (Whole runs) office h = ap Whole h.0
-office_whole setup c (Differs d) office h = absurd (no_difference setup c d office h)
+  -- so it is found whole
+  pub office_whole : (setup : Lists) (c : Content) (found : Checked) → legible → IsOffice setup c → IsFound setup c legible found → found ≡ Whole (length c.reports)
+  office_whole setup c (Whole runs) so office h = ap Whole h.0
+  office_whole setup c (Differs d) so office h = absurd (no_difference setup c d so office (h (office_senders setup c office)))

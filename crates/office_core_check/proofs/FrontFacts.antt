@@ -2,12 +2,13 @@
 use Rattle.std.proofs.Common.{◌≡◌, ⊎_elim, ℕ, ◌+◌, ◌<◌, ◌≤◌, Bool, true, false, cond, List, length, Option, Some, None, IsSome, sym, ap, subst, ◌∙◌, refl, arith}
 use Rattle.std.specs.Ordering.{eq_by_cmp, is_eq}
 use Rattle.std.specs.Cmp.{tied_itself}
-use Rattle.std.specs.FinMap.{get, insert, empty, get-empty, get-insert}
+use Rattle.std.specs.FinMap.{get, insert, len, empty, get-empty, get-insert}
 use Rattle.std.proofs.lemmas.Bool.{cases_lt}
 use Rattle.office_mail.specs.Kept.{Kept, Place, place_cmp}
 use Rattle.office_mail.specs.Lists.{Lists}
 use Rattle.office_mail.proofs.KeptFacts.{places_total, same_kept, tied}
 use Rattle.office_store_keeper.specs.declared.values.Letter.{Letter}
+use Rattle.office_store_keeper.proofs.KeyCounts.{len_low, keys_same}
 use Rattle.office_core_check.specs.Reading.{IsFront, IsNextLetter, NoneWithin}
 use Rattle.office_core_check.specs.Whole.{AreOfSenders}
 
@@ -95,3 +96,32 @@ front_all setup kept made so are = same_kept made kept (λ p. ⊎_elim
     (cases_lt (length setup.senders) p.0)
     ∙ of_sender setup kept p (get kept p) refl le are)
     (cases_lt p.0 (length setup.senders)))
+
+none_there : {X : Type 0} (o : Option X) → o ≡ None → IsSome o → ⊥
+none_there (Some x) none there = absurd (cc (none))
+none_there None none there = absurd (cc (there))
+
+none_behind : (kept made : Kept) (n : ℕ) → IsFront kept n 0 made → (p : Place) → n ≤ p.0 → get made p ≡ None
+none_behind kept made n so p le = ⊎_elim
+    (λ (beyond : n < p.0). so.behind p beyond)
+    (λ (last : p.0 ≤ n).
+    let is : n ≡ p.0 = omega (arith, le, last) in
+    subst (λ k. get made (k, p.1) ≡ None) is (so.above p.1 (omega arith)))
+    (cases_lt n p.0)
+
+-- the mail that was taken is of those senders, and is kept
+front_has : (kept made : Kept) (n : ℕ) → IsFront kept n 0 made → (p : Place) → IsSome (get made p) → (p.0 < n) × IsSome (get kept p)
+front_has kept made n so p there = ⊎_elim
+    (λ (lt : p.0 < n). (lt, subst IsSome (so.before p lt) there))
+    (λ (le : n ≤ p.0). absurd (none_there (get made p) (none_behind kept made n so p le) there))
+    (cases_lt p.0 n)
+
+-- no more mail was taken than is kept
+pub front_low : (kept made : Kept) (n : ℕ) → IsFront kept n 0 made → len made ≤ len kept
+front_low kept made n so = len_low places_total made kept (λ p there. (front_has kept made n so p there).1)
+
+-- where as much was taken, all mail is of those senders
+pub front_senders : (setup : Lists) (kept made : Kept) → IsFront kept (length setup.senders) 0 made → len kept ≡ len made → AreOfSenders setup kept
+front_senders setup kept made so same = λ p some.
+    let n = length setup.senders in
+    (front_has kept made n so p (keys_same places_total made kept (λ q there. (front_has kept made n so q there).1) (omega (arith, same)) p some)).0

@@ -16,7 +16,7 @@ use Rattle.office_core_check.specs.declared.memory.Bounded.{Bounded}
 use Rattle.office_core_check.specs.declared.Checked.{Checked}
 use Rattle.office_core_check.specs.declared.Checked.TheVariants.{Whole, Differs}
 use Rattle.office_core_check.specs.declared.Difference.{Difference}
-use Rattle.office_core_check.specs.declared.Difference.TheVariants.{Mail, RunMail, Excuses, Update, Testing, Facts}
+use Rattle.office_core_check.specs.declared.Difference.TheVariants.{Mail, RunMail, Excuses, Update, Testing, Facts, Tables}
 
 -- the store in memory of an office made anew holds what an office leaves
 abbrev pub IsAnew : Bounded → Type 0
@@ -68,6 +68,7 @@ IsUnlike these those runs (Excuses run) = (1 ≤ run) × (run ≤ runs) × (excu
 IsUnlike these those runs (Update run) = (1 ≤ run) × (run ≤ runs) × (update_at run these.reports ≢ update_at run those.reports)
 IsUnlike these those runs Testing = these.testing ≢ those.testing
 IsUnlike these those runs Facts = (these.testing ≡ those.testing) × (rows_in these.facts ≢ rows_in those.facts)
+IsUnlike these those runs Tables = ⊥
 
 -- the reports of so many runs are the same, or there is a difference
 abbrev pub AreRunsCompared : Content → Content → ℕ → Option Difference → Type 0
@@ -80,7 +81,8 @@ IsCompared these those runs None =
     ((k : ℕ) → 1 ≤ k → k ≤ runs → item_from_one k these.reports ≡ item_from_one k those.reports) × (these.testing ≡ those.testing) × (rows_in these.facts ≡ rows_in those.facts)
 IsCompared these those runs (Some difference) = IsUnlike these those runs difference
 
--- what is found of a store that holds so many runs, by the first difference, if there is one
-abbrev pub found_by : ℕ → Option Difference → Checked
-found_by runs None = Whole runs
-found_by runs (Some difference) = Differs difference
+-- what is found of a store of which all else is the same: it is legible and keeps no other mail, or not both
+abbrev pub IsReadAs : Type 0 → ℕ → Checked → Type 0
+IsReadAs both runs (Whole found) = (found ≡ runs) × both
+IsReadAs both runs (Differs Tables) = both → ⊥
+IsReadAs both runs (Differs _) = ⊥

@@ -5,7 +5,7 @@ use Rattle.office_core_orders.specs.Replies.{name_at}
 use Rattle.office_core_check.specs.declared.Checked.{Checked}
 use Rattle.office_core_check.specs.declared.Checked.TheVariants.{Whole, Differs}
 use Rattle.office_core_check.specs.declared.Difference.{Difference}
-use Rattle.office_core_check.specs.declared.Difference.TheVariants.{Mail, RunMail, Excuses, Update, Testing, Facts}
+use Rattle.office_core_check.specs.declared.Difference.TheVariants.{Mail, RunMail, Excuses, Update, Testing, Facts, Tables}
 
 -- a difference in words
 abbrev pub difference_words : Lists → Difference → List ℕ
@@ -15,6 +15,7 @@ difference_words setup (Excuses run) = codes "run " ++ decimal run ++ codes " ex
 difference_words setup (Update run) = codes "run " ++ decimal run ++ codes " update"
 difference_words setup Testing = codes "testing"
 difference_words setup Facts = codes "facts"
+difference_words setup Tables = codes "tables"
 
 -- what was found, in words
 abbrev pub checked_words : Lists → Checked → List ℕ

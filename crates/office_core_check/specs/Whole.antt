@@ -1,4 +1,4 @@
--- What a check finds of a store: that it holds what an office leaves, or where it doesn't. That a store is checked is this office's own.
+-- What a check finds of a store: that it is legible and holds what an office leaves, or where it doesn't. That a store is checked is this office's own.
 use Rattle.std.specs.Prelude.{◌≡◌, ◌≢◌, ℕ, ◌<◌, ◌≤◌, List, length, Option, Some, IsSome, option_map}
 use Rattle.std.specs.FinMap.{get}
 use Rattle.office_mail.specs.Kept.{Kept, Place, placed}
@@ -11,7 +11,7 @@ use Rattle.office_core_facts.specs.State.{IsOffice, KeepsFacts}
 use Rattle.office_core_check.specs.declared.Checked.{Checked}
 use Rattle.office_core_check.specs.declared.Checked.TheVariants.{Whole, Differs}
 use Rattle.office_core_check.specs.declared.Difference.{Difference}
-use Rattle.office_core_check.specs.declared.Difference.TheVariants.{Mail, RunMail, Excuses, Update, Testing, Facts}
+use Rattle.office_core_check.specs.declared.Difference.TheVariants.{Mail, RunMail, Excuses, Update, Testing, Facts, Tables}
 
 -- all kept mail is of senders of the setup
 abbrev pub AreOfSenders : Lists → Kept → Type 0
@@ -32,16 +32,19 @@ update_at run reports = option_map (λ r. r.updates) (item_from_one run reports)
 abbrev pub IsFinished : Content → ℕ → Type 0
 IsFinished content run = (1 ≤ run) × (run ≤ length content.reports)
 
--- where a store doesn't hold what an office with its mail leaves: by a text, a run that isn't ready, a report, testing, or the facts
-abbrev pub IsDifference : Lists → Content → Difference → Type 0
-IsDifference setup content (Mail sender number) = IsForeign setup content.kept (sender, number)
-IsDifference setup content (RunMail run) = IsFinished content run × (IsReady setup content.kept run → ⊥)
-IsDifference setup content (Excuses run) = IsFinished content run × (excuses_at run content.reports ≢ Some (reports_of setup content.kept run).excuses)
-IsDifference setup content (Update run) = IsFinished content run × (update_at run content.reports ≢ Some (reports_of setup content.kept run).updates)
-IsDifference setup content Testing = content.testing ≢ testing_after setup content.kept (length content.reports)
-IsDifference setup content Facts = KeepsFacts setup content → ⊥
+-- where a store, which is legible or not, doesn't hold what an office with its mail leaves: by a text, a run that isn't ready, a
+-- report, testing, or the facts; or it isn't legible
+abbrev pub IsDifference : Lists → Content → Type 0 → Difference → Type 0
+IsDifference setup content legible (Mail sender number) = IsForeign setup content.kept (sender, number)
+IsDifference setup content legible (RunMail run) = IsFinished content run × (IsReady setup content.kept run → ⊥)
+IsDifference setup content legible (Excuses run) = IsFinished content run × (excuses_at run content.reports ≢ Some (reports_of setup content.kept run).excuses)
+IsDifference setup content legible (Update run) = IsFinished content run × (update_at run content.reports ≢ Some (reports_of setup content.kept run).updates)
+IsDifference setup content legible Testing = content.testing ≢ testing_after setup content.kept (length content.reports)
+IsDifference setup content legible Facts = KeepsFacts setup content → ⊥
+IsDifference setup content legible Tables = legible → ⊥
 
--- what is found of a store
-abbrev pub IsFound : Lists → Content → Checked → Type 0
-IsFound setup content (Whole runs) = (runs ≡ length content.reports) × IsOffice setup content
-IsFound setup content (Differs difference) = IsDifference setup content difference
+-- What is found of a store, which is legible or not: it is legible and holds what an office leaves; or there is a difference,
+-- where its mail is of senders of the setup.
+abbrev pub IsFound : Lists → Content → Type 0 → Checked → Type 0
+IsFound setup content legible (Whole runs) = (runs ≡ length content.reports) × legible × IsOffice setup content
+IsFound setup content legible (Differs difference) = AreOfSenders setup content.kept → IsDifference setup content legible difference

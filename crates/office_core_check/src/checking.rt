@@ -1,15 +1,16 @@
 //! Whether a store holds what an office leaves.
 #![tactic(auto, using(office_core_orders::proofs::LastFacts::lasting))]
 
-ghost use Rattle.std.specs.Prelude.{◌≡◌, None, IfOk, is_ok, length};
+ghost use Rattle.std.specs.Prelude.{◌≡◌, ◌≤◌, None, IfOk, is_ok, length};
+ghost use Rattle.std.specs.FinMap.{len};
 ghost use Rattle.office_store_keeper.specs.MemoryState.{content_of};
 ghost use Rattle.office_core_orders.specs.Counted.{Counted};
 ghost use Rattle.office_core_orders.specs.ReadsStore.{ReadsStore};
 ghost use Rattle.office_core_orders.specs.StaysTrusted.{StaysTrusted};
 ghost use Rattle.office_core_facts.specs.State.{IsOffice};
-ghost use Rattle.office_core_check.specs.Comparing.{IsAnew, IsMade, found_by};
+ghost use Rattle.office_core_check.specs.Comparing.{IsAnew, IsMade, IsReadAs};
 ghost use Rattle.office_core_check.specs.Reading.{IsFront};
-ghost use Rattle.office_core_check.specs.Whole.{AreOfSenders, IsFound};
+ghost use Rattle.office_core_check.specs.Whole.{IsFound};
 ghost use Rattle.office_core_check.specs.declared.Checked.TheVariants.{Whole};
 
 use crate::comparing::{compare, in_memory};
@@ -22,13 +23,16 @@ use office_mail::Setup;
 use office_store_keeper::Keeper;
 use std::alloc::Global;
 
-/// What is found of a store that holds so many runs, by the first difference, if there is one.
-fn checked_by(runs: u32, difference: Option<Difference>) -> Checked
-    ensures { result ≡ found_by runs difference }
+/// What is found of a store that holds so many runs, where all that was compared is the same: whether its tables have what no
+/// office leaves, or mail that the office made anew didn't take.
+fn check_tables<K: Keeper>(keeper: &mut K, made: &Bounded, runs: u32) -> Result<Checked, StoreFault>
+    ensures read { K.is_trusted keeper.new → len (content_of made.now.plain).kept ≤ len (K.content keeper.old).kept → IfOk result (IsReadAs (K.is_legible keeper.new × (len (K.content keeper.old).kept ≡ len (content_of made.now.plain).kept)) runs) }
+    ensures looks { ReadsStore K.Keeper keeper.old keeper.new result }
 {
-    match difference {
-        Some(difference) => Checked::Differs(difference),
-        None => Checked::Whole { runs },
+    if keeper.is_whole(made.texts())? {
+        Ok(Checked::Whole { runs })
+    } else {
+        Ok(Checked::Differs(Difference::Tables))
     }
 }
 
@@ -40,14 +44,17 @@ fn check_made<K: Keeper>(
     runs: u32,
 ) -> Result<Checked, StoreFault>
     ensures found { K.is_trusted keeper.new → IsAnew made.old → IsMade made.old.plain.setup (K.content keeper.old).kept runs (content_of made.old.plain).kept None → runs ≡ length (K.content keeper.old).reports →
-        AreOfSenders made.old.plain.setup (K.content keeper.old).kept → IfOk result (IsFound made.old.plain.setup (K.content keeper.old)) }
+        IfOk result (IsFound made.old.plain.setup (K.content keeper.old) (K.is_legible keeper.new)) }
     ensures looks { ReadsStore K.Keeper keeper.old keeper.new result }
 {
     if in_memory(made.finished())? != runs {
         return Err(StoreFault::NoMemory);
     }
-    let difference = compare(keeper, made, runs)?;
-    Ok(checked_by(runs, difference))
+    let unlike = compare(keeper, made, runs)?;
+    match unlike {
+        Some(difference) => Ok(Checked::Differs(difference)),
+        None => check_tables(keeper, made, runs),
+    }
 }
 
 /// What is found of a store that holds so many runs, beside what was made anew of its mail, or by why nothing was.
@@ -58,7 +65,7 @@ fn check_beside<K: Keeper>(
     runs: u32,
 ) -> Result<Checked, StoreFault>
     ensures found { K.is_trusted keeper.new → IsAnew made.old → IsMade made.old.plain.setup (K.content keeper.old).kept runs (content_of made.old.plain).kept unmade → runs ≡ length (K.content keeper.old).reports →
-        AreOfSenders made.old.plain.setup (K.content keeper.old).kept → IfOk result (IsFound made.old.plain.setup (K.content keeper.old)) }
+        IfOk result (IsFound made.old.plain.setup (K.content keeper.old) (K.is_legible keeper.new)) }
     ensures looks { ReadsStore K.Keeper keeper.old keeper.new result }
 {
     match unmade {
@@ -74,7 +81,7 @@ fn check_anew<K: Keeper>(
     runs: u32,
 ) -> Result<Checked, StoreFault>
     ensures found { K.is_trusted keeper.new → IsAnew office → IsFront (K.content keeper.old).kept 0 0 (content_of office.plain).kept → runs ≡ length (K.content keeper.old).reports →
-        AreOfSenders office.plain.setup (K.content keeper.old).kept → IfOk result (IsFound office.plain.setup (K.content keeper.old)) }
+        IfOk result (IsFound office.plain.setup (K.content keeper.old) (K.is_legible keeper.new)) }
     ensures looks { ReadsStore K.Keeper keeper.old keeper.new result }
 {
     let mut office = office;
@@ -85,15 +92,16 @@ fn check_anew<K: Keeper>(
 
 /// Makes all finished runs of a store anew, in memory, from the mail that it keeps, and finds where it differs first from what
 /// an office leaves that took this mail: a text that isn't a message of its sender and number, a run that isn't ready, the
-/// reports of each run, testing, or the rows of facts. The store stays as it is.
+/// reports of each run, testing, or the rows of facts; and then whether the store keeps anything beside. The store stays as it
+/// is, but for what it has in memory to speed the next run.
 ///
 /// It fails for want of memory or of the store alone.
 pub fn check<K: Keeper>(alloc: Global, setup: &Setup, keeper: &mut K) -> Result<Checked, StoreFault>
     requires lists { K.setup keeper.old ≡ setup.now }
     // What an office leaves is found whole.
-    ensures whole { K.is_trusted keeper.new → IsOffice setup.now (K.content keeper.old) → IfOk result (λ checked. checked ≡ Whole (length (K.content keeper.old).reports)) }
-    // Of a store whose mail is of senders of the setup what is found is so: whole is only what an office leaves.
-    ensures found { K.is_trusted keeper.new → AreOfSenders setup.now (K.content keeper.old).kept → IfOk result (IsFound setup.now (K.content keeper.old)) }
+    ensures whole { K.is_trusted keeper.new → K.is_legible keeper.old → IsOffice setup.now (K.content keeper.old) → IfOk result (λ checked. checked ≡ Whole (length (K.content keeper.old).reports)) }
+    // Whole is only what an office leaves. A difference is one where all mail is of senders of the setup.
+    ensures found { K.is_trusted keeper.new → IfOk result (IsFound setup.now (K.content keeper.old) (K.is_legible keeper.new)) }
     ensures same { K.is_trusted keeper.new → K.content keeper.new ≡ K.content keeper.old }
     ensures setup { K.setup keeper.new ≡ K.setup keeper.old }
     ensures before { K.is_trusted keeper.new → K.is_trusted keeper.old }

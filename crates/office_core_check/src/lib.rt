@@ -1,5 +1,5 @@
-//! Whether a store holds what an office leaves: all its runs are made anew from the mail that it keeps, and what it
-//! holds of them is compared. And an office in memory as an earlier run of a store left it, which is made of the same
+//! Whether a store holds what an office leaves, and nothing beside: all its runs are made anew from the mail that it keeps,
+//! and what it holds of them is compared. And an office in memory as an earlier run of a store left it, which is made of the same
 //! mail; and what an office tells of a source for a run.
 #![tactic(auto)]
 
@@ -31,6 +31,8 @@ pub enum Difference {
     Testing,
     /// The rows of facts are others.
     Facts,
+    /// All this is the same, but beside it the store keeps what no office leaves, or it doesn't read as an office writes it.
+    Tables,
 }
 
 /// What a check of a store found.

@@ -1,6 +1,7 @@
 //! A store in memory that has room for some runs.
 
 ghost use Rattle.std.specs.Prelude.{◌≡◌, [], IfOk, ⊤};
+ghost use Rattle.std.specs.FinMap.{len};
 ghost use Rattle.office_store_keeper.specs.Content.{no_content};
 ghost use Rattle.office_store_keeper.specs.MemoryState.{content_of};
 
@@ -28,6 +29,13 @@ impl Bounded {
             plain: Plain::new(alloc, setup)?,
             most,
         })
+    }
+
+    /// How many texts are kept.
+    pub(crate) fn texts(&self) -> u64
+        ensures { result ≡ len (content_of self.now.plain).kept }
+    {
+        self.plain.texts()
     }
 }
 
@@ -84,6 +92,10 @@ impl Keeper for Bounded {
 
     fn facts(&mut self) -> Result<FactRows, KeepFault> {
         self.plain.facts()
+    }
+
+    fn is_whole(&mut self, texts: u64) -> Result<bool, KeepFault> {
+        self.plain.is_whole(texts)
     }
 
     fn take_finished(&mut self, run: u32, done: Finished) -> Result<(), KeepFault> {

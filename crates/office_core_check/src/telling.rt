@@ -26,6 +26,7 @@ fn difference_words(
         Difference::Update { run } => format!(in alloc; "run {run} update"),
         Difference::Testing => String::from_str(alloc, "testing"),
         Difference::Facts => String::from_str(alloc, "facts"),
+        Difference::Tables => String::from_str(alloc, "tables"),
     }
 }
 
@@ -40,7 +41,7 @@ fn checked_words(alloc: Global, setup: &Setup, checked: Checked) -> Result<Strin
 }
 
 /// The line that tells what a check found: `whole N runs`, or else the difference as `mail SENDER NUMBER`, `run K mail`,
-/// `run K excuses`, `run K update`, `testing` or `facts`.
+/// `run K excuses`, `run K update`, `testing`, `facts` or `tables`.
 #[tactic(auto, unfolding(crate::specs::Telling::checked_text))]
 pub fn checked_text(alloc: Global, setup: &Setup, checked: Checked) -> Result<Text, NoMemory>
     ensures { IfOk result (λ text. text ≡ checked_text setup.now checked) }

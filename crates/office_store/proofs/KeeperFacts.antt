@@ -1,5 +1,7 @@
 -- What the calls of a keeper over tables leave of what it holds.
-use Rattle.std.proofs.Common.{◌≡◌, ◌≢◌, ◌⊎◌, inl, inr, length, Option, Some, IfSome, Result, Ok, Err, IfOk, sym, ap, subst, ◌∙◌}
+use Rattle.std.proofs.Common.{◌≡◌, ◌≢◌, ◌≤◌, ◌⊎◌, inl, inr, ℕ, length, Bool, Option, Some, None, IfSome, Result, Ok, Err, IfOk, sym, ap, subst, ◌∙◌}
+use Rattle.std.specs.Prelude.{◌↔◌, IsTrue}
+use Rattle.std.specs.FinMap.{len}
 use Rattle.sqlite.specs.Effect.{Database}
 use Rattle.sqlite.specs.State.{State}
 use Rattle.sqlite.specs.Tree.{Trees}
@@ -10,7 +12,7 @@ use Rattle.office_store_keeper.specs.declared.faults.KeepFault.TheVariants.{Stor
 use Rattle.office_store_keeper.specs.declared.faults.Cause.TheVariants.{BadRow}
 use Rattle.office_store_tables.specs.TableContent.{content_in, count_said}
 use Rattle.office_store_tables.specs.Legible.{IsLegible}
-use Rattle.office_store_tables.specs.Tables.{run_map, said_in}
+use Rattle.office_store_tables.specs.Tables.{kept_rows, run_map, said_in}
 use Rattle.office_store_tables.specs.TableSteps.{Same}
 use Rattle.office_store_tables.proofs.ReportFacts.{length_reports}
 use Rattle.office_store.specs.TablesState.{IsLegibleStore}
@@ -44,6 +46,22 @@ next_is {E} result given setup old new in_memory is same held ok = subst (λ r. 
 -- what is read in the tables afterwards stood there before
 pub value_before : {T E : Type 0} (result given : Result T E) (P : Database → T → Type 0) (old new : State) → result ≡ given → Same old new → IfOk given (P new.now) → IfOk result (P old.now)
 value_before result given P old new is same ok = subst (λ r. IfOk r (P old.now)) (sym is) (subst (λ (d : Database). IfOk given (P d)) same.now ok)
+
+-- what is found of the tables stands for a store that has no testing in memory
+pub whole_found : {E : Type 0} (result given : Result Bool E) (setup : Lists) (old new : State) (texts : ℕ) → result ≡ given → Same old new
+    → IfOk given (λ whole. texts ≤ len (kept_rows (new.now.trees 1)) → (IsTrue whole ↔ (IsLegible setup new.now.trees × (len (kept_rows (new.now.trees 1)) ≡ texts))))
+    → texts ≤ len (kept_rows (old.now.trees 1)) → IfOk result (λ whole. IsTrue whole ↔ (IsLegibleStore setup new.now.trees None × (len (kept_rows (old.now.trees 1)) ≡ texts)))
+whole_found {E} result given setup old new texts is same ok low = subst (λ r. IfOk r (λ whole. IsTrue whole ↔ (IsLegibleStore setup new.now.trees None × (len (kept_rows (old.now.trees 1)) ≡ texts)))) (sym is) (go given ok)
+  where
+    go : (r : Result Bool E) → IfOk r (λ whole. texts ≤ len (kept_rows (new.now.trees 1)) → (IsTrue whole ↔ (IsLegible setup new.now.trees × (len (kept_rows (new.now.trees 1)) ≡ texts))))
+        → IfOk r (λ whole. IsTrue whole ↔ (IsLegibleStore setup new.now.trees None × (len (kept_rows (old.now.trees 1)) ≡ texts)))
+    go (Ok whole) it =
+        let mail : len (kept_rows (new.now.trees 1)) ≡ len (kept_rows (old.now.trees 1)) = ap (λ (d : Database). len (kept_rows (d.trees 1))) same.now in
+        let both = it (subst (λ n. texts ≤ n) (sym mail) low) in (
+          λ so. let b = both.0 so in (record { tables = b.0; testing = tt }, sym mail ∙ b.1),
+          λ b. both.1 (b.0.tables, mail ∙ b.1),
+        )
+    go (Err e) it = tt
 
 -- as many runs are finished as have reports
 pub count_is : (setup : Lists) (db : Trees) → count_said (said_in (db 0)) ≡ length (content_in setup db).reports

@@ -4,7 +4,7 @@ use Rattle.std.proofs.lemmas.Bool.Decides.{nat_tests}
 use Rattle.std.proofs.lemmas.Cmp.{nat_cmp_total}
 use Rattle.std.specs.List.{AllByRecursion}
 use Rattle.std.specs.Ordering.{nat_cmp, eq_by_cmp}
-use Rattle.std.specs.FinMap.{get, get-insert, get-from_entries}
+use Rattle.std.specs.FinMap.{get, len, nat_cmp-IsAntisymmetric, get-insert, get-from_entries}
 use Rattle.sqlite.specs.Tree.{Trees}
 use Rattle.sqlite.specs.Effect.{Database}
 use Rattle.sqlite_rules.specs.Lists.{Has}
@@ -14,6 +14,7 @@ use Rattle.testing_rules_model.specs.declared.suite.SourceIn.{SourceIn}
 use Rattle.testing_rules_model.specs.declared.suite.RowIn.{RowIn}
 use Rattle.testing_rules_model.proofs.Orders.{text_order}
 use Rattle.office_mail.specs.Lists.{Lists}
+use Rattle.office_mail.specs.Setup.{setup_in}
 use Rattle.office_mail.specs.Kept.{Kept, Place}
 use Rattle.office_store_keeper.specs.declared.values.Finished.{Finished}
 use Rattle.office_store_keeper.specs.declared.values.Reports.{Reports}
@@ -21,7 +22,7 @@ use Rattle.office_store_tables.specs.declared.said.Said.{Said}
 use Rattle.office_store_keeper.specs.Content.{reports_in}
 use Rattle.office_store_keeper.specs.FactSet.{AreHoldable, facts_after}
 use Rattle.office_store_keeper.specs.Provenance.{IsGiven}
-use Rattle.office_store_tables.specs.Tables.{IsWhole, kept_rows, said_in, run_map}
+use Rattle.office_store_tables.specs.Tables.{IsWhole, kept_rows, said_in, run_in, run_map}
 use Rattle.office_store_tables.specs.Entries.{source_map, entry_map}
 use Rattle.office_store_tables.specs.EntrySteps.{source_entry, row_entry}
 use Rattle.office_store_tables.specs.Finishing.{with_count, FinishesRun}
@@ -30,16 +31,13 @@ use Rattle.office_store_tables.specs.Legible.{SaysOnce, AreReported, AreNamed, I
 use Rattle.office_store_tables.proofs.LetterFacts.{nat_is}
 use Rattle.office_store_tables.proofs.SettingLemmas.{text_exact, row_order, row_exact}
 use Rattle.office_store_tables.proofs.EntryMaps.{from_first}
-use Rattle.office_store_tables.proofs.EntryValues.{has_map}
+use Rattle.office_store_tables.proofs.EntryValues.{has_map, each_has}
 use Rattle.office_store_tables.proofs.ReportFacts.{length_reports}
+use Rattle.office_store_tables.proofs.RunCounts.{reported_whole}
+use Rattle.office_store_tables.proofs.Whole.{len_more}
 use Rattle.office_store.specs.TablesState.{IsLegibleStore}
 use Rattle.office_store.proofs.ContentFacts.{sources_named, rows_named, testing_after}
 use Rattle.office_store_tables.proofs.FactMoves.{holdable_stands}
-
-each_has : {X : Type 0} (P : X → Type 0) (xs : List X) (x : X) → AllByRecursion P xs → Has xs x → P x
-each_has P [] x all there = absurd there
-each_has P (y ∷ xs) x all (inl same) = subst P (sym same) all.0
-each_has P (y ∷ xs) x all (inr there) = each_has P xs x all.1 there
 
 -- a run up to the new one that isn't the new one is an earlier one
 earlier : (k run n : ℕ) → nat_eq run k ≡ false → k ≤ run → run ≡ n + 1 → k ≤ n
@@ -75,6 +73,14 @@ module _ (setup : Lists) (db next : Trees) (run : ℕ) (done : Finished) (it : F
       go true same = refl
       go false other = was.runs.each k low (earlier k run was.office.said.finished (sym (nat_is k run) ∙ other) high is)
 
+  reported_count : run ≡ was.office.said.finished + 1 → length (next 3) ≡ run
+  reported_count is =
+      let whole : len (run_map (next 3)) ≡ length (next 3) = it.writes.whole_runs (reported_whole (db 3) was.office.said.finished was.runs) in
+      let grown : len (run_map (next 3)) ≡ len (run_map (db 3)) + 1 = ap len it.writes.reported ∙ len_more nat_cmp_total nat_cmp-IsAntisymmetric run_in (run_map (db 3)) run (reports_in done) it.writes.new in
+      let old : len (run_map (db 3)) ≡ length (db 3) = reported_whole (db 3) was.office.said.finished was.runs in
+      let count : length (db 3) ≡ was.office.said.finished = was.runs.count in
+      omega (arith, is, whole, grown, old, count)
+
   reported_texts : IsUtf8 done.excuses → IsUtf8 done.updates → (k : ℕ) (reports : Reports) → get (run_map (next 3)) k ≡ Some reports → IsUtf8 reports.excuses × IsUtf8 reports.updates
   reported_texts excuses updates k reports found = go (eq_by_cmp nat_cmp k run) (sym (run_at k) ∙ found)
     where
@@ -86,8 +92,8 @@ module _ (setup : Lists) (db next : Trees) (run : ℕ) (done : Finished) (it : F
 
   reported_now : run ≡ length (content_in setup db).reports + 1 → IsUtf8 done.excuses → IsUtf8 done.updates → AreReported (next 3) run
   reported_now is excuses updates = record {
-    whole = it.writes.whole_runs was.runs.whole;
     each = reported_each (next_run is);
+    count = reported_count (next_run is);
     texts = reported_texts excuses updates;
   }
 
@@ -123,6 +129,8 @@ pub finish_legible : (setup : Lists) (db next : Trees) (run : ℕ) (done : Finis
     → IsGiven setup (content_in setup db) done.testing → AreHoldable setup (facts_after done.facts (content_in setup db).facts) → IsLegible setup db → IsLegible setup next
 finish_legible setup db next run done it fits excuses updates is given holdable was = record {
   office = says_now setup db next run done it was fits;
+  schema = ap (λ (s : Said). s.schema) (same_said setup db next run done it was) ∙ was.schema;
+  setup_is = ap (λ (s : Said). setup_in s.setup) (same_said setup db next run done it was) ∙ was.setup_is;
   mail = subst (λ rows. IsWhole (kept_rows rows) rows) (sym it.writes.mail) was.mail;
   runs = reported_now setup db next run done it was is excuses updates;
   testing = named_now setup db next run done it was given;

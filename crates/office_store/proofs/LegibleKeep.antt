@@ -160,6 +160,8 @@ module _ (setup : Lists) (db next : Trees) (sender number : ℕ) (text : List �
   pub keep_legible : IsLegible setup next
   keep_legible = record {
     office = says_still;
+    schema = was.schema;
+    setup_is = was.setup_is;
     mail = mail_whole;
     runs = subst (λ rows. AreReported rows was.office.said.finished) (sym runs_stay) was.runs;
     testing = names_still;

@@ -19,7 +19,7 @@ use Rattle.office_store_tables.specs.Tables.{IsWhole, kept_rows, run_map, said_i
 use Rattle.office_store_tables.proofs.FactSets.{same_set, same_entry, of_inserted, inserted_has, said, says}
 use Rattle.office_store_tables.proofs.ReportFacts.{length_reports}
 use Rattle.office_store_tables.proofs.RunLemmas.{said_one}
-use Rattle.office_store_tables.proofs.SetupRoundTrip.{text_utf8}
+use Rattle.office_store_tables.proofs.SetupRoundTrip.{read_back, text_utf8}
 
 -- the facts that the tables say, with those of the last delays
 facts_with : (setup : Lists) (facts delays : List Row) (last : Option ℕ) → KeepsDelays last delays → facts_in (release_place setup) facts delays ≡ with_last setup last (facts_in (release_place setup) facts [])
@@ -87,6 +87,8 @@ legible_on setup old new valid was done =
         finished = omega (arith, fits);
         setup = text_utf8 setup valid;
       };
+      schema = refl;
+      setup_is = read_back setup valid;
       mail = subst (λ rows. IsWhole (kept_rows rows) rows) (sym done.mail) was.mail;
       runs = subst (λ n. AreReported (new 3) n) same (subst (λ rows. AreReported rows was.office.said.finished) (sym done.runs) was.runs);
       testing = record {

@@ -102,3 +102,10 @@ IsAlone db = (db.schema ≡ no_schema) ⊎ (db.schema ≡ office_schema) ⊎ (db
 -- it has none of the office's tables, each of them, or each of schema 1
 abbrev pub IsTakeable : Schema → Type 0
 IsTakeable schema = IsTrue (has_none schema) ⊎ HasEach schema ⊎ HasEachBefore schema
+
+-- It opens as it was: where it is opened it holds what it held, and only want of memory or a refusal of the database's own keeps it shut.
+pub record OpensAsLeft (setup : Lists) (db : Database) : Type 0 where
+  pub same : (new : Database) → IsOpened setup db new → new ≡ db
+  pub own : IsKeptForOther setup db → ⊥
+  pub known : IsUnknown db → ⊥
+  pub read : IsUnreadable setup db → ⊥

@@ -10,7 +10,7 @@ ghost use Rattle.office_store.specs.TablesState.{IsLegibleStore};
 use crate::in_memory;
 use office_mail::Setup;
 use office_store_keeper::{Finished, KeepFault, Keeper, Letter, MailText, NewLetter, Reports};
-use office_store_tables::{entries, fact_rows, finishing, mail, runs};
+use office_store_tables::{entries, fact_rows, finishing, mail, reading, runs};
 use sqlite::{Alter, Connection};
 use std::alloc::Global;
 use std::marker::Model;
@@ -166,6 +166,15 @@ impl<S: Alter> Keeper for Tables<S> {
         count(
             &mut self.refusals,
             fact_rows::facts(self.alloc, &mut self.conn, &self.setup),
+        )
+    }
+
+    // Testing in memory is let go: the tables alone are read.
+    fn is_whole(&mut self, texts: u64) -> Result<bool, KeepFault> {
+        self.in_memory = None;
+        count(
+            &mut self.refusals,
+            reading::is_whole(self.alloc, &mut self.conn, &self.setup, texts),
         )
     }
 

@@ -1,6 +1,12 @@
 -- The store in memory.
-use Rattle.std.proofs.Common.{◌≡◌, ℕ, Bool, cond, Option, Some, List, [], ◌∷◌, refl, sym, ap, ◌∙◌}
-use Rattle.std.specs.FinMap.{get, find, insert, get-from_entries, get-insert}
+use Rattle.std.proofs.Common.{◌≡◌, ◌==◌, ℕ, Bool, cond, Option, Some, List, [], ◌∷◌, length, map, refl, sym, ap, ◌∙◌, arith}
+use Rattle.std.specs.FinMap.{get, find, insert, put, len, empty, entries, get-from_entries, get-insert, entries-insert, len-entries, len-empty}
+use Rattle.std.specs.List.{AllByRecursion}
+use Rattle.std.specs.List.Sorted.{IsStrictlySortedBy}
+use Rattle.std.specs.declared.cmp.Ordering.TheVariants.{Less}
+use Rattle.std.proofs.lemmas.List.{nil_from_length}
+use Rattle.std.specs.Prelude.{◌↔◌, ⊤, IsTrue}
+use Rattle.std.proofs.lemmas.Bool.Decides.{nat_tests}
 use Rattle.std.specs.Map.{lookup}
 use Rattle.std.specs.BTreeMap.{is_at}
 use Rattle.std.specs.Ordering.{eq_by_cmp}
@@ -32,3 +38,25 @@ kept_in-insert old new p text is = same_kept (kept_in new) (insert (kept_in old)
 -- a content with this mail
 abbrev pub with_kept : Kept → List Reports → Suite → FactSet → Content
 with_kept kept runs testing facts = record { kept = kept; reports = runs; testing = testing; facts = facts }
+
+-- ---- how many texts are kept
+
+put_first : (e : Place × List ℕ) (es : List (Place × List ℕ)) → AllByRecursion (λ q. place_cmp e.0 q ≡ Less) (map (λ (d : Place × List ℕ). d.0) es) → put place_cmp e.0 e.1 es ≡ e ∷ es
+put_first e [] h = refl
+put_first e (d ∷ ds) h = rw (put, h.0) refl
+
+kept_entries : (mail : List (Place × List ℕ)) → IsStrictlySortedBy place_cmp (map (λ (d : Place × List ℕ). d.0) mail) → entries (kept_in mail) ≡ mail
+unfolding IsStrictlySortedBy
+kept_entries [] h = nil_from_length (entries (empty {K = Place} {X = List ℕ} {R = place_cmp})) (sym (len-entries (empty {K = Place} {X = List ℕ} {R = place_cmp})) ∙ len-empty place_cmp (List ℕ))
+kept_entries (e ∷ es) h = entries-insert places_total (kept_in es) e.0 e.1 ∙ ap (put place_cmp e.0 e.1) (kept_entries es h.1) ∙ put_first e es h.0
+
+-- as many as the tree has entries
+pub kept_in-len : (mail : List (Place × List ℕ)) → IsStrictlySortedBy place_cmp (map (λ (d : Place × List ℕ). d.0) mail) → len (kept_in mail) ≡ length mail
+kept_in-len mail sorted = len-entries (kept_in mail) ∙ ap length (kept_entries mail sorted)
+
+-- whether they are so many
+pub counted : (size texts count : ℕ) → count ≡ size → IsTrue (count == texts) ↔ (⊤ × (size ≡ texts))
+counted size texts count is = (
+  λ e. (tt, (let same : count ≡ texts = grind (arith, nat_tests) in sym is ∙ same)),
+  λ both. let same : count ≡ texts = is ∙ both.1 in grind (arith, nat_tests),
+)

@@ -1,6 +1,6 @@
 //! What a store of the office does.
-ghost use Rattle.std.specs.Prelude.{◌≡◌, ◌≢◌, ◌≤◌, ◌+◌, ◌⊎◌, ◌++◌, ◌∷◌, [], ℕ, List, Some, None, Err, length, if◌then◌else◌, IfOk, OnOk, OnErr};
-ghost use Rattle.std.specs.FinMap.{get, insert};
+ghost use Rattle.std.specs.Prelude.{◌≡◌, ◌≢◌, ◌≤◌, ◌+◌, ◌⊎◌, ◌↔◌, ◌++◌, ◌∷◌, [], ℕ, List, Some, None, Err, length, if◌then◌else◌, IsTrue, IfOk, OnOk, OnErr};
+ghost use Rattle.std.specs.FinMap.{get, insert, len};
 ghost use Rattle.office_mail.specs.Counts.{HasRisen};
 ghost use Rattle.office_mail.specs.Lists.{Lists};
 ghost use Rattle.office_store_keeper.specs.Content.{Content, reports_in, with_text, with_run, item_from_one, letters_within, IsNextNumber};
@@ -194,6 +194,21 @@ pub trait Keeper {
     /// The rows of the facts of the mail that the finished runs cover, by kind, sender, number and place.
     fn facts(&mut self) -> Result<FactRows, KeepFault>
         ensures value { is_trusted self.new → IfOk result (λ rows. rows ≡ rows_in (content self.old).facts) }
+        ensures same { is_trusted self.new → content self.new ≡ content self.old }
+        ensures setup { setup self.new ≡ setup self.old }
+        ensures clean { is_clean self.new → is_clean self.old }
+        ensures faults { disk_faults self.old ≤ disk_faults self.new }
+        ensures before { is_trusted self.new → is_trusted self.old }
+        ensures open { is_clean self.new → is_trusted self.old → OnOk result (is_trusted self.new) }
+        ensures shut { is_clean self.new → is_trusted self.old → is_trusted self.new ⊎ HasRisen (disk_faults self.old) (disk_faults self.new) }
+        ensures legible { is_trusted self.new → is_legible self.old → is_legible self.new }
+        ensures bad { is_trusted self.new → is_legible self.old → AreOwnTexts (setup self.old) (content self.old).kept → result ≢ Err (KeepFault.Store Cause.BadRow) }
+        ensures counted { Counted (refusals self.old) (refusals self.new) result };
+
+    /// Whether what is kept reads as an office writes it, and so many texts are kept. Where more are named than are kept, the
+    /// answer says nothing.
+    fn is_whole(&mut self, texts: u64) -> Result<bool, KeepFault>
+        ensures whole { is_trusted self.new → texts ≤ len (content self.old).kept → IfOk result (λ whole. IsTrue whole ↔ (is_legible self.new × (len (content self.old).kept ≡ texts))) }
         ensures same { is_trusted self.new → content self.new ≡ content self.old }
         ensures setup { setup self.new ≡ setup self.old }
         ensures clean { is_clean self.new → is_clean self.old }

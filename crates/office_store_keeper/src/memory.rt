@@ -4,7 +4,7 @@ ghost use Rattle.std.specs.BTreeMap.{IsOrdered};
 ghost use Rattle.std.specs.BTreeMap.Range.{entries_between};
 ghost use Rattle.std.specs.declared.ops.Bound.TheVariants.{Included};
 ghost use Rattle.office_mail.specs.Kept.{place_cmp};
-ghost use Rattle.std.specs.FinMap.{get};
+ghost use Rattle.std.specs.FinMap.{get, len};
 ghost use Rattle.std.specs.Option.{option_copied};
 ghost use Rattle.office_store_keeper.specs.Content.{letters_within, item_from_one, reports_in, IsNextNumber};
 ghost use Rattle.office_store_keeper.specs.FactSet.{facts_after, set_of_rows};
@@ -71,6 +71,20 @@ impl Plain {
             facts: Vec::new(alloc),
         })
     }
+
+    /// How many texts are kept. It takes no memory.
+    pub fn texts(&self) -> u64
+        ensures { result ≡ len (kept_in self.now.mail) }
+    {
+        count(&self.mail)
+    }
+}
+
+/// How many texts these are.
+fn count(mail: &BTreeMap<(u32, u32), MailText>) -> u64
+    ensures { result ≡ len (kept_in mail.now.entries) }
+{
+    mail.len() as u64
 }
 
 /// The text at a place, or none. It is shared if it can be.
@@ -344,6 +358,10 @@ impl Keeper for Plain {
 
     fn facts(&mut self) -> Result<FactRows, KeepFault> {
         Ok(rows_in_order(self.alloc, &self.facts)?)
+    }
+
+    fn is_whole(&mut self, texts: u64) -> Result<bool, KeepFault> {
+        Ok(count(&self.mail) == texts)
     }
 
     fn take_finished(&mut self, _run: u32, done: Finished) -> Result<(), KeepFault> {

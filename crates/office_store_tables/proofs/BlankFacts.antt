@@ -1,5 +1,5 @@
 -- New tables read as an office writes them, and hold nothing.
-use Rattle.std.proofs.Common.{◌≡◌, [], ℕ, List, length, filter_map, Option, Some, None, refl, sym, ap, subst, ◌∙◌, arith}
+use Rattle.std.proofs.Common.{◌≡◌, [], ℕ, List, length, filter_map, Option, Some, None, Ok, refl, sym, ap, subst, ◌∙◌, arith}
 use Rattle.std.specs.FinMap.{get, len, empty, from_entries, entries, len-empty, len-entries, get-empty}
 use Rattle.std.specs.declared.cmp.Ordering.{Ordering}
 use Rattle.std.proofs.lemmas.List.{nil_from_length}
@@ -12,10 +12,10 @@ use Rattle.office_store_testing_tables.specs.declared.said.Said.{Said}
 use Rattle.std.specs.Ordering.{nat_cmp}
 use Rattle.testing_rules_items.specs.Words.{byte_cmp}
 use Rattle.testing_rules_model.specs.Moves.{row_cmp}
-use Rattle.office_mail.specs.Setup.{IsSetup}
+use Rattle.office_mail.specs.Setup.{IsSetup, setup_in}
 use Rattle.office_store_tables.specs.SetupText.{setup_text}
 use Rattle.office_store_tables.specs.Fresh.{IsEmptyFor}
-use Rattle.office_store_tables.proofs.SetupRoundTrip.{text_utf8}
+use Rattle.office_store_tables.proofs.SetupRoundTrip.{read_back, text_utf8}
 use Rattle.office_store_keeper.specs.Content.{no_content}
 use Rattle.office_store_tables.specs.Creating.{IsBlank}
 use Rattle.office_store_tables.specs.Tables.{kept_rows}
@@ -50,8 +50,8 @@ empty_entries {K} R V = nil_from_length (entries (empty {K = K} {X = V} {R = R})
 
 none_reported : AreReported [] 0
 none_reported = record {
-  whole = empty_len nat_cmp Reports;
   each = λ run low high. absurd (omega (arith, low, high));
+  count = refl;
   texts = λ run reports found. absurd (empty_get nat_cmp Reports run reports found);
 }
 
@@ -66,9 +66,11 @@ none_named setup db sources rows = record {
 none_read : (release : ℕ) → AreRead release [] []
 none_read release = record { fact = λ row there. absurd there; delay = λ row there. absurd there; one = omega arith }
 
-pub blank_legible : (setup : Lists) (db : Trees) (text : List ℕ) → IsUtf8 text → IsBlank db (new_said text) → IsLegible setup db
-blank_legible setup db text utf8 blank = record {
+pub blank_legible : (setup : Lists) (db : Trees) (text : List ℕ) → IsUtf8 text → setup_in text ≡ Ok setup → IsBlank db (new_said text) → IsLegible setup db
+blank_legible setup db text utf8 own blank = record {
   office = says_once db text utf8 blank;
+  schema = refl;
+  setup_is = own;
   mail = subst (λ rs. IsWhole (kept_rows rs) rs) (sym blank.mail) (empty_len place_cmp (List ℕ));
   runs = subst (λ rows. AreReported rows 0) (sym blank.runs) none_reported;
   testing = none_named setup db blank.sources blank.rows;
@@ -94,6 +96,6 @@ blank_content setup db said none blank =
 -- so do those of a setup's own text
 pub new_empty : (setup : Lists) (db : Trees) → IsSetup setup → IsBlank db (new_said (setup_text setup)) → IsEmptyFor setup db
 new_empty setup db valid blank = record {
-  legible = blank_legible setup db (setup_text setup) (text_utf8 setup valid) blank;
+  legible = blank_legible setup db (setup_text setup) (text_utf8 setup valid) (read_back setup valid) blank;
   content = blank_content setup db (new_said (setup_text setup)) refl blank;
 }

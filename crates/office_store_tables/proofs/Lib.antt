@@ -4,6 +4,9 @@ pub mod FinishLemmas
 pub mod SaidFacts
 pub mod ReportFacts
 pub mod ReportReads
+pub mod RunCounts
+pub mod RowShows
+pub mod RestReads
 pub mod NextFacts
 pub mod KeepAllLemmas
 pub use Rattle.office_store_testing_tables.proofs.StateLemmas

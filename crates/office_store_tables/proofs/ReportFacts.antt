@@ -59,7 +59,8 @@ module _ (map : FinMap nat_cmp Reports) where
 
 -- ---- one run more
 
-other : (a b : ℕ) → a < b → eq_by_cmp nat_cmp a b ≡ false
+-- different numbers aren't tied
+pub other : (a b : ℕ) → a < b → eq_by_cmp nat_cmp a b ≡ false
 other a b h = nat_is a b ∙ grind (arith, nat_tests)
 
 own : (a : ℕ) → eq_by_cmp nat_cmp a a ≡ true

@@ -19,6 +19,7 @@ use Rattle.office_store_testing_tables.proofs.EntryReads.{text_is}
 use Rattle.office_store_testing_tables.proofs.MailLemmas.{as_many, only_shown}
 use Rattle.office_store_tables.proofs.RunLemmas.{at_run}
 use Rattle.office_store_testing_tables.proofs.Whole.{whole_reads, whole_gets, one_here}
+use Rattle.office_store_tables.proofs.RunCounts.{reported_whole}
 
 parts_by : (n : Option ℕ) (e u : Option (List ℕ)) (run : ℕ) (reports : Reports) → run_by n e u ≡ Some (run, reports) → (n ≡ Some run) × (e ≡ Some reports.excuses) × (u ≡ Some reports.updates)
 parts_by None e u run reports h = absurd (let x = h in cc)
@@ -41,10 +42,10 @@ run_reads rows run finished [] same reported none one = none refl
 run_reads rows run finished (r ∷ []) same reported none one =
     let o = only_shown run_columns (filter (is_run run) rows) r same in
     let f = has_filtered (is_run run) rows o.0 (subst (λ l. Has l o.0) (sym o.1) (inl refl)) in
-    let e = whole_reads nat_cmp_total nat_cmp-IsAntisymmetric run_in rows reported.whole o.0 f.0 in
+    let e = whole_reads nat_cmp_total nat_cmp-IsAntisymmetric run_in rows (reported_whole rows finished reported) o.0 f.0 in
     let own : run ≡ e.0.0 = nat_cmp-IsAntisymmetric run e.0.0 (tied (nat_cmp run e.0.0) (at_run run o.0 e.0.0 e.0.1 e.1 ∙ f.1)) in
-    let stands : get (run_map rows) e.0.0 ≡ Some e.0.1 = whole_gets nat_cmp_total nat_cmp-IsAntisymmetric run_in rows reported.whole o.0 e.0 f.0 e.1 in
+    let stands : get (run_map rows) e.0.0 ≡ Some e.0.1 = whole_gets nat_cmp_total nat_cmp-IsAntisymmetric run_in rows (reported_whole rows finished reported) o.0 e.0 f.0 e.1 in
     let texts = reported.texts e.0.0 e.0.1 stands in
     one e.0.1 texts.0 texts.1 (ap (λ x. x ∷ []) (o.2 ∙ run_shape o.0 e.0.0 e.0.1 e.1 ∙ ap (λ n. Int (pos n) ∷ Text e.0.1.excuses ∷ Text e.0.1.updates ∷ []) (sym own)))
 run_reads rows run finished (a ∷ b ∷ more) same reported none one =
-    absurd (omega (arith, one_here nat_cmp_total nat_cmp-IsAntisymmetric run_in run (is_run run) (at_run run) rows reported.whole, as_many run_columns (filter (is_run run) rows) (a ∷ b ∷ more) same))
+    absurd (omega (arith, one_here nat_cmp_total nat_cmp-IsAntisymmetric run_in run (is_run run) (at_run run) rows (reported_whole rows finished reported), as_many run_columns (filter (is_run run) rows) (a ∷ b ∷ more) same))

@@ -30,7 +30,8 @@ office_shape row id said h =
     let p = parts_by (number_in (column row 0)) (number_in (column row 2)) (text_in (column row 3)) (number_in (column row 4)) id said h in
     four (column row 0) (column row 2) (column row 3) (column row 4) (Int (pos id)) (Int (pos said.schema)) (Text said.setup) (Int (pos said.finished)) (number_is (column row 0) id p.0) (number_is (column row 2) said.schema p.1) (text_is (column row 3) said.setup p.2) (number_is (column row 4) said.finished p.3)
 
-said_alone : (o : Option (ℕ × Said)) (said : Said) → find nat_cmp 1 (cons_option o []) ≡ Some said → o ≡ Some (1, said)
+-- the only entry is the office's
+pub said_alone : (o : Option (ℕ × Said)) (said : Said) → find nat_cmp 1 (cons_option o []) ≡ Some said → o ≡ Some (1, said)
 said_alone None said h = absurd (let e = h in cc)
 said_alone (Some e) said h = at (eq_by_cmp nat_cmp 1 e.0) refl h
   where

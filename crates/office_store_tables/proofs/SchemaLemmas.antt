@@ -1,9 +1,9 @@
 -- The schema of the office, part by part.
-use Rattle.std.proofs.Common.{◌≡◌, [], refl, sym, ap, subst, ◌∙◌}
+use Rattle.std.proofs.Common.{◌≡◌, [], length, refl, sym, ap, subst, ◌∙◌, arith}
 use Rattle.sqlite_tied.specs.Compute.{everything}
 use Rattle.sqlite.specs.Schema.{Schema}
 use Rattle.sqlite_schema.specs.Names.{same_name}
-use Rattle.office_store_tables.specs.Layout.{office_schema, schema_before, HasEach, HasEachBefore}
+use Rattle.office_store_tables.specs.Layout.{no_schema, office_schema, schema_before, HasEach, HasEachBefore}
 use Rattle.office_store_tables.specs.LayoutSteps.{office_tables, tables_before, office_indexes, mail_index, testing_source_index, testing_row_index, fact_index}
 
 tables_are : office_schema.tables ≡ office_tables
@@ -62,3 +62,20 @@ each_there_before = record { has_office = refl; has_mail = refl; has_run = refl;
 
 pub each_before : (s : Schema) → s ≡ schema_before → HasEachBefore s
 each_before s is = subst HasEachBefore (sym is) each_there_before
+
+-- ---- three schemas
+
+seven : length office_schema.tables ≡ 7
+unfolding office_tables
+seven = ap length tables_are
+
+six : length schema_before.tables ≡ 6
+unfolding tables_before
+six = ap length before_tables_are
+
+-- the office's schema isn't one without tables, nor schema 1
+pub is_not_none : office_schema ≡ no_schema → ⊥
+is_not_none is = let none : length office_schema.tables ≡ 0 = ap (λ (s : Schema). length s.tables) is in absurd (omega (arith, seven, none))
+
+pub is_not_before : office_schema ≡ schema_before → ⊥
+is_not_before is = let same : length office_schema.tables ≡ length schema_before.tables = ap (λ (s : Schema). length s.tables) is in absurd (omega (arith, seven, six, same))

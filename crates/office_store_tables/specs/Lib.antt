@@ -17,3 +17,4 @@ pub mod Creating
 pub mod CreatingSteps
 pub mod Fresh
 pub mod Unchanged
+pub mod Reading

@@ -6,6 +6,7 @@ pub mod fact_changes;
 pub mod finishing;
 pub mod layout;
 pub mod mail;
+pub mod reading;
 pub mod runs;
 pub mod schema;
 pub mod setup_text;

@@ -6,7 +6,8 @@ ghost use Rattle.sqlite.specs.Held.{state};
 ghost use Rattle.sqlite.specs.Values.{bound};
 ghost use Rattle.sqlite.specs.State.{HasCleanDisk};
 ghost use Rattle.office_store_testing_tables.specs.Tables.{IsTrusted, IsOurs, kept_rows, Lasts};
-ghost use Rattle.office_store_testing_tables.specs.TableSteps.{AddsLetter, AddsLetters, letter_parameters, AreSmall, IsCrowded, IsOnlyNumber, ShowsLeast};
+ghost use Rattle.std.specs.List.Sorted.{IsPermutation};
+ghost use Rattle.office_store_testing_tables.specs.TableSteps.{AddsLetter, AddsLetters, letter_parameters, rowid_column, AreSmall, IsCrowded, IsOnlyNumber, ShowsLeast};
 ghost use Rattle.office_store_testing_tables.specs.ReadsOnly.{ReadsOnly, BeginsOurs, Finds};
 ghost use Rattle.office_store_testing_tables.specs.StepsWithin.{StepsWithin, BeginsInside, Yields};
 
@@ -57,6 +58,26 @@ pub fn next_number<S: Alter>(
 {
     let rows = least_from(conn, sender, from)?;
     only_number(rows.as_slice(), sender)
+}
+
+/// The rowids of mail, in any order.
+fn rowids<S: Alter>(conn: &mut Connection<S>) -> Result<Vec<Row>, Error>
+    requires ours { BeginsOurs S.Store conn.old }
+    ensures reads { ReadsOnly S.Store conn.old conn.new result }
+    ensures rows { Finds S.Store conn.new result (λ db rows. IsPermutation (map rowid_column (db 1)) rows.items) }
+{
+    conn.query_all("SELECT rowid FROM mail", &[])
+}
+
+/// How many rows the table has, whether each is a letter or not.
+pub fn count<S: Alter>(conn: &mut Connection<S>) -> Result<u64, KeepFault>
+    requires ours { BeginsOurs S.Store conn.old }
+    ensures reads { ReadsOnly S.Store conn.old conn.new result }
+    ensures count { Finds S.Store conn.new result (λ db count. count ≡ length (db 1)) }
+    ensures bad { result ≢ Err (KeepFault.Store Cause.BadRow) }
+{
+    let rows = rowids(conn)?;
+    Ok(rows.len() as u64)
 }
 
 /// Adds one text to the mail.

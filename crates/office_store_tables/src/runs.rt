@@ -1,5 +1,5 @@
 //! The tables of the office and of its finished runs.
-ghost use Rattle.std.specs.Prelude.{◌≡◌, ◌≢◌, ◌<◌, ℕ, Err, ◌∷◌, [], Some, pos, map, filter, IfOk};
+ghost use Rattle.std.specs.Prelude.{◌≡◌, ◌≢◌, ◌<◌, ◌≤◌, ◌↔◌, ℕ, Err, ◌∷◌, [], Some, pos, map, filter, length, IsTrue, IfOk, IfSome};
 ghost use Rattle.std.specs.List.Sorted.{IsPermutation};
 ghost use Rattle.std.specs.FinMap.{get};
 ghost use Rattle.std.specs.Str.{IsUtf8};
@@ -12,7 +12,8 @@ ghost use Rattle.sqlite.specs.Order.{column};
 ghost use Rattle.sqlite.specs.declared.types.Value.TheVariants.{Int, Text as Words};
 ghost use Rattle.sqlite.specs.Held.{state};
 ghost use Rattle.office_store_testing_tables.specs.Tables.{IsTrusted, said_in as said_rows, run_map};
-ghost use Rattle.office_store_testing_tables.specs.TableSteps.{IsOnlyOffice, IsOnlyRun, AddsRun, Silences, SaysMore, RecordsRun, office_columns, is_run, run_columns};
+ghost use Rattle.office_store_testing_tables.specs.TableSteps.{IsOnlyOffice, IsOnlyRun, AddsRun, Silences, SaysMore, RecordsRun, office_columns, is_run, run_columns, rowid_column};
+ghost use Rattle.office_store_tables.specs.Reading.{IsRecorded};
 ghost use Rattle.office_store_testing_tables.specs.ReadsOnly.{ReadsOnly, BeginsOurs, Finds};
 ghost use Rattle.office_store_testing_tables.specs.StepsWithin.{StepsWithin, BeginsInside, Yields};
 
@@ -27,6 +28,7 @@ use sqlite::{Alter, Connection, Error, Row, Transaction, params};
 fn said_in(row: &Row) -> Result<Said, KeepFault>
     ensures bad { result ≡ Err (KeepFault.Store Cause.BadRow) → (said : SaidNow) → said.schema < 4_294_967_296 → said.finished < 4_294_967_296 → IsUtf8 said.setup → row.now ≢ Int (pos 1) ∷ Int (pos said.schema) ∷ Words said.setup ∷ Int (pos said.finished) ∷ [] }
     ensures ok { IfOk result (λ said. (column row.now 0 ≡ Int (pos 1)) × (column row.now 1 ≡ Int (pos said.schema)) × (column row.now 2 ≡ Words said.setup) × (column row.now 3 ≡ Int (pos said.finished))) }
+    ensures fits { IfOk result (λ said. (said.schema < 4_294_967_296) × (said.finished < 4_294_967_296) × IsUtf8 said.setup) }
 {
     let id = number_in(row, 0)?;
     if id != 1 {
@@ -45,6 +47,7 @@ fn said_in(row: &Row) -> Result<Said, KeepFault>
 /// What the only row says.
 fn only_said(rows: &[Row]) -> Result<Said, KeepFault>
     ensures ok { IfOk result (λ said. IsOnlyOffice said rows.now) }
+    ensures fits { IfOk result (λ said. (said.schema < 4_294_967_296) × (said.finished < 4_294_967_296) × IsUtf8 said.setup) }
     ensures bad { result ≡ Err (KeepFault.Store Cause.BadRow) → (said : SaidNow) → said.schema < 4_294_967_296 → said.finished < 4_294_967_296 → IsUtf8 said.setup → rows.now ≢ (Int (pos 1) ∷ Int (pos said.schema) ∷ Words said.setup ∷ Int (pos said.finished) ∷ []) ∷ [] }
 {
     match rows {
@@ -67,6 +70,7 @@ pub(crate) fn said<S: Alter>(conn: &mut Connection<S>) -> Result<Said, KeepFault
     requires ours { BeginsOurs S.Store conn.old }
     ensures reads { ReadsOnly S.Store conn.old conn.new result }
     ensures value { Finds S.Store conn.new result (λ db said. said_rows (db 0) ≡ Some said) }
+    ensures once { Finds S.Store conn.new result (λ db said. (once : SaysOnce (db 0)) × (once.said ≡ said)) }
     ensures bad { IsTrusted (state S.Store conn.new) → SaysOnce ((state S.Store conn.new).now.trees 0) → result ≢ Err (KeepFault.Store Cause.BadRow) }
 {
     let rows = office_rows(conn)?;
@@ -87,6 +91,7 @@ pub fn finished<S: Alter>(conn: &mut Connection<S>) -> Result<u32, KeepFault>
 /// The reports in the row of a run.
 fn reports_in(row: &Row, run: u32) -> Result<Reports, KeepFault>
     ensures bad { result ≡ Err (KeepFault.Store Cause.BadRow) → (reports : ReportsNow) → IsUtf8 reports.excuses → IsUtf8 reports.updates → row.now ≢ Int (pos run) ∷ Words reports.excuses ∷ Words reports.updates ∷ [] }
+    ensures texts { IfOk result (λ r. IsUtf8 r.excuses × IsUtf8 r.updates) }
     ensures ok { IfOk result (λ r. (column row.now 0 ≡ Int (pos run)) × (column row.now 1 ≡ Words r.excuses) × (column row.now 2 ≡ Words r.updates)) }
 {
     let number = number_in(row, 0)?;
@@ -104,6 +109,7 @@ fn reports_in(row: &Row, run: u32) -> Result<Reports, KeepFault>
 /// The reports of the only row, if there is one.
 fn only_reports(rows: &[Row], run: u32) -> Result<Option<Reports>, KeepFault>
     ensures ok { IfOk result (λ reports. IsOnlyRun run reports rows.now) }
+    ensures texts { IfOk result (λ reports. IfSome reports (λ r. IsUtf8 r.excuses × IsUtf8 r.updates)) }
     ensures none { result ≡ Err (KeepFault.Store Cause.BadRow) → rows.now ≢ [] }
     ensures one { result ≡ Err (KeepFault.Store Cause.BadRow) → (reports : ReportsNow) → IsUtf8 reports.excuses → IsUtf8 reports.updates → rows.now ≢ (Int (pos run) ∷ Words reports.excuses ∷ Words reports.updates ∷ []) ∷ [] }
 {
@@ -131,6 +137,7 @@ fn recorded<S: Alter>(conn: &mut Connection<S>, run: u32) -> Result<Option<Repor
     requires ours { BeginsOurs S.Store conn.old }
     ensures reads { ReadsOnly S.Store conn.old conn.new result }
     ensures value { Finds S.Store conn.new result (λ db reports. reports ≡ get (run_map (db 3)) run) }
+    ensures texts { IfOk result (λ reports. IfSome reports (λ r. IsUtf8 r.excuses × IsUtf8 r.updates)) }
     ensures bad { IsTrusted (state S.Store conn.new) → (finished : ℕ) → AreReported ((state S.Store conn.new).now.trees 3) finished → result ≢ Err (KeepFault.Store Cause.BadRow) }
 {
     let rows = run_rows(conn, run)?;
@@ -155,6 +162,69 @@ pub fn reports<S: Alter>(conn: &mut Connection<S>, run: u32) -> Result<Option<Re
         Some(reports) => Ok(Some(reports)),
         None => Err(KeepFault::Store(Cause::BadRow)),
     }
+}
+
+/// Whether a run has its reports.
+fn is_recorded<S: Alter>(conn: &mut Connection<S>, run: u32) -> Result<bool, KeepFault>
+    requires ours { BeginsOurs S.Store conn.old }
+    ensures reads { ReadsOnly S.Store conn.old conn.new result }
+    ensures own { Finds S.Store conn.new result (λ db own. IsTrue own ↔ IsRecorded (db 3) run) }
+    ensures bad { IsTrusted (state S.Store conn.new) → (finished : ℕ) → AreReported ((state S.Store conn.new).now.trees 3) finished → result ≢ Err (KeepFault.Store Cause.BadRow) }
+{
+    let reports = recorded(conn, run)?;
+    Ok(reports.is_some())
+}
+
+/// Whether each run up to a number has its reports.
+fn are_recorded<S: Alter>(conn: &mut Connection<S>, runs: u32) -> Result<bool, KeepFault>
+    requires ours { BeginsOurs S.Store conn.old }
+    ensures reads { ReadsOnly S.Store conn.old conn.new result }
+    ensures own { Finds S.Store conn.new result (λ db own. IsTrue own ↔ ((run : ℕ) → 1 ≤ run → run ≤ runs → IsRecorded (db 3) run)) }
+    ensures bad { IsTrusted (state S.Store conn.new) → (finished : ℕ) → AreReported ((state S.Store conn.new).now.trees 3) finished → result ≢ Err (KeepFault.Store Cause.BadRow) }
+{
+    let mut done = 0;
+    'runs: while done < runs {
+        let own = is_recorded(conn, done + 1)?;
+        if !own {
+            return Ok(false);
+        }
+        done += 1;
+    }
+    Ok(true)
+}
+
+/// The numbers of the runs that have a row, in any order.
+fn numbers<S: Alter>(conn: &mut Connection<S>) -> Result<Vec<Row>, Error>
+    requires ours { BeginsOurs S.Store conn.old }
+    ensures reads { ReadsOnly S.Store conn.old conn.new result }
+    ensures rows { Finds S.Store conn.new result (λ db rows. IsPermutation (map rowid_column (db 3)) rows.items) }
+{
+    conn.query_all("SELECT number FROM run", &[])
+}
+
+/// Whether the table has so many rows.
+fn has_rows<S: Alter>(conn: &mut Connection<S>, runs: u32) -> Result<bool, KeepFault>
+    requires ours { BeginsOurs S.Store conn.old }
+    ensures reads { ReadsOnly S.Store conn.old conn.new result }
+    ensures own { Finds S.Store conn.new result (λ db own. IsTrue own ↔ (length (db 3) ≡ runs)) }
+    ensures bad { result ≢ Err (KeepFault.Store Cause.BadRow) }
+{
+    let rows = numbers(conn)?;
+    Ok(rows.len() == runs as usize)
+}
+
+/// Whether the table has the reports of each run up to a number, and of no other.
+pub(crate) fn are_reported<S: Alter>(conn: &mut Connection<S>, runs: u32) -> Result<bool, KeepFault>
+    requires ours { BeginsOurs S.Store conn.old }
+    ensures reads { ReadsOnly S.Store conn.old conn.new result }
+    ensures own { Finds S.Store conn.new result (λ db own. IsTrue own ↔ AreReported (db 3) runs) }
+    ensures bad { IsTrusted (state S.Store conn.new) → (finished : ℕ) → AreReported ((state S.Store conn.new).now.trees 3) finished → result ≢ Err (KeepFault.Store Cause.BadRow) }
+{
+    let own = has_rows(conn, runs)?;
+    if !own {
+        return Ok(false);
+    }
+    are_recorded(conn, runs)
 }
 
 /// Adds the reports of a run.

@@ -1,5 +1,5 @@
 -- Testing as its tables name it.
-use Rattle.std.proofs.Common.{◌≡◌, ◌⊎◌, inl, inr, ℕ, List, [], ◌∷◌, map, filter_map, fold, length, Bool, true, false, cond, ◌&&◌, Option, Some, None, refl, sym, ap, subst, ◌∙◌, arith, Result, Ok, Err, IfOk}
+use Rattle.std.proofs.Common.{◌≡◌, ◌⊎◌, inl, inr, ℕ, List, [], ◌∷◌, map, filter_map, fold, length, Bool, true, false, cond, ◌&&◌, Option, Some, None, IsSome, is_some, refl, sym, ap, subst, ◌∙◌, arith, Result, Ok, Err, IfOk}
 use Rattle.std.proofs.lemmas.List.{length-map}
 use Rattle.std.proofs.lemmas.List.Sorted.{IsPermutation-sym}
 use Rattle.std.proofs.lemmas.Slice.Eq.{bytes_eq-Decides}
@@ -9,8 +9,9 @@ use Rattle.std.specs.Str.{bytes_eq}
 use Rattle.std.specs.List.{cons_option, AllByRecursion}
 use Rattle.std.specs.List.Sorted.{IsPermutation}
 use Rattle.std.specs.declared.cmp.Ordering.{Ordering}
-use Rattle.std.specs.FinMap.{IsAntisymmetric, empty, len, entries, from_entries, len-entries, len-empty}
+use Rattle.std.specs.FinMap.{IsAntisymmetric, empty, get, len, entries, from_entries, get-from_entries, len-entries, len-empty}
 use Rattle.sqlite.specs.Order.{Row}
+use Rattle.sqlite.specs.Tree.{Trees}
 use Rattle.sqlite_rules.specs.Lists.{Has}
 use Rattle.deb_control.specs.declared.binary.Binary.{Binary}
 use Rattle.testing_rules_model.specs.Suite.{Suite}
@@ -24,14 +25,16 @@ use Rattle.office_mail.specs.Lists.{Lists}
 use Rattle.office_mail.specs.Kept.{Kept, Place}
 use Rattle.office_mail.specs.declared.message.Message.{Message}
 use Rattle.office_store_keeper.specs.Provenance.{upload_in, binary_in, IsArchPlace, KnowsArchs}
+use Rattle.office_store_testing_tables.specs.Tables.{IsWhole, kept_rows}
+use Rattle.office_store_testing_tables.specs.Legible.{AreNamed}
 use Rattle.office_store_testing_tables.specs.Entries.{source_in, source_map, entry_in, entry_map}
 use Rattle.office_store_testing_tables.specs.EntrySteps.{source_columns, source_entry, entry_columns, row_entry}
 use Rattle.office_store_testing_tables.specs.TableContent.{message_at, source_as, source_by_message, source_at, source_by_entry, source_of, is_arch_place, row_as, row_by_message, row_at, row_by_entry, row_of, put_all_sources, put_all_rows, IsGathered, suite_in}
-use Rattle.office_store_testing_tables.proofs.MailLemmas.{has_permuted, empty_of}
+use Rattle.office_store_testing_tables.proofs.MailLemmas.{has_permuted, empty_of, as_many}
 use Rattle.office_store_testing_tables.proofs.SettingLemmas.{text_exact, row_order, row_exact}
 use Rattle.office_store_testing_tables.proofs.EntryReads.{source_shown, row_shown}
 use Rattle.office_store_testing_tables.proofs.EntryLists.{suite_of}
-use Rattle.office_store_testing_tables.proofs.EntryMaps.{last_of, IsFull, one_value, last_is_first, put_all_entries}
+use Rattle.office_store_testing_tables.proofs.EntryMaps.{last_of, IsFull, one_value, from_first, last_is_first, put_all_entries}
 
 -- ---- what is read in a list
 
@@ -68,6 +71,11 @@ pub map_has : {A B : Type 0} (f : A → B) (xs : List A) (x : A) → Has xs x �
 map_has f [] x there = absurd there
 map_has f (z ∷ xs) x (inl same) = inl (ap f same)
 map_has f (z ∷ xs) x (inr there) = inr (map_has f xs x there)
+
+pub each_has : {X : Type 0} (P : X → Type 0) (xs : List X) (x : X) → AllByRecursion P xs → Has xs x → P x
+each_has P [] x all there = absurd there
+each_has P (y ∷ xs) x all (inl same) = subst P (sym same) all.0
+each_has P (y ∷ xs) x all (inr there) = each_has P xs x all.1 there
 
 -- ---- rows that name values, each under its entry
 
@@ -139,6 +147,28 @@ module _ {K V X : Type 0} {R : K → K → Ordering} (total : IsTotalOrder R) (e
         let given = each-put_all (λ x. at (entry x) ≡ Some x) key R xs [] (each_given columns read said entry at shown says rows xs named) tt in
         sym (all_back entry at (put_in xs) given) ∙ ap (filter_map at) (entries_put ∙ ap entries (table_map few))
 
+    -- the table has a row for each of them
+    pub whole_put_in : length (put_in xs) ≡ length xs → len (from_entries {R = R} (filter_map said table)) ≡ length table
+    whole_put_in few =
+        let are : len (last_of total exact (empty {R = R}) (map entry xs)) ≡ len (from_entries {R = R} (filter_map said table)) = ap len (table_map few) in
+        let a : len (last_of total exact (empty {R = R}) (map entry xs)) ≡ length (map entry (put_in xs)) = len-entries _ ∙ ap length (sym entries_put) in
+        let b : length (map entry (put_in xs)) ≡ length (put_in xs) = length-map _ _ in
+        let c : length (map read rows) ≡ length rows = length-map _ _ in
+        let d : length (map Some xs) ≡ length xs = length-map _ _ in
+        let e : length (map read rows) ≡ length (map Some xs) = ap length named in
+        let m : length table ≡ length rows = as_many columns table rows same in
+        omega (arith, are, a, b, c, d, e, m, few)
+
+    -- and each of its entries is named
+    pub entry_named : (k : K) (v : V) → get (from_entries {R = R} (filter_map said table)) k ≡ Some v → IsSome (at (k, v))
+    entry_named k v found =
+        let there = from_first total exact (filter_map said table) k v (sym (get-from_entries total (filter_map said table) k) ∙ found) in
+        let here = in_shown columns read said entry at shown says table rows same (k, v) there in
+        let are = said_are columns read said entry at shown says rows xs named in
+        let x = has_map entry xs (k, v) (subst (λ l. Has l (k, v)) are here) in
+        let given = each_has (λ y. at (entry y) ≡ Some y) xs x.0 (each_given columns read said entry at shown says rows xs named) x.1 in
+        ap is_some (ap at x.2 ∙ given)
+
 -- ---- sources
 
 module _ (setup : Lists) (kept : Kept) where
@@ -173,6 +203,13 @@ module _ (setup : Lists) (kept : Kept) where
       → put_all_sources xs [] ≡ filter_map (source_at setup kept) (entries (source_map table))
   sources_are table rows xs same named few =
       put_is text_order text_exact (λ (s : SourceIn). s.name) (λ (s : SourceIn). (s.sender, s.number)) source_columns (source_of setup kept) source_in (source_at setup kept) source_shown source_tells table rows xs same named few
+
+  pub sources_back : (table rows : List Row) (xs : List SourceIn) → IsPermutation (map source_columns table) rows → map (source_of setup kept) rows ≡ map Some xs → length (put_all_sources xs []) ≡ length xs
+      → IsWhole (source_map table) table × ((name : List ℕ) (p : Place) → get (source_map table) name ≡ Some p → IsSome (source_at setup kept (name, p)))
+  sources_back table rows xs same named few = (
+    whole_put_in text_order text_exact (λ (s : SourceIn). s.name) (λ (s : SourceIn). (s.sender, s.number)) source_columns (source_of setup kept) source_in (source_at setup kept) source_shown source_tells table rows xs same named few,
+    entry_named text_order text_exact (λ (s : SourceIn). s.name) (λ (s : SourceIn). (s.sender, s.number)) source_columns (source_of setup kept) source_in (source_at setup kept) source_shown source_tells table rows xs same named,
+  )
 
   -- ---- rows
 
@@ -214,6 +251,13 @@ module _ (setup : Lists) (kept : Kept) where
   rows_are table rows xs same named few =
       put_is row_order row_exact row_key (λ (r : RowIn). ((r.sender, r.number), r.place)) entry_columns (row_of setup kept) entry_in (row_at setup kept) row_shown row_tells table rows xs same named few
 
+  pub rows_back : (table rows : List Row) (xs : List RowIn) → IsPermutation (map entry_columns table) rows → map (row_of setup kept) rows ≡ map Some xs → length (put_all_rows xs []) ≡ length xs
+      → IsWhole (entry_map table) table × ((key : ℕ × List ℕ) (value : Place × ℕ) → get (entry_map table) key ≡ Some value → IsSome (row_at setup kept (key, value)))
+  rows_back table rows xs same named few = (
+    whole_put_in row_order row_exact row_key (λ (r : RowIn). ((r.sender, r.number), r.place)) entry_columns (row_of setup kept) entry_in (row_at setup kept) row_shown row_tells table rows xs same named few,
+    entry_named row_order row_exact row_key (λ (r : RowIn). ((r.sender, r.number), r.place)) entry_columns (row_of setup kept) entry_in (row_at setup kept) row_shown row_tells table rows xs same named,
+  )
+
   -- ---- both
 
   pub testing_is : (sources rows : List Row) (shown_sources shown_rows : List Row) (xs : List SourceIn) (ys : List RowIn) (testing : Suite) → IsPermutation (map source_columns sources) shown_sources → IsPermutation (map entry_columns rows) shown_rows
@@ -235,6 +279,16 @@ pub gathered_on : {F : Type 0} (setup : Lists) (kept : Kept) (sources rows shown
     → IfOk result (λ testing. testing ≡ suite_in setup kept (source_map sources) (entry_map rows))
 gathered_on setup kept sources rows ss rs xs ys (Ok t) a b c d it = testing_is setup kept sources rows ss rs xs ys t a b c d it
 gathered_on setup kept sources rows ss rs xs ys (Err e) a b c d it = tt
+
+-- each entry of the tables names a message that gives it
+pub named_on : {F : Type 0} (setup : Lists) (db : Trees) (shown_sources shown_rows : List Row) (xs : List SourceIn) (ys : List RowIn) (result : Result Suite F) → IsPermutation (map source_columns (db 4)) shown_sources
+    → IsPermutation (map entry_columns (db 6)) shown_rows → map (source_of setup (kept_rows (db 1))) shown_sources ≡ map Some xs → map (row_of setup (kept_rows (db 1))) shown_rows ≡ map Some ys → IfOk result (IsGathered xs ys)
+    → IfOk result (λ testing. AreNamed setup db)
+named_on setup db ss rs xs ys (Ok t) a b c d it =
+    let sources = sources_back setup (kept_rows (db 1)) (db 4) ss xs a c (ap length (sym it.sources) ∙ it.all_sources) in
+    let rows = rows_back setup (kept_rows (db 1)) (db 6) rs ys b d (ap length (sym it.rows) ∙ it.all_rows) in
+    record { sources = sources.0; source = sources.1; rows = rows.0; row = rows.1 }
+named_on setup db ss rs xs ys (Err e) a b c d it = tt
 
 pub known_on : {F : Type 0} (archs : List (List ℕ)) (xs : List SourceIn) (ys : List RowIn) (result : Result Suite F) → AllByRecursion (λ r. IsArchPlace archs r.arch) ys → IfOk result (IsGathered xs ys) → IfOk result (λ testing. KnowsArchs archs testing.rows)
 known_on archs xs ys (Ok t) each it = gathered_known archs xs ys t each it

@@ -1,5 +1,5 @@
 -- What is read in the tables of facts.
-use Rattle.std.proofs.Common.{◌≡◌, ◌≢◌, ◌⊎◌, inl, inr, ℕ, ℤ, pos, List, [], ◌∷◌, ◌++◌, map, filter_map, length, Bool, true, false, cond, ◌&&◌, ◌==◌, nat_eq, Option, Some, None, IsSome, is_some, option_to_list, refl, sym, ap, subst, ◌∙◌, arith}
+use Rattle.std.proofs.Common.{◌≡◌, ◌≢◌, ◌≤◌, ◌⊎◌, inl, inr, ℕ, ℤ, pos, List, [], ◌∷◌, ◌++◌, map, filter_map, length, Bool, true, false, cond, ◌&&◌, ◌==◌, nat_eq, Option, Some, None, IsSome, is_some, option_to_list, refl, sym, ap, subst, ◌∙◌, arith}
 use Rattle.std.specs.Prelude.{⊤}
 use Rattle.std.proofs.lemmas.Bool.{false≢true}
 use Rattle.std.proofs.lemmas.Bool.Decides.{nat_tests}
@@ -219,6 +219,15 @@ all_read (r ∷ rows) (f ∷ facts) h =
     let b : map fact_in rows ≡ map Some (map fact_entry facts) = cc in
     rw a (ap (λ l. fact_entry f ∷ l) (all_read rows facts b))
 
+reads_some : {A B : Type 0} (f : A → Option B) (xs : List A) (ys : List B) → map f xs ≡ map Some ys → (x : A) → Has xs x → IsSome (f x)
+reads_some f [] ys h x there = absurd there
+reads_some f (z ∷ xs) [] h x there = absurd (let e = h in cc)
+reads_some f (z ∷ xs) (y ∷ ys) h x (inl same) = let a : f z ≡ Some y = cc in ap is_some (ap f same ∙ a)
+reads_some f (z ∷ xs) (y ∷ ys) h x (inr there) = let b : map f xs ≡ map Some ys = cc in reads_some f xs ys b x there
+
+has_shown : (table rows : List Row) → IsPermutation (map fact_columns table) rows → (row : Row) → Has table row → Has rows (fact_columns row)
+has_shown table rows same row there = has_permuted rows (map fact_columns table) (fact_columns row) (IsPermutation-sym _ _ same) (map_has fact_columns table row there)
+
 module _ (release : ℕ) (table delays : List Row) (rows last : List Row) (facts : List FactRow) (o : Option FactRow) (shown : IsPermutation (map fact_columns table) rows) (shown_last : IsPermutation (map delays_columns delays) last)
     (are : map fact_in rows ≡ map Some (map fact_entry facts)) (only : IsOnlyDelays release o last) where
   fact_back : (q : FactRow) → Has facts q → AreSaid release table delays q
@@ -233,9 +242,6 @@ module _ (release : ℕ) (table delays : List Row) (rows last : List Row) (facts
       let e = has_read fact_in rows (fact_columns row) (fact_entry q) shows (fact_shown row ∙ is) in
       let m = has_map fact_entry facts (fact_entry q) (subst (λ l. Has l (fact_entry q)) (all_read rows facts are) e) in
       subst (Has facts) (sym (ap (λ (x : FactRow × ⊤). x.0) m.2)) m.1
-    where
-      has_shown : (table rows : List Row) → IsPermutation (map fact_columns table) rows → (row : Row) → Has table row → Has rows (fact_columns row)
-      has_shown table rows same row there = has_permuted rows (map fact_columns table) (fact_columns row) (IsPermutation-sym _ _ same) (map_has fact_columns table row there)
 
   delays_back : (o : Option FactRow) → IsOnlyDelays release o last → (q : FactRow) → Has (option_to_list o) q → AreSaid release table delays q
   delays_back None only q there = absurd there
@@ -259,6 +265,28 @@ module _ (release : ℕ) (table delays : List Row) (rows last : List Row) (facts
   facts_are = set_is release table delays (facts ++ option_to_list o)
       (λ q there. elim (joined_has facts (option_to_list o) q there) [ inl a ↦ fact_back q a | inr b ↦ delays_back o only q b ])
       (λ q says. has_joined facts (option_to_list o) q (elim says [ inl a ↦ inl (fact_there q a.0 a.1 a.2) | inr b ↦ inr (delays_there o only q b.0 b.1 b.2) ]))
+
+  delay_some : (o : Option FactRow) → IsOnlyDelays release o last → (row : Row) → Has delays row → IsSome (delays_in release row)
+  delay_some None only row there = absurd (subst (λ l. Has l row) (empty_of delays (as_many delays_columns delays last shown_last ∙ ap length only)) there)
+  delay_some (Some fact) only row there =
+      let one = only_shown delays_columns delays only.0 (subst (IsPermutation (map delays_columns delays)) only.1 shown_last) in
+      let here : (row ≡ one.0) ⊎ ⊥ = subst (λ l. Has l row) one.1 there in
+      elim here [
+        | inl same ↦ ap is_some (ap (delays_in release) same ∙ sym (delays_shown release one.0) ∙ ap (shown_delays release) (sym one.2) ∙ only.2)
+        | inr none ↦ absurd none
+      ]
+
+  few_delays : (o : Option FactRow) → IsOnlyDelays release o last → length delays ≤ 1
+  few_delays None only = let many = as_many delays_columns delays last shown_last in let none = ap length only in omega (arith, many, none)
+  few_delays (Some fact) only = let many = as_many delays_columns delays last shown_last in let one = ap length only.1 in omega (arith, many, one)
+
+  -- each row of both tables was read
+  pub read_back : AreRead release table delays
+  read_back = record {
+    fact = λ row there. subst IsSome (fact_shown row) (reads_some fact_in rows (map fact_entry facts) are (fact_columns row) (has_shown table rows shown row there));
+    delay = delay_some o only;
+    one = few_delays o only;
+  }
 
 -- no more than one row of delays is shown, and it reads
 pub delays_shown_one : (release : ℕ) (facts delays last : List Row) → IsPermutation (map delays_columns delays) last → AreRead release facts delays → (last ≢ []) → ((number : ℕ) → Fits32 number → last ≢ (Int (pos 1) ∷ Int (pos number) ∷ []) ∷ []) → ⊥

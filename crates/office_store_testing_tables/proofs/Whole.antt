@@ -31,7 +31,8 @@ module _ {K V : Type 0} {R : K → K → Ordering} (total : IsTotalOrder R) (exa
   grown None es = omega arith
   grown (Some e) es = omega (arith, len-insert total (from_entries {R = R} es) e.0 e.1, no_more (contains_key (from_entries {R = R} es) e.0) (len (from_entries {R = R} es)))
 
-  at_most : (rows : List Row) → len (map_of rows) ≤ length rows
+  -- a table has no fewer rows than entries
+  pub at_most : (rows : List Row) → len (map_of rows) ≤ length rows
   at_most [] = omega (arith, len-empty R V)
   at_most (row ∷ rows) = omega (arith, grown (read row) (filter_map read rows), at_most rows)
 

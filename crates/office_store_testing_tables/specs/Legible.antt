@@ -1,5 +1,5 @@
 -- Tables that read as an office writes them.
-use Rattle.std.specs.Prelude.{◌≡◌, ◌<◌, ◌≤◌, ℕ, List, length, Some, IsSome}
+use Rattle.std.specs.Prelude.{◌≡◌, ◌<◌, ◌≤◌, ℕ, List, length, Some, IsSome, Ok}
 use Rattle.std.specs.FinMap.{get}
 use Rattle.std.specs.Str.{IsUtf8}
 use Rattle.sqlite.specs.Order.{Row}
@@ -7,6 +7,7 @@ use Rattle.sqlite.specs.Tree.{Trees}
 use Rattle.sqlite_rules.specs.Lists.{Has}
 use Rattle.office_mail.specs.Kept.{Place}
 use Rattle.office_mail.specs.Lists.{Lists}
+use Rattle.office_mail.specs.Setup.{setup_in}
 use Rattle.office_store_keeper.specs.declared.values.Reports.{Reports}
 use Rattle.office_store_testing_tables.specs.declared.said.Said.{Said}
 pub use Rattle.office_store_testing_tables.specs.Tables.{IsWhole}
@@ -24,10 +25,10 @@ pub record SaysOnce (rows : List Row) : Type 0 where
   pub finished : said.finished < 4_294_967_296
   pub setup : IsUtf8 said.setup
 
--- the reports of the runs up to a number, and no others
+-- the reports of the runs up to a number, and no others: each of these runs has them, and there are as many rows as runs
 pub record AreReported (rows : List Row) (finished : ℕ) : Type 0 where
-  pub whole : IsWhole (run_map rows) rows
   pub each : (run : ℕ) → 1 ≤ run → run ≤ finished → IsSome (get (run_map rows) run)
+  pub count : length rows ≡ finished
   pub texts : (run : ℕ) (reports : Reports) → get (run_map rows) run ≡ Some reports → IsUtf8 reports.excuses × IsUtf8 reports.updates
 
 -- each entry of testing names a kept message that gives it
@@ -43,9 +44,11 @@ pub record AreRead (release : ℕ) (facts delays : List Row) : Type 0 where
   pub delay : (row : Row) → Has delays row → IsSome (delays_in release row)
   pub one : length delays ≤ 1
 
--- the tables read as an office writes them
+-- the tables read as an office with this setup writes them, with the schema's number 2
 pub record IsLegible (setup : Lists) (db : Trees) : Type 0 where
   pub office : SaysOnce (db 0)
+  pub schema : office.said.schema ≡ 2
+  pub setup_is : setup_in office.said.setup ≡ Ok setup
   pub mail : IsWhole (kept_rows (db 1)) (db 1)
   pub runs : AreReported (db 3) office.said.finished
   pub testing : AreNamed setup db

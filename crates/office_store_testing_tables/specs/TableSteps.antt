@@ -46,6 +46,10 @@ pub record Rows : Type 0 where
 abbrev pub rows_in : Trees → Rows
 rows_in db = record { office = db 0; mail = db 1; runs = db 3; sources = db 4; rows = db 6; facts = db 8; delays = db 10 }
 
+-- what is shown of a row where its rowid alone is asked for, as the number of a run
+abbrev pub rowid_column : Row → Row
+rowid_column row = column row 0 ∷ []
+
 -- ---- mail
 
 -- the row compares equal, as SQL's = does, to this place and number

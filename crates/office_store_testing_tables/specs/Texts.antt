@@ -11,11 +11,17 @@ keep_text = codes "INSERT INTO mail (sender, number, body) VALUES (?1, ?2, ?3)"
 abbrev pub keep_eight_text : List ℕ
 keep_eight_text = codes "INSERT INTO mail (sender, number, body) VALUES (?1, ?2, ?3), (?4, ?5, ?6), (?7, ?8, ?9), (?10, ?11, ?12), (?13, ?14, ?15), (?16, ?17, ?18), (?19, ?20, ?21), (?22, ?23, ?24)"
 
+abbrev pub mail_rowids_text : List ℕ
+mail_rowids_text = codes "SELECT rowid FROM mail"
+
 abbrev pub office_text : List ℕ
 office_text = codes "SELECT id, schema, setup, finished FROM office"
 
 abbrev pub reports_text : List ℕ
 reports_text = codes "SELECT number, excuses, updates FROM run WHERE number = ?1"
+
+abbrev pub run_numbers_text : List ℕ
+run_numbers_text = codes "SELECT number FROM run"
 
 abbrev pub add_run_text : List ℕ
 add_run_text = codes "INSERT INTO run (number, excuses, updates) VALUES (?1, ?2, ?3)"

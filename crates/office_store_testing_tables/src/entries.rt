@@ -547,6 +547,7 @@ pub fn testing<S: Alter>(
     ensures bad { IsTrusted (state S.Store conn.new) → IsWhole (kept_rows ((state S.Store conn.new).now.trees 1)) ((state S.Store conn.new).now.trees 1) → AreNamed setup.now (state S.Store conn.new).now.trees → result ≢ Err (KeepFault.Store Cause.BadRow) }
     ensures known { IfOk result (λ testing. KnowsArchs setup.now.archs testing.rows) }
     ensures value { Finds S.Store conn.new result (λ db testing. testing ≡ suite_in setup.now (kept_rows (db 1)) (source_map (db 4)) (entry_map (db 6))) }
+    ensures legible { Finds S.Store conn.new result (λ db _. AreNamed setup.now db) }
 {
     let named = source_rows(conn)?;
     let uploads = by_message(named, UPLOAD);

@@ -160,6 +160,7 @@ pub fn facts<S: Alter>(
     ensures reads { ReadsOnly S.Store conn.old conn.new result }
     ensures bad { IsTrusted (state S.Store conn.new) → AreRead (release_place setup.now) ((state S.Store conn.new).now.trees 8) ((state S.Store conn.new).now.trees 10) → result ≢ Err (KeepFault.Store Cause.BadRow) }
     ensures value { Finds S.Store conn.new result (λ db rows. rows ≡ rows_in_set (facts_in (release_place setup.now) (db 8) (db 10))) }
+    ensures legible { Finds S.Store conn.new result (λ db _. AreRead (release_place setup.now) (db 8) (db 10)) }
 {
     let release = release_place(setup);
     let shown = fact_rows(conn)?;

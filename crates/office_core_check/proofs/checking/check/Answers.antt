@@ -7,16 +7,17 @@ use Rattle.office_core_facts.specs.State.{IsOffice}
 use Rattle.office_core.proofs.OfficeFacts.{IsOffice-new}
 use Rattle.office_core_check.specs.Comparing.{IsAnew}
 use Rattle.office_core_check.specs.Reading.{IsFront}
-use Rattle.office_core_check.specs.Whole.{AreOfSenders, IsFound}
-use Rattle.office_core_check.proofs.FoundFacts.{office_senders, office_whole}
+use Rattle.office_core_check.specs.Whole.{IsFound}
+use Rattle.office_core_check.proofs.FoundFacts.{office_whole}
 use Rattle.office_core_check.proofs.FrontFacts.{front_none}
 use Rattle.office_core_check.proofs.checking.check.Goals as goal
 
 pub returns-clause-found : goal.returns-clause-found
-returns-clause-found g c = λ trusted are.
+returns-clause-found g c = λ trusted.
     let keeper = g.K.Keeper in
     let here = keeper.content c.args.keeper.now in
     let now = keeper.content c.finished.new.self in
+    let legible = keeper.is_legible c.check_anew.new.keeper in
     let earlier = c.check_anew.ensures.looks.before trusted in
     let same : now ≡ here = c.in_ok-runs.ensures.same earlier in
     let office = c.in_ok-office.office in
@@ -26,12 +27,13 @@ returns-clause-found g c = λ trusted are.
     let anew : IsAnew office = subst (IsOffice setup) (sym none) (IsOffice-new setup) in
     let front : IsFront now.kept 0 0 (content_of office.plain).kept = subst (λ (m : Content). IsFront now.kept 0 0 m.kept) (sym none) (front_none now.kept) in
     let size : c.in_ok-runs.runs ≡ length now.reports = c.in_ok-runs.ensures.value earlier ∙ ap (λ (m : Content). length m.reports) (sym same) in
-    let senders : AreOfSenders setup now.kept = subst (λ (m : Content). AreOfSenders setup m.kept) (sym same) (subst (λ (s : Lists). AreOfSenders s here.kept) (sym is) are) in
-    subst (λ (s : Lists). IfOk c.check_anew.result (IsFound s here)) is
-    (subst (λ (m : Content). IfOk c.check_anew.result (IsFound setup m)) same (c.check_anew.ensures.found trusted anew front size senders))
+    subst (λ (s : Lists). IfOk c.check_anew.result (IsFound s here legible)) is
+    (subst (λ (m : Content). IfOk c.check_anew.result (IsFound setup m legible)) same (c.check_anew.ensures.found trusted anew front size))
 
 pub returns-clause-whole : goal.returns-clause-whole
-returns-clause-whole g c = λ trusted office.
-    let here = g.K.Keeper.content c.args.keeper.now in
-    IfOk-weaker c.check_anew.result (IsFound c.args.setup.now here) _ (λ checked found. office_whole c.args.setup.now here checked office found)
-    (returns-clause-found g c trusted (office_senders c.args.setup.now here office))
+returns-clause-whole g c = λ trusted legible office.
+    let keeper = g.K.Keeper in
+    let here = keeper.content c.args.keeper.now in
+    let still = c.check_anew.ensures.looks.legible trusted (c.in_ok-runs.ensures.legible (c.check_anew.ensures.looks.before trusted) legible) in
+    IfOk-weaker c.check_anew.result (IsFound c.args.setup.now here (keeper.is_legible c.check_anew.new.keeper)) _ (λ checked found. office_whole (keeper.is_legible c.check_anew.new.keeper) c.args.setup.now here checked still office found)
+    (returns-clause-found g c trusted)

@@ -6,9 +6,9 @@ use Rattle.office_core_check.proofs.FoundFacts.{unmade_differs}
 use Rattle.office_core_check.proofs.checking.check_beside.Goals as goal
 
 pub returns-in-Some-clause-found : goal.returns-in-Some-clause-found
-returns-in-Some-clause-found g c = λ trusted office made size are.
+returns-in-Some-clause-found g c = λ trusted office made size.
     let setup = c.args.made.now.plain.setup in
     let here = g.K.Keeper.content c.args.keeper.now in
     let front : Kept = (content_of c.args.made.now.plain).kept in
     let low : c.args.runs ≤ length here.reports = omega (arith, size) in
-    unmade_differs setup here c.args.runs c.in-Some.difference low (subst (IsMade setup here.kept c.args.runs front) c.in-Some.is made) are
+    unmade_differs (g.K.Keeper.is_legible c.args.keeper.now) setup here c.args.runs c.in-Some.difference low (subst (IsMade setup here.kept c.args.runs front) c.in-Some.is made)

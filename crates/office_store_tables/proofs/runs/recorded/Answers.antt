@@ -14,3 +14,6 @@ returns-clause-bad g c trusted finished reported bad =
 
 pub returns-in_err-rows-clause-value : goal.returns-in_err-rows-clause-value
 returns-in_err-rows-clause-value g c trusted = IfOk-from_err c.from_residual.result _ c.from_residual.ensures.0
+
+pub returns-in_err-rows-clause-texts : goal.returns-in_err-rows-clause-texts
+returns-in_err-rows-clause-texts g c = IfOk-from_err c.from_residual.result _ c.from_residual.ensures.0

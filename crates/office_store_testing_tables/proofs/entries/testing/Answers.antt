@@ -12,7 +12,7 @@ use Rattle.office_store_testing_tables.specs.TableContent.{source_of, row_of, Re
 use Rattle.testing_rules_model.specs.declared.suite.RowIn.{RowIn}
 use Rattle.office_store_keeper.specs.Provenance.{IsArchPlace}
 use Rattle.office_store_testing_tables.proofs.EntryLists.{reordered}
-use Rattle.office_store_testing_tables.proofs.EntryValues.{gathered_on, known_on}
+use Rattle.office_store_testing_tables.proofs.EntryValues.{gathered_on, named_on, known_on}
 use Rattle.office_store_testing_tables.proofs.NamedReads.{sources_read, sources_put, rows_read, rows_put}
 use Rattle.office_store_testing_tables.proofs.Passed.{passed}
 use Rattle.office_store_testing_tables.proofs.Whole.{not_crowded}
@@ -44,6 +44,30 @@ returns-clause-value g c fourth =
     let sources = reordered (source_of c.args.setup.now (kept_rows (four.now.trees 1))) uploads c.in_ok-read.read.items c.by_name-sources.result.items said c.by_name-sources.ensures in
     let put = reordered (row_of c.args.setup.now (kept_rows (four.now.trees 1))) c.by_message-listed.result.items c.in_ok-given.given.items c.by_key-rows.result.items (rw c.as_slice-2.ensures.value at (c.in_ok-given.ensures.ok fourth)) c.by_key-rows.ensures in
     gathered_on c.args.setup.now (kept_rows (four.now.trees 1)) (four.now.trees 4) (four.now.trees 6) sources.rows put.rows c.by_name-sources.result.items c.by_key-rows.result.items c.gathered.result
+    (IsPermutation-trans (map source_columns (four.now.trees 4)) uploads sources.rows named sources.same)
+    (subst (λ (x : Database). IsPermutation (map entry_columns (x.trees 6)) put.rows) (sym e) (IsPermutation-trans (map entry_columns (three.now.trees 6)) c.by_message-listed.result.items put.rows (IsPermutation-trans (map entry_columns (three.now.trees 6)) c.in_ok-found.found.items c.by_message-listed.result.items (c.in_ok-found.ensures.rows third) c.by_message-listed.ensures) put.same))
+    sources.reads
+    put.reads
+    c.gathered.ensures.ok
+
+pub returns-clause-legible : goal.returns-clause-legible
+returns-clause-legible g c fourth =
+    let third = c.in_ok-given.ensures.reads.before fourth in
+    let second = c.in_ok-found.ensures.reads.before third in
+    let first = c.in_ok-read.ensures.reads.before second in
+    let one = state g.S.Store c.source_rows.new.conn in
+    let two = state g.S.Store c.sources_at.new.conn in
+    let three = state g.S.Store c.entry_rows.new.conn in
+    let four = state g.S.Store c.rows_at.new.conn in
+    let b : two.now ≡ one.now = (c.in_ok-read.ensures.reads.same second).now in
+    let d : three.now ≡ two.now = (c.in_ok-found.ensures.reads.same third).now in
+    let e : four.now ≡ three.now = (c.in_ok-given.ensures.reads.same fourth).now in
+    let uploads = c.by_message-uploads.result.items in
+    let named = subst (λ (x : Database). IsPermutation (map source_columns (x.trees 4)) uploads) (sym (e ∙ d ∙ b)) (IsPermutation-trans (map source_columns (one.now.trees 4)) c.in_ok-named.named.items uploads (c.in_ok-named.ensures.rows first) c.by_message-uploads.ensures) in
+    let said = subst (λ (x : Database). map (source_of c.args.setup.now (kept_rows (x.trees 1))) uploads ≡ map Some c.in_ok-read.read.items) (sym (e ∙ d)) (rw c.as_slice.ensures.value at (c.in_ok-read.ensures.ok second)) in
+    let sources = reordered (source_of c.args.setup.now (kept_rows (four.now.trees 1))) uploads c.in_ok-read.read.items c.by_name-sources.result.items said c.by_name-sources.ensures in
+    let put = reordered (row_of c.args.setup.now (kept_rows (four.now.trees 1))) c.by_message-listed.result.items c.in_ok-given.given.items c.by_key-rows.result.items (rw c.as_slice-2.ensures.value at (c.in_ok-given.ensures.ok fourth)) c.by_key-rows.ensures in
+    named_on c.args.setup.now four.now.trees sources.rows put.rows c.by_name-sources.result.items c.by_key-rows.result.items c.gathered.result
     (IsPermutation-trans (map source_columns (four.now.trees 4)) uploads sources.rows named sources.same)
     (subst (λ (x : Database). IsPermutation (map entry_columns (x.trees 6)) put.rows) (sym e) (IsPermutation-trans (map entry_columns (three.now.trees 6)) c.by_message-listed.result.items put.rows (IsPermutation-trans (map entry_columns (three.now.trees 6)) c.in_ok-found.found.items c.by_message-listed.result.items (c.in_ok-found.ensures.rows third) c.by_message-listed.ensures) put.same))
     sources.reads
@@ -101,11 +125,17 @@ returns-in_err-named-clause-known g c = IfOk-from_err c.from_residual.result _ c
 pub returns-in_err-named-clause-value : goal.returns-in_err-named-clause-value
 returns-in_err-named-clause-value g c trusted = IfOk-from_err c.from_residual.result _ c.from_residual.ensures.0
 
+pub returns-in_err-named-clause-legible : goal.returns-in_err-named-clause-legible
+returns-in_err-named-clause-legible g c trusted = IfOk-from_err c.from_residual.result _ c.from_residual.ensures.0
+
 pub returns-in_err-read-clause-known : goal.returns-in_err-read-clause-known
 returns-in_err-read-clause-known g c = IfOk-from_err c.from_residual-in_err-read.result _ c.from_residual-in_err-read.ensures.0
 
 pub returns-in_err-read-clause-value : goal.returns-in_err-read-clause-value
 returns-in_err-read-clause-value g c trusted = IfOk-from_err c.from_residual-in_err-read.result _ c.from_residual-in_err-read.ensures.0
+
+pub returns-in_err-read-clause-legible : goal.returns-in_err-read-clause-legible
+returns-in_err-read-clause-legible g c trusted = IfOk-from_err c.from_residual-in_err-read.result _ c.from_residual-in_err-read.ensures.0
 
 pub returns-in_err-found-clause-known : goal.returns-in_err-found-clause-known
 returns-in_err-found-clause-known g c = IfOk-from_err c.from_residual-in_err-found.result _ c.from_residual-in_err-found.ensures.0
@@ -113,11 +143,17 @@ returns-in_err-found-clause-known g c = IfOk-from_err c.from_residual-in_err-fou
 pub returns-in_err-found-clause-value : goal.returns-in_err-found-clause-value
 returns-in_err-found-clause-value g c trusted = IfOk-from_err c.from_residual-in_err-found.result _ c.from_residual-in_err-found.ensures.0
 
+pub returns-in_err-found-clause-legible : goal.returns-in_err-found-clause-legible
+returns-in_err-found-clause-legible g c trusted = IfOk-from_err c.from_residual-in_err-found.result _ c.from_residual-in_err-found.ensures.0
+
 pub returns-in_err-given-clause-known : goal.returns-in_err-given-clause-known
 returns-in_err-given-clause-known g c = IfOk-from_err c.from_residual-in_err-given.result _ c.from_residual-in_err-given.ensures.0
 
 pub returns-in_err-given-clause-value : goal.returns-in_err-given-clause-value
 returns-in_err-given-clause-value g c trusted = IfOk-from_err c.from_residual-in_err-given.result _ c.from_residual-in_err-given.ensures.0
+
+pub returns-in_err-given-clause-legible : goal.returns-in_err-given-clause-legible
+returns-in_err-given-clause-legible g c trusted = IfOk-from_err c.from_residual-in_err-given.result _ c.from_residual-in_err-given.ensures.0
 
 pub returns-in_err-read-clause-reads : goal.returns-in_err-read-clause-reads
 returns-in_err-read-clause-reads g c = then_read _ c.in_ok-named.ensures.reads (failed_read _ c.from_residual-in_err-read.ensures.0 c.in_err-read.ensures.reads)

@@ -1,8 +1,6 @@
 //! The moves of a group that can't move, which may be refused memory.
 
-use crate::faults::{Met, due};
-use crate::given::{GROUP, GROUP_TESTING, GROUP_UPDATE, TESTING};
-use crate::offices::setup_of;
+use cases_faults::{GROUP_TESTING, GROUP_UPDATE, Met, TESTING, due, letters_of, setup_of};
 use jiff::civil::Date;
 use office_mail::{Body, MailFault, Message, Setup, read_message};
 use std::alloc::Global;
@@ -31,7 +29,7 @@ fn try_group(alloc: Global, setup: &Setup) -> Result<(), Met> {
 
 /// The facts take what the group's mail says.
 fn take_group(alloc: Global, setup: &Setup, facts: &mut Facts) -> Result<(), Met> {
-    for letter in &GROUP {
+    for letter in letters_of(6) {
         take_text(alloc, setup, facts, letter.text)?;
     }
     Ok(())
