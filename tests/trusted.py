@@ -5,17 +5,21 @@ usage: trusted.py [TOP] [--claims | --list | --check | --write | --twice | --why
 
 A public contract is what a caller from outside reads of an item that lib.rt passes on as `pub`, also by `pub use` of
 another crate: a function with its `requires` and `ensures`, a trait, the fields of a type, what its `impl Model` and
-other impls say of it, its invariant, and its `pub` methods. From their words it goes on, by `ghost use` and `use`, to
-definitions and all that these name, and to what contracts see of types. All others are steps: they serve the proofs.
+other impls say of it, and its `pub` methods. It reads a type's invariant only where the type has a `pub` field: no
+other caller learns it. From their words it goes on, by `ghost use` and `use`, to definitions and all that these name,
+and to what contracts see of types. All others are steps: they serve the proofs.
 It counts lines without comments, blank ones and `use`, twice: from the items of the crates that users call (USERS),
 but for what only crates above call (INNER), which decides what is a step, and from the `pub` items of every crate.
+What the first commands and routes need is counted apart from what this office added. A definition of both has a last
+row for all that was added, which names a definition of ADDED: the claims of FIRST don't follow that name.
   TOP         the top of the repository (the one that this file is in)
-  --claims    for each claim of CLAIMS its row of docs/TRUST.md: the lines that a reader must believe for it, those of
-              them that no claim above it needs, and last what no claim needs: laws on which nothing rests, other calls
+  --claims    for each claim of FIRST and LATER its row of docs/TRUST.md: the lines that a reader must believe for it,
+              those of them that no claim above it needs, and what no claim needs: laws on which nothing rests, other
+              calls; then what the claims of FIRST need together, and what all need
   --list      each definition, its lines, and whether it is believed, a step, or a step that contracts of a crate cite
-  --check     a line for each file whose first line says falsely what it is, for each claim whose row in README.md or
-              docs/TRUST.md lacks or has another count, and for each other count of lines there that is none here;
-              status 1 if there is a line
+  --check     a line for each file whose first line says falsely what it is, for each definition that names one of ADDED
+              elsewhere than in a last row, for each claim whose row in docs/TRUST.md, or of FIRST in README.md, lacks
+              or has another count, and for each other count of lines there that is none here; status 1 if there is one
   --write     puts the counts of this tree into both pages
   --twice     the definitions that stand in two crates under one name with one text
   --why=NAME  what names each definition of this name, back to a public contract
@@ -29,31 +33,41 @@ USERS = ['deb_version', 'deb_control', 'testing_install', 'testing_rules', 'offi
          'office_core_queries', 'office_core_check', 'office_http', 'testing_rules_refusals', 'office_cli_words', 'office_cli',
          'office']
 INNER = {('office_core_replay', 'settle_behind')}
-# What is claimed, each with the calls and laws whose contracts say it. `crate` alone stands for all of a crate's calls.
-CLAIMS = [
+# What is claimed of the first commands and routes, each with the calls and laws whose contracts say it: CRATE::CALL,
+# CRATE::TYPE::METHOD, `crate` alone for all of a crate's calls, and behind a @ the only clause that is meant.
+FIRST = [
     ('the headline', ['office_core::headline']),
     ('.. of calls and whole replays', [
         'office_core::steps_follow', 'office_core::same_texts', 'office_core::runs_stay', 'office_core::empty_is_sound',
-        'office_core::Office::deliver', 'office_core::Office::deliver_together', 'office_core::Office::settle',
-        'office_core_replay::replays_are_steps', 'office_core_replay::replay', 'office_mail::same_set',
-        'office_mail::later_mail']),
-    ('versions', ['deb_version::Version', 'deb_version::order_is_total', 'deb_version::key_is_by_blocks']),
-    ('control data', ['deb_control::Paragraphs', 'deb_control::Paragraph', 'deb_control::Clauses', 'deb_control::Provisions',
-                      'deb_control::Binary', 'deb_control::Relation']),
+        'office_core::Office::deliver', 'office_core::Office::settle', 'office_core_replay::replays_are_steps',
+        'office_core_replay::replay', 'office_core_replay::replay_status', 'office_mail::same_set', 'office_mail::later_mail']),
+    ('versions', ['deb_version::Version']),
+    ('control data', [f'deb_control::{kind}' for kind in (
+        'Paragraphs', 'Paragraph', 'Clauses', 'Provisions', 'Binary', 'Relation')]),
     ('installable rows', ['testing_install::installable', 'testing_install::installable_counted']),
     ('the rules', ['testing_rules::Facts', 'testing_rules::Testing', 'testing_rules::excuses', 'testing_rules::migrate',
                    'testing_rules::excuses_text', 'testing_rules::update_text', 'testing_rules::testing_text']),
-    ('setups, messages and bags', ['office_mail::Setup', 'office_mail::read_message', 'office_mail::ready', 'office_mail::Bag',
-                                   'office_mail::FromRead', 'office_mail::ToWrite']),
+    ('setups, messages and bags', [f'office_mail::{call}' for call in (
+        'Setup', 'read_message', 'ready', 'Bag', 'FromRead', 'ToWrite')]),
     ('a store in memory', ['office_store_keeper::Keeper', 'office_store_keeper::Plain']),
-    ('the office', ['office_core::Office']),
-    ('a connection', ['office_http::serve_one', 'office_http::requests_are_steps', 'office_http::requests_have_one_answer']),
-    ('the words', ['office_cli_words::read_words', 'office_cli_words::compare_status']),
     ('a store in a file', ['office_store::Tables', 'office_store::open_store', 'office_store::open_tables']),
+    ('the office', [f'office_core::Office::{call}' for call in (
+        'new', 'into_keeper', 'deliver', 'settle', 'status', 'testing_text', 'excuses_text', 'update_text')]),
+    ('a connection', [f'office_http::{call}' for call in (
+        'serve_one', 'requests_are_steps', 'old_requests_stay@others')]),
+    ('the words', ['office_cli_words::read_words', 'office_cli_words::compare_status']),
+]
+# What is claimed of the calls, pages and commands that this office added.
+LATER = [
+    ('more calls of the office', ['office_core::Office']),
+    ('every route', [f'office_http::{call}' for call in (
+        'serve_one', 'requests_are_steps', 'requests_have_one_answer', 'bound_mail', 'lint_is_mail', 'old_requests_stay')]),
     ('certificates', ['testing_install_why::certificate', 'testing_install_why::is_shown']),
     ('what no group frees', ['testing_rules_refusals::no_group_frees']),
     ('whole stores, bags of kept mail, lists', ['office_core_check', 'office_core_queries']),
 ]
+# The definitions of what was added that the last row of another names.
+ADDED = {}
 STEPS = '-- Steps: no contract of a call that users make rests on this file.'
 CLAUSE = re.compile(r'\b(requires|ensures|before)\b\s*[\w-]*\s*$')
 ITEM = re.compile(r'(?P<pub>pub(?:\([a-z]+\))?\s+)?(?P<ghost>ghost\s+)?(?:unsafe\s+)?(?:const\s+(?=fn\b))?(?:(?P<kind>'
@@ -69,6 +83,14 @@ def close(text, start):
         if depth == 0:
             return found.end()
     raise ValueError('an open bracket: ' + text[start:start + 80])
+
+def with_clause(head, name):
+    """A function's head with what it requires and, of what it ensures, one clause."""
+    found = [(m.start(), close(head, m.end() - 1), m[2] == name or m[1] == 'requires')
+             for m in re.finditer(r'\b(requires|ensures)\b\s*([\w-]*)\s*\{', head)]
+    if not any(head[start:end].startswith('ensures') for start, end, kept in found if kept):
+        raise ValueError(f'no clause {name} in {head[:80]}')
+    return head[:found[0][0]] + ' '.join(head[start:end] for start, end, kept in found if kept)
 
 def parts(text):
     """The text cut at the commas that stand in no bracket."""
@@ -248,12 +270,14 @@ class Tree:
         impls = [i for i in self.impls[item] if self.find(i.module, (i.trait or 'Self').split('::')) in public | {None}]
         yield item.module, item.head
         view = ' '.join(text for i in impls if i.trait == 'Model' for name, text in i.ghosts if name == 'view')
-        for field in parts(item.body[1:-1]) if item.kind in ('struct', 'enum') else []:
+        fields = parts(item.body[1:-1]) if item.kind in ('struct', 'enum') else []
+        is_open = item in public and any(re.match(r'(?s)(?:#\[.*?\]\s*)*pub\s', field) for field in fields)
+        for field in fields:
             name = re.sub(r'(?s)#\[.*?\]|\bpub\b', '', field).split(':')[0].strip()
             if not view or item.kind == 'enum' or re.search(rf'\.{name}\b', view):
                 yield item.module, field
         for part in impls + [item] * (item.kind == 'trait'):
-            yield from ((part.module, text) for name, text in part.ghosts if name != 'invariant' or item in public)
+            yield from ((part.module, text) for name, text in part.ghosts if name != 'invariant' or is_open)
             yield from ((part.module, f.head) for f in part.inner
                         if item in public and (f.public or part.kind == 'trait' or part.trait))
     def believed(self, crates, inner=()):
@@ -261,10 +285,11 @@ class Tree:
         public = set().union(*(self.surface(crate) for crate in crates))
         public = {item for item in public if (item.module.crate, item.name) not in inner}
         return self.reached(public, sorted(public, key=lambda i: (i.module.crate, i.name)))
-    def claimed(self, starts):
-        """The definitions that the contracts of these calls reach: CRATE, CRATE::CALL or CRATE::TYPE::METHOD."""
+    def claimed(self, starts, beside):
+        """The definitions that the contracts of these calls reach, by names that aren't left out."""
         public, first = set(), []
-        for crate, *path in (start.split('::') for start in starts):
+        for start, _, clause in (start.partition('@') for start in starts):
+            crate, *path = start.split('::')
             found = {item for item in self.surface(crate) if not path or item.name == path[0]}
             if not found:
                 raise ValueError(f'{crate} has no public {path[0]}')
@@ -272,9 +297,11 @@ class Tree:
                 impls = [i for item in found for i in self.impls[item]]
                 found, methods = set(), [f for part in impls for f in part.inner if f.name == path[1]]
                 first += methods
+            elif clause:
+                found = {Item(i.module, i.kind, i.name, i.public, with_clause(i.head, clause), i.body) for i in found}
             public, first = public | found, first + [*found]
-        return self.reached(public, first)
-    def reached(self, public, first):
+        return self.reached(public, first, beside)
+    def reached(self, public, first, beside=()):
         """The definitions that the contracts of the first items reach, of which these are public."""
         reached, todo = {None: None}, [(item, None) for item in first]
         for at, why in todo:
@@ -284,7 +311,7 @@ class Tree:
             for place, text in [(at.file, at.text)] if isinstance(at, Definition) else self.said(at, public):
                 marks = [n for n in [*place.names] + [d.name for d in getattr(place, 'definitions', [])] if '◌' in n]
                 words = words_of(text) | {n for n in marks if all(p in text for p in n.split('◌'))}
-                todo += [(found, at) for word in sorted(words) for found in self.meant(place, word)]
+                todo += [(to, at) for word in sorted(words) for to in self.meant(place, word) if to not in beside]
         return {at: why for at, why in reached.items() if isinstance(at, Definition)}
     def meant(self, place, word):
         """The definitions and the types that a word in a file means."""
@@ -303,10 +330,15 @@ class Tree:
                 yield at if isinstance(at, Item) else None
             yield next((self.named[path[:k]] for k in range(len(path), 2, -1) if path[:k] in self.named), None)
 
-def head_fault(file, believed):
+def in_invariants(tree):
+    """The words of all invariants. What only those of private fields name, a file may call a step or not."""
+    return {word for impls in tree.impls.values() for part in impls for name, text in part.ghosts if name == 'invariant'
+            for word in words_of(text)}
+
+def head_fault(file, believed, invariant):
     """What the first line of a file says falsely."""
     first, steps = (file.head or [''])[0], not any(d in believed for d in file.definitions)
-    if steps != (first == STEPS):
+    if steps != (first == STEPS) and not (steps and any(d.name in invariant for d in file.definitions)):
         return f'{"no contract" if steps else "a contract"} of users rests on it, and its first line says otherwise'
     return '' if first else 'its first line does not say what it defines'
 
@@ -334,17 +366,38 @@ def table(tree, users, every):
 def lines_of(definitions):
     return sum(d.count for d in definitions)
 
+def added(tree):
+    """The definitions of ADDED."""
+    return {d for d in tree.named.values() if d.name in ADDED.get(d.file.crate, ())}
+
+def of_first(tree):
+    """The definitions that the claims of FIRST need together."""
+    return set().union(*(tree.claimed(starts, added(tree)) for _, starts in FIRST))
+
+def row_faults(tree):
+    """The definitions that name what was added elsewhere than in a last row, whose last pattern is any other value."""
+    for d in of_first(tree):
+        *rows, last = d.text.split('\n')
+        names = {n for n in words_of(d.text) if n in ADDED.get(d.file.crate, ())}
+        if names & words_of('\n'.join(rows)) or names and not re.match(rf'{d.name} [^=]*\badded\b[^=]*= ', last):
+            yield f'{d.file.label}: {d.name} names {", ".join(sorted(names))} elsewhere than in a last row'
+
 def claims(tree, users):
     """Each claim, the lines to believe for it, and those of them that no claim above it needs; last what none needs."""
     seen = set()
-    for claim, starts in CLAIMS:
-        found = set(tree.claimed(starts))
+    for claim, starts in FIRST + LATER:
+        found = set(tree.claimed(starts, added(tree) if (claim, starts) in FIRST else ()))
         yield claim, lines_of(found), lines_of(found - seen)
         seen |= found
     laws = {i for crate in USERS for i in tree.surface(crate) if i.kind == 'fn' and not i.body[1:-1].strip()}
     left = set(tree.reached(laws, sorted(laws, key=lambda i: i.name))) & set(users) - seen
     yield 'laws on which nothing else rests', None, lines_of(left)
     yield 'other calls', None, lines_of(set(users) - seen - left)
+
+def sums(tree, users):
+    """What the first commands and routes need, and what all claims need, each behind its words in both pages."""
+    return [('the first commands and routes need', lines_of(of_first(tree))),
+            ('All claims together need', lines_of(users))]
 
 def trust_row(claim, lines, more):
     """A claim's row in the tables of TRUST."""
@@ -356,10 +409,12 @@ def figure_faults(tree, users, top):
     counted = [*claims(tree, users)]
     rows = [trust_row(*row) for row in counted]
     yield from (f'docs/TRUST.md: it has no row {row}' for row in rows if row not in trust.split('\n'))
-    yield from (f'README.md: it has no row | {claim} | .. | {lines:,} |' for claim, lines, _ in counted
-                if lines and not re.search(rf'(?m)^\| {re.escape(claim)} \|.* \| {lines:,} \|$', readme))
+    yield from (f'README.md: it has no row | {claim} | .. | {lines:,} |' for claim, lines, _ in counted[:len(FIRST)]
+                if not re.search(rf'(?m)^\| {re.escape(claim)} \|.* \| {lines:,} \|$', readme))
     whole = lines_of(tree.named.values())
-    known = {f'{n:,}' for n in (lines_of(users), whole - lines_of(users))}
+    known = {f'{n:,}' for n in (whole - lines_of(users), *(n for _, n in sums(tree, users)))}
+    yield from (f'docs/TRUST.md: it lacks: {words} {n:,} lines' for words, n in sums(tree, users)
+                if f'{words} {n:,} lines' not in ' '.join(trust.split()))
     told = known | {f'{lines or more:,}' for _, lines, more in counted}
     for page, text in (('docs/TRUST.md', trust), ('README.md', readme)):
         others = [n for n in re.findall(r'\b[\d,]+(?=\s+(?:other\s+)?lines\b)', text) if n not in told]
@@ -368,8 +423,8 @@ def figure_faults(tree, users, top):
 def write_figures(tree, users, top):
     """Puts the counts of lines of this tree into both pages, and names each page that it changes."""
     counted, all_users = [*claims(tree, users)], lines_of(users)
-    forms = [(r'(?<=together need )[\d,]+(?= lines)', f'{all_users:,}'),
-             (r'(?<=The other )[\d,]+(?= lines)', f'{lines_of(tree.named.values()) - all_users:,}')]
+    forms = [('(' + words.replace(' ', r'\s') + r'\s)[\d,]+(?=\slines)', rf'\g<1>{n:,}') for words, n in sums(tree, users)]
+    forms += [(r'(?<=The other )[\d,]+(?= lines)', f'{lines_of(tree.named.values()) - all_users:,}')]
     forms += [(rf'(?m)^\| \*\*{re.escape(row[0])}\*\*: .*$', trust_row(*row)) for row in counted]
     forms += [(rf'(?m)(^\| {re.escape(claim)} \|.* \| )[\d,]+(?= \|$)', rf'\g<1>{lines:,}')
               for claim, lines, _ in counted if lines]
@@ -386,12 +441,15 @@ def main():
     tops = [a for a in sys.argv[1:] if not a.startswith('--')] + [Path(__file__).resolve().parents[1]]
     tree = Tree(tops[0])
     users, every = tree.believed(USERS, INNER), tree.believed(tree.crates)
-    faults = [f'{f.label}: {head_fault(f, users)}' for f in tree.files.values() if head_fault(f, users)]
-    faults += figure_faults(tree, users, tops[0])
+    invariant = in_invariants(tree)
+    heads = [(f.label, head_fault(f, users, invariant)) for f in tree.files.values()]
+    faults = [f'{label}: {fault}' for label, fault in heads if fault]
+    faults += [*row_faults(tree), *figure_faults(tree, users, tops[0])]
     kinds = {d: 'believed' if d in users else 'cited step' if d in every else 'step' for d in tree.named.values()}
     lines = {'': lambda: table(tree, users, every), '--check': lambda: faults, '--twice': lambda: twice(tree),
              '--write': lambda: write_figures(tree, users, tops[0]),
-             '--claims': lambda: (trust_row(*row) for row in claims(tree, users)),
+             '--claims': lambda: [trust_row(*row) for row in claims(tree, users)]
+             + [f'{words} {n:,} lines' for words, n in sums(tree, users)],
              '--list': lambda: (f'{d.file.label}\t{d.name}\t{d.count}\t{kind}' for d, kind in kinds.items()),
              '--why': lambda: (trail(d, users) for d in users if d.name == name)}
     sys.stdout.writelines(f'{line}\n' for line in lines[option]())

@@ -102,6 +102,9 @@ def check_refused(stage: Stage) -> None:
     expect("an apply without what it needs", 3, told.returncode)
     if "there is no binary arm64 lone 0.9-1 to copy" not in told.stderr:
         raise Failed(told.stderr)
+    words = ["nowhere" if word in ("ordered", "unstable") else word for word in stage.apply_words()]
+    told = command("office-apply", *words, may_fail=True)
+    expect("an apply from a suite that isn't there", (3, True), (told.returncode, "nowhere" in told.stderr))
     expect("what is published behind a refused apply", digest, stage.digest())
     expect("testing behind a refused apply", "", command("office-apply", "--dry-run", *stage.apply_words()).stderr)
 

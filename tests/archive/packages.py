@@ -58,7 +58,8 @@ class Package:
 class Upload:
     """A version of a source: when and how urgently it came, and what is built of it on which architectures.
 
-    `rebuild` is the number of a rebuild that changes no source (binNMU).
+    `rebuild` is the number of a rebuild that changes no source (binNMU). If it `lags`, its packages of `all` come to
+    the indexes of these architectures alone, where the archive has some for each.
     """
 
     source: str
@@ -68,6 +69,7 @@ class Upload:
     urgency: str = "medium"
     architectures: Sequence[str] = BOTH
     rebuild: Optional[int] = None
+    lags: bool = False
 
     @property
     def name(self) -> str:

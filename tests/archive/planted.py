@@ -13,6 +13,7 @@ from days import DAYS
 from kills import LATER
 from packages import build_all
 from stage import COMMANDS, HERE, TOP
+from ways import ALL
 
 COMMAND = """#!/usr/bin/python3
 import sys
@@ -55,6 +56,9 @@ def is_published(self, have):
     self.reprepro("export", self.testing_name)
     return True
 Reprepro.is_published = is_published""", LOOP, "a second apply changes nothing"),
+    Fault("an apply that takes older packages of all out of what was adopted", "apply", """
+from office_tools.apply import contents
+contents.older_of_all = lambda *words: []""", ("ways.py",), "lag-doc 1-2 in the index of arm64"),
     Fault("a feed that reuses a number", "feed", """
 from office_tools.feed import news
 due = news.read_sent
@@ -98,7 +102,7 @@ def is_seen(program: str, folder: str, number: int) -> bool:
 def main(words: Sequence[str]) -> int:
     """Plants each fault."""
     program, folder = words
-    build_all([*LATER, *(upload for day in DAYS for upload in day.uploads)], os.path.join(folder, "built"))
+    build_all([*LATER, *(upload for day in DAYS for upload in day.uploads), *ALL], os.path.join(folder, "built"))
     with concurrent.futures.ThreadPoolExecutor(3) as pool:
         seen = list(pool.map(lambda number: is_seen(program, folder, number), range(len(FAULTS))))
     print(f"{sum(seen)} of {len(seen)} planted faults seen")

@@ -39,8 +39,10 @@ if [ -n "$lacking" ]; then
         echo "not installed:$lacking (as root this script installs them)" >&2
         exit 2
     fi
+    export DEBIAN_FRONTEND=noninteractive
     # shellcheck disable=SC2086  # the names are words
-    apt-get install -y --no-install-recommends $lacking > /dev/null || exit 2
+    apt-get install -y --no-install-recommends $lacking > /dev/null 2>&1 ||
+        { apt-get update > /dev/null && apt-get install -y --no-install-recommends $lacking > /dev/null; } || exit 2
 fi
 
 work=$(mktemp -d)

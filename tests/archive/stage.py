@@ -115,6 +115,9 @@ class Archive(Protocol):
     def ready(self) -> str:
         """Publishes unstable, and gives a line of a sources.list for what the next order sees."""
 
+    def copy_all(self, *but: str) -> None:
+        """Publishes testing with all that unstable has, but for these packages as the manager names them."""
+
     def apply_words(self) -> Sequence[str]:
         """The words of office-apply for this archive."""
 
@@ -149,9 +152,10 @@ class Reprepro:
 
     def incoming(self, upload: Upload, built: str) -> None:
         """Takes an upload into unstable."""
+        where = ["-A", "|".join((*upload.architectures, "source"))] if upload.lags else []
         for name in sorted(os.listdir(built)):
             if name.endswith(".changes"):
-                self.reprepro("include", "unstable", os.path.join(built, name))
+                self.reprepro(*where, "include", "unstable", os.path.join(built, name))
 
     def drop_source(self, source: str) -> None:
         """Takes a source with its packages out of unstable."""
@@ -166,6 +170,10 @@ class Reprepro:
         """The suite `ordered` becomes what unstable is."""
         self.reprepro("pull", "ordered")
         return f"file:{self.base} ordered main"
+
+    def copy_all(self, *but: str) -> None:
+        """Publishes testing with all that unstable has; it has no older versions."""
+        self.reprepro("copymatched", "testing", "unstable", "*")
 
     def apply_words(self) -> Sequence[str]:
         """The words of office-apply."""
@@ -214,6 +222,12 @@ class Aptly:
         """Publishes unstable."""
         self.aptly("publish", "update", "-skip-signing", "-batch", "unstable")
         return f"file:{self.base} unstable main"
+
+    def copy_all(self, *but: str) -> None:
+        """Publishes testing with all that unstable has, but for these packages."""
+        self.aptly("repo", "copy", "unstable", "testing", "Name (~ .)")
+        self.aptly("repo", "remove", "testing", *but)
+        self.aptly("publish", "update", "-skip-signing", "-batch", "testing")
 
     def apply_words(self) -> Sequence[str]:
         """The words of office-apply."""

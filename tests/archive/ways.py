@@ -8,60 +8,86 @@ import sys
 from typing import Sequence
 
 import clients
-from loop import archived, expect
+from loop import MANAGERS, archived, expect
 from packages import BOTH, TWELVE, Package, Upload, build_all
-from stage import COMMANDS, SETUP, TOP, Failed, Office, Reprepro, Stage, command, run
+from stage import COMMANDS, SETUP, TOP, Archive, Failed, Office, Reprepro, Stage, command, run
 
+LAG = [Package("lag"), Package("lag-doc", is_all=True)]
 UNCLEAN = [Upload("duo", "1-1", "2025-03-01", [Package("duo"), Package("duo-bad", "nosuch, duo")]),
-           Upload("lag", "1-1", "2025-03-01", [Package("lag")]),
-           Upload("lag", "1-2", "2025-03-02", [Package("lag")], architectures=("amd64",))]
+           Upload("lag", "1-1", "2025-03-01", LAG),
+           Upload("lag", "1-2", "2025-03-02", LAG, architectures=("amd64",), lags=True)]
 FIRST, NEXT = "2025-03-06", "2025-03-07"
-LONE = Upload("lone", "0.2-1", NEXT, [Package("lone")], "critical")
+NEWER = [Upload("lone", "0.2-1", NEXT, [Package("lone")], "critical"), Upload("lag", "1-3", NEXT, LAG, "critical")]
 CALM = Upload("calm", "1-1", FIRST, [Package("calm")], "critical")
 RIVALS = [Upload("rival", "1-1", NEXT, [Package("rival", conflicts="calm")], "critical"),
           Upload("both", "1-1", NEXT, [Package("both-of-them", "calm, rival")], "critical"),
           Upload("fine", "1-1", NEXT, [Package("fine", "calm")], "critical")]
 KNOT = [Upload(name, "1-1", FIRST, [Package(name, needed)], "critical")
         for name, needed in (("above", "knota"), ("knota", "knotb"), ("knotb", "knota"))]
-ALL = [*TWELVE, *UNCLEAN, LONE, CALM, *RIVALS, *KNOT]
+ALL = [*TWELVE, *UNCLEAN, *NEWER, CALM, *RIVALS, *KNOT]
 
 
-def adopted(program: str, folder: str) -> str:
-    """An office begins with an unclean testing: all of it is there, and the first apply changes nothing."""
-    office = Office(program, folder)
-    archive = Reprepro(folder)
-    stage = Stage(office, archive, folder, os.path.join(os.path.dirname(folder), "built"))
-    stage.takes([*TWELVE, *UNCLEAN])
-    stage.line = archive.ready()
-    run("reprepro", "--silent", "-b", archive.base, "copymatched", "testing", "unstable", "*")
+def told_of(archive: Archive) -> Sequence[str]:
+    """What office-adopt tells of the unclean testing."""
+    beside = archive.has_versions
+    return [
+        "lag-doc all 1-1: left out: 1-2 is newer",
+        *(["source lag 1-1: left out: 1-2 is newer"] if beside else []),
+        "lag arm64 1-1: told under lag 1-2: it was built of 1-1",
+        "duo-bad amd64 1-1: told without nosuch: nothing in testing meets it",
+        "duo-bad arm64 1-1: told without nosuch: nothing in testing meets it",
+        *(["left alone: sources of which testing has no package, or packages that stay: lag 1-1"] if beside else []),
+        "left alone: older packages of all, with which packages that stay were built: lag-doc 1-1"]
+
+
+def adopt(program: str, folder: str, archive: Archive) -> str:
+    """Makes a setup and a bag of the archive's testing, and gives the setup."""
     testing = archive.published("testing")
     files = [os.path.join(testing, "main", f"binary-{architecture}", "Packages") for architecture in BOTH]
     told = run(os.path.join(COMMANDS, "office-adopt"), "--day", FIRST, "--sources",
                os.path.join(testing, "main/source/Sources.gz"), folder, *files, OFFICE=program)
-    expect("what is told otherwise", [
-        "office-adopt: lag arm64 1-1: told under lag 1-2: it was built of 1-1",
-        "office-adopt: duo-bad amd64 1-1: told without nosuch: nothing in testing meets it",
-        "office-adopt: duo-bad arm64 1-1: told without nosuch: nothing in testing meets it"], told.stderr.splitlines())
-    expect("adoption", "adopted: 14 sources, 31 packages; 0 wait, 0 refused", told.stdout.splitlines()[-1])
-    setup = os.path.join(folder, "setup.conf")
+    expect("what is told otherwise", [f"office-adopt: {line}" for line in told_of(archive)], told.stderr.splitlines())
+    expect("adoption", "adopted: 14 sources, 32 packages; 0 wait, 0 refused", told.stdout.splitlines()[-1])
+    return os.path.join(folder, "setup.conf")
+
+
+def adopted(program: str, folder: str, manager: str = "reprepro") -> str:
+    """An office begins with an unclean testing: all of it is there, and the first apply changes nothing.
+
+    An older package of `all` stays until its source moves on all architectures.
+    """
+    office = Office(program, folder)
+    archive = MANAGERS[manager](folder)
+    stage = Stage(office, archive, folder, os.path.join(os.path.dirname(folder), "built"))
+    stage.takes([*TWELVE, *UNCLEAN])
+    stage.line = archive.ready()
+    archive.copy_all("lag_1-1_amd64")
+    setup = adopt(program, folder, archive)
     with open(os.path.join(folder, "bag"), encoding="utf-8") as bag:
         run(program, "replay", "--conf", setup, "--db", office.store, given=bag.read())
     office.start(setup)
     try:
         digest = stage.digest()
-        expect("a dry run of the first apply", "", command("office-apply", "--dry-run", *stage.apply_words()).stderr)
-        stage.apply()
+        for more in (("--dry-run",), ()):
+            told = command("office-apply", *more, *stage.apply_words())
+            expect("what would come and go", 1, len(told.stdout.splitlines()))
         expect("the first apply", digest, stage.digest())
-        stage.takes([LONE])
+        beside = {"lag-doc 1-1 all", *(["lag 1-1 source"] if archive.has_versions else [])}
+        expect("the archive's testing", sorted(office.rows() | beside), sorted(archived(archive)))
+        stage.takes(NEWER)
         stage.line = archive.ready()
         stage.feed(NEXT)
-        expect("update 2", ["accept lone 0.2-1"], list(office.update(2)))
+        expect("update 2", ["accept lag 1-3", "accept lone 0.2-1"], list(office.update(2)))
         stage.apply()
-        expect("testing", sorted(line.replace("lag 1-1 source", "lag 1-2 source") for line in office.rows()),
-               sorted(archived(archive)))
+        expect("testing", sorted(office.rows()), sorted(archived(archive)))
     finally:
         office.stop()
-    return "adopted: 14 sources, 31 packages, nothing changed by the first apply"
+    return f"{manager}: adopted: 14 sources, 32 packages, nothing changed by the first apply"
+
+
+def adopted_by_aptly(program: str, folder: str) -> str:
+    """The same over an archive that has several versions of a source and of a package."""
+    return adopted(program, folder, "aptly")
 
 
 def recipe() -> str:
@@ -139,7 +165,7 @@ def main(words: Sequence[str]) -> None:
     program, folder = words
     build_all(ALL, os.path.join(folder, "built"))
     told = []
-    for name, way in (("adopted", adopted), ("looked", looked), ("proposed", proposed)):
+    for name, way in (("adopted", adopted), ("aptly", adopted_by_aptly), ("looked", looked), ("proposed", proposed)):
         os.makedirs(os.path.join(folder, name))
         told.append(way(program, os.path.join(folder, name)))
     print("\n".join(told))

@@ -8,7 +8,8 @@ tests/rows/reopened_rows.py is left out, and hints, long messages and mail behin
 hints`, `office report unstable` and `office order` have to tell over a store what the model tells, and the file has to
 stay as it is; the service has to tell the same on its pages, and all mail part by part. Messages are posted as mail of
 a sender that is drawn, and looked at without being kept: each reply, what is kept then and what the pages tell behind
-it have to be as the model has them. Hints are tried over all mail on a day. Exit status 0 where all was as it is due.
+it have to be as the model has them. Hints are tried over all mail on a day. Parts of a bag at their limit are stated, too.
+Exit status 0 where all was as it is due.
 """
 import os
 import random
@@ -21,7 +22,7 @@ sys.dont_write_bytecode = True
 HERE = os.path.dirname(os.path.abspath(__file__))
 sys.path[:0] = [HERE, os.path.join(HERE, "..", "rows")]
 import live_pages as live
-from drawn import drawn_wishes, more_mail, texts_of
+from drawn import drawn_wishes, more_mail, none, texts_of
 from model import Office, SENDERS, paragraphs
 from rows import mail
 from tries import CONF, Tries
@@ -72,6 +73,22 @@ ODD += [
 ODD += [("POST", "/mail/" + name, NO_ROUTE) for name in ("none", "", "FTP", "%66tp", "ftp/", "ftp/../rt")]
 ODD += [("GET", path, (405, "refused MethodNotAllowed\n")) for path in ("/mail/ftp", "/lint", "/try/2025-03-01")]
 ODD += [("POST", "/try/" + day, NO_ROUTE) for day in ("2025-02-30", "x", "20250301")]
+# Messages of a sender by number, and how many bytes each has: in a bag 11 more, or 8 for the last one. Number 7 isn't
+# kept. Then the parts of its bag by where they begin: how many bytes each has, and whose messages they are.
+SIZES = {1: 65536, 2: 65525, 3: 30000, 4: 35514, 5: 30000, 6: 35515, 8: 29998, 9: 60}
+PARTS = [
+    (1, 65547, [1]),  # the longest message stands alone, also if the part is over the limit with its line
+    (2, 65536, [2]),  # a message that is alone as long as a part
+    (3, 65536, [3, 4]),  # two that just fit
+    (4, 65536, [4, 5]),
+    (5, 30011, [5]),  # the next one has a byte too much
+    (6, 65535, [6, 8]),  # ends a byte below the limit, behind a gap
+    (7, 30077, [8, 9]),
+    (8, 30077, [8, 9]),
+    (9, 68, [9]),
+    (10, 0, []),
+    (999999999, 0, []),
+]
 
 
 def over_a_store(seed, office, store):
@@ -168,6 +185,31 @@ def one(seed, folder):
     by_service(seed, office, store, more[half:] + draw.sample(texts, min(3, len(texts))))
 
 
+def full_parts(folder):
+    """Parts of a bag at the limit of 65,536 bytes, whole, in memory and over a store; the model has them, too."""
+    texts, office, store = {number: none("bts", number, size) for number, size in SIZES.items()}, Office(), "full.store"
+    framed = {number: "mail %d\n%s" % (SIZES[number], text) for number, text in texts.items()}
+    for text in texts.values():
+        office.deliver(text)
+    stored = ["--db", os.path.join(folder, store)]
+    call("replay", "--conf", CONF, *stored, bag="".join(framed[number] for number in (9, 8, 6, 1, 2, 3, 4, 5)))
+    for words in [], stored:
+        posts = [] if words else texts.values()
+        with tries.serving(len(posts) + len(PARTS), *words) as service:
+            for text in posts:
+                want("a long message", 200, service.ask("POST", "/mail", text)[0])
+            for first, size, numbers in PARTS:
+                due = "".join(framed[number] for number in numbers)
+                code, part = service.ask("GET", "/bag/bts/%d" % first)
+                want("the part from %d, its bytes" % first, (200, size), (code, len(part)))
+                want("the part from %d, its messages" % first, (True, True), (part == due, part == parted(office, first)))
+
+
+def parted(office, first):
+    """The model's part of the bag of bug mail."""
+    return live.bag(office, SENDERS.index("bts"), first)
+
+
 def unknown_sources():
     """What is told of a source that neither a run nor unstable knows."""
     with open(
@@ -215,6 +257,7 @@ def main():
     with tempfile.TemporaryDirectory() as folder:
         looked_at(folder)
         unknown_sources()
+        full_parts(folder)
         for seed in tries.seeds("1-40"):
             one(seed, folder)
     tries.end()

@@ -3,6 +3,7 @@ import os
 import shutil
 import tempfile
 import unittest
+import unittest.mock
 
 from helpers import needs_office, tool
 from office_tools import setups
@@ -81,6 +82,7 @@ class Adopt(unittest.TestCase):
         self.assertIn("left alone: sources of which testing has no package, or packages that stay: idle 1",
                       told.stderr)
 
+    @needs_office
     def test_setup(self):
         self.assertEqual(self.adopt("--no-check", "--spare", "3").returncode, 0)
         setup = setups.read_setup(self.path("week/setup.conf"))
@@ -98,6 +100,39 @@ class Adopt(unittest.TestCase):
         self.assertEqual(told.returncode, 0, told.stdout + told.stderr)
         self.assertIn("goes with the first apply, for testing has another version: binary amd64 only-amd64 0.9",
                       told.stdout.splitlines())
+
+    @needs_office
+    def test_older_packages_of_all(self):
+        """They stay as long as what was built with them: here `three` of amd64."""
+        with open(self.path("Packages"), "a", encoding="utf-8") as file:
+            file.writelines(f"\nPackage: three-doc\nVersion: 1-{number}\nArchitecture: all\nSource: three\n"
+                            for number in (1, 2))
+        told = self.adopt()
+        self.assertEqual(told.returncode, 0, told.stdout + told.stderr)
+        self.assertEqual(told.stdout.splitlines()[2:], ["adopted: 6 sources, 8 packages; 0 wait, 0 refused"])
+        self.assertIn("left alone: older packages of all, with which packages that stay were built: three-doc 1-1",
+                      told.stderr)
+
+    def by(self, program):
+        """What the command does by another program in the place of office."""
+        with unittest.mock.patch.dict(os.environ, OFFICE=program):
+            return self.adopt()
+
+    @needs_office
+    def test_ended_by_force(self):
+        """Each file is there whole or not at all, and the next one makes both."""
+        with open(self.path("office"), "w", encoding="utf-8") as file:
+            file.write('#!/bin/sh\nkill -9 "$PPID"\n')
+        os.chmod(self.path("office"), 0o755)
+        self.assertEqual(self.by(self.path("office")).returncode, -9)
+        self.assertEqual(os.listdir(self.path("week")), ["setup.conf"])
+        self.assertEqual(self.adopt().returncode, 0)
+        self.assertEqual(sorted(os.listdir(self.path("week"))), ["bag", "setup.conf"])
+
+    def test_no_program(self):
+        told = self.by(self.path("none"))
+        self.assertEqual((told.returncode, told.stderr.splitlines()[-1]),
+                         (4, f"office-adopt: {self.path('none')}: No such file or directory"))
 
     def test_refusals(self):
         for words, status, cause in [(("--spare", "9"), 2, "invalid spares value"),

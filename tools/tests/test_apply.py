@@ -4,11 +4,13 @@ import os
 import shutil
 import tempfile
 import unittest
+import unittest.mock
 
 from helpers import tool
 from office_tools import reports
 from office_tools.apply import marks
 from office_tools.apply.contents import Contents, Indexes, Row, Source, difference, wanted
+from office_tools.apply.reprepro import Reprepro
 from office_tools.apply.turn import Turn
 from office_tools.faults import Fault
 
@@ -106,6 +108,54 @@ class Differences(unittest.TestCase):
             "missing: source lib 2.0-1", "missing: binary amd64 lib2 2.0-1", "too much: source gone 1",
             "too much: binary amd64 gone 1"])
 
+    OLD, NEW = Source("lag", "1-1"), Source("lag", "1-2")
+    LAGGING = row("lag", "1-1", "arm64", "arm64")
+
+    def lagging(self, place, told_under=NEW):
+        """A source that lags on arm64, its package of `all` in two versions, and one that the office has no more."""
+        old, new, gone = (row(name, version, "all", place) for name, version in (
+            ("lag-doc", "1-1"), ("lag-doc", "1-2"), ("lag-old", "1-1")))
+        have = Contents(frozenset({self.OLD, self.NEW}), frozenset({self.LAGGING, old, new, gone}), {
+            self.LAGGING: self.OLD, old: self.OLD, new: self.NEW, gone: self.OLD})
+        want = Contents(frozenset({self.NEW}), frozenset({self.LAGGING, new}),
+                        {self.LAGGING: told_under, new: self.NEW})
+        return want, have, old, new, gone
+
+    def test_older_packages_of_all_stay(self):
+        """As long as a package stays that was built with them, and the office has another version."""
+        want, have, old, _, gone = self.lagging("all")
+        found = difference(want, have)
+        self.assertEqual((found.older, found.idle, found.excess.rows), ([old], [self.OLD], {gone}))
+        rebuilt = Contents(want.sources, want.rows - {self.LAGGING}, want.built_of)
+        self.assertEqual(difference(rebuilt, have).excess.rows, {self.LAGGING, old, gone})
+        same = Contents(have.sources, have.rows, {**have.built_of, self.LAGGING: self.NEW})
+        self.assertEqual(difference(want, same).excess.rows, {old, gone})
+
+    def test_old_libraries_keep_no_packages_of_all(self):
+        """A package that stays under a made-up source has nothing of `all` with it."""
+        want, have, old, _, gone = self.lagging("all", Source("smooth-lag", "1-1"))
+        self.assertEqual(difference(want, have).excess.rows, {old, gone})
+
+    def test_packages_of_all_in_the_index_of_a_lagging_architecture(self):
+        """Where the older version is in that index alone, the newer one isn't missed there."""
+        want, have, old, new, gone = self.lagging("arm64")
+        have = Contents(have.sources, have.rows - {new}, have.built_of)
+        elsewhere = new._replace(place="amd64")
+        want = Contents(want.sources, want.rows | {elsewhere}, {**want.built_of, elsewhere: self.NEW})
+        found = difference(want, have)
+        self.assertEqual((found.older, found.missing.rows, found.excess.rows), ([old], {elsewhere}, {gone}))
+
+
+class Listed(unittest.TestCase):
+
+    def test_sources_of_several_architectures(self):
+        """As reprepro lists them: packages of one and of all."""
+        told = "source dsc lag 1-2 lag 1-2 any all\narm64 deb lag-doc 1-2 lag 1-2 all\n"
+        with unittest.mock.patch.object(Reprepro, "reprepro", return_value=told):
+            found = Reprepro("/nowhere", "ordered", "testing").testing()
+        doc, lag = row("lag-doc", "1-2", "all", "arm64"), Source("lag", "1-2")
+        self.assertEqual((found.sources, found.rows, found.built_of), ({lag}, {doc}, {doc: lag}))
+
 
 class Manager:
     """An archive in memory, which notes what is asked of it."""
@@ -171,6 +221,7 @@ class Turns(unittest.TestCase):
                 (Manager(self.OLD, self.OLD), self.TESTING, 3, []),
                 (Manager(self.OLD, self.NEW), "testing 1\n", 3, []),
                 (Manager(self.OLD, self.NEW), "testing 0\n", 3, []),
+                (Manager(self.OLD, self.NEW), self.TESTING.replace("amd64", "all"), 3, []),
                 (Manager(self.OLD, self.NEW, copies=False), self.TESTING, 4, ["copy"])]:
             with self.assertRaises(Fault) as refused:
                 self.turn(manager, text).apply()
@@ -213,6 +264,20 @@ class Command(unittest.TestCase):
         self.assertEqual((told.returncode, len(told.stdout.splitlines())), (0, 1))
         self.assertEqual(os.stat(path).st_ino, before.st_ino)
 
+    def test_heidi_over_indexes(self):
+        """dak's file sets the suite whole: what is left alone of it stands there too."""
+        path = os.path.join(self.folder, "HeidiResult")
+        sources = ("--sources", self.file("Sources", SOURCES + "Package: idle\nVersion: 1\n"))
+        packages = self.file("Packages", PACKAGES)
+        told = self.apply("heidi", *sources, path, packages)
+        self.assertEqual((told.returncode, told.stderr), (0, "office-apply: left alone: sources of which testing has "
+                                                             "no package, or packages that stay: idle 1\n"))
+        with open(path, encoding="utf-8") as file:
+            self.assertIn("idle 1 source\n", file.read())
+        self.assertEqual(self.apply("--dry-run", "heidi", *sources, path, packages).returncode, 0)
+        for words, status in [((*sources, path), 2), ((path, packages), 3)]:
+            self.assertEqual(self.apply("heidi", *words).returncode, status)
+
     def test_compare(self):
         sources = ("--sources", self.file("Sources", SOURCES))
         packages = self.file("Packages", PACKAGES)
@@ -234,6 +299,8 @@ class Command(unittest.TestCase):
         for words, status, cause in [
                 (("reprepro", self.folder, "ordered", "testing"), 3, "it is no archive of reprepro"),
                 (("heidi", self.file("odd", "a b\n")), 3, "it isn't PACKAGE VERSION ARCHITECTURE"),
+                (("heidi", self.file("more", "a 1 arm64\n")), 3, "testing has packages of arm64, and the office's has "
+                                                                 "none: the office has another setup"),
                 (("compare", self.folder), 3, "its indexes aren't those that its file Release states"),
                 (("compare", os.path.join(self.folder, "nothing")), 1, "No such file or directory"),
                 (("--url", "http://127.0.0.1:1", "heidi", "x"), 2, "exclude each other")]:

@@ -4,6 +4,7 @@ use Rattle.std.specs.Prelude.{◌≡◌, ◌⊎◌, ◌<◌, ◌==◌, ℕ, List
 use Rattle.office_core_facts.specs.Outcome.{testing_after, testing_text}
 use Rattle.office_core_facts.specs.OfficeState.{OfficeState}
 use Rattle.office_core_facts.specs.State.{reports_at}
+use Rattle.office_core.specs.Unbroken.{AreUnbroken}
 use Rattle.office_core_outcome.specs.declared.proposal.Proposal.{Proposal}
 use Rattle.office_core_queries.specs.NextOrder.{order_text}
 use Rattle.office_core_why.specs.UnstableText.{IsUnstableText}
@@ -38,9 +39,9 @@ pub record TellsMail (state : OfficeState) (text : List ℕ) : Type 0 where
 
 -- a text is the next order on a day
 pub record TellsOrder (state : OfficeState) (day : Date) (text : List ℕ) : Type 0 where
-  pub counts : List MailCount
-  pub counted : AreMailCounts state.kept (length state.setup.senders) counts
-  pub text_is : text ≡ order_text state.setup counts day
+  pub unbroken : ℕ → ℕ
+  pub are : AreUnbroken state.kept unbroken
+  pub text_is : text ≡ order_text state.setup unbroken day
 
 -- 0 where hints are proposed, or where so many sources were asked for and the run with the hints moves each of them; else 1
 abbrev pub status_of_proposal : ℕ → Proposal → ℕ

@@ -68,8 +68,8 @@ fn order_on<K: Keeper>(office: &mut Office<K>, day: Date) -> Result<Text, StoreF
     ensures text { Holds K.Keeper office.old office.new → IfOk result (λ text. TellsOrder (state_of K.Keeper office.old) day text) }
     ensures asks { Asks K.Keeper office.old office.new }
 {
-    let counts = mail_counts(office)?;
-    Ok(order_text(office.alloc(), office.setup(), &counts, day)?)
+    let unbroken = office.unbroken()?;
+    Ok(order_text(office.alloc(), office.setup(), &unbroken, day)?)
 }
 
 /// Prints each message that is kept, and gives the exit status. Where it fails, what was had before is printed.

@@ -9,3 +9,4 @@ pub mod LawFacts
 pub mod MigratedFacts
 pub mod OfficeFacts
 pub mod RunFacts
+pub mod UnbrokenFacts

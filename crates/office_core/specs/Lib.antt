@@ -6,3 +6,4 @@ pub mod Laws
 pub mod Migrated
 pub mod Preserves
 pub mod Together
+pub mod Unbroken

@@ -12,6 +12,7 @@ mod office;
 mod posting;
 pub mod runs;
 mod texts;
+mod unbroken;
 
 pub use gathering::Reply;
 pub use office::Office;

@@ -1,7 +1,7 @@
 //! The office: what it takes, finishes and reports.
 #![tactic(auto, using(office_core_orders::proofs::LastFacts::lasting))]
 
-ghost use Rattle.std.specs.Prelude.{is_none, is_ok, ◌≡◌, ◌+◌, ◌-◌, ◌≤◌, ◌<◌, ◌∷◌, [], None, IfOk, IfSome, OnOk, OnErr, length};
+ghost use Rattle.std.specs.Prelude.{is_none, is_ok, ◌≡◌, ◌+◌, ◌-◌, ◌≤◌, ◌<◌, ◌∷◌, [], None, IfOk, IfSome, OnOk, OnErr, length, slice_index};
 ghost use Rattle.std.specs.FinMap.{get};
 ghost use Rattle.std.specs.Option.{option_map};
 ghost use Rattle.testing_rules_laws.specs.Watched.{AllWatchedWork};
@@ -13,6 +13,7 @@ ghost use Rattle.office_core_orders.specs.Counted.{Counted, CountedDelivery};
 ghost use Rattle.office_core.specs.History.{Leads, deliveries, delivery, settling};
 ghost use Rattle.office_core.specs.Laws.{RunsStand};
 ghost use Rattle.office_core.specs.Together.{AreHeldHere, answers_to};
+ghost use Rattle.office_core.specs.Unbroken.{AreUnbroken};
 ghost use Rattle.office_core_orders.specs.StaysTrusted.{StaysTrusted};
 ghost use Rattle.office_core_facts.specs.Outcome.{testing_after, testing_text};
 ghost use Rattle.office_core_facts.specs.State.{IsSound, KeepsFacts, state_of, answer_to, AnswersDelivery, reports_at};
@@ -29,6 +30,7 @@ use crate::gathering::{Reply, keep_texts};
 use crate::posting::deliver;
 use crate::runs::settle;
 use crate::texts::kept_testing_text;
+use crate::unbroken::unbroken_counts;
 use deb_control::Text;
 use office_core_facts::covered::KnownFacts;
 use office_core_facts::message_cache::MessageCache;
@@ -434,6 +436,20 @@ impl<K: Keeper> Office<K> {
             &mut self.known,
             source,
         )
+    }
+
+    /// Up to which number each sender's mail is kept without a gap, in the setup's order, 0 where number 1 isn't kept. It fails
+    /// for want of memory or of the store alone.
+    pub fn unbroken(&mut self) -> Result<Vec<u32>, StoreFault>
+        ensures unbroken { K.is_trusted self.new → IsSound K.Keeper self.old → IfOk result (λ unbroken. AreUnbroken (K.content self.old).kept (slice_index unbroken.items)) }
+        ensures same { K.is_trusted self.new → K.content self.new ≡ K.content self.old }
+        ensures setup { K.setup self.new ≡ K.setup self.old }
+        ensures sound { K.is_trusted self.new → IsSound K.Keeper self.old → IsSound K.Keeper self.new }
+        ensures before { K.is_trusted self.new → K.is_trusted self.old }
+        ensures lasts { StaysTrusted K.Keeper self.old self.new (is_ok result) }
+        ensures counted { Counted (K.refusals self.old) (K.refusals self.new) result }
+    {
+        unbroken_counts(self.alloc, &self.setup, &mut self.keeper, &mut self.counts)
     }
 
     /// The least kept number of a sender from `from` on, or none. The sender is told by its place in the setup. It fails

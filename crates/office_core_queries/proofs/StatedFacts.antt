@@ -1,5 +1,5 @@
 -- What covers state, sender by sender.
-use Rattle.std.proofs.Common.{◌≡◌, ℕ, zero, suc, ◌+◌, ◌<◌, Bool, false, cond, ◌==◌, List, [], ◌∷◌, ◌++◌, slice_index, Option, Some, None, filter_map, sym, ap, ◌∙◌, refl, arith}
+use Rattle.std.proofs.Common.{◌≡◌, ℕ, zero, suc, ◌+◌, ◌<◌, Bool, false, cond, ◌==◌, List, [], ◌∷◌, ◌++◌, Option, Some, None, filter_map, sym, ap, ◌∙◌, refl, arith}
 use Rattle.std.specs.List.{cons_option, range_with_len}
 use Rattle.std.proofs.Math.Dec.{eqb-suc-zero}
 use Rattle.std.proofs.lemmas.Bool.{eq-eqb}
@@ -9,11 +9,11 @@ use Rattle.office_core_queries.specs.declared.covers.Stated.{Stated}
 use Rattle.office_core_queries.specs.Listing.{stated_at, stated_to}
 use Rattle.office_core_queries.proofs.LetterLists.{range_joined}
 
-pub stated_none : (covers : List ℕ) → [] ≡ stated_to covers 0
+pub stated_none : (covers : ℕ → ℕ) → [] ≡ stated_to covers 0
 unfolding stated_to
 stated_none covers = refl
 
-stated_next : (covers : List ℕ) (n : ℕ) → stated_to covers (n + 1) ≡ stated_to covers n ++ cons_option (stated_at covers n) []
+stated_next : (covers : ℕ → ℕ) (n : ℕ) → stated_to covers (n + 1) ≡ stated_to covers n ++ cons_option (stated_at covers n) []
 unfolding stated_to
 stated_next covers n =
     let e : 0 + n ≡ n = omega arith in
@@ -29,19 +29,19 @@ not_zero : (k : ℕ) → 0 < k → (k == 0) ≡ false
 not_zero zero h = absurd (omega (arith, h))
 not_zero (suc k) h = eqb-suc-zero k
 
-some_stated : (covers : List ℕ) (n k : ℕ) → k ≡ slice_index covers n → 0 < k → stated_to covers (n + 1) ≡ stated_to covers n ++ record { sender = n; number = k } ∷ []
+some_stated : (covers : ℕ → ℕ) (n k : ℕ) → k ≡ covers n → 0 < k → stated_to covers (n + 1) ≡ stated_to covers n ++ record { sender = n; number = k } ∷ []
 some_stated covers n k e some =
     stated_next covers n
     ∙ ap (λ m. stated_to covers n ++ cons_option (stated_by n m (m == 0)) []) (sym e)
     ∙ ap (λ b. stated_to covers n ++ cons_option (stated_by n k b) []) (not_zero k some)
 
-pub stated_found : (covers : List ℕ) (n : ℕ) (old new : List Stated) (x : Stated) → new ≡ old ++ x ∷ [] → old ≡ stated_to covers n → x.sender ≡ n → x.number ≡ slice_index covers n → 0 < x.number → new ≡ stated_to covers (n + 1)
+pub stated_found : (covers : ℕ → ℕ) (n : ℕ) (old new : List Stated) (x : Stated) → new ≡ old ++ x ∷ [] → old ≡ stated_to covers n → x.sender ≡ n → x.number ≡ covers n → 0 < x.number → new ≡ stated_to covers (n + 1)
 stated_found covers n old new x push so at e some =
     push ∙ ap (λ l. l ++ x ∷ []) so
     ∙ ap (λ (s : ℕ). stated_to covers n ++ record { sender = s; number = x.number } ∷ []) at
     ∙ sym (some_stated covers n x.number e some)
 
-pub stated_skipped : (covers : List ℕ) (n k : ℕ) → k ≡ slice_index covers n → k ≡ 0 → stated_to covers (n + 1) ≡ stated_to covers n
+pub stated_skipped : (covers : ℕ → ℕ) (n k : ℕ) → k ≡ covers n → k ≡ 0 → stated_to covers (n + 1) ≡ stated_to covers n
 stated_skipped covers n k e none =
     stated_next covers n
     ∙ ap (λ m. stated_to covers n ++ cons_option (stated_by n m (m == 0)) []) (sym e)

@@ -48,11 +48,11 @@ saying_words (item.Delays low medium high critical) = codes "delays " ++ decimal
 saying_words item.Nothing = codes "none"
 
 -- what covers state for a sender; a number of 0 states nothing
-abbrev pub stated_at : List ℕ → ℕ → Option Stated
-stated_at covers sender = if slice_index covers sender == 0 then None else Some (record { sender = sender; number = slice_index covers sender })
+abbrev pub stated_at : (ℕ → ℕ) → ℕ → Option Stated
+stated_at covers sender = if covers sender == 0 then None else Some (record { sender = sender; number = covers sender })
 
 -- what covers state for the first n senders, by sender
-unfoldable pub stated_to : List ℕ → ℕ → List Stated
+unfoldable pub stated_to : (ℕ → ℕ) → ℕ → List Stated
 stated_to covers n = filter_map (stated_at covers) (range_with_len 0 n)
 
 abbrev pub stated_words : Lists → Stated → List ℕ
@@ -64,7 +64,7 @@ listed_words setup [] = []
 listed_words setup (s ∷ ss) = 32 ∷ stated_words setup s ++ flat_map (λ t. codes ", " ++ stated_words setup t) ss
 
 abbrev pub order_words : Lists → RunOrder → List ℕ
-order_words setup order = codes "run " ++ date_text order.day ++ listed_words setup (stated_to order.covers (length setup.senders))
+order_words setup order = codes "run " ++ date_text order.day ++ listed_words setup (stated_to (slice_index order.covers) (length setup.senders))
 
 abbrev pub body_words : Lists → Body → List ℕ
 body_words setup (Saying said) = saying_words said

@@ -15,7 +15,7 @@ pub(crate) struct Stated {
 }
 
 /// The number that covers state for a sender, 0 where they have none.
-fn number_at(covers: &[u32], sender: usize) -> u32
+pub(crate) fn number_at(covers: &[u32], sender: usize) -> u32
     ensures { result ≡ slice_index covers.now sender }
 {
     covers.get(sender).copied().unwrap_or(0)
@@ -28,7 +28,7 @@ pub(crate) fn stated_covers(
     setup: &Setup,
     covers: &[u32],
 ) -> Result<Vec<Stated>, AllocError>
-    ensures { IfOk result (λ stated. stated.items ≡ stated_to covers.now (length setup.now.senders)) }
+    ensures { IfOk result (λ stated. stated.items ≡ stated_to (slice_index covers.now) (length setup.now.senders)) }
 {
     let mut stated = Vec::new(alloc);
     'senders: for sender in 0..setup.senders().len() {

@@ -1,14 +1,12 @@
 //! The message of the next order to run.
-ghost use Rattle.std.specs.Prelude.{◌≡◌, ◌+◌, ◌++◌, ◌∷◌, [], IfOk, OnOk, codes, decimal, string_bytes};
-ghost use Rattle.std.specs.List.{flat_map};
+ghost use Rattle.std.specs.Prelude.{◌≡◌, ◌==◌, ◌+◌, ◌++◌, ◌∷◌, [], IfOk, OnOk, codes, decimal, if◌then◌else◌, length, slice_index, string_bytes};
 ghost use Rattle.jiff.specs.Words.{date_text};
 ghost use Rattle.office_mail.specs.Runs.{runs};
 ghost use Rattle.office_core_orders.specs.Replies.{name_at};
-ghost use Rattle.office_core_queries.specs.Listing.{listed_words};
-ghost use Rattle.office_core_queries.specs.NextOrder.{order_text, stated_for, unbroken_of};
+ghost use Rattle.office_core_queries.specs.Listing.{listed_words, stated_to};
+ghost use Rattle.office_core_queries.specs.NextOrder.{order_cover, order_text};
 
-use crate::covers::{Stated, push_listed};
-use crate::mail::MailCount;
+use crate::covers::{Stated, number_at, push_listed};
 use deb_control::{NoMemory, Text};
 use jiff::civil;
 use jiff_core::civil::Date;
@@ -16,50 +14,40 @@ use office_core_orders::name_at;
 use office_mail::Setup;
 use std::alloc::{AllocError, Global};
 
-/// Up to which number a sender's mail is kept without a gap, by these counts.
-fn unbroken_of(counts: &[MailCount], sender: u32) -> u32
-    ensures { result ≡ unbroken_of counts.now sender }
+/// Up to which number the order covers a sender, by these numbers without a gap: it covers no order.
+fn order_cover(setup: &Setup, unbroken: &[u32], sender: usize) -> u32
+    ensures { result ≡ order_cover setup.now (slice_index unbroken.now) sender }
 {
-    match counts.get(sender as usize) {
-        Some(counted) => counted.unbroken,
-        None => 0,
+    if sender == setup.runs() as usize {
+        0
+    } else {
+        number_at(unbroken, sender)
     }
 }
 
-/// What an order over all mail without a gap states for a sender, if it states anything.
-fn push_counted(
-    stated: &mut Vec<Stated>,
-    setup: &Setup,
-    counted: &MailCount,
-) -> Result<(), AllocError>
-    ensures { OnOk result (stated.new.items ≡ stated.old.items ++ stated_for setup.now counted.now) }
-{
-    if counted.sender == setup.runs() || counted.unbroken == 0 {
-        return Ok(());
-    }
-    stated.push(Stated {
-        sender: counted.sender,
-        number: counted.unbroken,
-    })?;
-    Ok(())
-}
-
-/// What the order states for each sender.
-fn stated_of(alloc: Global, setup: &Setup, counts: &[MailCount]) -> Result<Vec<Stated>, AllocError>
-    ensures { IfOk result (λ stated. stated.items ≡ flat_map (stated_for setup.now) counts.now) }
+/// What the order states for each sender, by sender; a number of 0 states nothing.
+#[tactic(auto, unfolding(crate::specs::Listing::stated_to))]
+fn stated_order(alloc: Global, setup: &Setup, unbroken: &[u32]) -> Result<Vec<Stated>, AllocError>
+    ensures { IfOk result (λ stated. stated.items ≡ stated_to (order_cover setup.now (slice_index unbroken.now)) (length setup.now.senders)) }
 {
     let mut stated = Vec::new(alloc);
-    for counted in counts {
-        push_counted(&mut stated, setup, counted)?;
+    'senders: for sender in 0..setup.senders().len() {
+        let number = order_cover(setup, unbroken, sender);
+        if number > 0 {
+            stated.push(Stated {
+                sender: sender as u32,
+                number,
+            })?;
+        }
     }
     Ok(stated)
 }
 
 /// The number of the next order, behind those that are kept without a gap.
-fn next_number(setup: &Setup, counts: &[MailCount]) -> u64
-    ensures { result ≡ unbroken_of counts.now (runs setup.now) + 1 }
+fn next_number(setup: &Setup, unbroken: &[u32]) -> u64
+    ensures { result ≡ slice_index unbroken.now (runs setup.now) + 1 }
 {
-    unbroken_of(counts, setup.runs()) as u64 + 1
+    number_at(unbroken, setup.runs() as usize) as u64 + 1
 }
 
 /// The first lines of an order's message.
@@ -83,32 +71,32 @@ fn push_covers(
     alloc: Global,
     text: &mut String,
     setup: &Setup,
-    counts: &[MailCount],
+    unbroken: &[u32],
 ) -> Result<(), AllocError>
-    ensures { OnOk result (string_bytes text.new ≡ string_bytes text.old ++ codes "Covers:" ++ listed_words setup.now (flat_map (stated_for setup.now) counts.now) ++ 10 ∷ []) }
+    ensures { OnOk result (string_bytes text.new ≡ string_bytes text.old ++ codes "Covers:" ++ listed_words setup.now (stated_to (order_cover setup.now (slice_index unbroken.now)) (length setup.now.senders)) ++ 10 ∷ []) }
 {
-    let stated = stated_of(alloc, setup, counts)?;
+    let stated = stated_order(alloc, setup, unbroken)?;
     text.push_str("Covers:")?;
     push_listed(text, setup, &stated)?;
     text.push('\n')
 }
 
-/// The text of a message that orders the next run, by how much mail is kept of each sender: it covers all mail that is kept
-/// without a gap, its number comes behind the orders that are kept without a gap, and its day is this one. A sender of whom
-/// number 1 isn't kept isn't named.
+/// The text of a message that orders the next run, by up to which number each sender's mail is kept without a gap: it covers
+/// all of that, its number comes behind the orders that are so kept, and its day is this one. A sender of whom number 1
+/// isn't kept isn't named.
 ///
 /// It fails for want of memory alone.
 #[tactic(auto, unfolding(crate::specs::NextOrder::order_text))]
 pub fn order_text(
     alloc: Global,
     setup: &Setup,
-    counts: &[MailCount],
+    unbroken: &[u32],
     day: Date,
 ) -> Result<Text, NoMemory>
-    ensures { IfOk result (λ text. text ≡ order_text setup.now counts.now day) }
+    ensures { IfOk result (λ text. text ≡ order_text setup.now (slice_index unbroken.now) day) }
 {
-    let mut text = order_head(alloc, setup, next_number(setup, counts))?;
+    let mut text = order_head(alloc, setup, next_number(setup, unbroken))?;
     push_day(&mut text, day)?;
-    push_covers(alloc, &mut text, setup, counts)?;
+    push_covers(alloc, &mut text, setup, unbroken)?;
     Ok(Text::from_string(text))
 }

@@ -1,6 +1,6 @@
 //! Unstable in lines.
 
-ghost use Rattle.std.specs.Prelude.{◌≡◌, ◌++◌, IfOk, OnOk, string_bytes};
+ghost use Rattle.std.specs.Prelude.{◌≡◌, ◌++◌, ◌∷◌, [], IfOk, OnOk, string_bytes};
 ghost use Rattle.std.specs.List.{flat_map};
 ghost use Rattle.testing_rules_model.specs.Boxed.{unboxed};
 ghost use Rattle.testing_rules_model.specs.Covered.{Covered};
@@ -17,11 +17,21 @@ use testing_rules_facts::{Facts, built_rows};
 use testing_rules_items::Archs;
 use testing_rules_model::{LentRow, UploadIn};
 
+/// A word comes behind a text, and a space behind it.
+fn push_word(text: &mut String, word: &str) -> Result<(), AllocError>
+    ensures { OnOk result (string_bytes text.new ≡ string_bytes text.old ++ word.now ++ 32 ∷ []) }
+{
+    text.push_str(word)?;
+    text.push_str(" ")
+}
+
 fn push_source(text: &mut String, source: &UploadIn) -> Result<(), AllocError>
     ensures { OnOk result (string_bytes text.new ≡ string_bytes text.old ++ source_line (as_source source.now)) }
 {
-    let (name, version) = (source.source.as_str(), source.version.text());
-    writeln!(text, "source {name} {version}")
+    text.push_str("source ")?;
+    push_word(text, source.source.as_str())?;
+    text.push_str(source.version.text())?;
+    text.push_str("\n")
 }
 
 fn push_sources(text: &mut String, sources: &[Box<UploadIn>]) -> Result<(), AllocError>
@@ -38,9 +48,12 @@ fn push_row(text: &mut String, archs: &Archs, row: &LentRow) -> Result<(), Alloc
     ensures { OnOk result (string_bytes text.new ≡ string_bytes text.old ++ row_line archs.now (row_of row.now)) }
 {
     let binary = row.binary;
-    let (arch, name) = (archs.name(row.arch), binary.name.as_str());
-    let (version, source) = (binary.version.text(), binary.source.as_str());
-    writeln!(text, "binary {arch} {name} {version} {source}")
+    text.push_str("binary ")?;
+    push_word(text, archs.name(row.arch))?;
+    push_word(text, binary.name.as_str())?;
+    push_word(text, binary.version.text())?;
+    text.push_str(binary.source.as_str())?;
+    text.push_str("\n")
 }
 
 fn push_rows(text: &mut String, archs: &Archs, rows: &[LentRow]) -> Result<(), AllocError>

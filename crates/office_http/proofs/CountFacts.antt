@@ -1,6 +1,6 @@
--- The counts of kept mail are a function of it.
+-- The counts of kept mail are functions of it.
 use Rattle.std.proofs.Common.{◌≡◌, ◌≤◌, ◌<◌, ◌+◌, ◌-◌, ℕ, zero, suc, Bool, true, false, nat_eq, List, [], ◌∷◌, map, length, filter_map, is_some, Option, Some, None, Result, Ok, Err, IfOk, refl, sym, ap, ◌∙◌, arith}
-use Rattle.std.specs.Prelude.{IsSome, ◌==◌}
+use Rattle.std.specs.Prelude.{IsSome, ◌==◌, slice_index}
 use Rattle.std.proofs.lemmas.Bool.Decides.{nat_tests}
 use Rattle.std.specs.List.{AllByRecursion, range_with_len}
 use Rattle.std.specs.FinMap.{get}
@@ -8,10 +8,11 @@ use Rattle.office_mail.specs.Kept.{Kept}
 use Rattle.office_store_keeper.specs.declared.values.Letter.{Letter}
 use Rattle.office_store_keeper.specs.Content.{letter_at, letters_within}
 use Rattle.office_mail.specs.Lists.{Lists}
-use Rattle.office_core_orders.specs.Ready.{HasPlaces}
+use Rattle.office_core.specs.Unbroken.{AreUnbroken}
+use Rattle.office_core_orders.specs.Ready.{HasNumbers, HasPlaces}
 use Rattle.office_core_queries.specs.declared.mail.MailCount.{MailCount}
 use Rattle.office_core_queries.specs.Mail.{letters_of, AreMailCounts, IsMailCount}
-use Rattle.office_http.specs.Serve.{unbroken_from, mail_count, mail_counts}
+use Rattle.office_http.specs.Serve.{unbroken_from, unbroken_of, mail_count, mail_counts}
 
 module _ (kept : Kept) (sender : ℕ) where
   -- so many numbers of the sender from one on, as far as they are kept
@@ -65,17 +66,19 @@ module _ (setup : Lists) (kept : Kept) (places : HasPlaces setup kept) where
   within_is sender to = let n : to + 1 - 1 ≡ to = omega arith in ap (λ n. filter_map (letter_at kept sender) (range_with_len 1 n)) n
 
   -- no gap is told behind the greatest number that a message may have
-  bounded : (c : MailCount) → IsMailCount kept c → c.unbroken ≤ 0 + 999_999_999
-  bounded c is = go (nat_eq c.unbroken 0) refl
+  bounded : (sender u : ℕ) → HasNumbers kept sender u → u ≤ 0 + 999_999_999
+  bounded sender u each = go (nat_eq u 0) refl
     where
-      go : (b : Bool) → nat_eq c.unbroken 0 ≡ b → c.unbroken ≤ 0 + 999_999_999
+      go : (b : Bool) → nat_eq u 0 ≡ b → u ≤ 0 + 999_999_999
       go true none = grind (arith, nat_tests)
-      go false some = let low : 1 ≤ c.unbroken = grind (arith, nat_tests) in let p = places (c.sender, c.unbroken) (is.each c.unbroken low (omega arith)) in omega (arith, p.below)
+      go false some = let low : 1 ≤ u = grind (arith, nat_tests) in let p = places (sender, u) (each u low (omega arith)) in omega (arith, p.below)
+
+  unbroken_to : (sender u : ℕ) → HasNumbers kept sender u → get kept (sender, u + 1) ≡ None → unbroken_of kept sender ≡ u
+  unbroken_to sender u each gap = ap (unbroken_from 0) (within_is sender 999_999_999) ∙ unbroken_is kept sender 999_999_999 0 u (omega arith) (bounded sender u each) each gap
 
   count_is : (c : MailCount) → IsMailCount kept c → c ≡ mail_count kept c.sender
   count_is c is =
-      let unbroken : unbroken_from 0 (letters_of kept c.sender) ≡ c.unbroken =
-      ap (unbroken_from 0) (within_is c.sender 999_999_999) ∙ unbroken_is kept c.sender 999_999_999 0 c.unbroken (omega arith) (bounded c is) is.each is.gap in
+      let unbroken : unbroken_of kept c.sender ≡ c.unbroken = unbroken_to c.sender c.unbroken is.each is.gap in
       λ i. record { sender = c.sender; count = is.all i; unbroken = sym unbroken i; greatest = is.last i }
 
   each_is : (counts : List MailCount) → AllByRecursion (IsMailCount kept) counts → counts ≡ map (mail_count kept) (map (λ (c : MailCount). c.sender) counts)
@@ -88,3 +91,7 @@ module _ (setup : Lists) (kept : Kept) (places : HasPlaces setup kept) where
   pub counted_on : {V F : Type 0} (items : V → List MailCount) (result : Result V F) → IfOk result (λ v. AreMailCounts kept (length setup.senders) (items v)) → IfOk result (λ v. items v ≡ mail_counts setup kept)
   counted_on items (Ok v) are = counts_are (length setup.senders) (items v) are
   counted_on items (Err f) are = tt
+
+  pub unbroken_on : {V F : Type 0} (numbers : V → List ℕ) (result : Result V F) → IfOk result (λ v. AreUnbroken kept (slice_index (numbers v))) → IfOk result (λ v. slice_index (numbers v) ≡ unbroken_of kept)
+  unbroken_on numbers (Ok v) are = λ i s. sym (unbroken_to s (slice_index (numbers v) s) (are.each s).each (are.each s).gap) i
+  unbroken_on numbers (Err f) are = tt

@@ -59,7 +59,7 @@ use Rattle.office_core_outcome.specs.Trial.{IsTrial}
 use Rattle.office_core_outcome.specs.declared.proposal.Proposal.{Proposal}
 use Rattle.office_core_outcome.specs.declared.Trial.TheVariants.{NoDate}
 use Rattle.office_core_outcome.specs.declared.TrialOptions.{TrialOptions}
-use Rattle.office_http.specs.Serve.{mail_counts, page_answer, action_answer, is_of_other, unless_other, if_known, proposal_answer, refusal_for, report_answer, why_answer, letter_answer, delivery_answer, by_fault, posted_body, post_answer, answer_of, waits_of, continued, kept_by, settles, Does, Exchange, Found, IsFoundBy, IsFoundByPost, IsFoundFor, IsProposedFor, IsUnread, IsServed, Moves, Replied, RepliedFront, Serves, IsAwaited, StopsBefore, StopsServe}
+use Rattle.office_http.specs.Serve.{mail_counts, unbroken_of, page_answer, action_answer, is_of_other, unless_other, if_known, proposal_answer, refusal_for, report_answer, why_answer, letter_answer, delivery_answer, by_fault, posted_body, post_answer, answer_of, waits_of, continued, kept_by, settles, Does, Exchange, Found, IsFoundBy, IsFoundByPost, IsFoundFor, IsProposedFor, IsUnread, IsServed, Moves, Replied, RepliedFront, Serves, IsAwaited, StopsBefore, StopsServe}
 use Rattle.office_core_why.specs.Hints.{IsHintsText}
 use Rattle.office_core_why.specs.UnstableText.{IsUnstableText}
 use Rattle.office_core_why.specs.Why.{IsWhy}
@@ -126,8 +126,8 @@ told_letter rose s sender number (Ok t) is err = record { fault = None; by_store
 told_letter rose s sender number (Err fault.NoMemory) is err = told_missed rose s (page.Letter sender number) fault.NoMemory tt
 told_letter rose s sender number (Err fault.Store) is err = told_missed rose s (page.Letter sender number) fault.Store (err refl)
 
-pub told_order : (rose : Type 0) (s : OfficeState) (day : Date) (r : Result (List ℕ) StoreFault) → IfOk r (λ t. t ≡ order_text s.setup (mail_counts s.setup s.kept) day) → (r ≡ Err fault.Store → rose) → Tells s (page.Order day) (text_answer r) rose
-told_order rose s day r is err = told_page rose s (page.Order day) (order_text s.setup (mail_counts s.setup s.kept) day) r tt refl is err
+pub told_order : (rose : Type 0) (s : OfficeState) (day : Date) (r : Result (List ℕ) StoreFault) → IfOk r (λ t. t ≡ order_text s.setup (unbroken_of s.kept) day) → (r ≡ Err fault.Store → rose) → Tells s (page.Order day) (text_answer r) rose
+told_order rose s day r is err = told_page rose s (page.Order day) (order_text s.setup (unbroken_of s.kept) day) r tt refl is err
 
 pub told_bag : (rose : Type 0) (s : OfficeState) (sender from : ℕ) (r : Result (List ℕ) StoreFault) → IfOk r (λ t. t ≡ bag_part s.kept sender from) → (r ≡ Err fault.Store → rose) → Tells s (page.Bag sender from) (part_answer r) rose
 told_bag rose s sender from (Ok t) is err = record { fault = None; by_store = tt; found = nothing; is = λ e. tt; answer_is = ap Letter is }

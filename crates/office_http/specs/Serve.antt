@@ -119,12 +119,16 @@ abbrev pub unbroken_from : ℕ → List KeptLetter → ℕ
 unbroken_from last [] = last
 unbroken_from last (letter ∷ letters) = if letter.number == last + 1 then unbroken_from (last + 1) letters else last
 
+-- up to which number a sender's mail is kept without a gap
+abbrev pub unbroken_of : Kept → ℕ → ℕ
+unbroken_of kept sender = unbroken_from 0 (letters_of kept sender)
+
 -- what is counted of a sender's kept mail, and of that of each sender, in the setup's order
 abbrev pub mail_count : Kept → ℕ → MailCount
 mail_count kept sender = record {
   sender = sender;
   count = length (letters_of kept sender);
-  unbroken = unbroken_from 0 (letters_of kept sender);
+  unbroken = unbroken_of kept sender;
   greatest = greatest (map (λ (letter : KeptLetter). letter.number) (letters_of kept sender));
 }
 
@@ -163,7 +167,7 @@ page_answer s found page.Kept = Told (mail_text s.setup (mail_counts s.setup s.k
 page_answer s found (page.Letter sender number) = letter_answer (Ok (get s.kept (sender, number)))
 page_answer s found (page.Bag sender from) = Letter (bag_part s.kept sender from)
 page_answer s found (page.Why source) = why_answer (Ok found.why)
-page_answer s found (page.Order day) = Told (order_text s.setup (mail_counts s.setup s.kept) day)
+page_answer s found (page.Order day) = Told (order_text s.setup (unbroken_of s.kept) day)
 page_answer s found page.Hints = Told (hints_text s.setup s.finished (cover s.setup s.kept s.finished) found.seen (testing_after s.setup s.kept s.finished))
 page_answer s found page.Unstable = Told (unstable_text s.setup.archs s.finished found.seen)
 page_answer s found page.Propose = proposal_answer found.proposal

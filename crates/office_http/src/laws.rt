@@ -5,3 +5,4 @@ pub use office_core::laws::{
     same_texts, steps_follow,
 };
 pub use office_core_replay::replay_laws::{blocks_are_no_other, replays_are_steps};
+pub use office_http_requests::laws::old_requests_stay;

@@ -1,5 +1,5 @@
 //! One connection of the service: a request, and its reply (RFC 9110, RFC 9112).
-ghost use Rattle.std.specs.Prelude.{◌≡◌, true, false, ◌⊎◌, ◌≤◌, ◌<◌, ◌+◌, ◌++◌, ◌∷◌, ℕ, List, [], Option, Some, None, IfOk, IfErr, IfSome, OnOk, OnErr, length, drop, if◌then◌else◌};
+ghost use Rattle.std.specs.Prelude.{◌≡◌, true, false, ◌⊎◌, ◌≤◌, ◌<◌, ◌+◌, ◌++◌, ◌∷◌, ℕ, List, [], Option, Some, None, IfOk, IfErr, IfSome, OnOk, OnErr, length, drop, if◌then◌else◌, slice_index};
 ghost use Rattle.std.specs.Io.KnownBytes.{Appends};
 ghost use Rattle.httparse.specs.Grammar.{RequestHead};
 ghost use Rattle.httparse.specs.Spans.{IsRequestAt};
@@ -14,7 +14,7 @@ ghost use Rattle.office_core.specs.Laws.{RunsStand};
 ghost use Rattle.office_http_requests.specs.Reply.{continue_bytes, refused, reply_bytes, HasPlace};
 ghost use Rattle.office_http_requests.specs.Request.{body_room, head_room};
 ghost use Rattle.office_http_requests.specs.RequestSteps.{IsHeadAt};
-ghost use Rattle.office_http.specs.Serve.{if_known, mail_counts, refusal_for, report_answer, why_answer, letter_answer, delivery_answer, is_of_other, waits_of, Does, StopsBefore, Serves, StopsServe};
+ghost use Rattle.office_http.specs.Serve.{if_known, mail_counts, unbroken_of, refusal_for, report_answer, why_answer, letter_answer, delivery_answer, is_of_other, waits_of, Does, StopsBefore, Serves, StopsServe};
 ghost use Rattle.office_core_why.specs.Why.{IsWhy};
 ghost use Rattle.office_http.specs.ServeSteps.{answer_or, part_answer, status_answer, text_answer, Tells, TellsAwaited, Runs, Answers, StopsRequest, ServesHead};
 ghost use Rattle.office_http.specs.Trials.{terms_of};
@@ -208,14 +208,23 @@ fn counted_text<K: Keeper>(office: &mut Office<K>) -> Result<Text, StoreFault>
     Ok(mail_text(office.alloc(), office.setup(), &counts)?)
 }
 
+/// Up to which number each sender's mail is kept without a gap.
+fn unbroken_mail<K: Keeper>(office: &mut Office<K>) -> Result<Vec<u32>, StoreFault>
+    ensures asks { Asks K.Keeper office.old office.new }
+    ensures unbroken { Holds K.Keeper office.old office.new → IfOk result (λ unbroken. slice_index unbroken.items ≡ unbroken_of (K.content office.old).kept) }
+    ensures counted { Counted (K.refusals office.old) (K.refusals office.new) result }
+{
+    office.unbroken()
+}
+
 /// The text of the next order, on a day, over all mail without a gap.
 fn order_on<K: Keeper>(office: &mut Office<K>, day: Date) -> Result<Text, StoreFault>
     ensures asks { Asks K.Keeper office.old office.new }
-    ensures text { Holds K.Keeper office.old office.new → IfOk result (λ text. text ≡ order_text (K.setup office.old) (mail_counts (K.setup office.old) (K.content office.old).kept) day) }
+    ensures text { Holds K.Keeper office.old office.new → IfOk result (λ text. text ≡ order_text (K.setup office.old) (unbroken_of (K.content office.old).kept) day) }
     ensures counted { Counted (K.refusals office.old) (K.refusals office.new) result }
 {
-    let counts = counted_mail(office)?;
-    Ok(order_text(office.alloc(), office.setup(), &counts, day)?)
+    let unbroken = unbroken_mail(office)?;
+    Ok(order_text(office.alloc(), office.setup(), &unbroken, day)?)
 }
 
 /// What is told of a source by the last finished run, none where no run is finished.

@@ -83,7 +83,7 @@ def checked(setup: str, bag: bytes, have: Contents) -> int:
     testing = reports.read_testing(told[place:], f"{program.name()} replay")
     want = wanted(testing, sorted({row.architecture for row in have.rows}), Indexes.ONCE)
     if not have.sources:
-        want = Contents(have.sources, want.rows)
+        want = Contents(have.sources, want.rows, want.built_of)
     found = difference(want, have)
     beside = [line for line in found.excess.lines() if is_beside(line, want)]
     for line in beside:

@@ -40,16 +40,21 @@ class Aptly:
         release = os.path.join(self.folder(), "Release")
         if not os.path.exists(release):
             raise Fault(f"{release}: {self.testing_name} isn't published yet: aptly publish repo does it once", REFUSED)
+        for name in (self.origin_name, self.testing_name):
+            self.shown(name)
         found = re.search(r"^Architectures:(.*)$", read_bytes(release).decode(), re.MULTILINE)
         return sorted(set(found[1].split() if found else []) - {"source", "all"})
 
-    def listed(self, repository: str) -> Contents:
-        """What a repository has."""
+    def shown(self, repository: str) -> str:
+        """What aptly tells of a repository; one that isn't there is refused."""
         try:
-            shown = self.aptly("repo", "show", repository)
+            return self.aptly("repo", "show", repository)
         except Fault as fault:
             raise Fault(fault.cause, REFUSED) from fault
-        if re.search(r"^Number of packages: 0$", shown, re.MULTILINE):
+
+    def listed(self, repository: str) -> Contents:
+        """What a repository has."""
+        if re.search(r"^Number of packages: 0$", self.shown(repository), re.MULTILINE):
             return Contents()
         sources: set[Source] = set()
         built_of: dict[Row, Source] = {}

@@ -8,7 +8,7 @@ from office_tools import faults, reports
 from office_tools.accounts import service_at
 from office_tools.apply import heidi, marks
 from office_tools.apply.aptly import Aptly
-from office_tools.apply.contents import ALL, REFUSED, Contents, Indexes, difference, wanted
+from office_tools.apply.contents import ALL, REFUSED, Contents, Indexes, check_taken, difference, wanted
 from office_tools.apply.managers import Manager, locked
 from office_tools.apply.published import is_whole, raw_sections, read_folder, read_indexes, read_release
 from office_tools.apply.reprepro import Reprepro
@@ -47,7 +47,11 @@ def parser() -> argparse.ArgumentParser:
     part.add_argument("--publish", action="append", default=[], metavar="WORD",
                       help="a word for aptly publish update, such as --publish=-skip-signing; may be repeated")
     part = managers.add_parser("heidi", help="a file HeidiResult, for dak control-suite --set testing")
+    part.add_argument("--sources", action="append", default=[], metavar="SOURCES", help="a file Sources of testing")
     part.add_argument("file", metavar="FILE", help="where it is written")
+    part.add_argument("packages", metavar="PACKAGES", nargs="*",
+                      help="a file Packages of testing, or its folder dists/SUITE alone: what is left alone there "
+                           "stands in FILE, too")
     part = managers.add_parser("select", help="prints those paragraphs of files Packages that testing has")
     part.add_argument("architecture", metavar="ARCHITECTURE", help="of this architecture and of all")
     part.add_argument("packages", metavar="PACKAGES", nargs="+", help="a file Packages")
@@ -75,12 +79,21 @@ def testing_of(url: Optional[str], path: Optional[str]) -> reports.Testing:
         raise Fault(f"{path}: it is no text in UTF-8") from fault
 
 
-def to_heidi(testing: reports.Testing, path: str, is_dry: bool) -> int:
-    """Writes the file where it isn't what the office wants, and prints what changes."""
+def to_heidi(testing: reports.Testing, path: str, published: Optional[Contents], is_dry: bool) -> int:
+    """Writes the file where it isn't what the office wants, and prints what changes.
+
+    The file sets the suite whole, so what is left alone of the published indexes stands in it, too.
+    """
     architectures = sorted({row.architecture for row in testing.rows})
     want, have = wanted(testing, architectures, Indexes.ONCE), heidi.read(path)
-    if want.is_empty and not have.is_empty:
-        raise Fault("the office's testing is empty, and the file isn't: it stays as it is", REFUSED)
+    check_taken(want, have)
+    if published is not None:
+        if not published.sources:
+            raise Fault("no file Sources is there: what is left alone would leave the suite", REFUSED)
+        check_taken(want, published)
+        found = difference(want, published)
+        tell_idle(found, tell)
+        want = Contents(want.sources | set(found.idle), want.rows | set(found.older))
     come, go = want.without(have), have.without(want)
     is_same = come.is_empty and go.is_empty and os.path.exists(path)
     if not is_dry and not is_same:
@@ -98,7 +111,7 @@ def compared(testing: reports.Testing, packages: Sequence[str], sources: Sequenc
     want = wanted(testing, architectures, Indexes.ONCE)
     if not have.sources:
         tell("no sources are compared: no file Sources is there")
-        want = Contents(have.sources, want.rows)
+        want = Contents(have.sources, want.rows, want.built_of)
     found = difference(want, have)
     tell_idle(found, tell)
     for line in found.lines():
@@ -139,9 +152,12 @@ def main(words: Sequence[str]) -> int:
     asked = known.parse_args(words)
     if asked.url and asked.testing:
         known.error("--url and --testing exclude each other")
+    if asked.manager == "heidi" and asked.sources and not asked.packages:
+        known.error("name files Packages, too")
     testing = testing_of(asked.url, asked.testing)
     if asked.manager == "heidi":
-        return to_heidi(testing, asked.file, asked.dry_run)
+        published = indexes_of(asked.packages, asked.sources) if asked.packages else None
+        return to_heidi(testing, asked.file, published, asked.dry_run)
     if asked.manager == "select":
         return select(testing, asked.architecture, asked.packages)
     if asked.manager == "compare":

@@ -3,7 +3,7 @@ import enum
 from dataclasses import dataclass, field
 from typing import Iterator, Mapping, NamedTuple, Sequence
 
-from office_tools import reports
+from office_tools import reports, versions
 from office_tools.apply import marks
 from office_tools.faults import Fault
 
@@ -29,7 +29,10 @@ class Row(NamedTuple):
 
 @dataclass(frozen=True)
 class Contents:
-    """The sources and the binary packages of a suite, and the source that each of these is built of, where known."""
+    """The sources and the binary packages of a suite, and the source that each of these is of, where known.
+
+    In an archive that is the source that it was built of, in the office's testing the one that it is told under.
+    """
 
     sources: frozenset[Source] = frozenset()
     rows: frozenset[Row] = frozenset()
@@ -67,11 +70,11 @@ def wanted(testing: reports.Testing, architectures: Sequence[str], indexes: Inde
     strange = sorted({row.architecture for row in testing.rows} - {*architectures, ALL})
     if strange:
         raise Fault(f"the suite has no architecture {', '.join(strange)}: the office has another setup", REFUSED)
-    rows = {Row(place, row.architecture, row.package, marks.package_version(row.version))
-            for row in testing.rows for place in places(row.architecture, architectures, indexes)}
-    sources = {Source(name, marks.source_version(version)) for name, version in testing.sources.items()
-               if not marks.is_made_up(name)}
-    return Contents(frozenset(sources), frozenset(rows))
+    sources = {name: Source(name, marks.source_version(version)) for name, version in testing.sources.items()}
+    told_under = {Row(place, row.architecture, row.package, marks.package_version(row.version)): sources[row.source]
+                  for row in testing.rows for place in places(row.architecture, architectures, indexes)}
+    real = {source for source in sources.values() if not marks.is_made_up(source.name)}
+    return Contents(frozenset(real), frozenset(told_under), told_under)
 
 
 def places(architecture: str, architectures: Sequence[str], indexes: Indexes) -> Sequence[str]:
@@ -85,12 +88,14 @@ class Difference:
 
     `idle` are sources of the suite that the office doesn't want and that are left alone all the same. Of the one sort
     the suite has no binary package: they build nothing on the office's architectures, so it can't decide about them. Of
-    the other sort packages stay that the office wants, as old libraries do.
+    the other sort packages stay that the office wants, as old libraries do. `older` are packages of `all` that are left
+    alone, too.
     """
 
     missing: Contents
     excess: Contents
     idle: Sequence[Source]
+    older: Sequence[Row]
 
     @property
     def is_empty(self) -> bool:
@@ -105,8 +110,39 @@ class Difference:
 
 def difference(want: Contents, have: Contents) -> Difference:
     """How a suite differs from what the office wants."""
-    excess = have.without(want)
+    missing, excess = want.without(have), have.without(want)
     building = set(have.built_of.values())
     needed = {source for row, source in have.built_of.items() if row in want.rows}
     idle = sorted(source for source in excess.sources if source not in building or source in needed)
-    return Difference(want.without(have), Contents(excess.sources - set(idle), excess.rows), idle)
+    older = sorted(older_of_all(want, have, excess.rows))
+    lagging = {(row.place, row.name) for row in older if row.place != ALL}
+    lacking = frozenset(row for row in missing.rows if row.architecture != ALL or (row.place, row.name) not in lagging)
+    return Difference(Contents(missing.sources, lacking),
+                      Contents(excess.sources - set(idle), excess.rows - set(older)), idle, older)
+
+
+def check_taken(want: Contents, have: Contents) -> None:
+    """Refuses to take out all that a suite has, or all that it has of an architecture."""
+    if want.is_empty and not have.is_empty:
+        raise Fault("the office's testing is empty, and the archive's isn't: nothing is taken out", REFUSED)
+    lost = {row.architecture for row in have.rows} - {row.architecture for row in want.rows} - {ALL}
+    if lost:
+        raise Fault(f"testing has packages of {', '.join(sorted(lost))}, and the office's has none: the office has "
+                    "another setup", REFUSED)
+
+
+def older_of_all(want: Contents, have: Contents, rows: frozenset[Row]) -> Iterator[Row]:
+    """Those of these packages of `all` that stay: an architecture on which their source lags has them.
+
+    There a package stays that was built of the same version of the source, and which the office has under a newer one.
+    Of the package of `all` itself the office has another version. Where it is in an index of that architecture alone,
+    the other version isn't missed there.
+    """
+    lagging: set[tuple[str, Source]] = set()
+    for row, built in have.built_of.items():
+        told = want.built_of.get(row) if row in want.rows else None
+        if told and told.name == built.name and versions.compare(told.version, built.version) > 0:
+            lagging.update(((row.place, built), (ALL, built)))
+    names = {(row.place, row.name) for row in want.rows}
+    return (row for row in rows if row.architecture == ALL and (row.place, row.name) in names
+            and (row.place, have.built_of.get(row)) in lagging)

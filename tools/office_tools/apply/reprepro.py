@@ -7,7 +7,7 @@ from office_tools.apply.managers import parts, run
 from office_tools.apply.published import shows
 from office_tools.faults import Fault
 
-LIST = r"${$architecture} ${$type} ${package} ${version} ${architecture} ${$source} ${$sourceversion}\n"
+LIST = r"${$architecture} ${$type} ${package} ${version} ${$source} ${$sourceversion} ${architecture}\n"
 PUBLISH_LATER = ("--export=silent-never", "--keepunreferencedfiles")
 """Nothing is published before all is done, and no file goes that clients may still ask for."""
 
@@ -46,7 +46,8 @@ class Reprepro:
         sources: set[Source] = set()
         built_of: dict[Row, Source] = {}
         for line in self.reprepro("--list-format", LIST, "list", suite).splitlines():
-            place, kind, name, version, architecture, source, source_version = line.split(" ")
+            # A source may have several architectures, as `any all`.
+            place, kind, name, version, source, source_version, architecture = line.split(" ", 6)
             if kind == "dsc":
                 sources.add(Source(name, version))
             elif kind == "deb":

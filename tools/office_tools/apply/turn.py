@@ -3,11 +3,11 @@ from dataclasses import dataclass
 from typing import Callable
 
 from office_tools import reports
-from office_tools.apply.contents import REFUSED, Contents, Difference, difference, wanted
+from office_tools.apply.contents import REFUSED, Contents, Difference, check_taken, difference, wanted
 from office_tools.apply.managers import UNANSWERED, Manager
 from office_tools.faults import Fault
 
-SHOWN = 10  # names of sources that are left alone
+SHOWN = 10  # names of what is left alone
 
 
 @dataclass(frozen=True)
@@ -71,8 +71,7 @@ class Turn:
 
     def difference(self, want: Contents, have: Contents) -> Difference:
         """How testing differs; the sources that are left alone are told."""
-        if want.is_empty and not have.is_empty:
-            raise Fault("the office's testing is empty, and the archive's isn't: nothing is taken out", REFUSED)
+        check_taken(want, have)
         found = difference(want, have)
         tell_idle(found, self.tell)
         return found
@@ -95,11 +94,14 @@ class Turn:
 
 
 def tell_idle(found: Difference, tell: Callable[[str], None]) -> None:
-    """Tells which sources are left alone."""
-    if found.idle:
-        names = ", ".join(f"{source.name} {source.version}" for source in found.idle[:SHOWN])
-        more = f" and {len(found.idle) - SHOWN} more" if len(found.idle) > SHOWN else ""
-        tell(f"left alone: sources of which testing has no package, or packages that stay: {names}{more}")
+    """Tells what is left alone."""
+    older = dict.fromkeys((row.name, row.version) for row in found.older)
+    for what, names in (("sources of which testing has no package, or packages that stay", found.idle),
+                        ("older packages of all, with which packages that stay were built", list(older))):
+        if names:
+            shown = ", ".join(" ".join(name) for name in names[:SHOWN])
+            more = f" and {len(names) - SHOWN} more" if len(names) > SHOWN else ""
+            tell(f"left alone: {what}: {shown}{more}")
 
 
 def counts(contents: Contents) -> str:

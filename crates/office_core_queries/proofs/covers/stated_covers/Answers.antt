@@ -1,11 +1,11 @@
-use Rattle.std.proofs.Common.{◌<◌, length, ap, ◌∙◌, sym, arith}
+use Rattle.std.proofs.Common.{◌<◌, ℕ, slice_index, length, ap, ◌∙◌, sym, arith}
 use Rattle.office_core_queries.proofs.StatedFacts.{stated_found, stated_skipped}
 use Rattle.office_core_queries.proofs.covers.stated_covers.Goals as goal
 use Rattle.office_core_queries.proofs.covers.stated_covers.Goals.{then-number-gt0+in_ok-push, else-number-gt0}
 
 pub senders-preserved : goal.senders-preserved
 senders-preserved c =
-    let covers = c.args.covers.now in
+    let covers : ℕ → ℕ = slice_index c.args.covers.now in
     let n = c.senders.sender in
     let all = ap length c.senders-sender-end.ensures.same in
     let lt : n < length c.args.setup.now.senders = omega (arith, c.senders-test.true, all) in

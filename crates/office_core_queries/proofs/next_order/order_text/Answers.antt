@@ -1,14 +1,12 @@
-use Rattle.std.proofs.Common.{◌≡◌, ◌+◌, ◌++◌, ◌∷◌, [], ℕ, List, codes, decimal, ap, ◌∙◌}
-use Rattle.std.specs.List.{flat_map}
+use Rattle.std.proofs.Common.{◌≡◌, ◌+◌, ◌++◌, ◌∷◌, [], ℕ, List, codes, decimal, length, slice_index, ap, ◌∙◌}
 use Rattle.std.proofs.lemmas.List.{append_assoc}
 use Rattle.jiff_core.specs.declared.civil.date.Date.{Date}
 use Rattle.jiff.specs.Words.{date_text}
 use Rattle.office_mail.specs.Lists.{Lists}
 use Rattle.office_mail.specs.Runs.{runs}
 use Rattle.office_core_orders.specs.Replies.{name_at}
-use Rattle.office_core_queries.specs.declared.mail.MailCount.{MailCount}
-use Rattle.office_core_queries.specs.Listing.{listed_words}
-use Rattle.office_core_queries.specs.NextOrder.{order_text, stated_for, unbroken_of}
+use Rattle.office_core_queries.specs.Listing.{listed_words, stated_to}
+use Rattle.office_core_queries.specs.NextOrder.{order_cover, order_text}
 use Rattle.office_core_queries.proofs.next_order.order_text.Goals as goal
 
 -- three lines one behind the other, each with its end
@@ -23,12 +21,12 @@ lines x head day text dated date covered listed one two three =
 abbrev head_of : Lists → ℕ → List ℕ
 head_of setup number = codes "From: " ++ name_at setup (runs setup) ++ 10 ∷ codes "Number: " ++ decimal number ++ 10 ∷ codes "Kind: run"
 
-ordered : (setup : Lists) (counts : List MailCount) (day : Date) (number : ℕ) (head dated text : List ℕ) → number ≡ unbroken_of counts (runs setup) + 1 → head ≡ head_of setup number ++ 10 ∷ [] → dated ≡ head ++ codes "Day: " ++ date_text day ++ 10 ∷ []
-    → text ≡ dated ++ codes "Covers:" ++ listed_words setup (flat_map (stated_for setup) counts) ++ 10 ∷ [] → text ≡ order_text setup counts day
+ordered : (setup : Lists) (unbroken : ℕ → ℕ) (day : Date) (number : ℕ) (head dated text : List ℕ) → number ≡ unbroken (runs setup) + 1 → head ≡ head_of setup number ++ 10 ∷ [] → dated ≡ head ++ codes "Day: " ++ date_text day ++ 10 ∷ []
+    → text ≡ dated ++ codes "Covers:" ++ listed_words setup (stated_to (order_cover setup unbroken) (length setup.senders)) ++ 10 ∷ [] → text ≡ order_text setup unbroken day
 unfolding order_text
-ordered setup counts day number head dated text next one two three =
-    lines (head_of setup (unbroken_of counts (runs setup) + 1)) head dated text (codes "Day: ") (date_text day) (codes "Covers:") (listed_words setup (flat_map (stated_for setup) counts))
+ordered setup unbroken day number head dated text next one two three =
+    lines (head_of setup (unbroken (runs setup) + 1)) head dated text (codes "Day: ") (date_text day) (codes "Covers:") (listed_words setup (stated_to (order_cover setup unbroken) (length setup.senders)))
     (one ∙ ap (λ (n : ℕ). head_of setup n ++ 10 ∷ []) next) two three
 
 pub returns : goal.returns
-returns c = c.from_string.ensures ∙ ordered c.args.setup.now c.args.counts.now c.args.day c.next_number.result _ _ _ c.next_number.ensures c.in_ok-text.ensures c.in_ok-push_day.ensures c.in_ok-push_covers.ensures
+returns c = c.from_string.ensures ∙ ordered c.args.setup.now (slice_index c.args.unbroken.now) c.args.day c.next_number.result _ _ _ c.next_number.ensures c.in_ok-text.ensures c.in_ok-push_day.ensures c.in_ok-push_covers.ensures

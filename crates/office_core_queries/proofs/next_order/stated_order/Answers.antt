@@ -1,0 +1,19 @@
+use Rattle.std.proofs.Common.{◌<◌, ℕ, slice_index, length, ap, ◌∙◌, sym, arith}
+use Rattle.office_core_queries.specs.NextOrder.{order_cover}
+use Rattle.office_core_queries.proofs.StatedFacts.{stated_found, stated_skipped}
+use Rattle.office_core_queries.proofs.next_order.stated_order.Goals as goal
+use Rattle.office_core_queries.proofs.next_order.stated_order.Goals.{then-number-gt0+in_ok-push, else-number-gt0}
+
+pub senders-preserved : goal.senders-preserved
+senders-preserved c =
+    let covers : ℕ → ℕ = order_cover c.args.setup.now (slice_index c.args.unbroken.now) in
+    let n = c.senders.sender in
+    let all = ap length c.senders-sender-end.ensures.same in
+    let lt : n < length c.args.setup.now.senders = omega (arith, c.senders-test.true, all) in
+    elim c.if-number-gt0.branch [
+      | then-number-gt0+in_ok-push w ↦
+          stated_found covers n c.senders.stated.items c.if-number-gt0.stated.items _ (ap (λ v. v.items) w.stated-is ∙ w.in_ok-push.ensures.items) c.senders.invariant
+          (omega (arith, lt, all, c.senders-sender-end.ensures.few)) c.order_cover-number.ensures (omega (arith, w.if-number-gt0.true))
+      | else-number-gt0 w ↦
+          ap (λ v. v.items) w.stated-is ∙ c.senders.invariant ∙ sym (stated_skipped covers n c.order_cover-number.result c.order_cover-number.ensures (omega (arith, w.if-number-gt0.false)))
+    ]
