@@ -186,28 +186,22 @@ def one(seed, folder):
 
 
 def full_parts(folder):
-    """Parts of a bag at the limit of 65,536 bytes, whole, in memory and over a store; the model has them, too."""
-    texts, office, store = {number: none("bts", number, size) for number, size in SIZES.items()}, Office(), "full.store"
-    framed = {number: "mail %d\n%s" % (SIZES[number], text) for number, text in texts.items()}
+    """Parts of a bag at the limit of 65,536 bytes, whole: in memory, over a store, and by the model."""
+    office, stored = Office(), ["--db", os.path.join(folder, "full.store")]
+    texts = {number: none("bts", number, size) for number, size in SIZES.items()}
     for text in texts.values():
         office.deliver(text)
-    stored = ["--db", os.path.join(folder, store)]
-    call("replay", "--conf", CONF, *stored, bag="".join(framed[number] for number in (9, 8, 6, 1, 2, 3, 4, 5)))
-    for words in [], stored:
-        posts = [] if words else texts.values()
+    call("replay", "--conf", CONF, *stored, bag=mail(reversed(texts.values())))
+    for words, posts in ([], texts.values()), (stored, []):
         with tries.serving(len(posts) + len(PARTS), *words) as service:
             for text in posts:
                 want("a long message", 200, service.ask("POST", "/mail", text)[0])
             for first, size, numbers in PARTS:
-                due = "".join(framed[number] for number in numbers)
+                due = mail(texts[number] for number in numbers)
                 code, part = service.ask("GET", "/bag/bts/%d" % first)
-                want("the part from %d, its bytes" % first, (200, size), (code, len(part)))
-                want("the part from %d, its messages" % first, (True, True), (part == due, part == parted(office, first)))
-
-
-def parted(office, first):
-    """The model's part of the bag of bug mail."""
-    return live.bag(office, SENDERS.index("bts"), first)
+                want("the part from %d, its bytes" % first, (200, size, size), (code, len(part), len(due)))
+                model = live.bag(office, SENDERS.index("bts"), first)
+                want("the part from %d, its messages" % first, (True, True), (part == due, part == model))
 
 
 def unknown_sources():

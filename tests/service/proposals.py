@@ -8,9 +8,9 @@ Then each seed from FIRST to LAST (1-60) draws an archive of three to seven sour
 is proposed has to be taken by a trial of all of them, and to move its group there, by the model and by the program;
 mailed under the numbers that were told, and covered by the next order, each has to move its group in that run. The
 counts that are told have to be those of that run. A source that is said to be freed has to move by the hints that are
-told of it. A source that is said to be stuck has to wait for good whatever groups are tried; if blocks of lines show
-it, each has to. What the search finds is counted beside what all sequences of groups move. Exit status 0 where all was
-as it is due.
+told of it. Each source that blocks of lines show to be stuck has to wait for good whatever groups are tried, and a
+block has to be right, line by line. What the search finds is counted beside what all sequences of groups move. Exit
+status 0 where all was as it is due.
 """
 import os
 import random
@@ -126,7 +126,6 @@ LEFT = """stuck left 1-1 uninstallable amd64 left
 unstable app 1-1 of app isn't a candidate: blocked
 """
 PING, LAST = "easy ping/1-1 pong/1-1\n", "easy app/1-1 left/1-1 right/1-1\n"
-FREES = "office: %s: no group frees it\n"
 # A case, the sources that are named, and what is due: what is printed, the status, and what is told if it is known.
 ROWS = [
     (
@@ -150,28 +149,20 @@ ROWS = [
 ]
 
 
-def has_blocks():
-    """Whether the program shows by lines that no group frees a source. One that doesn't tells it by a sentence
-    alone."""
-    return "stuck " in tries.call("propose", "left", "--conf", CONF, bag=mail(blocked_knot().texts))[0]
-
-
 def worked():
     """The worked cases, over a bag and over a store; and the model agrees that what is stuck there is."""
-    is_shown = has_blocks()
     for case, sources, printed, status, told in ROWS:
         what, bag = "%s %s" % (case.__name__, sources), mail(case().texts)
         got, said, ended = tries.run("propose", *sources, "--conf", CONF, bag=bag)
-        hints = "".join(line + "\n" for line in printed.splitlines() if line.startswith("easy "))
-        want(what, (printed if is_shown else hints, status), (got, ended))
+        want(what, (printed, status), (got, ended))
         if told is not None:
             want(what + ", told", told, said)
-        for name in sources if printed != hints and not is_shown else []:
-            want("%s, %s is told" % (what, name), True, FREES % name in said)
         blocks = [line for line in printed.splitlines() if not line.startswith("easy ")]
         behind = Behind(office_of(case().texts))
         want(what + ", by the model", None, behind.stuck_fault(blocks))
         stuck = {line.split(" ")[1] for line in blocks if line.startswith("stuck ")}
+        for name in stuck.intersection(sources):
+            want("%s, no sentence on %s" % (what, name), False, "office: %s: " % name in said)
         want(what + ", by all groups", set(), stuck & behind.can_move())
         with tempfile.TemporaryDirectory() as folder:
             store = os.path.join(folder, "store")
@@ -198,6 +189,8 @@ def routes():
     asked += [("POST", "/mail", text, None) for text in [first] + later]
     asked += [("GET", "/propose", None, (200, PING + LAST)), ("GET", "/propose/app", None, (200, PING))]
     asked += [("GET", path, None, no_route) for path in ("/propose/", "/propose/X", "/propose/a", "/propose/app/1")]
+    asked += [("POST", "/mail", blocked_knot().texts[-1], None)]
+    asked += [("GET", "/propose", None, (200, PING)), ("GET", "/propose/left", None, (200, LEFT))]
     asked += [("POST", path, "", (405, "refused MethodNotAllowed\n")) for path in ("/propose", "/propose/app")]
     with tries.serving(len(asked)) as service:
         for method, path, body, due in asked:
@@ -318,7 +311,6 @@ def tell_of(what, behind, hints, late, said):
 ENDS = {
     "it is no candidate": (False, None),
     "it moves without a hint": (True, True),
-    "no group frees it": (False, False),
     "no group was found, and nothing shows that there is none": (False, None),
 }
 
@@ -347,7 +339,7 @@ def over_sources(what, behind, terms, bag, can_move):
                 (moves or bool(blocks), not moves and not blocks),
             )
         if end or blocks:
-            does, may = ENDS.get(end[1] if end else "no group frees it", (None, None))
+            does, may = ENDS.get(end[1], (None, None)) if end else (False, False)
             want(
                 "%s: %s, %s" % (what, name, end and end[1]),
                 (does, may),

@@ -47,7 +47,11 @@ fn try_loss(
         }
         met = met.saturating_add(1);
     }
-    due(met > 10 && met < MOST, "another count of stops")
+    let fewest = match way {
+        Way::Letters | Way::Bag => 10,
+        Way::OldStore => 0,
+    };
+    due(met > fewest && met < MOST, "another count of stops")
 }
 
 /// The log or the database stops while this is done, with each loss.

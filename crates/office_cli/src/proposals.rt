@@ -22,7 +22,7 @@ pub fn print_proposal(
     sources: &[Text],
     proposal: &Proposal,
 ) -> u8 {
-    match proposal_text(rt.alloc(), &proposal.hints) {
+    match proposal_text(rt.alloc(), proposal) {
         Ok(text) => {
             let status = print_text(rt, &text, proposal_status(sources, proposal));
             tell_count(rt, setup, proposal);
@@ -91,10 +91,9 @@ fn tell_long(rt: &HostRuntime, group: &LongGroup) {
 fn tell_end(rt: &HostRuntime, asked: &AskedSource) {
     let name = asked.name.as_str();
     let _ = match asked.end {
-        SourceEnd::Grouped => Ok(()),
+        SourceEnd::Grouped | SourceEnd::Stuck => Ok(()),
         SourceEnd::NoCandidate => eprintln!(rt; "office: {name}: it is no candidate"),
         SourceEnd::Alone => eprintln!(rt; "office: {name}: it moves without a hint"),
-        SourceEnd::Dead => eprintln!(rt; "office: {name}: no group frees it"),
         SourceEnd::Open => eprintln!(rt;
             "office: {name}: no group was found, and nothing shows that there is none"
         ),

@@ -5,3 +5,4 @@ pub mod OneFacts
 pub mod TriedOutcome
 pub mod TryFacts
 pub mod ProposalFacts
+pub mod StuckFacts

@@ -1,5 +1,5 @@
 -- What is proposed.
-use Rattle.std.proofs.Common.{◌≡◌, ℕ, ◌+◌, Bool, true, ◌&&◌, List, [], ◌∷◌, Some, None, length, ap, sym, subst, ◌∙◌, refl}
+use Rattle.std.proofs.Common.{◌≡◌, ℕ, ◌+◌, Bool, true, ◌&&◌, List, [], ◌∷◌, Option, Some, None, length, ap, sym, subst, ◌∙◌, refl}
 use Rattle.std.specs.List.{list_all, list_any, range_with_len}
 use Rattle.jiff_core.specs.declared.civil.date.Date.{Date}
 use Rattle.testing_rules_items.specs.Words.{Text}
@@ -13,13 +13,14 @@ use Rattle.office_mail.specs.Kept.{Kept}
 use Rattle.office_mail.specs.Runs.{latest_day, orders_to}
 use Rattle.office_store_keeper.specs.Content.{Content}
 use Rattle.office_store_keeper.specs.declared.values.Letter.{Letter}
+use Rattle.office_core_facts.specs.Outcome.{testing_after}
 use Rattle.office_core_facts.specs.Seen.{AreTrialCovers, items_within, release}
 use Rattle.office_core_facts.specs.State.{IsOffice}
 use Rattle.office_core_outcome.specs.declared.TrialOptions.{TrialOptions}
 use Rattle.office_core_outcome.specs.declared.proposal.Proposal.{Proposal}
 use Rattle.office_core_outcome.specs.Hints.{first_refused, hint_letter, hint_letters, with_letters}
-use Rattle.office_core_outcome.specs.Proposal.{IsProposed, are_done, decisions_by, freed_by, is_done, tried_decisions}
-use Rattle.office_core_outcome.specs.Settled.{IsProposedOver, IsSettled}
+use Rattle.office_core_outcome.specs.Proposal.{AreShownStuck, IsProposed, are_done, decisions_by, freed_by, is_done, tried_decisions}
+use Rattle.office_core_outcome.specs.Settled.{AreStuckOver, IsProposedOver, IsSettled}
 use Rattle.office_core_facts.specs.Outcome.{outcome}
 use Rattle.testing_rules_reports.specs.Reports.{update_text}
 use Rattle.office_core_outcome.specs.declared.Trial.TheVariants.{Told}
@@ -74,6 +75,13 @@ module _ (setup : Lists) (content : Content) (date : Date) (covers : ℕ → ℕ
       ∙ ap (are_done number (length hints)) (sym decided_is)
       ∙ settled.done
 
+  -- what shows that sources are stuck
+  pub shown_is : (sources : List Text) (texts : List (Option Text)) → AreStuckOver setup.archs date facts content.testing ds sources texts
+      → AreShownStuck setup.archs date mail (testing_after setup content.kept (length content.reports)) (tried_decisions setup content.kept (length content.reports) date covers hints) sources texts
+  shown_is sources texts so =
+      subst (λ (t : Suite). AreShownStuck setup.archs date mail t (tried_decisions setup content.kept (length content.reports) date covers hints) sources texts) office.testing_is
+      (subst (λ (x : List Decision). AreShownStuck setup.archs date mail content.testing x sources texts) decided_is (so mail stands))
+
 -- what is proposed over the covers of a trial, on its date
 pub proposed_is : (setup : Lists) (kept : Kept) (k : ℕ) (terms : TrialOptions) (date : Date) (covers : ℕ → ℕ) (sources : List Text) (p : Proposal) → AreTrialCovers setup kept k terms.all covers → trial_date (latest_day (orders_to setup kept k)) terms.day ≡ Some date
     → IsProposedOver setup kept k date covers sources p → IsProposed setup kept k terms sources p
@@ -86,6 +94,7 @@ proposed_is setup kept k terms date covers sources p are day over = record {
   taken = over.taken;
   done = subst (λ (d : Date). are_done (covers (release setup)) (length p.hints.items) (tried_decisions setup kept k d covers p.hints.items) ≡ true) (sym over.dated) over.done;
   freed = subst (λ (d : Date). p.freed.items ≡ freed_by (tried_decisions setup kept k d covers p.hints.items) sources) (sym over.dated) over.freed;
+  stuck = subst (λ (d : Date). AreShownStuck setup.archs d (items_within setup kept covers) (testing_after setup kept k) (tried_decisions setup kept k d covers p.hints.items) sources p.stuck.items) (sym over.dated) over.stuck;
 }
 
 -- a proposal is a trial

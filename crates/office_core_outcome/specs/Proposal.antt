@@ -1,15 +1,18 @@
--- Hints that are proposed: a trial takes them, and its run does each.
-use Rattle.std.specs.Prelude.{◌≡◌, ℕ, ◌+◌, ◌==◌, Bool, true, false, List, [], ◌∷◌, ◌++◌, filter, length, Some, None}
-use Rattle.std.specs.List.{flat_map, list_all, list_any, range_with_len}
+-- Hints that are proposed: a trial takes them, and its run does each. And what shows that no group frees a source.
+use Rattle.std.specs.Prelude.{◌≡◌, ℕ, ◌+◌, ◌==◌, Bool, true, false, List, [], ◌∷◌, ◌++◌, filter, length, Option, Some, None, unwrap_or, IfSome}
+use Rattle.std.specs.List.{AllZip, flat_map, list_all, list_any, range_with_len}
 use Rattle.std.specs.Str.{bytes_eq}
 use Rattle.jiff_core.specs.declared.civil.date.Date.{Date}
 use Rattle.testing_rules_items.specs.Words.{Text}
 use Rattle.testing_rules_model.specs.Covered.{Covered}
 use Rattle.testing_rules_model.specs.Excuses.{excuses_of}
 use Rattle.testing_rules_model.specs.Suite.{Suite}
-use Rattle.testing_rules_model.specs.Updates.{update_of}
+use Rattle.testing_rules_model.specs.Unstable.{in_force, unstable_rows, unstable_sources}
+use Rattle.testing_rules_model.specs.Updates.{in_turn, move_easy, remove_item, removals_of, update_of}
+use Rattle.testing_rules_model.specs.declared.excuse.Excuse.{Excuse}
 use Rattle.testing_rules_model.specs.declared.update.Decision.{Decision}
 use Rattle.testing_rules_model.specs.declared.update.Decision.TheVariants.{RemoveDone, RemoveRefused, EasyDone, EasyNotCandidate, EasyRefused, Accept, Wait}
+use Rattle.testing_rules_refusals.specs.Stuck.{IsStuckText}
 use Rattle.office_mail.specs.Lists.{Lists}
 use Rattle.office_mail.specs.Kept.{Kept}
 use Rattle.office_mail.specs.Runs.{latest_day, orders_to}
@@ -61,8 +64,24 @@ are_done behind count ds = list_all (λ number. list_any (is_done number) ds) (r
 abbrev pub freed_by : List Decision → List Text → List Text
 freed_by ds sources = filter (λ source. list_any (is_moved source) ds) sources
 
+-- testing behind the removals and the groups of the hints that stand, before any source moves alone
+abbrev pub behind_standing : List Text → Covered → List Excuse → Suite → Suite
+behind_standing archs mail excuses t =
+    (in_turn (move_easy archs (unstable_sources mail) (unstable_rows archs mail) excuses) (in_force mail) (in_turn (remove_item archs) (flat_map removals_of (in_force mail)) t).suite).suite
+
+-- a text shows that no group frees the source behind the hints that stand, over these messages and by the excuses of a run of this date
+abbrev pub IsShownStuck : List Text → Date → Covered → Suite → Text → Text → Type 0
+IsShownStuck archs date mail t source text =
+    let excuses : List Excuse = excuses_of archs mail t date in
+    IsStuckText archs (unstable_sources mail) (unstable_rows archs mail) excuses (behind_standing archs mail excuses t) source text
+
+-- for each of the sources such a text, or none; and none for one that moved
+abbrev pub AreShownStuck : List Text → Date → Covered → Suite → List Decision → List Text → List (Option Text) → Type 0
+AreShownStuck archs date mail t ds sources texts =
+    AllZip (λ source text. IfSome text (λ shown. (list_any (is_moved source) ds ≡ false) × IsShownStuck archs date mail t source shown)) sources texts
+
 -- Proposed behind k finished runs: a trial on these terms takes the hints, its run does the group of each, and those of the sources that
--- are said to be freed are those that it moves.
+-- are said to be freed are those that it moves. What is said to show that no group frees another of them shows it.
 pub record IsProposed (setup : Lists) (kept : Kept) (k : ℕ) (terms : TrialOptions) (sources : List Text) (p : Proposal) : Type 0 where
   pub covers : ℕ → ℕ
   pub are : AreTrialCovers setup kept k terms.all covers
@@ -72,7 +91,8 @@ pub record IsProposed (setup : Lists) (kept : Kept) (k : ℕ) (terms : TrialOpti
   pub taken : first_refused setup (covers (release setup)) 0 p.hints.items ≡ None
   pub done : are_done (covers (release setup)) (length p.hints.items) (tried_decisions setup kept k p.date covers p.hints.items) ≡ true
   pub freed : p.freed.items ≡ freed_by (tried_decisions setup kept k p.date covers p.hints.items) sources
+  pub stuck : AreShownStuck setup.archs p.date (items_within setup kept covers) (testing_after setup kept k) (tried_decisions setup kept k p.date covers p.hints.items) sources p.stuck.items
 
--- the hints as they are printed: a line for each
-abbrev pub proposal_text : List (List ℕ) → List ℕ
-proposal_text hints = flat_map (λ hint. hint ++ 10 ∷ []) hints
+-- what is printed: a line for each hint, and the texts behind them
+abbrev pub proposal_text : List (List ℕ) → List (Option (List ℕ)) → List ℕ
+proposal_text hints stuck = flat_map (λ hint. hint ++ 10 ∷ []) hints ++ flat_map (λ text. unwrap_or text []) stuck

@@ -1,7 +1,8 @@
 //! A run by the rules over facts: testing as it leaves it, and its two reports; and what the next run would decide if some
-//! hints were covered too, and which hints it would do. Nothing is kept.
+//! hints were covered too, which hints it would do, and what shows that none frees a source. Nothing is kept.
 #![tactic(auto)]
 
+mod asked;
 mod deciding;
 mod hints;
 pub mod laws;
@@ -10,6 +11,7 @@ mod proposing;
 mod rules;
 mod search_notes;
 mod settling;
+mod stuck;
 mod trying;
 
 use jiff_core::civil::Date;

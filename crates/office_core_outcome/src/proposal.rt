@@ -1,6 +1,7 @@
 //! Hints that are proposed for the next run.
 
-ghost use Rattle.std.specs.Prelude.{◌≡◌, ◌++◌, ◌∷◌, [], IfOk, OnOk, string_bytes};
+ghost use Rattle.std.specs.Prelude.{◌≡◌, ◌++◌, ◌∷◌, [], IfOk, OnOk, string_bytes, unwrap_or};
+ghost use Rattle.std.specs.List.{flat_map};
 ghost use Rattle.office_core_outcome.specs.Proposal.{proposal_text};
 
 use deb_control::{NoMemory, Text};
@@ -17,8 +18,8 @@ pub enum SourceEnd {
     Grouped,
     /// The run moves it alone, or by a hint that stands already.
     Alone,
-    /// No group frees it: it is one of the dead sources.
-    Dead,
+    /// No group frees it, as its blocks show.
+    Stuck,
     /// No group was found, and nothing shows that there is none.
     Open,
 }
@@ -53,7 +54,8 @@ pub struct SearchNotes {
 }
 
 /// The hints that are proposed for the next run: their numbers go on from `first`. `freed` are those of the sources asked
-/// for that the run with the hints moves.
+/// for that the run with the hints moves. `stuck` has for each source asked for the blocks of lines that show that no group
+/// frees it, if there are any.
 #[derive(Drop)]
 pub struct Proposal {
     pub run: u32,
@@ -61,6 +63,7 @@ pub struct Proposal {
     pub first: u32,
     pub hints: Vec<Text>,
     pub freed: Vec<Text>,
+    pub stuck: Vec<Option<Text>>,
     pub notes: SearchNotes,
 }
 
@@ -71,13 +74,42 @@ fn push_line(text: &mut String, line: &str) -> Result<(), AllocError>
     writeln!(text, "{line}")
 }
 
-/// The proposed hints as text: a line for each.
-pub fn proposal_text(alloc: Global, hints: &[Text]) -> Result<Text, NoMemory>
-    ensures { IfOk result (λ text. text ≡ proposal_text hints.now) }
+/// Adds a line for each hint.
+fn push_hints(text: &mut String, hints: &[Text]) -> Result<(), AllocError>
+    ensures { OnOk result (string_bytes text.new ≡ string_bytes text.old ++ flat_map (λ hint. hint ++ 10 ∷ []) hints.now) }
+{
+    'hints: for hint in hints {
+        push_line(text, hint.as_str())?;
+    }
+    Ok(())
+}
+
+/// Adds the blocks of a source, if there are any.
+fn push_blocks(text: &mut String, blocks: &Option<Text>) -> Result<(), AllocError>
+    ensures { OnOk result (string_bytes text.new ≡ string_bytes text.old ++ unwrap_or blocks.now []) }
+{
+    match blocks {
+        Some(blocks) => text.push_str(blocks.as_str()),
+        None => Ok(()),
+    }
+}
+
+/// Adds the blocks of each source that has any.
+fn push_stuck(text: &mut String, stuck: &[Option<Text>]) -> Result<(), AllocError>
+    ensures { OnOk result (string_bytes text.new ≡ string_bytes text.old ++ flat_map (λ blocks. unwrap_or blocks []) stuck.now) }
+{
+    'sources: for blocks in stuck {
+        push_blocks(text, blocks)?;
+    }
+    Ok(())
+}
+
+/// A proposal as text: a line for each hint, and behind them the blocks of the sources that no group frees.
+pub fn proposal_text(alloc: Global, proposal: &Proposal) -> Result<Text, NoMemory>
+    ensures { IfOk result (λ text. text ≡ proposal_text proposal.now.hints.items proposal.now.stuck.items) }
 {
     let mut text = String::new(alloc);
-    'hints: for hint in hints {
-        push_line(&mut text, hint.as_str())?;
-    }
+    push_hints(&mut text, &proposal.hints)?;
+    push_stuck(&mut text, &proposal.stuck)?;
     Ok(Text::from_string(text))
 }

@@ -13,13 +13,15 @@ ghost use Rattle.office_core_facts.specs.State.{IsOffice};
 ghost use Rattle.office_core_orders.specs.StaysTrusted.{StaysTrusted};
 ghost use Rattle.office_core_facts.specs.Seen.{release};
 ghost use Rattle.office_core_outcome.specs.Proposal.{IsProposed, freed_by};
-ghost use Rattle.office_core_outcome.specs.Settled.{IsProposedOver, IsSettled};
+ghost use Rattle.office_core_outcome.specs.Settled.{AreStuckOver, IsProposedOver, IsSettled};
 ghost use Rattle.office_core_outcome.specs.Trial.{trial_date};
 
 use crate::TrialOptions;
+use crate::asked::Asked;
 use crate::proposal::{Proposal, SearchNotes};
 use crate::search_notes::{notes_on, parts_of};
 use crate::settling::{decisions_beside, freed_by, settle};
+use crate::stuck::stuck_texts;
 use crate::trying::trial_date;
 use deb_control::{NoMemory, Text};
 use jiff_core::civil::Date;
@@ -36,11 +38,12 @@ use testing_rules_excuses::excuses;
 use testing_rules_groups::{Found, find_groups};
 use testing_rules_laws::{Facts, Testing, Update};
 
-/// Hints of which the run does each, what it decides then, and what is told beside them.
+/// Hints of which the run does each, what it decides then, what shows that sources are stuck, and what is told beside.
 #[derive(Drop)]
 struct SettledHints {
     hints: Vec<Text>,
     freed: Vec<Text>,
+    stuck: Vec<Option<Text>>,
     update: Update,
     notes: SearchNotes,
 }
@@ -62,78 +65,64 @@ fn standing_decisions(
 }
 
 /// The groups that a search over the facts and testing finds. Testing stays. It fails for want of memory alone.
-fn groups_found(
-    alloc: Global,
-    setup: &Setup,
-    date: Date,
-    facts: &Facts,
-    testing: &mut Testing,
-    sources: &[Text],
-) -> Result<Found, NoMemory>
+fn groups_found(alloc: Global, asked: &Asked<'_>, testing: &mut Testing) -> Result<Found, NoMemory>
     ensures { testing.new ≡ testing.old }
 {
-    let archs = setup.archs();
+    let (setup, date, facts) = (asked.setup, asked.date, asked.facts);
+    let (archs, wanted) = (setup.archs(), asked.sources);
     let update = standing_decisions(alloc, setup, date, facts, testing)?;
     let excuses = excuses(alloc, archs, facts, testing, date)?;
     let decisions = update.as_slice();
-    let found = find_groups(alloc, archs, facts, &excuses, testing, decisions, sources)?;
+    let found = find_groups(alloc, archs, facts, &excuses, testing, decisions, wanted)?;
     drop(excuses);
     drop(update);
     Ok(found)
 }
 
-/// Hints whose numbers go on behind this one, and of which the run does each. Testing and the facts stay. It fails for want of
-/// memory alone.
+/// Hints whose numbers go on behind the one asked for, and of which the run does each; and what shows of the sources that
+/// no group frees them. Testing and the facts stay. It fails for want of memory alone.
 fn settled_hints(
     alloc: Global,
-    setup: &Setup,
-    date: Date,
-    facts: &Facts,
+    asked: &Asked<'_>,
     testing: &mut Testing,
-    number: u32,
-    sources: &[Text],
 ) -> Result<SettledHints, StoreFault>
     ensures same { testing.new ≡ testing.old }
-    ensures settled { IfOk result (λ o. IsSettled setup.now date number facts.now testing.old o.hints.items o.update) }
-    ensures freed { IfOk result (λ o. o.freed.items ≡ freed_by o.update sources.now) }
+    ensures settled { IfOk result (λ o. IsSettled asked.now.setup.now asked.now.date asked.now.number asked.now.facts.now testing.old o.hints.items o.update) }
+    ensures freed { IfOk result (λ o. o.freed.items ≡ freed_by o.update asked.now.sources.now) }
+    ensures stuck { IfOk result (λ o. AreStuckOver asked.now.setup.now.archs asked.now.date asked.now.facts.now testing.old o.update asked.now.sources.now o.stuck.items) }
     ensures no_store { IfErr result (λ fault. fault ≡ StoreFault.NoMemory) }
 {
-    let found = groups_found(alloc, setup, date, facts, testing, sources)?;
-    let (hints, beside) = parts_of(found);
-    let (hints, update) = settle(alloc, setup, date, facts, testing, number, hints)?;
-    let freed = freed_by(alloc, update.as_slice(), sources)?;
-    let notes = notes_on(
-        alloc,
-        beside,
-        update.as_slice(),
-        sources,
-        number,
-        hints.len(),
-    )?;
+    let found = groups_found(alloc, asked, testing)?;
+    let (groups, beside) = parts_of(found);
+    let (setup, date, facts) = (asked.setup, asked.date, asked.facts);
+    let (hints, update) = settle(alloc, setup, date, facts, testing, asked.number, groups)?;
+    let decisions = update.as_slice();
+    let freed = freed_by(alloc, decisions, asked.sources)?;
+    let stuck = stuck_texts(alloc, asked, testing, &beside.dead, decisions)?;
+    let notes = notes_on(alloc, beside, decisions, asked, &stuck, hints.len())?;
     Ok(SettledHints {
         hints,
         freed,
+        stuck,
         update,
         notes,
     })
 }
 
-/// Hints of which the run over the testing that is kept does each. Testing is given back with what speeds the next run.
+/// Hints of which the run over the testing that is kept does each, and what shows of the sources that no group frees them.
+/// Testing is given back with what speeds the next run.
 fn settled_kept<K: Keeper>(
     alloc: Global,
-    setup: &Setup,
     keeper: &mut K,
-    date: Date,
-    facts: &Facts,
-    number: u32,
-    sources: &[Text],
+    asked: &Asked<'_>,
 ) -> Result<SettledHints, StoreFault>
-    ensures settled { K.is_trusted keeper.new → K.is_legible keeper.old → IfOk result (λ o. IsSettled setup.now date number facts.now (K.content keeper.old).testing o.hints.items o.update) }
-    ensures freed { IfOk result (λ o. o.freed.items ≡ freed_by o.update sources.now) }
+    ensures settled { K.is_trusted keeper.new → K.is_legible keeper.old → IfOk result (λ o. IsSettled asked.now.setup.now asked.now.date asked.now.number asked.now.facts.now (K.content keeper.old).testing o.hints.items o.update) }
+    ensures freed { IfOk result (λ o. o.freed.items ≡ freed_by o.update asked.now.sources.now) }
+    ensures stuck { K.is_trusted keeper.new → K.is_legible keeper.old → IfOk result (λ o. AreStuckOver asked.now.setup.now.archs asked.now.date asked.now.facts.now (K.content keeper.old).testing o.update asked.now.sources.now o.stuck.items) }
     ensures looks { ReadsStore K.Keeper keeper.old keeper.new result }
 {
     let mut testing = stored::next_testing(keeper)?;
-    let settled = settled_hints(alloc, setup, date, facts, &mut testing, number, sources)?;
+    let settled = settled_hints(alloc, asked, &mut testing)?;
     keeper.give_back(testing);
     Ok(settled)
 }
@@ -159,13 +148,21 @@ fn proposed_over_covers<K: Keeper>(
 {
     let taken = known_to(alloc, setup, keeper, known, orders, covers)?;
     let number = cover_at(covers, release_place(setup) as usize);
-    let settled = settled_kept(alloc, setup, keeper, date, &taken.facts, number, sources)?;
+    let asked = Asked {
+        setup,
+        date,
+        facts: &taken.facts,
+        number,
+        sources,
+    };
+    let settled = settled_kept(alloc, keeper, &asked)?;
     drop(taken);
     let run = finished.saturating_add(1);
     let first = number.saturating_add(1);
     let SettledHints {
         hints,
         freed,
+        stuck,
         update,
         notes,
     } = settled;
@@ -176,6 +173,7 @@ fn proposed_over_covers<K: Keeper>(
         first,
         hints,
         freed,
+        stuck,
         notes,
     })
 }

@@ -1,5 +1,6 @@
 //! What is told beside a proposal.
 
+use crate::asked::Asked;
 use crate::proposal::{AskedSource, SearchNotes, SourceEnd};
 use deb_control::{NoMemory, Text};
 use std::alloc::Global;
@@ -79,54 +80,58 @@ fn is_named(names: &[Text], source: &str) -> bool {
     names.iter().any(|name| name.as_str() == source)
 }
 
-/// One of the dead sources has the name.
-fn is_dead(dead: &[DeadSource], source: &str) -> bool {
-    dead.iter().any(|dead| dead.name.as_str() == source)
-}
-
-/// How the search ended for a source.
-fn end_of(beside: &FoundBeside, decisions: &[Decision], source: &str, number: u32) -> SourceEnd {
-    for decision in decisions {
-        if let Some(end) = end_by(decision, source, number) {
-            return end;
-        }
-    }
+/// How the search ended for a source that the decisions don't move.
+fn end_unmoved(beside: &FoundBeside, source: &str, is_shown: bool) -> SourceEnd {
     if is_named(&beside.others, source) {
         SourceEnd::NoCandidate
-    } else if is_dead(&beside.dead, source) {
-        SourceEnd::Dead
+    } else if is_shown {
+        SourceEnd::Stuck
     } else {
         SourceEnd::Open
     }
 }
 
-/// How the search ended for each of the sources.
+/// How the decisions move a source, if they do. The numbers of proposed hints are above this one.
+fn end_moved(decisions: &[Decision], source: &str, number: u32) -> Option<SourceEnd> {
+    for decision in decisions {
+        if let Some(end) = end_by(decision, source, number) {
+            return Some(end);
+        }
+    }
+    None
+}
+
+/// How the search ended for each of the sources, of which these are shown to be stuck.
 fn asked_sources(
     alloc: Global,
     beside: &FoundBeside,
     decisions: &[Decision],
-    sources: &[Text],
-    number: u32,
+    asked: &Asked<'_>,
+    stuck: &[Option<Text>],
 ) -> Result<Vec<AskedSource>, NoMemory> {
-    let mut asked = Vec::new(alloc);
-    for source in sources {
-        let end = end_of(beside, decisions, source.as_str(), number);
+    let mut ends = Vec::new(alloc);
+    for (source, blocks) in asked.sources.iter().zip(stuck.iter()) {
+        let end = match end_moved(decisions, source.as_str(), asked.number) {
+            Some(end) => end,
+            None => end_unmoved(beside, source.as_str(), blocks.is_some()),
+        };
         let name = source.copy(alloc)?;
-        asked.push(AskedSource { name, end })?;
+        ends.push(AskedSource { name, end })?;
     }
-    Ok(asked)
+    Ok(ends)
 }
 
-/// What is told beside so many hints whose numbers go on behind this one, by the decisions of the run with them.
+/// What is told beside so many hints, by the decisions of the run with them and by what shows that sources are stuck.
 pub(crate) fn notes_on(
     alloc: Global,
     beside: FoundBeside,
     decisions: &[Decision],
-    sources: &[Text],
-    number: u32,
+    asked: &Asked<'_>,
+    stuck: &[Option<Text>],
     hints: usize,
 ) -> Result<SearchNotes, NoMemory> {
-    let asked = asked_sources(alloc, &beside, decisions, sources, number)?;
+    let number = asked.number;
+    let asked = asked_sources(alloc, &beside, decisions, asked, stuck)?;
     let FoundBeside {
         waiting,
         dead,

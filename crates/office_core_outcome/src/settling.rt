@@ -91,7 +91,7 @@ fn is_moved(source: &str, decision: &Decision) -> bool
 }
 
 /// The source is one of those that moved.
-fn is_any_moved(source: &str, decisions: &[Decision]) -> bool
+pub(crate) fn is_any_moved(source: &str, decisions: &[Decision]) -> bool
     ensures { result ≡ list_any (is_moved source.now) decisions.now }
 {
     for decision in decisions {

@@ -146,10 +146,10 @@ pub record Found : Type 0 where
   pub seen : Covered
   pub proposal : Option Proposal
 
--- the hints that are proposed; there is no proposal where no run is finished
+-- what is proposed; there is no proposal where no run is finished
 abbrev pub proposal_answer : Option Proposal → Answer
 proposal_answer None = Refused refusal.NoRun
-proposal_answer (Some proposal) = Told (proposal_text proposal.hints.items)
+proposal_answer (Some proposal) = Told (proposal_text proposal.hints.items proposal.stuck.items)
 
 abbrev pub IsProposedFor : OfficeState → List (List ℕ) → Option Proposal → Type 0
 IsProposedFor s sources None = trial_date (latest_day (orders_to s.setup s.kept s.finished)) request_terms.day ≡ None

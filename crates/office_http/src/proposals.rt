@@ -27,7 +27,7 @@ fn proposal_answer(
     ensures place { IfOk result (λ answer. HasPlace setup.now answer) }
 {
     match proposal {
-        Some(proposal) => Ok(Answer::Told(proposal_text(alloc, &proposal.hints)?)),
+        Some(proposal) => Ok(Answer::Told(proposal_text(alloc, proposal)?)),
         None => Ok(Answer::Refused(Refusal::NoRun)),
     }
 }

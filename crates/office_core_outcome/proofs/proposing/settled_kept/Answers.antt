@@ -2,7 +2,7 @@ use Rattle.std.proofs.Common.{◌≡◌, sym, ap, subst, ◌∙◌}
 use Rattle.testing_rules_laws.specs.Suite.{Suite}
 use Rattle.office_store_keeper.specs.Content.{Content}
 use Rattle.office_core_orders.proofs.GivingBack.{given_back}
-use Rattle.office_core_outcome.specs.Settled.{IsSettled}
+use Rattle.office_core_outcome.specs.Settled.{AreStuckOver, IsSettled}
 use Rattle.office_core_outcome.proofs.proposing.settled_kept.Goals as goal
 
 pub give_back-requires : goal.give_back-requires
@@ -12,11 +12,19 @@ give_back-requires g c = record {
 
 pub returns-clause-settled : goal.returns-clause-settled
 returns-clause-settled g c = λ trusted legible.
-    let a = c.args in
+    let a = c.args.asked.now in
     let earlier = c.give_back.ensures.before trusted in
     let settled = c.in_ok-settled.settled in
     subst (λ (t : Suite). IsSettled a.setup.now a.date a.number a.facts.now t settled.hints.items settled.update)
     (c.in_ok-testing.ensures.value earlier (c.in_ok-testing.ensures.looks.legible earlier legible)) c.in_ok-settled.ensures.settled
+
+pub returns-clause-stuck : goal.returns-clause-stuck
+returns-clause-stuck g c = λ trusted legible.
+    let a = c.args.asked.now in
+    let earlier = c.give_back.ensures.before trusted in
+    let settled = c.in_ok-settled.settled in
+    subst (λ (t : Suite). AreStuckOver a.setup.now.archs a.date a.facts.now t settled.update a.sources.now settled.stuck.items)
+    (c.in_ok-testing.ensures.value earlier (c.in_ok-testing.ensures.looks.legible earlier legible)) c.in_ok-settled.ensures.stuck
 
 pub returns-clause-looks : goal.returns-clause-looks
 returns-clause-looks g c =

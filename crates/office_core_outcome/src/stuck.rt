@@ -1,0 +1,103 @@
+//! What shows of sources that no group frees them.
+
+ghost use Rattle.std.specs.Prelude.{IfOk, IfSome};
+ghost use Rattle.office_core_outcome.specs.Settled.{AreStuckBehind, AreStuckOver, IsStuckBehind};
+
+use crate::asked::Asked;
+use crate::settling::is_any_moved;
+use deb_control::{NoMemory, Text};
+use std::alloc::Global;
+use testing_rules_excuses::excuses;
+use testing_rules_groups::DeadSource;
+use testing_rules_laws::{Archs, Decision, Excuse, Facts, Testing};
+use testing_rules_moves::hinted;
+use testing_rules_refusals::{Suspect, stuck_text};
+
+/// What blocks of lines go by: the facts and the excuses of a run, testing behind the hints that stand, what a search holds
+/// for dead, and what the run decides with the proposed hints.
+#[derive(Clone, Copy)]
+struct Ground<'g> {
+    archs: &'g Archs,
+    facts: &'g Facts,
+    excuses: &'g [Excuse],
+    behind: &'g Testing,
+    suspects: &'g [Suspect],
+    decisions: &'g [Decision],
+}
+
+/// What a search holds for dead, for the blocks of lines that are to show it.
+fn suspects_of(alloc: Global, dead: &[DeadSource]) -> Result<Vec<Suspect>, NoMemory> {
+    let mut suspects = Vec::with_capacity(alloc, dead.len())?;
+    for source in dead {
+        suspects.push(Suspect {
+            name: source.name.copy(alloc)?,
+            arch: source.arch,
+            package: source.package.copy(alloc)?,
+            round: source.rank,
+        })?;
+    }
+    Ok(suspects)
+}
+
+/// What shows that no group frees a source; none of one that the run moves.
+fn shown_stuck(alloc: Global, ground: &Ground<'_>, source: &str) -> Result<Option<Text>, NoMemory>
+    ensures { IfOk result (λ text. IfSome text (IsStuckBehind ground.now.archs.now ground.now.facts.now ground.now.excuses.now ground.now.behind.now ground.now.decisions.now source.now)) }
+{
+    if is_any_moved(source, ground.decisions) {
+        return Ok(None);
+    }
+    stuck_text(
+        alloc,
+        ground.archs,
+        ground.facts,
+        ground.excuses,
+        ground.behind,
+        ground.suspects,
+        source,
+    )
+}
+
+/// The same of each of the sources.
+fn each_stuck(
+    alloc: Global,
+    ground: &Ground<'_>,
+    sources: &[Text],
+) -> Result<Vec<Option<Text>>, NoMemory>
+    ensures { IfOk result (λ texts. AreStuckBehind ground.now.archs.now ground.now.facts.now ground.now.excuses.now ground.now.behind.now ground.now.decisions.now sources.now texts.items) }
+{
+    let mut texts = Vec::new(alloc);
+    for source in sources {
+        let text = shown_stuck(alloc, ground, source.as_str())?;
+        texts.push(text)?;
+    }
+    Ok(texts)
+}
+
+/// For each of the sources that are asked for what shows that no group frees it, if the search found it dead, the run
+/// doesn't move it, and the lines show it. The decisions are those of the run with the proposed hints. The one error is want
+/// of memory.
+pub(crate) fn stuck_texts(
+    alloc: Global,
+    asked: &Asked<'_>,
+    testing: &Testing,
+    dead: &[DeadSource],
+    decisions: &[Decision],
+) -> Result<Vec<Option<Text>>, NoMemory>
+    ensures { IfOk result (λ texts. AreStuckOver asked.now.setup.now.archs asked.now.date asked.now.facts.now testing.now decisions.now asked.now.sources.now texts.items) }
+{
+    let archs = asked.setup.archs();
+    let facts = asked.facts;
+    let excuses = excuses(alloc, archs, facts, testing, asked.date)?;
+    let list = excuses.as_slice();
+    let behind = hinted(alloc, archs, facts, list, testing)?;
+    let suspects = suspects_of(alloc, dead)?;
+    let ground = Ground {
+        archs,
+        facts,
+        excuses: list,
+        behind: &behind,
+        suspects: &suspects,
+        decisions,
+    };
+    each_stuck(alloc, &ground, asked.sources)
+}
