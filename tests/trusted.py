@@ -55,19 +55,25 @@ FIRST = [
         'new', 'into_keeper', 'deliver', 'settle', 'status', 'testing_text', 'excuses_text', 'update_text')]),
     ('a connection', [f'office_http::{call}' for call in (
         'serve_one', 'requests_are_steps', 'old_requests_stay@others')]),
-    ('the words', ['office_cli_words::read_words', 'office_cli_words::compare_status']),
+    ('the words', ['office_cli_words::read_words@first', 'office_cli_words::compare_status']),
 ]
 # What is claimed of the calls, pages and commands that this office added.
 LATER = [
     ('more calls of the office', ['office_core::Office']),
     ('every route', [f'office_http::{call}' for call in (
         'serve_one', 'requests_are_steps', 'requests_have_one_answer', 'bound_mail', 'lint_is_mail', 'old_requests_stay')]),
+    ('every command', ['office_cli_words::read_words']),
     ('certificates', ['testing_install_why::certificate', 'testing_install_why::is_shown']),
     ('what no group frees', ['testing_rules_refusals::no_group_frees']),
     ('whole stores, bags of kept mail, lists', ['office_core_check', 'office_core_queries']),
 ]
 # The definitions of what was added that the last row of another names.
-ADDED = {}
+ADDED = {
+    'office_http_requests': {'added_asked'},
+    'office_http': {
+        'added_page', 'added_action', 'IsFoundForAdded', 'IsFoundByAdded', 'kept_by_added', 'settles_by_added'},
+    'office_cli_words': {'added_asked'},
+}
 STEPS = '-- Steps: no contract of a call that users make rests on this file.'
 CLAUSE = re.compile(r'\b(requires|ensures|before)\b\s*[\w-]*\s*$')
 ITEM = re.compile(r'(?P<pub>pub(?:\([a-z]+\))?\s+)?(?P<ghost>ghost\s+)?(?:unsafe\s+)?(?:const\s+(?=fn\b))?(?:(?P<kind>'
@@ -330,15 +336,10 @@ class Tree:
                 yield at if isinstance(at, Item) else None
             yield next((self.named[path[:k]] for k in range(len(path), 2, -1) if path[:k] in self.named), None)
 
-def in_invariants(tree):
-    """The words of all invariants. What only those of private fields name, a file may call a step or not."""
-    return {word for impls in tree.impls.values() for part in impls for name, text in part.ghosts if name == 'invariant'
-            for word in words_of(text)}
-
-def head_fault(file, believed, invariant):
+def head_fault(file, believed):
     """What the first line of a file says falsely."""
     first, steps = (file.head or [''])[0], not any(d in believed for d in file.definitions)
-    if steps != (first == STEPS) and not (steps and any(d.name in invariant for d in file.definitions)):
+    if steps != (first == STEPS):
         return f'{"no contract" if steps else "a contract"} of users rests on it, and its first line says otherwise'
     return '' if first else 'its first line does not say what it defines'
 
@@ -441,8 +442,7 @@ def main():
     tops = [a for a in sys.argv[1:] if not a.startswith('--')] + [Path(__file__).resolve().parents[1]]
     tree = Tree(tops[0])
     users, every = tree.believed(USERS, INNER), tree.believed(tree.crates)
-    invariant = in_invariants(tree)
-    heads = [(f.label, head_fault(f, users, invariant)) for f in tree.files.values()]
+    heads = [(f.label, head_fault(f, users)) for f in tree.files.values()]
     faults = [f'{label}: {fault}' for label, fault in heads if fault]
     faults += [*row_faults(tree), *figure_faults(tree, users, tops[0])]
     kinds = {d: 'believed' if d in users else 'cited step' if d in every else 'step' for d in tree.named.values()}

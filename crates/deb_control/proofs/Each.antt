@@ -6,7 +6,8 @@ use Rattle.std.specs.Borrow.{Bor}
 use Rattle.std.proofs.lemmas.Bool.{cond-true, cond-false, not_from_true, not_from_false}
 use Rattle.std.proofs.lemmas.List.{append-nil, append_assoc}
 use Rattle.deb_control.specs.Text.{is_white}
-use Rattle.deb_control.specs.Relations.{◌>>=◌, each_in, Fails}
+use Rattle.deb_control.specs.Relations.{◌>>=◌, each_in}
+use Rattle.deb_control.specs.RelationAnswers.{Fails}
 use Rattle.deb_control.specs.declared.fault.RelationFault.{RelationFault}
 use Rattle.deb_control.specs.declared.fault.RelationFault.TheVariants.{BadName, BadVersion, BadRelation, NoMemory}
 

@@ -14,3 +14,4 @@ pub mod Alike
 pub mod LineFronts
 pub mod Names
 pub mod PackageNames
+pub mod AnswerFacts

@@ -4,7 +4,7 @@ use Rattle.std.specs.Prelude.{◌==◌}
 use Rattle.std.specs.List.{list_all, position_or_len}
 use Rattle.std.proofs.lemmas.Bool.{cases_Bool}
 use Rattle.std.proofs.lemmas.List.{drop_more, drop_all}
-use Rattle.deb_version.specs.Characters as chars
+use Rattle.deb_version.specs.Characters.{char}
 use Rattle.deb_control.specs.Text.{is_blank, is_line_feed, is_blank_line, continues}
 use Rattle.deb_control.specs.LineFronts.{may_be_blank, may_continue}
 use Rattle.deb_control.specs.ReaderSteps.{line_in_front}
@@ -40,7 +40,7 @@ pub continued_unless_blank : (text : List ℕ) → may_continue text ≡ true �
 unfolding continues
 continued_unless_blank [] h = absurd cc
 continued_unless_blank (c ∷ cs) h = ⊎_elim
-    (λ (feed : is_line_feed c ≡ true). absurd (true≢false (sym h ∙ ap (λ (x : ℕ). x == chars.space || x == chars.tab) (eqb-true _ _ feed))))
+    (λ (feed : is_line_feed c ≡ true). absurd (true≢false (sym h ∙ ap (λ (x : ℕ). x == char " " || x == char "\t") (eqb-true _ _ feed))))
     (λ (other : is_line_feed c ≡ false).
     let front = before_feed c cs other in
     ap continues front ∙ ap (λ b. b && not (is_blank_line (c ∷ line_in_front cs))) h ∙ ap (λ line. not (is_blank_line line)) (sym front))

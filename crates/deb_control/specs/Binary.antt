@@ -1,7 +1,7 @@
 -- The binary package that a paragraph describes (Debian Policy 5.3; its fields 5.6.1, 5.6.7, 5.6.8, 5.6.12, 7.2 and 7.5).
-use Rattle.std.specs.Prelude.{ℕ, Bool, false, ◌&&◌, nat_le, if◌then◌else◌, List, [], ◌∷◌, ◌++◌, length, drop, codes, Option, Some, None, unwrap_or, Result, Ok, Err, ⊤, ◌≡◌}
+use Rattle.std.specs.Prelude.{ℕ, Bool, false, ◌&&◌, nat_le, if◌then◌else◌, List, [], ◌∷◌, ◌++◌, length, drop, codes, Option, Some, None, unwrap_or, Result, Ok, Err}
 use Rattle.std.specs.List.{list_all, position_or_len, before_first}
-use Rattle.deb_version.specs.Characters as chars
+use Rattle.deb_version.specs.Characters.{char}
 use Rattle.deb_control.specs.Text.{is_white}
 use Rattle.deb_control.specs.Paragraphs.{Field, value_of}
 use Rattle.deb_control.specs.Relations.{◌>>=◌, is_package_name, is_version, is_lower_or_digit, is_qualifier_char, skip_white, after_char, ends_name, version_in, clauses_in, provisions_in}
@@ -67,7 +67,7 @@ abbrev pub after_source : List ℕ → List ℕ → List ℕ → Result (List �
 after_source version name rest =
     if is_package_name name then
     (if list_all is_white rest then Ok (name, version)
-    else (source_version (after_char chars.left_parenthesis (skip_white rest)) >>= λ v. Ok (name, v)))
+    else (source_version (after_char (char "(") (skip_white rest)) >>= λ v. Ok (name, v)))
     else Err relation.BadName
 
 -- A source: a name, and perhaps a version in parentheses, with white before each part (Debian Policy 5.6.1).
@@ -102,20 +102,3 @@ binary_of p = do
     clauses = before ++ depends;
     provides = provides;
   })
-
--- a call that failed for want of memory may do so at any paragraph, and else the paragraph says that fault
-abbrev pub Fails : {Y : Type 0} → BinaryFault → Result Y BinaryFault → Type 0
-Fails NoMemory said = ⊤
-Fails (MissingField f) said = said ≡ Err (MissingField f)
-Fails (BadName f) said = said ≡ Err (BadName f)
-Fails (BadVersion f) said = said ≡ Err (BadVersion f)
-Fails (BadRelation f) said = said ≡ Err (BadRelation f)
-
--- what a call answers, seen by this view, is what the paragraph says, unless memory ran out
-abbrev pub GivesBy : {X Y : Type 0} → (X → Y) → Result X BinaryFault → Result Y BinaryFault → Type 0
-GivesBy view (Ok value) said = said ≡ Ok (view value)
-GivesBy view (Err e) said = Fails e said
-
--- what a call answers is what the paragraph says, unless memory ran out
-abbrev pub Gives : {Y : Type 0} → Result Y BinaryFault → Result Y BinaryFault → Type 0
-Gives r said = GivesBy (λ value. value) r said

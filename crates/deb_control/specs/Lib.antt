@@ -5,8 +5,10 @@ pub mod Reader
 pub mod ReaderSteps
 pub mod Alternatives
 pub mod Relations
+pub mod RelationAnswers
 pub mod ClauseSteps
 pub mod Binary
+pub mod BinaryAnswers
 pub mod BinarySteps
 pub mod WellFormed
 pub mod Spelling

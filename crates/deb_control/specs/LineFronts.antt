@@ -1,7 +1,7 @@
 -- Steps: no contract of a call that users make rests on this file.
 -- What the first byte of a text tells of its first line.
 use Rattle.std.specs.Prelude.{ℕ, Bool, true, false, ◌||◌, ◌==◌, List, [], ◌∷◌}
-use Rattle.deb_version.specs.Characters as chars
+use Rattle.deb_version.specs.Characters.{char}
 use Rattle.deb_control.specs.Text.{is_white}
 
 -- the first line may be of blanks alone
@@ -12,4 +12,4 @@ may_be_blank (c ∷ cs) = is_white c
 -- the first line may continue a field
 abbrev pub may_continue : List ℕ → Bool
 may_continue [] = false
-may_continue (c ∷ cs) = c == chars.space || c == chars.tab
+may_continue (c ∷ cs) = c == char " " || c == char "\t"

@@ -4,7 +4,7 @@ use Rattle.std.specs.List.{list_all, list_any, filter, find, slice_split, take_w
 use Rattle.std.specs.Option.{option_map}
 use Rattle.std.specs.Borrow.{Bor}
 use Rattle.std.specs.Str.{is_utf8, str_eq_ignore_ascii_case}
-use Rattle.deb_version.specs.Characters as chars
+use Rattle.deb_version.specs.Characters.{char}
 use Rattle.deb_control.specs.Text.{is_colon, lines, is_blank_line, continues, trim_white}
 use Rattle.deb_control.specs.declared.fault.ParagraphFault.{ParagraphFault}
 use Rattle.deb_control.specs.declared.fault.ParagraphFault.TheVariants.{NotUtf8, NoColon, BadName, FirstLineContinues, RepeatedField}
@@ -24,12 +24,12 @@ not_empty (x ∷ xs) = true
 
 -- a character of a field's name: from ! to ~, but no colon (Debian Policy 5.1)
 abbrev pub is_name_char : ℕ → Bool
-is_name_char c = nat_le chars.exclamation_mark c && nat_le c chars.tilde && not (c == chars.colon)
+is_name_char c = nat_le (char "!") c && nat_le c (char "~") && not (c == char ":")
 
 -- a field's name: one character at least, and neither # nor - at the front
 unfoldable pub is_field_name : List ℕ → Bool
 is_field_name [] = false
-is_field_name (c ∷ cs) = not (c == chars.number_sign) && not (c == chars.hyphen) && list_all is_name_char (c ∷ cs)
+is_field_name (c ∷ cs) = not (c == char "#") && not (c == char "-") && list_all is_name_char (c ∷ cs)
 
 -- the name in a line that begins a field: what stands before its first colon
 abbrev pub name_in : List ℕ → List ℕ
@@ -41,7 +41,7 @@ has_colon line = list_any is_colon line
 
 -- The field that a line begins. Its value reaches over the lines that continue it, without the white at both ends.
 unfoldable pub field_of : List ℕ → List (List ℕ) → Field
-field_of line continued = (name_in line, trim_white (after_first is_colon (join_with_byte chars.line_feed (line ∷ continued))))
+field_of line continued = (name_in line, trim_white (after_first is_colon (join_with_byte (char "\n") (line ∷ continued))))
 
 -- the fields of a paragraph's lines: one for each line that doesn't continue, with the continuing lines after it
 unfoldable pub fields : List (List ℕ) → List Field

@@ -3,7 +3,7 @@
 use Rattle.std.specs.Prelude.{ℕ, ◌≡◌, ◌<◌, ◌≤◌, ◌+◌, Bool, true, false, not, ◌&&◌, ◌==◌, List, [], ◌∷◌, ◌++◌, length, take, drop, slice_index, Option, Some, None, Result, Ok, Err, ◌⊎◌}
 use Rattle.std.specs.List.{list_all, take_while, prefix_len, before_first, after_first}
 use Rattle.std.specs.Borrow.{Bor}
-use Rattle.deb_version.specs.Characters as chars
+use Rattle.deb_version.specs.Characters.{char}
 use Rattle.deb_control.specs.Text.{is_line_feed, is_colon, lines, is_blank_line, continues, trim_white}
 use Rattle.deb_control.specs.Paragraphs.{is_field_name, name_in, has_colon, line_fault}
 use Rattle.deb_control.specs.declared.fault.ParagraphFault.{ParagraphFault}
@@ -21,14 +21,14 @@ after_run ls = drop (prefix_len (λ l. not (is_blank_line l)) ls) ls
 
 -- whole is the field at the front of the text, with its continuing lines, and after is what follows
 pub record IsFieldCut (text whole after : List ℕ) : Type 0 where
-  pub joined : (text ≡ whole ++ chars.line_feed ∷ after) ⊎ ((text ≡ whole) × (after ≡ []))
+  pub joined : (text ≡ whole ++ char "\n" ∷ after) ⊎ ((text ≡ whole) × (after ≡ []))
   pub continued : list_all continues (drop 1 (lines whole)) ≡ true
   pub ends : continues (line_in_front after) ≡ false
 
 -- A line of the bytes ends at n, and each line up to there but the first continues.
 pub record IsLineEnd (bytes : List ℕ) (n : ℕ) : Type 0 where
   pub within : n ≤ length bytes
-  pub at : n < length bytes → slice_index bytes n ≡ chars.line_feed
+  pub at : n < length bytes → slice_index bytes n ≡ char "\n"
   pub continued : list_all continues (drop 1 (lines (take n bytes))) ≡ true
 
 -- the field at the front of the bytes ends at n
@@ -40,7 +40,7 @@ pub record IsFieldEnd (bytes : List ℕ) (n : ℕ) : Type 0 where
 pub record IsColonAt (whole : List ℕ) (n : ℕ) : Type 0 where
   pub has : has_colon (line_in_front whole) ≡ true
   pub within : n < length whole
-  pub colon : slice_index whole n ≡ chars.colon
+  pub colon : slice_index whole n ≡ char ":"
   pub name : take n whole ≡ name_in (line_in_front whole)
   pub value : drop (n + 1) whole ≡ after_first is_colon whole
 
@@ -51,11 +51,11 @@ IsNameEnd whole (Some n) = IsColonAt whole n
 -- a field's name may begin with the first byte
 abbrev pub may_name : List ℕ → Bool
 may_name [] = false
-may_name (c ∷ cs) = not (c == chars.number_sign) && not (c == chars.hyphen) && not (c == chars.colon)
+may_name (c ∷ cs) = not (c == char "#") && not (c == char "-") && not (c == char ":")
 
 -- a colon stands behind n bytes, and a field's name may begin with the first of them
 abbrev pub is_named : List ℕ → ℕ → Bool
-is_named bytes n = slice_index bytes n == chars.colon && may_name bytes
+is_named bytes n = slice_index bytes n == char ":" && may_name bytes
 
 -- the line is refused for its name, whatever fields stand before it
 abbrev pub NameRefused : ParagraphFault → List ℕ → Type 0

@@ -1,11 +1,11 @@
 -- Relations between packages (Debian Policy 7.1 and 7.5): which texts are clauses and provisions, and the first
 -- fault from the left of any other text.
-use Rattle.std.specs.Prelude.{ℕ, Bool, true, false, not, ◌&&◌, ◌||◌, ◌==◌, nat_le, if◌then◌else◌, List, [], ◌∷◌, length, drop, Option, Some, None, is_none, Result, Ok, Err, ⊤, ◌≡◌}
+use Rattle.std.specs.Prelude.{ℕ, Bool, true, false, not, ◌&&◌, ◌||◌, ◌==◌, nat_le, if◌then◌else◌, List, [], ◌∷◌, length, drop, Option, Some, None, is_none, Result, Ok, Err}
 use Rattle.std.specs.List.{list_all, filter, slice_split, prefix_len, position_or_len, before_first}
 use Rattle.std.specs.Option.{option_map}
 use Rattle.std.specs.declared.cmp.Ordering.{Ordering}
 use Rattle.std.specs.Ordering.{is_lt, is_le, is_eq, is_ge, is_gt}
-use Rattle.deb_version.specs.Characters as chars
+use Rattle.deb_version.specs.Characters.{char}
 use Rattle.deb_version.specs.Text.{version_fault}
 use Rattle.deb_version.specs.Order.{version_cmp}
 use Rattle.deb_control.specs.Text.{is_white}
@@ -44,11 +44,11 @@ holds relation v = is_in relation.op (version_cmp v relation.version)
 
 -- a lower case ASCII letter or a digit
 abbrev pub is_lower_or_digit : ℕ → Bool
-is_lower_or_digit c = nat_le chars.lower_a c && nat_le c chars.lower_z || nat_le chars.digit_zero c && nat_le c chars.digit_nine
+is_lower_or_digit c = nat_le (char "a") c && nat_le c (char "z") || nat_le (char "0") c && nat_le c (char "9")
 
 -- these, and `+`, `-` and `.`
 abbrev pub is_package_char : ℕ → Bool
-is_package_char c = is_lower_or_digit c || c == chars.plus || c == chars.hyphen || c == chars.full_stop
+is_package_char c = is_lower_or_digit c || c == char "+" || c == char "-" || c == char "."
 
 -- a package name has two characters at least, all of these, and begins with a letter or digit (Debian Policy 5.6.1)
 unfoldable pub is_package_name : List ℕ → Bool
@@ -70,15 +70,15 @@ after_char c (x ∷ xs) = if x == c then Some xs else None
 
 -- a name goes to the first white, `:`, `(`, `[`, `<` or the end
 abbrev pub ends_name : ℕ → Bool
-ends_name c = is_white c || c == chars.colon || c == chars.left_parenthesis || c == chars.left_bracket || c == chars.less_than
+ends_name c = is_white c || c == char ":" || c == char "(" || c == char "[" || c == char "<"
 
 -- a version goes to the first white, `)` or the end
 abbrev pub ends_version : ℕ → Bool
-ends_version c = is_white c || c == chars.right_parenthesis
+ends_version c = is_white c || c == char ")"
 
 -- a qualifier, as `any` of `python3:any`: one or more lower case letters, digits and `-`. It is ignored.
 abbrev pub is_qualifier_char : ℕ → Bool
-is_qualifier_char c = is_lower_or_digit c || c == chars.hyphen
+is_qualifier_char c = is_lower_or_digit c || c == char "-"
 
 -- what follows a run of n characters, which may not be empty
 abbrev pub after_run_of_one : List ℕ → ℕ → Result (List ℕ) RelationFault
@@ -87,26 +87,26 @@ after_run_of_one text n = if n == 0 then Err BadRelation else Ok (drop n text)
 -- what follows a qualifier, if there is one
 unfoldable pub after_qualifier : List ℕ → Result (List ℕ) RelationFault
 after_qualifier [] = Ok []
-after_qualifier (c ∷ cs) = if c == chars.colon then after_run_of_one cs (prefix_len is_qualifier_char cs) else Ok (c ∷ cs)
+after_qualifier (c ∷ cs) = if c == char ":" then after_run_of_one cs (prefix_len is_qualifier_char cs) else Ok (c ∷ cs)
 
 -- The sign of a relation in front, and what follows it: `<<` `<=` `=` `>=` `>>`, and `<` and `>`, which mean `<=` and `>=`.
 -- The longest sign is taken. Here what begins with `<`, of which that is left out.
 abbrev pub less_sign : List ℕ → Op × List ℕ
 less_sign [] = (AtMost, [])
-less_sign (c ∷ cs) = if c == chars.less_than then (Below, cs) else (if c == chars.equals then (AtMost, cs) else (AtMost, c ∷ cs))
+less_sign (c ∷ cs) = if c == char "<" then (Below, cs) else (if c == char "=" then (AtMost, cs) else (AtMost, c ∷ cs))
 
 -- what begins with `>`, of which that is left out
 abbrev pub greater_sign : List ℕ → Op × List ℕ
 greater_sign [] = (AtLeast, [])
-greater_sign (c ∷ cs) = if c == chars.greater_than then (Above, cs) else (if c == chars.equals then (AtLeast, cs) else (AtLeast, c ∷ cs))
+greater_sign (c ∷ cs) = if c == char ">" then (Above, cs) else (if c == char "=" then (AtLeast, cs) else (AtLeast, c ∷ cs))
 
 -- the sign in front, and what follows it
 unfoldable pub sign_in : List ℕ → Option (Op × List ℕ)
 sign_in [] = None
 sign_in (c ∷ cs) =
-    if c == chars.less_than then Some (less_sign cs)
-    else (if c == chars.equals then Some (Equal, cs)
-    else (if c == chars.greater_than then Some (greater_sign cs) else None))
+    if c == char "<" then Some (less_sign cs)
+    else (if c == char "=" then Some (Equal, cs)
+    else (if c == char ">" then Some (greater_sign cs) else None))
 
 -- `)` and the end, with white before each
 abbrev pub closes : Option (List ℕ) → Bool
@@ -116,7 +116,7 @@ closes (Some rest) = list_all is_white rest
 -- a version, and what is to be `)` and the end
 abbrev pub version_then : List ℕ → List ℕ → Result (List ℕ) RelationFault
 version_then version rest =
-    if is_version version then (if closes (after_char chars.right_parenthesis (skip_white rest)) then Ok version else Err BadRelation)
+    if is_version version then (if closes (after_char (char ")") (skip_white rest)) then Ok version else Err BadRelation)
     else Err BadVersion
 
 -- a version and `)`, which ends the text, with white before each
@@ -125,11 +125,8 @@ version_in text = let t = skip_white text in version_then (before_first ends_ver
 
 -- the sign `=`
 abbrev pub is_equal : Op → Bool
-is_equal Below = false
-is_equal AtMost = false
 is_equal Equal = true
-is_equal AtLeast = false
-is_equal Above = false
+is_equal _ = false
 
 -- any sign may stand in a dependency, `=` alone in a provision (Debian Policy 7.5)
 abbrev pub allows : Signs → Op → Bool
@@ -151,7 +148,7 @@ within_parentheses signs (Some inside) = relation_of signs (sign_in (skip_white 
 -- what may follow a name: the end, or a relation in parentheses
 unfoldable pub relation_in : Signs → List ℕ → Result (Option Relation) RelationFault
 relation_in signs rest =
-    if list_all is_white rest then Ok None else within_parentheses signs (after_char chars.left_parenthesis (skip_white rest))
+    if list_all is_white rest then Ok None else within_parentheses signs (after_char (char "(") (skip_white rest))
 
 -- an alternative of this name, and what follows it
 abbrev pub named : Signs → List ℕ → List ℕ → Result Alternative RelationFault
@@ -167,11 +164,11 @@ alternative_in signs text =
 
 -- the character between two items
 abbrev pub is_comma : ℕ → Bool
-is_comma c = c == chars.comma
+is_comma c = c == char ","
 
 -- the character between two alternatives
 abbrev pub is_bar : ℕ → Bool
-is_bar c = c == chars.bar
+is_bar c = c == char "|"
 
 -- the items of a list by commas; an item of white alone is skipped
 unfoldable pub items : List ℕ → List (List ℕ)
@@ -196,19 +193,3 @@ provision_in item = alternative_in EqualAlone item >>= λ a. Ok (provision_of a)
 -- the provisions of a text, or its first fault
 unfoldable pub provisions_in : List ℕ → Result (List Provision) RelationFault
 provisions_in text = each_in provision_in (items text)
-
--- a call that failed for want of memory may do so at any text, and else the text says that fault
-abbrev pub Fails : {Y : Type 0} → RelationFault → Result Y RelationFault → Type 0
-Fails NoMemory said = ⊤
-Fails BadName said = said ≡ Err BadName
-Fails BadVersion said = said ≡ Err BadVersion
-Fails BadRelation said = said ≡ Err BadRelation
-
--- what a call answers, seen by this view, is what the text says, unless memory ran out
-abbrev pub GivesBy : {X Y : Type 0} → (X → Y) → Result X RelationFault → Result Y RelationFault → Type 0
-GivesBy view (Ok value) said = said ≡ Ok (view value)
-GivesBy view (Err e) said = Fails e said
-
--- what a call answers is what the text says, unless memory ran out
-abbrev pub Gives : {Y : Type 0} → Result Y RelationFault → Result Y RelationFault → Type 0
-Gives r said = GivesBy (λ value. value) r said

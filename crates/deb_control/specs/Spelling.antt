@@ -4,7 +4,7 @@
 use Rattle.std.specs.Prelude.{◌≡◌, ℕ, true, List, [], ◌∷◌, ◌++◌, Option, Some, None, Ok, ◌⊎◌, ◌↔◌, ⊤, codes}
 use Rattle.std.specs.List.{list_all, slice_split}
 use Rattle.std.specs.Option.{option_map}
-use Rattle.deb_version.specs.Characters as chars
+use Rattle.deb_version.specs.Characters.{char}
 use Rattle.deb_control.specs.Text.{is_white}
 use Rattle.deb_control.specs.Paragraphs.{not_empty}
 use Rattle.deb_control.specs.Relations.{is_package_name, is_version, is_qualifier_char, allows, is_bar, items, clauses_in, provisions_in}
@@ -24,7 +24,7 @@ IsWhite text = list_all is_white text ≡ true
 -- the qualifier of a name, as `:any`, or nothing
 abbrev pub IsQualifier : List ℕ → Type 0
 IsQualifier [] = ⊤
-IsQualifier (c ∷ word) = (c ≡ chars.colon) × (not_empty word ≡ true) × (list_all is_qualifier_char word ≡ true)
+IsQualifier (c ∷ word) = (c ≡ char ":") × (not_empty word ≡ true) × (list_all is_qualifier_char word ≡ true)
 
 -- the signs of a relation, two of which have an old form
 abbrev pub IsSign : Op → List ℕ → Type 0

@@ -1,23 +1,23 @@
 -- Bytes and lines of control data (Debian Policy 5.1).
 use Rattle.std.specs.Prelude.{ℕ, ◌-◌, Bool, false, not, ◌&&◌, ◌||◌, ◌==◌, List, [], ◌∷◌, length, take, drop}
 use Rattle.std.specs.List.{list_all, slice_split, prefix_len, suffix_len}
-use Rattle.deb_version.specs.Characters as chars
+use Rattle.deb_version.specs.Characters.{char}
 
 -- a blank is a space, a tab or a carriage return, so that lines may end by CR LF too
 abbrev pub is_blank : ℕ → Bool
-is_blank c = c == chars.space || c == chars.tab || c == chars.carriage_return
+is_blank c = c == char " " || c == char "\t" || c == char "\r"
 
 -- white is a blank or a line feed
 abbrev pub is_white : ℕ → Bool
-is_white c = is_blank c || c == chars.line_feed
+is_white c = is_blank c || c == char "\n"
 
 -- a line feed, which ends a line
 abbrev pub is_line_feed : ℕ → Bool
-is_line_feed c = c == chars.line_feed
+is_line_feed c = c == char "\n"
 
 -- a colon, which ends a field's name
 abbrev pub is_colon : ℕ → Bool
-is_colon c = c == chars.colon
+is_colon c = c == char ":"
 
 -- a text without the white at its end
 abbrev pub trim_end_white : List ℕ → List ℕ
@@ -38,4 +38,4 @@ is_blank_line line = list_all is_blank line
 -- a line that continues the field above it: it begins with a space or a tab, and isn't of blanks alone (Debian Policy 5.1)
 unfoldable pub continues : List ℕ → Bool
 continues [] = false
-continues (c ∷ cs) = (c == chars.space || c == chars.tab) && not (is_blank_line (c ∷ cs))
+continues (c ∷ cs) = (c == char " " || c == char "\t") && not (is_blank_line (c ∷ cs))

@@ -1,18 +1,20 @@
 //! Binary packages (Debian Policy 5.3).
 
-ghost use Rattle.std.specs.Prelude.{◌≡◌, ◌++◌, true, IfOk, IfSome, Ok};
+ghost use Rattle.std.specs.Prelude.{◌≡◌, ◌⊎◌, ◌++◌, true, IfOk, IfSome, Ok, Err};
 ghost use Rattle.std.specs.List.{list_all};
 ghost use Rattle.std.specs.Str.{bytes_eq};
 ghost use Rattle.deb_control.specs.Paragraphs.{value_of};
-ghost use Rattle.deb_control.specs.Relations.{Gives as GivesPart, is_qualifier_char, is_version, clauses_in, provisions_in};
-ghost use Rattle.deb_control.specs.Binary.{Gives, GivesBy, field_name, required, optional, of_field, is_architecture, source_in, source_of, binary_of};
+ghost use Rattle.deb_control.specs.RelationAnswers.{Gives as GivesPart};
+ghost use Rattle.deb_control.specs.BinaryAnswers.{Gives, GivesBy};
+ghost use Rattle.deb_control.specs.Relations.{is_qualifier_char, is_version, clauses_in, provisions_in};
+ghost use Rattle.deb_control.specs.Binary.{field_name, required, optional, of_field, is_architecture, source_in, source_of, binary_of};
 ghost use Rattle.deb_control.specs.BinarySteps.{needs_in, needs_same, binary_by};
 ghost use Rattle.deb_control.specs.declared.fault.BinaryField.TheVariants.{Source, Provides};
 
 use crate::fault::{BinaryFault, BinaryField, RelationFault};
 use crate::grammar::{
-    is_lower_or_digit, is_package_name, is_qualifier_char, parse_version, read_clauses,
-    read_version, split_package,
+    is_lower_or_digit, is_package_name, is_qualifier_char, parse_version, read_all_provisions,
+    read_clauses, read_version, split_package,
 };
 use crate::owned::Text;
 use crate::paragraphs::Paragraph;
@@ -58,7 +60,7 @@ impl Binary {
     /// order of `BinaryField`. Without a field `Source` the package's name and version are the source's, and without a
     /// version there its version is (Debian Policy 5.6.1).
     pub fn parse(alloc: Global, paragraph: &Paragraph<'_>) -> Result<Binary, BinaryFault>
-        ensures { Gives result (binary_of paragraph.now) }
+        ensures { (result ≡ binary_of paragraph.now) ⊎ (result ≡ Err BinaryFault.NoMemory) }
     {
         read_binary(alloc, paragraph, None)
     }
@@ -73,7 +75,7 @@ impl Binary {
         like: &Binary,
     ) -> Result<Binary, BinaryFault>
         requires { binary_of before.now ≡ Ok like.now }
-        ensures { Gives result (binary_of paragraph.now) }
+        ensures { (result ≡ binary_of paragraph.now) ⊎ (result ≡ Err BinaryFault.NoMemory) }
     {
         read_binary(alloc, paragraph, clauses_like(paragraph, before, like))
     }
@@ -306,7 +308,7 @@ fn read_provisions(alloc: Global, paragraph: &Paragraph<'_>) -> Result<Provision
         let none = Vec::new(alloc);
         return Ok(Provisions::new(none));
     }
-    in_field(BinaryField::Provides, Provisions::parse(alloc, text))
+    in_field(BinaryField::Provides, read_all_provisions(alloc, text))
 }
 
 /// Clauses, and then more.

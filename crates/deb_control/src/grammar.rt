@@ -3,7 +3,8 @@
 ghost use Rattle.std.specs.Prelude.{◌≡◌, ◌<◌, ◌≤◌, ◌==◌, ◌⊎◌, ◌∷◌, [], true, false, length, drop, IfSome, MatchOption, MatchResult, Ok, Err};
 ghost use Rattle.std.specs.List.{list_all, slice_split, position, position_or_len, before_first, prefix_len};
 ghost use Rattle.std.specs.Option.{option_map, option_map_or};
-ghost use Rattle.deb_control.specs.Relations.{Gives, GivesBy, is_package_name, is_lower_or_digit, is_package_char, is_version, ends_name, ends_version, is_qualifier_char, after_qualifier, less_sign, greater_sign, sign_in, version_in, relation_in, alternative_in, clause_in, clauses_in, provision_in, provisions_in};
+ghost use Rattle.deb_control.specs.RelationAnswers.{Gives, GivesBy};
+ghost use Rattle.deb_control.specs.Relations.{is_package_name, is_lower_or_digit, is_package_char, is_version, ends_name, ends_version, is_qualifier_char, after_qualifier, less_sign, greater_sign, sign_in, version_in, relation_in, alternative_in, clause_in, clauses_in, provision_in, provisions_in};
 ghost use Rattle.deb_control.specs.declared.fault.RelationFault.TheVariants.{BadVersion, NoMemory as OutOfMemory};
 ghost use Rattle.deb_control.specs.ClauseSteps.{only_one, is_package};
 
@@ -18,11 +19,18 @@ impl Clauses {
     /// The clauses of a text, as the value of a field `Depends`, or its first fault from the left. An item of white alone
     /// between two commas is skipped, and the qualifier of a name, as `:any`, is left out.
     pub fn parse(alloc: Global, text: &str) -> Result<Clauses, RelationFault>
-        ensures { Gives result (clauses_in text.now) }
+        ensures { (result ≡ clauses_in text.now) ⊎ (result ≡ Err RelationFault.NoMemory) }
     {
-        let clauses = read_clauses(alloc, text)?;
-        Ok(Clauses::new(alloc, clauses)?)
+        read_all_clauses(alloc, text)
     }
+}
+
+/// The clauses of a text, or its first fault from the left.
+fn read_all_clauses(alloc: Global, text: &str) -> Result<Clauses, RelationFault>
+    ensures { Gives result (clauses_in text.now) }
+{
+    let clauses = read_clauses(alloc, text)?;
+    Ok(Clauses::new(alloc, clauses)?)
 }
 
 /// The clauses of a text one by one, or its first fault from the left.
@@ -45,21 +53,28 @@ pub fn read_clauses(alloc: Global, text: &str) -> Result<Vec<Clause>, RelationFa
 impl Provisions {
     /// The provisions of a text, as the value of a field `Provides`, or its first fault from the left. No `|` may stand
     /// there, and no sign but `=`.
-    #[tactic(auto, unfolding(crate::specs::Relations::provisions_in))]
     pub fn parse(alloc: Global, text: &str) -> Result<Provisions, RelationFault>
-        ensures { Gives result (provisions_in text.now) }
+        ensures { (result ≡ provisions_in text.now) ⊎ (result ≡ Err RelationFault.NoMemory) }
     {
-        let mut provisions = Vec::with_capacity(alloc, count_items(text.as_bytes(), b','))?;
-        let mut rest = Some(text);
-        'items: while let Some(left) = rest {
-            let (item, after) = next_item(left, b',');
-            rest = after;
-            if !is_all_white(item.as_bytes()) {
-                provisions.push(read_provision(alloc, item)?)?;
-            }
-        }
-        Ok(Provisions::new(provisions))
+        read_all_provisions(alloc, text)
     }
+}
+
+/// The provisions of a text, or its first fault from the left.
+#[tactic(auto, unfolding(crate::specs::Relations::provisions_in))]
+pub fn read_all_provisions(alloc: Global, text: &str) -> Result<Provisions, RelationFault>
+    ensures { Gives result (provisions_in text.now) }
+{
+    let mut provisions = Vec::with_capacity(alloc, count_items(text.as_bytes(), b','))?;
+    let mut rest = Some(text);
+    'items: while let Some(left) = rest {
+        let (item, after) = next_item(left, b',');
+        rest = after;
+        if !is_all_white(item.as_bytes()) {
+            provisions.push(read_provision(alloc, item)?)?;
+        }
+    }
+    Ok(Provisions::new(provisions))
 }
 
 /// How many items a text has between a character. A vector takes room for as many.

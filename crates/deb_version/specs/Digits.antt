@@ -3,7 +3,7 @@
 use Rattle.std.specs.Prelude.{◌≡◌, ◌==◌, ℕ, Bool, true, not, List, drop}
 use Rattle.std.specs.Char.{is_ascii_digit}
 use Rattle.std.specs.List.{position_or_len, list_all, before_first}
-use Rattle.deb_version.specs.Characters as chars
+use Rattle.deb_version.specs.Characters.{char}
 use Rattle.deb_version.specs.Key.{is_non_digit}
 
 -- each byte is a digit
@@ -20,7 +20,7 @@ after_digits part = drop (position_or_len is_non_digit part) part
 
 -- a digit other than `0`
 abbrev pub is_not_zero : ℕ → Bool
-is_not_zero c = not (c == chars.digit_zero)
+is_not_zero c = not (c == char "0")
 
 -- the digits without leading zeros
 abbrev pub significant : List ℕ → List ℕ

@@ -39,24 +39,28 @@ pub data Asked : Type 0 where
   ToPropose : Bool → Text → Option Text → Option Text → List Text → Asked
   ToTellVersion : Asked
 
+-- what the words of a command ask for that came behind the first three
+abbrev pub added_asked : Words → Asked
+added_asked (Waiting conf db) = ToTellWaiting conf.now (option_map (λ text. text.now) db)
+added_asked (Report conf db report) = ToReport conf.now db.now report
+added_asked (UnknownReport run report) = ToRefuseReport run.now (option_map (λ text. text.now) report)
+added_asked (Runs conf db) = ToTellRuns conf.now db.now
+added_asked (Mail conf db list) = ToTellMail list conf.now db.now
+added_asked (Export conf db) = ToExport conf.now db.now
+added_asked (Check conf db) = ToCheck conf.now db.now
+added_asked (Why conf db run sources) = ToTellWhy conf.now (option_map (λ text. text.now) db) run (map (λ text. text.now) sources.items)
+added_asked (Try conf db day all hints) = ToTry all conf.now (option_map (λ text. text.now) db) (option_map (λ text. text.now) day) (map (λ text. text.now) hints.items)
+added_asked (Lint conf) = ToLint conf.now
+added_asked (Order day conf db) = ToTellOrder day.now conf.now db.now
+added_asked (Hints conf db) = ToTellHints conf.now db.now
+added_asked (Propose conf db day all sources) = ToPropose all conf.now (option_map (λ text. text.now) db) (option_map (λ text. text.now) day) (map (λ text. text.now) sources.items)
+added_asked _ = ToTellVersion
+
 abbrev pub asked : Words → Asked
 asked (Compare v1 op v2) = ToCompare v1.now op.now v2.now
 asked (Replay conf db) = ToReplay conf.now (option_map (λ text. text.now) db)
 asked (Serve conf port db connections) = ToServe conf.now port (option_map (λ text. text.now) db) connections
-asked (Waiting conf db) = ToTellWaiting conf.now (option_map (λ text. text.now) db)
-asked (Report conf db report) = ToReport conf.now db.now report
-asked (UnknownReport run report) = ToRefuseReport run.now (option_map (λ text. text.now) report)
-asked (Runs conf db) = ToTellRuns conf.now db.now
-asked (Mail conf db list) = ToTellMail list conf.now db.now
-asked (Export conf db) = ToExport conf.now db.now
-asked (Check conf db) = ToCheck conf.now db.now
-asked (Why conf db run sources) = ToTellWhy conf.now (option_map (λ text. text.now) db) run (map (λ text. text.now) sources.items)
-asked (Try conf db day all hints) = ToTry all conf.now (option_map (λ text. text.now) db) (option_map (λ text. text.now) day) (map (λ text. text.now) hints.items)
-asked (Lint conf) = ToLint conf.now
-asked (Order day conf db) = ToTellOrder day.now conf.now db.now
-asked (Hints conf db) = ToTellHints conf.now db.now
-asked (Propose conf db day all sources) = ToPropose all conf.now (option_map (λ text. text.now) db) (option_map (λ text. text.now) day) (map (λ text. text.now) sources.items)
-asked Version = ToTellVersion
+asked added = added_asked added
 
 -- decimal digits, of a number of 32 bits
 abbrev pub is_number : Text → Bool

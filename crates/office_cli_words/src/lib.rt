@@ -9,10 +9,11 @@ pub mod laws;
 mod reports;
 mod versions;
 
-ghost use Rattle.std.specs.Prelude.{◌≡◌, ◌≢◌, ◌⊎◌, map, true, [], IfOk, IfErr};
+ghost use Rattle.std.specs.Prelude.{◌≡◌, ◌≢◌, ◌⊎◌, map, true, [], Some, IfOk, IfErr};
 ghost use Rattle.clap.specs.Words.{FailsBy, fault_of, kind_of, subcommand_of, subcommand_rows_of, takes};
 ghost use Rattle.clap.specs.declared.error.kind.ErrorKind.TheVariants as kind;
-ghost use Rattle.office_cli_words.specs.Asked.{Gives, asks_version, command_words_in, status_of_fault, words_in};
+ghost use Rattle.office_cli_words.specs.Asked.{Asked, Gives, asks_version, command_words_in, status_of_fault, words_in};
+ghost use Rattle.office_cli_words.specs.Laws.{old_words_in};
 ghost use Rattle.office_cli_words.specs.Program.{office};
 ghost use Rattle.office_cli_words.specs.declared.WordsFault.TheVariants.{NoMemory, Usage};
 
@@ -204,6 +205,8 @@ fn read_command<'a>(alloc: Global, words: &'a [&'a str]) -> Result<Words<'a>, Wo
 /// Refused as `Usage` are words in which clap finds a fault, a request for help among them.
 pub fn read_words<'a>(alloc: Global, words: &'a [&'a str]) -> Result<Words<'a>, WordsFault>
     ensures asked { Gives result (words_in (map (λ word. word.now) words.now)) }
+    // What they ask for in the command that only compares, replays and serves they ask for here.
+    ensures first { (ask : Asked) → old_words_in (map (λ word. word.now) words.now) ≡ Some ask → Gives result (Some ask) }
     // Words that clap takes are refused for want of memory alone.
     ensures taken { IfErr result (λ fault. takes office (map (λ word. word.now) words.now) ≡ true → fault ≡ NoMemory) }
     ensures faultless { IfErr result (λ fault. fault_of office (map (λ word. word.now) words.now) ≡ [] → fault ≡ NoMemory) }

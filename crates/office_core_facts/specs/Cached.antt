@@ -1,3 +1,4 @@
+-- Steps: no contract of a call that users make rests on this file.
 -- Messages that are cached, with the texts that they were read of.
 use Rattle.std.specs.Prelude.{◌≡◌, List, [], ◌∷◌, Ok, Box}
 use Rattle.std.specs.declared.alloc.Global.{Global}

@@ -16,7 +16,7 @@ use Rattle.office_mail.specs.Read.{read}
 use Rattle.office_mail.specs.Runs.{IsReady, IsReadyCount, cover, greatest, latest_day, orders_to}
 use Rattle.office_store_keeper.specs.declared.values.Letter.{Letter as KeptLetter}
 use Rattle.office_core_orders.specs.declared.faults.DeliverFault.{DeliverFault}
-use Rattle.office_core_orders.specs.declared.faults.DeliverFault.TheVariants.{Mail, OtherText, Store}
+use Rattle.office_core_orders.specs.declared.faults.DeliverFault.TheVariants.{Mail, Store}
 use Rattle.office_core_orders.specs.declared.faults.Held.{Held}
 use Rattle.office_core_orders.specs.declared.faults.StoreFault.{StoreFault}
 use Rattle.office_core_orders.specs.declared.faults.StoreFault.TheVariants as fault
@@ -85,20 +85,9 @@ letter_answer (Ok None) = Refused refusal.NoMessage
 letter_answer (Err f) = Refused (refusal_for f)
 
 abbrev pub delivery_answer : Result Held DeliverFault → Answer
-delivery_answer (Ok held) = Delivered (Ok held)
-delivery_answer (Err OtherText) = Delivered (Err OtherText)
 delivery_answer (Err Store) = Refused refusal.Store
 delivery_answer (Err (Mail mail.NoMemory)) = Refused refusal.NoMemory
-delivery_answer (Err (Mail mail.TooLong)) = Delivered (Err (Mail mail.TooLong))
-delivery_answer (Err (Mail mail.BadParagraph)) = Delivered (Err (Mail mail.BadParagraph))
-delivery_answer (Err (Mail (mail.MissingField field))) = Delivered (Err (Mail (mail.MissingField field)))
-delivery_answer (Err (Mail mail.UnknownSender)) = Delivered (Err (Mail mail.UnknownSender))
-delivery_answer (Err (Mail mail.BadNumber)) = Delivered (Err (Mail mail.BadNumber))
-delivery_answer (Err (Mail mail.UnknownKind)) = Delivered (Err (Mail mail.UnknownKind))
-delivery_answer (Err (Mail mail.WrongRole)) = Delivered (Err (Mail mail.WrongRole))
-delivery_answer (Err (Mail mail.TooManyParagraphs)) = Delivered (Err (Mail mail.TooManyParagraphs))
-delivery_answer (Err (Mail mail.UnknownArchitecture)) = Delivered (Err (Mail mail.UnknownArchitecture))
-delivery_answer (Err (Mail (mail.BadValue field))) = Delivered (Err (Mail (mail.BadValue field)))
+delivery_answer reply = Delivered reply
 
 -- a text is a message of another sender
 abbrev pub is_of_other : ℕ → Result Message MailFault → Bool
@@ -155,33 +144,43 @@ abbrev pub IsProposedFor : OfficeState → List (List ℕ) → Option Proposal �
 IsProposedFor s sources None = trial_date (latest_day (orders_to s.setup s.kept s.finished)) request_terms.day ≡ None
 IsProposedFor s sources (Some proposal) = IsProposed s.setup s.kept s.finished request_terms sources proposal
 
--- the text that a page tells, where this is found
+-- the text that a page tells which was added to the first four
+abbrev pub added_page : OfficeState → Found → Page → Answer
+added_page s found page.Waiting = Told (waiting_text s.setup (record { progress = record { ready = found.ready; finished = s.finished }; awaited = found.awaited }))
+added_page s found page.Runs = Told (runs_text s)
+added_page s found page.Kept = Told (mail_text s.setup (mail_counts s.setup s.kept))
+added_page s found (page.Letter sender number) = letter_answer (Ok (get s.kept (sender, number)))
+added_page s found (page.Bag sender from) = Letter (bag_part s.kept sender from)
+added_page s found (page.Why source) = why_answer (Ok found.why)
+added_page s found (page.Order day) = Told (order_text s.setup (unbroken_of s.kept) day)
+added_page s found page.Hints = Told (hints_text s.setup s.finished (cover s.setup s.kept s.finished) found.seen (testing_after s.setup s.kept s.finished))
+added_page s found page.Unstable = Told (unstable_text s.setup.archs s.finished found.seen)
+added_page s found page.Propose = proposal_answer found.proposal
+added_page s found (page.ProposeFor source) = proposal_answer found.proposal
+added_page s found _ = Refused refusal.NoRoute
+
+-- the text that a page tells, where this is found: the first four, and those that were added
 abbrev pub page_answer : OfficeState → Found → Page → Answer
 page_answer s found page.Status = Status (record { ready = found.ready; finished = s.finished })
 page_answer s found page.Testing = Told (testing_text s.setup s.finished (testing_after s.setup s.kept s.finished))
 page_answer s found (page.Excuses run) = report_answer (Ok (option_map (λ reports. reports.excuses) (reports_at s run)))
 page_answer s found (page.Update run) = report_answer (Ok (option_map (λ reports. reports.updates) (reports_at s run)))
-page_answer s found page.Waiting = Told (waiting_text s.setup (record { progress = record { ready = found.ready; finished = s.finished }; awaited = found.awaited }))
-page_answer s found page.Runs = Told (runs_text s)
-page_answer s found page.Kept = Told (mail_text s.setup (mail_counts s.setup s.kept))
-page_answer s found (page.Letter sender number) = letter_answer (Ok (get s.kept (sender, number)))
-page_answer s found (page.Bag sender from) = Letter (bag_part s.kept sender from)
-page_answer s found (page.Why source) = why_answer (Ok found.why)
-page_answer s found (page.Order day) = Told (order_text s.setup (unbroken_of s.kept) day)
-page_answer s found page.Hints = Told (hints_text s.setup s.finished (cover s.setup s.kept s.finished) found.seen (testing_after s.setup s.kept s.finished))
-page_answer s found page.Unstable = Told (unstable_text s.setup.archs s.finished found.seen)
-page_answer s found page.Propose = proposal_answer found.proposal
-page_answer s found (page.ProposeFor source) = proposal_answer found.proposal
+page_answer s found added = added_page s found added
 
--- The answer to a POST with this body: what is due to the delivery, the status after the settle, or what the hints would
--- change. A text that is only looked at is answered as if it were delivered.
+-- The answer to a POST that was added to the first two: what is due to a delivery, or what the hints would change. A text
+-- that is only looked at is answered as if it were delivered.
+abbrev pub added_action : OfficeState → Found → Action → List ℕ → Answer
+added_action s found (DeliverOf sender) body = unless_other (is_of_other sender (read s.setup body)) (delivery_answer (answer_to s.setup s.kept body))
+added_action s found Look body = delivery_answer (answer_to s.setup s.kept body)
+added_action s found Try body = tried_answer s.setup body found.trial
+added_action s found (TryOn day) body = tried_answer s.setup body found.trial
+added_action s found _ body = Refused refusal.NoRoute
+
+-- The answer to a POST with this body: what is due to the delivery, the status after the settle, or as was added.
 abbrev pub action_answer : OfficeState → Found → Action → List ℕ → Answer
 action_answer s found Deliver body = delivery_answer (answer_to s.setup s.kept body)
-action_answer s found (DeliverOf sender) body = unless_other (is_of_other sender (read s.setup body)) (delivery_answer (answer_to s.setup s.kept body))
-action_answer s found Look body = delivery_answer (answer_to s.setup s.kept body)
 action_answer s found Settle body = Status (record { ready = found.ready; finished = found.ready })
-action_answer s found Try body = tried_answer s.setup body found.trial
-action_answer s found (TryOn day) body = tried_answer s.setup body found.trial
+action_answer s found added body = added_action s found added body
 
 -- the body that a request has, of the bytes after its head; none where they are too few
 abbrev pub body_of : ℕ → List ℕ → Option (List ℕ)
@@ -203,32 +202,35 @@ answer_of s found (asks.Refused r) rest = Refused r
 answer_of s found (asks.Tell page) rest = page_answer s found page
 answer_of s found (asks.Post p) rest = post_answer s found (posted_body (asks.Post p) rest)
 
--- what is found is so, as far as a page tells it
+-- what is found is so, as far as a page tells it that was added to the first four
+abbrev pub IsFoundForAdded : OfficeState → Found → Page → Type 0
+IsFoundForAdded s found page.Waiting = IsReadyCount s.setup s.kept found.ready × Awaits s.setup s.kept (found.ready + 1) found.awaited
+IsFoundForAdded s found (page.Why source) = IsWhy s.setup s.kept s.finished source found.why
+IsFoundForAdded s found page.Hints = IsSeen s.setup s.kept found.seen
+IsFoundForAdded s found page.Unstable = IsSeen s.setup s.kept found.seen
+IsFoundForAdded s found page.Propose = IsProposedFor s [] found.proposal
+IsFoundForAdded s found (page.ProposeFor source) = IsProposedFor s (source ∷ []) found.proposal
+IsFoundForAdded s found _ = ⊤
+
+-- as far as any page tells it
 abbrev pub IsFoundFor : OfficeState → Found → Page → Type 0
 IsFoundFor s found page.Status = IsReadyCount s.setup s.kept found.ready
 IsFoundFor s found page.Testing = ⊤
 IsFoundFor s found (page.Excuses run) = ⊤
 IsFoundFor s found (page.Update run) = ⊤
-IsFoundFor s found page.Waiting = IsReadyCount s.setup s.kept found.ready × Awaits s.setup s.kept (found.ready + 1) found.awaited
-IsFoundFor s found page.Runs = ⊤
-IsFoundFor s found page.Kept = ⊤
-IsFoundFor s found (page.Letter sender number) = ⊤
-IsFoundFor s found (page.Bag sender from) = ⊤
-IsFoundFor s found (page.Why source) = IsWhy s.setup s.kept s.finished source found.why
-IsFoundFor s found (page.Order day) = ⊤
-IsFoundFor s found page.Hints = IsSeen s.setup s.kept found.seen
-IsFoundFor s found page.Unstable = IsSeen s.setup s.kept found.seen
-IsFoundFor s found page.Propose = IsProposedFor s [] found.proposal
-IsFoundFor s found (page.ProposeFor source) = IsProposedFor s (source ∷ []) found.proposal
+IsFoundFor s found added = IsFoundForAdded s found added
 
--- and as far as the answer to a POST does
+-- and as far as the answer to a POST does that was added to the first two
+abbrev pub IsFoundByAdded : OfficeState → Found → Action → List ℕ → Type 0
+IsFoundByAdded s found Try body = is_utf8 body ≡ true → IsTrial s.setup s.kept s.finished request_terms (hints_in body) found.trial
+IsFoundByAdded s found (TryOn day) body = is_utf8 body ≡ true → IsTrial s.setup s.kept s.finished (terms_on day) (hints_in body) found.trial
+IsFoundByAdded s found _ body = ⊤
+
+-- as far as the answer to any POST does
 abbrev pub IsFoundBy : OfficeState → Found → Action → List ℕ → Type 0
 IsFoundBy s found Deliver body = ⊤
-IsFoundBy s found (DeliverOf sender) body = ⊤
-IsFoundBy s found Look body = ⊤
 IsFoundBy s found Settle body = IsReadyCount s.setup s.kept found.ready
-IsFoundBy s found Try body = is_utf8 body ≡ true → IsTrial s.setup s.kept s.finished request_terms (hints_in body) found.trial
-IsFoundBy s found (TryOn day) body = is_utf8 body ≡ true → IsTrial s.setup s.kept s.finished (terms_on day) (hints_in body) found.trial
+IsFoundBy s found added body = IsFoundByAdded s found added body
 
 abbrev pub IsFoundByPost : OfficeState → Found → Option (Action × List ℕ) → Type 0
 IsFoundByPost s found None = ⊤
@@ -253,17 +255,18 @@ waits_of (asks.Post p) = p.waits
 abbrev pub continued : Bool → List ℕ
 continued goes_on = if goes_on then continue_bytes else []
 
--- What is kept after a POST: the whole body is delivered once, unless a fault was met. On a sender's path it is delivered only if it is no
+-- What is kept after a POST that was added to the first two. On a sender's path a body is delivered only if it is no
 -- message of another sender.
+abbrev pub kept_by_added : OfficeState → Action → List ℕ → Option StoreFault → Kept
+kept_by_added s (DeliverOf sender) body None = if is_of_other sender (read s.setup body) then s.kept else kept_from s.setup s.kept (body ∷ [])
+kept_by_added s _ body fault = s.kept
+
+-- what is kept after a POST: the whole body is delivered once, unless a fault was met
 abbrev pub kept_by : OfficeState → Action → List ℕ → Option StoreFault → Kept
 kept_by s Deliver body None = kept_from s.setup s.kept (body ∷ [])
 kept_by s Deliver body (Some f) = s.kept
-kept_by s (DeliverOf sender) body None = if is_of_other sender (read s.setup body) then s.kept else kept_from s.setup s.kept (body ∷ [])
-kept_by s (DeliverOf sender) body (Some f) = s.kept
-kept_by s Look body fault = s.kept
 kept_by s Settle body fault = s.kept
-kept_by s Try body fault = s.kept
-kept_by s (TryOn day) body fault = s.kept
+kept_by s added body fault = kept_by_added s added body fault
 
 -- the texts that a request delivers to an office with this setup
 abbrev pub delivered_by : Lists → Option (Action × List ℕ) → Option StoreFault → List (List ℕ)
@@ -271,16 +274,17 @@ delivered_by setup (Some (Deliver, body)) None = body ∷ []
 delivered_by setup (Some (DeliverOf sender, body)) None = if is_of_other sender (read setup body) then [] else body ∷ []
 delivered_by setup _ _ = []
 
+-- whether a POST settles that was added to the first two
+abbrev pub settles_by_added : OfficeState → Action → List ℕ → Option StoreFault → Bool
+settles_by_added s (DeliverOf sender) body None = not (is_of_other sender (read s.setup body)) && is_ok (answer_to s.setup s.kept body)
+settles_by_added s _ body fault = false
+
 -- whether a POST settles: a delivery that is held, and a settle
 abbrev pub settles : OfficeState → Action → List ℕ → Option StoreFault → Bool
 settles s Deliver body None = is_ok (answer_to s.setup s.kept body)
 settles s Deliver body (Some f) = false
-settles s (DeliverOf sender) body None = not (is_of_other sender (read s.setup body)) && is_ok (answer_to s.setup s.kept body)
-settles s (DeliverOf sender) body (Some f) = false
-settles s Look body fault = false
 settles s Settle body fault = true
-settles s Try body fault = false
-settles s (TryOn day) body fault = false
+settles s added body fault = settles_by_added s added body fault
 
 -- what a POST does
 pub record Moves (before after : OfficeState) (action : Action) (body : List ℕ) (fault : Option StoreFault) (ready : ℕ) (rose : Type 0) : Type 0 where
@@ -349,16 +353,7 @@ abbrev pub IsUnread : Option (List ℕ) → List ℕ → Refusal → Type 0
 IsUnread left input refusal.HeadTooLarge = (RequestExceeds field_room input × RequestOverflows field_room input) ⊎ ((length input ≡ head_room) × HasNoRequest input)
 IsUnread left input refusal.BadRequest = NeverHasRequest input ⊎ ((0 < length input) × IsAtEnd left × HasNoRequest input)
 IsUnread left input refusal.NoMemory = ⊤
-IsUnread left input refusal.NoRoute = ⊥
-IsUnread left input refusal.NoRun = ⊥
-IsUnread left input refusal.NoMessage = ⊥
-IsUnread left input refusal.NoSource = ⊥
-IsUnread left input refusal.OtherSender = ⊥
-IsUnread left input refusal.OnlyGet = ⊥
-IsUnread left input refusal.OnlyPost = ⊥
-IsUnread left input refusal.LengthRequired = ⊥
-IsUnread left input refusal.TooLong = ⊥
-IsUnread left input refusal.Store = ⊥
+IsUnread left input _ = ⊥
 
 pub record Unread (before after : OfficeState) (left : Option (List ℕ)) (input told reply : List ℕ) (code : ℕ) : Type 0 where
   pub few : length input ≤ head_room

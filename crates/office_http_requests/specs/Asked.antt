@@ -116,11 +116,7 @@ plain_number text = if has_leading_zero text then 0 else number_or_zero text
 -- The length of the body: one that is stated as a number, and not beside a transfer coding. A settle may leave it out.
 abbrev pub absent_length : Action → Bool → Result ℕ Refusal
 absent_length Settle coded = if coded then Err LengthRequired else Ok 0
-absent_length Deliver coded = Err LengthRequired
-absent_length (DeliverOf sender) coded = Err LengthRequired
-absent_length Look coded = Err LengthRequired
-absent_length Try coded = Err LengthRequired
-absent_length (TryOn day) coded = Err LengthRequired
+absent_length _ coded = Err LengthRequired
 
 abbrev pub posted_length : Action → Stated → Bool → Result ℕ Refusal
 posted_length action Absent coded = absent_length action coded
@@ -180,32 +176,37 @@ source_asked tell name method = option_map_or (λ source. tell_asked (tell sourc
 abbrev pub day_asked : (Date → Asked) → List ℕ → Asked
 day_asked ask text = option_map_or ask (day_in text) (Refused NoRoute)
 
--- By the route of the path. A report names its run behind the second slash; a kept text, and a part of the kept mail, its
--- sender there, and then a number. Mail of a sender names the sender there, what is told of a source the source, and an
--- order and a trial their day.
+-- By a route that came behind the first six. A kept text, and a part of the kept mail, names its sender behind the second
+-- slash, and then a number. Mail of a sender names the sender there, what is told of a source the source, and an order
+-- and a trial their day.
+abbrev pub added_asked : Lists → Route → List ℕ → List ℕ → ℕ → Framing → Asked
+added_asked setup route.MailOf method path minor framing = mail_of_asked setup (drop 6 path) method minor framing
+added_asked setup route.Lint method path minor framing = post_asked Look method minor framing
+added_asked setup route.Try method path minor framing = post_asked Try method minor framing
+added_asked setup route.TryOn method path minor framing = day_asked (λ day. post_asked (TryOn day) method minor framing) (drop 5 path)
+added_asked setup route.Waiting method path minor framing = tell_asked Waiting method
+added_asked setup route.Runs method path minor framing = tell_asked Runs method
+added_asked setup route.Kept method path minor framing = tell_asked Kept method
+added_asked setup route.Letter method path minor framing = numbered_asked letter_by setup (drop 6 path) method
+added_asked setup route.Bag method path minor framing = numbered_asked bag_by setup (drop 5 path) method
+added_asked setup route.Why method path minor framing = source_asked Why (drop 5 path) method
+added_asked setup route.Order method path minor framing = day_asked (λ day. tell_asked (Order day) method) (drop 7 path)
+added_asked setup route.Hints method path minor framing = tell_asked Hints method
+added_asked setup route.Unstable method path minor framing = tell_asked Unstable method
+added_asked setup route.Propose method path minor framing = tell_asked Propose method
+added_asked setup route.ProposeFor method path minor framing = source_asked ProposeFor (drop 9 path) method
+added_asked setup _ method path minor framing = Refused NoRoute
+
+-- By the route of the path: the first six, and those that were added. A report names its run behind the second slash.
 abbrev pub asked_at : Lists → Option Route → List ℕ → List ℕ → ℕ → Framing → Asked
 asked_at setup None method path minor framing = Refused NoRoute
 asked_at setup (Some route.Mail) method path minor framing = post_asked Deliver method minor framing
-asked_at setup (Some route.MailOf) method path minor framing = mail_of_asked setup (drop 6 path) method minor framing
-asked_at setup (Some route.Lint) method path minor framing = post_asked Look method minor framing
 asked_at setup (Some route.Settle) method path minor framing = post_asked Settle method minor framing
-asked_at setup (Some route.Try) method path minor framing = post_asked Try method minor framing
-asked_at setup (Some route.TryOn) method path minor framing = day_asked (λ day. post_asked (TryOn day) method minor framing) (drop 5 path)
 asked_at setup (Some route.Status) method path minor framing = tell_asked Status method
 asked_at setup (Some route.Testing) method path minor framing = tell_asked Testing method
 asked_at setup (Some route.Excuses) method path minor framing = tell_asked (Excuses (plain_number (drop 9 path))) method
 asked_at setup (Some route.Update) method path minor framing = tell_asked (Update (plain_number (drop 8 path))) method
-asked_at setup (Some route.Waiting) method path minor framing = tell_asked Waiting method
-asked_at setup (Some route.Runs) method path minor framing = tell_asked Runs method
-asked_at setup (Some route.Kept) method path minor framing = tell_asked Kept method
-asked_at setup (Some route.Letter) method path minor framing = numbered_asked letter_by setup (drop 6 path) method
-asked_at setup (Some route.Bag) method path minor framing = numbered_asked bag_by setup (drop 5 path) method
-asked_at setup (Some route.Why) method path minor framing = source_asked Why (drop 5 path) method
-asked_at setup (Some route.Order) method path minor framing = day_asked (λ day. tell_asked (Order day) method) (drop 7 path)
-asked_at setup (Some route.Hints) method path minor framing = tell_asked Hints method
-asked_at setup (Some route.Unstable) method path minor framing = tell_asked Unstable method
-asked_at setup (Some route.Propose) method path minor framing = tell_asked Propose method
-asked_at setup (Some route.ProposeFor) method path minor framing = source_asked ProposeFor (drop 9 path) method
+asked_at setup (Some added) method path minor framing = added_asked setup added method path minor framing
 
 unfoldable pub asked_by : Lists → List ℕ → List ℕ → ℕ → Framing → Asked
 asked_by setup method target minor framing = asked_at setup (route_of (path_of target)) method (path_of target) minor framing

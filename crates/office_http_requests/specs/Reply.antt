@@ -66,17 +66,7 @@ refusal_code refusal.Store = 500
 abbrev pub refusal_allow : Refusal → List ℕ
 refusal_allow refusal.OnlyGet = codes "Allow: GET\r\n"
 refusal_allow refusal.OnlyPost = codes "Allow: POST\r\n"
-refusal_allow refusal.BadRequest = []
-refusal_allow refusal.NoRoute = []
-refusal_allow refusal.NoRun = []
-refusal_allow refusal.NoMessage = []
-refusal_allow refusal.NoSource = []
-refusal_allow refusal.OtherSender = []
-refusal_allow refusal.LengthRequired = []
-refusal_allow refusal.TooLong = []
-refusal_allow refusal.HeadTooLarge = []
-refusal_allow refusal.NoMemory = []
-refusal_allow refusal.Store = []
+refusal_allow _ = []
 
 -- the reply to a request that is refused
 abbrev pub refused : Refusal → Reply
@@ -93,16 +83,8 @@ bad_request text = record { code = 400; allow = []; body = text }
 -- the status code for a delivery that is refused
 abbrev pub mail_code : MailFault → ℕ
 mail_code mail.TooLong = 413
-mail_code mail.BadParagraph = 400
-mail_code (mail.MissingField field) = 400
-mail_code mail.UnknownSender = 400
-mail_code mail.BadNumber = 400
-mail_code mail.UnknownKind = 400
-mail_code mail.WrongRole = 400
-mail_code mail.TooManyParagraphs = 400
-mail_code mail.UnknownArchitecture = 400
-mail_code (mail.BadValue field) = 400
 mail_code mail.NoMemory = 503
+mail_code _ = 400
 
 abbrev pub fault_code : DeliverFault → ℕ
 fault_code (Mail fault) = mail_code fault

@@ -1,11 +1,13 @@
 -- Binaries of a build, and the paragraphs that they are read from.
-use Rattle.std.proofs.Common.{◌≡◌, ℕ, ◌+◌, ◌<◌, ◌≤◌, List, [], ◌∷◌, ◌++◌, length, get_or, Result, Ok, Err, refl, sym, ap, ◌∙◌, ⊎_elim, arith}
+use Rattle.std.proofs.Common.{◌≡◌, ℕ, ◌+◌, ◌<◌, ◌≤◌, List, [], ◌∷◌, ◌++◌, length, get_or, Result, Ok, Err, ◌⊎◌, inl, inr, refl, sym, ap, ◌∙◌, ⊎_elim, arith}
 use Rattle.std.proofs.lemmas.Bool.{cases_lt}
 use Rattle.std.proofs.lemmas.List.{get_or_append_left, get_or_push, get_or_default, length_push}
 use Rattle.deb_control.specs.Binary.{binary_of}
 use Rattle.deb_control.specs.declared.binary.Binary.{Binary}
 use Rattle.deb_control.specs.declared.fault.BinaryFault.{BinaryFault}
+use Rattle.deb_control.specs.declared.fault.BinaryFault.TheVariants as binary_fault
 use Rattle.office_mail_setup.specs.Steps.{Paragraph}
+use Rattle.office_mail.specs.Answers.{Gives}
 use Rattle.office_mail.specs.Read.{of_binary, binary_in}
 use Rattle.office_mail.specs.BuildSteps.{AreRead}
 
@@ -15,6 +17,20 @@ same r a b e f = cc
 binary_ok : (r : Result Binary BinaryFault) (b : Binary) → of_binary r ≡ Ok b → r ≡ Ok b
 binary_ok (Ok x) b e = ap Ok (same (of_binary (Ok x)) x b refl e)
 binary_ok (Err x) b e = absurd cc
+
+-- what was read of a binary, as mail has it, where it is what was described, unless memory ran out
+pub told_as_mail : (r said : Result Binary BinaryFault) → (r ≡ said) ⊎ (r ≡ Err binary_fault.NoMemory) → Gives (of_binary r) (of_binary said)
+told_as_mail (Ok b) said (inl e) = ap of_binary (sym e)
+told_as_mail (Ok b) said (inr e) = absurd cc
+told_as_mail (Err (binary_fault.MissingField f)) said (inl e) = ap of_binary (sym e)
+told_as_mail (Err (binary_fault.MissingField f)) said (inr e) = absurd cc
+told_as_mail (Err (binary_fault.BadName f)) said (inl e) = ap of_binary (sym e)
+told_as_mail (Err (binary_fault.BadName f)) said (inr e) = absurd cc
+told_as_mail (Err (binary_fault.BadVersion f)) said (inl e) = ap of_binary (sym e)
+told_as_mail (Err (binary_fault.BadVersion f)) said (inr e) = absurd cc
+told_as_mail (Err (binary_fault.BadRelation f)) said (inl e) = ap of_binary (sym e)
+told_as_mail (Err (binary_fault.BadRelation f)) said (inr e) = absurd cc
+told_as_mail (Err binary_fault.NoMemory) said e = tt
 
 -- what a paragraph says is the binary that it describes
 described : (p : Paragraph) (b : Binary) → binary_in p ≡ Ok b → binary_of p ≡ Ok b

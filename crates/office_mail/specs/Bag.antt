@@ -1,7 +1,6 @@
 -- Bags: messages one after another, each behind a line that says how long it is.
 use Rattle.std.specs.Prelude.{◌≡◌, ◌≢◌, ℕ, ◌<◌, ◌≤◌, ◌⊎◌, Option, List, [], ◌∷◌, ◌++◌, length, take, flat_map, codes, decimal, Some, None}
 use Rattle.std.specs.List.{AllByRecursion}
-use Rattle.deb_version.specs.Characters as chars
 use Rattle.office_mail.specs.declared.bag.BagFault.{BagFault}
 use Rattle.office_mail.specs.declared.bag.BagFault.TheVariants.{BadHeader, Truncated, ReadFault, NoMemory}
 
@@ -11,7 +10,7 @@ IsPrefixOf xs ys = (rest : List ℕ) × (xs ++ rest ≡ ys)
 
 -- the line before a message of n bytes
 abbrev pub header : ℕ → List ℕ
-header n = codes "mail " ++ decimal n ++ chars.line_feed ∷ []
+header n = codes "mail " ++ decimal n ++ codes "\n"
 
 -- a message with its line
 abbrev pub framed : List ℕ → List ℕ

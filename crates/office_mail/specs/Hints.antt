@@ -2,7 +2,7 @@
 use Rattle.std.specs.Prelude.{ℕ, Bool, ◌&&◌, if◌then◌else◌, ◌==◌, List, [], ◌∷◌, map, codes, Result, Ok, Err}
 use Rattle.std.specs.List.{list_any, before_first, after_first}
 use Rattle.std.specs.Str.{bytes_eq}
-use Rattle.deb_version.specs.Characters as chars
+use Rattle.deb_version.specs.Characters.{char}
 use Rattle.deb_control.specs.Relations.{◌>>=◌, is_package_name, is_version}
 use Rattle.testing_rules_items.specs.declared.item.Hint.{Hint}
 use Rattle.testing_rules_items.specs.declared.item.Hint.TheVariants.{Block, Unblock, Easy, AgeDays, Remove, BlockAll}
@@ -29,7 +29,7 @@ name_in word = if is_package_name word then Ok word else Err BadHint
 
 -- a source at a version: a name, `/` and a version, where the first `/` separates them
 abbrev pub is_slash : ℕ → Bool
-is_slash c = c == chars.slash
+is_slash c = c == char "/"
 
 unfoldable pub item_in : List ℕ → Result HintItem MailFault
 item_in word =

@@ -137,15 +137,8 @@ has_binaries (p ∷ ps) = all_have binary_fields_needed (p ∷ ps)
 -- the fields of a kind are there; a kind that is none has no fields
 unfoldable pub has_fields_of : Option Kind → Paragraph → List Paragraph → Result Bool MailFault
 has_fields_of None first rest = Ok true
-has_fields_of (Some kind.Upload) first rest = has_fields (fields_needed kind.Upload) first
-has_fields_of (Some kind.Drop) first rest = has_fields (fields_needed kind.Drop) first
 has_fields_of (Some kind.Build) first rest = has_binaries rest
-has_fields_of (Some kind.Bug) first rest = has_fields (fields_needed kind.Bug) first
-has_fields_of (Some kind.Hint) first rest = has_fields (fields_needed kind.Hint) first
-has_fields_of (Some kind.Unhint) first rest = has_fields (fields_needed kind.Unhint) first
-has_fields_of (Some kind.Delays) first rest = has_fields (fields_needed kind.Delays) first
-has_fields_of (Some kind.Run) first rest = has_fields (fields_needed kind.Run) first
-has_fields_of (Some kind.Nothing) first rest = has_fields (fields_needed kind.Nothing) first
+has_fields_of (Some k) first rest = has_fields (fields_needed k) first
 
 -- the sender of a name, and its place in the setup
 abbrev pub sender_from : ℕ → List ℕ → List Sender → Option (ℕ × Role)
@@ -157,15 +150,8 @@ sender_named setup name = sender_from 0 name setup.senders
 
 -- 63 paragraphs may follow the first in a build, and none in any other kind
 abbrev pub most_paragraphs : Kind → ℕ
-most_paragraphs kind.Upload = 0
-most_paragraphs kind.Drop = 0
 most_paragraphs kind.Build = 63
-most_paragraphs kind.Bug = 0
-most_paragraphs kind.Hint = 0
-most_paragraphs kind.Unhint = 0
-most_paragraphs kind.Delays = 0
-most_paragraphs kind.Run = 0
-most_paragraphs kind.Nothing = 0
+most_paragraphs _ = 0
 
 -- an architecture that is listed, or `all`
 abbrev pub is_arch : List (List ℕ) → List ℕ → Bool
@@ -181,13 +167,7 @@ knows_arch setup p = is_arch_if_there setup.archs (text_of p field.Architecture)
 unfoldable pub knows_archs : Lists → Kind → Paragraph → List Paragraph → Bool
 knows_archs setup kind.Drop first rest = knows_arch setup first
 knows_archs setup kind.Build first rest = list_all (knows_arch setup) rest
-knows_archs setup kind.Upload first rest = true
-knows_archs setup kind.Bug first rest = true
-knows_archs setup kind.Hint first rest = true
-knows_archs setup kind.Unhint first rest = true
-knows_archs setup kind.Delays first rest = true
-knows_archs setup kind.Run first rest = true
-knows_archs setup kind.Nothing first rest = true
+knows_archs setup _ first rest = true
 
 -- what the paragraphs say under the sender, the number and the kind that the first of them states
 unfoldable pub message_of : Lists → List ℕ → List ℕ → Option Kind → Paragraph → List Paragraph → Result Message MailFault

@@ -28,15 +28,9 @@ kind_of (Run order) = kind.Run
 
 -- each architecture that is named is listed, or `all`
 abbrev pub knows_named : List (List ℕ) → Body → Bool
-knows_named archs (Saying (item.Upload source version urgency day)) = true
 knows_named archs (Saying (item.Dropped name arch version)) = is_arch archs arch
 knows_named archs (Saying (item.Build binaries)) = list_all (λ (b : Binary). is_arch archs b.architecture) binaries
-knows_named archs (Saying (item.Bug bug source severity found fixed)) = true
-knows_named archs (Saying (item.Hint hint)) = true
-knows_named archs (Saying (item.Unhint number)) = true
-knows_named archs (Saying (item.Delays low medium high critical)) = true
-knows_named archs (Saying item.Nothing) = true
-knows_named archs (Run order) = true
+knows_named archs _ = true
 
 -- A message keeps to the setup: where one sender alone has the role that its kind needs, it is from that sender,
 -- and it names no architecture that is neither listed nor `all`.

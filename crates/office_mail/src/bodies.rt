@@ -2,7 +2,7 @@
 ghost use Rattle.std.specs.Prelude.{◌≡◌, ◌<◌, IfSome, Ok, length};
 ghost use Rattle.deb_control.specs.Binary.{binary_of};
 ghost use Rattle.office_mail.specs.Answers.{Gives, GivesBy};
-ghost use Rattle.office_mail.specs.Read.{upload_of, drop_of, fault_of_binary, binary_in, build_of, bug_of, hint_of, unhint_of, delays_of, order_of, body_of, said, binary_field};
+ghost use Rattle.office_mail.specs.Read.{upload_of, drop_of, fault_of_binary, of_binary, binary_in, build_of, bug_of, hint_of, unhint_of, delays_of, order_of, body_of, said, binary_field};
 ghost use Rattle.office_mail.specs.BuildSteps.{AreRead};
 ghost use Rattle.office_mail_setup.specs.Steps.{each_of};
 
@@ -132,18 +132,23 @@ fn place_named(name: &str, binaries: &[Binary]) -> Option<usize>
     None
 }
 
-#[tactic(auto, unfolding(crate::specs::Read::binary_in))]
-fn binary_in(alloc: Global, paragraph: &Paragraph<'_>) -> Result<Binary, MailFault>
-    ensures { Gives result (binary_in paragraph.now) }
+/// What was read of a binary, as mail has it.
+fn of_binary(read: Result<Binary, BinaryFault>) -> Result<Binary, MailFault>
+    ensures { result ≡ of_binary read }
 {
-    match Binary::parse(alloc, paragraph) {
+    match read {
         Ok(binary) => Ok(binary),
         Err(fault) => Err(fault_of_binary(fault)),
     }
 }
 
+fn binary_in(alloc: Global, paragraph: &Paragraph<'_>) -> Result<Binary, MailFault>
+    ensures { Gives result (binary_in paragraph.now) }
+{
+    of_binary(Binary::parse(alloc, paragraph))
+}
+
 /// The binary that a paragraph describes, beside the binary of another paragraph.
-#[tactic(auto, unfolding(crate::specs::Read::binary_in))]
 fn binary_like(
     alloc: Global,
     paragraph: &Paragraph<'_>,
@@ -153,10 +158,7 @@ fn binary_like(
     requires { binary_of before.now ≡ Ok like.now }
     ensures { Gives result (binary_in paragraph.now) }
 {
-    match Binary::parse_like(alloc, paragraph, before, like) {
-        Ok(binary) => Ok(binary),
-        Err(fault) => Err(fault_of_binary(fault)),
-    }
+    of_binary(Binary::parse_like(alloc, paragraph, before, like))
 }
 
 fn fault_of_binary(fault: BinaryFault) -> MailFault

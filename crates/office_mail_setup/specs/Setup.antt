@@ -2,7 +2,7 @@
 use Rattle.std.specs.Prelude.{ℕ, ◌+◌, ◌≡◌, ◌≤◌, Bool, true, false, ◌&&◌, ◌==◌, nat_le, if◌then◌else◌, List, [], ◌∷◌, length, map, codes, Option, Some, None, Result, Ok}
 use Rattle.std.specs.List.{list_all, count_by}
 use Rattle.std.specs.Str.{bytes_eq}
-use Rattle.deb_version.specs.Characters as chars
+use Rattle.deb_version.specs.Characters.{char}
 use Rattle.deb_control.specs.Paragraphs.{reading, value_of}
 use Rattle.deb_control.specs.Relations.{◌>>=◌, is_qualifier_char}
 use Rattle.office_mail_setup.specs.declared.setup.Sender.{Sender}
@@ -31,7 +31,7 @@ stated p f = given (value_of p (setup_field_name f)) (MissingField f)
 -- a sender's name: 1 to 32 lower case letters, digits and hyphens, a letter in front
 unfoldable pub is_sender_name : List ℕ → Bool
 is_sender_name [] = false
-is_sender_name (c ∷ cs) = nat_le chars.lower_a c && nat_le c chars.lower_z && list_all is_qualifier_char cs && nat_le (length cs) 31
+is_sender_name (c ∷ cs) = nat_le (char "a") c && nat_le c (char "z") && list_all is_qualifier_char cs && nat_le (length cs) 31
 
 unfoldable pub are_senders : List (List ℕ) → Bool
 are_senders names = list_all is_sender_name names && is_distinct names

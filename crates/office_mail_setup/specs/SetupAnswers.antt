@@ -1,17 +1,12 @@
 -- What calls that read a setup answer, against what is due.
 use Rattle.std.specs.Prelude.{◌≡◌, ⊤, Result, Ok, Err}
 use Rattle.office_mail_setup.specs.declared.setup.SetupFault.{SetupFault}
-use Rattle.office_mail_setup.specs.declared.setup.SetupFault.TheVariants as setup
+use Rattle.office_mail_setup.specs.declared.setup.SetupFault.TheVariants.{NoMemory}
 
 -- what a call answers is what is due, unless memory ran out
 abbrev pub SetupFails : {Y : Type 0} → SetupFault → Result Y SetupFault → Type 0
-SetupFails setup.NoMemory due = ⊤
-SetupFails setup.BadParagraph due = due ≡ Err setup.BadParagraph
-SetupFails (setup.MissingField f) due = due ≡ Err (setup.MissingField f)
-SetupFails setup.BadArchitecture due = due ≡ Err setup.BadArchitecture
-SetupFails setup.BadSender due = due ≡ Err setup.BadSender
-SetupFails setup.BadRoles due = due ≡ Err setup.BadRoles
-SetupFails setup.TooMany due = due ≡ Err setup.TooMany
+SetupFails NoMemory due = ⊤
+SetupFails e due = due ≡ Err e
 
 abbrev pub SetupGivesBy : {X Y : Type 0} → (X → Y) → Result X SetupFault → Result Y SetupFault → Type 0
 SetupGivesBy view (Ok x) due = due ≡ Ok (view x)

@@ -4,7 +4,7 @@ use Rattle.std.specs.List.{list_all, filter, slice_split, before_first}
 use Rattle.std.specs.Char.{is_ascii_digit}
 use Rattle.std.specs.Str.{bytes_eq, str_eq_ignore_ascii_case}
 use Rattle.std.specs.Str.Parse.{digits_value}
-use Rattle.deb_version.specs.Characters as chars
+use Rattle.deb_version.specs.Characters.{char}
 use Rattle.deb_control.specs.Text.{is_white}
 use Rattle.deb_control.specs.Paragraphs.{not_empty}
 use Rattle.deb_control.specs.Relations.{is_package_name, is_version}
@@ -22,7 +22,7 @@ some_if passes value = if passes then Some value else None
 -- a number: decimal digits without a leading zero
 unfoldable pub is_number : List ℕ → Bool
 is_number [] = false
-is_number (c ∷ cs) = list_all is_ascii_digit (c ∷ cs) && (not (c == chars.digit_zero) || length cs == 0)
+is_number (c ∷ cs) = list_all is_ascii_digit (c ∷ cs) && (not (c == char "0") || length cs == 0)
 
 -- the number that a text spells, where it is from low to high
 unfoldable pub number_in : ℕ → ℕ → List ℕ → Option ℕ
@@ -40,7 +40,7 @@ words text = filter not_empty (slice_split is_white text)
 -- four digits, a hyphen, two digits, a hyphen and two digits
 unfoldable pub is_day_form : List ℕ → Bool
 is_day_form text =
-    length text == 10 && slice_index text 4 == chars.hyphen && slice_index text 7 == chars.hyphen
+    length text == 10 && slice_index text 4 == char "-" && slice_index text 7 == char "-"
     && list_all is_ascii_digit (take 4 text) && list_all is_ascii_digit (take 2 (drop 5 text)) && list_all is_ascii_digit (take 2 (drop 8 text))
 
 -- which has these parts
@@ -76,7 +76,7 @@ urgency_named word =
 
 -- it goes to the first space or tab, behind which any commentary may stand, or to the end
 abbrev pub ends_urgency : ℕ → Bool
-ends_urgency c = c == chars.space || c == chars.tab
+ends_urgency c = c == char " " || c == char "\t"
 
 unfoldable pub urgency_in : List ℕ → Option Urgency
 urgency_in text = urgency_named (before_first ends_urgency text)

@@ -1,3 +1,4 @@
+-- Steps: no contract of a call that users make rests on this file.
 -- The order in which facts keep hints and unhints. That facts are kept is this office's own.
 use Rattle.std.specs.Prelude.{List}
 use Rattle.std.specs.List.Sorted.{IsStrictlySortedBy}

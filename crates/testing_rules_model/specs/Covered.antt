@@ -4,7 +4,7 @@ use Rattle.std.specs.Prelude.{ℕ, ◌+◌, List, [], ◌∷◌, Option, Some, N
 use Rattle.std.specs.List.{filter_map, flat_map}
 use Rattle.deb_control.specs.declared.binary.Binary.{Binary}
 use Rattle.testing_rules_items.specs.declared.item.Item.{Item}
-use Rattle.testing_rules_items.specs.declared.item.Item.TheVariants.{Upload, Dropped, Build, Bug, Hint, Unhint, Delays, Nothing}
+use Rattle.testing_rules_items.specs.declared.item.Item.TheVariants.{Upload, Dropped, Build, Bug, Hint, Unhint, Delays}
 use Rattle.testing_rules_model.specs.declared.facts.UploadIn.{UploadIn}
 use Rattle.testing_rules_model.specs.declared.facts.BuildIn.{BuildIn}
 use Rattle.testing_rules_model.specs.declared.facts.DropIn.{DropIn}
@@ -29,78 +29,42 @@ Covered = List CoveredItem
 abbrev pub upload_of : CoveredItem → Option UploadIn
 upload_of m = elim m.item [
   | Upload source version urgency day ↦ Some (record { source = source; version = version; urgency = urgency; day = day; sender = m.sender; number = m.number })
-  | Dropped _ _ _ ↦ None
-  | Build _ ↦ None
-  | Bug _ _ _ _ _ ↦ None
-  | Hint _ ↦ None
-  | Unhint _ ↦ None
-  | Delays _ _ _ _ ↦ None
-  | Nothing ↦ None
+  | _ ↦ None
 ]
 
 -- a drop: a binary package that left unstable on an architecture (this office decides that it is told by mail)
 abbrev pub drop_of : CoveredItem → Option DropIn
 drop_of m = elim m.item [
-  | Upload _ _ _ _ ↦ None
   | Dropped name arch version ↦ Some (record { name = name; arch = arch; version = version; sender = m.sender; number = m.number })
-  | Build _ ↦ None
-  | Bug _ _ _ _ _ ↦ None
-  | Hint _ ↦ None
-  | Unhint _ ↦ None
-  | Delays _ _ _ _ ↦ None
-  | Nothing ↦ None
+  | _ ↦ None
 ]
 
 -- a bug (Debian Developer's Reference 5.13.2)
 abbrev pub bug_of : CoveredItem → Option BugIn
 bug_of m = elim m.item [
-  | Upload _ _ _ _ ↦ None
-  | Dropped _ _ _ ↦ None
-  | Build _ ↦ None
   | Bug bug source severity found fixed ↦ Some (record { bug = bug; source = source; severity = severity; found = found; fixed = fixed; sender = m.sender; number = m.number })
-  | Hint _ ↦ None
-  | Unhint _ ↦ None
-  | Delays _ _ _ _ ↦ None
-  | Nothing ↦ None
+  | _ ↦ None
 ]
 
 -- a hint (its words are named after britney2's hints; this office decides that it comes by mail)
 abbrev pub hint_of : CoveredItem → Option HintIn
 hint_of m = elim m.item [
-  | Upload _ _ _ _ ↦ None
-  | Dropped _ _ _ ↦ None
-  | Build _ ↦ None
-  | Bug _ _ _ _ _ ↦ None
   | Hint hint ↦ Some (record { hint = hint; sender = m.sender; number = m.number })
-  | Unhint _ ↦ None
-  | Delays _ _ _ _ ↦ None
-  | Nothing ↦ None
+  | _ ↦ None
 ]
 
 -- an unhint (this office decides it)
 abbrev pub unhint_of : CoveredItem → Option UnhintIn
 unhint_of m = elim m.item [
-  | Upload _ _ _ _ ↦ None
-  | Dropped _ _ _ ↦ None
-  | Build _ ↦ None
-  | Bug _ _ _ _ _ ↦ None
-  | Hint _ ↦ None
   | Unhint number ↦ Some (record { cancels = number; sender = m.sender; number = m.number })
-  | Delays _ _ _ _ ↦ None
-  | Nothing ↦ None
+  | _ ↦ None
 ]
 
 -- delays (this office decides that they are told by mail)
 abbrev pub delays_of : CoveredItem → Option DelaysIn
 delays_of m = elim m.item [
-  | Upload _ _ _ _ ↦ None
-  | Dropped _ _ _ ↦ None
-  | Build _ ↦ None
-  | Bug _ _ _ _ _ ↦ None
-  | Hint _ ↦ None
-  | Unhint _ ↦ None
   | Delays low medium high critical ↦ Some (record { delays = record { low = low; medium = medium; high = high; critical = critical }; sender = m.sender; number = m.number })
-  | Nothing ↦ None
+  | _ ↦ None
 ]
 
 -- the binaries of a build, whose places are counted from the given one
@@ -111,16 +75,7 @@ placed_from place sender number (b ∷ bs) =
 
 -- the binaries of a build (Debian Policy 5.6.8, 7.1 and 7.5), from place 1
 abbrev pub builds_of : CoveredItem → List BuildIn
-builds_of m = elim m.item [
-  | Upload _ _ _ _ ↦ []
-  | Dropped _ _ _ ↦ []
-  | Build binaries ↦ placed_from 1 m.sender m.number binaries
-  | Bug _ _ _ _ _ ↦ []
-  | Hint _ ↦ []
-  | Unhint _ ↦ []
-  | Delays _ _ _ _ ↦ []
-  | Nothing ↦ []
-]
+builds_of m = elim m.item [ Build binaries ↦ placed_from 1 m.sender m.number binaries | _ ↦ [] ]
 
 -- what a set of messages says, kind by kind
 abbrev pub uploads_in : Covered → List UploadIn

@@ -82,11 +82,7 @@ is_named items name v = list_any (λ i. bytes_eq i.name name && is_same_version 
 -- the days that a hint asks for the source at this version (named after britney2's `age-days`)
 abbrev pub asked_days : Text → Text → Hint → Option ℕ
 asked_days name v (AgeDays n items) = if is_named items name v then Some n else None
-asked_days name v (Block names) = None
-asked_days name v BlockAll = None
-asked_days name v (Unblock items) = None
-asked_days name v (Easy items) = None
-asked_days name v (Remove items) = None
+asked_days name v _ = None
 
 -- those that the last such hint asks for (this office decides which)
 abbrev pub hinted_days : List HintIn → UploadIn → Option ℕ

@@ -8,7 +8,7 @@ use Rattle.std.specs.Ordering.{nat_cmp, on, flip_args, then_cmp}
 use Rattle.std.specs.Str.{bytes_eq}
 use Rattle.deb_version.specs.Order.{version_cmp}
 use Rattle.testing_rules_items.specs.declared.item.Severity.{Severity}
-use Rattle.testing_rules_items.specs.declared.item.Severity.TheVariants.{Critical, Grave, Serious, Important, Normal, Minor, Wishlist}
+use Rattle.testing_rules_items.specs.declared.item.Severity.TheVariants.{Critical, Grave, Serious}
 use Rattle.testing_rules_model.specs.declared.facts.UploadIn.{UploadIn}
 use Rattle.testing_rules_model.specs.declared.facts.BuildIn.{BuildIn}
 use Rattle.testing_rules_model.specs.declared.facts.DropIn.{DropIn}
@@ -132,10 +132,7 @@ abbrev pub is_release_critical : Severity → Bool
 is_release_critical Critical = true
 is_release_critical Grave = true
 is_release_critical Serious = true
-is_release_critical Important = false
-is_release_critical Normal = false
-is_release_critical Minor = false
-is_release_critical Wishlist = false
+is_release_critical _ = false
 
 -- the bug affects a version: from the version in which it was found on, and up to the one that fixes it (this office decides it)
 abbrev pub affects : BugIn → Text → Bool

@@ -4,7 +4,7 @@ use Rattle.std.specs.Prelude.{◌≡◌, ℕ, zero, suc, Bool, true, false, ◌&
 use Rattle.std.specs.List.{filter_map, flat_map, list_any, before_first, after_first}
 use Rattle.std.specs.Option.{option_map_or, option_to_list, is_none}
 use Rattle.std.specs.Str.{bytes_eq}
-use Rattle.testing_rules_items.specs.declared.item.Hint.TheVariants.{Block, Unblock, Easy, AgeDays, Remove, BlockAll}
+use Rattle.testing_rules_items.specs.declared.item.Hint.TheVariants.{Easy, Remove}
 use Rattle.testing_rules_items.specs.declared.item.HintItem.{HintItem}
 use Rattle.testing_rules_model.specs.declared.facts.HintIn.{HintIn}
 use Rattle.testing_rules_model.specs.declared.facts.UnhintIn.{UnhintIn}
@@ -51,14 +51,7 @@ is_in_testing t name v = option_map_or (is_same_version v) (testing_version t na
 
 -- the items of the remove hints in force, by number and then in the hint's order
 abbrev pub removals_of : HintIn → List (ℕ × HintItem)
-removals_of h = elim h.hint [
-  | Block _ ↦ []
-  | Unblock _ ↦ []
-  | Easy _ ↦ []
-  | AgeDays _ _ ↦ []
-  | Remove items ↦ map (λ i. (h.number, i)) items
-  | BlockAll ↦ []
-]
+removals_of h = elim h.hint [ Remove items ↦ map (λ i. (h.number, i)) items | _ ↦ [] ]
 
 -- testing's version v of a source leaves, where nothing breaks
 abbrev pub remove_version : List Text → ℕ → Text → Text → Suite → Outcome
@@ -103,15 +96,10 @@ move_items archs sources rows excuses number (i ∷ is) t =
 
 -- an easy hint moves its items as one, those that testing has at that version left out
 abbrev pub move_easy : List Text → List UploadIn → List RowIn → List Excuse → HintIn → Suite → Outcome
-move_easy archs sources rows excuses h t =
-    elim h.hint [
-      | Block _ ↦ nothing t
-      | Unblock _ ↦ nothing t
-      | Easy items ↦ move_items archs sources rows excuses h.number (filter (λ i. not (is_in_testing t i.name i.version)) items) t
-      | AgeDays _ _ ↦ nothing t
-      | Remove _ ↦ nothing t
-      | BlockAll ↦ nothing t
-    ]
+move_easy archs sources rows excuses h t = elim h.hint [
+  | Easy items ↦ move_items archs sources rows excuses h.number (filter (λ i. not (is_in_testing t i.name i.version)) items) t
+  | _ ↦ nothing t
+]
 
 -- Single moves (Debian Developer's Reference 5.13.2).
 

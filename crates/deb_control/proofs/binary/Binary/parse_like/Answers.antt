@@ -1,9 +1,12 @@
 use Rattle.std.proofs.Common.{Result, subst}
-use Rattle.deb_control.specs.Binary.{Gives}
+use Rattle.deb_control.specs.BinaryAnswers.{Gives}
 use Rattle.deb_control.specs.declared.binary.Binary.{Binary}
 use Rattle.deb_control.specs.declared.fault.BinaryFault.{BinaryFault}
 use Rattle.deb_control.proofs.Alike.{by_needs}
+use Rattle.deb_control.proofs.AnswerFacts.{described_or_memory}
 use Rattle.deb_control.proofs.binary.Binary.parse_like.Goals as goal
 
 pub returns : goal.returns
-returns c = subst (λ (said : Result Binary BinaryFault). Gives c.read_binary.result said) (by_needs c.args.paragraph.now) c.read_binary.ensures
+returns c =
+    let gives = subst (λ (said : Result Binary BinaryFault). Gives c.read_binary.result said) (by_needs c.args.paragraph.now) c.read_binary.ensures in
+    described_or_memory _ _ gives
