@@ -2,7 +2,7 @@
 import copy
 import datetime
 import re
-from model import ARCHS, Office, SENDERS, satisfies, vcmp
+from model import ARCHS, Office, Refused, SENDERS, satisfies, vcmp
 
 RELEASE, CLOCK = SENDERS.index("rt"), SENDERS.index("clock")
 NEED = re.compile(r"(\d+) (\S+) (\S+) of (\S+) (comes in|in testing), needs (.+): (nothing|\d+(?: and \d+)*)")
@@ -69,7 +69,23 @@ def tried(office, hints, day=None, of_all=False):
     changed = changes("excuse", excuse_lines(excuses), excuse_lines(others))
     changed += changes("update", update.splitlines(), decided.splitlines())
     changed += changes("testing", without.testing().splitlines(), late.testing().splitlines())
-    return text + changed, 0 if changed else 1
+    told = TriedText(text + changed)
+    told.late, told.behind = late, covers[RELEASE]
+    return told, 0 if changed else 1
+
+
+class TriedText(str):
+    """The text of a trial up to the lines on why hints are refused. It equals each text that goes on with lines that show
+    it."""
+
+    def __eq__(self, told):
+        due = [change for change in self.late.refused if change.number > self.behind]
+        return told.startswith(str(self)) and reasons_fault(self.late, due, told[len(self) :]) is None
+
+    def __ne__(self, told):
+        return not self == told
+
+    __hash__ = str.__hash__
 
 
 def sent_by(row):
@@ -117,14 +133,14 @@ def meets(row, clause):
     return any(satisfies(row, alternative) for alternative in clause)
 
 
-def state(office, source, row):
-    """How it stands with a row of unstable, where a source waits."""
-    known, of = office.known, row["source"]
+def state(known, change, row):
+    """How it stands with a row of unstable, where sources would come in."""
+    of = row["source"]
     if of not in known.sources or vcmp(row["source_version"], known.sources[of][1]) != 0:
         return "isn't current"
-    if of == source:
+    if of in change.coming:
         return "comes too"
-    excuse = known.excuse(of)
+    excuse = change.excuse(of)
     if excuse is None:
         return "is in testing"
     return "isn't a candidate: " + ", ".join(excuse[3]) if excuse[3] else "waits"
@@ -137,16 +153,17 @@ def on(arch, rows):
     return [rows[key] for _, _, key in here]
 
 
-def behind_nothing(office, source, arch, clause):
+def behind_nothing(known, change, clause):
     """The lines behind one whose clause nothing meets."""
-    lines = ["leaves %s %s" % (r["package"], r["version"]) for r in on(arch, office.rows) if meets(r, clause)]
-    offers = [r for r in on(arch, office.known.rows) if meets(r, clause)]
-    lines += ["unstable %s %s of %s %s" % (r["package"], r["version"], r["source"], state(office, source, r))
+    arch = change.offender[0]
+    lines = ["leaves %s %s" % (r["package"], r["version"]) for r in on(arch, change.old) if meets(r, clause)]
+    offers = [r for r in on(arch, known.rows) if meets(r, clause)]
+    lines += ["unstable %s %s of %s %s" % (r["package"], r["version"], r["source"], state(known, change, r))
               for r in offers]
     return lines if offers else lines + ["unstable nothing"]
 
 
-def need_of(line, rows, source, number):
+def need_of(line, rows, coming, number):
     """The row and the clause that a line of a refusal names, and which lines meet it; None for another line."""
     found = NEED.fullmatch(line)
     if found is None or int(found.group(1)) != number:
@@ -155,22 +172,21 @@ def need_of(line, rows, source, number):
     for row in rows:
         for clause in row["clauses"]:
             if (row["package"], row["version"], row["source"], clause_text(clause)) == (package, version, of, text) \
-                    and (place == "comes in") == (of == source):
+                    and (place == "comes in") == (of in coming):
                 return row, clause, [int(n) for n in numbers.split(" and ")] if numbers != "nothing" else []
     return None
 
 
-def refusal_fault(office, source, lines):
-    """What is wrong with the lines that show why a source can't move alone; None if nothing is."""
-    rows, coming = office.known.moved([source])
-    arch, package = office.known.offender(rows, coming)
-    here, needs, rest = on(arch, rows), [], [*lines]
+def shown_fault(known, change, lines):
+    """What is wrong with the lines that show why a change is refused; None if nothing is."""
+    arch, package = change.offender
+    here, needs, rest = on(arch, change.new), [], [*lines]
     while rest:
-        line, found = rest[0], need_of(rest[0], here, source, len(needs) + 1)
+        line, found = rest[0], need_of(rest[0], here, change.coming, len(needs) + 1)
         if found is None:
             return "no line of a refusal: %r" % line
         needs.append(found)
-        due = behind_nothing(office, source, arch, found[1]) if not found[2] else []
+        due = behind_nothing(known, change, found[1]) if not found[2] else []
         if rest[1:1 + len(due)] != due:
             return "behind %r: due %r" % (line, due)
         rest = rest[1 + len(due):]
@@ -181,6 +197,47 @@ def refusal_fault(office, source, lines):
         if sorted(id(needs[n - 1][0]) for n in numbers) != sorted(map(id, bearers)):
             return "line %d isn't groundless" % number
     return None if needs and needs[0][0]["package"] == package else "another package than %s comes first" % package
+
+
+def refusal_fault(office, source, lines):
+    """What is wrong with the lines that show why a source can't move alone; None if nothing is."""
+    known = office.known
+    rows, coming = known.moved([source])
+    return shown_fault(known, Refused(0, known.offender(rows, coming), [source], office.rows, rows, known.excuse), lines)
+
+
+def reasons_fault(office, due, text):
+    """What is wrong with a text on why these changes were refused by an office's last run; None if nothing is."""
+    first, *parts = re.split("(?m)^(?=refused )", text) if text else [""]
+    if first or len(parts) != len(due):
+        return "%d refusals are due: %r" % (len(due), text)
+    for change, part in zip(due, parts):
+        head, *lines = part.splitlines()
+        if head != "refused rt %d uninstallable %s %s" % (change.number, *change.offender):
+            return "another refusal is due than %r" % head
+        fault = shown_fault(office.known, change, lines)
+        if fault is not None:
+            return "%s: %s" % (head, fault)
+    return None
+
+
+def hint_standing(office, number):
+    """How it stands with a hint of which an office's last run decided nothing."""
+    cover = office.covers(office.finished)[0][RELEASE]
+    if number > cover or "\nHint: " not in office.kept[RELEASE, number]:
+        return "unknown"
+    return "nothing decided" if number in [n for n, _ in office.known.hints] else "cancelled"
+
+
+def hint_fault(office, number, text):
+    """What is wrong with a text on what an office's last run made of a hint; None if nothing is."""
+    fronts = ("easy %d " % number, "remove %d " % number)
+    named = [line for line in office.reports[office.finished][1].splitlines() if line.startswith(fronts)]
+    front = ["why %d rt %d" % (office.finished, number), *(named or [hint_standing(office, number)])]
+    told = "".join(line + "\n" for line in front)
+    if not text.startswith(told):
+        return "due %r, got %r" % (told, text)
+    return reasons_fault(office, [change for change in office.refused if change.number == number], text[len(told) :])
 
 
 def why_fault(office, source, said, text):

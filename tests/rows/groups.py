@@ -7,7 +7,7 @@ for few sources alone.
 import itertools
 import re
 from asked import CLOCK, NEED, RELEASE, clause_text, meets, next_run, on, state, unbroken
-from model import ARCHS, SENDERS, vcmp, works
+from model import ARCHS, Refused, SENDERS, vcmp, works
 
 STUCK = re.compile(r"stuck (\S+) (\S+) uninstallable (\S+) (\S+)")
 
@@ -95,7 +95,7 @@ class Behind:
         lines = ["leaves %s %s" % (r["package"], r["version"]) for r in on(arch, self.rows) if meets(r, clause)]
         offers = [r for r in on(arch, self.late.known.rows) if meets(r, clause)]
         for row in offers:
-            told = state(self.late, name, row)
+            told = state(self.late.known, Refused(0, (), [name], {}, {}, self.late.known.excuse), row)
             told = "is stuck" if row["source"] in dead and told != "isn't current" else told
             lines.append("unstable %s %s of %s %s" % (row["package"], row["version"], row["source"], told))
         return lines if offers else lines + ["unstable nothing"]

@@ -121,6 +121,9 @@ def works(rows):
 
 # What the last run knew of unstable's sources and rows, of hints in force and bugs, and what can be asked of it.
 Known = collections.namedtuple("Known", "sources rows hints bugs excuse named moved offender")
+# A change of testing that the last run refused: by which hint, what it would break, which sources would come in, the rows
+# before it and after it, and what the run's excuses say of a source.
+Refused = collections.namedtuple("Refused", "number offender coming old new excuse")
 
 
 class Office:
@@ -128,6 +131,7 @@ class Office:
         self.kept, self.finished = {}, 0
         self.sources, self.rows = {}, {}
         self.reports, self.facts, self.known = {}, [], None
+        self.refused = []
         self.behind_groups = {}, {}, {}  # rows, sources and candidates where the last run's single moves began
 
     def deliver(self, text):
@@ -255,6 +259,7 @@ class Office:
                 why.append("removal asked")
             return age, need, aged, why
 
+        excused, self.refused = {s: excuse(s) for s in unstable}, []
         candidates, lines = {}, ["excuses %d %s" % (k, day)]
         for s in sorted(unstable):
             v, old = unstable[s][1], self.sources.get(s)
@@ -296,6 +301,7 @@ class Office:
                         bad = offender(new, {})
                         if bad:
                             lines.append("remove %d refuse %s %s uninstallable %s %s" % (n, s, self.sources[s], *bad))
+                            self.refused.append(Refused(n, bad, [], self.rows, new, excused.get))
                         else:
                             lines.append("remove %d accept %s %s" % (n, s, self.sources[s]))
                             self.rows = new
@@ -315,6 +321,7 @@ class Office:
                 off = offender(new, coming)
                 if off:
                     lines.append("easy %d refuse uninstallable %s %s" % (n, *off))
+                    self.refused.append(Refused(n, off, [s for s, _ in todo], self.rows, new, excused.get))
                 else:
                     lines.append("easy %d accept %s" % (n, " ".join("%s %s" % (s, left[s]) for s, _ in todo)))
                     self.rows = new

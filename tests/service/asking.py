@@ -24,7 +24,7 @@ import urllib.request
 sys.dont_write_bytecode = True
 TESTS = os.path.join(os.path.dirname(os.path.abspath(__file__)), "..")
 sys.path.insert(0, os.path.join(TESTS, "rows"))
-from asked import office_after, tried as would_change, why_fault
+from asked import RELEASE, hint_fault, office_after, tried as would_change, why_fault
 from model import Office, SENDERS, paragraphs
 from reopened_rows import row_of
 from rows import mail, rows_of, steps_of
@@ -133,6 +133,9 @@ def over_earlier_runs(seed, office, store, sources):
         want("%d: why in run %d" % (seed, run), 0 if all(source in left.known.sources for source in sources) else 1, status)
         again = call("why", *sources, "--run", str(run), "--conf", CONF, bag=bag)
         want("%d: why in run %d over a bag" % (seed, run), (got, status), again)
+        for number in range(1, left.covers(run)[0][RELEASE] + 1):
+            got, _ = call("why", "--hint", str(number), "--run", str(run), "--conf", CONF, "--db", store)
+            want("%d: hint %d in run %d" % (seed, number, run), None, hint_fault(left, number, got))
 
 
 def mail_lines(office):

@@ -1,4 +1,4 @@
-//! Why sources stand where a run left them.
+//! Why sources stand where a run left them, and what a run made of hints.
 
 ghost use Rattle.std.specs.Prelude.{◌≡◌, if◌then◌else◌, IfOk};
 ghost use Rattle.office_cli.specs.Told.{IsAsked};
@@ -8,7 +8,8 @@ use crate::tasks::{
     end_store, find_file, out_of_memory, replay_to, tell_setup, tell_store, tell_unfound,
 };
 use crate::telling::{print_text, refuse};
-use office_core_check::{office_after, why_of_run};
+use office_core_check::{office_after, office_before, why_of_run};
+use office_core_outcome::HintText;
 use office_core_why::WhyText;
 use office_http::{Office, StoreFault};
 use office_mail::Setup;
@@ -16,8 +17,20 @@ use office_store::{Keeper, Plain, open_store, read_setup};
 use sqlite::Unknown;
 use std::io;
 
-/// The exit status where the run isn't finished, or unstable hasn't a source.
+/// The exit status where the run isn't finished, unstable hasn't a source, or the run doesn't cover a hint.
 const SILENT: u8 = 1;
+
+/// The exit status where a word is no number of a hint.
+const USAGE: u8 = 2;
+
+/// What is asked of a run.
+#[derive(Clone, Copy)]
+enum Ask<'a> {
+    /// Why these sources stand where it left them.
+    Sources(&'a [&'a str]),
+    /// What it made of the hints of these numbers.
+    Hints(&'a [u32]),
+}
 
 /// The run that is asked about, beside the finished ones.
 #[derive(Drop)]
@@ -39,23 +52,59 @@ pub fn why_for(
     run: Option<u32>,
     sources: &[&str],
 ) -> u8 {
+    ask_for(rt, conf, db, run, Ask::Sources(sources))
+}
+
+/// Tells what a run made of the hints of these numbers, for the setup in a file, over the store in another or over the bag on
+/// standard input, and gives the exit status. Without a run it is the last finished one.
+pub fn hints_for(
+    rt: &HostRuntime,
+    conf: &str,
+    db: Option<&str>,
+    run: Option<u32>,
+    words: &[&str],
+) -> u8 {
+    let mut numbers = Vec::new(rt.alloc());
+    for word in words {
+        match number_of(word) {
+            Some(number) => {
+                if numbers.push(number).is_err() {
+                    return out_of_memory(rt);
+                }
+            }
+            None => return refuse_number(rt, word),
+        }
+    }
+    ask_for(rt, conf, db, run, Ask::Hints(&numbers))
+}
+
+/// The number of a message that a word names.
+fn number_of(word: &str) -> Option<u32> {
+    match u32::from_str_radix(word, 10) {
+        Ok(number) if 1 <= number && number <= 999_999_999 => Some(number),
+        _ => None,
+    }
+}
+
+/// Says on standard error that a word is no number of a hint, and gives the exit status.
+fn refuse_number(rt: &HostRuntime, word: &str) -> u8 {
+    let _ = eprintln!(rt; "office: '{word}': no number of a hint");
+    USAGE
+}
+
+/// Asks a run, for the setup in a file, over the store in another or over the bag on standard input.
+fn ask_for(rt: &HostRuntime, conf: &str, db: Option<&str>, run: Option<u32>, ask: Ask<'_>) -> u8 {
     match read_setup(rt, conf) {
         Ok(setup) => match db {
-            Some(path) => why_stored(rt, path, setup, run, sources),
-            None => why_in_memory(rt, setup, run, sources),
+            Some(path) => ask_stored(rt, path, setup, run, ask),
+            None => ask_in_memory(rt, setup, run, ask),
         },
         Err(fault) => tell_setup(rt, conf, &fault),
     }
 }
 
-/// Tells why sources stand where a run left them, over the store in a file.
-fn why_stored(
-    rt: &HostRuntime,
-    path: &str,
-    setup: Setup,
-    run: Option<u32>,
-    sources: &[&str],
-) -> u8 {
+/// Asks a run over the store in a file.
+fn ask_stored(rt: &HostRuntime, path: &str, setup: Setup, run: Option<u32>, ask: Ask<'_>) -> u8 {
     if let Err(fault) = find_file(rt, path) {
         return tell_unfound(rt, path, fault);
     }
@@ -65,16 +114,15 @@ fn why_stored(
     match open_store(rt, path, Unknown, &setup) {
         Ok(tables) => {
             let office = Office::new(rt.alloc(), setup, tables);
-            let (tables, status) = tell_why(rt, &copy, office, run, sources);
+            let (tables, status) = tell(rt, &copy, office, run, ask);
             end_store(rt, path, tables, status)
         }
         Err(fault) => tell_store(rt, path, &fault),
     }
 }
 
-/// Tells why sources stand where a run left them, over the bag on standard input. Where the bag is refused or mail was
-/// lost, that alone is told.
-fn why_in_memory(rt: &HostRuntime, setup: Setup, run: Option<u32>, sources: &[&str]) -> u8 {
+/// Asks a run over the bag on standard input. Where the bag is refused or mail was lost, that alone is told.
+fn ask_in_memory(rt: &HostRuntime, setup: Setup, run: Option<u32>, ask: Ask<'_>) -> u8 {
     let Ok(copy) = setup.copy(rt.alloc()) else {
         return out_of_memory(rt);
     };
@@ -83,13 +131,27 @@ fn why_in_memory(rt: &HostRuntime, setup: Setup, run: Option<u32>, sources: &[&s
             let mut office = Office::new(rt.alloc(), setup, plain);
             match replay_to(rt, &mut office, &mut io::sink()) {
                 0 => {
-                    let (_plain, status) = tell_why(rt, &copy, office, run, sources);
+                    let (_plain, status) = tell(rt, &copy, office, run, ask);
                     status
                 }
                 status => status,
             }
         }
         Err(_) => out_of_memory(rt),
+    }
+}
+
+/// Prints what is asked of a run of an office, and gives the office's store with the exit status.
+fn tell<K: Keeper>(
+    rt: &HostRuntime,
+    setup: &Setup,
+    office: Office<K>,
+    run: Option<u32>,
+    ask: Ask<'_>,
+) -> (K, u8) {
+    match ask {
+        Ask::Sources(sources) => tell_why(rt, setup, office, run, sources),
+        Ask::Hints(numbers) => tell_hints(rt, setup, office, run, numbers),
     }
 }
 
@@ -113,6 +175,81 @@ fn tell_why<K: Keeper>(
             (office.into_keeper(), status)
         }
     }
+}
+
+/// Prints what a run of an office made of hints, and gives the office's store with the exit status.
+fn tell_hints<K: Keeper>(
+    rt: &HostRuntime,
+    setup: &Setup,
+    office: Office<K>,
+    run: Option<u32>,
+    numbers: &[u32],
+) -> (K, u8) {
+    let mut office = office;
+    let asked = asked_run(&mut office, run);
+    let mut keeper = office.into_keeper();
+    let status = match asked {
+        Ok(WhichRun::Earlier { run }) | Ok(WhichRun::Last { run }) if run > 0 => {
+            tell_hints_of(rt, setup, &mut keeper, run, numbers)
+        }
+        Ok(_) => SILENT,
+        Err(fault) => refuse(rt, fault),
+    };
+    (keeper, status)
+}
+
+/// Prints what a finished run of a store made of hints, over an office in memory that is as it was before the run, and gives
+/// the exit status.
+fn tell_hints_of<K: Keeper>(
+    rt: &HostRuntime,
+    setup: &Setup,
+    keeper: &mut K,
+    run: u32,
+    numbers: &[u32],
+) -> u8 {
+    match office_before(rt.alloc(), setup, keeper, run) {
+        Ok(Some(office)) => {
+            let mut office = office;
+            tell_each_hint(rt, &mut office, numbers)
+        }
+        Ok(None) => tell_other_mail(rt),
+        Err(fault) => refuse(rt, fault),
+    }
+}
+
+/// Prints what the next run of an office makes of each hint, and gives the exit status.
+fn tell_each_hint<K: Keeper>(rt: &HostRuntime, office: &mut Office<K>, numbers: &[u32]) -> u8 {
+    let mut status = 0;
+    for number in numbers {
+        match tell_hint(rt, office, *number) {
+            0 => {}
+            SILENT => status = SILENT,
+            failed => return failed,
+        }
+    }
+    status
+}
+
+/// Prints what the next run of an office makes of a hint, and gives the exit status.
+fn tell_hint<K: Keeper>(rt: &HostRuntime, office: &mut Office<K>, number: u32) -> u8 {
+    match office.hint_told(number) {
+        Ok(Some(told)) => print_text(rt, &told.text, hint_status(&told)),
+        Ok(None) => SILENT,
+        Err(fault) => refuse(rt, fault),
+    }
+}
+
+/// The exit status for what is told of a hint: 1 where the run doesn't cover it.
+fn hint_status(told: &HintText) -> u8
+    ensures { result ≡ (if told.now.is_known then 0 else 1) }
+{
+    if told.is_known { 0 } else { SILENT }
+}
+
+/// Says on standard error that the store isn't what its mail gives, and gives the exit status.
+fn tell_other_mail(rt: &HostRuntime) -> u8 {
+    let _ = eprintln!(rt; "office: the store isn't what its mail gives: office check tells where");
+    SILENT
 }
 
 /// The run that is asked about.
@@ -165,12 +302,7 @@ fn tell_earlier<K: Keeper>(
             let mut office = office;
             tell_sources(rt, &mut office, run, sources)
         }
-        Ok(None) => {
-            let _ = eprintln!(rt;
-                "office: the store isn't what its mail gives: office check tells where"
-            );
-            SILENT
-        }
+        Ok(None) => tell_other_mail(rt),
         Err(fault) => refuse(rt, fault),
     }
 }

@@ -4,7 +4,7 @@
 use crate::asking::{Question, tell_answer};
 use crate::checking::tell_check;
 use crate::noted::FaultKeepingReader;
-use crate::reasons::why_for;
+use crate::reasons::{hints_for, why_for};
 use crate::service::{serve, service_status};
 use crate::teller::Teller;
 use crate::telling::{tell_report, tell_version, tell_waiting};
@@ -69,8 +69,16 @@ pub fn run_command(rt: &HostRuntime, words: Words) -> u8 {
             conf,
             db,
             run,
+            hint: false,
             sources,
         } => why_for(rt, conf, db, run, &sources),
+        Words::Why {
+            conf,
+            db,
+            run,
+            hint: true,
+            sources: words,
+        } => hints_for(rt, conf, db, run, &words),
         Words::Try {
             conf,
             db,

@@ -8,7 +8,7 @@ use crate::telling::{print_text, refuse};
 use deb_control::{NoMemory, Text, is_package_name};
 use office_core_orders::{DeliverFault, fault_words, name_at};
 use office_core_outcome::{
-    RefusedHint, Trial, TrialOptions, TrialReport, has_changes, release_place, tried_text,
+    RefusedHint, Trial, TrialOptions, TrialReport, has_changes, release_place, trial_text,
 };
 use office_http::{Office, StoreFault};
 use office_mail::Setup;
@@ -164,7 +164,9 @@ fn tell_trial<K: Keeper>(
     terms: TrialOptions,
 ) -> u8 {
     match office.try_hints(hints, terms) {
-        Ok(Trial::Told(tried)) => print_tried(rt, office.setup(), hints, &tried),
+        Ok(Trial::Told(report, reasons)) => {
+            print_tried(rt, office.setup(), hints, &report, &reasons)
+        }
         Ok(Trial::NoDate) => refuse_dateless(rt),
         Ok(Trial::Refused(refused)) => refuse_hint(rt, hints, refused),
         Err(fault) => refuse(rt, fault),
@@ -172,10 +174,16 @@ fn tell_trial<K: Keeper>(
 }
 
 /// Prints what a trial was told, and gives the exit status.
-fn print_tried(rt: &HostRuntime, setup: &Setup, hints: &[Text], tried: &TrialReport) -> u8 {
+fn print_tried(
+    rt: &HostRuntime,
+    setup: &Setup,
+    hints: &[Text],
+    report: &TrialReport,
+    reasons: &Text,
+) -> u8 {
     let sender = name_at(setup, release_place(setup));
-    match tried_text(rt.alloc(), sender, hints, tried) {
-        Ok(text) => match has_changes(rt.alloc(), tried) {
+    match trial_text(rt.alloc(), sender, hints, report, reasons) {
+        Ok(text) => match has_changes(rt.alloc(), report) {
             Ok(true) => print_text(rt, &text, 0),
             Ok(false) => print_text(rt, &text, SAME),
             Err(_) => refuse(rt, StoreFault::NoMemory),

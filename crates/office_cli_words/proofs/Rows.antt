@@ -148,14 +148,19 @@ unfolding clap_on_literals of_three of_five of_nine of_eleven office command_wor
 no_second_flag = refl
 
 -- why sources stand where they stand: one or more, and a run by its number
-why_by_default : words_in (codes "office" ∷ codes "why" ∷ codes "s" ∷ codes "--conf" ∷ codes "f" ∷ []) ≡ Some (ToTellWhy (codes "f") None None (codes "s" ∷ []))
+why_by_default : words_in (codes "office" ∷ codes "why" ∷ codes "s" ∷ codes "--conf" ∷ codes "f" ∷ []) ≡ Some (ToTellWhy false (codes "f") None None (codes "s" ∷ []))
 unfolding clap_on_literals of_three of_five of_nine of_eleven office command_words_in words_in
 why_by_default = refl
 
 why_of_two : words_in (codes "office" ∷ codes "why" ∷ codes "s" ∷ codes "--run=2" ∷ codes "t" ∷ codes "--db" ∷ codes "g" ∷ codes "--conf=f" ∷ [])
-    ≡ Some (ToTellWhy (codes "f") (Some (codes "g")) (Some 2) (codes "s" ∷ codes "t" ∷ []))
+    ≡ Some (ToTellWhy false (codes "f") (Some (codes "g")) (Some 2) (codes "s" ∷ codes "t" ∷ []))
 unfolding clap_on_literals of_three of_five of_nine of_eleven office command_words_in words_in
 why_of_two = refl
+
+why_of_hint : words_in (codes "office" ∷ codes "why" ∷ codes "--hint" ∷ codes "7" ∷ codes "--run=2" ∷ codes "--conf=f" ∷ [])
+    ≡ Some (ToTellWhy true (codes "f") None (Some 2) (codes "7" ∷ []))
+unfolding clap_on_literals of_three of_five of_nine of_eleven office command_words_in words_in
+why_of_hint = refl
 
 no_why_of_nothing : words_in (codes "office" ∷ codes "why" ∷ codes "--conf" ∷ codes "f" ∷ []) ≡ None
 unfolding clap_on_literals of_three of_five of_nine of_eleven office command_words_in words_in

@@ -183,13 +183,16 @@ why_reads words none =
           keeps_value false (ready 2 program.db) refl refl refl (λ values fine. refl),
           (
             keeps_value false run_rule refl refl refl (λ values fine. numbers_accepted run_rule 1 999_999_999 values (omega arith) refl fine),
-            (keeps_help false (ready 2 help_rule) refl, tt),
+            (
+              keeps_flag false (ready 2 program.hinted) (codes "true") [] refl refl (λ values. refl),
+              (keeps_help false (ready 2 help_rule) refl, tt),
+            ),
           ),
         ),
       ),
     ) in
-    let left = level_leaves (leaf program.why) words keeps (refl, (refl, (refl, (refl, (refl, tt))))) none in
-    values_read (λ conf sources. ToTellWhy conf (first_of (codes "db") rows) (number_of (codes "run") rows) sources) (first_of (codes "conf") rows) (all_of (codes "SOURCE") rows)
+    let left = level_leaves (leaf program.why) words keeps (refl, (refl, (refl, (refl, (refl, (refl, tt)))))) none in
+    values_read (λ conf sources. ToTellWhy (is_set (codes "hint") rows) conf (first_of (codes "db") rows) (number_of (codes "run") rows) sources) (first_of (codes "conf") rows) (all_of (codes "SOURCE") rows)
     (given_first (codes "conf") rows left.0 (left.1.1.0 refl)) (given_all (codes "SOURCE") rows (left.1.0 refl))
 
 try_reads : Reads (leaf program.tries)

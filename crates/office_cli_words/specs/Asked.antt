@@ -18,8 +18,9 @@ use Rattle.office_cli_words.specs.declared.reports.Report.TheVariants.{Testing, 
 -- what is asked: to compare two versions by an operator; to replay a bag for the setup in a file, over a store in a file or in memory;
 -- to serve so many connections for it on a port; to tell what a run waits for; to tell a report, or one that isn't known; to tell the
 -- finished runs; to tell the kept mail, by counts or message by message; to export it; to check the store; to tell what a run said of
--- sources; to try hints on a day, over the covered mail or over all; to tell which messages of a bag are refused; to tell the next order on
--- a day, or the hints in force; to tell hints that move groups, or free sources, on the same terms as a trial; or the version
+-- sources, or of hints by their numbers; to try hints on a day, over the covered mail or over all; to tell which messages of a bag
+-- are refused; to tell the next order on a day, or the hints in force; to tell hints that move groups, or free sources, on the same
+-- terms as a trial; or the version
 pub data Asked : Type 0 where
   ToCompare : Text → Text → Text → Asked
   ToReplay : Text → Option Text → Asked
@@ -31,7 +32,7 @@ pub data Asked : Type 0 where
   ToTellMail : Bool → Text → Text → Asked
   ToExport : Text → Text → Asked
   ToCheck : Text → Text → Asked
-  ToTellWhy : Text → Option Text → Option ℕ → List Text → Asked
+  ToTellWhy : Bool → Text → Option Text → Option ℕ → List Text → Asked
   ToTry : Bool → Text → Option Text → Option Text → List Text → Asked
   ToLint : Text → Asked
   ToTellOrder : Text → Text → Text → Asked
@@ -48,7 +49,7 @@ added_asked (Runs conf db) = ToTellRuns conf.now db.now
 added_asked (Mail conf db list) = ToTellMail list conf.now db.now
 added_asked (Export conf db) = ToExport conf.now db.now
 added_asked (Check conf db) = ToCheck conf.now db.now
-added_asked (Why conf db run sources) = ToTellWhy conf.now (option_map (λ text. text.now) db) run (map (λ text. text.now) sources.items)
+added_asked (Why conf db run hint sources) = ToTellWhy hint conf.now (option_map (λ text. text.now) db) run (map (λ text. text.now) sources.items)
 added_asked (Try conf db day all hints) = ToTry all conf.now (option_map (λ text. text.now) db) (option_map (λ text. text.now) day) (map (λ text. text.now) hints.items)
 added_asked (Lint conf) = ToLint conf.now
 added_asked (Order day conf db) = ToTellOrder day.now conf.now db.now
@@ -150,7 +151,7 @@ of_values ask (Some conf) (Some values) = Some (ask conf values)
 of_values ask _ _ = None
 
 abbrev pub why_in : List Row → Option Asked
-why_in rows = of_values (λ conf sources. ToTellWhy conf (first_of (codes "db") rows) (number_of (codes "run") rows) sources) (first_of (codes "conf") rows) (all_of (codes "SOURCE") rows)
+why_in rows = of_values (λ conf sources. ToTellWhy (is_set (codes "hint") rows) conf (first_of (codes "db") rows) (number_of (codes "run") rows) sources) (first_of (codes "conf") rows) (all_of (codes "SOURCE") rows)
 
 abbrev pub try_in : List Row → Option Asked
 try_in rows = of_values (λ conf hints. ToTry (is_set (codes "all") rows) conf (first_of (codes "db") rows) (first_of (codes "day") rows) hints) (first_of (codes "conf") rows) (all_of (codes "HINT") rows)

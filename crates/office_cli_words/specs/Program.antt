@@ -85,12 +85,15 @@ listed = record (new_rule (codes "list")) { long = Some (codes "list"); action =
 abbrev pub mail : App
 mail = with_rule (looking (codes "mail")) listed
 
--- `why SOURCE.. --conf F [--db F] [--run K]`, where K is the number of a run
+-- `why SOURCE.. --conf F [--db F] [--run K]`, where K is the number of a run; with `--hint` numbers of hints stand for the sources
 abbrev pub run : Rule
 run = record (option (codes "run")) { parser = Some (Unsigned 1 999_999_999) }
 
+abbrev pub hinted : Rule
+hinted = record (new_rule (codes "hint")) { long = Some (codes "hint"); action = Some SetTrue }
+
 abbrev pub why : App
-why = with_rule (with_rule (with_rule (with_rule (new_app (codes "why")) (places (codes "SOURCE"))) conf) db) run
+why = with_rule (with_rule (with_rule (with_rule (with_rule (new_app (codes "why")) (places (codes "SOURCE"))) conf) db) run) hinted
 
 -- `try HINT.. --conf F [--db F] [--day DAY] [--all]`
 abbrev pub day : Rule

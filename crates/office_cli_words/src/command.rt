@@ -116,10 +116,14 @@ const AFTER_WHY: &str = "Examples: office why libgreet --conf examples/setup.con
 For each source a line why RUN SOURCE, then its excuse, or that it is in testing at unstable's version, or unknown;
 where each reason comes from, and each line of the run's update that names it: that it moves, that it waits and for
 what, or that another one waits for a package of its name; and of a source that waits, what shows that it can't move
-alone. An earlier run is made anew, in memory, from the same mail. Status 1: the run isn't finished, or unstable doesn't
-have one of the sources.";
+alone. With --hint N a line why RUN SENDER N, each line of the run's update on that hint, or how it stands, and what
+shows why it is refused. An earlier run is made anew, in memory, from the same mail. Status 1: the run isn't finished, or
+unstable doesn't have one of the sources, or the run doesn't cover one of the hints.";
 
 const SOURCE: &str = "The name of a source";
+
+const HINTED: &str =
+    "The words are numbers of hints, and not sources: tells what the run made of each hint";
 
 const RUN_TOLD: &str = "The number of a finished run; without it the last one";
 
@@ -129,8 +133,8 @@ const AFTER_TRY: &str =
     "Example: office try 'unblock libgreet/2.0-1' --conf examples/setup.conf --db store.db
 
 Prints a line for each hint with the number that it would have, and then what the next run would say less (-) and
-more (+) of excuses, update and testing than without the hints. Nothing is kept. Status 1: nothing changes; 3: a hint
-is refused.";
+more (+) of excuses, update and testing than without the hints; and of a hint that the run refuses what shows why.
+Nothing is kept. Status 1: nothing changes; 3: a hint can't be mailed.";
 
 const HINT: &str = "A hint, as in the Hint field of a message";
 
@@ -314,6 +318,17 @@ fn freed_place<'a>(alloc: Global) -> Arg<'a>
         .action(ArgAction::Append)
 }
 
+/// `--hint`.
+fn hint_option<'a>(alloc: Global) -> Arg<'a>
+    ensures rule { rule_of result ≡ program.hinted }
+    ensures local { result.global ≡ false }
+{
+    Arg::new(alloc, "hint")
+        .long("hint")
+        .help(HINTED)
+        .action(ArgAction::SetTrue)
+}
+
 /// `--all`.
 fn all_option<'a>(alloc: Global) -> Arg<'a>
     ensures rule { rule_of result ≡ program.all }
@@ -467,7 +482,7 @@ fn mail_command<'a>(alloc: Global) -> Result<Command<'a>, AllocError>
     with_arg(looking, list_option(alloc))
 }
 
-/// `why SOURCE.. --conf SETUP [--db FILE] [--run RUN]`.
+/// `why SOURCE.. --conf SETUP [--db FILE] [--run RUN] [--hint]`.
 fn why_command<'a>(alloc: Global) -> Result<Command<'a>, AllocError>
     ensures { IfOk result (λ c. app_of c ≡ program.why) }
 {
@@ -475,7 +490,8 @@ fn why_command<'a>(alloc: Global) -> Result<Command<'a>, AllocError>
     let one = with_arg(bare, places(alloc, "SOURCE", SOURCE));
     let two = with_arg(one, conf_option(alloc));
     let three = with_arg(two, db_option(alloc, LOOKED_AT));
-    with_arg(three, run_option(alloc))
+    let four = with_arg(three, run_option(alloc));
+    with_arg(four, hint_option(alloc))
 }
 
 /// `try HINT.. --conf SETUP [--db FILE] [--day DAY] [--all]`.

@@ -168,6 +168,7 @@ fn why_words<'a>(alloc: Global, given: &ArgMatches<'a>) -> Result<Option<Words<'
             conf,
             db: text_of(given, "db"),
             run: number_of(given, "run"),
+            hint: is_set(given, "hint"),
             sources,
         })),
         None => Ok(None),

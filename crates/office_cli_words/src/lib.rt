@@ -85,12 +85,13 @@ pub enum Words<'a> {
         conf: &'a str,
         db: &'a str,
     },
-    /// Tell what the last finished run, or another one, said of each of these sources, for the setup in a file: over a
-    /// store in a file, or over the bag on standard input.
+    /// Tell what the last finished run, or another one, said of each of these sources, or of the hints of these numbers,
+    /// for the setup in a file: over a store in a file, or over the bag on standard input.
     Why {
         conf: &'a str,
         db: Option<&'a str>,
         run: Option<u32>,
+        hint: bool,
         sources: Vec<&'a str>,
     },
     /// Tell what the next run would decide with these hints, for the setup in a file: over a store in a file, or over the

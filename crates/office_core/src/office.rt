@@ -22,6 +22,7 @@ ghost use Rattle.office_core_why.specs.Hints.{IsHintsText};
 ghost use Rattle.office_core_why.specs.UnstableText.{IsUnstableText};
 ghost use Rattle.office_core_why.specs.Why.{IsWhy};
 ghost use Rattle.office_core_outcome.specs.Proposal.{IsProposed};
+ghost use Rattle.office_core_outcome.specs.HintTold.{IsHintTold};
 ghost use Rattle.office_core_outcome.specs.Trial.{IsTrial, trial_date};
 
 use crate::answering::answer;
@@ -37,7 +38,7 @@ use office_core_facts::message_cache::MessageCache;
 use office_core_orders::ready::ready_count;
 use office_core_orders::waiting::waiting;
 use office_core_orders::{DeliverFault, Held, Progress, StoreFault, Waiting, stored};
-use office_core_outcome::{Proposal, Trial, TrialOptions, propose, try_hints};
+use office_core_outcome::{HintText, Proposal, Trial, TrialOptions, hint_told, propose, try_hints};
 use office_core_why::{WhyText, hints_text, unstable_text, why_text};
 use office_mail::{RunOrder, Setup};
 use office_store_keeper::{Keeper, MailText, Reports};
@@ -296,6 +297,24 @@ impl<K: Keeper> Office<K> {
         ensures counted { Counted (K.refusals self.old) (K.refusals self.new) result }
     {
         waiting(self.alloc, &self.setup, &mut self.keeper, &mut self.counts)
+    }
+
+    /// What the run behind the finished ones makes of the hint of this number of the release team, over what is kept of all
+    /// that the run covers: the lines of its update on the hint, or how the hint stands, and lines that show why it is
+    /// refused. There is none where its order has not come. Nothing is kept, and no run is finished.
+    ///
+    /// It fails for want of memory or of the store alone.
+    pub fn hint_told(&mut self, number: u32) -> Result<Option<HintText>, StoreFault>
+        ensures told { K.is_trusted self.new → IsSound K.Keeper self.old → IfOk result (λ found. IfSome found (IsHintTold (K.setup self.old) (K.content self.old).kept (state_of K.Keeper self.old).finished number)) }
+        ensures same { K.is_trusted self.new → K.content self.new ≡ K.content self.old }
+        ensures setup { K.setup self.new ≡ K.setup self.old }
+        ensures sound { K.is_trusted self.new → IsSound K.Keeper self.old → IsSound K.Keeper self.new }
+        ensures before { K.is_trusted self.new → K.is_trusted self.old }
+        ensures lasts { StaysTrusted K.Keeper self.old self.new (is_ok result) }
+        ensures counted { Counted (K.refusals self.old) (K.refusals self.new) result }
+    {
+        let before = self.known.take();
+        hint_told(self.alloc, &self.setup, &mut self.keeper, before, number)
     }
 
     /// What the next run would decide if these hints were covered too, beside what it would decide without them. Nothing is

@@ -113,6 +113,34 @@ pub fn office_after<K: Keeper>(
     }
 }
 
+/// An office in memory as it was before a finished run of a store: with the same setup, it took all mail that the store
+/// keeps, and finished exactly the runs before this one. There is none where the run isn't finished, nor where the store
+/// isn't what an office with its mail leaves. The store stays as it is.
+///
+/// It fails for want of memory or of the store alone.
+pub fn office_before<K: Keeper>(
+    alloc: Global,
+    setup: &Setup,
+    keeper: &mut K,
+    run: u32,
+) -> Result<Option<Office<Bounded>>, StoreFault>
+    ensures same { K.is_trusted keeper.new → K.content keeper.new ≡ K.content keeper.old }
+    ensures setup { K.setup keeper.new ≡ K.setup keeper.old }
+    ensures before { K.is_trusted keeper.new → K.is_trusted keeper.old }
+    ensures legible { K.is_trusted keeper.new → K.is_legible keeper.old → K.is_legible keeper.new }
+    ensures lasts { StaysTrusted K.Keeper keeper.old keeper.new (is_ok result) }
+    ensures counted { Counted (K.refusals keeper.old) (K.refusals keeper.new) result }
+{
+    let finished = keeper.finished()?;
+    if is_finished(run, finished) {
+        let earlier = run.saturating_sub(1);
+        let office = new_office(alloc, setup, earlier)?;
+        made_after(keeper, office, earlier)
+    } else {
+        Ok(None)
+    }
+}
+
 /// Why a source stands where a run left it, by an office of which that is the last finished run. Nothing is told by any
 /// other office, nor where no run is finished: so the last run of a store is told over the store, and an earlier one
 /// over what `office_after` gives.

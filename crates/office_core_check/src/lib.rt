@@ -12,7 +12,7 @@ mod memory;
 mod telling;
 
 pub use checking::check;
-pub use earlier::{office_after, told_after_run, why_of_run};
+pub use earlier::{office_after, office_before, told_after_run, why_of_run};
 pub use memory::Bounded;
 pub use telling::{check_status, checked_text};
 

@@ -5,4 +5,6 @@ pub mod OneFacts
 pub mod TriedOutcome
 pub mod TryFacts
 pub mod ProposalFacts
+pub mod RefusalFacts
 pub mod StuckFacts
+pub mod HintTextFacts

@@ -13,7 +13,8 @@ use Rattle.office_core_outcome.specs.declared.TrialOptions.{TrialOptions}
 use Rattle.office_core_outcome.specs.declared.Trial.{Trial}
 use Rattle.office_core_facts.specs.Seen.{items_within, release}
 use Rattle.office_core_outcome.specs.Hints.{first_refused, hint_letters, with_letters}
-use Rattle.office_core_outcome.specs.Trial.{IsTrial, decided, told_on, trial_date, unless_refused}
+use Rattle.office_core_outcome.specs.declared.RefusedHint.{RefusedHint}
+use Rattle.office_core_outcome.specs.Trial.{IsTrial, decided, told_on, trial_date, tried, unless_refused, without_reasons}
 use Rattle.office_core_facts.proofs.SeenFacts.{items_same, one_cover}
 
 module _ (setup : Lists) (kept : Kept) (k : ℕ) (hints : List (List ℕ)) where
@@ -29,15 +30,25 @@ module _ (setup : Lists) (kept : Kept) (k : ℕ) (hints : List (List ℕ)) where
         with = decided setup (k + 1) (outcome setup (k + 1) date (with_letters setup (release setup) (hint_letters setup n hints) mail) before);
       }
 
-  told_same : (date : Option Date) (c d : ℕ → ℕ) → c (release setup) ≡ d (release setup) → items_within setup kept c ≡ items_within setup kept d → told_on setup kept k date c hints ≡ told_on setup kept k date d hints
-  told_same None c d e items = refl
-  told_same (Some date) c d e items =
-      ap (λ (n : ℕ). unless_refused (first_refused setup n 0 hints) (over date n (items_within setup kept c))) e
-      ∙ ap (λ (mail : Covered). unless_refused (first_refused setup (d (release setup)) 0 hints) (over date (d (release setup)) mail)) items
+  told_same : (date : Option Date) (c d : ℕ → ℕ) (reasons : List ℕ) → c (release setup) ≡ d (release setup) → items_within setup kept c ≡ items_within setup kept d → told_on setup kept k date c hints reasons ≡ told_on setup kept k date d hints reasons
+  told_same None c d reasons e items = refl
+  told_same (Some date) c d reasons e items =
+      ap (λ (n : ℕ). unless_refused (first_refused setup n 0 hints) (over date n (items_within setup kept c)) reasons) e
+      ∙ ap (λ (mail : Covered). unless_refused (first_refused setup (d (release setup)) 0 hints) (over date (d (release setup)) mail) reasons) items
 
-pub one_trial : (setup : Lists) (kept : Kept) (k : ℕ) (terms : TrialOptions) (hints : List (List ℕ)) (t u : Trial) → HasPlaces setup kept → release setup < length setup.senders → IsTrial setup kept k terms hints t → IsTrial setup kept k terms hints u → t ≡ u
+-- what is told beside the reasons doesn't rest on them
+refused_alike : (o : Option RefusedHint) (t : TrialReport) (r q : List ℕ) → without_reasons (unless_refused o t r) ≡ without_reasons (unless_refused o t q)
+refused_alike (Some refused) t r q = refl
+refused_alike None t r q = refl
+
+told_alike : (setup : Lists) (kept : Kept) (k : ℕ) (date : Option Date) (covers : ℕ → ℕ) (hints : List (List ℕ)) (r q : List ℕ) → without_reasons (told_on setup kept k date covers hints r) ≡ without_reasons (told_on setup kept k date covers hints q)
+told_alike setup kept k None covers hints r q = refl
+told_alike setup kept k (Some date) covers hints r q = refused_alike (first_refused setup (covers (release setup)) 0 hints) (tried setup kept k date covers hints) r q
+
+pub one_trial : (setup : Lists) (kept : Kept) (k : ℕ) (terms : TrialOptions) (hints : List (List ℕ)) (t u : Trial) → HasPlaces setup kept → release setup < length setup.senders → IsTrial setup kept k terms hints t → IsTrial setup kept k terms hints u → without_reasons t ≡ without_reasons u
 one_trial setup kept k terms hints t u places known a b =
     let same : (s : ℕ) → s < length setup.senders → a.covers s ≡ b.covers s = λ s low. one_cover setup kept k terms.all s (a.covers s) (b.covers s) (a.are s low) (b.are s low) in
-    a.told
-    ∙ told_same setup kept k hints (trial_date (latest_day (orders_to setup kept k)) terms.day) a.covers b.covers (same (release setup) known) (items_same setup kept places a.covers b.covers same)
-    ∙ sym b.told
+    let date : Option Date = trial_date (latest_day (orders_to setup kept k)) terms.day in
+    ap without_reasons (a.told ∙ told_same setup kept k hints date a.covers b.covers a.reasons (same (release setup) known) (items_same setup kept places a.covers b.covers same))
+    ∙ told_alike setup kept k date b.covers hints a.reasons b.reasons
+    ∙ ap without_reasons (sym b.told)

@@ -24,8 +24,9 @@ use Rattle.office_core_outcome.specs.Settled.{AreStuckOver, IsProposedOver, IsSe
 use Rattle.office_core_facts.specs.Outcome.{outcome}
 use Rattle.testing_rules_reports.specs.Reports.{update_text}
 use Rattle.office_core_outcome.specs.declared.Trial.TheVariants.{Told}
-use Rattle.office_core_outcome.specs.Trial.{IsTrial, trial_date, tried}
-use Rattle.office_core_outcome.proofs.TryFacts.{is_trial, told_tried}
+use Rattle.office_core_outcome.specs.Trial.{IsTrial, judged, trial_date, tried}
+use Rattle.office_core_outcome.specs.WhyRefused.{AreReasons}
+use Rattle.office_core_outcome.proofs.TryFacts.{is_trial, trial_told}
 
 -- the groups of all hints moved where those of all their messages did
 pub done_by_letters : (setup : Lists) (number : ℕ) (hints : List (List ℕ)) (ds : List Decision) → list_all (λ (l : Letter). list_any (is_done l.number) ds) (hint_letters setup number hints) ≡ are_done number (length hints) ds
@@ -98,12 +99,12 @@ proposed_is setup kept k terms date covers sources p are day over = record {
 }
 
 -- a proposal is a trial
-pub trial_of : (setup : Lists) (kept : Kept) (k : ℕ) (terms : TrialOptions) (sources : List (List ℕ)) (p : Proposal) → (proposed : IsProposed setup kept k terms sources p)
-    → IsTrial setup kept k terms p.hints.items (Told (tried setup kept k p.date proposed.covers p.hints.items))
-trial_of setup kept k terms sources p proposed =
+pub trial_of : (setup : Lists) (kept : Kept) (k : ℕ) (terms : TrialOptions) (sources : List (List ℕ)) (p : Proposal) (reasons : List ℕ) → (proposed : IsProposed setup kept k terms sources p) → AreReasons (judged setup kept k p.date proposed.covers p.hints.items) reasons
+    → IsTrial setup kept k terms p.hints.items (Told (tried setup kept k p.date proposed.covers p.hints.items) reasons)
+trial_of setup kept k terms sources p reasons proposed are =
     let covers = proposed.covers in
-    is_trial setup kept k terms p.hints.items covers (Some p.date) (Told (tried setup kept k p.date covers p.hints.items)) proposed.are
-    (told_tried setup kept k p.date covers p.hints.items (tried setup kept k p.date covers p.hints.items) (sym proposed.taken) refl) (sym proposed.dated)
+    is_trial setup kept k terms p.hints.items covers (Some p.date) (Told (tried setup kept k p.date covers p.hints.items) reasons) proposed.are
+    (trial_told setup kept k p.date covers p.hints.items (tried setup kept k p.date covers p.hints.items) reasons (sym proposed.taken) (record { report_is = refl; reasons_are = are })) (sym proposed.dated)
 
 -- whose report has the decisions of which the proposal speaks
 pub updates_of : (setup : Lists) (kept : Kept) (k : ℕ) (date : Date) (covers : ℕ → ℕ) (hints : List (List ℕ)) → (tried setup kept k date covers hints).with.updates ≡ update_text setup.archs (k + 1) date (tried_decisions setup kept k date covers hints)

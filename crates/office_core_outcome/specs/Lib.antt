@@ -1,6 +1,10 @@
 pub mod RuleSteps
+pub mod RefusalSteps
 pub mod Hints
 pub mod NextRun
+pub mod WhyRefused
 pub mod Trial
+pub mod TrialSteps
 pub mod Proposal
 pub mod Settled
+pub mod HintTold

@@ -1,20 +1,25 @@
 -- What a trial of hints covers, and what it is told.
-use Rattle.std.specs.Prelude.{◌≡◌, ℕ, ◌+◌, List, Option, Some, None}
+use Rattle.std.specs.Prelude.{◌≡◌, ⊤, ℕ, ◌+◌, List, [], ◌++◌, Option, Some, None}
 use Rattle.jiff_core.specs.declared.civil.date.Date.{Date}
 use Rattle.testing_rules_model.specs.Covered.{Covered}
+use Rattle.testing_rules_model.specs.Excuses.{excuses_of}
 use Rattle.testing_rules_model.specs.Suite.{Suite}
+use Rattle.testing_rules_model.specs.Unstable.{hints_by_number, unhints_by_number, unstable_rows, unstable_sources}
 use Rattle.office_mail.specs.Lists.{Lists}
 use Rattle.office_mail.specs.Kept.{Kept}
 use Rattle.office_mail.specs.Runs.{later, latest_day, orders_to}
+use Rattle.office_core_orders.specs.Replies.{name_at}
 use Rattle.office_core_facts.specs.Outcome.{Outcome, outcome, testing_after, testing_text}
 use Rattle.office_core_facts.specs.Seen.{AreTrialCovers, items_within, release}
 use Rattle.testing_rules_reports.specs.declared.telling.Decided.{Decided}
 use Rattle.testing_rules_reports.specs.declared.telling.TrialReport.{TrialReport}
+use Rattle.testing_rules_reports.specs.Tried.{tried_text}
 use Rattle.office_core_outcome.specs.declared.RefusedHint.{RefusedHint}
 use Rattle.office_core_outcome.specs.declared.TrialOptions.{TrialOptions}
 use Rattle.office_core_outcome.specs.declared.Trial.{Trial}
 use Rattle.office_core_outcome.specs.declared.Trial.TheVariants.{Told, NoDate, Refused}
 use Rattle.office_core_outcome.specs.Hints.{hint_letters, first_refused, with_letters}
+use Rattle.office_core_outcome.specs.WhyRefused.{AreReasons, Judged}
 
 -- the date of a trial: the later of that of the last run and a day that is given
 abbrev pub trial_date : Option Date → Option Date → Option Date
@@ -39,18 +44,55 @@ tried setup kept k date covers hints =
       with = decided setup (k + 1) (outcome setup (k + 1) date (with_letters setup (release setup) (hint_letters setup (covers (release setup)) hints) mail) before);
     }
 
--- the first refused hint, or else what the hints would change
-abbrev pub unless_refused : Option RefusedHint → TrialReport → Trial
-unless_refused (Some refused) t = Refused refused
-unless_refused None t = Told t
+-- a run over covered messages, of whose hints those of the release team behind a number are told
+unfoldable pub judged_by : Lists → ℕ → Date → Covered → Suite → Judged
+judged_by setup behind date mail t = record {
+  sender = name_at setup (release setup);
+  behind = behind;
+  archs = setup.archs;
+  sources = unstable_sources mail;
+  rows = unstable_rows setup.archs mail;
+  excuses = excuses_of setup.archs mail t date;
+  hints = hints_by_number mail;
+  unhints = unhints_by_number mail;
+  testing = t;
+}
+
+-- run k + 1 with the hints
+abbrev pub judged : Lists → Kept → ℕ → Date → (ℕ → ℕ) → List (List ℕ) → Judged
+judged setup kept k date covers hints =
+    judged_by setup (covers (release setup)) date (with_letters setup (release setup) (hint_letters setup (covers (release setup)) hints) (items_within setup kept covers)) (testing_after setup kept k)
+
+-- the first refused hint, or else what the hints would change, and why some of them are refused
+abbrev pub unless_refused : Option RefusedHint → TrialReport → List ℕ → Trial
+unless_refused (Some refused) t reasons = Refused refused
+unless_refused None t reasons = Told t reasons
 
 -- what a trial is told; there is no date where no run is finished and no day is given
-abbrev pub told_on : Lists → Kept → ℕ → Option Date → (ℕ → ℕ) → List (List ℕ) → Trial
-told_on setup kept k None covers hints = NoDate
-told_on setup kept k (Some date) covers hints = unless_refused (first_refused setup (covers (release setup)) 0 hints) (tried setup kept k date covers hints)
+abbrev pub told_on : Lists → Kept → ℕ → Option Date → (ℕ → ℕ) → List (List ℕ) → List ℕ → Trial
+told_on setup kept k None covers hints reasons = NoDate
+told_on setup kept k (Some date) covers hints reasons = unless_refused (first_refused setup (covers (release setup)) 0 hints) (tried setup kept k date covers hints) reasons
+
+-- what it is told of why hints are refused is so
+abbrev pub IsReasoned : Lists → Kept → ℕ → (ℕ → ℕ) → List (List ℕ) → Trial → Type 0
+IsReasoned setup kept k covers hints (Told t reasons) = AreReasons (judged setup kept k t.date covers hints) reasons
+IsReasoned setup kept k covers hints NoDate = ⊤
+IsReasoned setup kept k covers hints (Refused refused) = ⊤
 
 -- A trial of hints behind k finished runs.
 pub record IsTrial (setup : Lists) (kept : Kept) (k : ℕ) (terms : TrialOptions) (hints : List (List ℕ)) (trial : Trial) : Type 0 where
   pub covers : ℕ → ℕ
   pub are : AreTrialCovers setup kept k terms.all covers
-  pub told : trial ≡ told_on setup kept k (trial_date (latest_day (orders_to setup kept k)) terms.day) covers hints
+  pub reasons : List ℕ
+  pub told : trial ≡ told_on setup kept k (trial_date (latest_day (orders_to setup kept k)) terms.day) covers hints reasons
+  pub reasoned : IsReasoned setup kept k covers hints trial
+
+-- a trial but for the lines on why hints are refused
+abbrev pub without_reasons : Trial → Trial
+without_reasons (Told t reasons) = Told t []
+without_reasons NoDate = NoDate
+without_reasons (Refused refused) = Refused refused
+
+-- the text of a trial: what hints of a sender would change, and behind it why some of them are refused
+abbrev pub trial_text : List ℕ → List (List ℕ) → TrialReport → List ℕ → List ℕ
+trial_text sender hints report reasons = tried_text sender hints report ++ reasons

@@ -5,23 +5,45 @@ ghost use Rattle.testing_rules_laws.specs.Covered.{Covered};
 ghost use Rattle.testing_rules_laws.specs.StandsFor.{StandsFor};
 ghost use Rattle.testing_rules_laws.specs.Suite.{Suite};
 ghost use Rattle.office_core_facts.specs.Outcome.{outcome, testing_text};
-ghost use Rattle.office_core_outcome.specs.RuleSteps.{outcome_left};
+ghost use Rattle.jiff_core.specs.declared.civil.date.Date.{Date};
+ghost use Rattle.office_core_outcome.specs.RuleSteps.{IsRuled, IsToldRun, outcome_left};
 ghost use Rattle.office_core_facts.specs.Seen.{release};
 ghost use Rattle.office_core_outcome.specs.Hints.{with_letters};
-ghost use Rattle.office_core_outcome.specs.Trial.{decided};
+ghost use Rattle.office_core_outcome.specs.Trial.{decided, judged_by};
+ghost use Rattle.office_core_outcome.specs.WhyRefused.{AreReasons};
 
+use crate::refusing::{Judging, told_of_all};
+use crate::rules::{Ruled, judge_run, reports};
+use crate::settling::keep_suites;
 use crate::{RunOutcome, run_beside};
 use deb_control::{NoMemory, Text};
 use jiff_core::civil::Date;
 use office_core_facts::covered::take_letters;
 use office_core_facts::message_cache::MessageCache;
 use office_core_facts::release::release_place;
-use office_core_orders::StoreFault;
+use office_core_orders::{StoreFault, name_at};
 use office_mail::Setup;
 use office_store_keeper::Letter;
 use std::alloc::Global;
 use testing_rules_laws::{Facts, Testing};
 use testing_rules_reports::Decided;
+
+/// A run in which messages of the release team are tried: its number and date, the number behind which theirs go on, and
+/// these messages.
+#[derive(Clone, Copy)]
+pub(crate) struct TriedRun<'a> {
+    pub run: u32,
+    pub date: Date,
+    pub behind: u32,
+    pub letters: &'a [Letter],
+}
+
+/// What a run decides, in texts, and in lines why it refuses hints.
+#[derive(Drop)]
+pub(crate) struct ToldRun {
+    pub decided: Decided,
+    pub reasons: Text,
+}
 
 /// The text of testing behind a run.
 #[tactic(auto, unfolding(office_core_facts::specs::Outcome::testing_text))]
@@ -110,23 +132,95 @@ pub(crate) fn take_all(
     take_letters(alloc, setup, &mut nothing, facts, place, letters)
 }
 
-/// What a run decides once the facts have taken what messages of the release team say, and with it a copy of the testing
-/// before. It fails for want of memory alone.
-fn decide_with(
+/// Why a run refuses hints: by what it decides, over the facts and the testing before it.
+fn reasons_of(
+    alloc: Global,
+    setup: &Setup,
+    facts: &Facts,
+    behind: u32,
+    testing: &Testing,
+    ruled: &Ruled,
+) -> Result<Text, NoMemory>
+    ensures { IfOk result (λ text. (s : Covered) (date : Date) (new : Suite) → StandsFor facts.now s testing.now → IsRuled setup.now date s testing.now ruled.now new
+        → AreReasons (judged_by setup.now behind date s testing.now) text) }
+{
+    let sender = name_at(setup, release_place(setup));
+    let archs = setup.archs();
+    let excuses = ruled.excuses.as_slice();
+    let judging = Judging {
+        sender,
+        behind,
+        archs,
+        facts,
+        excuses,
+        testing,
+    };
+    let decisions = ruled.update.as_slice();
+    told_of_all(alloc, &judging, decisions)
+}
+
+/// What a run decides, in texts, where this is the testing that it leaves.
+fn decided_by(
     alloc: Global,
     setup: &Setup,
     run: u32,
     date: Date,
-    facts: &mut Facts,
-    letters: &[Letter],
+    ruled: &Ruled,
+    after: &Testing,
+) -> Result<Decided, NoMemory>
+    ensures { IfOk result (λ d. (s : Covered) (t : Suite) → IsRuled setup.now date s t ruled.now after.now → d ≡ decided setup.now run (outcome setup.now run date s t)) }
+{
+    let archs = setup.archs();
+    let testing = testing_text(alloc, setup, run, after)?;
+    match reports(alloc, archs, run, date, &ruled.excuses, &ruled.update) {
+        Ok(reports) => Ok(Decided {
+            excuses: reports.excuses,
+            updates: reports.updates,
+            testing,
+        }),
+        Err(fault) => {
+            drop(testing);
+            Err(fault)
+        }
+    }
+}
+
+/// What a run decides over the messages that the facts stand for, why it refuses hints, and with it the testing before, which
+/// keeps the suites of the one that the run leaves.
+fn tell_run(
+    alloc: Global,
+    setup: &Setup,
+    facts: &Facts,
+    tried: &TriedRun<'_>,
     testing: Testing,
-) -> Result<(Testing, Decided), StoreFault>
+) -> Result<(Testing, ToldRun), NoMemory>
     ensures before { IfOk result (λ o. o.0 ≡ testing) }
-    ensures ok { IfOk result (λ o. (s : Covered) → StandsFor facts.old s testing → o.1 ≡ decided setup.now run (outcome setup.now run date (with_letters setup.now (release setup.now) letters.now s) testing)) }
+    ensures ok { IfOk result (λ o. (s : Covered) → StandsFor facts.now s testing → IsToldRun setup.now tried.now.run tried.now.date tried.now.behind s testing o.1) }
+{
+    let mut before = testing;
+    let mut after = before.share()?;
+    let ruled = judge_run(alloc, setup, tried.date, facts, &mut after)?;
+    let decided = decided_by(alloc, setup, tried.run, tried.date, &ruled, &after)?;
+    keep_suites(&mut before, after)?;
+    let reasons = reasons_of(alloc, setup, facts, tried.behind, &before, &ruled)?;
+    Ok((before, ToldRun { decided, reasons }))
+}
+
+/// What a run decides once the facts have taken what messages of the release team say, why it refuses hints, and with it a
+/// copy of the testing before. It fails for want of memory alone.
+fn decide_with(
+    alloc: Global,
+    setup: &Setup,
+    facts: &mut Facts,
+    tried: &TriedRun<'_>,
+    testing: Testing,
+) -> Result<(Testing, ToldRun), StoreFault>
+    ensures before { IfOk result (λ o. o.0 ≡ testing) }
+    ensures ok { IfOk result (λ o. (s : Covered) → StandsFor facts.old s testing → IsToldRun setup.now tried.now.run tried.now.date tried.now.behind (with_letters setup.now (release setup.now) tried.now.letters.now s) testing o.1) }
     ensures no_store { IfErr result (λ fault. fault ≡ StoreFault.NoMemory) }
 {
-    take_all(alloc, setup, facts, letters)?;
-    let (before, told) = decide(alloc, setup, run, date, facts, testing)?;
+    take_all(alloc, setup, facts, tried.letters)?;
+    let (before, told) = tell_run(alloc, setup, facts, tried, testing)?;
     Ok((before, told))
 }
 
@@ -135,19 +229,17 @@ fn decide_with(
 pub(crate) fn decide_both(
     alloc: Global,
     setup: &Setup,
-    run: u32,
-    date: Date,
     facts: &mut Facts,
-    letters: &[Letter],
+    tried: &TriedRun<'_>,
     testing: Testing,
-) -> Result<(Testing, Decided, Decided), StoreFault>
+) -> Result<(Testing, Decided, ToldRun), StoreFault>
     ensures before { IfOk result (λ o. o.0 ≡ testing) }
-    ensures without { IfOk result (λ o. (s : Covered) → StandsFor facts.old s testing → o.1 ≡ decided setup.now run (outcome setup.now run date s testing)) }
-    ensures with_them { IfOk result (λ o. (s : Covered) → StandsFor facts.old s testing → o.2 ≡ decided setup.now run (outcome setup.now run date (with_letters setup.now (release setup.now) letters.now s) testing)) }
+    ensures without { IfOk result (λ o. (s : Covered) → StandsFor facts.old s testing → o.1 ≡ decided setup.now tried.now.run (outcome setup.now tried.now.run tried.now.date s testing)) }
+    ensures with_them { IfOk result (λ o. (s : Covered) → StandsFor facts.old s testing → IsToldRun setup.now tried.now.run tried.now.date tried.now.behind (with_letters setup.now (release setup.now) tried.now.letters.now s) testing o.2) }
     ensures no_store { IfErr result (λ fault. fault ≡ StoreFault.NoMemory) }
 {
-    let (before, without) = decide(alloc, setup, run, date, facts, testing)?;
-    match decide_with(alloc, setup, run, date, facts, letters, before) {
+    let (before, without) = decide(alloc, setup, tried.run, tried.date, facts, testing)?;
+    match decide_with(alloc, setup, facts, tried, before) {
         Ok((after, with)) => Ok((after, without, with)),
         Err(fault) => {
             drop(without);

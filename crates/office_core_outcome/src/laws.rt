@@ -9,7 +9,8 @@ ghost use Rattle.office_core_orders.specs.Ready.{HasPlaces};
 ghost use Rattle.office_core_facts.specs.Seen.{release, AreTrialCovers};
 ghost use Rattle.office_core_outcome.specs.NextRun.{HasCome};
 ghost use Rattle.office_core_outcome.specs.Proposal.{IsProposed, tried_decisions};
-ghost use Rattle.office_core_outcome.specs.Trial.{IsTrial, decided, trial_date, tried};
+ghost use Rattle.office_core_outcome.specs.Trial.{IsTrial, decided, judged, trial_date, tried, without_reasons};
+ghost use Rattle.office_core_outcome.specs.WhyRefused.{AreReasons};
 ghost use Rattle.office_core_outcome.specs.declared.proposal.Proposal.{Proposal};
 ghost use Rattle.office_core_outcome.specs.declared.TrialOptions.{TrialOptions};
 ghost use Rattle.office_core_outcome.specs.declared.Trial.{Trial};
@@ -25,17 +26,18 @@ pub fn try_is_next_run()
         → decided setup (k + 1) (outcome_of setup late (k + 1)) ≡ (tried setup kept k date covers hints).with }
 {}
 
-/// A trial is told one thing: what an office keeps, the terms and the hints leave no other. Every setup has a release team.
+/// A trial is told one thing: what an office keeps, the terms and the hints leave no other, but for the lines that show why
+/// hints are refused, which may be others that show it. Every setup has a release team.
 pub fn trials_have_one_end()
     ensures { (setup : Lists) (kept : Kept) (k : ℕ) (terms : TrialOptions) (hints : List (List ℕ)) (x y : Trial) → HasPlaces setup kept → release setup < length setup.senders
-        → IsTrial setup kept k terms hints x → IsTrial setup kept k terms hints y → x ≡ y }
+        → IsTrial setup kept k terms hints x → IsTrial setup kept k terms hints y → without_reasons x ≡ without_reasons y }
 {}
 
 /// A proposal is a trial: where its hints are tried on the same terms, over the covers that it has, the trial is told, and
 /// the run with the hints writes down just the decisions of which the proposal speaks.
 pub fn proposals_are_trials()
     ensures trial { (setup : Lists) (kept : Kept) (k : ℕ) (terms : TrialOptions) (sources : List (List ℕ)) (p : Proposal) → (proposed : IsProposed setup kept k terms sources p)
-        → IsTrial setup kept k terms p.hints.items (Told (tried setup kept k p.date proposed.covers p.hints.items)) }
+        → (reasons : List ℕ) → AreReasons (judged setup kept k p.date proposed.covers p.hints.items) reasons → IsTrial setup kept k terms p.hints.items (Told (tried setup kept k p.date proposed.covers p.hints.items) reasons) }
     ensures updates { (setup : Lists) (kept : Kept) (k : ℕ) (date : Date) (covers : ℕ → ℕ) (hints : List (List ℕ))
         → (tried setup kept k date covers hints).with.updates ≡ update_text setup.archs (k + 1) date (tried_decisions setup kept k date covers hints) }
 {}

@@ -4,16 +4,21 @@
 
 mod asked;
 mod deciding;
+mod hint_texts;
 mod hints;
 pub mod laws;
 mod proposal;
 mod proposing;
+mod refused_items;
+mod refusing;
 mod rules;
 mod search_notes;
 mod settling;
 mod stuck;
 mod trying;
 
+use deb_control::Text;
+pub use hint_texts::hint_told;
 use jiff_core::civil::Date;
 pub use office_core_facts::release::release_place;
 use office_mail::MailFault;
@@ -21,8 +26,8 @@ pub use proposal::{AskedSource, Proposal, SearchNotes, SourceEnd, proposal_text}
 pub use proposing::propose;
 pub use rules::{RunOutcome, run_beside};
 pub use testing_rules_groups::{DeadSource, LongGroup};
-pub use testing_rules_reports::{Decided, TrialReport, has_changes, tried_text};
-pub use trying::try_hints;
+pub use testing_rules_reports::{Decided, TrialReport, has_changes};
+pub use trying::{trial_text, try_hints};
 
 /// What a trial takes beside the hints: a day, if one is given, and whether all mail of all senders is covered that is
 /// kept without a gap.
@@ -42,10 +47,17 @@ pub struct RefusedHint {
 /// What a trial of hints is told.
 #[derive(Drop)]
 pub enum Trial {
-    /// What the next run would decide.
-    Told(TrialReport),
+    /// What the next run would decide, and in lines why it refuses some of the hints.
+    Told(TrialReport, Text),
     /// No run is finished, and no day is given.
     NoDate,
     /// A hint is refused.
     Refused(RefusedHint),
+}
+
+/// What is told of a hint for a run, and whether the run covers it.
+#[derive(Drop)]
+pub struct HintText {
+    pub text: Text,
+    pub is_known: bool,
 }

@@ -68,7 +68,7 @@ pub struct Proposal {
 }
 
 /// Adds a line.
-fn push_line(text: &mut String, line: &str) -> Result<(), AllocError>
+pub(crate) fn push_line(text: &mut String, line: &str) -> Result<(), AllocError>
     ensures { OnOk result (string_bytes text.new ≡ string_bytes text.old ++ line.now ++ 10 ∷ []) }
 {
     writeln!(text, "{line}")

@@ -22,7 +22,7 @@ use crate::proposal::{Proposal, SearchNotes};
 use crate::search_notes::{notes_on, parts_of};
 use crate::settling::{decisions_beside, freed_by, settle};
 use crate::stuck::stuck_texts;
-use crate::trying::trial_date;
+use crate::trying::{FinishedRuns, NextRun, trial_date};
 use deb_control::{NoMemory, Text};
 use jiff_core::civil::Date;
 use office_core_facts::copying::known_to;
@@ -31,7 +31,7 @@ use office_core_facts::covers::trial_covers;
 use office_core_facts::finished::{cover_at, finished_orders, remember};
 use office_core_facts::release::release_place;
 use office_core_orders::{StoreFault, stored};
-use office_mail::{RunOrder, Setup, latest_day};
+use office_mail::{Setup, latest_day};
 use office_store_keeper::Keeper;
 use std::alloc::Global;
 use testing_rules_excuses::excuses;
@@ -46,6 +46,13 @@ struct SettledHints {
     stuck: Vec<Option<Text>>,
     update: Update,
     notes: SearchNotes,
+}
+
+/// The sources that a proposal is asked for, and on which terms.
+#[derive(Clone, Copy)]
+struct AskedProposal<'a> {
+    sources: &'a [Text],
+    terms: TrialOptions,
 }
 
 /// The decisions of the run with the hints that stand, unless none stands. It fails for want of memory alone.
@@ -127,37 +134,34 @@ fn settled_kept<K: Keeper>(
     Ok(settled)
 }
 
-/// What is proposed over these covers.
+/// What is proposed for the run behind the finished ones.
 fn proposed_over_covers<K: Keeper>(
     alloc: Global,
     setup: &Setup,
     keeper: &mut K,
     known: &Option<KnownFacts>,
-    orders: &[RunOrder],
-    covers: &[u32],
-    finished: u32,
-    date: Date,
+    next: &NextRun<'_>,
     sources: &[Text],
 ) -> Result<Proposal, StoreFault>
-    requires ahead { (s : ℕ) → s < length setup.now.senders → cover_of orders.now s ≤ slice_index covers.now s }
-    ensures proposed { K.is_trusted keeper.new → K.is_legible keeper.old → IsOffice setup.now (K.content keeper.old) → orders.now ≡ orders_to setup.now (K.content keeper.old).kept (length (K.content keeper.old).reports) → finished ≡ length (K.content keeper.old).reports
-        → slice_index covers.now (release setup.now) ≤ 999_999_999
+    requires ahead { (s : ℕ) → s < length setup.now.senders → cover_of next.now.orders.now s ≤ slice_index next.now.covers.now s }
+    ensures proposed { K.is_trusted keeper.new → K.is_legible keeper.old → IsOffice setup.now (K.content keeper.old) → next.now.orders.now ≡ orders_to setup.now (K.content keeper.old).kept (length (K.content keeper.old).reports) → next.now.finished ≡ length (K.content keeper.old).reports
+        → slice_index next.now.covers.now (release setup.now) ≤ 999_999_999
         → IfSome known.now (λ known. AreKnown setup.now (K.content keeper.old) known)
-        → IfOk result (IsProposedOver setup.now (K.content keeper.old).kept (length (K.content keeper.old).reports) date (slice_index covers.now) sources.now) }
+        → IfOk result (IsProposedOver setup.now (K.content keeper.old).kept (length (K.content keeper.old).reports) next.now.date (slice_index next.now.covers.now) sources.now) }
     ensures looks { ReadsStore K.Keeper keeper.old keeper.new result }
 {
-    let taken = known_to(alloc, setup, keeper, known, orders, covers)?;
-    let number = cover_at(covers, release_place(setup) as usize);
+    let taken = known_to(alloc, setup, keeper, known, next.orders, next.covers)?;
+    let number = cover_at(next.covers, release_place(setup) as usize);
     let asked = Asked {
         setup,
-        date,
+        date: next.date,
         facts: &taken.facts,
         number,
         sources,
     };
     let settled = settled_kept(alloc, keeper, &asked)?;
     drop(taken);
-    let run = finished.saturating_add(1);
+    let run = next.finished.saturating_add(1);
     let first = number.saturating_add(1);
     let SettledHints {
         hints,
@@ -169,7 +173,7 @@ fn proposed_over_covers<K: Keeper>(
     drop(update);
     Ok(Proposal {
         run,
-        date,
+        date: next.date,
         first,
         hints,
         freed,
@@ -178,29 +182,33 @@ fn proposed_over_covers<K: Keeper>(
     })
 }
 
-/// What is proposed behind the finished runs, of which these are the orders, unless there is no date.
+/// What is proposed behind the finished runs, unless there is no date.
 fn proposed_after_orders<K: Keeper>(
     alloc: Global,
     setup: &Setup,
     keeper: &mut K,
     known: &Option<KnownFacts>,
-    orders: &[RunOrder],
-    finished: u32,
-    terms: TrialOptions,
-    sources: &[Text],
+    finished: &FinishedRuns<'_>,
+    asked: &AskedProposal<'_>,
 ) -> Result<Option<Proposal>, StoreFault>
-    ensures proposed { K.is_trusted keeper.new → K.is_legible keeper.old → IsOffice setup.now (K.content keeper.old) → orders.now ≡ orders_to setup.now (K.content keeper.old).kept (length (K.content keeper.old).reports) → finished ≡ length (K.content keeper.old).reports
+    ensures proposed { K.is_trusted keeper.new → K.is_legible keeper.old → IsOffice setup.now (K.content keeper.old) → finished.now.orders.now ≡ orders_to setup.now (K.content keeper.old).kept (length (K.content keeper.old).reports) → finished.now.count ≡ length (K.content keeper.old).reports
         → IfSome known.now (λ known. AreKnown setup.now (K.content keeper.old) known)
-        → IfOk result (λ proposal. IfSome proposal (IsProposed setup.now (K.content keeper.old).kept (length (K.content keeper.old).reports) terms sources.now)) }
-    ensures dated { IfOk result (λ proposal. is_none proposal ≡ is_none (trial_date (latest_day orders.now) terms.day)) }
+        → IfOk result (λ proposal. IfSome proposal (IsProposed setup.now (K.content keeper.old).kept (length (K.content keeper.old).reports) asked.now.terms asked.now.sources.now)) }
+    ensures dated { IfOk result (λ proposal. is_none proposal ≡ is_none (trial_date (latest_day finished.now.orders.now) asked.now.terms.day)) }
     ensures looks { ReadsStore K.Keeper keeper.old keeper.new result }
 {
-    let covers = trial_covers(alloc, setup, keeper, orders, terms.all)?;
-    match trial_date(latest_day(orders), terms.day) {
+    let terms = asked.terms;
+    let covers = trial_covers(alloc, setup, keeper, finished.orders, terms.all)?;
+    match trial_date(latest_day(finished.orders), terms.day) {
         Some(date) => {
-            let proposal = proposed_over_covers(
-                alloc, setup, keeper, known, orders, &covers, finished, date, sources,
-            )?;
+            let next = NextRun {
+                finished: finished.count,
+                orders: finished.orders,
+                date,
+                covers: &covers,
+            };
+            let sources = asked.sources;
+            let proposal = proposed_over_covers(alloc, setup, keeper, known, &next, sources)?;
             Ok(Some(proposal))
         }
         None => Ok(None),
@@ -213,24 +221,20 @@ fn proposed_for_next_run<K: Keeper>(
     setup: &Setup,
     keeper: &mut K,
     known: &mut Option<KnownFacts>,
-    orders: &[RunOrder],
-    finished: u32,
-    terms: TrialOptions,
-    sources: &[Text],
+    finished: &FinishedRuns<'_>,
+    asked: &AskedProposal<'_>,
 ) -> Result<Option<Proposal>, StoreFault>
-    ensures known { K.is_trusted keeper.new → FirstOrders setup.now (K.content keeper.old).kept orders.now → finished ≡ length (K.content keeper.old).reports
+    ensures known { K.is_trusted keeper.new → FirstOrders setup.now (K.content keeper.old).kept finished.now.orders.now → finished.now.count ≡ length (K.content keeper.old).reports
         → IfSome known.old (λ known. AreKnown setup.now (K.content keeper.old) known) → IfSome known.new (λ known. AreKnown setup.now (K.content keeper.old) known) }
-    ensures proposed { K.is_trusted keeper.new → K.is_legible keeper.old → IsOffice setup.now (K.content keeper.old) → FirstOrders setup.now (K.content keeper.old).kept orders.now
-        → orders.now ≡ orders_to setup.now (K.content keeper.old).kept (length (K.content keeper.old).reports) → finished ≡ length (K.content keeper.old).reports
+    ensures proposed { K.is_trusted keeper.new → K.is_legible keeper.old → IsOffice setup.now (K.content keeper.old) → FirstOrders setup.now (K.content keeper.old).kept finished.now.orders.now
+        → finished.now.orders.now ≡ orders_to setup.now (K.content keeper.old).kept (length (K.content keeper.old).reports) → finished.now.count ≡ length (K.content keeper.old).reports
         → IfSome known.old (λ known. AreKnown setup.now (K.content keeper.old) known)
-        → IfOk result (λ proposal. IfSome proposal (IsProposed setup.now (K.content keeper.old).kept (length (K.content keeper.old).reports) terms sources.now)) }
-    ensures dated { IfOk result (λ proposal. is_none proposal ≡ is_none (trial_date (latest_day orders.now) terms.day)) }
+        → IfOk result (λ proposal. IfSome proposal (IsProposed setup.now (K.content keeper.old).kept (length (K.content keeper.old).reports) asked.now.terms asked.now.sources.now)) }
+    ensures dated { IfOk result (λ proposal. is_none proposal ≡ is_none (trial_date (latest_day finished.now.orders.now) asked.now.terms.day)) }
     ensures looks { ReadsStore K.Keeper keeper.old keeper.new result }
 {
-    remember(alloc, setup, keeper, known, orders, finished)?;
-    proposed_after_orders(
-        alloc, setup, keeper, known, orders, finished, terms, sources,
-    )
+    remember(alloc, setup, keeper, known, finished.orders, finished.count)?;
+    proposed_after_orders(alloc, setup, keeper, known, finished, asked)
 }
 
 /// `easy` hints that the next run of an office with this store would do if they were covered too: those that free these
@@ -260,9 +264,12 @@ pub fn propose<K: Keeper>(
     ensures lasts { StaysTrusted K.Keeper keeper.old keeper.new (is_ok result) }
     ensures counted { Counted (K.refusals keeper.old) (K.refusals keeper.new) result }
 {
-    let finished = stored::finished(keeper)?;
-    let orders = finished_orders(alloc, setup, keeper, finished)?;
-    proposed_for_next_run(
-        alloc, setup, keeper, known, &orders, finished, terms, sources,
-    )
+    let count = stored::finished(keeper)?;
+    let orders = finished_orders(alloc, setup, keeper, count)?;
+    let finished = FinishedRuns {
+        count,
+        orders: &orders,
+    };
+    let asked = AskedProposal { sources, terms };
+    proposed_for_next_run(alloc, setup, keeper, known, &finished, &asked)
 }

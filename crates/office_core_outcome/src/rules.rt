@@ -2,7 +2,7 @@
 ghost use Rattle.std.specs.Prelude.{◌≡◌, IfOk};
 ghost use Rattle.office_core_facts.specs.Outcome.{Outcome, outcome};
 ghost use Rattle.office_core_outcome.specs.Proposal.{decisions_by};
-ghost use Rattle.office_core_outcome.specs.RuleSteps.{outcome_left};
+ghost use Rattle.office_core_outcome.specs.RuleSteps.{IsRuled, outcome_left};
 ghost use Rattle.testing_rules_laws.specs.Covered.{Covered};
 ghost use Rattle.testing_rules_laws.specs.Reports.{excuses_text, update_text};
 ghost use Rattle.testing_rules_laws.specs.StandsFor.{StandsFor};
@@ -25,6 +25,13 @@ pub struct RunOutcome {
     pub testing: Testing,
     pub excuses: Text,
     pub updates: Text,
+}
+
+/// What a run decides, and by which excuses, before it is told in texts.
+#[derive(Drop)]
+pub(crate) struct Ruled {
+    pub excuses: Excuses,
+    pub update: Update,
 }
 
 /// A run by the rules from this testing, over the messages that the facts stand for. What it brings into testing is given by
@@ -102,8 +109,29 @@ fn run_over(
     reports
 }
 
+/// What a run over a testing that is lent decides, and by which excuses, before it is told in texts.
+pub(crate) fn judge_run(
+    alloc: Global,
+    setup: &Setup,
+    date: Date,
+    facts: &Facts,
+    testing: &mut Testing,
+) -> Result<Ruled, NoMemory>
+    ensures { IfOk result (λ r. (s : Covered) → StandsFor facts.now s testing.old → IsRuled setup.now date s testing.old r testing.new) }
+{
+    let archs = setup.archs();
+    let excuses = excuses(alloc, archs, facts, testing, date)?;
+    match migrate(alloc, archs, facts, &excuses, testing) {
+        Ok(update) => Ok(Ruled { excuses, update }),
+        Err(fault) => {
+            drop(excuses);
+            Err(fault)
+        }
+    }
+}
+
 /// The two reports of a run.
-fn reports(
+pub(crate) fn reports(
     alloc: Global,
     archs: &Archs,
     run: u32,

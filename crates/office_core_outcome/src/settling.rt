@@ -147,7 +147,7 @@ fn hints_without(alloc: Global, hints: &[Text], place: usize) -> Result<Vec<Text
 }
 
 /// The testing before a run keeps the suites that the run left.
-fn keep_suites(before: &mut Testing, after: Testing) -> Result<(), NoMemory>
+pub(crate) fn keep_suites(before: &mut Testing, after: Testing) -> Result<(), NoMemory>
     ensures { before.new ≡ before.old }
 {
     let mut after = after;

@@ -26,6 +26,22 @@ use testing_rules_refusals::why_waits;
 use testing_rules_reports::{source_text, waits_in};
 use testing_rules_suites::Testing;
 
+/// A source that is asked about, for a run of this number and date.
+#[derive(Clone, Copy)]
+pub(crate) struct AskedSource<'a> {
+    pub run: u32,
+    pub date: Date,
+    pub source: &'a str,
+}
+
+/// What lines on a source go by: the names of the senders, the architectures, and the facts of a run.
+#[derive(Clone, Copy)]
+struct Ground<'g> {
+    senders: &'g [Text],
+    archs: &'g Archs,
+    facts: &'g Facts,
+}
+
 /// The names of the senders.
 fn sender_names(alloc: Global, setup: &Setup) -> Result<Vec<Text>, NoMemory>
     ensures { IfOk result (λ names. names.items ≡ sender_names setup.now) }
@@ -48,34 +64,30 @@ pub(crate) fn no_lines(alloc: Global) -> Text
 /// Where the reasons come from that keep a source of unstable out.
 fn origins_of(
     alloc: Global,
-    senders: &[Text],
-    archs: &Archs,
-    facts: &Facts,
+    ground: &Ground<'_>,
     testing: &Testing,
     upload: &UploadIn,
     excuse: Option<&Excuse>,
 ) -> Result<Text, NoMemory>
-    ensures { IfOk result (λ text. IsOriginText senders.now archs.now (said_in (unstable_of archs.now facts.now) testing.now upload.now) upload.now (option_copied excuse.entry) text) }
+    ensures { IfOk result (λ text. IsOriginText ground.now.senders.now ground.now.archs.now (said_in (unstable_of ground.now.archs.now ground.now.facts.now) testing.now upload.now) upload.now (option_copied excuse.entry) text) }
 {
-    let said = said_of(alloc, archs, facts, testing, upload)?;
-    origin_lines(alloc, senders, archs, &said, upload, excuse)
+    let said = said_of(alloc, ground.archs, ground.facts, testing, upload)?;
+    origin_lines(alloc, ground.senders, ground.archs, &said, upload, excuse)
 }
 
 /// Where the reasons come from that keep a source out; no line of a source that unstable hasn't.
 fn origins_in(
     alloc: Global,
-    senders: &[Text],
-    archs: &Archs,
-    facts: &Facts,
+    ground: &Ground<'_>,
     testing: &Testing,
     excuses: &[Excuse],
     source: &str,
 ) -> Result<Text, NoMemory>
-    ensures { IfOk result (λ text. AreOrigins senders.now archs.now (unstable_of archs.now facts.now) testing.now (states.excuse_of excuses.now source.now) (moves.source_in facts.now.sources source.now) text) }
+    ensures { IfOk result (λ text. AreOrigins ground.now.senders.now ground.now.archs.now (unstable_of ground.now.archs.now ground.now.facts.now) testing.now (states.excuse_of excuses.now source.now) (moves.source_in ground.now.facts.now.sources source.now) text) }
 {
     let excuse = excuse_of(excuses, source);
-    match source_in(facts.sources(), source) {
-        Some(upload) => origins_of(alloc, senders, archs, facts, testing, upload, excuse),
+    match source_in(ground.facts.sources(), source) {
+        Some(upload) => origins_of(alloc, ground, testing, upload, excuse),
         None => Ok(no_lines(alloc)),
     }
 }
@@ -119,19 +131,18 @@ fn refusal_in(
 /// Why a source that waits by an update can't move alone; no line of any other.
 fn refusal_by(
     alloc: Global,
-    archs: &Archs,
-    facts: &Facts,
+    ground: &Ground<'_>,
     testing: &mut Testing,
     excuses: &[Excuse],
     update: &str,
     source: &str,
 ) -> Result<Text, NoMemory>
-    ensures told { IfOk result (λ text. IsRefusedWhere (lines.waits_in source.now update.now) archs.now (unstable_of archs.now facts.now) testing.old excuses.now (states.excuse_of excuses.now source.now) text) }
+    ensures told { IfOk result (λ text. IsRefusedWhere (lines.waits_in source.now update.now) ground.now.archs.now (unstable_of ground.now.archs.now ground.now.facts.now) testing.old excuses.now (states.excuse_of excuses.now source.now) text) }
     ensures same { testing.new ≡ testing.old }
 {
     let waits = waits_in(alloc, source, update)?;
     if waits {
-        refusal_in(alloc, archs, facts, testing, excuses, source)
+        refusal_in(alloc, ground.archs, ground.facts, testing, excuses, source)
     } else {
         Ok(no_lines(alloc))
     }
@@ -145,113 +156,103 @@ fn joined(alloc: Global, first: &Text, second: &Text) -> Result<Text, NoMemory>
     Ok(Text::from_string(text))
 }
 
-/// What the reports of a run say of a source, with the lines on how it stands and where the reasons come from.
+/// What the reports of the run say of the source that is asked about, with the lines on how it stands and where the
+/// reasons come from.
 fn with_origins(
     alloc: Global,
-    run: u32,
+    asked: &AskedSource<'_>,
     reports: &Reports,
-    source: &str,
     standing: &Text,
     origins: &Text,
 ) -> Result<Text, NoMemory>
-    ensures { IfOk result (λ text. text ≡ lines.source_text run source.now reports.now.excuses reports.now.updates (standing.now ++ origins.now)) }
+    ensures { IfOk result (λ text. text ≡ lines.source_text asked.now.run asked.now.source.now reports.now.excuses reports.now.updates (standing.now ++ origins.now)) }
 {
     let (excuses, update) = (reports.excuses.as_str(), reports.updates.as_str());
     let inner = joined(alloc, standing, origins)?;
-    source_text(alloc, run, source, excuses, update, inner.as_str())
+    source_text(
+        alloc,
+        asked.run,
+        asked.source,
+        excuses,
+        update,
+        inner.as_str(),
+    )
 }
 
-/// What the reports of a run say of a source, with the lines on why the source can't move alone.
+/// What the reports of the run say of the source that is asked about, with the lines on why it can't move alone.
 fn with_reasons(
     alloc: Global,
-    run: u32,
+    asked: &AskedSource<'_>,
     reports: &Reports,
-    source: &str,
     standing: &Text,
     origins: &Text,
     refusal: &Text,
 ) -> Result<Text, NoMemory>
-    ensures { IfOk result (λ text. text ≡ lines.source_text run source.now reports.now.excuses reports.now.updates (standing.now ++ origins.now) ++ refusal.now) }
+    ensures { IfOk result (λ text. text ≡ lines.source_text asked.now.run asked.now.source.now reports.now.excuses reports.now.updates (standing.now ++ origins.now) ++ refusal.now) }
 {
-    let said = with_origins(alloc, run, reports, source, standing, origins)?;
+    let said = with_origins(alloc, asked, reports, standing, origins)?;
     joined(alloc, &said, refusal)
 }
 
-/// What is told of a source by the excuses that a run left.
+/// What is told of the source that is asked about, by the excuses that the run left.
 fn lines_from_excuses(
     alloc: Global,
-    senders: &[Text],
-    archs: &Archs,
-    facts: &Facts,
+    ground: &Ground<'_>,
     testing: &mut Testing,
     excuses: &[Excuse],
-    run: u32,
+    asked: &AskedSource<'_>,
     reports: &Reports,
-    source: &str,
 ) -> Result<WhyText, NoMemory>
-    ensures told { IfOk result (λ told. IsToldBy senders.now archs.now (unstable_of archs.now facts.now) testing.old excuses.now run reports.now source.now told) }
+    ensures told { IfOk result (λ told. IsToldBy ground.now.senders.now ground.now.archs.now (unstable_of ground.now.archs.now ground.now.facts.now) testing.old excuses.now asked.now.run reports.now asked.now.source.now told) }
     ensures same { testing.new ≡ testing.old }
 {
+    let source = asked.source;
     let update = reports.updates.as_str();
-    let upload = source_in(facts.sources(), source);
+    let upload = source_in(ground.facts.sources(), source);
     let standing = standing_line(alloc, testing, source, upload)?;
-    let origins = origins_in(alloc, senders, archs, facts, testing, excuses, source)?;
-    let refusal = refusal_by(alloc, archs, facts, testing, excuses, update, source)?;
-    let text = with_reasons(alloc, run, reports, source, &standing, &origins, &refusal)?;
+    let origins = origins_in(alloc, ground, testing, excuses, source)?;
+    let refusal = refusal_by(alloc, ground, testing, excuses, update, source)?;
+    let text = with_reasons(alloc, asked, reports, &standing, &origins, &refusal)?;
     Ok(WhyText {
         text,
         is_known: upload.is_some(),
     })
 }
 
-/// What is told of a source after a run of a date, whose senders have these names, over the messages that the facts stand
-/// for.
+/// What is told after the run of the source that is asked about, over the messages that the facts stand for.
 fn lines_after_run(
     alloc: Global,
-    senders: &[Text],
-    archs: &Archs,
-    facts: &Facts,
+    ground: &Ground<'_>,
     testing: &mut Testing,
-    run: u32,
-    date: Date,
+    asked: &AskedSource<'_>,
     reports: &Reports,
-    source: &str,
 ) -> Result<WhyText, NoMemory>
-    ensures told { IfOk result (λ told. (s : Covered) → StandsFor facts.now s testing.old → IsToldOf senders.now archs.now s testing.old run date reports.now source.now told) }
+    ensures told { IfOk result (λ told. (s : Covered) → StandsFor ground.now.facts.now s testing.old → IsToldOf ground.now.senders.now ground.now.archs.now s testing.old asked.now.run asked.now.date reports.now asked.now.source.now told) }
     ensures same { testing.new ≡ testing.old }
 {
-    let excuses = excuses(alloc, archs, facts, testing, date)?;
-    lines_from_excuses(
-        alloc,
-        senders,
-        archs,
-        facts,
-        testing,
-        excuses.as_slice(),
-        run,
-        reports,
-        source,
-    )
+    let excuses = excuses(alloc, ground.archs, ground.facts, testing, asked.date)?;
+    lines_from_excuses(alloc, ground, testing, excuses.as_slice(), asked, reports)
 }
 
-/// What is told of a source after a run of a date by its reports and the testing that it left, over the messages that the
-/// facts stand for.
+/// What is told after the run of the source that is asked about, by the reports of the run and the testing that it
+/// left, over the messages that the facts stand for.
 pub(crate) fn lines_from_run(
     alloc: Global,
     setup: &Setup,
     facts: &Facts,
     testing: &mut Testing,
-    run: u32,
-    date: Date,
+    asked: &AskedSource<'_>,
     reports: &Reports,
-    source: &str,
 ) -> Result<WhyText, NoMemory>
-    ensures told { IfOk result (λ told. (s : Covered) → StandsFor facts.now s testing.old → IsTold setup.now s testing.old run date reports.now source.now told) }
+    ensures told { IfOk result (λ told. (s : Covered) → StandsFor facts.now s testing.old → IsTold setup.now s testing.old asked.now.run asked.now.date reports.now asked.now.source.now told) }
     ensures same { testing.new ≡ testing.old }
 {
     let senders = sender_names(alloc, setup)?;
     let archs = setup.archs();
-    lines_after_run(
-        alloc, &senders, archs, facts, testing, run, date, reports, source,
-    )
+    let ground = Ground {
+        senders: &senders,
+        archs,
+        facts,
+    };
+    lines_after_run(alloc, &ground, testing, asked, reports)
 }

@@ -16,8 +16,7 @@ ghost use Rattle.office_core_why.specs.Why.{IsWhy};
 ghost use Rattle.office_core_why.specs.Telling.{IsToldWith};
 
 use crate::WhyText;
-use crate::told::lines_from_run;
-use jiff_core::civil::Date;
+use crate::told::{AskedSource, lines_from_run};
 use office_core_facts::covered::{KnownFacts, covers};
 use office_core_facts::finished::{facts_within, finished_orders, remember};
 use office_core_orders::{StoreFault, stored};
@@ -27,172 +26,167 @@ use std::alloc::Global;
 use testing_rules_facts::Facts;
 use testing_rules_suites::Testing;
 
-/// What is told of a source by the reports of a run and the testing that it left, over the messages that the facts stand for.
-/// It fails for want of memory alone.
+/// The finished runs, and their orders.
+#[derive(Clone, Copy)]
+struct FinishedRuns<'a> {
+    count: u32,
+    orders: &'a [RunOrder],
+}
+
+/// What is told of the source that is asked about, by the reports of the run and the testing that it left, over the
+/// messages that the facts stand for. It fails for want of memory alone.
 fn lines_from_reports(
     alloc: Global,
     setup: &Setup,
     facts: &Facts,
     testing: &mut Testing,
-    run: u32,
-    date: Date,
+    asked: &AskedSource<'_>,
     reports: &Reports,
-    source: &str,
 ) -> Result<Option<WhyText>, StoreFault>
-    ensures told { IfOk result (λ found. (s : Covered) → StandsFor facts.now s testing.old → IsToldWith setup.now s testing.old run date (Some reports.now) source.now found) }
+    ensures told { IfOk result (λ found. (s : Covered) → StandsFor facts.now s testing.old → IsToldWith setup.now s testing.old asked.now.run asked.now.date (Some reports.now) asked.now.source.now found) }
     ensures same { testing.new ≡ testing.old }
     ensures no_store { IfErr result (λ fault. fault ≡ StoreFault.NoMemory) }
 {
-    let told = lines_from_run(alloc, setup, facts, testing, run, date, reports, source)?;
+    let told = lines_from_run(alloc, setup, facts, testing, asked, reports)?;
     Ok(Some(told))
 }
 
-/// What is told of a source by the reports of a run, over the testing that is kept, which is given back with what
-/// speeds the next run.
+/// What is told of the source that is asked about, by the reports of the run, over the testing that is kept, which is
+/// given back with what speeds the next run.
 fn tell_by<K: Keeper>(
     alloc: Global,
     setup: &Setup,
     keeper: &mut K,
     facts: &Facts,
-    run: u32,
-    date: Date,
+    asked: &AskedSource<'_>,
     reports: &Reports,
-    source: &str,
 ) -> Result<Option<WhyText>, StoreFault>
     ensures told { K.is_trusted keeper.new → K.is_legible keeper.old → IfOk result (λ found. (s : Covered) → StandsFor facts.now s (K.content keeper.old).testing
-        → IsToldWith setup.now s (K.content keeper.old).testing run date (Some reports.now) source.now found) }
+        → IsToldWith setup.now s (K.content keeper.old).testing asked.now.run asked.now.date (Some reports.now) asked.now.source.now found) }
     ensures looks { ReadsStore K.Keeper keeper.old keeper.new result }
 {
     let mut testing = stored::next_testing(keeper)?;
-    let told = lines_from_reports(
-        alloc,
-        setup,
-        facts,
-        &mut testing,
-        run,
-        date,
-        reports,
-        source,
-    );
+    let told = lines_from_reports(alloc, setup, facts, &mut testing, asked, reports);
     keeper.give_back(testing);
     told
 }
 
-/// What is told of a source by the reports that the store keeps of the run. Nothing is told where it keeps none.
+/// What is told of the source that is asked about, by the reports that the store keeps of the run. Nothing is told
+/// where it keeps none.
 fn tell<K: Keeper>(
     alloc: Global,
     setup: &Setup,
     keeper: &mut K,
     facts: &Facts,
-    run: u32,
-    date: Date,
-    source: &str,
+    asked: &AskedSource<'_>,
 ) -> Result<Option<WhyText>, StoreFault>
     ensures told { K.is_trusted keeper.new → K.is_legible keeper.old → IfOk result (λ found. (s : Covered) → StandsFor facts.now s (K.content keeper.old).testing
-        → IsToldWith setup.now s (K.content keeper.old).testing run date (item_from_one run (K.content keeper.old).reports) source.now found) }
+        → IsToldWith setup.now s (K.content keeper.old).testing asked.now.run asked.now.date (item_from_one asked.now.run (K.content keeper.old).reports) asked.now.source.now found) }
     ensures looks { ReadsStore K.Keeper keeper.old keeper.new result }
 {
-    match stored::reports(keeper, run)? {
-        Some(reports) => tell_by(alloc, setup, keeper, facts, run, date, &reports, source),
+    match stored::reports(keeper, asked.run)? {
+        Some(reports) => tell_by(alloc, setup, keeper, facts, asked, &reports),
         None => Ok(None),
     }
 }
 
-/// What is told of a source after the finished runs, of which these are the orders, where nothing is known of their mail: it
-/// is taken from the store.
+/// What is told after the finished runs, of which these are the orders, of the source that is asked about, where
+/// nothing is known of their mail: it is taken from the store.
 fn tell_unknown<K: Keeper>(
     alloc: Global,
     setup: &Setup,
     keeper: &mut K,
     orders: &[RunOrder],
-    run: u32,
-    date: Date,
-    source: &str,
+    asked: &AskedSource<'_>,
 ) -> Result<Option<WhyText>, StoreFault>
     ensures told { K.is_trusted keeper.new → K.is_legible keeper.old → IsOffice setup.now (K.content keeper.old) → FirstOrders setup.now (K.content keeper.old).kept orders.now → length orders.now ≡ length (K.content keeper.old).reports
-        → IfOk result (IsToldWith setup.now (covered_items setup.now (K.content keeper.old).kept (length (K.content keeper.old).reports)) (K.content keeper.old).testing run date (item_from_one run (K.content keeper.old).reports) source.now) }
+        → IfOk result (IsToldWith setup.now (covered_items setup.now (K.content keeper.old).kept (length (K.content keeper.old).reports)) (K.content keeper.old).testing asked.now.run asked.now.date (item_from_one asked.now.run (K.content keeper.old).reports) asked.now.source.now) }
     ensures looks { ReadsStore K.Keeper keeper.old keeper.new result }
 {
     let covers = covers(alloc, setup, orders)?;
     let known = facts_within(alloc, setup, keeper, orders, &covers)?;
-    let told = tell(alloc, setup, keeper, &known.facts, run, date, source);
+    let told = tell(alloc, setup, keeper, &known.facts, asked);
     drop(known);
     told
 }
 
-/// What is told of a source after the finished runs, by what is known of their mail, or else from the store.
+/// What is told after the finished runs, of which these are the orders, of the source that is asked about, by what is
+/// known of their mail, or else from the store.
 fn tell_known<K: Keeper>(
     alloc: Global,
     setup: &Setup,
     keeper: &mut K,
     known: &Option<KnownFacts>,
     orders: &[RunOrder],
-    run: u32,
-    date: Date,
-    source: &str,
+    asked: &AskedSource<'_>,
 ) -> Result<Option<WhyText>, StoreFault>
     ensures told { K.is_trusted keeper.new → K.is_legible keeper.old → IsOffice setup.now (K.content keeper.old) → FirstOrders setup.now (K.content keeper.old).kept orders.now → length orders.now ≡ length (K.content keeper.old).reports
         → IfSome known.now (λ known. AreKnown setup.now (K.content keeper.old) known)
-        → IfOk result (IsToldWith setup.now (covered_items setup.now (K.content keeper.old).kept (length (K.content keeper.old).reports)) (K.content keeper.old).testing run date (item_from_one run (K.content keeper.old).reports) source.now) }
+        → IfOk result (IsToldWith setup.now (covered_items setup.now (K.content keeper.old).kept (length (K.content keeper.old).reports)) (K.content keeper.old).testing asked.now.run asked.now.date (item_from_one asked.now.run (K.content keeper.old).reports) asked.now.source.now) }
     ensures looks { ReadsStore K.Keeper keeper.old keeper.new result }
 {
     match known {
-        Some(known) => tell(alloc, setup, keeper, &known.facts, run, date, source),
-        None => tell_unknown(alloc, setup, keeper, orders, run, date, source),
+        Some(known) => tell(alloc, setup, keeper, &known.facts, asked),
+        None => tell_unknown(alloc, setup, keeper, orders, asked),
     }
 }
 
-/// Why a source stands where the last finished run left it, which was on this day; these are the orders of the finished
-/// runs.
+/// Why the source that is asked about stands where the last finished run left it, which is the run that is asked for.
+/// These are the orders of the finished runs.
 fn why_on<K: Keeper>(
     alloc: Global,
     setup: &Setup,
     keeper: &mut K,
     known: &mut Option<KnownFacts>,
     orders: &[RunOrder],
-    run: u32,
-    date: Date,
-    source: &str,
+    asked: &AskedSource<'_>,
 ) -> Result<Option<WhyText>, StoreFault>
-    ensures known { K.is_trusted keeper.new → FirstOrders setup.now (K.content keeper.old).kept orders.now → run ≡ length (K.content keeper.old).reports
+    ensures known { K.is_trusted keeper.new → FirstOrders setup.now (K.content keeper.old).kept orders.now → asked.now.run ≡ length (K.content keeper.old).reports
         → IfSome known.old (λ known. AreKnown setup.now (K.content keeper.old) known) → IfSome known.new (λ known. AreKnown setup.now (K.content keeper.old) known) }
-    ensures told { K.is_trusted keeper.new → K.is_legible keeper.old → IsOffice setup.now (K.content keeper.old) → FirstOrders setup.now (K.content keeper.old).kept orders.now → length orders.now ≡ length (K.content keeper.old).reports → run ≡ length (K.content keeper.old).reports
+    ensures told { K.is_trusted keeper.new → K.is_legible keeper.old → IsOffice setup.now (K.content keeper.old) → FirstOrders setup.now (K.content keeper.old).kept orders.now → length orders.now ≡ length (K.content keeper.old).reports → asked.now.run ≡ length (K.content keeper.old).reports
         → IfSome known.old (λ known. AreKnown setup.now (K.content keeper.old) known)
-        → IfOk result (IsToldWith setup.now (covered_items setup.now (K.content keeper.old).kept (length (K.content keeper.old).reports)) (K.content keeper.old).testing run date (item_from_one run (K.content keeper.old).reports) source.now) }
+        → IfOk result (IsToldWith setup.now (covered_items setup.now (K.content keeper.old).kept (length (K.content keeper.old).reports)) (K.content keeper.old).testing asked.now.run asked.now.date (item_from_one asked.now.run (K.content keeper.old).reports) asked.now.source.now) }
     ensures looks { ReadsStore K.Keeper keeper.old keeper.new result }
 {
-    remember(alloc, setup, keeper, known, orders, run)?;
-    tell_known(alloc, setup, keeper, known, orders, run, date, source)
+    remember(alloc, setup, keeper, known, orders, asked.run)?;
+    tell_known(alloc, setup, keeper, known, orders, asked)
 }
 
-/// Why a source stands where the last finished run left it, which was on the day of the latest of these orders; none
-/// where there is no order.
+/// Why a source stands where the last finished run left it, which was on the day of the latest order; none where there
+/// is no order.
 fn why_after<K: Keeper>(
     alloc: Global,
     setup: &Setup,
     keeper: &mut K,
     known: &mut Option<KnownFacts>,
-    orders: &[RunOrder],
-    run: u32,
+    finished: &FinishedRuns<'_>,
     source: &str,
 ) -> Result<Option<WhyText>, StoreFault>
-    ensures known { K.is_trusted keeper.new → FirstOrders setup.now (K.content keeper.old).kept orders.now → run ≡ length (K.content keeper.old).reports
+    ensures known { K.is_trusted keeper.new → FirstOrders setup.now (K.content keeper.old).kept finished.now.orders.now → finished.now.count ≡ length (K.content keeper.old).reports
         → IfSome known.old (λ known. AreKnown setup.now (K.content keeper.old) known) → IfSome known.new (λ known. AreKnown setup.now (K.content keeper.old) known) }
-    ensures why { K.is_trusted keeper.new → K.is_legible keeper.old → IsOffice setup.now (K.content keeper.old) → FirstOrders setup.now (K.content keeper.old).kept orders.now → length orders.now ≡ length (K.content keeper.old).reports → run ≡ length (K.content keeper.old).reports
+    ensures why { K.is_trusted keeper.new → K.is_legible keeper.old → IsOffice setup.now (K.content keeper.old) → FirstOrders setup.now (K.content keeper.old).kept finished.now.orders.now → length finished.now.orders.now ≡ length (K.content keeper.old).reports → finished.now.count ≡ length (K.content keeper.old).reports
         → IfSome known.old (λ known. AreKnown setup.now (K.content keeper.old) known)
         → IfOk result (IsWhy setup.now (K.content keeper.old).kept (length (K.content keeper.old).reports) source.now) }
     ensures looks { ReadsStore K.Keeper keeper.old keeper.new result }
 {
+    let orders = finished.orders;
     match latest_day(orders) {
-        Some(date) => why_on(alloc, setup, keeper, known, orders, run, date, source),
+        Some(date) => {
+            let asked = AskedSource {
+                run: finished.count,
+                date,
+                source,
+            };
+            why_on(alloc, setup, keeper, known, orders, &asked)
+        }
         None => Ok(None),
     }
 }
 
-/// Why a source stands where the last finished run of an office with this store left it, none where no run is finished: the
-/// lines of the run's reports that are of the source; how it stands, if it has nothing to move; where the reasons come from
-/// that keep it out; and of a source that waits, what shows that it can't move alone. What is known of the mail is used, or
-/// else recalled from the store and known from then on.
+/// Why a source stands where the last finished run of an office with this store left it, none where no run is finished:
+/// the lines of the run's reports that are of the source; how it stands, if it has nothing to move; where the reasons
+/// come from that keep it out; and of a source that waits, what shows that it can't move alone. What is known of the
+/// mail is used, or else recalled from the store and known from then on.
 ///
 /// It fails for want of memory or of the store alone.
 pub fn why_text<K: Keeper>(
@@ -212,7 +206,11 @@ pub fn why_text<K: Keeper>(
     ensures lasts { StaysTrusted K.Keeper keeper.old keeper.new (is_ok result) }
     ensures counted { Counted (K.refusals keeper.old) (K.refusals keeper.new) result }
 {
-    let finished = stored::finished(keeper)?;
-    let orders = finished_orders(alloc, setup, keeper, finished)?;
-    why_after(alloc, setup, keeper, known, &orders, finished, source)
+    let count = stored::finished(keeper)?;
+    let orders = finished_orders(alloc, setup, keeper, count)?;
+    let finished = FinishedRuns {
+        count,
+        orders: &orders,
+    };
+    why_after(alloc, setup, keeper, known, &finished, source)
 }

@@ -9,14 +9,14 @@ ghost use Rattle.office_http_requests.specs.Reply.{HasPlace};
 ghost use Rattle.office_core.specs.Preserves.{Asks, Holds};
 ghost use Rattle.office_core_facts.specs.Seen.{release};
 ghost use Rattle.testing_rules_reports.specs.LentLines.{lent_lines};
-ghost use Rattle.testing_rules_reports.specs.Tried.{tried_text};
+ghost use Rattle.office_core_outcome.specs.Trial.{trial_text};
 
 use deb_control::{NoMemory, Text};
 use jiff_core::civil::Date;
 use office_core::Office;
 use office_core_orders::{DeliverFault, StoreFault, fault_words, name_at};
 use office_core_outcome::{
-    RefusedHint, Trial, TrialOptions, TrialReport, release_place, tried_text,
+    RefusedHint, Trial, TrialOptions, TrialReport, release_place, trial_text,
 };
 use office_http_requests::{Answer, Refusal};
 use office_mail::Setup;
@@ -102,16 +102,18 @@ fn refused_line(alloc: Global, hints: &[Text], refused: RefusedHint) -> Result<T
     Ok(Text::from_string(line))
 }
 
-/// The text that tells what hints of the release team would change.
-fn trial_text(
+/// The text of a trial of hints of the release team.
+fn release_text(
     alloc: Global,
     setup: &Setup,
     hints: &[Text],
-    tried: &TrialReport,
+    report: &TrialReport,
+    reasons: &Text,
 ) -> Result<Text, NoMemory>
-    ensures { IfOk result (λ text. text ≡ tried_text (name_at setup.now (release setup.now)) hints.now tried.now) }
+    ensures { IfOk result (λ text. text ≡ trial_text (name_at setup.now (release setup.now)) hints.now report.now reasons.now) }
 {
-    tried_text(alloc, name_at(setup, release_place(setup)), hints, tried)
+    let sender = name_at(setup, release_place(setup));
+    trial_text(alloc, sender, hints, report, reasons)
 }
 
 /// The answer to hints by what their trial is told.
@@ -125,7 +127,10 @@ fn trial_answer(
     ensures place { IfOk result (λ answer. HasPlace setup.now answer) }
 {
     match trial {
-        Trial::Told(tried) => Ok(Answer::Told(trial_text(alloc, setup, hints, tried)?)),
+        Trial::Told(report, reasons) => {
+            let text = release_text(alloc, setup, hints, report, reasons)?;
+            Ok(Answer::Told(text))
+        }
         Trial::NoDate => Ok(Answer::Refused(Refusal::NoRun)),
         Trial::Refused(refused) => Ok(Answer::BadHint(refused_line(alloc, hints, *refused)?)),
     }

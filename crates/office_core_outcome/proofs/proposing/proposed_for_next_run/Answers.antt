@@ -16,6 +16,6 @@ returns-clause-proposed g c = λ trusted legible office first are is was.
     let setup = a.setup.now in
     let earlier = c.proposed_after_orders.ensures.looks.before trusted in
     let known : Option KnownFacts = c.remember.new.known in
-    subst (λ (m : Content). IsOffice setup m → a.orders.now ≡ orders_to setup m.kept (length m.reports) → a.finished ≡ length m.reports → IfSome known (λ (k : KnownFacts). AreKnown setup m k)
-    → IfOk c.proposed_after_orders.result (λ proposal. IfSome proposal (IsProposed setup m.kept (length m.reports) a.terms a.sources.now)))
+    subst (λ (m : Content). IsOffice setup m → a.finished.now.orders.now ≡ orders_to setup m.kept (length m.reports) → a.finished.now.count ≡ length m.reports → IfSome known (λ (k : KnownFacts). AreKnown setup m k)
+    → IfOk c.proposed_after_orders.result (λ proposal. IfSome proposal (IsProposed setup m.kept (length m.reports) a.asked.now.terms a.asked.now.sources.now)))
     (c.in_ok-remember.ensures.looks.same earlier) (c.proposed_after_orders.ensures.proposed trusted (c.in_ok-remember.ensures.looks.legible earlier legible)) office are is (c.in_ok-remember.ensures.known earlier first is was)

@@ -12,9 +12,9 @@ use Rattle.office_core_outcome.proofs.proposing.proposed_over_covers.Goals as go
 pub returns-clause-proposed : goal.returns-clause-proposed
 returns-clause-proposed g c = λ trusted legible office are finished few is.
     let setup = c.args.setup.now in
-    let date = c.args.date in
+    let date = c.args.next.now.date in
     let content : Content = g.K.Keeper.content c.args.keeper.now in
-    let covers : ℕ → ℕ = slice_index c.args.covers.now in
+    let covers : ℕ → ℕ = slice_index c.args.next.now.covers.now in
     let number = c.cover_at-number.result in
     let earlier = c.in_ok-settled.ensures.looks.before trusted in
     let facts = c.in_ok-taken.taken.facts in

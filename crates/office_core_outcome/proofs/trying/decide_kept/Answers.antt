@@ -7,6 +7,7 @@ use Rattle.office_core_orders.proofs.GivingBack.{given_back}
 use Rattle.office_core_facts.specs.Outcome.{outcome}
 use Rattle.office_core_facts.specs.Seen.{release}
 use Rattle.office_core_outcome.specs.Hints.{with_letters}
+use Rattle.office_core_outcome.specs.RuleSteps.{IsToldRun}
 use Rattle.office_core_outcome.specs.Trial.{decided}
 use Rattle.office_core_outcome.proofs.trying.decide_kept.Goals as goal
 
@@ -19,14 +20,15 @@ pub returns-clause-without : goal.returns-clause-without
 returns-clause-without g c = λ trusted legible.
     let setup = c.args.setup.now in
     let earlier = c.give_back.ensures.before trusted in
-    subst (λ (t : Suite). (s : Covered) → StandsFor c.args.facts.now s t → c.in_ok-before.without ≡ decided setup c.args.run (outcome setup c.args.run c.args.date s t))
+    subst (λ (t : Suite). (s : Covered) → StandsFor c.args.facts.now s t → c.in_ok-before.without ≡ decided setup c.args.tried.now.run (outcome setup c.args.tried.now.run c.args.tried.now.date s t))
     (c.in_ok-testing.ensures.value earlier (c.in_ok-testing.ensures.looks.legible earlier legible)) c.in_ok-before.ensures.without
 
 pub returns-clause-with_them : goal.returns-clause-with_them
 returns-clause-with_them g c = λ trusted legible.
     let setup = c.args.setup.now in
     let earlier = c.give_back.ensures.before trusted in
-    subst (λ (t : Suite). (s : Covered) → StandsFor c.args.facts.now s t → c.in_ok-before.with ≡ decided setup c.args.run (outcome setup c.args.run c.args.date (with_letters setup (release setup) c.args.letters.now s) t))
+    let tried = c.args.tried.now in
+    subst (λ (t : Suite). (s : Covered) → StandsFor c.args.facts.now s t → IsToldRun setup tried.run tried.date tried.behind (with_letters setup (release setup) tried.letters.now s) t c.in_ok-before.with)
     (c.in_ok-testing.ensures.value earlier (c.in_ok-testing.ensures.looks.legible earlier legible)) c.in_ok-before.ensures.with_them
 
 pub returns-clause-looks : goal.returns-clause-looks

@@ -16,6 +16,6 @@ returns-clause-tried g c = λ trusted legible office first are is was.
     let setup = a.setup.now in
     let earlier = c.trial_after_orders.ensures.looks.before trusted in
     let known : Option KnownFacts = c.remember.new.known in
-    subst (λ (m : Content). IsOffice setup m → a.orders.now ≡ orders_to setup m.kept (length m.reports) → a.finished ≡ length m.reports → IfSome known (λ (k : KnownFacts). AreKnown setup m k)
-    → IfOk c.trial_after_orders.result (IsTrial setup m.kept (length m.reports) a.terms a.hints.now))
+    subst (λ (m : Content). IsOffice setup m → a.finished.now.orders.now ≡ orders_to setup m.kept (length m.reports) → a.finished.now.count ≡ length m.reports → IfSome known (λ (k : KnownFacts). AreKnown setup m k)
+    → IfOk c.trial_after_orders.result (IsTrial setup m.kept (length m.reports) a.asked.now.terms a.asked.now.hints.now))
     (c.in_ok-remember.ensures.looks.same earlier) (c.trial_after_orders.ensures.tried trusted (c.in_ok-remember.ensures.looks.legible earlier legible)) office are is (c.in_ok-remember.ensures.known earlier first is was)

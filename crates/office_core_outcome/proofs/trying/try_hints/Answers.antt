@@ -14,29 +14,29 @@ returns-clause-tried g c = λ trusted legible office.
     let a = c.args in
     let setup = a.setup.now in
     let content : Content = g.K.Keeper.content a.keeper.now in
-    let finished = c.in_ok-finished.finished in
+    let finished = c.in_ok-count.count in
     let orders : List RunOrder = c.in_ok-orders.orders.items in
     let given : List RunOrder = c.deref.result.now in
     let lent : given ≡ orders = c.deref.ensures.value in
     let known : Option KnownFacts = a.known.now in
     let later = c.trial_of_next_run.ensures.looks.before trusted in
     let earlier = c.in_ok-orders.ensures.looks.before later in
-    let at = c.in_ok-finished.ensures.looks.same earlier in
-    let is = c.in_ok-finished.ensures.value earlier in
-    let readable = c.in_ok-orders.ensures.looks.legible later (c.in_ok-finished.ensures.looks.legible earlier legible) in
+    let at = c.in_ok-count.ensures.looks.same earlier in
+    let is = c.in_ok-count.ensures.value earlier in
+    let readable = c.in_ok-orders.ensures.looks.legible later (c.in_ok-count.ensures.looks.legible earlier legible) in
     let first : FirstOrders setup content.kept orders = subst (λ (m : Content). FirstOrders setup m.kept orders) at (c.in_ok-orders.ensures.first later) in
     let are : orders ≡ orders_to setup content.kept (length content.reports) = subst (λ (m : Content). IsOffice setup m → finished ≡ length m.reports → orders ≡ orders_to setup m.kept (length m.reports)) at (c.in_ok-orders.ensures.orders later) office is in
     subst (λ (m : Content). IsOffice setup m → FirstOrders setup m.kept given → given ≡ orders_to setup m.kept (length m.reports) → finished ≡ length m.reports → IfSome known (λ (k : KnownFacts). AreKnown setup m k)
     → IfOk c.trial_of_next_run.result (IsTrial setup m.kept (length m.reports) a.terms a.hints.now))
     (c.in_ok-orders.ensures.looks.same later ∙ at) (c.trial_of_next_run.ensures.tried trusted readable) office (subst (FirstOrders setup content.kept) (sym lent) first) (lent ∙ are) is
-    (c.requires.known (c.in_ok-finished.ensures.looks.before earlier))
+    (c.requires.known (c.in_ok-count.ensures.looks.before earlier))
 
 pub returns-clause-known : goal.returns-clause-known
 returns-clause-known g c = λ trusted.
     let a = c.args in
     let setup = a.setup.now in
     let content : Content = g.K.Keeper.content a.keeper.now in
-    let finished = c.in_ok-finished.finished in
+    let finished = c.in_ok-count.count in
     let orders : List RunOrder = c.in_ok-orders.orders.items in
     let given : List RunOrder = c.deref.result.now in
     let lent : given ≡ orders = c.deref.ensures.value in
@@ -44,10 +44,10 @@ returns-clause-known g c = λ trusted.
     let new : Option KnownFacts = c.trial_of_next_run.new.known in
     let later = c.trial_of_next_run.ensures.looks.before trusted in
     let earlier = c.in_ok-orders.ensures.looks.before later in
-    let at = c.in_ok-finished.ensures.looks.same earlier in
+    let at = c.in_ok-count.ensures.looks.same earlier in
     let same = c.in_ok-orders.ensures.looks.same later ∙ at in
-    let is = c.in_ok-finished.ensures.value earlier in
+    let is = c.in_ok-count.ensures.value earlier in
     let first : FirstOrders setup content.kept orders = subst (λ (m : Content). FirstOrders setup m.kept orders) at (c.in_ok-orders.ensures.first later) in
     subst (λ (m : Content). IfSome new (λ (k : KnownFacts). AreKnown setup m k)) (sym (c.trial_of_next_run.ensures.looks.same trusted ∙ same))
     (subst (λ (m : Content). FirstOrders setup m.kept given → finished ≡ length m.reports → IfSome old (λ (k : KnownFacts). AreKnown setup m k) → IfSome new (λ (k : KnownFacts). AreKnown setup m k)) same (c.trial_of_next_run.ensures.known trusted)
-    (subst (FirstOrders setup content.kept) (sym lent) first) is (c.requires.known (c.in_ok-finished.ensures.looks.before earlier)))
+    (subst (FirstOrders setup content.kept) (sym lent) first) is (c.requires.known (c.in_ok-count.ensures.looks.before earlier)))

@@ -13,17 +13,19 @@ use Rattle.office_core_why.proofs.told.lines_from_excuses.Goals as goal
 pub returns-clause-told : goal.returns-clause-told
 returns-clause-told c =
     let a = c.args in
+    let ground = a.ground.now in
+    let asked = a.asked.now in
     let reports = a.reports.now in
     let origins : Text = c.in_ok-origins.origins in
     let refusal : Text = c.in_ok-refusal.refusal in
-    let found : option_copied c.source_in-upload.result ≡ source_in a.facts.now.sources a.source.now =
-    c.source_in-upload.ensures ∙ ap (λ (us : List UploadIn). source_in us a.source.now) c.sources.ensures.sources in
+    let found : option_copied c.source_in-upload.result ≡ source_in ground.facts.now.sources asked.source.now =
+    c.source_in-upload.ensures ∙ ap (λ (us : List UploadIn). source_in us asked.source.now) c.sources.ensures.sources in
     record {
       origins = origins;
       refusal = refusal;
       come = c.in_ok-origins.ensures;
-      refused = subst (λ (update : Text). IsRefusedWhere (waits_in a.source.now update) a.archs.now (unstable_of a.archs.now a.facts.now) a.testing.now a.excuses.now (excuse_of a.excuses.now a.source.now) refusal) c.as_str-update.ensures c.in_ok-refusal.ensures.told;
+      refused = subst (λ (update : Text). IsRefusedWhere (waits_in asked.source.now update) ground.archs.now (unstable_of ground.archs.now ground.facts.now) a.testing.now a.excuses.now (excuse_of a.excuses.now asked.source.now) refusal) c.as_str-update.ensures c.in_ok-refusal.ensures.told;
       is = c.in_ok-text.ensures
-          ∙ ap (λ (line : Text). source_text a.run a.source.now reports.excuses reports.updates (line ++ origins) ++ refusal) (c.in_ok-standing.ensures ∙ ap (standing_line a.testing.now a.source.now) found);
-      known = c.is_some.ensures ∙ is_some-copied c.source_in-upload.result (source_in a.facts.now.sources a.source.now) found;
+          ∙ ap (λ (line : Text). source_text asked.run asked.source.now reports.excuses reports.updates (line ++ origins) ++ refusal) (c.in_ok-standing.ensures ∙ ap (standing_line a.testing.now asked.source.now) found);
+      known = c.is_some.ensures ∙ is_some-copied c.source_in-upload.result (source_in ground.facts.now.sources asked.source.now) found;
     }

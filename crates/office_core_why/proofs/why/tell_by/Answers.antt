@@ -15,8 +15,9 @@ give_back-requires g c = record {
 pub returns-clause-told : goal.returns-clause-told
 returns-clause-told g c = λ trusted legible.
     let a = c.args in
+    let asked = a.asked.now in
     let earlier = c.give_back.ensures.before trusted in
-    subst (λ (t : Suite). IfOk c.lines_from_reports-told.result (λ found. (s : Covered) → StandsFor a.facts.now s t → IsToldWith a.setup.now s t a.run a.date (Some a.reports.now) a.source.now found))
+    subst (λ (t : Suite). IfOk c.lines_from_reports-told.result (λ found. (s : Covered) → StandsFor a.facts.now s t → IsToldWith a.setup.now s t asked.run asked.date (Some a.reports.now) asked.source.now found))
     (c.in_ok-testing.ensures.value earlier (c.in_ok-testing.ensures.looks.legible earlier legible)) c.lines_from_reports-told.ensures.told
 
 pub returns-clause-looks : goal.returns-clause-looks

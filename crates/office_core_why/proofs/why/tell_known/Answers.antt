@@ -14,6 +14,7 @@ use Rattle.office_core_why.proofs.why.tell_known.Goals as goal
 pub returns-in-Some-clause-told : goal.returns-in-Some-clause-told
 returns-in-Some-clause-told g c = λ trusted legible office first all was.
     let a = c.args in
+    let asked = a.asked.now in
     let setup = a.setup.now in
     let content : Content = g.K.Keeper.content a.keeper.now in
     let mail : Covered = covered_items setup content.kept (length content.reports) in
@@ -21,7 +22,7 @@ returns-in-Some-clause-told g c = λ trusted legible office first all was.
     let are : AreKnown setup content known = subst (λ (o : Option KnownFacts). IfSome o (λ (k : KnownFacts). AreKnown setup content k)) c.in-Some.is was in
     let stands = stands_covered setup content known.facts (slice_index known.taken.items) office are.covers (known_stand setup content known office are) in
     IfOk-weaker c.tell.result
-    (λ found. (s : Covered) → StandsFor known.facts s content.testing → IsToldWith setup s content.testing a.run a.date (item_from_one a.run content.reports) a.source.now found)
-    (IsToldWith setup mail content.testing a.run a.date (item_from_one a.run content.reports) a.source.now)
+    (λ found. (s : Covered) → StandsFor known.facts s content.testing → IsToldWith setup s content.testing asked.run asked.date (item_from_one asked.run content.reports) asked.source.now found)
+    (IsToldWith setup mail content.testing asked.run asked.date (item_from_one asked.run content.reports) asked.source.now)
     (λ found told. told mail stands)
     (c.tell.ensures.told trusted legible)

@@ -18,6 +18,7 @@ facts_within-requires g c = record {
 pub returns-clause-told : goal.returns-clause-told
 returns-clause-told g c = λ trusted legible office first all.
     let a = c.args in
+    let asked = a.asked.now in
     let setup = a.setup.now in
     let content : Content = g.K.Keeper.content a.keeper.now in
     let mail : Covered = covered_items setup content.kept (length content.reports) in
@@ -29,8 +30,8 @@ returns-clause-told g c = λ trusted legible office first all.
     ap (λ (l : List ℕ). slice_index l s) c.deref.ensures.value ∙ c.in_ok-covers.ensures.covers s low ∙ ap (λ (os : List RunOrder). cover_of os s) are in
     let stands = stands_covered setup content facts (slice_index covers) office same (c.in_ok-known.ensures.stand earlier office are) in
     IfOk-weaker c.tell-told.result
-    (λ found. (s : Covered) → StandsFor facts s content.testing → IsToldWith setup s content.testing a.run a.date (item_from_one a.run content.reports) a.source.now found)
-    (IsToldWith setup mail content.testing a.run a.date (item_from_one a.run content.reports) a.source.now)
+    (λ found. (s : Covered) → StandsFor facts s content.testing → IsToldWith setup s content.testing asked.run asked.date (item_from_one asked.run content.reports) asked.source.now found)
+    (IsToldWith setup mail content.testing asked.run asked.date (item_from_one asked.run content.reports) asked.source.now)
     (λ found told. told mail stands)
-    (subst (λ (m : Content). IfOk c.tell-told.result (λ found. (s : Covered) → StandsFor facts s m.testing → IsToldWith setup s m.testing a.run a.date (item_from_one a.run m.reports) a.source.now found))
+    (subst (λ (m : Content). IfOk c.tell-told.result (λ found. (s : Covered) → StandsFor facts s m.testing → IsToldWith setup s m.testing asked.run asked.date (item_from_one asked.run m.reports) asked.source.now found))
     (c.in_ok-known.ensures.looks.same earlier) (c.tell-told.ensures.told trusted (c.in_ok-known.ensures.looks.legible earlier legible)))

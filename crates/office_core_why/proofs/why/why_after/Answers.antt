@@ -12,19 +12,21 @@ use Rattle.office_core_why.proofs.why.why_after.Goals as goal
 pub returns-in-Some-clause-why : goal.returns-in-Some-clause-why
 returns-in-Some-clause-why g c = λ trusted legible office first all is was.
     let a = c.args in
+    let finished = a.finished.now in
     let setup = a.setup.now in
     let content : Content = g.K.Keeper.content a.keeper.now in
     let date : Date = c.in-Some.date in
-    let dated : latest_day a.orders.now ≡ Some date = sym c.latest_day.ensures ∙ c.in-Some.is in
+    let dated : latest_day finished.orders.now ≡ Some date = sym c.latest_day.ensures ∙ c.in-Some.is in
     IfOk-weaker c.why_on.result
-    (IsToldWith setup (covered_items setup content.kept (length content.reports)) content.testing a.run date (item_from_one a.run content.reports) a.source.now)
+    (IsToldWith setup (covered_items setup content.kept (length content.reports)) content.testing finished.count date (item_from_one finished.count content.reports) a.source.now)
     (IsWhy setup content.kept (length content.reports) a.source.now)
-    (λ found told. why_told setup content a.orders.now a.run a.source.now found date office first all is dated told)
+    (λ found told. why_told setup content finished.orders.now finished.count a.source.now found date office first all is dated told)
     (c.why_on.ensures.told trusted legible office first all is was)
 
 pub returns-in-None-clause-why : goal.returns-in-None-clause-why
 returns-in-None-clause-why g c = λ trusted legible office first all is was.
     let a = c.args in
+    let finished = a.finished.now in
     let content : Content = g.K.Keeper.content a.keeper.now in
-    let none : latest_day a.orders.now ≡ None = sym c.latest_day.ensures ∙ c.in-None.is in
-    why_none a.setup.now content a.orders.now a.source.now all none
+    let none : latest_day finished.orders.now ≡ None = sym c.latest_day.ensures ∙ c.in-None.is in
+    why_none a.setup.now content finished.orders.now a.source.now all none

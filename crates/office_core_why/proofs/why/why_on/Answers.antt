@@ -14,9 +14,10 @@ returns-clause-known g c = λ trusted first is was. c.in_ok-remember.ensures.kno
 pub returns-clause-told : goal.returns-clause-told
 returns-clause-told g c = λ trusted legible office first all is was.
     let a = c.args in
+    let asked = a.asked.now in
     let setup = a.setup.now in
     let earlier = c.tell_known.ensures.looks.before trusted in
     let known : Option KnownFacts = c.remember.new.known in
     subst (λ (m : Content). IsOffice setup m → FirstOrders setup m.kept a.orders.now → length a.orders.now ≡ length m.reports → IfSome known (λ (k : KnownFacts). AreKnown setup m k)
-    → IfOk c.tell_known.result (IsToldWith setup (covered_items setup m.kept (length m.reports)) m.testing a.run a.date (item_from_one a.run m.reports) a.source.now))
+    → IfOk c.tell_known.result (IsToldWith setup (covered_items setup m.kept (length m.reports)) m.testing asked.run asked.date (item_from_one asked.run m.reports) asked.source.now))
     (c.in_ok-remember.ensures.looks.same earlier) (c.tell_known.ensures.told trusted (c.in_ok-remember.ensures.looks.legible earlier legible)) office first all (c.in_ok-remember.ensures.known earlier first is was)

@@ -1,0 +1,268 @@
+//! What a run makes of one hint, in lines.
+#![tactic(auto, using(office_core_orders::proofs::LastFacts::lasting))]
+
+ghost use Rattle.std.specs.Prelude.{is_ok, ◌≡◌, ◌+◌, ◌++◌, [], IfOk, IfSome, OnOk, Some, filter, length, option_copied, string_bytes};
+ghost use Rattle.std.specs.List.{flat_map};
+ghost use Rattle.testing_rules_laws.specs.Covered.{Covered};
+ghost use Rattle.testing_rules_laws.specs.StandsFor.{StandsFor};
+ghost use Rattle.testing_rules_laws.specs.Suite.{Suite};
+ghost use Rattle.testing_rules_reports.specs.Changes.{behind};
+ghost use Rattle.testing_rules_reports.specs.LentLines.{lent_lines};
+ghost use Rattle.office_mail.specs.Runs.{latest_day};
+ghost use Rattle.office_core_orders.specs.Counted.{Counted};
+ghost use Rattle.office_core_orders.specs.Ready.{FirstOrders};
+ghost use Rattle.office_core_orders.specs.ReadsStore.{ReadsStore};
+ghost use Rattle.office_core_orders.specs.StaysTrusted.{StaysTrusted};
+ghost use Rattle.office_core_facts.specs.Known.{AreKnown};
+ghost use Rattle.office_core_facts.specs.State.{IsOffice};
+ghost use Rattle.office_core_outcome.specs.HintTold.{IsHintText, IsHintTold, begins_with_either, front, hint_text, lines_on_hint, lines_or_standing, standing_of};
+ghost use Rattle.office_core_outcome.specs.RuleSteps.{IsRuled};
+
+use crate::HintText;
+use crate::proposal::push_line;
+use crate::refused_items::hint_at;
+use crate::refusing::{Judging, told_of_hint};
+use crate::rules::{Ruled, judge_run};
+use crate::settling::keep_suites;
+use deb_control::{NoMemory, Text};
+use jiff_core::civil::Date;
+use office_core_facts::covered::{KnownFacts, facts};
+use office_core_facts::finished::finished_orders;
+use office_core_facts::message_cache::MessageCache;
+use office_core_facts::release::release_place;
+use office_core_orders::{StoreFault, name_at, stored};
+use office_mail::{RunOrder, Setup, latest_day};
+use office_store_keeper::Keeper;
+use std::alloc::{AllocError, Global};
+use testing_rules_facts::{Facts, Unhints, is_in_force};
+use testing_rules_model::HintIn;
+use testing_rules_reports::{lines_of, update_text};
+use testing_rules_suites::Testing;
+
+/// A hint that is asked about, for a run of this number and date.
+#[derive(Clone, Copy)]
+struct AskedHint {
+    run: u32,
+    date: Date,
+    number: u32,
+}
+
+/// What the lines of an update on a hint begin with, behind this word.
+fn front(alloc: Global, word: &str, number: u32) -> Result<String, AllocError>
+    ensures { IfOk result (λ text. string_bytes text ≡ front word.now number) }
+{
+    format!(in alloc; "{word} {number} ")
+}
+
+/// Whether a line begins with one of two texts.
+fn begins_with_either(line: &str, easy: &str, remove: &str) -> bool
+    ensures { result ≡ begins_with_either easy.now remove.now line.now }
+{
+    let line = line.as_bytes();
+    line.starts_with(easy.as_bytes()) || line.starts_with(remove.as_bytes())
+}
+
+/// Adds those of the lines that begin with one of two texts.
+fn push_begun(text: &mut String, found: &[&str], easy: &str, remove: &str) -> Result<(), AllocError>
+    ensures { OnOk result (string_bytes text.new ≡ string_bytes text.old ++ flat_map (behind []) (filter (begins_with_either easy.now remove.now) (lent_lines found.now))) }
+{
+    for line in found {
+        if begins_with_either(line, easy, remove) {
+            push_line(text, line)?;
+        }
+    }
+    Ok(())
+}
+
+/// The lines of an update on the hint with this number.
+fn lines_on_hint(alloc: Global, update: &str, number: u32) -> Result<String, AllocError>
+    ensures { IfOk result (λ text. string_bytes text ≡ lines_on_hint number update.now) }
+{
+    let easy = front(alloc, "easy", number)?;
+    let remove = front(alloc, "remove", number)?;
+    let mut text = String::new(alloc);
+    push_begun(&mut text, &lines_of(alloc, update)?, &easy, &remove)?;
+    Ok(text)
+}
+
+/// How a hint stands of which a run decides nothing: the run covers none of its number, or an unhint took it back, or there
+/// was nothing to decide.
+fn standing_of(
+    alloc: Global,
+    facts: &Facts,
+    hint: Option<&HintIn>,
+) -> Result<&'static str, NoMemory>
+    ensures { IfOk result (λ words. words.now ≡ standing_of facts.now.unhints (option_copied hint.entry)) }
+{
+    match hint {
+        Some(hint) => {
+            let unhints = Unhints::of(alloc, facts.unhints())?;
+            Ok(if is_in_force(&unhints, hint) {
+                "nothing decided"
+            } else {
+                "cancelled"
+            })
+        }
+        None => Ok("unknown"),
+    }
+}
+
+/// The lines of an update on the hint with this number, or a line on how it stands where there is none.
+fn lines_or_standing(
+    alloc: Global,
+    update: &str,
+    number: u32,
+    standing: &str,
+) -> Result<String, AllocError>
+    ensures { IfOk result (λ text. string_bytes text ≡ lines_or_standing (lines_on_hint number update.now) standing.now) }
+{
+    let lines = lines_on_hint(alloc, update, number)?;
+    if lines.is_empty() {
+        let line = format!(in alloc; "{standing}\n")?;
+        Ok(line)
+    } else {
+        Ok(lines)
+    }
+}
+
+/// The text on a hint of this sender: the lines of the update on it, or how it stands, and behind them why it is refused.
+fn hint_text(
+    alloc: Global,
+    sender: &str,
+    asked: AskedHint,
+    update: &str,
+    standing: &str,
+    reasons: &str,
+) -> Result<Text, NoMemory>
+    ensures { IfOk result (λ text. text ≡ hint_text sender.now asked.run asked.number update.now standing.now reasons.now) }
+{
+    let (run, number) = (asked.run, asked.number);
+    let lines = lines_or_standing(alloc, update, number, standing)?;
+    let text = format!(in alloc; "why {run} {sender} {number}\n{lines}{reasons}")?;
+    Ok(Text::from_string(text))
+}
+
+/// What a run made of a hint, by what it decided over these facts and the testing before it.
+fn told_by(
+    alloc: Global,
+    setup: &Setup,
+    facts: &Facts,
+    asked: AskedHint,
+    testing: &Testing,
+    ruled: &Ruled,
+) -> Result<HintText, NoMemory>
+    ensures { IfOk result (λ told. (s : Covered) (new : Suite) → StandsFor facts.now s testing.now → IsRuled setup.now asked.date s testing.now ruled.now new
+        → IsHintText setup.now asked.run asked.date s testing.now asked.number told) }
+{
+    let sender = name_at(setup, release_place(setup));
+    let archs = setup.archs();
+    let excuses = ruled.excuses.as_slice();
+    let judging = Judging {
+        sender,
+        behind: 0,
+        archs,
+        facts,
+        excuses,
+        testing,
+    };
+    let decisions = ruled.update.as_slice();
+    let reasons = told_of_hint(alloc, &judging, asked.number, decisions)?;
+    let hint = hint_at(facts.hints(), asked.number);
+    let standing = standing_of(alloc, facts, hint)?;
+    let update = update_text(alloc, archs, asked.run, asked.date, &ruled.update)?;
+    let text = hint_text(alloc, sender, asked, &update, standing, reasons.as_str())?;
+    Ok(HintText {
+        text,
+        is_known: hint.is_some(),
+    })
+}
+
+/// The same, where the run is made from this testing, which stays and keeps the suites.
+fn told_over(
+    alloc: Global,
+    setup: &Setup,
+    facts: &Facts,
+    asked: AskedHint,
+    testing: &mut Testing,
+) -> Result<HintText, NoMemory>
+    ensures same { testing.new ≡ testing.old }
+    ensures told { IfOk result (λ told. (s : Covered) → StandsFor facts.now s testing.old → IsHintText setup.now asked.run asked.date s testing.old asked.number told) }
+{
+    let mut after = testing.share()?;
+    let ruled = judge_run(alloc, setup, asked.date, facts, &mut after)?;
+    keep_suites(testing, after)?;
+    told_by(alloc, setup, facts, asked, testing, &ruled)
+}
+
+/// The same over the store's testing, by facts that go with it.
+fn told_kept<K: Keeper>(
+    alloc: Global,
+    setup: &Setup,
+    keeper: &mut K,
+    facts: &Facts,
+    asked: AskedHint,
+) -> Result<HintText, StoreFault>
+    ensures told { K.is_trusted keeper.new → K.is_legible keeper.old
+        → IfOk result (λ told. (s : Covered) → StandsFor facts.now s (K.content keeper.old).testing → IsHintText setup.now asked.run asked.date s (K.content keeper.old).testing asked.number told) }
+    ensures looks { ReadsStore K.Keeper keeper.old keeper.new result }
+{
+    let mut testing = stored::next_testing(keeper)?;
+    let told = told_over(alloc, setup, facts, asked, &mut testing)?;
+    keeper.give_back(testing);
+    Ok(told)
+}
+
+/// What a run makes of a hint, where these are the orders of that run and of those before it.
+fn told_next<K: Keeper>(
+    alloc: Global,
+    setup: &Setup,
+    keeper: &mut K,
+    before: Option<KnownFacts>,
+    orders: &[RunOrder],
+    asked: AskedHint,
+) -> Result<HintText, StoreFault>
+    requires known { K.is_trusted keeper.old → IfSome before (λ known. AreKnown setup.now (K.content keeper.old) known) }
+    ensures told { K.is_trusted keeper.new → K.is_legible keeper.old → IsOffice setup.now (K.content keeper.old) → FirstOrders setup.now (K.content keeper.old).kept orders.now → length orders.now ≡ length (K.content keeper.old).reports + 1
+        → asked.run ≡ length orders.now → latest_day orders.now ≡ Some asked.date → IfOk result (IsHintTold setup.now (K.content keeper.old).kept (length (K.content keeper.old).reports) asked.number) }
+    ensures looks { ReadsStore K.Keeper keeper.old keeper.new result }
+{
+    let mut nothing = MessageCache::new(alloc);
+    let known = facts(alloc, setup, keeper, &mut nothing, before, orders)?;
+    told_kept(alloc, setup, keeper, &known.facts, asked)
+}
+
+/// What the run behind the finished ones of an office with this store makes of the hint of this number, over what is kept of
+/// all that the run covers: the lines of its update on the hint, or how the hint stands, and lines that show why it is
+/// refused. There is none where its order has not come, with those before it. What is known of the mail is used.
+///
+/// It fails for want of memory or of the store alone.
+pub fn hint_told<K: Keeper>(
+    alloc: Global,
+    setup: &Setup,
+    keeper: &mut K,
+    before: Option<KnownFacts>,
+    number: u32,
+) -> Result<Option<HintText>, StoreFault>
+    requires known { K.is_trusted keeper.old → IfSome before (λ known. AreKnown setup.now (K.content keeper.old) known) }
+    ensures told { K.is_trusted keeper.new → K.is_legible keeper.old → IsOffice setup.now (K.content keeper.old)
+        → IfOk result (λ found. IfSome found (IsHintTold setup.now (K.content keeper.old).kept (length (K.content keeper.old).reports) number)) }
+    ensures same { K.is_trusted keeper.new → K.content keeper.new ≡ K.content keeper.old }
+    ensures setup { K.setup keeper.new ≡ K.setup keeper.old }
+    ensures before { K.is_trusted keeper.new → K.is_trusted keeper.old }
+    ensures legible { K.is_trusted keeper.new → K.is_legible keeper.old → K.is_legible keeper.new }
+    ensures lasts { StaysTrusted K.Keeper keeper.old keeper.new (is_ok result) }
+    ensures counted { Counted (K.refusals keeper.old) (K.refusals keeper.new) result }
+{
+    let finished = stored::finished(keeper)?;
+    let run = finished.saturating_add(1);
+    let orders = finished_orders(alloc, setup, keeper, run)?;
+    if orders.len() != run as usize {
+        return Ok(None);
+    }
+    let Some(date) = latest_day(&orders) else {
+        return Ok(None);
+    };
+    let asked = AskedHint { run, date, number };
+    let told = told_next(alloc, setup, keeper, before, &orders, asked)?;
+    Ok(Some(told))
+}

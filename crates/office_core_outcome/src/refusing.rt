@@ -1,0 +1,265 @@
+//! Why a run refuses hints, in lines.
+
+ghost use Rattle.std.specs.Prelude.{◌≡◌, ◌++◌, [], IfOk, filter, nat_lt};
+ghost use Rattle.office_core_outcome.specs.HintTold.{is_of_hint};
+ghost use Rattle.office_core_outcome.specs.RefusalSteps.{IsToldWhere, judged_in};
+ghost use Rattle.office_core_outcome.specs.WhyRefused.{AreGroupLines, AreRemovalLines, AreToldOf, IsRefusalWhere, IsToldOf, group_at, refused_line, turn_of_group, turn_of_item};
+
+use crate::refused_items::{group_left, grouped_at, items_before, removed_at};
+use deb_control::{NoMemory, Text};
+use deb_version::Version;
+use std::alloc::Global;
+use testing_rules_facts::Facts;
+use testing_rules_items::Archs;
+use testing_rules_model::{Decision, Excuse, Offender};
+use testing_rules_moves::{at_group, at_removal};
+use testing_rules_refusals::{group_refusal, removal_refusal};
+use testing_rules_suites::Testing;
+
+/// A run whose hints are judged: its facts, its excuses, and the testing before it. It is told of the hints of the sender
+/// of this name, behind this number.
+#[derive(Clone, Copy)]
+pub(crate) struct Judging<'a> {
+    pub sender: &'a str,
+    pub behind: u32,
+    pub archs: &'a Archs,
+    pub facts: &'a Facts,
+    pub excuses: &'a [Excuse],
+    pub testing: &'a Testing,
+}
+
+/// No line.
+fn no_lines(alloc: Global) -> Text
+    ensures { result ≡ [] }
+{
+    Text::from_string(String::new(alloc))
+}
+
+/// The lines on why a group can't move as one over a testing, none where that breaks nothing. Testing is let go.
+fn group_lines_over(
+    alloc: Global,
+    judging: &Judging<'_>,
+    turn: Testing,
+    group: &[Text],
+) -> Result<Text, NoMemory>
+    ensures { IfOk result (AreGroupLines (judged_in judging.now) turn group.now) }
+{
+    let mut turn = turn;
+    let (archs, facts, excuses) = (judging.archs, judging.facts, judging.excuses);
+    let told = group_refusal(alloc, archs, facts, excuses, group, &mut turn);
+    drop(turn);
+    match told? {
+        Some(text) => Ok(text),
+        None => Ok(no_lines(alloc)),
+    }
+}
+
+/// The lines on why the group of the hint with this number is refused at its turn.
+fn group_lines(alloc: Global, judging: &Judging<'_>, number: u32) -> Result<Text, NoMemory>
+    ensures { IfOk result (AreGroupLines (judged_in judging.now) (turn_of_group (judged_in judging.now) number) (group_at (judged_in judging.now) number)) }
+{
+    let (archs, facts, excuses) = (judging.archs, judging.facts, judging.excuses);
+    let items = grouped_at(facts.hints(), number);
+    let turn = at_group(alloc, archs, facts, excuses, number, judging.testing)?;
+    match group_left(alloc, &turn, items) {
+        Ok(group) => group_lines_over(alloc, judging, turn, &group),
+        Err(fault) => {
+            drop(turn);
+            Err(fault)
+        }
+    }
+}
+
+/// The lines on why a source can't be removed from a testing, none where that breaks nothing. Testing is let go.
+fn removal_lines_over(
+    alloc: Global,
+    judging: &Judging<'_>,
+    turn: Testing,
+    name: &Text,
+) -> Result<Text, NoMemory>
+    ensures { IfOk result (AreRemovalLines (judged_in judging.now) turn name.now) }
+{
+    let mut turn = turn;
+    let (archs, facts, excuses) = (judging.archs, judging.facts, judging.excuses);
+    let told = removal_refusal(alloc, archs, facts, excuses, name, &mut turn);
+    drop(turn);
+    match told? {
+        Some(text) => Ok(text),
+        None => Ok(no_lines(alloc)),
+    }
+}
+
+/// Testing at the turn of a removal that the hint with this number asks for.
+fn turn_of_item(
+    alloc: Global,
+    judging: &Judging<'_>,
+    number: u32,
+    name: &Text,
+    version: &Version,
+) -> Result<Testing, NoMemory>
+    ensures { IfOk result (λ turn. turn ≡ turn_of_item (judged_in judging.now) number name.now version.now) }
+{
+    let facts = judging.facts;
+    let items = removed_at(facts.hints(), number);
+    let earlier = items_before(alloc, name.as_str(), version, items)?;
+    at_removal(
+        alloc,
+        judging.archs,
+        facts,
+        number,
+        &earlier,
+        judging.testing,
+    )
+}
+
+/// The lines on why a removal that the hint with this number asks for is refused at its turn.
+fn removal_lines(
+    alloc: Global,
+    judging: &Judging<'_>,
+    number: u32,
+    name: &Text,
+    version: &Version,
+) -> Result<Text, NoMemory>
+    ensures { IfOk result (AreRemovalLines (judged_in judging.now) (turn_of_item (judged_in judging.now) number name.now version.now) name.now) }
+{
+    let turn = turn_of_item(alloc, judging, number, name, version)?;
+    removal_lines_over(alloc, judging, turn, name)
+}
+
+/// The line on a hint that is refused, and behind it the lines on why.
+fn refusal_text(
+    alloc: Global,
+    judging: &Judging<'_>,
+    number: u32,
+    offender: &Offender,
+    lines: &Text,
+) -> Result<Text, NoMemory>
+    ensures { IfOk result (λ text. text ≡ refused_line (judged_in judging.now) number offender.now ++ lines.now) }
+{
+    let (sender, arch) = (judging.sender, judging.archs.name(offender.arch));
+    let package = offender.package.as_str();
+    let text = format!(in alloc;
+        "refused {sender} {number} uninstallable {arch} {package}\n{}",
+        lines.as_str()
+    )?;
+    Ok(Text::from_string(text))
+}
+
+/// Why the group of a hint is refused; nothing is told where its number isn't behind the one that is known.
+fn told_of_group(
+    alloc: Global,
+    judging: &Judging<'_>,
+    number: u32,
+    offender: &Offender,
+) -> Result<Text, NoMemory>
+    ensures { IfOk result (IsRefusalWhere (nat_lt judging.now.behind number) (judged_in judging.now) number offender.now (AreGroupLines (judged_in judging.now) (turn_of_group (judged_in judging.now) number) (group_at (judged_in judging.now) number))) }
+{
+    if judging.behind < number {
+        let lines = group_lines(alloc, judging, number)?;
+        refusal_text(alloc, judging, number, offender, &lines)
+    } else {
+        Ok(no_lines(alloc))
+    }
+}
+
+/// Why a removal is refused; nothing is told where its hint's number isn't behind the one that is known.
+fn told_of_removal(
+    alloc: Global,
+    judging: &Judging<'_>,
+    number: u32,
+    name: &Text,
+    version: &Version,
+    offender: &Offender,
+) -> Result<Text, NoMemory>
+    ensures { IfOk result (IsRefusalWhere (nat_lt judging.now.behind number) (judged_in judging.now) number offender.now (AreRemovalLines (judged_in judging.now) (turn_of_item (judged_in judging.now) number name.now version.now) name.now)) }
+{
+    if number > judging.behind {
+        let lines = removal_lines(alloc, judging, number, name, version)?;
+        refusal_text(alloc, judging, number, offender, &lines)
+    } else {
+        Ok(no_lines(alloc))
+    }
+}
+
+/// What is told of a decision: of a group or a removal that is refused for what it would break.
+fn told_of(alloc: Global, judging: &Judging<'_>, decision: &Decision) -> Result<Text, NoMemory>
+    ensures { IfOk result (IsToldOf (judged_in judging.now) decision.now) }
+{
+    match decision {
+        Decision::RemoveRefused {
+            hint,
+            name,
+            version,
+            offender,
+        } => told_of_removal(alloc, judging, *hint, name, version, offender),
+        Decision::EasyRefused { hint, offender } => told_of_group(alloc, judging, *hint, offender),
+        Decision::RemoveDone { .. }
+        | Decision::EasyDone { .. }
+        | Decision::EasyNotCandidate { .. }
+        | Decision::Accept { .. }
+        | Decision::Wait { .. } => Ok(no_lines(alloc)),
+    }
+}
+
+/// What is told of decisions, one after another.
+pub(crate) fn told_of_all(
+    alloc: Global,
+    judging: &Judging<'_>,
+    decisions: &[Decision],
+) -> Result<Text, NoMemory>
+    ensures { IfOk result (AreToldOf (judged_in judging.now) decisions.now) }
+{
+    let mut text = String::new(alloc);
+    'decisions: for decision in decisions {
+        let told = told_of(alloc, judging, decision)?;
+        text.push_str(told.as_str())?;
+    }
+    Ok(Text::from_string(text))
+}
+
+/// The decision is on the hint with this number.
+fn is_of_hint(number: u32, decision: &Decision) -> bool
+    ensures { result ≡ is_of_hint number decision.now }
+{
+    match decision {
+        Decision::RemoveDone { hint, .. }
+        | Decision::RemoveRefused { hint, .. }
+        | Decision::EasyDone { hint, .. }
+        | Decision::EasyNotCandidate { hint, .. }
+        | Decision::EasyRefused { hint, .. } => *hint == number,
+        Decision::Accept { .. } | Decision::Wait { .. } => false,
+    }
+}
+
+/// What is told of a decision, if it is on the hint with this number.
+fn told_where(
+    alloc: Global,
+    judging: &Judging<'_>,
+    number: u32,
+    decision: &Decision,
+) -> Result<Text, NoMemory>
+    ensures { IfOk result (IsToldWhere (is_of_hint number decision.now) (judged_in judging.now) decision.now) }
+{
+    if is_of_hint(number, decision) {
+        told_of(alloc, judging, decision)
+    } else {
+        Ok(no_lines(alloc))
+    }
+}
+
+/// What is told of the decisions on the hint with this number.
+pub(crate) fn told_of_hint(
+    alloc: Global,
+    judging: &Judging<'_>,
+    number: u32,
+    decisions: &[Decision],
+) -> Result<Text, NoMemory>
+    ensures { IfOk result (AreToldOf (judged_in judging.now) (filter (is_of_hint number) decisions.now)) }
+{
+    let mut text = String::new(alloc);
+    'decisions: for decision in decisions {
+        let told = told_where(alloc, judging, number, decision)?;
+        text.push_str(told.as_str())?;
+    }
+    Ok(Text::from_string(text))
+}
