@@ -1,9 +1,6 @@
 //! What a hint asks for, and how much of it is left to do.
 
-ghost use Rattle.std.specs.Prelude.{◌≡◌, IfOk, option_copied, option_map};
-ghost use Rattle.testing_rules_model.specs.Excuses as rules;
-ghost use Rattle.testing_rules_model.specs.InOrder.{AreByName};
-ghost use Rattle.testing_rules_model.specs.Updates as updates;
+ghost use Rattle.std.specs.Prelude.{◌≡◌, IfOk, option_copied};
 ghost use Rattle.office_core_outcome.specs.WhyRefused as refused;
 
 use deb_control::{NoMemory, Text};
@@ -11,36 +8,9 @@ use deb_version::Version;
 use std::alloc::Global;
 use testing_rules_facts::is_same_version;
 use testing_rules_items::{Hint, HintItem};
-use testing_rules_model::{HintIn, SourceIn};
-use testing_rules_suites::{Testing, place_of_name};
-
-/// The version of a name among testing's sources.
-fn version_among<'a>(sources: &'a [SourceIn], name: &str) -> Option<&'a Version>
-    requires { AreByName sources.now }
-    ensures { option_copied result ≡ option_map (λ s. s.version) (rules.entry_of sources.now name.now) }
-{
-    match place_of_name(sources, name) {
-        Ok(place) => Some(&sources[place].version),
-        Err(_) => None,
-    }
-}
-
-/// The version of a name in testing.
-fn version_in<'a>(testing: &'a Testing, name: &str) -> Option<&'a Version>
-    ensures { option_copied result ≡ rules.testing_version testing.now name.now }
-{
-    version_among(testing.sources(), name)
-}
-
-/// Whether a source stands in testing at this version.
-fn is_in_testing(testing: &Testing, name: &str, version: &Version) -> bool
-    ensures { result ≡ updates.is_in_testing testing.now name.now version.now }
-{
-    match version_in(testing, name) {
-        Some(found) => is_same_version(version, found),
-        None => false,
-    }
-}
+use testing_rules_model::HintIn;
+use testing_rules_refusals::is_in_testing;
+use testing_rules_suites::Testing;
 
 /// The sources of items that testing doesn't have at their versions yet.
 pub(crate) fn group_left(

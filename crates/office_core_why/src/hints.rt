@@ -8,7 +8,6 @@ ghost use Rattle.testing_rules_model.specs.Unstable as unstable;
 ghost use Rattle.office_mail.specs.Runs.{cover_of};
 ghost use Rattle.office_core_why.specs.Hints.{asked_words, hint_front, hint_lines, hints_text, item_line, name_line, named_lines, state_words};
 
-use crate::standing::is_in_testing;
 use deb_control::{NoMemory, Text};
 use deb_version::Version;
 use office_core_facts::taking::cover_of;
@@ -18,6 +17,7 @@ use std::alloc::{AllocError, Global};
 use testing_rules_facts::{Facts, Unhints, is_in_force, is_same_version, source_in};
 use testing_rules_items::{Hint, HintItem};
 use testing_rules_model::{HintIn, UploadIn};
+use testing_rules_refusals::is_in_testing;
 use testing_rules_suites::Testing;
 
 /// How it stands with a version that a hint names and that hasn't moved, by unstable's source of the name.

@@ -20,6 +20,7 @@ pub use changes::{group_refusal, removal_refusal, why_waits};
 pub use lines::{push_clause, push_leaving, push_need, push_package};
 pub use needs::{Need, bearers, meeting, need_at};
 pub use refusal::{Refusal, refused};
+pub use standing::is_in_testing;
 pub use stuck::{Suspect, stuck_text};
 pub use telling::{Telling, refusal_text};
 pub use told::{Told, refusal_lines};

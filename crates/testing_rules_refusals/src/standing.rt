@@ -74,8 +74,8 @@ fn version_in<'a>(testing: &'a Testing, name: &str) -> Option<&'a Version>
     }
 }
 
-/// Testing has the source at the version.
-fn is_in_testing(testing: &Testing, name: &str, version: &Version) -> bool
+/// Whether testing has the source at this version. One look-up among testing's sources.
+pub fn is_in_testing(testing: &Testing, name: &str, version: &Version) -> bool
     ensures { result ≡ updates.is_in_testing testing.now name.now version.now }
 {
     match version_in(testing, name) {
