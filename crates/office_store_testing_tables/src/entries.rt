@@ -119,13 +119,20 @@ fn said_there(
     own_message(alloc, setup, text, sender, number)
 }
 
+/// What the messages that shown rows name are read by: the setup tells what a text says, and the rows tell which texts
+/// to load together.
+#[derive(Clone, Copy)]
+struct Reading<'a> {
+    alloc: Global,
+    setup: &'a Setup,
+    listed: Listed<'a>,
+}
+
 /// The message that is kept at a place, by the text that was loaded where there is one.
 fn message_near<S: Alter>(
-    alloc: Global,
     conn: &mut Connection<S>,
-    setup: &Setup,
+    reading: &Reading<'_>,
     block: &mut LoadedLetters,
-    listed: Listed<'_>,
     sender: u32,
     number: u32,
 ) -> Result<Message, KeepFault>
@@ -133,13 +140,13 @@ fn message_near<S: Alter>(
     requires block { IsTrusted (state S.Store conn.old) → AreLettersOf (kept_rows ((state S.Store conn.old).now.trees 1)) block.old.sender block.old.letters.items }
     ensures reads { ReadsOnly S.Store conn.old conn.new result }
     ensures block { Finds S.Store conn.new result (λ db _. AreLettersOf (kept_rows (db 1)) block.new.sender block.new.letters.items) }
-    ensures ok { Finds S.Store conn.new result (λ db message. kept_message setup.now (kept_rows (db 1)) sender number ≡ Some message) }
-    ensures bad { IsTrusted (state S.Store conn.new) → result ≡ Err (KeepFault.Store Cause.BadRow) → IsCrowded ((state S.Store conn.new).now.trees 1) ⊎ (kept_message setup.now (kept_rows ((state S.Store conn.new).now.trees 1)) sender number ≡ None) }
+    ensures ok { Finds S.Store conn.new result (λ db message. kept_message reading.now.setup.now (kept_rows (db 1)) sender number ≡ Some message) }
+    ensures bad { IsTrusted (state S.Store conn.new) → result ≡ Err (KeepFault.Store Cause.BadRow) → IsCrowded ((state S.Store conn.new).now.trees 1) ⊎ (kept_message reading.now.setup.now (kept_rows ((state S.Store conn.new).now.trees 1)) sender number ≡ None) }
 {
-    bring(alloc, conn, block, listed, sender, number)?;
+    bring(reading.alloc, conn, block, reading.listed, sender, number)?;
     match loaded_text(block, sender, number) {
-        Some(text) => said_there(alloc, setup, text, sender, number),
-        None => message_at(alloc, conn, setup, sender, number),
+        Some(text) => said_there(reading.alloc, reading.setup, text, sender, number),
+        None => message_at(reading.alloc, conn, reading.setup, sender, number),
     }
 }
 
@@ -174,28 +181,26 @@ fn keep_last(last: &mut Option<KeptAt>, sender: u32, number: u32, message: Messa
 
 /// Reads the message that is kept at a place, unless it is the one read last.
 fn read_once<S: Alter>(
-    alloc: Global,
     conn: &mut Connection<S>,
-    setup: &Setup,
+    reading: &Reading<'_>,
     block: &mut LoadedLetters,
-    listed: Listed<'_>,
     last: &mut Option<KeptAt>,
     sender: u32,
     number: u32,
 ) -> Result<(), KeepFault>
     requires ours { BeginsOurs S.Store conn.old }
     requires block { IsTrusted (state S.Store conn.old) → AreLettersOf (kept_rows ((state S.Store conn.old).now.trees 1)) block.old.sender block.old.letters.items }
-    requires last { IsTrusted (state S.Store conn.old) → IfSome last.old (λ kept. kept_message setup.now (kept_rows ((state S.Store conn.old).now.trees 1)) kept.sender kept.number ≡ Some kept.message) }
+    requires last { IsTrusted (state S.Store conn.old) → IfSome last.old (λ kept. kept_message reading.now.setup.now (kept_rows ((state S.Store conn.old).now.trees 1)) kept.sender kept.number ≡ Some kept.message) }
     ensures reads { ReadsOnly S.Store conn.old conn.new result }
     ensures block { Finds S.Store conn.new result (λ db _. AreLettersOf (kept_rows (db 1)) block.new.sender block.new.letters.items) }
     ensures place { OnOk result (IsKeptAt sender number last.new) }
-    ensures held { Finds S.Store conn.new result (λ db _. IfSome last.new (λ kept. kept_message setup.now (kept_rows (db 1)) kept.sender kept.number ≡ Some kept.message)) }
-    ensures bad { IsTrusted (state S.Store conn.new) → result ≡ Err (KeepFault.Store Cause.BadRow) → IsCrowded ((state S.Store conn.new).now.trees 1) ⊎ (kept_message setup.now (kept_rows ((state S.Store conn.new).now.trees 1)) sender number ≡ None) }
+    ensures held { Finds S.Store conn.new result (λ db _. IfSome last.new (λ kept. kept_message reading.now.setup.now (kept_rows (db 1)) kept.sender kept.number ≡ Some kept.message)) }
+    ensures bad { IsTrusted (state S.Store conn.new) → result ≡ Err (KeepFault.Store Cause.BadRow) → IsCrowded ((state S.Store conn.new).now.trees 1) ⊎ (kept_message reading.now.setup.now (kept_rows ((state S.Store conn.new).now.trees 1)) sender number ≡ None) }
 {
     if is_last(last, sender, number) {
         return Ok(());
     }
-    let message = message_near(alloc, conn, setup, block, listed, sender, number)?;
+    let message = message_near(conn, reading, block, sender, number)?;
     keep_last(last, sender, number, message);
     Ok(())
 }
@@ -235,22 +240,20 @@ fn source_named(message: Message, name: &[u8], sender: u32, number: u32) -> Opti
 
 /// The source that a shown row names.
 fn source_at<S: Alter>(
-    alloc: Global,
     conn: &mut Connection<S>,
-    setup: &Setup,
+    reading: &Reading<'_>,
     block: &mut LoadedLetters,
-    listed: Listed<'_>,
     row: &Row,
 ) -> Result<SourceIn, KeepFault>
     requires ours { BeginsOurs S.Store conn.old }
     requires block { IsTrusted (state S.Store conn.old) → AreLettersOf (kept_rows ((state S.Store conn.old).now.trees 1)) block.old.sender block.old.letters.items }
     ensures reads { ReadsOnly S.Store conn.old conn.new result }
     ensures block { Finds S.Store conn.new result (λ db _. AreLettersOf (kept_rows (db 1)) block.new.sender block.new.letters.items) }
-    ensures ok { Finds S.Store conn.new result (λ db source. source_of setup.now (kept_rows (db 1)) row.now ≡ Some source) }
-    ensures bad { IsTrusted (state S.Store conn.new) → result ≡ Err (KeepFault.Store Cause.BadRow) → row.now ≡ source_columns row.now → IsCrowded ((state S.Store conn.new).now.trees 1) ⊎ (source_of setup.now (kept_rows ((state S.Store conn.new).now.trees 1)) row.now ≡ None) }
+    ensures ok { Finds S.Store conn.new result (λ db source. source_of reading.now.setup.now (kept_rows (db 1)) row.now ≡ Some source) }
+    ensures bad { IsTrusted (state S.Store conn.new) → result ≡ Err (KeepFault.Store Cause.BadRow) → row.now ≡ source_columns row.now → IsCrowded ((state S.Store conn.new).now.trees 1) ⊎ (source_of reading.now.setup.now (kept_rows ((state S.Store conn.new).now.trees 1)) row.now ≡ None) }
 {
     let (name, sender, number) = source_entry(row)?;
-    let message = message_near(alloc, conn, setup, block, listed, sender, number)?;
+    let message = message_near(conn, reading, block, sender, number)?;
     match source_named(message, name, sender, number) {
         Some(source) => Ok(source),
         None => Err(KeepFault::Store(Cause::BadRow)),
@@ -285,8 +288,13 @@ fn sources_at<S: Alter>(
     let mut block = no_block(alloc);
     let columns = UPLOAD;
     let listed = Listed { rows, columns };
+    let reading = Reading {
+        alloc,
+        setup,
+        listed,
+    };
     'rows: for row in rows {
-        let source = source_at(alloc, conn, setup, &mut block, listed, row)?;
+        let source = source_at(conn, &reading, &mut block, row)?;
         sources.push(source)?;
     }
     Ok(sources)
@@ -391,28 +399,26 @@ fn row_named(
 
 /// The row of testing that a shown row names. The message read last is read no more.
 fn row_at<S: Alter>(
-    alloc: Global,
     conn: &mut Connection<S>,
-    setup: &Setup,
+    reading: &Reading<'_>,
     block: &mut LoadedLetters,
-    listed: Listed<'_>,
     row: &Row,
     last: &mut Option<KeptAt>,
 ) -> Result<RowIn, KeepFault>
     requires ours { BeginsOurs S.Store conn.old }
     requires block { IsTrusted (state S.Store conn.old) → AreLettersOf (kept_rows ((state S.Store conn.old).now.trees 1)) block.old.sender block.old.letters.items }
-    requires last { IsTrusted (state S.Store conn.old) → IfSome last.old (λ kept. kept_message setup.now (kept_rows ((state S.Store conn.old).now.trees 1)) kept.sender kept.number ≡ Some kept.message) }
+    requires last { IsTrusted (state S.Store conn.old) → IfSome last.old (λ kept. kept_message reading.now.setup.now (kept_rows ((state S.Store conn.old).now.trees 1)) kept.sender kept.number ≡ Some kept.message) }
     ensures reads { ReadsOnly S.Store conn.old conn.new result }
     ensures block { Finds S.Store conn.new result (λ db _. AreLettersOf (kept_rows (db 1)) block.new.sender block.new.letters.items) }
-    ensures known { IfOk result (λ given. IsArchPlace setup.now.archs given.arch) }
-    ensures ok { Finds S.Store conn.new result (λ db given. row_of setup.now (kept_rows (db 1)) row.now ≡ Some given) }
-    ensures held { Finds S.Store conn.new result (λ db _. IfSome last.new (λ kept. kept_message setup.now (kept_rows (db 1)) kept.sender kept.number ≡ Some kept.message)) }
-    ensures bad { IsTrusted (state S.Store conn.new) → result ≡ Err (KeepFault.Store Cause.BadRow) → row.now ≡ entry_columns row.now → IsCrowded ((state S.Store conn.new).now.trees 1) ⊎ (row_of setup.now (kept_rows ((state S.Store conn.new).now.trees 1)) row.now ≡ None) }
+    ensures known { IfOk result (λ given. IsArchPlace reading.now.setup.now.archs given.arch) }
+    ensures ok { Finds S.Store conn.new result (λ db given. row_of reading.now.setup.now (kept_rows (db 1)) row.now ≡ Some given) }
+    ensures held { Finds S.Store conn.new result (λ db _. IfSome last.new (λ kept. kept_message reading.now.setup.now (kept_rows (db 1)) kept.sender kept.number ≡ Some kept.message)) }
+    ensures bad { IsTrusted (state S.Store conn.new) → result ≡ Err (KeepFault.Store Cause.BadRow) → row.now ≡ entry_columns row.now → IsCrowded ((state S.Store conn.new).now.trees 1) ⊎ (row_of reading.now.setup.now (kept_rows ((state S.Store conn.new).now.trees 1)) row.now ≡ None) }
 {
     let entry = row_entry(row)?;
     let (sender, number) = (entry.sender, entry.number);
-    read_once(alloc, conn, setup, block, listed, last, sender, number)?;
-    match row_named(alloc, setup.archs(), last, &entry)? {
+    read_once(conn, reading, block, last, sender, number)?;
+    match row_named(reading.alloc, reading.setup.archs(), last, &entry)? {
         Some(given) => Ok(given),
         None => Err(KeepFault::Store(Cause::BadRow)),
     }
@@ -459,8 +465,13 @@ fn read_rows<S: Alter>(
     let mut given = Vec::new(alloc);
     let columns = BUILD;
     let listed = Listed { rows, columns };
+    let reading = Reading {
+        alloc,
+        setup,
+        listed,
+    };
     'rows: for row in rows {
-        let one = row_at(alloc, conn, setup, block, listed, row, last)?;
+        let one = row_at(conn, &reading, block, row, last)?;
         given.push(one)?;
     }
     Ok(given)
