@@ -18,7 +18,7 @@ ghost use Rattle.testing_rules_suites.specs.AfterMoves as after;
 
 use crate::refusal::{Refusal, refused};
 use crate::shown::shown_of;
-use crate::telling::{Telling, refusal_text};
+use crate::telling::{Basis, Telling, refusal_text};
 use crate::told::refusal_lines;
 use deb_control::Text;
 use deb_version::NoMemory;
@@ -163,182 +163,128 @@ fn removal_if_known<'a>(
     refusal_without(alloc, telling, &old, name, known)
 }
 
-/// Why the group can't move as one over testing, where that breaks the offender's row and unstable has the facts' sources
-/// and these rows.
-fn group_over_rows<'a>(
+/// Why the group can't move as one over testing, where that breaks the offender's row.
+fn group_over_rows(
     alloc: Global,
-    archs: &Archs,
-    facts: &'a Facts,
-    rows: &[LentRow<'a>],
-    excuses: &[Excuse],
+    basis: &Basis<'_, '_>,
     group: &[Text],
-    testing: &'a Testing,
+    testing: &Testing,
     offender: Offender,
 ) -> Result<Option<Text>, NoMemory>
-    requires { moves.offender_of archs.now testing.now.rows (moves.move_group facts.now.sources (lent rows.now) group.now testing.now).rows group.now ≡ Some offender }
-    ensures some { IfOk result (λ told. IfSome told (λ text. IsToldMove archs.now facts.now.sources (lent rows.now) excuses.now testing.now group.now text)) }
-    ensures none { IfOk result (λ told. IfNone told (moves.offender_of archs.now testing.now.rows (moves.move_group facts.now.sources (lent rows.now) group.now testing.now).rows group.now ≡ None)) }
+    requires { moves.offender_of basis.now.archs.now testing.now.rows (moves.move_group basis.now.facts.now.sources (lent basis.now.rows.now) group.now testing.now).rows group.now ≡ Some offender }
+    ensures some { IfOk result (λ told. IfSome told (λ text. IsToldMove basis.now.archs.now basis.now.facts.now.sources (lent basis.now.rows.now) basis.now.excuses.now testing.now group.now text)) }
+    ensures none { IfOk result (λ told. IfNone told (moves.offender_of basis.now.archs.now testing.now.rows (moves.move_group basis.now.facts.now.sources (lent basis.now.rows.now) group.now testing.now).rows group.now ≡ None)) }
 {
     let unstable = Unstable {
-        sources: facts.sources(),
-        rows,
+        sources: basis.facts.sources(),
+        rows: basis.rows,
     };
     let telling = Telling {
-        archs,
+        archs: basis.archs,
         unstable,
-        excuses,
+        excuses: basis.excuses,
         coming: group,
         stuck: &[],
     };
     move_if_known(alloc, &telling, testing, Some(offender))
 }
 
-/// Why the source can't be removed from testing, where that breaks the offender's row and unstable has the facts' sources
-/// and these rows.
-fn removal_over_rows<'a>(
+/// Why the source can't be removed from testing, where that breaks the offender's row.
+fn removal_over_rows(
     alloc: Global,
-    archs: &Archs,
-    facts: &'a Facts,
-    rows: &[LentRow<'a>],
-    excuses: &[Excuse],
+    basis: &Basis<'_, '_>,
     name: &Text,
-    testing: &'a Testing,
+    testing: &Testing,
     offender: Offender,
 ) -> Result<Option<Text>, NoMemory>
-    requires { moves.offender_of archs.now testing.now.rows (moves.remove_source name.now testing.now).rows [] ≡ Some offender }
-    ensures some { IfOk result (λ told. IfSome told (λ text. IsToldRemoval archs.now facts.now.sources (lent rows.now) excuses.now testing.now name.now text)) }
-    ensures none { IfOk result (λ told. IfNone told (moves.offender_of archs.now testing.now.rows (moves.remove_source name.now testing.now).rows [] ≡ None)) }
+    requires { moves.offender_of basis.now.archs.now testing.now.rows (moves.remove_source name.now testing.now).rows [] ≡ Some offender }
+    ensures some { IfOk result (λ told. IfSome told (λ text. IsToldRemoval basis.now.archs.now basis.now.facts.now.sources (lent basis.now.rows.now) basis.now.excuses.now testing.now name.now text)) }
+    ensures none { IfOk result (λ told. IfNone told (moves.offender_of basis.now.archs.now testing.now.rows (moves.remove_source name.now testing.now).rows [] ≡ None)) }
 {
     let unstable = Unstable {
-        sources: facts.sources(),
-        rows,
+        sources: basis.facts.sources(),
+        rows: basis.rows,
     };
     let telling = Telling {
-        archs,
+        archs: basis.archs,
         unstable,
-        excuses,
+        excuses: basis.excuses,
         coming: &[],
         stuck: &[],
     };
     removal_if_known(alloc, &telling, testing, name, Some(offender))
 }
 
-/// What moving the group over testing would break, where unstable has the facts' sources and these rows.
+/// What moving the group over testing would break.
 fn group_broken(
     alloc: Global,
-    archs: &Archs,
-    facts: &Facts,
-    rows: &[LentRow<'_>],
+    basis: &Basis<'_, '_>,
     group: &[Text],
     testing: &mut Testing,
 ) -> Result<Option<Offender>, NoMemory>
-    requires { AreByKey (lent rows.now) }
+    requires { AreByKey (lent basis.now.rows.now) }
     ensures same { testing.new ≡ testing.old }
-    ensures offender { IfOk result (λ o. o ≡ moves.offender_of archs.now testing.old.rows (moves.move_group facts.now.sources (lent rows.now) group.now testing.old).rows group.now) }
+    ensures offender { IfOk result (λ o. o ≡ moves.offender_of basis.now.archs.now testing.old.rows (moves.move_group basis.now.facts.now.sources (lent basis.now.rows.now) group.now testing.old).rows group.now) }
 {
     let unstable = Unstable {
-        sources: facts.sources(),
-        rows,
+        sources: basis.facts.sources(),
+        rows: basis.rows,
     };
-    broken_by_group(alloc, archs, unstable, group, testing)
+    broken_by_group(alloc, basis.archs, unstable, group, testing)
 }
 
-/// What removing the source from testing would break, where unstable has the facts' sources and these rows.
+/// What removing the source from testing would break.
 fn removal_broken(
     alloc: Global,
-    archs: &Archs,
-    facts: &Facts,
-    rows: &[LentRow<'_>],
+    basis: &Basis<'_, '_>,
     name: &Text,
     testing: &mut Testing,
 ) -> Result<Option<Offender>, NoMemory>
-    requires { AreByKey (lent rows.now) }
+    requires { AreByKey (lent basis.now.rows.now) }
     ensures same { testing.new ≡ testing.old }
-    ensures offender { IfOk result (λ o. o ≡ moves.offender_of archs.now testing.old.rows (moves.remove_source name.now testing.old).rows []) }
+    ensures offender { IfOk result (λ o. o ≡ moves.offender_of basis.now.archs.now testing.old.rows (moves.remove_source name.now testing.old).rows []) }
 {
     let unstable = Unstable {
-        sources: facts.sources(),
-        rows,
+        sources: basis.facts.sources(),
+        rows: basis.rows,
     };
-    broken_by_removal(alloc, archs, unstable, name, testing)
+    broken_by_removal(alloc, basis.archs, unstable, name, testing)
 }
 
-/// Why the group can't move as one over testing, where that breaks the offender's row and the rows are built of the facts.
-fn group_over_facts<'f>(
+/// Why the group can't move as one over testing.
+fn group_by_suites(
     alloc: Global,
-    archs: &Archs,
-    facts: &'f Facts,
-    rows: &[LentRow<'f>],
-    excuses: &[Excuse],
-    group: &[Text],
-    testing: &Testing,
-    offender: Offender,
-) -> Result<Option<Text>, NoMemory>
-    requires { moves.offender_of archs.now testing.now.rows (moves.move_group facts.now.sources (lent rows.now) group.now testing.now).rows group.now ≡ Some offender }
-    ensures some { IfOk result (λ told. IfSome told (λ text. IsToldMove archs.now facts.now.sources (lent rows.now) excuses.now testing.now group.now text)) }
-    ensures none { IfOk result (λ told. IfNone told (moves.offender_of archs.now testing.now.rows (moves.move_group facts.now.sources (lent rows.now) group.now testing.now).rows group.now ≡ None)) }
-{
-    group_over_rows(alloc, archs, facts, rows, excuses, group, testing, offender)
-}
-
-/// Why the source can't be removed, where that breaks the offender's row and the rows are built of the facts.
-fn removal_over_facts<'f>(
-    alloc: Global,
-    archs: &Archs,
-    facts: &'f Facts,
-    rows: &[LentRow<'f>],
-    excuses: &[Excuse],
-    name: &Text,
-    testing: &Testing,
-    offender: Offender,
-) -> Result<Option<Text>, NoMemory>
-    requires { moves.offender_of archs.now testing.now.rows (moves.remove_source name.now testing.now).rows [] ≡ Some offender }
-    ensures some { IfOk result (λ told. IfSome told (λ text. IsToldRemoval archs.now facts.now.sources (lent rows.now) excuses.now testing.now name.now text)) }
-    ensures none { IfOk result (λ told. IfNone told (moves.offender_of archs.now testing.now.rows (moves.remove_source name.now testing.now).rows [] ≡ None)) }
-{
-    removal_over_rows(alloc, archs, facts, rows, excuses, name, testing, offender)
-}
-
-/// Why the group can't move as one over testing, where unstable has the facts' sources and these rows.
-fn group_by_suites<'f>(
-    alloc: Global,
-    archs: &Archs,
-    facts: &'f Facts,
-    rows: &[LentRow<'f>],
-    excuses: &[Excuse],
+    basis: &Basis<'_, '_>,
     group: &[Text],
     testing: &mut Testing,
 ) -> Result<Option<Text>, NoMemory>
-    requires { AreByKey (lent rows.now) }
+    requires { AreByKey (lent basis.now.rows.now) }
     ensures same { testing.new ≡ testing.old }
-    ensures some { IfOk result (λ told. IfSome told (λ text. IsToldMove archs.now facts.now.sources (lent rows.now) excuses.now testing.old group.now text)) }
-    ensures none { IfOk result (λ told. IfNone told (moves.offender_of archs.now testing.old.rows (moves.move_group facts.now.sources (lent rows.now) group.now testing.old).rows group.now ≡ None)) }
+    ensures some { IfOk result (λ told. IfSome told (λ text. IsToldMove basis.now.archs.now basis.now.facts.now.sources (lent basis.now.rows.now) basis.now.excuses.now testing.old group.now text)) }
+    ensures none { IfOk result (λ told. IfNone told (moves.offender_of basis.now.archs.now testing.old.rows (moves.move_group basis.now.facts.now.sources (lent basis.now.rows.now) group.now testing.old).rows group.now ≡ None)) }
 {
-    let Some(offender) = group_broken(alloc, archs, facts, rows, group, testing)? else {
+    let Some(offender) = group_broken(alloc, basis, group, testing)? else {
         return Ok(None);
     };
-    group_over_facts(alloc, archs, facts, rows, excuses, group, testing, offender)
+    group_over_rows(alloc, basis, group, testing, offender)
 }
 
-/// Why the source can't be removed from testing, where unstable has the facts' sources and these rows.
-fn removal_by_suites<'f>(
+/// Why the source can't be removed from testing.
+fn removal_by_suites(
     alloc: Global,
-    archs: &Archs,
-    facts: &'f Facts,
-    rows: &[LentRow<'f>],
-    excuses: &[Excuse],
+    basis: &Basis<'_, '_>,
     name: &Text,
     testing: &mut Testing,
 ) -> Result<Option<Text>, NoMemory>
-    requires { AreByKey (lent rows.now) }
+    requires { AreByKey (lent basis.now.rows.now) }
     ensures same { testing.new ≡ testing.old }
-    ensures some { IfOk result (λ told. IfSome told (λ text. IsToldRemoval archs.now facts.now.sources (lent rows.now) excuses.now testing.old name.now text)) }
-    ensures none { IfOk result (λ told. IfNone told (moves.offender_of archs.now testing.old.rows (moves.remove_source name.now testing.old).rows [] ≡ None)) }
+    ensures some { IfOk result (λ told. IfSome told (λ text. IsToldRemoval basis.now.archs.now basis.now.facts.now.sources (lent basis.now.rows.now) basis.now.excuses.now testing.old name.now text)) }
+    ensures none { IfOk result (λ told. IfNone told (moves.offender_of basis.now.archs.now testing.old.rows (moves.remove_source name.now testing.old).rows [] ≡ None)) }
 {
-    let Some(offender) = removal_broken(alloc, archs, facts, rows, name, testing)? else {
+    let Some(offender) = removal_broken(alloc, basis, name, testing)? else {
         return Ok(None);
     };
-    removal_over_facts(alloc, archs, facts, rows, excuses, name, testing, offender)
+    removal_over_rows(alloc, basis, name, testing, offender)
 }
 
 /// Why the group can't move as one over testing, in lines, by the facts and the excuses of a run. There is nothing exactly
@@ -361,7 +307,13 @@ pub fn group_refusal(
         (moves.move_group facts.now.sources (built_rows archs.now facts.now.rows) group.now testing.old).rows group.now ≡ None)) }
 {
     let rows = built_rows(alloc, archs, facts.rows())?;
-    group_by_suites(alloc, archs, facts, &rows, excuses, group, testing)
+    let basis = Basis {
+        archs,
+        facts,
+        rows: &rows,
+        excuses,
+    };
+    group_by_suites(alloc, &basis, group, testing)
 }
 
 /// Why the source can't be removed from testing, in lines, by the facts and the excuses of a run. There is nothing exactly
@@ -380,7 +332,13 @@ pub fn removal_refusal(
     ensures none { IfOk result (λ told. IfNone told (moves.offender_of archs.now testing.old.rows (moves.remove_source name.now testing.old).rows [] ≡ None)) }
 {
     let rows = built_rows(alloc, archs, facts.rows())?;
-    removal_by_suites(alloc, archs, facts, &rows, excuses, name, testing)
+    let basis = Basis {
+        archs,
+        facts,
+        rows: &rows,
+        excuses,
+    };
+    removal_by_suites(alloc, &basis, name, testing)
 }
 
 /// Why the source of an excuse waits, in lines: what moving it alone over testing would break, by the facts and the excuses

@@ -23,7 +23,7 @@ use crate::needs::need_at;
 use crate::refusal::{Refusal, judged_rows};
 use crate::shown::steps_for;
 use crate::standing::{coming_rows, living, rows_that_may_stand};
-use crate::telling::{Telling, is_current_in};
+use crate::telling::{Basis, Telling, is_current_in};
 use deb_control::{Clause, Text};
 use deb_version::NoMemory;
 use std::alloc::{AllocError, Global};
@@ -549,28 +549,25 @@ fn text_over(
     Ok(Some(told.text))
 }
 
-/// The text of the blocks of the source, where unstable has the facts' sources and these rows.
-fn text_over_rows<'a>(
+/// The text of the blocks of the source, over testing.
+fn text_over_rows(
     alloc: Global,
-    archs: &Archs,
-    facts: &'a Facts,
-    rows: &[LentRow<'a>],
-    excuses: &[Excuse],
-    testing: &'a Testing,
+    basis: &Basis<'_, '_>,
+    testing: &Testing,
     suspects: &[Suspect],
     source: &str,
 ) -> Result<Option<Text>, NoMemory>
-    ensures { IfOk result (λ found. IfSome found (words.IsStuckText archs.now facts.now.sources (lent rows.now) excuses.now testing.now source.now)) }
+    ensures { IfOk result (λ found. IfSome found (words.IsStuckText basis.now.archs.now basis.now.facts.now.sources (lent basis.now.rows.now) basis.now.excuses.now testing.now source.now)) }
 {
     let unstable = Unstable {
-        sources: facts.sources(),
-        rows,
+        sources: basis.facts.sources(),
+        rows: basis.rows,
     };
     let old = lend_rows(alloc, testing.rows())?;
     let ground = Ground {
-        archs,
+        archs: basis.archs,
         unstable,
-        excuses,
+        excuses: basis.excuses,
         testing,
         rows: &old,
     };
@@ -594,7 +591,11 @@ pub fn stuck_text(
     ensures { IfOk result (λ found. IfSome found (words.IsStuckText archs.now facts.now.sources (built_rows archs.now facts.now.rows) excuses.now testing.now source.now)) }
 {
     let rows = built_rows(alloc, archs, facts.rows())?;
-    text_over_rows(
-        alloc, archs, facts, &rows, excuses, testing, suspects, source,
-    )
+    let basis = Basis {
+        archs,
+        facts,
+        rows: &rows,
+        excuses,
+    };
+    text_over_rows(alloc, &basis, testing, suspects, source)
 }

@@ -8,6 +8,7 @@ use Rattle.testing_rules_refusals.proofs.changes.group_broken.Goals as goal
 pub returns-clause-offender : goal.returns-clause-offender
 returns-clause-offender c =
     let a = c.args in
+    let b = a.basis.now in
     let t = a.testing.now in
-    subst (λ (us : List UploadIn). IfOk c.broken_by_group.result (λ o. o ≡ offender_of a.archs.now t.rows (move_group us (lent a.rows.now) a.group.now t).rows a.group.now))
+    subst (λ (us : List UploadIn). IfOk c.broken_by_group.result (λ o. o ≡ offender_of b.archs.now t.rows (move_group us (lent b.rows.now) a.group.now t).rows a.group.now))
     c.sources.ensures.sources c.broken_by_group.ensures.offender

@@ -11,5 +11,6 @@ text_over-requires-clause-old c = ap lent c.deref.ensures.value ∙ c.in_ok-old.
 pub returns : goal.returns
 returns c =
     let a = c.args in
-    subst (λ (us : List UploadIn). IfOk c.text_over.result (λ found. IfSome found (IsStuckText a.archs.now us (lent a.rows.now) a.excuses.now a.testing.now a.source.now)))
+    let b = a.basis.now in
+    subst (λ (us : List UploadIn). IfOk c.text_over.result (λ found. IfSome found (IsStuckText b.archs.now us (lent b.rows.now) b.excuses.now a.testing.now a.source.now)))
     c.sources.ensures.sources c.text_over.ensures
