@@ -24,6 +24,7 @@ ghost use Rattle.office_core_facts.specs.Walk.{said_by, said_in, said_within};
 
 use crate::message_cache::MessageCache;
 use crate::restoring::put_back;
+use crate::stretch::Stretch;
 use crate::taking::{cover_of, take_body};
 use office_core_orders::orders::make_room;
 use office_core_orders::stored::{BLOCK, block_end};
@@ -273,43 +274,42 @@ pub fn take_on<K: Keeper>(
     make_room(&mut known.taken, sender)?;
     let place = sender as usize;
     let taken = known.taken[place];
-    take_sender(
-        alloc,
-        setup,
-        keeper,
-        cache,
-        &mut known.facts,
+    let stretch = Stretch {
         sender,
-        taken,
-        cover,
-    )?;
+        done: taken,
+        end: cover,
+    };
+    take_sender(alloc, setup, keeper, cache, &mut known.facts, stretch)?;
     known.taken[place] = cover;
     Ok(())
 }
 
-/// The facts, which took what a sender says up to a number, take what it says on up to its cover.
+/// The facts, which took what a sender says up to the start of a stretch, take what it says on up to its end.
 fn take_sender<K: Keeper>(
     alloc: Global,
     setup: &Setup,
     keeper: &mut K,
     cache: &mut MessageCache,
     facts: &mut Facts,
-    sender: u32,
-    taken: u32,
-    cover: u32,
+    stretch: Stretch,
 ) -> Result<(), StoreFault>
-    requires within { taken ≤ cover }
+    requires within { stretch.done ≤ stretch.end }
     requires cache { AreRead setup.now cache.old }
-    ensures taken { K.is_trusted keeper.new → OnOk result ((s : Covered) (t : Suite) → StandsFor facts.old (said_by setup.now (K.content keeper.old).kept sender taken ++ s) t → StandsFor facts.new (said_by setup.now (K.content keeper.old).kept sender cover ++ s) t) }
+    ensures taken { K.is_trusted keeper.new → OnOk result ((s : Covered) (t : Suite) → StandsFor facts.old (said_by setup.now (K.content keeper.old).kept stretch.sender stretch.done ++ s) t → StandsFor facts.new (said_by setup.now (K.content keeper.old).kept stretch.sender stretch.end ++ s) t) }
     ensures way { K.is_trusted keeper.new → OnOk result (AreUnderWay setup.now (K.content keeper.old) facts.old → AreUnderWay setup.now (K.content keeper.old) facts.new) }
     ensures cache { AreRead setup.now cache.new }
     ensures looks { ReadsStore K.Keeper keeper.old keeper.new result }
 {
-    let mut taken = taken;
-    'loads: while taken < cover {
-        let end = block_end(taken, BLOCK, cover);
-        take_block(alloc, setup, keeper, cache, facts, sender, taken, end)?;
-        taken = end;
+    let mut done = stretch.done;
+    'loads: while done < stretch.end {
+        let end = block_end(done, BLOCK, stretch.end);
+        let block = Stretch {
+            sender: stretch.sender,
+            done,
+            end,
+        };
+        take_block(alloc, setup, keeper, cache, facts, block)?;
+        done = end;
     }
     Ok(())
 }
@@ -321,20 +321,18 @@ fn take_block<K: Keeper>(
     keeper: &mut K,
     cache: &mut MessageCache,
     facts: &mut Facts,
-    sender: u32,
-    taken: u32,
-    end: u32,
+    stretch: Stretch,
 ) -> Result<(), StoreFault>
-    requires on { taken < end }
-    requires block { end ≤ taken + 256 }
+    requires on { stretch.done < stretch.end }
+    requires block { stretch.end ≤ stretch.done + 256 }
     requires cache { AreRead setup.now cache.old }
-    ensures taken { K.is_trusted keeper.new → OnOk result ((s : Covered) (t : Suite) → StandsFor facts.old (said_by setup.now (K.content keeper.old).kept sender taken ++ s) t → StandsFor facts.new (said_by setup.now (K.content keeper.old).kept sender end ++ s) t) }
+    ensures taken { K.is_trusted keeper.new → OnOk result ((s : Covered) (t : Suite) → StandsFor facts.old (said_by setup.now (K.content keeper.old).kept stretch.sender stretch.done ++ s) t → StandsFor facts.new (said_by setup.now (K.content keeper.old).kept stretch.sender stretch.end ++ s) t) }
     ensures way { K.is_trusted keeper.new → OnOk result (AreUnderWay setup.now (K.content keeper.old) facts.old → AreUnderWay setup.now (K.content keeper.old) facts.new) }
     ensures cache { AreRead setup.now cache.new }
     ensures looks { ReadsStore K.Keeper keeper.old keeper.new result }
 {
-    let letters = stored::load(keeper, sender, taken + 1, end)?;
-    take_letters(alloc, setup, cache, facts, sender, &letters)
+    let letters = stored::load(keeper, stretch.sender, stretch.done + 1, stretch.end)?;
+    take_letters(alloc, setup, cache, facts, stretch.sender, &letters)
 }
 
 /// The facts take what letters of a sender say. It fails for want of memory alone.

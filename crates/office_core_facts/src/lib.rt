@@ -11,4 +11,5 @@ pub mod release;
 pub mod restoring;
 pub mod retaking;
 pub mod seen;
+mod stretch;
 pub mod taking;

@@ -26,6 +26,7 @@ ghost use Rattle.office_core_facts.specs.Walk.{said_by, said_in, said_within};
 use crate::covered::take_text;
 use crate::message_cache::MessageCache;
 use crate::restoring::item_in;
+use crate::stretch::Stretch;
 use deb_control::Text;
 use office_core_orders::stored::{BLOCK, block_end};
 use office_core_orders::{StoreFault, stored};
@@ -139,32 +140,31 @@ fn retake_sender<K: Keeper>(
     let mut done = 0;
     'loads: while done < cover {
         let end = block_end(done, BLOCK, cover);
-        retake_block(alloc, setup, keeper, facts, sender, done, end, names)?;
+        let block = Stretch { sender, done, end };
+        retake_block(alloc, setup, keeper, facts, block, names)?;
         done = end;
     }
     Ok(())
 }
 
-/// The facts take the uploads of these names again, of what a sender says behind a number up to another.
+/// The facts take the uploads of these names again, of what a sender says in a stretch.
 fn retake_block<K: Keeper>(
     alloc: Global,
     setup: &Setup,
     keeper: &mut K,
     facts: &mut Facts,
-    sender: u32,
-    done: u32,
-    end: u32,
+    stretch: Stretch,
     names: &[Text],
 ) -> Result<(), StoreFault>
-    requires on { done < end }
-    requires block { end ≤ done + 256 }
+    requires on { stretch.done < stretch.end }
+    requires block { stretch.end ≤ stretch.done + 256 }
     ensures way { K.is_trusted keeper.new → OnOk result (AreUnderWay setup.now (K.content keeper.old) facts.old → AreUnderWay setup.now (K.content keeper.old) facts.new) }
-    ensures again { K.is_trusted keeper.new → OnOk result ((first : FactLists) (s : Covered) → TookAgain names.now (said_by setup.now (K.content keeper.old).kept sender done ++ s) first facts.old
-        → TookAgain names.now (said_by setup.now (K.content keeper.old).kept sender end ++ s) first facts.new) }
+    ensures again { K.is_trusted keeper.new → OnOk result ((first : FactLists) (s : Covered) → TookAgain names.now (said_by setup.now (K.content keeper.old).kept stretch.sender stretch.done ++ s) first facts.old
+        → TookAgain names.now (said_by setup.now (K.content keeper.old).kept stretch.sender stretch.end ++ s) first facts.new) }
     ensures looks { ReadsStore K.Keeper keeper.old keeper.new result }
 {
-    let letters = stored::load(keeper, sender, done + 1, end)?;
-    retake_letters(alloc, setup, facts, sender, &letters, names)
+    let letters = stored::load(keeper, stretch.sender, stretch.done + 1, stretch.end)?;
+    retake_letters(alloc, setup, facts, stretch.sender, &letters, names)
 }
 
 /// The facts take the uploads of these names among letters of a sender again. It fails for want of memory alone.

@@ -13,12 +13,12 @@ returns-clause-taken g c = λ trusted.
     let setup = c.args.setup.now in
     let content : Content = g.K.Keeper.content c.args.keeper.now in
     let letters : List Letter = c.deref.result.now in
-    let loaded : letters ≡ letters_within content.kept c.args.sender (c.args.taken + 1) c.args.end = c.deref.ensures.value ∙ c.in_ok-letters.ensures.loaded trusted in
+    let loaded : letters ≡ letters_within content.kept c.args.stretch.sender (c.args.stretch.done + 1) c.args.stretch.end = c.deref.ensures.value ∙ c.in_ok-letters.ensures.loaded trusted in
     on_ok_weaker c.take_letters.result
     (λ taken s t h.
-    let before : Covered = said_by setup content.kept c.args.sender c.args.taken ++ s in
+    let before : Covered = said_by setup content.kept c.args.stretch.sender c.args.stretch.done ++ s in
     subst (λ (l : Covered). StandsFor c.take_letters.new.facts l t)
-    (ap (λ (ls : List Letter). said_in setup c.args.sender ls before) loaded ∙ said_block setup content.kept c.args.sender c.args.taken c.args.end s (omega (arith, c.requires.on)))
+    (ap (λ (ls : List Letter). said_in setup c.args.stretch.sender ls before) loaded ∙ said_block setup content.kept c.args.stretch.sender c.args.stretch.done c.args.stretch.end s (omega (arith, c.requires.on)))
     (taken before t h))
     c.take_letters.ensures.taken
 
@@ -26,7 +26,7 @@ pub returns-clause-way : goal.returns-clause-way
 returns-clause-way g c = λ trusted.
     let content : Content = g.K.Keeper.content c.args.keeper.now in
     let letters : List Letter = c.deref.result.now in
-    let loaded : letters ≡ letters_within content.kept c.args.sender (c.args.taken + 1) c.args.end = c.deref.ensures.value ∙ c.in_ok-letters.ensures.loaded trusted in
+    let loaded : letters ≡ letters_within content.kept c.args.stretch.sender (c.args.stretch.done + 1) c.args.stretch.end = c.deref.ensures.value ∙ c.in_ok-letters.ensures.loaded trusted in
     on_ok_weaker c.take_letters.result
-    (λ way was. way content (letters_own content.kept c.args.sender (c.args.taken + 1) c.args.end letters loaded) was)
+    (λ way was. way content (letters_own content.kept c.args.stretch.sender (c.args.stretch.done + 1) c.args.stretch.end letters loaded) was)
     c.take_letters.ensures.way

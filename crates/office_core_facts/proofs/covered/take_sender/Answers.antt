@@ -27,7 +27,7 @@ loads-preserved g c =
       within = c.block_end-end.ensures.within;
       taken = λ trusted s t h.
           let earlier = next.looks.before trusted in
-          subst (λ (m : Content). StandsFor c.loads.facts (said_by setup m.kept c.args.sender c.loads.taken ++ s) t → StandsFor c.take_block.new.facts (said_by setup m.kept c.args.sender end ++ s) t) (so.looks.same earlier)
+          subst (λ (m : Content). StandsFor c.loads.facts (said_by setup m.kept c.args.stretch.sender c.loads.done ++ s) t → StandsFor c.take_block.new.facts (said_by setup m.kept c.args.stretch.sender end ++ s) t) (so.looks.same earlier)
           (next.taken trusted s t) (so.taken earlier s t h);
       way = λ trusted was.
           let earlier = next.looks.before trusted in
@@ -39,7 +39,7 @@ loads-preserved g c =
 pub returns-clause-taken : goal.returns-clause-taken
 returns-clause-taken g c = λ trusted s t h.
     let content : Content = g.K.Keeper.content c.args.keeper.now in
-    subst (λ (n : ℕ). StandsFor c.loads.facts (said_by c.args.setup.now content.kept c.args.sender n ++ s) t)
+    subst (λ (n : ℕ). StandsFor c.loads.facts (said_by c.args.setup.now content.kept c.args.stretch.sender n ++ s) t)
     (omega (arith, c.loads-test.false, c.loads.invariant.within))
     (c.loads.invariant.taken trusted s t h)
 

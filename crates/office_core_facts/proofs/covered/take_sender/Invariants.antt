@@ -13,12 +13,12 @@ invariant-loads g l =
     let trusted = g.K.Keeper.is_trusted in
     let content = g.K.Keeper.content in
     record {
-      within : l.taken ≤ l.cover;
-      taken : trusted l.keeper → (s : Covered) (t : Suite) → StandsFor l.fn.facts (said_by l.setup (content l.fn.keeper).kept l.sender l.fn.taken ++ s) t → StandsFor l.facts (said_by l.setup (content l.fn.keeper).kept l.sender l.taken ++ s) t;
+      within : l.done ≤ l.stretch.end;
+      taken : trusted l.keeper → (s : Covered) (t : Suite) → StandsFor l.fn.facts (said_by l.setup (content l.fn.keeper).kept l.stretch.sender l.stretch.done ++ s) t → StandsFor l.facts (said_by l.setup (content l.fn.keeper).kept l.stretch.sender l.done ++ s) t;
       way : trusted l.keeper → AreUnderWay l.setup (content l.fn.keeper) l.fn.facts → AreUnderWay l.setup (content l.fn.keeper) l.facts;
       cache : AreRead l.setup l.cache;
       looks : Looked g.K.Keeper l.fn.keeper l.keeper;
     }
 
 abbrev pub decreases-loads : goal.decreases-loads
-decreases-loads g l = l.cover - l.taken
+decreases-loads g l = l.stretch.end - l.done
