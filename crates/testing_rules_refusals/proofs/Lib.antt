@@ -11,3 +11,4 @@ pub mod Coming
 pub mod Working
 pub mod Freeing
 pub mod Blocks
+pub mod LineBearers

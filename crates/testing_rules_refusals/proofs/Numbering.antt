@@ -1,8 +1,8 @@
 -- Numbers from 1 on.
-use Rattle.std.proofs.Common.{◌≡◌, ℕ, zero, suc, ◌+◌, Bool, cond, [], ◌∷◌, ◌++◌, filter, ap, ◌∙◌, arith}
+use Rattle.std.proofs.Common.{◌≡◌, ℕ, zero, suc, ◌+◌, [], ◌∷◌, ◌++◌, ap, ◌∙◌, arith}
 use Rattle.std.specs.Prelude.{Option}
 use Rattle.std.specs.List.{range_with_len, filter_map, cons_option}
-use Rattle.std.proofs.lemmas.List.Elements.{filter-append, filter_map-append}
+use Rattle.std.proofs.lemmas.List.Elements.{filter_map-append}
 
 one_last : (a n j : ℕ) → a + n ≡ j → range_with_len a (suc n) ≡ range_with_len a n ++ j ∷ []
 one_last a zero j e = let same : a ≡ j = omega (arith, e) in ap (λ k. k ∷ []) same
@@ -11,13 +11,7 @@ one_last a (suc n) j e = ap (λ ks. a ∷ ks) (one_last (a + 1) n j (omega (arit
 pub numbers_more : (a n j : ℕ) → a + n ≡ j → range_with_len a (n + 1) ≡ range_with_len a n ++ j ∷ []
 numbers_more a n j e = let on : n + 1 ≡ suc n = omega arith in ap (range_with_len a) on ∙ one_last a n j e
 
--- the numbers that pass, of one more
-pub passing_more : (test : ℕ → Bool) (a n j : ℕ) (b : Bool) → a + n ≡ j → test j ≡ b
-    → filter test (range_with_len a (n + 1)) ≡ filter test (range_with_len a n) ++ cond b (j ∷ []) []
-passing_more test a n j b e h =
-    ap (filter test) (numbers_more a n j e) ∙ filter-append test (range_with_len a n) (j ∷ []) ∙ ap (λ c. filter test (range_with_len a n) ++ cond c (j ∷ []) []) h
-
--- and what the numbers have, of one more
+-- what the numbers have, of one more
 pub having_more : {A : Type 0} (f : ℕ → Option A) (a n j : ℕ) (o : Option A) → a + n ≡ j → f j ≡ o
     → filter_map f (range_with_len a (n + 1)) ≡ filter_map f (range_with_len a n) ++ cons_option o []
 having_more f a n j o e h =

@@ -8,3 +8,4 @@ pub mod ToldChange
 pub mod Stuck
 pub mod Standing
 pub mod Shown
+pub mod LineNumbers

@@ -2,6 +2,7 @@
 //! installable after it. And why no group at all frees a source, in blocks of such lines.
 #![tactic(auto)]
 
+mod bearing;
 mod changes;
 mod failing;
 mod judged;
@@ -18,7 +19,7 @@ mod told;
 
 pub use changes::{group_refusal, removal_refusal, why_waits};
 pub use lines::{push_clause, push_leaving, push_need, push_package};
-pub use needs::{Need, bearers, meeting, need_at};
+pub use needs::{Need, meeting, need_at};
 pub use refusal::{Refusal, refused};
 pub use standing::is_in_testing;
 pub use stuck::{Suspect, stuck_text};

@@ -1,8 +1,6 @@
-//! The lines of what is shown: each a row, one of its clauses, and the numbers of the lines whose rows meet it.
+//! The lines of what is shown, each a row and one of its clauses, and the rows that meet a clause.
 
-ghost use Rattle.std.specs.Prelude.{◌≡◌, ◌+◌, filter, length, IfOk, option_map};
-ghost use Rattle.std.specs.List.{range_with_len};
-ghost use Rattle.testing_install.specs.Satisfies.{meets as does_meet};
+ghost use Rattle.std.specs.Prelude.{◌≡◌, IfOk, option_map};
 ghost use Rattle.testing_rules_model.specs.JudgedRows.{lent, row_of};
 ghost use Rattle.testing_rules_refusals.specs.Needs as rules;
 ghost use Rattle.testing_rules_refusals.specs.Needs.{need_of};
@@ -56,34 +54,6 @@ pub fn need_at<'a>(rows: &[LentRow<'a>], steps: &[Step], number: usize) -> Optio
         Some(step) => need_by(rows, step),
         None => None,
     }
-}
-
-/// The row of the line with the number meets the clause.
-fn is_bearer(rows: &[LentRow], steps: &[Step], clause: &Clause, number: usize) -> bool
-    ensures { result ≡ rules.is_bearer (lent rows.now) steps.now clause.now number }
-{
-    match need_at(rows, steps, number) {
-        Some(need) => meets(need.row.binary, clause),
-        None => false,
-    }
-}
-
-/// The numbers of the lines whose rows meet the clause, ascending.
-pub fn bearers(
-    alloc: Global,
-    rows: &[LentRow],
-    steps: &[Step],
-    clause: &Clause,
-) -> Result<Vec<usize>, AllocError>
-    ensures { IfOk result (λ numbers. numbers.items ≡ rules.bearers (lent rows.now) steps.now clause.now) }
-{
-    let mut numbers = Vec::new(alloc);
-    for before in 0..steps.len() {
-        if is_bearer(rows, steps, clause, before + 1) {
-            numbers.push(before + 1)?;
-        }
-    }
-    Ok(numbers)
 }
 
 /// Those of the rows that meet the clause.

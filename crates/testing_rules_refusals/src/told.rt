@@ -3,15 +3,18 @@
 ghost use Rattle.std.specs.Prelude.{◌≡◌, IfOk, map};
 ghost use Rattle.testing_rules_model.specs.JudgedRows.{lent};
 ghost use Rattle.testing_rules_model.specs.Moves as moves;
+ghost use Rattle.testing_rules_refusals.specs.LineNumbers.{IsLineIndex};
 ghost use Rattle.testing_rules_refusals.specs.Needs.{need_of};
 ghost use Rattle.testing_rules_refusals.specs.Told as rules;
 ghost use Rattle.testing_rules_refusals.specs.Told.{told_of};
 
-use crate::needs::{Need, bearers, meeting, need_at};
+use crate::bearing::{bearers, noted_lines};
+use crate::needs::{Need, meeting, need_at};
 use crate::refusal::Refusal;
 use deb_control::Clause;
 use deb_version::NoMemory;
 use std::alloc::{AllocError, Global};
+use testing_install::NameIndex;
 use testing_install_why::Step;
 use testing_rules_live::rows_on;
 use testing_rules_model::LentRow;
@@ -50,9 +53,10 @@ fn line_of_need<'a>(
     number: usize,
     need: Need<'a>,
 ) -> Result<Told<'a>, AllocError>
+    requires { IsLineIndex (lent shown.now.rows.now) shown.now.steps.now shown.now.noted.now }
     ensures { IfOk result (λ told. told_of told ≡ rules.line_of_need (lent shown.now.rows.now) shown.now.steps.now (lent shown.now.before.now) (lent shown.now.unstable.now) number (need_of need.entry)) }
 {
-    let met_by = bearers(alloc, shown.rows, shown.steps, need.clause)?;
+    let met_by = bearers(alloc, shown.rows, shown.steps, shown.noted, need.clause)?;
     let is_unmet = met_by.is_empty();
     let leaving = met_where(alloc, is_unmet, shown.before, need.clause)?;
     let offers = met_where(alloc, is_unmet, shown.unstable, need.clause)?;
@@ -65,17 +69,20 @@ fn line_of_need<'a>(
     })
 }
 
-/// The rows on an architecture after a change and before it, those of unstable, and the steps over the first.
+/// The rows on an architecture after a change and before it, those of unstable, and the steps over the first, with the
+/// numbers of their lines at each name that the lines' rows bear.
 #[derive(Clone, Copy)]
 struct Shown<'g, 'a> {
     rows: &'g [LentRow<'a>],
     steps: &'g [Step],
+    noted: &'g NameIndex,
     before: &'g [LentRow<'a>],
     unstable: &'g [LentRow<'a>],
 }
 
 /// The lines of the steps, the last step first.
 fn lines_of<'a>(alloc: Global, shown: &Shown<'_, 'a>) -> Result<Vec<Told<'a>>, AllocError>
+    requires { IsLineIndex (lent shown.now.rows.now) shown.now.steps.now shown.now.noted.now }
     ensures { IfOk result (λ lines. map told_of lines.items ≡ rules.lines_of (lent shown.now.rows.now) shown.now.steps.now (lent shown.now.before.now) (lent shown.now.unstable.now)) }
 {
     let mut lines = Vec::new(alloc);
@@ -100,9 +107,13 @@ pub fn refusal_lines<'a>(
 {
     let before = rows_on(alloc, refusal.offender.arch, old)?;
     let unstable = rows_on(alloc, refusal.offender.arch, unstable)?;
+    let rows: &[LentRow<'a>] = &refusal.rows;
+    let steps: &[Step] = &refusal.steps;
+    let noted = noted_lines(alloc, rows, steps)?;
     let shown = Shown {
-        rows: &refusal.rows,
-        steps: &refusal.steps,
+        rows,
+        steps,
+        noted: &noted,
         before: &before,
         unstable: &unstable,
     };
