@@ -34,8 +34,8 @@ fn are_of_release(setup: &Setup, delays: Option<DelaysIn>) -> bool
     }
 }
 
-/// What is known, where a store that is trusted keeps it so: each number that was taken is counted, as are all that a ready
-/// run covers, and the delays are the release team's.
+/// What is known, where a store that is trusted keeps it so: each number that was taken is counted, as are all that a
+/// ready run covers, and the delays are the release team's.
 fn counted(setup: &Setup, known: KnownFacts, counts: &[u32]) -> Option<KnownFacts>
     ensures same { IfSome result (λ left. left ≡ known) }
     ensures within { IfSome result (λ left. (s : ℕ) → slice_index left.taken.items s ≤ slice_index counts.now s) }
@@ -61,37 +61,45 @@ fn are_counted(numbers: &[u32], counts: &[u32]) -> bool
     true
 }
 
+/// The run behind the finished ones: the allocator that gives it memory, the setup of its office, and how many runs are
+/// finished.
+#[derive(Clone, Copy)]
+struct NextRun<'a> {
+    alloc: Global,
+    setup: &'a Setup,
+    finished: u32,
+}
+
 /// Finishes the next run where it is ready, and says whether it was.
 fn finish_next<K: Keeper>(
-    alloc: Global,
-    setup: &Setup,
+    next: &NextRun<'_>,
     keeper: &mut K,
     counts: &mut Vec<u32>,
     orders: &mut Vec<RunOrder>,
     known: &mut Option<KnownFacts>,
     cache: &mut MessageCache,
-    finished: u32,
 ) -> Result<bool, StoreFault>
-    requires lists { K.setup keeper.old ≡ setup.now }
-    requires known { K.is_trusted keeper.old → IsCounted setup.now (K.content keeper.old) counts.old.items orders.old.items }
-    requires facts { K.is_trusted keeper.old → IfSome known.old (λ known. AreKnown setup.now (K.content keeper.old) known) }
-    requires finished { K.is_trusted keeper.old → finished ≡ length (K.content keeper.old).reports }
-    requires cache { AreRead setup.now cache.old }
-    ensures known { K.is_trusted keeper.new → IsCounted setup.now (K.content keeper.new) counts.new.items orders.new.items }
-    ensures facts { K.is_trusted keeper.new → IfSome known.new (λ known. AreKnown setup.now (K.content keeper.new) known) }
-    ensures ready { K.is_trusted keeper.new → IsOffice setup.now (K.content keeper.old) → IfOk result (λ ready. IsTrue ready ↔ IsReady setup.now (K.content keeper.old).kept (finished + 1)) }
-    ensures below { IfOk result (λ ready. IsTrue ready → finished < 999_999_999) }
-    ensures cache { AreRead setup.now cache.new }
+    requires lists { K.setup keeper.old ≡ next.now.setup.now }
+    requires known { K.is_trusted keeper.old → IsCounted next.now.setup.now (K.content keeper.old) counts.old.items orders.old.items }
+    requires facts { K.is_trusted keeper.old → IfSome known.old (λ known. AreKnown next.now.setup.now (K.content keeper.old) known) }
+    requires finished { K.is_trusted keeper.old → next.now.finished ≡ length (K.content keeper.old).reports }
+    requires cache { AreRead next.now.setup.now cache.old }
+    ensures known { K.is_trusted keeper.new → IsCounted next.now.setup.now (K.content keeper.new) counts.new.items orders.new.items }
+    ensures facts { K.is_trusted keeper.new → IfSome known.new (λ known. AreKnown next.now.setup.now (K.content keeper.new) known) }
+    ensures ready { K.is_trusted keeper.new → IsOffice next.now.setup.now (K.content keeper.old) → IfOk result (λ ready. IsTrue ready ↔ IsReady next.now.setup.now (K.content keeper.old).kept (next.now.finished + 1)) }
+    ensures below { IfOk result (λ ready. IsTrue ready → next.now.finished < 999_999_999) }
+    ensures cache { AreRead next.now.setup.now cache.new }
     ensures kept { K.is_trusted keeper.new → (K.content keeper.new).kept ≡ (K.content keeper.old).kept }
-    ensures reports { K.is_trusted keeper.new → IfOk result (λ ready. length (K.content keeper.new).reports ≡ (if ready then finished + 1 else finished)) }
+    ensures reports { K.is_trusted keeper.new → IfOk result (λ ready. length (K.content keeper.new).reports ≡ (if ready then next.now.finished + 1 else next.now.finished)) }
     ensures err { K.is_trusted keeper.new → OnErr result (K.content keeper.new ≡ K.content keeper.old) }
-    ensures office { K.is_trusted keeper.new → K.is_legible keeper.old → IsOffice setup.now (K.content keeper.old) → IsOffice setup.now (K.content keeper.new) }
+    ensures office { K.is_trusted keeper.new → K.is_legible keeper.old → IsOffice next.now.setup.now (K.content keeper.old) → IsOffice next.now.setup.now (K.content keeper.new) }
     ensures setup { K.setup keeper.new ≡ K.setup keeper.old }
     ensures before { K.is_trusted keeper.new → K.is_trusted keeper.old }
-    ensures legible { K.is_trusted keeper.new → K.is_legible keeper.old → IsOffice setup.now (K.content keeper.old) → K.is_legible keeper.new }
+    ensures legible { K.is_trusted keeper.new → K.is_legible keeper.old → IsOffice next.now.setup.now (K.content keeper.old) → K.is_legible keeper.new }
     ensures lasts { StaysTrusted K.Keeper keeper.old keeper.new (is_ok result) }
     ensures counted { Counted (K.refusals keeper.old) (K.refusals keeper.new) result }
 {
+    let (alloc, setup, finished) = (next.alloc, next.setup, next.finished);
     if !next_is_ready(alloc, setup, keeper, counts, orders, finished)? {
         return Ok(false);
     }
@@ -139,7 +147,18 @@ pub fn settle<K: Keeper>(
     ensures counted { Counted (K.refusals keeper.old) (K.refusals keeper.new) result }
 {
     let mut finished = stored::finished(keeper)?;
-    'runs: while finish_next(alloc, setup, keeper, counts, orders, known, cache, finished)? {
+    'runs: while finish_next(
+        &NextRun {
+            alloc,
+            setup,
+            finished,
+        },
+        keeper,
+        counts,
+        orders,
+        known,
+        cache,
+    )? {
         finished += 1;
     }
     Ok(finished)

@@ -30,7 +30,7 @@ given_by_same lists setup late mid testing e f given = subst (λ (u : Lists). Is
 
 pub returns-in-Ok-clause-office : goal.returns-in-Ok-clause-office
 returns-in-Ok-clause-office g c = λ trusted legible office.
-    let setup = c.args.setup.now in
+    let setup = c.args.next.now.setup.now in
     let trust = g.K.Keeper.is_trusted in
     let content = g.K.Keeper.content in
     let old : Content = content c.args.keeper.now in
@@ -46,7 +46,7 @@ returns-in-Ok-clause-office g c = λ trusted legible office.
     let same1 : mid ≡ old = at1.looks.same t1 in
     let same2 : late ≡ old = at2.looks.same t2 ∙ same1 in
     let n = length old.reports in
-    let finished : c.args.finished ≡ n = c.requires.finished t0 in
+    let finished : c.args.next.now.finished ≡ n = c.requires.finished t0 in
     let orders : List RunOrder = c.next_is_ready.new.orders.items in
     let known = at1.known t1 in
     let size : length orders ≡ n + 1 = omega (arith, known.next, at1.there c.if-not-branch.false, finished) in
@@ -64,9 +64,9 @@ returns-in-Ok-clause-office g c = λ trusted legible office.
     let given : List RunOrder = c.deref.result.now in
     let first : FirstOrders setup mid.kept given = subst (FirstOrders setup mid.kept) (sym c.deref.ensures.value) (subst (λ (m : Content). FirstOrders setup m.kept orders) (sym same1) known.first) in
     let whole : length given ≡ length mid.reports + 1 = ap length c.deref.ensures.value ∙ size ∙ ap (λ (m : Content). length m.reports + 1) (sym same1) in
-    let run : c.args.finished + 1 ≡ length mid.reports + 1 = ap (λ k. k + 1) finished ∙ ap (λ (m : Content). length m.reports + 1) (sym same1) in
+    let run : c.args.next.now.finished + 1 ≡ length mid.reports + 1 = ap (λ k. k + 1) finished ∙ ap (λ (m : Content). length m.reports + 1) (sym same1) in
     let is : outcome_in c.in_ok-done.done ≡ outcome_of setup old.kept (n + 1) =
-    at2.outcome t2 legible1 there first whole run ∙ ap (λ (m : Content). outcome_of setup m.kept (c.args.finished + 1)) same1 ∙ ap (λ k. outcome_of setup old.kept (k + 1)) finished in
+    at2.outcome t2 legible1 there first whole run ∙ ap (λ (m : Content). outcome_of setup m.kept (c.args.next.now.finished + 1)) same1 ∙ ap (λ k. outcome_of setup old.kept (k + 1)) finished in
     let works = at2.watched t2 legible1 there.watched in
     let f : FactLists = c.in_ok-done.left.facts in
     let whole_orders : FirstOrders setup old.kept orders = known.first in
@@ -81,7 +81,7 @@ returns-in-Ok-clause-office g c = λ trusted legible office.
 
 pub returns-in-Ok-clause-legible : goal.returns-in-Ok-clause-legible
 returns-in-Ok-clause-legible g c = λ trusted legible office.
-    let setup = c.args.setup.now in
+    let setup = c.args.next.now.setup.now in
     let content = g.K.Keeper.content in
     let old : Content = content c.args.keeper.now in
     let mid : Content = content c.next_is_ready.new.keeper in
@@ -100,7 +100,7 @@ returns-in-Ok-clause-legible g c = λ trusted legible office.
 
 pub next_outcome-requires-clause-known : goal.next_outcome-requires-clause-known
 next_outcome-requires-clause-known g c = λ trusted.
-    let setup = c.args.setup.now in
+    let setup = c.args.next.now.setup.now in
     let content = g.K.Keeper.content in
     let before : Option KnownFacts = c.args.known.now in
     let at1 = c.in_ok-next_is_ready.ensures in
@@ -121,12 +121,12 @@ returns-in-Ok-clause-known g c = λ trusted.
     let same : late ≡ old = at2.looks.same t2 ∙ at1.looks.same t1 in
     let kept : new.kept ≡ old.kept = at3.mail trusted ∙ ap (λ (m : Content). m.kept) same in
     let more = ap length (at3.reports trusted) ∙ length_push late.reports _ in
-    IsCounted-later c.args.setup.now old new c.next_is_ready.new.counts.items c.next_is_ready.new.orders.items (λ p some. ap (λ (k : Kept). get k p) kept)
+    IsCounted-later c.args.next.now.setup.now old new c.next_is_ready.new.counts.items c.next_is_ready.new.orders.items (λ p some. ap (λ (k : Kept). get k p) kept)
     (omega (arith, more, ap (λ (m : Content). length m.reports) same)) (at1.known t1)
 
 pub returns-in-Ok-clause-facts : goal.returns-in-Ok-clause-facts
 returns-in-Ok-clause-facts g c = λ trusted.
-    let setup = c.args.setup.now in
+    let setup = c.args.next.now.setup.now in
     let content = g.K.Keeper.content in
     let old : Content = content c.args.keeper.now in
     let mid : Content = content c.next_is_ready.new.keeper in
