@@ -1,6 +1,6 @@
 -- What is proposed.
 use Rattle.std.proofs.Common.{◌≡◌, ℕ, ◌+◌, Bool, true, ◌&&◌, List, [], ◌∷◌, Option, Some, None, length, ap, sym, subst, ◌∙◌, refl}
-use Rattle.std.specs.List.{list_all, list_any, range_with_len}
+use Rattle.std.specs.List.{list_all, list_any}
 use Rattle.jiff_core.specs.declared.civil.date.Date.{Date}
 use Rattle.testing_rules_items.specs.Words.{Text}
 use Rattle.testing_rules_model.specs.Covered.{Covered}
@@ -18,7 +18,7 @@ use Rattle.office_core_facts.specs.Seen.{AreTrialCovers, items_within, release}
 use Rattle.office_core_facts.specs.State.{IsOffice}
 use Rattle.office_core_outcome.specs.declared.TrialOptions.{TrialOptions}
 use Rattle.office_core_outcome.specs.declared.proposal.Proposal.{Proposal}
-use Rattle.office_core_outcome.specs.Hints.{first_refused, hint_letter, hint_letters, with_letters}
+use Rattle.office_core_outcome.specs.Hints.{first_refused, hint_letters, with_letters}
 use Rattle.office_core_outcome.specs.Proposal.{AreShownStuck, IsProposed, are_done, decisions_by, freed_by, is_done, tried_decisions}
 use Rattle.office_core_outcome.specs.Settled.{AreStuckOver, IsProposedOver, IsSettled}
 use Rattle.office_core_facts.specs.Outcome.{outcome}

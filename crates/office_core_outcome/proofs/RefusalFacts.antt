@@ -9,7 +9,7 @@ use Rattle.testing_rules_model.specs.Excuses.{excuses_of}
 use Rattle.testing_rules_model.specs.FactLists.{FactLists}
 use Rattle.testing_rules_model.specs.StandsFor.{StandsFor}
 use Rattle.testing_rules_model.specs.Suite.{Suite}
-use Rattle.testing_rules_model.specs.Unstable.{built_rows, unstable_builds}
+use Rattle.testing_rules_model.specs.Unstable.{built_rows}
 use Rattle.testing_rules_model.specs.Updates.{update_of}
 use Rattle.testing_rules_model.specs.declared.excuse.Excuse.{Excuse}
 use Rattle.testing_rules_model.specs.declared.update.Decision.{Decision}

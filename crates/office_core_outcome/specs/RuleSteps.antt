@@ -6,7 +6,6 @@ use Rattle.testing_rules_model.specs.Covered.{Covered}
 use Rattle.testing_rules_model.specs.Excuses.{excuses_of}
 use Rattle.testing_rules_model.specs.Suite.{Suite}
 use Rattle.testing_rules_model.specs.Updates.{IsUpdate}
-use Rattle.testing_rules_reports.specs.declared.telling.Decided.{Decided}
 use Rattle.office_mail.specs.Lists.{Lists}
 use Rattle.office_core_facts.specs.Outcome.{Outcome, outcome}
 use Rattle.office_core_outcome.specs.declared.deciding.ToldRun.{ToldRun}

@@ -1,4 +1,4 @@
-use Rattle.std.proofs.Common.{◌≡◌, ℕ, List, ap, ◌∙◌}
+use Rattle.std.proofs.Common.{ℕ, List, ap, ◌∙◌}
 use Rattle.testing_rules_laws.specs.Reports.{excuses_text, update_text}
 use Rattle.testing_rules_reports.specs.declared.telling.Decided.{Decided}
 use Rattle.office_core_outcome.proofs.RefusalFacts.{decided_is}

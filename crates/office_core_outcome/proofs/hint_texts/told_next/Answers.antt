@@ -1,4 +1,4 @@
-use Rattle.std.proofs.Common.{◌≡◌, ℕ, List, IfOk, length, subst}
+use Rattle.std.proofs.Common.{List, IfOk, length, subst}
 use Rattle.std.proofs.lemmas.Result.{IfOk-weaker}
 use Rattle.testing_rules_laws.specs.Covered.{Covered}
 use Rattle.testing_rules_laws.specs.StandsFor.{StandsFor}

@@ -1,5 +1,4 @@
-use Rattle.std.proofs.Common.{◌≡◌, ◌≤◌, ℕ, List, Option, Some, IfOk, IfSome, is_none, slice_index, length, sym, ap, subst, ◌∙◌}
-use Rattle.std.proofs.lemmas.Result.{IfOk-weaker}
+use Rattle.std.proofs.Common.{◌≡◌, ◌≤◌, ℕ, List, Option, Some, IfSome, is_none, slice_index, length, sym, ap, subst, ◌∙◌}
 use Rattle.jiff_core.specs.declared.civil.date.Date.{Date}
 use Rattle.office_mail.specs.Runs.{cover_of, latest_day, orders_to}
 use Rattle.office_store_keeper.specs.Content.{Content}

@@ -1,4 +1,4 @@
-use Rattle.std.proofs.Common.{◌≡◌, ◌+◌, ℕ, List, length, slice_index, refl, ap, subst, ◌∙◌, arith}
+use Rattle.std.proofs.Common.{◌≡◌, ℕ, List, length, slice_index, refl, ap, subst, ◌∙◌, arith}
 use Rattle.testing_rules_model.specs.declared.update.Decision.{Decision}
 use Rattle.office_store_keeper.specs.Content.{Content}
 use Rattle.office_core_orders.proofs.ReadyCount.{ready_bound}
