@@ -60,6 +60,7 @@ try replay_trials count_trials
 try moves_chain move_chain
 try limit env ROUNDS=1 "$bench/limit/run.sh" "$office" runs:20 both:20 nine:20 sixteen:20 "$packages"
 try asking env ROUNDS=1 python3 "$bench/asking/run.py" "$office" one:20
+try asking_chain env ROUNDS=1 python3 "$bench/asking/chain.py" "$office" 20
 try asking_mail env ROUNDS=1 python3 "$bench/asking/over_mail.py" "$office" 100
 try reopen env ROUNDS=1 python3 "$bench/reopen/run.py" "$office" one:20
 try from_packages env ROUNDS=1 /usr/bin/python3 "$bench/tools/from_packages.py" 200
