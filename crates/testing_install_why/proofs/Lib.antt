@@ -4,6 +4,7 @@ pub mod Following
 pub mod Rounds
 pub mod Reading
 pub mod Picking
+pub mod MarkedSteps
 pub mod Naming
 pub mod Reaching
 pub mod Showing

@@ -1,18 +1,15 @@
-use Rattle.std.proofs.Common.{◌≡◌, ℕ, ◌+◌, ◌<◌, ◌≤◌, Bool, true, false, List, [], ◌∷◌, ◌++◌, length, set, Some, sym, refl, ap, ◌∙◌, subst, inl, inr, arith}
+use Rattle.std.proofs.Common.{◌≡◌, ℕ, ◌+◌, ◌<◌, ◌≤◌, Bool, true, false, List, [], ◌∷◌, ◌++◌, length, set, Some, sym, ap, ◌∙◌, subst, inl, inr, arith}
 use Rattle.std.specs.List.{slice_get}
 use Rattle.std.proofs.lemmas.Option.{slice_get_within, same_Some}
-use Rattle.std.proofs.lemmas.Bool.{cases_lt, cases_eq, false≢true}
-use Rattle.std.proofs.lemmas.List.{length-set, length-append, get_or-set_same, get_or-set_other}
+use Rattle.std.proofs.lemmas.Bool.{cases_lt, false≢true}
+use Rattle.std.proofs.lemmas.List.{length-set, length-append, get_or-set_same}
 use Rattle.deb_control.specs.declared.binary.Binary.{Binary}
-use Rattle.deb_control.specs.declared.relation.Clause.{Clause}
 use Rattle.testing_install.specs.Closed.{marked}
-use Rattle.testing_install.specs.Satisfies.{meets}
 use Rattle.testing_install_why.specs.declared.Step.{Step}
 use Rattle.testing_install_why.specs.Order.{IsNamed, Falls, IsGroundless}
 use Rattle.testing_install_why.specs.Certificate.{IsCertificate}
 use Rattle.testing_install_why.specs.Needed.{IsMarkedFor, IsNeeded}
 use Rattle.testing_install_why.specs.Bearers.{IsBearer}
-use Rattle.testing_install_why.specs.Steps.{IsClauseOf}
 use Rattle.testing_install_why.proofs.Taking.{at_end, at_either, named_more}
 
 -- one step more of which each bearer stands in the list
@@ -76,63 +73,6 @@ pick_all rows order needed last steps s need at p step at_step =
       ends = ap (λ x. steps ++ x ∷ []) same;
       groundless = (pick_more rows order needed last last steps s need (omega arith) at need.ends p).groundless;
     }
-
--- what holds while bearers are marked
-pub record IsMarkedBelow (rows : List Binary) (order : List Step) (old new : List Bool) (number n : ℕ) (clause : Clause) : Type 0 where
-  pub long : length new ≡ length old
-  pub grown : (m : ℕ) → marked old m ≡ true → marked new m ≡ true
-  pub above : (m : ℕ) → number ≤ m → marked new m ≡ marked old m
-  pub done : (m : ℕ) → m < n → IsBearer rows order number clause m → marked new m ≡ true
-
-pub mark_none : (rows : List Binary) (order : List Step) (old : List Bool) (number : ℕ) (clause : Clause) → IsMarkedBelow rows order old old number 0 clause
-mark_none rows order old number clause = record { long = refl; grown = λ m on. on; above = λ m h. refl; done = λ m h. absurd (omega (arith, h)) }
-
-pub mark_more : (rows : List Binary) (order : List Step) (old new : List Bool) (number n : ℕ) (clause : Clause) → n < number → n < length new → IsMarkedBelow rows order old new number n clause → IsMarkedBelow rows order old (set new n true) number (n + 1) clause
-mark_more rows order old new number n clause h within p =
-    let grows : (m : ℕ) → marked new m ≡ true → marked (set new n true) m ≡ true = (λ m on. elim (cases_eq m n) [
-      | inl e ↦ ap (marked (set new n true)) e ∙ get_or-set_same new n true false within
-      | inr d ↦ get_or-set_other new n m true false d ∙ on
-    ]) in
-    record {
-      long = length-set new n true ∙ p.long;
-      grown = λ m on. grows m (p.grown m on);
-      above = λ m l. get_or-set_other new n m true false (λ e. absurd (omega (arith, e, l, h))) ∙ p.above m l;
-      done = λ m l b. elim (cases_lt m n) [
-        | inl less ↦ grows m (p.done m less b)
-        | inr g ↦ (let same : m ≡ n = omega (arith, l, g) in ap (marked (set new n true)) same ∙ get_or-set_same new n true false within)
-      ];
-    }
-
-pub mark_out : (rows : List Binary) (order : List Step) (old new : List Bool) (number n : ℕ) (clause : Clause) (step : Step) (row : Binary) → slice_get order n ≡ Some step → slice_get rows step.place ≡ Some row → meets row clause ≡ false → IsMarkedBelow rows order old new number n clause → IsMarkedBelow rows order old new number (n + 1) clause
-mark_out rows order old new number n clause step row at stands misses p = record {
-  long = p.long;
-  grown = p.grown;
-  above = p.above;
-  done = λ m l b. elim (cases_lt m n) [
-    | inl less ↦ p.done m less b
-    | inr g ↦ (
-        let same : m ≡ n = omega (arith, l, g) in
-        let s : b.step ≡ step = same_Some b.step step (sym b.is ∙ ap (slice_get order) same ∙ at) in
-        let r : b.row ≡ row = same_Some b.row row (sym b.stands ∙ ap (λ (t : Step). slice_get rows t.place) s ∙ stands) in
-        absurd (false≢true (sym misses ∙ ap (λ (x : Binary). meets x clause) (sym r) ∙ b.does)))
-  ];
-}
-
--- a step has one clause
-same_clause : (rows : List Binary) (s t : Step) (c d : Clause) → s ≡ t → IsClauseOf rows s c → IsClauseOf rows t d → c ≡ d
-same_clause rows s t c d e i j =
-    let row : i.row ≡ j.row = same_Some i.row j.row (sym i.stands ∙ ap (λ (x : Step). slice_get rows x.place) e ∙ j.stands) in
-    same_Some c d (sym i.needs ∙ ap (λ (r : Binary). slice_get r.clauses s.need) row ∙ ap (λ (x : Step). slice_get j.row.clauses x.need) e ∙ j.needs)
-
-pub mark_all : (rows : List Binary) (order : List Step) (old new : List Bool) (number n : ℕ) (clause : Clause) (step : Step) → slice_get order number ≡ Some step → IsClauseOf rows step clause → number ≤ n → IsMarkedBelow rows order old new number n clause → IsMarkedFor rows order old new number
-mark_all rows order old new number n clause step at of h p = record {
-  long = p.long;
-  grown = p.grown;
-  above = p.above;
-  done = λ s c m at_s of_s b.
-      let one : c ≡ clause = same_clause rows s step c clause (same_Some s step (sym at_s ∙ at)) of_s of in
-      p.done m (omega (arith, b.earlier, h)) (subst (λ x. IsBearer rows order number x m) one b);
-}
 
 -- what holds while needs are followed
 

@@ -1,13 +1,26 @@
 -- Steps: no contract of a call that users make rests on this file.
 -- Which steps of an order one step needs.
-use Rattle.std.specs.Prelude.{◌≡◌, ℕ, ◌≤◌, Bool, true, List, length, Some}
+use Rattle.std.specs.Prelude.{◌≡◌, ℕ, ◌≤◌, Bool, true, List, length, Some, Contains}
 use Rattle.std.specs.List.{slice_get}
 use Rattle.deb_control.specs.declared.binary.Binary.{Binary}
 use Rattle.deb_control.specs.declared.relation.Clause.{Clause}
 use Rattle.testing_install.specs.Closed.{marked}
+use Rattle.testing_install.specs.Index.{PlacesByName, bears, places_at}
 use Rattle.testing_install_why.specs.declared.Step.{Step}
 use Rattle.testing_install_why.specs.Bearers.{IsBearer}
 use Rattle.testing_install_why.specs.Steps.{IsClauseOf}
+
+-- each step whose row bears a name is among those at the name, by its number
+pub record IsStepIndex (rows : List Binary) (order : List Step) (noted : PlacesByName) : Type 0 where
+  pub complete : (name : List ℕ) (n : ℕ) (step : Step) (row : Binary) → slice_get order n ≡ Some step → slice_get rows step.place ≡ Some row → bears row name ≡ true
+      → Contains (places_at noted name) n
+
+-- the earlier steps of a kind whose rows meet the clause are marked too, and no later mark is new
+pub record IsMarkedWhere (rows : List Binary) (order : List Step) (old new : List Bool) (number : ℕ) (clause : Clause) (kind : ℕ → Type 0) : Type 0 where
+  pub long : length new ≡ length old
+  pub grown : (n : ℕ) → marked old n ≡ true → marked new n ≡ true
+  pub above : (n : ℕ) → number ≤ n → marked new n ≡ marked old n
+  pub done : (m : ℕ) → kind m → IsBearer rows order number clause m → marked new m ≡ true
 
 -- the earlier steps whose rows meet the clause of this one are marked too, and no other mark is new
 pub record IsMarkedFor (rows : List Binary) (order : List Step) (old new : List Bool) (number : ℕ) : Type 0 where

@@ -1,30 +1,85 @@
-ghost use Rattle.std.specs.Prelude.{◌≡◌, ◌<◌, List, length, Some, IfOk};
+ghost use Rattle.std.specs.Prelude.{◌≡◌, ◌<◌, true, false, List, length, Some, IfOk, Contains};
 ghost use Rattle.std.specs.List.{slice_get};
 ghost use Rattle.deb_control.specs.declared.binary.Binary.{Binary};
+ghost use Rattle.testing_install_why.specs.Bearers.{IsBearer};
 ghost use Rattle.testing_install_why.specs.Certificate.{IsCertificate};
-ghost use Rattle.testing_install_why.specs.Needed.{IsMarkedFor, IsNeeded};
+ghost use Rattle.testing_install_why.specs.Needed.{IsMarkedFor, IsMarkedWhere, IsNeeded, IsStepIndex};
 ghost use Rattle.testing_install_why.specs.Steps.{AreSteps};
 ghost use Rattle.testing_install_why.specs.declared.Step.{Step as TheStep};
 
 use crate::Step;
 use crate::chain::{clause_of, row_of};
+use deb_control::Clause;
 use deb_version::NoMemory;
 use std::alloc::Global;
-use testing_install::{Suite, meets};
+use testing_install::{NameIndex, Suite, meets, note_row};
 
-// Marks the steps before this one whose rows meet its clause.
-fn mark_bearers(suite: &Suite, order: &[Step], needed: &mut [bool], number: usize)
+// The numbers of the steps at each name that their rows bear.
+fn noted_steps(alloc: Global, suite: &Suite, order: &[Step]) -> Result<NameIndex, NoMemory>
+    requires { AreSteps suite.now.rows order.now }
+    ensures { IfOk result (λ noted. IsStepIndex suite.now.rows order.now noted) }
+{
+    let mut noted = NameIndex::new(alloc);
+    for number in 0..order.len() {
+        let step = order[number];
+        note_row(alloc, &mut noted, row_of(suite, step), number)?;
+    }
+    Ok(noted)
+}
+
+// The step with the first number stands before the one with the second, and its row meets the clause.
+fn is_bearer(suite: &Suite, order: &[Step], clause: &Clause, earlier: usize, number: usize) -> bool
     requires number { number < length order.now }
     requires steps { AreSteps suite.now.rows order.now }
+    ensures below { result ≡ true → earlier < number }
+    ensures misses { result ≡ false → IsBearer suite.now.rows order.now number clause.now earlier → ⊥ }
+{
+    if earlier >= number {
+        return false;
+    }
+    let step = order[earlier];
+    meets(row_of(suite, step), clause)
+}
+
+// Marks those of the steps with these numbers that stand before this one and whose rows meet the clause.
+fn mark_among(
+    suite: &Suite,
+    order: &[Step],
+    clause: &Clause,
+    numbers: &[usize],
+    needed: &mut [bool],
+    number: usize,
+)
+    requires number { number < length order.now }
+    requires steps { AreSteps suite.now.rows order.now }
+    requires long { length needed.old ≡ length order.now }
+    ensures { IsMarkedWhere suite.now.rows order.now needed.old needed.new number clause.now (λ m. Contains numbers.now m) }
+{
+    for earlier in numbers {
+        if is_bearer(suite, order, clause, *earlier, number) {
+            needed[*earlier] = true;
+        }
+    }
+}
+
+// Marks the steps before this one whose rows meet its clause. They stand at the names of its alternatives.
+fn mark_bearers(
+    suite: &Suite,
+    order: &[Step],
+    noted: &NameIndex,
+    needed: &mut [bool],
+    number: usize,
+)
+    requires number { number < length order.now }
+    requires steps { AreSteps suite.now.rows order.now }
+    requires noted { IsStepIndex suite.now.rows order.now noted.now }
     requires long { length needed.old ≡ length order.now }
     ensures { IsMarkedFor suite.now.rows order.now needed.old needed.new number }
 {
     let clause = clause_of(suite, order[number]);
-    for earlier in 0..number {
-        let step = order[earlier];
-        if meets(row_of(suite, step), clause) {
-            needed[earlier] = true;
-        }
+    for alternative in clause.as_slice() {
+        let numbers = noted.places(alternative.name.as_str());
+        mark_among(suite, order, clause, numbers, needed, number);
     }
 }
 
@@ -39,13 +94,14 @@ fn needed_by(
     requires steps { AreSteps suite.now.rows order.now }
     ensures { IfOk result (λ needed. IsNeeded suite.now.rows order.now needed.items last 0) }
 {
+    let noted = noted_steps(alloc, suite, order)?;
     let mut needed = vec![in alloc; false; order.len()]?;
     needed[last] = true;
     let mut number = last + 1;
     while number > 0 {
         number -= 1;
         if needed[number] {
-            mark_bearers(suite, order, &mut needed, number);
+            mark_bearers(suite, order, &noted, &mut needed, number);
         }
     }
     Ok(needed)

@@ -1,5 +1,7 @@
-use Rattle.testing_install_why.proofs.Picking.{IsMarkedBelow}
+use Rattle.testing_install_why.specs.Needed.{IsMarkedWhere}
+use Rattle.testing_install_why.proofs.MarkedSteps.{IsNamedTo}
 use Rattle.testing_install_why.proofs.needed.mark_bearers.Given as goal
 
-abbrev pub invariant-loop-earlier : goal.invariant-loop-earlier
-invariant-loop-earlier l = IsMarkedBelow l.suite.rows l.order l.initial.needed l.needed l.number l.earlier l.clause
+-- what is marked so far
+abbrev pub invariant-loop-alternative : goal.invariant-loop-alternative
+invariant-loop-alternative l = IsMarkedWhere l.suite.rows l.order l.initial.needed l.needed l.number l.clause (IsNamedTo l.noted l.clause l.alternative-index)
