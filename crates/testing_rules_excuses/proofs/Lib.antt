@@ -1,3 +1,4 @@
+pub mod BugSearch
 pub mod Grounds
 pub mod HintGroups
 pub mod LentGroups

@@ -1,12 +1,18 @@
 -- Steps: no contract of a call that users make rests on this file.
 -- What the lines of a source are told from, as the code has it.
-use Rattle.std.specs.Prelude.{Option}
+use Rattle.std.specs.Prelude.{◌≡◌, true, Option}
 use Rattle.testing_rules_items.specs.Words.{Text}
 use Rattle.testing_rules_model.specs.declared.excuse.Excuse.{Excuse}
 use Rattle.testing_rules_model.specs.declared.excuse.Reason.{Reason}
+use Rattle.testing_rules_model.specs.Boxed.{unboxed}
+use Rattle.testing_rules_model.specs.FactOrder.{AreByNumber}
 use Rattle.testing_rules_excuses.specs.declared.telling.LineInput.{LineInput}
 use Rattle.testing_rules_excuses.specs.Lines.{reason_text, excuse_lines, origin_text}
 use Rattle.testing_rules_excuses.specs.Said.{said_lists}
+
+-- if the bugs are said to be in order, they stand by their numbers
+abbrev pub IsOrderKnown : LineInput → Type 0
+IsOrderKnown a = a.ordered ≡ true → AreByNumber (unboxed a.said.now.bugs.now)
 
 -- the lines on a reason
 abbrev pub reason_told : LineInput → Reason → Text

@@ -2,6 +2,7 @@
 //! a row of unstable.
 #![tactic(auto)]
 
+mod bug_search;
 mod by_source;
 mod days;
 mod excusing;

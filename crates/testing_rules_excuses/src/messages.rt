@@ -1,12 +1,14 @@
 //! Which messages gave a reason that keeps a source out.
 
-ghost use Rattle.std.specs.Prelude.{◌≡◌, ◌==◌, ◌&&◌, ◌++◌, IfOk, OnOk, map, option_copied};
+ghost use Rattle.std.specs.Prelude.{◌≡◌, ◌==◌, ◌&&◌, ◌++◌, true, IfOk, OnOk, map, option_copied};
 ghost use Rattle.testing_rules_model.specs.Boxed.{unboxed};
+ghost use Rattle.testing_rules_model.specs.FactOrder.{AreByNumber};
 ghost use Rattle.testing_rules_model.specs.JudgedRows.{lent, row_of};
 ghost use Rattle.testing_rules_excuses.specs.Origins as rules;
 ghost use Rattle.testing_rules_excuses.specs.Origins.{origin_of};
 ghost use Rattle.testing_rules_excuses.specs.Said.{said_lists};
 
+use crate::bug_search::bug_at;
 use crate::days::asked_days;
 use crate::reasons::{blocks, removes};
 use crate::saying::SourceFacts;
@@ -31,6 +33,21 @@ pub enum Origin<'g, 'a> {
     Removal(&'g HintIn),
 }
 
+/// The one bug of the number joins. It is searched, since a source may have a reason for each of thousands of bugs.
+fn push_bug<'a>(
+    origins: &mut Vec<Origin<'_, 'a>>,
+    bugs: &'a [Box<BugIn>],
+    number: u32,
+) -> Result<(), AllocError>
+    requires { AreByNumber (unboxed bugs.now) }
+    ensures { OnOk result (map origin_of origins.new.items ≡ map origin_of origins.old.items ++ rules.from_bugs number (unboxed bugs.now)) }
+{
+    if let Some(bug) = bug_at(bugs, number) {
+        origins.push(Origin::Bug(bug))?;
+    }
+    Ok(())
+}
+
 fn push_bugs<'a>(
     origins: &mut Vec<Origin<'_, 'a>>,
     bugs: &'a [Box<BugIn>],
@@ -45,6 +62,23 @@ fn push_bugs<'a>(
         }
     }
     Ok(())
+}
+
+/// The bugs of the number join. If they are said to be in order, they are.
+fn push_by_number<'a>(
+    origins: &mut Vec<Origin<'_, 'a>>,
+    bugs: &'a [Box<BugIn>],
+    ordered: bool,
+    number: u32,
+) -> Result<(), AllocError>
+    requires { ordered ≡ true → AreByNumber (unboxed bugs.now) }
+    ensures { OnOk result (map origin_of origins.new.items ≡ map origin_of origins.old.items ++ rules.from_bugs number (unboxed bugs.now)) }
+{
+    if ordered {
+        push_bug(origins, bugs, number)
+    } else {
+        push_bugs(origins, bugs, number)
+    }
 }
 
 /// The row is of the architecture and names the source.
@@ -116,18 +150,37 @@ fn push_removals<'g>(
 fn push_origins<'g, 'a>(
     origins: &mut Vec<Origin<'g, 'a>>,
     said: &'g SourceFacts<'a>,
+    ordered: bool,
     upload: &UploadIn,
     reason: Reason,
 ) -> Result<(), AllocError>
+    requires { ordered ≡ true → AreByNumber (unboxed said.now.bugs.now) }
     ensures { OnOk result (map origin_of origins.new.items ≡ map origin_of origins.old.items ++ rules.origins_of (said_lists said.now) upload.now reason) }
 {
     match reason {
-        Reason::NewBug(number) => push_bugs(origins, said.bugs, number),
+        Reason::NewBug(number) => push_by_number(origins, said.bugs, ordered, number),
         Reason::MissingOn(arch) => push_rows(origins, &said.rows, upload, arch),
         Reason::Blocked => push_blocks(origins, &said.hints, upload),
         Reason::RemovalAsked => push_removals(origins, &said.hints, upload, said.testing),
         Reason::TooYoung | Reason::NoBinaries => Ok(()),
     }
+}
+
+/// The messages that gave the reason, in the order of the facts. If the bugs are known to stand by their numbers, the
+/// one of a number is searched by halves. The one error is want of memory.
+pub fn origins_by<'g, 'a>(
+    alloc: Global,
+    said: &'g SourceFacts<'a>,
+    ordered: bool,
+    upload: &UploadIn,
+    reason: Reason,
+) -> Result<Vec<Origin<'g, 'a>>, NoMemory>
+    requires { ordered ≡ true → AreByNumber (unboxed said.now.bugs.now) }
+    ensures { IfOk result (λ origins. map origin_of origins.items ≡ rules.origins_of (said_lists said.now) upload.now reason) }
+{
+    let mut origins = Vec::new(alloc);
+    push_origins(&mut origins, said, ordered, upload, reason)?;
+    Ok(origins)
 }
 
 /// The messages that gave the reason, in the order of the facts. None gave `TooYoung` and `NoBinaries`. The one error is
@@ -140,9 +193,7 @@ pub fn origins<'g, 'a>(
 ) -> Result<Vec<Origin<'g, 'a>>, NoMemory>
     ensures { IfOk result (λ origins. map origin_of origins.items ≡ rules.origins_of (said_lists said.now) upload.now reason) }
 {
-    let mut origins = Vec::new(alloc);
-    push_origins(&mut origins, said, upload, reason)?;
-    Ok(origins)
+    origins_by(alloc, said, false, upload, reason)
 }
 
 /// The hint asks days for the source at its unstable version.

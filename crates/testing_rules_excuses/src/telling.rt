@@ -9,8 +9,10 @@ ghost use Rattle.testing_rules_excuses.specs.Origins as rules;
 ghost use Rattle.testing_rules_excuses.specs.Origins.{origin_of};
 ghost use Rattle.testing_rules_excuses.specs.Said.{said_lists};
 ghost use Rattle.testing_rules_excuses.specs.Telling as told;
+ghost use Rattle.testing_rules_excuses.specs.Telling.{IsOrderKnown};
 
-use crate::messages::{Origin, age_hint, origins};
+use crate::bug_search::are_by_number;
+use crate::messages::{Origin, age_hint, origins_by};
 use crate::readiness::ready_day;
 use crate::saying::SourceFacts;
 use deb_control::Text;
@@ -21,12 +23,14 @@ use std::alloc::{AllocError, Global};
 use testing_rules_items::Archs;
 use testing_rules_model::{BugIn, Excuse, HintIn, LentRow, Reason, UploadIn};
 
-/// A source, what is said of it, the day on which it is old enough, and the names that its lines are told with.
+/// A source, what is said of it, the day on which it is old enough, and the names that its lines are told with. The bugs
+/// may be known to stand by their numbers.
 #[derive(Clone, Copy)]
 struct LineInput<'t, 'a> {
     senders: &'t [Text],
     archs: &'t Archs,
     said: &'t SourceFacts<'a>,
+    ordered: bool,
     upload: &'t UploadIn,
     ready: Option<Date>,
 }
@@ -185,10 +189,11 @@ fn push_messages(
     asked: &LineInput,
     reason: Reason,
 ) -> Result<(), NoMemory>
+    requires { IsOrderKnown asked.now }
     ensures { OnOk result (string_bytes text.new ≡ string_bytes text.old
         ++ flat_map (lines.origin_line asked.now.senders.now asked.now.archs.now) (rules.origins_of (said_lists asked.now.said.now) asked.now.upload.now reason)) }
 {
-    let given = origins(alloc, asked.said, asked.upload, reason)?;
+    let given = origins_by(alloc, asked.said, asked.ordered, asked.upload, reason)?;
     Ok(push_origins(text, asked.senders, asked.archs, &given)?)
 }
 
@@ -206,6 +211,7 @@ fn push_reason(
     asked: &LineInput,
     reason: Reason,
 ) -> Result<(), NoMemory>
+    requires { IsOrderKnown asked.now }
     ensures { OnOk result (string_bytes text.new ≡ string_bytes text.old ++ told.reason_told asked.now reason) }
 {
     if is_too_young(reason) {
@@ -222,6 +228,7 @@ fn push_reasons(
     asked: &LineInput,
     reasons: &[Reason],
 ) -> Result<(), NoMemory>
+    requires { IsOrderKnown asked.now }
     ensures { OnOk result (string_bytes text.new ≡ string_bytes text.old ++ flat_map (told.reason_told asked.now) reasons.now) }
 {
     for reason in reasons {
@@ -237,6 +244,7 @@ fn push_excuse(
     asked: &LineInput,
     excuse: Option<&Excuse>,
 ) -> Result<(), NoMemory>
+    requires { IsOrderKnown asked.now }
     ensures { OnOk result (string_bytes text.new ≡ string_bytes text.old ++ told.excuse_told asked.now (option_copied excuse.entry)) }
 {
     match excuse {
@@ -247,6 +255,7 @@ fn push_excuse(
 
 /// All lines of the source.
 fn source_lines(alloc: Global, asked: &LineInput, excuse: Option<&Excuse>) -> Result<Text, NoMemory>
+    requires { IsOrderKnown asked.now }
     ensures { IfOk result (λ text. text ≡ told.source_told asked.now (option_copied excuse.entry)) }
 {
     let mut text = String::new(alloc);
@@ -269,10 +278,12 @@ pub fn origin_lines(
     ensures { IfOk result (λ text. IsOriginText senders.now archs.now (said_lists said.now) upload.now (option_copied excuse.entry) text) }
 {
     let ready = ready_day(upload, excuse);
+    let ordered = are_by_number(said.bugs);
     let asked = LineInput {
         senders,
         archs,
         said,
+        ordered,
         upload,
         ready,
     };
