@@ -9,3 +9,4 @@ pub mod Naming
 pub mod Reaching
 pub mod Showing
 pub mod Checked
+pub mod CheckedByNames

@@ -6,7 +6,6 @@ use Rattle.std.proofs.lemmas.Option.{slice_get_within, slice_get-get_or, same_So
 use Rattle.deb_control.specs.declared.binary.Binary.{Binary}
 use Rattle.deb_control.specs.declared.relation.Alternative.{Alternative}
 use Rattle.deb_control.specs.declared.relation.Clause.{Clause}
-use Rattle.testing_install.specs.Closed.{marked}
 use Rattle.testing_install.specs.Index.{PlacesByName, bears, places_at}
 use Rattle.testing_install.specs.Satisfies.{satisfies}
 use Rattle.testing_install.proofs.Finding.{any_at, satisfies_bears}
@@ -55,7 +54,7 @@ bearer_is_named rows order noted number clause n m index h b =
     }
 
 -- a step has one clause
-same_clause : (rows : List Binary) (s t : Step) (c d : Clause) → s ≡ t → IsClauseOf rows s c → IsClauseOf rows t d → c ≡ d
+pub same_clause : (rows : List Binary) (s t : Step) (c d : Clause) → s ≡ t → IsClauseOf rows s c → IsClauseOf rows t d → c ≡ d
 same_clause rows s t c d e i j =
     let row : i.row ≡ j.row = same_Some i.row j.row (sym i.stands ∙ ap (λ (x : Step). slice_get rows x.place) e ∙ j.stands) in
     same_Some c d (sym i.needs ∙ ap (λ (r : Binary). slice_get r.clauses s.need) row ∙ ap (λ (x : Step). slice_get j.row.clauses x.need) e ∙ j.needs)

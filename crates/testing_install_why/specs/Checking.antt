@@ -1,9 +1,11 @@
 -- Steps: no contract of a call that users make rests on this file.
 -- What is read off rows and steps, where all rows are there.
-use Rattle.std.specs.Prelude.{◌≡◌, ℕ, ◌<◌, true, List, [], ◌∷◌, ◌++◌, length, Some}
+use Rattle.std.specs.Prelude.{◌≡◌, ℕ, ◌<◌, true, List, [], ◌∷◌, ◌++◌, length, Some, Contains}
 use Rattle.std.specs.List.{slice_get}
 use Rattle.deb_control.specs.declared.binary.Binary.{Binary}
 use Rattle.deb_control.specs.declared.relation.Clause.{Clause}
+use Rattle.testing_install.specs.Index.{PlacesByName, places_at}
+use Rattle.testing_install.specs.Needers.{names}
 use Rattle.testing_install.specs.Satisfies.{meets}
 use Rattle.testing_install_why.specs.declared.Step.{Step}
 use Rattle.testing_install_why.specs.Order.{IsNamed}
@@ -31,3 +33,7 @@ pub record EndsAt (steps : List Step) (place : ℕ) : Type 0 where
   pub last : Step
   pub ends : steps ≡ front ++ last ∷ []
   pub same : last.place ≡ place
+
+-- each step whose clause has a name is among those at the name, by its number
+pub record IsClauseIndex (rows : List Binary) (steps : List Step) (noted : PlacesByName) : Type 0 where
+  pub complete : (name : List ℕ) (n : ℕ) (step : Step) (clause : Clause) → slice_get steps n ≡ Some step → IsClauseOf rows step clause → names clause name ≡ true → Contains (places_at noted name) n

@@ -15,7 +15,7 @@ use deb_control::{Binary, Clause};
 use testing_install::{Row, meets};
 
 // The clause of a step, where there is one.
-fn clause_at<'a>(rows: &[Row<'a>], step: Step) -> Option<&'a Clause>
+pub(crate) fn clause_at<'a>(rows: &[Row<'a>], step: Step) -> Option<&'a Clause>
     ensures clause { IfSome result (λ clause. IsClauseOf (binaries rows.now) step clause.now) }
     ensures step { IfSome result (λ clause. IsStep (binaries rows.now) step) }
 {
@@ -36,7 +36,7 @@ fn is_step(rows: &[Row<'_>], step: Step) -> bool
 }
 
 // Each step has its row and its clause.
-fn are_steps(rows: &[Row<'_>], steps: &[Step]) -> bool
+pub(crate) fn are_steps(rows: &[Row<'_>], steps: &[Step]) -> bool
     ensures { result ≡ true → AreSteps (binaries rows.now) steps.now }
 {
     for number in 0..steps.len() {
@@ -110,7 +110,7 @@ fn is_placed(rows: &[Row<'_>], steps: &[Step]) -> bool
 }
 
 // The last step has the row at the place.
-fn ends_at(steps: &[Step], place: usize) -> bool
+pub(crate) fn ends_at(steps: &[Step], place: usize) -> bool
     ensures { result ≡ true → EndsAt steps.now place }
 {
     match steps.last() {

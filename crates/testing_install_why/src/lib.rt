@@ -5,6 +5,7 @@
 //! that are refuted already meet a later one. One checks it line by line, and needs to know nothing else.
 #![tactic(auto)]
 
+mod by_names;
 mod chain;
 mod checking;
 pub mod laws;
@@ -13,6 +14,7 @@ mod order;
 mod reached;
 mod shown;
 
+pub use by_names::is_shown_by_names;
 pub use chain::{chain_from, clause_of, row_of};
 pub use checking::is_shown;
 pub use needed::certificate_of;
