@@ -14,7 +14,7 @@ use crate::refusal::Refusal;
 use deb_version::NoMemory;
 use std::alloc::{AllocError, Global};
 use testing_install::Row;
-use testing_install_why::{Step, certificate, is_shown};
+use testing_install_why::{Step, certificate, is_shown_by_names};
 use testing_rules_live::rows_on;
 use testing_rules_model::{LentRow, Offender};
 
@@ -115,15 +115,15 @@ pub(crate) fn steps_for(
 {
     let list = packages_of(alloc, rows)?;
     let steps = steps_to(alloc, rows, &list, place)?;
-    if !is_shown(&list, &steps, place) {
+    if !is_shown_by_names(alloc, &list, &steps, place)? {
         return Ok(None);
     }
     Ok(Some(steps))
 }
 
 /// What shows that an offender's row isn't installable after a change, where it is the only one of its name on its
-/// architecture, and where steps are found. It costs a look at each row there for each step, and what the rows cost that
-/// clauses reach from it. The one error is want of memory.
+/// architecture, and where steps are found. It costs a few passes over the rows there and the steps, a look at each step
+/// that has a name which a row bears, and what the rows cost that clauses reach from it. The one error is want of memory.
 pub fn shown_of<'a>(
     alloc: Global,
     new: &[LentRow<'a>],
