@@ -62,7 +62,7 @@ _office() {
             _office_words "$(_office_options --conf --db)" "$current"
             ;;
         runs | hints | export | check) _office_words "$(_office_options --conf --db)" "$current" ;;
-        why) _office_words "$(_office_options --conf --db --run)" "$current" ;;
+        why) _office_words "$(_office_options --conf --db --run --hint)" "$current" ;;
         try | propose) _office_words "$(_office_options --conf --db --day --all)" "$current" ;;
         order) _office_words "$(_office_options --day --conf --db)" "$current" ;;
         lint) _office_words "$(_office_options --conf)" "$current" ;;
