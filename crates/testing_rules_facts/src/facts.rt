@@ -3,7 +3,7 @@
 ghost use Rattle.std.specs.Prelude.{◌≡◌, ◌==◌, ◌∷◌, ℕ, [], Some, Contains, IfOk, OnOk, OnErr, find, length, ◌≤◌, vec_len, vec_capacity};
 ghost use Rattle.testing_rules_model.specs.Boxed.{unboxed};
 ghost use Rattle.testing_rules_model.specs.Covered.{Covered, CoveredItem, upload_of, drop_of, bug_of, hint_of, unhint_of, delays_of, builds_of};
-ghost use Rattle.testing_rules_facts.specs.Entries.{with_entry, noted};
+ghost use Rattle.testing_rules_facts.specs.Entries.{entry_of, with_entry, noted};
 ghost use Rattle.testing_rules_facts.specs.Restored.{said, put_given, last_given, restored};
 ghost use Rattle.testing_rules_facts.specs.ElementShifts.{shift_builds};
 ghost use Rattle.testing_rules_fact_order.specs.Uploads.{AreByMessage, with_kept};
@@ -22,6 +22,7 @@ ghost use Rattle.testing_rules_model.specs.declared.facts.UploadIn.{UploadIn as 
 
 use crate::build_blocks::BuildBlocks;
 use crate::copying::{copy_all, copy_boxed, copy_log, copy_said};
+use crate::shared_clauses::LastClauses;
 use crate::shifts::{hint_left, last_row, unhint_left};
 use crate::taken::{put_bug, put_drop, put_hint, put_kept, put_unhint, put_upload};
 use deb_version::NoMemory;
@@ -49,6 +50,7 @@ pub struct Facts {
     unhints: Vec<UnhintIn>,
     delays: Option<DelaysIn>,
     log: Log,
+    clauses: LastClauses,
 }
 
 impl Drop for Facts {
@@ -64,6 +66,7 @@ impl Drop for Facts {
             unhints: _,
             delays: _,
             log: _,
+            clauses: _,
         } = self;
     }
 }
@@ -152,6 +155,7 @@ impl Facts {
             unhints: Vec::new(alloc),
             delays: None,
             log,
+            clauses: LastClauses::new(alloc),
         }
     }
 
@@ -181,6 +185,7 @@ impl Facts {
             unhints: said.unhints,
             delays: self.delays,
             log,
+            clauses: LastClauses::new(self.alloc),
         })
     }
 
@@ -296,14 +301,23 @@ impl Facts {
         ensures moved { OnOk result ((count : ARow → ℕ) → IsChangedFrom count self.old → IsChangedFrom count self.new) }
         ensures err { OnErr result (self.new ≡ self.old) }
     {
+        let entry = self.entry(sender, number, item)?;
+        self.put(entry)?;
+        Ok(())
+    }
+
+    /// What a message gives. Of what was built the clauses are shared with those that came before.
+    fn entry(&mut self, sender: u32, number: u32, item: Item) -> Result<FactUpdate, NoMemory>
+        ensures same { self.new ≡ self.old }
+        ensures is { IfOk result (λ e. let m : CoveredItem = record { sender = sender; number = number; item = item } in e ≡ entry_of m) }
+    {
+        let item = self.clauses.shared(item)?;
         let sent = Sent {
             alloc: self.alloc,
             sender,
             number,
         };
-        let entry = entry_of(sent, item)?;
-        self.put(entry)?;
-        Ok(())
+        entry_of(sent, item)
     }
 
     /// A message joins the lists of its kind.

@@ -7,6 +7,7 @@ mod built;
 mod copying;
 mod facts;
 mod moves;
+mod shared_clauses;
 mod shifts;
 mod source_filter;
 mod taken;

@@ -15,12 +15,12 @@ returns-clause-ok c = λ s t h.
     let k = c.args.number in
     let i = c.args.item in
     let old = c.args.self.now in
-    let became = c.in_ok-put.ensures.ok ∙ ap (λ e. with_entry e old) c.in_ok-entry.ensures in
+    let became = c.in_ok-put.ensures.ok ∙ ap (with_entry c.in_ok-entry.entry) c.entry.ensures.same ∙ ap (λ e. with_entry e old) c.in_ok-entry.ensures.is in
     subst (λ (f : FactLists). StandsFor f (record { sender = n; number = k; item = i } ∷ s) t) (sym became) (joins old s t h n k i)
 
 pub returns-clause-kept : goal.returns-clause-kept
 returns-clause-kept c = λ u d.
-    subst (λ (f : FactLists). Contains f.uploads u) (sym c.in_ok-put.ensures.ok) (keeps c.in_ok-entry.entry c.args.self.now u d)
+    subst (λ (f : FactLists). Contains f.uploads u) (sym (c.in_ok-put.ensures.ok ∙ ap (with_entry c.in_ok-entry.entry) c.entry.ensures.same)) (keeps c.in_ok-entry.entry c.args.self.now u d)
 
 pub returns-clause-there : goal.returns-clause-there
 returns-clause-there c = λ u e.
@@ -28,11 +28,11 @@ returns-clause-there c = λ u e.
     let k = c.args.number in
     let i = c.args.item in
     let old = c.args.self.now in
-    let became = c.in_ok-put.ensures.ok ∙ ap (λ e. with_entry e old) c.in_ok-entry.ensures in
+    let became = c.in_ok-put.ensures.ok ∙ ap (with_entry c.in_ok-entry.entry) c.entry.ensures.same ∙ ap (λ e. with_entry e old) c.in_ok-entry.ensures.is in
     subst (λ (f : FactLists). Contains f.uploads u) (sym became) (is_there old n k i u e)
 
 pub returns-clause-moved : goal.returns-clause-moved
-returns-clause-moved c = λ count h. subst (IsChangedFrom count) (sym c.in_ok-put.ensures.ok) (takes_log count c.in_ok-entry.entry c.args.self.now h)
+returns-clause-moved c = λ count h. subst (IsChangedFrom count) (sym (c.in_ok-put.ensures.ok ∙ ap (with_entry c.in_ok-entry.entry) c.entry.ensures.same)) (takes_log count c.in_ok-entry.entry c.args.self.now h)
 
 pub returns-clause-tells : goal.returns-clause-tells
 returns-clause-tells c = λ s h.
@@ -40,5 +40,5 @@ returns-clause-tells c = λ s h.
     let k = c.args.number in
     let i = c.args.item in
     let old = c.args.self.now in
-    let became = c.in_ok-put.ensures.ok ∙ ap (λ e. with_entry e old) c.in_ok-entry.ensures in
+    let became = c.in_ok-put.ensures.ok ∙ ap (with_entry c.in_ok-entry.entry) c.entry.ensures.same ∙ ap (λ e. with_entry e old) c.in_ok-entry.ensures.is in
     subst (λ (f : FactLists). Tells f (record { sender = n; number = k; item = i } ∷ s)) (sym became) (says_more old s h n k i)
