@@ -26,6 +26,7 @@ mod work;
 pub use counted::{Counted, installable, installable_counted};
 use deb_control::Binary;
 pub use index::{NameIndex, hash_of, note_row};
+pub use needers::note_clause;
 pub use satisfies::meets;
 pub use suite::Suite;
 

@@ -6,8 +6,8 @@ use deb_control::{Binary, Clause};
 use deb_version::NoMemory;
 use std::alloc::Global;
 
-// Adds a place at each name that the clause has.
-fn note_clause(
+/// Adds a place at each name that the clause has. The one error is want of memory.
+pub fn note_clause(
     alloc: Global,
     needers: &mut NameIndex,
     clause: &Clause,

@@ -4,6 +4,7 @@ ghost use Rattle.deb_control.specs.declared.binary.Binary.{Binary as TheBinary};
 ghost use Rattle.testing_install.specs.Among.{IsInstallableAmong, IsLost, after_change};
 ghost use Rattle.testing_install.specs.Closed.{marked};
 ghost use Rattle.testing_install.specs.Index.{bears};
+ghost use Rattle.testing_install.specs.Needers.{needs_name};
 ghost use Rattle.testing_install.specs.Rows.{shared};
 
 use crate::graph::{Graph, empty_graph, with_rows};
@@ -110,6 +111,15 @@ impl Suite {
         ensures complete { (k : ℕ) (row : TheBinary) → slice_get self.now.rows k ≡ Some row → bears row name.now ≡ true → Contains result.now k }
     {
         self.graph.bearers.places(name)
+    }
+
+    /// The places of the rows that have a clause with the name, whether they are there or not. Places of other rows may
+    /// stand among them.
+    pub fn needers(&self, name: &str) -> &[usize]
+        ensures within { All (λ k. k < length self.now.rows) result.now }
+        ensures complete { (k : ℕ) (row : TheBinary) → slice_get self.now.rows k ≡ Some row → needs_name row name.now ≡ true → Contains result.now k }
+    {
+        self.graph.needers.places(name)
     }
 
     /// Which rows are there, by their places.
