@@ -33,20 +33,6 @@ steps_more rows steps n step below at is = record {
 pub steps_all : (rows : List Binary) (steps : List Step) (n : ℕ) → AreStepsBelow rows steps n → length steps ≤ n → AreSteps rows steps
 steps_all rows steps n below h = record { each = λ m step at. below.each m step (omega (arith, h, slice_get_within steps m step at)) at }
 
-pub past_none : (rows : List Binary) (steps : List Step) (row : Binary) (place : ℕ) → ArePast rows steps row place 0
-past_none rows steps row place = record { each = λ m h. absurd (omega (arith, h)) }
-
-pub past_more : (rows : List Binary) (steps : List Step) (row : Binary) (place n : ℕ) → ArePast rows steps row place n → IsPast rows steps row place n → ArePast rows steps row place (n + 1)
-past_more rows steps row place n below is = record {
-  each = λ m h. elim (cases_lt m n) [
-    | inl less ↦ below.each m less
-    | inr not ↦ (let one : n ≡ m = omega (arith, h, not) in subst (IsPast rows steps row place) one is)
-  ];
-}
-
-pub past_all : (rows : List Binary) (steps : List Step) (row : Binary) (place n : ℕ) → ArePast rows steps row place n → length steps ≤ n → ArePast rows steps row place (length steps)
-past_all rows steps row place n below h = record { each = λ m low. below.each m (omega (arith, h, low)) }
-
 pub row_placed : (rows : List Binary) (steps : List Step) (place : ℕ) (row : Binary) → slice_get rows place ≡ Some row → ArePast rows steps row place (length steps) → IsRowPlaced rows steps place
 row_placed rows steps place row at past = record { each = λ other stands. subst (λ r. ArePast rows steps r place (length steps)) (same_Some row other (sym at ∙ stands)) past }
 

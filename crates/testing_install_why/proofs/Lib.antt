@@ -1,7 +1,8 @@
 pub mod Taking
 pub mod Finding
 pub mod Following
-pub mod Rounds
+pub mod Woken
+pub mod Looked
 pub mod Reading
 pub mod Picking
 pub mod MarkedSteps
@@ -10,3 +11,4 @@ pub mod Reaching
 pub mod Showing
 pub mod Checked
 pub mod CheckedByNames
+pub mod Least

@@ -29,7 +29,7 @@ grown_none old before = record {
   count = refl;
 }
 
-still_in : (before after : List ℕ) → ((j k : ℕ) → slice_get before j ≡ Some k → slice_get after j ≡ Some k) → (k : ℕ) → Contains before k → Contains after k
+pub still_in : (before after : List ℕ) → ((j k : ℕ) → slice_get before j ≡ Some k → slice_get after j ≡ Some k) → (k : ℕ) → Contains before k → Contains after k
 still_in before after stays k c =
     let at = stays c.0 k (slice_get-get_or before c.0 k c.1 ∙ ap Some c.2) in
     (c.0, slice_get_within after c.0 k at, get_or_from_slice_get after c.0 k k at)

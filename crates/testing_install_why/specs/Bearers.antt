@@ -1,6 +1,6 @@
 -- Steps: no contract of a call that users make rests on this file.
 -- Which steps of an order have rows that meet a clause.
-use Rattle.std.specs.Prelude.{◌≡◌, ℕ, ◌<◌, true, List, Some}
+use Rattle.std.specs.Prelude.{◌≡◌, ℕ, ◌<◌, ◌≤◌, true, List, Some}
 use Rattle.std.specs.List.{slice_get}
 use Rattle.deb_control.specs.declared.binary.Binary.{Binary}
 use Rattle.deb_control.specs.declared.relation.Clause.{Clause}
@@ -16,6 +16,12 @@ pub record IsBearer (rows : List Binary) (order : List Step) (end : ℕ) (clause
   pub is : slice_get order n ≡ Some step
   pub stands : slice_get rows step.place ≡ Some row
   pub does : meets row clause ≡ true
+
+-- the number is that of a first step whose row meets the clause, or the end, and none of a kind is less
+pub record IsLeast (rows : List Binary) (order : List Step) (end : ℕ) (clause : Clause) (least : ℕ) (kind : ℕ → Type 0) : Type 0 where
+  pub most : least ≤ end
+  pub found : least < end → IsBearer rows order end clause least
+  pub below : (m : ℕ) → kind m → IsBearer rows order least clause m → ⊥
 
 -- the row of the one step meets the clause of the other, which stands behind it
 pub record IsNext (rows : List Binary) (order : List Step) (last n : ℕ) : Type 0 where

@@ -7,3 +7,4 @@ pub mod Certificate
 pub mod Needed
 pub mod Reaching
 pub mod Checking
+pub mod Woken

@@ -13,7 +13,7 @@ pub record IsUnreached (rows : List Binary) (there : ℕ → Bool) (unreached : 
   pub long : length unreached ≡ n
   pub rest : (k : ℕ) → k < n → there k ≡ true → (marked unreached k ≡ true) ⊎ IsInstallableAmong rows there k
 
--- rows lose their marks and are reached, and no other mark changes
+-- rows lose their marks and join the list, and no other mark changes
 pub record IsGrown (old new : List Bool) (before after : List ℕ) : Type 0 where
   pub long : length new ≡ length old
   pub shut : (k : ℕ) → marked old k ≡ false → marked new k ≡ false

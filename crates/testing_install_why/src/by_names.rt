@@ -1,11 +1,11 @@
-//! Whether steps show that a row isn't installable, as `checking.rt` tells it, for many steps. They are noted by the names
-//! that their clauses have, so that a row is held only against those that have a name which it bears.
+//! Whether steps show that a row isn't installable among rows that are all there. It is read off the rows and the
+//! steps, wherever the steps come from. They are noted by the names that their clauses have, so that a row is held only
+//! against those that have a name which it bears.
 
-ghost use Rattle.std.specs.Prelude.{◌≡◌, true, length, IfOk, IfSome, OnOk};
+ghost use Rattle.std.specs.Prelude.{◌≡◌, true, length, IfOk, IfSome};
 ghost use Rattle.std.specs.List.{All};
 ghost use Rattle.deb_control.specs.declared.relation.Provision.{Provision};
 ghost use Rattle.testing_install.specs.Index.{places_at};
-ghost use Rattle.testing_install.specs.Needers.{IsNotedAt, names};
 ghost use Rattle.testing_install.specs.Rows.{binaries};
 ghost use Rattle.testing_install_why.specs.Certificate.{IsShownBy, everywhere};
 ghost use Rattle.testing_install_why.specs.Checking.{ArePast, IsClauseIndex, IsPast, IsPlaced, IsRowPlaced};
@@ -13,25 +13,10 @@ ghost use Rattle.testing_install_why.specs.Order.{IsNamed};
 
 use crate::Step;
 use crate::checking::{are_steps, clause_at, ends_at};
-use deb_control::{Binary, Clause};
+use deb_control::Binary;
 use deb_version::NoMemory;
 use std::alloc::Global;
-use testing_install::{NameIndex, Row, meets};
-
-// Adds the number of a step at each name that its clause has.
-fn note_clause(
-    alloc: Global,
-    noted: &mut NameIndex,
-    clause: &Clause,
-    number: usize,
-) -> Result<(), NoMemory>
-    ensures { OnOk result (IsNotedAt (names clause.now) noted.old noted.new number) }
-{
-    for alternative in clause.as_slice() {
-        noted.note(alloc, alternative.name.as_str(), number)?;
-    }
-    Ok(())
-}
+use testing_install::{NameIndex, Row, meets, note_clause};
 
 // The numbers of the steps at each name that their clauses have, if each step has a clause.
 fn noted_clauses(
@@ -191,10 +176,10 @@ fn is_placed_by(rows: &[Row<'_>], steps: &[Step], noted: &NameIndex, firsts: &[u
     true
 }
 
-/// Whether the steps show that the row at the place isn't installable among these rows, which are all there, as `is_shown`
-/// tells it. It costs a pass over the rows and the steps, and a look at each step that has a name which a row bears. The
-/// one error is want of memory.
-pub fn is_shown_by_names(
+/// Whether the steps show that the row at the place isn't installable among these rows, which are all there: that row
+/// stands last, and each row that meets a step's clause stands in a step before it. It costs a pass over the rows and
+/// the steps, and a look at each step that has a name which a row bears. The one error is want of memory.
+pub fn is_shown(
     alloc: Global,
     rows: &[Row<'_>],
     steps: &[Step],

@@ -1,63 +1,77 @@
-ghost use Rattle.std.specs.Prelude.{◌≡◌, ℕ, ◌<◌, ◌≤◌, Bool, length, Some, IfOk, IfSome, IfNone};
+ghost use Rattle.std.specs.Prelude.{◌≡◌, ℕ, ◌<◌, ◌≤◌, Bool, length, Some, IfOk, IfSome, IfNone, Contains};
 ghost use Rattle.std.specs.List.{slice_get};
+ghost use Rattle.testing_install_why.specs.Bearers.{IsBearer, IsLast, IsLeast, IsNext};
 ghost use Rattle.testing_install_why.specs.Chain.{IsChain};
-ghost use Rattle.testing_install_why.specs.Order.{IsGroundless, IsStep};
-ghost use Rattle.testing_install_why.specs.Bearers.{IsBearer, IsNext, IsLast};
-ghost use Rattle.testing_install_why.specs.Steps.{AreSteps, IsClauseOf};
+ghost use Rattle.testing_install_why.specs.Needed.{IsStepIndex};
+ghost use Rattle.testing_install_why.specs.Order.{IsGroundless};
+ghost use Rattle.testing_install_why.specs.Steps.{AreSteps};
 ghost use Rattle.testing_install_why.specs.declared.Step.{Step as TheStep};
 
 use crate::Step;
-use deb_control::{Binary, Clause};
+use crate::bearers::{clause_of, is_bearer, noted_steps};
+use deb_control::Clause;
 use deb_version::NoMemory;
 use std::alloc::Global;
-use testing_install::{Suite, meets};
+use testing_install::{NameIndex, Suite};
 
-/// The package of a step.
-pub fn row_of<'a>(suite: &'a Suite, step: Step) -> &'a Binary
-    requires { IsStep suite.now.rows step }
-    ensures { slice_get suite.now.rows step.place ≡ Some result.now }
-{
-    suite.binary(step.place)
-}
-
-/// The clause of a step.
-pub fn clause_of<'a>(suite: &'a Suite, step: Step) -> &'a Clause
-    requires { IsStep suite.now.rows step }
-    ensures { IsClauseOf suite.now.rows step result.now }
-{
-    let binary = row_of(suite, step);
-    &binary.clauses.as_slice()[step.need]
-}
-
-// The first of the first steps whose row meets the clause, by its number.
-fn bearer(suite: &Suite, order: &[Step], end: usize, clause: &Clause) -> Option<usize>
-    requires end { end ≤ length order.now }
+// The least of these numbers below the end whose step's row meets the clause. If there is none, it is the end.
+fn least_among(
+    suite: &Suite,
+    order: &[Step],
+    clause: &Clause,
+    numbers: &[usize],
+    end: usize,
+) -> usize
+    requires end { end < length order.now }
     requires steps { AreSteps suite.now.rows order.now }
-    ensures some { IfSome result (λ n. IsBearer suite.now.rows order.now end clause.now n) }
-    ensures none { IfNone result ((n : ℕ) → IsBearer suite.now.rows order.now end clause.now n → ⊥) }
+    ensures { IsLeast suite.now.rows order.now end clause.now result (λ m. Contains numbers.now m) }
 {
-    for number in 0..end {
-        let step = order[number];
-        if meets(row_of(suite, step), clause) {
-            return Some(number);
+    let mut least = end;
+    for number in numbers {
+        if is_bearer(suite, order, clause, *number, least) {
+            least = *number;
         }
     }
-    None
+    least
+}
+
+// The first step below the end whose row meets the clause, by its number. If there is none, it is the end.
+fn first_bearer(
+    suite: &Suite,
+    order: &[Step],
+    noted: &NameIndex,
+    clause: &Clause,
+    end: usize,
+) -> usize
+    requires end { end < length order.now }
+    requires steps { AreSteps suite.now.rows order.now }
+    requires noted { IsStepIndex suite.now.rows order.now noted.now }
+    ensures { IsLeast suite.now.rows order.now end clause.now result (λ m. IsBearer suite.now.rows order.now end clause.now m) }
+{
+    let mut least = end;
+    for alternative in clause.as_slice() {
+        let numbers = noted.places(alternative.name.as_str());
+        least = least_among(suite, order, clause, numbers, least);
+    }
+    least
 }
 
 // The first step before this one whose row meets its clause, by its number.
-fn next_of(suite: &Suite, order: &[Step], last: usize) -> Option<usize>
+fn next_of(suite: &Suite, order: &[Step], noted: &NameIndex, last: usize) -> Option<usize>
     requires last { last < length order.now }
     requires steps { AreSteps suite.now.rows order.now }
+    requires noted { IsStepIndex suite.now.rows order.now noted.now }
     ensures some { IfSome result (λ n. IsNext suite.now.rows order.now last n) }
     ensures none { IfNone result (IsLast suite.now.rows order.now last) }
 {
-    bearer(suite, order, last, clause_of(suite, order[last]))
+    let clause = clause_of(suite, order[last]);
+    let first = first_bearer(suite, order, noted, clause, last);
+    if first < last { Some(first) } else { None }
 }
 
 /// The rest of the chain that begins at a step of an order: each next row is there and meets the clause before it, and
-/// nothing that is there meets the last clause. Each is the first such row, so the chain is short. The one error is want
-/// of memory.
+/// nothing that is there meets the last clause. Each is the first such row of the order, so the chain is short. The one
+/// error is want of memory.
 pub fn chain_from(
     alloc: Global,
     suite: &Suite,
@@ -69,9 +83,10 @@ pub fn chain_from(
     ensures { IfOk result (λ rest. (there : ℕ → Bool) → IsGroundless suite.now.rows there order.now
         → (step : TheStep) → slice_get order.now first ≡ Some step → IsChain suite.now.rows there order.now step rest.items) }
 {
+    let noted = noted_steps(alloc, suite, order)?;
     let mut rest = Vec::new(alloc);
     let mut last = first;
-    while let Some(next) = next_of(suite, order, last) {
+    while let Some(next) = next_of(suite, order, &noted, last) {
         let step = order[next];
         rest.push(step)?;
         last = next;

@@ -5,6 +5,7 @@
 //! that are refuted already meet a later one. One checks it line by line, and needs to know nothing else.
 #![tactic(auto)]
 
+mod bearers;
 mod by_names;
 mod chain;
 mod checking;
@@ -13,10 +14,11 @@ mod needed;
 mod order;
 mod reached;
 mod shown;
+mod waking;
 
-pub use by_names::is_shown_by_names;
-pub use chain::{chain_from, clause_of, row_of};
-pub use checking::is_shown;
+pub use bearers::{clause_of, row_of};
+pub use by_names::is_shown;
+pub use chain::chain_from;
 pub use needed::certificate_of;
 pub use order::order_over;
 pub use shown::certificate;

@@ -1,45 +1,17 @@
-ghost use Rattle.std.specs.Prelude.{◌≡◌, ◌<◌, true, false, List, length, Some, IfOk, Contains};
+ghost use Rattle.std.specs.Prelude.{◌≡◌, ◌<◌, List, length, Some, IfOk, Contains};
 ghost use Rattle.std.specs.List.{slice_get};
 ghost use Rattle.deb_control.specs.declared.binary.Binary.{Binary};
-ghost use Rattle.testing_install_why.specs.Bearers.{IsBearer};
 ghost use Rattle.testing_install_why.specs.Certificate.{IsCertificate};
 ghost use Rattle.testing_install_why.specs.Needed.{IsMarkedFor, IsMarkedWhere, IsNeeded, IsStepIndex};
 ghost use Rattle.testing_install_why.specs.Steps.{AreSteps};
 ghost use Rattle.testing_install_why.specs.declared.Step.{Step as TheStep};
 
 use crate::Step;
-use crate::chain::{clause_of, row_of};
+use crate::bearers::{clause_of, is_bearer, noted_steps};
 use deb_control::Clause;
 use deb_version::NoMemory;
 use std::alloc::Global;
-use testing_install::{NameIndex, Suite, meets, note_row};
-
-// The numbers of the steps at each name that their rows bear.
-fn noted_steps(alloc: Global, suite: &Suite, order: &[Step]) -> Result<NameIndex, NoMemory>
-    requires { AreSteps suite.now.rows order.now }
-    ensures { IfOk result (λ noted. IsStepIndex suite.now.rows order.now noted) }
-{
-    let mut noted = NameIndex::new(alloc);
-    for number in 0..order.len() {
-        let step = order[number];
-        note_row(alloc, &mut noted, row_of(suite, step), number)?;
-    }
-    Ok(noted)
-}
-
-// The step with the first number stands before the one with the second, and its row meets the clause.
-fn is_bearer(suite: &Suite, order: &[Step], clause: &Clause, earlier: usize, number: usize) -> bool
-    requires number { number < length order.now }
-    requires steps { AreSteps suite.now.rows order.now }
-    ensures below { result ≡ true → earlier < number }
-    ensures misses { result ≡ false → IsBearer suite.now.rows order.now number clause.now earlier → ⊥ }
-{
-    if earlier >= number {
-        return false;
-    }
-    let step = order[earlier];
-    meets(row_of(suite, step), clause)
-}
+use testing_install::{NameIndex, Suite};
 
 // Marks those of the steps with these numbers that stand before this one and whose rows meet the clause.
 fn mark_among(

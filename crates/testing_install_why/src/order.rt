@@ -1,15 +1,16 @@
 //! A groundless list over some rows of a suite.
 
-ghost use Rattle.std.specs.Prelude.{◌≡◌, ℕ, ◌<◌, Bool, true, false, Some, length, IfOk, OnOk, IfSome, IfNone, Contains};
+ghost use Rattle.std.specs.Prelude.{◌≡◌, ℕ, ◌<◌, Bool, true, false, List, [], ◌∷◌, ◌++◌, Some, length, IfOk, OnOk, IfSome, IfNone, Contains};
 ghost use Rattle.std.specs.List.{All, count_by, slice_get};
 ghost use Rattle.deb_control.specs.declared.binary.Binary.{Binary as TheBinary};
 ghost use Rattle.testing_install.specs.Closed.{IsMet, marked};
 ghost use Rattle.testing_install.specs.Satisfies.{meets as does_meet};
 ghost use Rattle.testing_install_why.specs.Order.{IsGroundless, IsReaching, Refutes};
 ghost use Rattle.testing_install_why.specs.Steps.{AreSteps};
-ghost use Rattle.testing_install_why.specs.Taking.{FailsAt, IsHeldAt, IsOrder};
+ghost use Rattle.testing_install_why.specs.Taking.{FailsAt, FailsBy, IsHeldAt, IsLooked, IsOrder};
 
 use crate::Step;
+use crate::waking::wake_needers;
 use deb_control::{Binary, Clause};
 use deb_version::NoMemory;
 use std::alloc::Global;
@@ -74,38 +75,64 @@ fn unmet(
     Ok(None)
 }
 
-// Takes each row at the places out that has such a clause, and says whether it took any.
-fn sweep(
+// Looks at the rows that wait, from the last on, until one has such a clause. The others that are left are held.
+fn next_out(
     alloc: Global,
     suite: &Suite,
-    places: &[usize],
+    left: &[bool],
+    held: &mut [bool],
+    waiting: &mut Vec<usize>,
+) -> Result<Option<Step>, NoMemory>
+    requires left { length left.now ≡ length suite.now.rows }
+    requires held { length held.old ≡ length suite.now.rows }
+    requires waiting { All (λ k. k < length suite.now.rows) waiting.old.items }
+    ensures some { IfOk result (λ found. IfSome found (λ step. FailsBy suite.now.rows (marked left.now) step)) }
+    ensures looked { IfOk result (λ found. IfSome found (λ step. (places : List ℕ) → IsLooked suite.now.rows places left.now held.old waiting.old.items
+        → IsLooked suite.now.rows places left.now held.new (waiting.new.items ++ step.place ∷ []))) }
+    ensures none { IfOk result (λ found. IfNone found ((places : List ℕ) → IsLooked suite.now.rows places left.now held.old waiting.old.items
+        → All (IsHeldAt suite.now.rows (marked left.now)) places)) }
+{
+    while let Some(place) = waiting.pop() {
+        if left[place] {
+            if let Some(need) = unmet(alloc, suite, left, suite.binary(place))? {
+                return Ok(Some(Step { place, need }));
+            }
+            held[place] = true;
+        }
+    }
+    Ok(None)
+}
+
+// Takes the next such row out, and says whether there was one. The held rows that may have needed it wait again.
+fn take_next(
+    alloc: Global,
+    suite: &Suite,
     left: &mut [bool],
+    held: &mut [bool],
+    waiting: &mut Vec<usize>,
     steps: &mut Vec<Step>,
 ) -> Result<bool, NoMemory>
     requires left { length left.old ≡ length suite.now.rows }
-    requires places { All (λ k. k < length suite.now.rows) places.now }
-    ensures held { IfOk result (λ took. took ≡ false → All (IsHeldAt suite.now.rows (marked left.new)) places.now) }
+    requires held { length held.old ≡ length suite.now.rows }
+    requires waiting { All (λ k. k < length suite.now.rows) waiting.old.items }
+    ensures looked { IfOk result (λ took. took ≡ true → (places : List ℕ) → IsLooked suite.now.rows places left.old held.old waiting.old.items
+        → IsLooked suite.now.rows places left.new held.new waiting.new.items) }
+    ensures held { IfOk result (λ took. took ≡ false → (places : List ℕ) → IsLooked suite.now.rows places left.old held.old waiting.old.items
+        → All (IsHeldAt suite.now.rows (marked left.new)) places) }
     ensures fewer { IfOk result (λ took. took ≡ true → count_by (λ b. b) left.new < count_by (λ b. b) left.old) }
     ensures order { OnOk result ((there : ℕ → Bool) → IsOrder suite.now.rows there left.old steps.old.items
         → IsOrder suite.now.rows there left.new steps.new.items) }
 {
-    let mut took = false;
-    for place in places {
-        if left[*place] {
-            if let Some(need) = unmet(alloc, suite, left, suite.binary(*place))? {
-                steps.push(Step {
-                    place: *place,
-                    need,
-                })?;
-                left[*place] = false;
-                took = true;
-            }
-        }
-    }
-    Ok(took)
+    let Some(step) = next_out(alloc, suite, left, held, waiting)? else {
+        return Ok(false);
+    };
+    steps.push(step)?;
+    left[step.place] = false;
+    wake_needers(suite, suite.binary(step.place), held, waiting)?;
+    Ok(true)
 }
 
-// Sweeps until a sweep takes none.
+// Takes rows out until no row at the places has such a clause.
 fn take_out(
     alloc: Global,
     suite: &Suite,
@@ -119,13 +146,16 @@ fn take_out(
     ensures order { OnOk result ((there : ℕ → Bool) → IsOrder suite.now.rows there left.old steps.old.items
         → IsOrder suite.now.rows there left.new steps.new.items) }
 {
-    while sweep(alloc, suite, places, left, steps)? {}
+    let mut waiting = Vec::from_slice(alloc, places)?;
+    let mut held = vec![in alloc; false; suite.len()]?;
+    while take_next(alloc, suite, left, &mut held, &mut waiting, steps)? {}
     Ok(())
 }
 
-/// A groundless list of rows at the places. A row is taken out, one after the other, if it has a clause that no row meets
-/// which is left. If each row that bears on them stands at one of the places or is installable, the list has each row at
-/// them that is there and isn't installable. The one error is want of memory.
+/// A groundless list of rows at the places. A row is taken out, one after the other, if it has a clause that no row
+/// meets which is left. If each row that bears on them stands at one of the places or is installable, the list has each
+/// row at them that is there and isn't installable. A row is looked at once, and again behind each row that is taken out
+/// and bears a name of its clauses. The one error is want of memory.
 pub fn order_over(alloc: Global, suite: &Suite, places: &[usize]) -> Result<Vec<Step>, NoMemory>
     requires { All (λ k. k < length suite.now.rows) places.now }
     ensures groundless { IfOk result (λ steps. IsGroundless suite.now.rows (marked suite.now.there) steps.items) }

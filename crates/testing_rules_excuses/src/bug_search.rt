@@ -9,7 +9,8 @@ ghost use Rattle.testing_rules_model.specs.FactOrder.{AreByNumber};
 use std::cmp::Ordering;
 use testing_rules_model::BugIn;
 
-/// If so, the bugs stand by their numbers, each number once.
+/// Whether the bugs stand in ascending order of their numbers, each number once, so that `bug_at` may search them by
+/// halves. If it says so, they do; that it says so of all lists that do isn't promised.
 pub fn are_by_number(bugs: &[Box<BugIn>]) -> bool
     ensures { result ≡ true → AreByNumber (unboxed bugs.now) }
 {

@@ -13,7 +13,7 @@ use deb_control::{Binary, Clause};
 use deb_version::NoMemory;
 use std::alloc::Global;
 use std::slice;
-use testing_install::NameIndex;
+use testing_install::{NameIndex, note_clause};
 use testing_rules_facts::place_of_group;
 use testing_rules_model::{Excuse, UploadIn};
 
@@ -103,21 +103,6 @@ fn wake_by(flags: &mut Vec<bool>, noted: &NameIndex, binary: &Binary)
     for provision in binary.provides.as_slice() {
         wake_at(flags, noted, provision.name.as_str());
     }
-}
-
-/// Notes the number at each name that the clause has.
-fn note_clause(
-    alloc: Global,
-    noted: &mut NameIndex,
-    clause: &Clause,
-    number: usize,
-) -> Result<(), NoMemory>
-    ensures { OnOk result (IsNotedAt (names clause.now) noted.old noted.new number) }
-{
-    for alternative in clause.as_slice() {
-        noted.note(alloc, alternative.name.as_str(), number)?;
-    }
-    Ok(())
 }
 
 impl Refusals {

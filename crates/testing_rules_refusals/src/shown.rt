@@ -14,7 +14,7 @@ use crate::refusal::Refusal;
 use deb_version::NoMemory;
 use std::alloc::{AllocError, Global};
 use testing_install::Row;
-use testing_install_why::{Step, certificate, is_shown_by_names};
+use testing_install_why::{Step, certificate, is_shown};
 use testing_rules_live::rows_on;
 use testing_rules_model::{LentRow, Offender};
 
@@ -115,7 +115,7 @@ pub(crate) fn steps_for(
 {
     let list = packages_of(alloc, rows)?;
     let steps = steps_to(alloc, rows, &list, place)?;
-    if !is_shown_by_names(alloc, &list, &steps, place)? {
+    if !is_shown(alloc, &list, &steps, place)? {
         return Ok(None);
     }
     Ok(Some(steps))

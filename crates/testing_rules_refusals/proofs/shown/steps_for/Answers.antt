@@ -12,5 +12,5 @@ returns c =
     let place = c.args.place in
     let steps = c.in_ok-steps.steps.items in
     let same = ap binaries c.deref-2.ensures.value ∙ c.in_ok-list.ensures in
-    let shown = subst (λ s. IsShownBy (binaries c.deref-2.result.now) everywhere place s) c.deref-3.ensures.value (c.in_ok-is_shown_by_names.ensures c.if-not-branch.false) in
+    let shown = subst (λ s. IsShownBy (binaries c.deref-2.result.now) everywhere place s) c.deref-3.ensures.value (c.in_ok-is_shown.ensures c.if-not-branch.false) in
     shown_everywhere rows everywhere place steps (λ k h. refl) (subst (λ rs. IsShownBy rs everywhere place steps) same shown)

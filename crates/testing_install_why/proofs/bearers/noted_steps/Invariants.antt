@@ -1,5 +1,5 @@
 use Rattle.testing_install_why.proofs.MarkedSteps.{IsStepIndexTo}
-use Rattle.testing_install_why.proofs.needed.noted_steps.Given as goal
+use Rattle.testing_install_why.proofs.bearers.noted_steps.Given as goal
 
 -- what is noted so far
 abbrev pub invariant-loop-number : goal.invariant-loop-number

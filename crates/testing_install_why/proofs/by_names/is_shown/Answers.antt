@@ -1,5 +1,5 @@
 use Rattle.testing_install_why.proofs.Checked.{shown_everywhere}
-use Rattle.testing_install_why.proofs.by_names.is_shown_by_names.Goals as goal
+use Rattle.testing_install_why.proofs.by_names.is_shown.Goals as goal
 
 pub returns : goal.returns
 returns c = λ e.

@@ -1,6 +1,6 @@
 use Rattle.std.proofs.Common.{◌≤◌, length, arith}
 use Rattle.testing_install_why.proofs.MarkedSteps.{noted_steps_all}
-use Rattle.testing_install_why.proofs.needed.noted_steps.Goals as goal
+use Rattle.testing_install_why.proofs.bearers.noted_steps.Goals as goal
 
 pub returns : goal.returns
 returns c =
