@@ -13,14 +13,16 @@ use Rattle.std.proofs.lemmas.List.{take_all}
 use Rattle.std.proofs.lemmas.List.Sorted.{sorted_far, ranks_by}
 use Rattle.std.proofs.lemmas.List.Sums.{sum_by_push, sum_by_more}
 use Rattle.testing_rules_model.specs.declared.fact_row.FactRow.{FactRow}
-use Rattle.testing_rules_model.specs.FactRows.{is_row, times, row_order}
+use Rattle.testing_rules_model.specs.FactRows.{number_of, is_row, times, row_order}
+use Rattle.testing_rules_model.specs.declared.fact_row.FactKind.TheVariants.{Source}
+use Rattle.testing_rules_model.proofs.FactKinds.{same_kind}
 use Rattle.testing_rules_fact_order.specs.declared.row_changes.Side.TheVariants.{Came, Left}
 use Rattle.testing_rules_fact_order.specs.Net.{IsBelowFrom, IsNet, IsTurn}
 use Rattle.testing_rules_model.specs.FactDifference.{IsDifference}
 
 pub row_total : IsTotalOrder row_order
 row_total =
-    then_total (on_total (λ (r : FactRow). r.kind) nat_cmp_total)
+    then_total (on_total (λ (r : FactRow). number_of r.kind) nat_cmp_total)
     (then_total (on_total (λ (r : FactRow). r.sender) nat_cmp_total) (then_total (on_total (λ (r : FactRow). r.number) nat_cmp_total) (on_total (λ (r : FactRow). r.place) nat_cmp_total)))
 
 both_are : (a b : Bool) → (a && b) ≡ true → (a ≡ true) × (b ≡ true)
@@ -32,11 +34,11 @@ same_nat a b e = grind (arith, nat_tests)
 
 pub row_same : (r x : FactRow) → is_row r x ≡ true → x ≡ r
 row_same r x h =
-    let a = both_are (x.kind == r.kind) _ h in
+    let a = both_are (number_of x.kind == number_of r.kind) _ h in
     let b = both_are (x.sender == r.sender) _ a.1 in
     let c = both_are (x.number == r.number) (x.place == r.place) b.1 in
     let step1 : ◌≡◌ {A = FactRow} x (record { kind = r.kind; sender = x.sender; number = x.number; place = x.place }) =
-    ap (λ k. record { kind = k; sender = x.sender; number = x.number; place = x.place }) (same_nat x.kind r.kind a.0) in
+    ap (λ k. record { kind = k; sender = x.sender; number = x.number; place = x.place }) (same_kind x.kind r.kind (same_nat (number_of x.kind) (number_of r.kind) a.0)) in
     step1
     ∙ ap (λ k. record { kind = r.kind; sender = k; number = x.number; place = x.place }) (same_nat x.sender r.sender b.0)
     ∙ ap (λ k. record { kind = r.kind; sender = r.sender; number = k; place = x.place }) (same_nat x.number r.number c.0)
@@ -120,7 +122,7 @@ pub both_net : (came left put gone : List FactRow) (i j : ℕ) → IsNet came le
     → IsNet came left put gone (i + 1) (j + 1)
 both_net came left put gone i j net low high same = record {
   balance = λ r.
-      let d : FactRow = record { kind = 0; sender = 0; number = 0; place = 0 } in
+      let d : FactRow = record { kind = Source; sender = 0; number = 0; place = 0 } in
       let a = sum_by_more (λ y. cond (is_row r y) 1 0) came i d low in
       let b = sum_by_more (λ y. cond (is_row r y) 1 0) left j d high in
       let e : ◌≡◌ {A = ℕ} (cond (is_row r (get_or came i d)) 1 0) (cond (is_row r (get_or left j d)) 1 0) = ap (λ (y : FactRow). cond (is_row r y) (suc zero) zero) (same d d) in

@@ -24,10 +24,7 @@ pub enum Side {
 fn order_of(row: &FactRow, other: &FactRow) -> Ordering
     ensures { result ≡ row_order row.now other.now }
 {
-    let places = row.place.cmp(&other.place);
-    let numbers = row.number.cmp(&other.number).then(places);
-    let senders = row.sender.cmp(&other.sender).then(numbers);
-    row.kind.cmp(&other.kind).then(senders)
+    row.cmp(other)
 }
 
 /// Whose turn it is.

@@ -3,10 +3,12 @@
 ghost use Rattle.std.specs.Prelude.{◌≡◌};
 ghost use Rattle.testing_rules_model.specs.FactRows as rows;
 
-use testing_rules_model::{BugIn, BuildIn, DelaysIn, DropIn, FactRow, HintIn, UnhintIn, UploadIn};
+use testing_rules_model::{
+    BugIn, BuildIn, DelaysIn, DropIn, FactKind, FactRow, HintIn, UnhintIn, UploadIn,
+};
 
 /// The row of a kind, but for a build's.
-fn row(kind: u32, sender: u32, number: u32) -> FactRow
+fn row(kind: FactKind, sender: u32, number: u32) -> FactRow
     ensures { result ≡ record { kind = kind; sender = sender; number = number; place = 0 } }
 {
     FactRow {
@@ -21,14 +23,14 @@ fn row(kind: u32, sender: u32, number: u32) -> FactRow
 pub fn source_row(upload: &UploadIn) -> FactRow
     ensures { result ≡ rows.source_row upload.now }
 {
-    row(1, upload.sender, upload.number)
+    row(FactKind::Source, upload.sender, upload.number)
 }
 
 /// The row of an upload above testing's version.
 pub fn upload_row(upload: &UploadIn) -> FactRow
     ensures { result ≡ rows.upload_row upload.now }
 {
-    row(2, upload.sender, upload.number)
+    row(FactKind::Upload, upload.sender, upload.number)
 }
 
 /// The row of an unstable row.
@@ -36,7 +38,7 @@ pub fn build_row(build: &BuildIn) -> FactRow
     ensures { result ≡ rows.build_row build.now }
 {
     FactRow {
-        kind: 3,
+        kind: FactKind::Build,
         sender: build.sender,
         number: build.number,
         place: build.place,
@@ -47,33 +49,33 @@ pub fn build_row(build: &BuildIn) -> FactRow
 pub fn drop_row(drop: &DropIn) -> FactRow
     ensures { result ≡ rows.drop_row drop.now }
 {
-    row(4, drop.sender, drop.number)
+    row(FactKind::Drop, drop.sender, drop.number)
 }
 
 /// The row of a bug's last message.
 pub fn bug_row(bug: &BugIn) -> FactRow
     ensures { result ≡ rows.bug_row bug.now }
 {
-    row(5, bug.sender, bug.number)
+    row(FactKind::Bug, bug.sender, bug.number)
 }
 
 /// The row of a hint.
 pub fn hint_row(hint: &HintIn) -> FactRow
     ensures { result ≡ rows.hint_row hint.now }
 {
-    row(6, hint.sender, hint.number)
+    row(FactKind::Hint, hint.sender, hint.number)
 }
 
 /// The row of an unhint.
 pub fn unhint_row(unhint: &UnhintIn) -> FactRow
     ensures { result ≡ rows.unhint_row unhint.now }
 {
-    row(7, unhint.sender, unhint.number)
+    row(FactKind::Unhint, unhint.sender, unhint.number)
 }
 
 /// The row of the last delays.
 pub fn delays_row(delays: &DelaysIn) -> FactRow
     ensures { result ≡ rows.delays_row delays.now }
 {
-    row(8, delays.sender, delays.number)
+    row(FactKind::Delays, delays.sender, delays.number)
 }

@@ -3,6 +3,7 @@ pub mod BuiltOrder
 pub mod BuiltRows
 pub mod ByName
 pub mod Chosen
+pub mod FactKinds
 pub mod Falls
 pub mod First
 pub mod Giving

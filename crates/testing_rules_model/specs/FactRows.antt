@@ -1,5 +1,5 @@
 -- The rows of facts: for each fact the message that gives it. That facts are kept as rows is this office's own.
-use Rattle.std.specs.Prelude.{◌≡◌, ◌≤◌, ◌⊎◌, ℕ, ◌==◌, ◌&&◌, Bool, List, ◌++◌, map, option_to_list}
+use Rattle.std.specs.Prelude.{◌≡◌, ◌⊎◌, ℕ, ◌==◌, ◌&&◌, if◌then◌else◌, Bool, List, ◌++◌, map, Option, Some, None, option_to_list}
 use Rattle.std.specs.List.{count_by}
 use Rattle.std.specs.declared.cmp.Ordering.{Ordering}
 use Rattle.std.specs.Ordering.{nat_cmp, then_cmp, on}
@@ -11,34 +11,53 @@ use Rattle.testing_rules_model.specs.declared.facts.BugIn.{BugIn}
 use Rattle.testing_rules_model.specs.declared.facts.HintIn.{HintIn}
 use Rattle.testing_rules_model.specs.declared.facts.UnhintIn.{UnhintIn}
 use Rattle.testing_rules_model.specs.declared.facts.DelaysIn.{DelaysIn}
+use Rattle.testing_rules_model.specs.declared.fact_row.FactKind.{FactKind}
+use Rattle.testing_rules_model.specs.declared.fact_row.FactKind.TheVariants.{Source, Upload, Build, Drop, Bug, Hint, Unhint, Delays}
 use Rattle.testing_rules_model.specs.declared.fact_row.FactRow.{FactRow}
+
+-- the number by which tables keep a kind, in whose order rows stand
+abbrev pub number_of : FactKind → ℕ
+number_of Source = 1
+number_of Upload = 2
+number_of Build = 3
+number_of Drop = 4
+number_of Bug = 5
+number_of Hint = 6
+number_of Unhint = 7
+number_of Delays = 8
+
+-- the kind of a number, if it is one's
+abbrev pub kind_of : ℕ → Option FactKind
+kind_of n =
+    if n == 1 then Some Source else if n == 2 then Some Upload else if n == 3 then Some Build else if n == 4 then Some Drop
+    else if n == 5 then Some Bug else if n == 6 then Some Hint else if n == 7 then Some Unhint else if n == 8 then Some Delays else None
 
 -- the row of an unstable source, and that of an upload above testing's version
 abbrev pub source_row : UploadIn → FactRow
-source_row u = record { kind = 1; sender = u.sender; number = u.number; place = 0 }
+source_row u = record { kind = Source; sender = u.sender; number = u.number; place = 0 }
 
 abbrev pub upload_row : UploadIn → FactRow
-upload_row u = record { kind = 2; sender = u.sender; number = u.number; place = 0 }
+upload_row u = record { kind = Upload; sender = u.sender; number = u.number; place = 0 }
 
 -- of an unstable row, with its paragraph
 abbrev pub build_row : BuildIn → FactRow
-build_row b = record { kind = 3; sender = b.sender; number = b.number; place = b.place }
+build_row b = record { kind = Build; sender = b.sender; number = b.number; place = b.place }
 
 -- of a greatest drop, of a bug's last message, of a hint, of an unhint, and of the last delays
 abbrev pub drop_row : DropIn → FactRow
-drop_row d = record { kind = 4; sender = d.sender; number = d.number; place = 0 }
+drop_row d = record { kind = Drop; sender = d.sender; number = d.number; place = 0 }
 
 abbrev pub bug_row : BugIn → FactRow
-bug_row b = record { kind = 5; sender = b.sender; number = b.number; place = 0 }
+bug_row b = record { kind = Bug; sender = b.sender; number = b.number; place = 0 }
 
 abbrev pub hint_row : HintIn → FactRow
-hint_row h = record { kind = 6; sender = h.sender; number = h.number; place = 0 }
+hint_row h = record { kind = Hint; sender = h.sender; number = h.number; place = 0 }
 
 abbrev pub unhint_row : UnhintIn → FactRow
-unhint_row c = record { kind = 7; sender = c.sender; number = c.number; place = 0 }
+unhint_row c = record { kind = Unhint; sender = c.sender; number = c.number; place = 0 }
 
 abbrev pub delays_row : DelaysIn → FactRow
-delays_row d = record { kind = 8; sender = d.sender; number = d.number; place = 0 }
+delays_row d = record { kind = Delays; sender = d.sender; number = d.number; place = 0 }
 
 -- the rows of all facts
 abbrev pub rows_of : FactLists → List FactRow
@@ -46,15 +65,13 @@ rows_of f =
     map source_row f.sources ++ (map upload_row f.uploads ++ (map build_row f.rows ++ (map drop_row f.drops
     ++ (map bug_row f.bugs ++ (map hint_row f.hints ++ (map unhint_row f.unhints ++ map delays_row (option_to_list f.delays)))))))
 
--- a row that facts can have: of one of the eight kinds, and with a place where it is that of a paragraph
+-- a row that facts can have: with a place where it is that of a paragraph
 pub record IsFactRow (r : FactRow) : Type 0 where
-  pub low : 1 ≤ r.kind
-  pub high : r.kind ≤ 8
-  pub place : (r.kind ≡ 3) ⊎ (r.place ≡ 0)
+  pub place : (r.kind ≡ Build) ⊎ (r.place ≡ 0)
 
 -- whether a row is this one
 abbrev pub is_row : FactRow → FactRow → Bool
-is_row r x = (x.kind == r.kind) && ((x.sender == r.sender) && ((x.number == r.number) && (x.place == r.place)))
+is_row r x = (number_of x.kind == number_of r.kind) && ((x.sender == r.sender) && ((x.number == r.number) && (x.place == r.place)))
 
 -- how often a row stands in a list
 abbrev pub times : FactRow → List FactRow → ℕ
@@ -62,4 +79,4 @@ times r rows = count_by (is_row r) rows
 
 -- rows by kind, sender, number and place
 abbrev pub row_order : FactRow → FactRow → Ordering
-row_order = then_cmp (on (λ r. r.kind) nat_cmp) (then_cmp (on (λ r. r.sender) nat_cmp) (then_cmp (on (λ r. r.number) nat_cmp) (on (λ r. r.place) nat_cmp)))
+row_order = then_cmp (on (λ r. number_of r.kind) nat_cmp) (then_cmp (on (λ r. r.sender) nat_cmp) (then_cmp (on (λ r. r.number) nat_cmp) (on (λ r. r.place) nat_cmp)))

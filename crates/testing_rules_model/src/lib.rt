@@ -11,7 +11,7 @@ mod update;
 mod values;
 
 pub use excuse::{Excuse, Excuses, Reason, Reasons};
-pub use fact_row::{FactChanges, FactRow, FactRows};
+pub use fact_row::{FactChanges, FactKind, FactRow, FactRows};
 pub use facts::{BugIn, BuildIn, Delays, DelaysIn, DropIn, HintIn, UnhintIn, UploadIn};
 pub use has_sources::HasSources;
 pub use shared_binary::SharedBinary;

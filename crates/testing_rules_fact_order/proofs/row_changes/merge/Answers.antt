@@ -1,5 +1,6 @@
 use Rattle.std.proofs.Common.{arith}
 use Rattle.testing_rules_fact_order.proofs.Netting.{no_net, came_turn, left_turn, both_net, net_done}
+use Rattle.testing_rules_model.specs.declared.fact_row.FactKind.TheVariants.{Source}
 use Rattle.testing_rules_fact_order.proofs.row_changes.merge.Goals as goal
 
 pub turns-init : goal.turns-init
@@ -7,12 +8,12 @@ turns-init c = rw (c.requires.put, c.requires.gone) (no_net c.args.came.now c.ar
 
 pub turns-preserved-in-Came : goal.turns-preserved-in-Came
 turns-preserved-in-Came c =
-    came_turn c.args.came.now c.args.left.now c.turns.put.items c.turns.gone.items c.push.new.self.items c.turns.i c.turns.j (record { kind = 0; sender = 0; number = 0; place = 0 })
+    came_turn c.args.came.now c.args.left.now c.turns.put.items c.turns.gone.items c.push.new.self.items c.turns.i c.turns.j (record { kind = Source; sender = 0; number = 0; place = 0 })
     c.requires.left c.turns.invariant c.in-Came.ensures c.in_ok-push-in-Came.ensures.items
 
 pub turns-preserved-in-Left : goal.turns-preserved-in-Left
 turns-preserved-in-Left c =
-    left_turn c.args.came.now c.args.left.now c.turns.put.items c.turns.gone.items c.push-in-Left.new.self.items c.turns.i c.turns.j (record { kind = 0; sender = 0; number = 0; place = 0 })
+    left_turn c.args.came.now c.args.left.now c.turns.put.items c.turns.gone.items c.push-in-Left.new.self.items c.turns.i c.turns.j (record { kind = Source; sender = 0; number = 0; place = 0 })
     c.requires.came c.turns.invariant c.in-Left.ensures c.in_ok-push-in-Left.ensures.items
 
 pub turns-preserved : goal.turns-preserved
