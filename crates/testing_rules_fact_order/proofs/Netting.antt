@@ -13,9 +13,9 @@ use Rattle.std.proofs.lemmas.List.{take_all}
 use Rattle.std.proofs.lemmas.List.Sorted.{sorted_far, ranks_by}
 use Rattle.std.proofs.lemmas.List.Sums.{sum_by_push, sum_by_more}
 use Rattle.testing_rules_model.specs.declared.fact_row.FactRow.{FactRow}
-use Rattle.testing_rules_model.specs.FactRows.{number_of, is_row, times, row_order}
+use Rattle.testing_rules_model.specs.FactRows.{number_of, is_kind, is_row, times, row_order}
 use Rattle.testing_rules_model.specs.declared.fact_row.FactKind.TheVariants.{Source}
-use Rattle.testing_rules_model.proofs.FactKinds.{same_kind}
+use Rattle.testing_rules_model.proofs.FactKinds.{kind_is}
 use Rattle.testing_rules_fact_order.specs.declared.row_changes.Side.TheVariants.{Came, Left}
 use Rattle.testing_rules_fact_order.specs.Net.{IsBelowFrom, IsNet, IsTurn}
 use Rattle.testing_rules_model.specs.FactDifference.{IsDifference}
@@ -34,11 +34,11 @@ same_nat a b e = grind (arith, nat_tests)
 
 pub row_same : (r x : FactRow) → is_row r x ≡ true → x ≡ r
 row_same r x h =
-    let a = both_are (number_of x.kind == number_of r.kind) _ h in
+    let a = both_are (is_kind x.kind r.kind) _ h in
     let b = both_are (x.sender == r.sender) _ a.1 in
     let c = both_are (x.number == r.number) (x.place == r.place) b.1 in
     let step1 : ◌≡◌ {A = FactRow} x (record { kind = r.kind; sender = x.sender; number = x.number; place = x.place }) =
-    ap (λ k. record { kind = k; sender = x.sender; number = x.number; place = x.place }) (same_kind x.kind r.kind (same_nat (number_of x.kind) (number_of r.kind) a.0)) in
+    ap (λ k. record { kind = k; sender = x.sender; number = x.number; place = x.place }) (kind_is x.kind r.kind a.0) in
     step1
     ∙ ap (λ k. record { kind = r.kind; sender = k; number = x.number; place = x.place }) (same_nat x.sender r.sender b.0)
     ∙ ap (λ k. record { kind = r.kind; sender = r.sender; number = k; place = x.place }) (same_nat x.number r.number c.0)

@@ -35,7 +35,7 @@ use testing_rules_fact_order::{
 };
 use testing_rules_items::{Hint, Item};
 use testing_rules_model::{
-    BugIn, BuildIn, DelaysIn, DropIn, FactChanges, FactRow, HasSources, HintIn, UnhintIn, UploadIn,
+    BugIn, BuildIn, DelaysIn, DropIn, FactChanges, FactKind, FactRow, HasSources, HintIn, UnhintIn, UploadIn,
 };
 
 /// The facts of a set of messages.
@@ -453,21 +453,16 @@ impl Facts {
             sender: row.sender,
             number: row.number,
         };
-        if row.kind == 3 {
-            return self.restore_build(sent, item, row.place);
-        }
-        if row.place > 0 {
-            return Ok(());
-        }
         match row.kind {
-            1 => self.restore_source(sent, item),
-            2 => self.restore_upload(sent, item),
-            4 => self.restore_drop(sent, item),
-            5 => self.restore_bug(sent, item),
-            6 => self.restore_hint(sent, item),
-            7 => self.restore_unhint(sent, item),
-            8 => self.restore_delays(sent, item),
-            _ => Ok(()),
+            FactKind::Build => self.restore_build(sent, item, row.place),
+            _ if row.place > 0 => Ok(()),
+            FactKind::Source => self.restore_source(sent, item),
+            FactKind::Upload => self.restore_upload(sent, item),
+            FactKind::Drop => self.restore_drop(sent, item),
+            FactKind::Bug => self.restore_bug(sent, item),
+            FactKind::Hint => self.restore_hint(sent, item),
+            FactKind::Unhint => self.restore_unhint(sent, item),
+            FactKind::Delays => self.restore_delays(sent, item),
         }
     }
 

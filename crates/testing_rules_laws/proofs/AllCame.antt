@@ -10,12 +10,14 @@ use Rattle.std.proofs.lemmas.List.{length-map}
 use Rattle.std.proofs.lemmas.List.Sums.{sum_by-cons, sum_by-append}
 use Rattle.testing_rules_items.specs.declared.item.Item.{Item}
 use Rattle.testing_rules_items.specs.Words.{byte_cmp, put_by}
+use Rattle.testing_rules_model.specs.declared.fact_row.FactKind.{FactKind}
+use Rattle.testing_rules_model.specs.declared.fact_row.FactKind.TheVariants.{Source, Upload, Build, Drop, Bug, Hint, Unhint, Delays}
 use Rattle.testing_rules_model.specs.declared.fact_row.FactRow.{FactRow}
 use Rattle.testing_rules_model.specs.declared.facts.BuildIn.{BuildIn}
 use Rattle.testing_rules_model.specs.declared.facts.DelaysIn.{DelaysIn}
 use Rattle.testing_rules_model.specs.Covered.{CoveredItem, upload_of, drop_of, bug_of, hint_of, unhint_of, delays_of, builds_of}
 use Rattle.testing_rules_model.specs.FactLists.{FactLists}
-use Rattle.testing_rules_model.specs.FactRows.{source_row, upload_row, build_row, drop_row, bug_row, hint_row, unhint_row, delays_row, rows_of, is_row, times}
+use Rattle.testing_rules_model.specs.FactRows.{source_row, upload_row, build_row, drop_row, bug_row, hint_row, unhint_row, delays_row, rows_of, is_kind, is_row, times}
 use Rattle.testing_rules_model.specs.Unstable.{upload_order, build_order, pair_order, pair_of, drop_order, drop_pair, bug_order, hint_order, unhint_order, delays_order}
 use Rattle.testing_rules_model.specs.WithMessage.{put_first, with_upload, with_build, with_greatest, with_bug, with_hint, with_unhint}
 use Rattle.testing_rules_model.proofs.SameFacts.{upload_bears, drop_bears, bug_bears, hint_bears, unhint_bears, delays_bears, builds_bear}
@@ -121,91 +123,64 @@ last_gains r (Some d) None bears =
     subst (Gains (delays_row d ∷ []) []) (bears d refl) (record { lost = []; balance = λ w. omega (arith, sum_by-cons w (delays_row d) []) })
 last_gains r (Some d) (Some l) bears = subst (Gains (delays_row (cond (is_lt (delays_order l d)) l d) ∷ []) (delays_row l ∷ [])) (bears d refl) (last_one (is_lt (delays_order l d)) d l)
 
-abbrev row_at : ℕ → ℕ → ℕ → ℕ → FactRow
+abbrev row_at : FactKind → ℕ → ℕ → ℕ → FactRow
 row_at kind sender number place = record { kind = kind; sender = sender; number = number; place = place }
 
 -- a fact that a row gives has this row
 given_row : {B : Type 0} (says : CoveredItem → Option B) (sender number : B → ℕ) → ((n k : ℕ) (i : Item) (y : B) → says (said n k i) ≡ Some y → (sender y ≡ n) × (number y ≡ k))
-    → (kind n k p : ℕ) (i : Item) (y : B) → given_of kind says (row_at kind n k p, i) ≡ Some y → row_at kind (sender y) (number y) 0 ≡ row_at kind n k p
+    → (kind : FactKind) (n k p : ℕ) (i : Item) (y : B) → given_of kind says (row_at kind n k p, i) ≡ Some y → row_at kind (sender y) (number y) 0 ≡ row_at kind n k p
 given_row says sender number bears kind n k p i y e =
-    let a = passed ((kind == kind) && (p == 0)) (says (said n k i)) y e in
+    let a = passed (is_kind kind kind && (p == 0)) (says (said n k i)) y e in
     let b = bears n k i y a.1 in
-    let at : p ≡ 0 = same_nat p 0 (both_are (kind == kind) (p == 0) a.0).1 in
+    let at : p ≡ 0 = same_nat p 0 (both_are (is_kind kind kind) (p == 0) a.0).1 in
     rw (b.0, b.1, at) refl
 
-build_row_is : (n k p : ℕ) (i : Item) (b : BuildIn) → find (λ y. y.place == p) (builds_of (said n k i)) ≡ Some b → build_row b ≡ row_at 3 n k p
+build_row_is : (n k p : ℕ) (i : Item) (b : BuildIn) → find (λ y. y.place == p) (builds_of (said n k i)) ≡ Some b → build_row b ≡ row_at Build n k p
 build_row_is n k p i b e =
     let is = found p (builds_of (said n k i)) b e in
     let bears = builds_bear n k i b is.0 in
     rw (bears.0, bears.1, is.1) refl
 
--- a row of a kind above all of them gives nothing
-apart : (a b : ℕ) → b < a → (a == b) ≡ false
-apart a b h = grind (arith, nat_tests)
-
-none_given : {B : Type 0} (kind : ℕ) (says : CoveredItem → Option B) (x : Given) → kind < x.0.kind → given_of kind says x ≡ None
-none_given kind says x h = ap (λ b. cond (b && (x.0.place == 0)) (says (message_of x)) None) (apart x.0.kind kind h)
-
-none_built : (x : Given) → 3 < x.0.kind → build_given x ≡ None
-none_built x h = ap (λ b. cond b (find (λ y. y.place == x.0.place) (builds_of (message_of x))) None) (apart x.0.kind 3 h)
-
-no_kind : (x : Given) (f : FactLists) → 8 < x.0.kind → rows_of (restored x f) ≡ rows_of f
-no_kind x f h =
-    rw (
-      none_given 1 upload_of x (omega (arith, h)),
-      none_given 2 upload_of x (omega (arith, h)),
-      none_built x (omega (arith, h)),
-      none_given 4 drop_of x (omega (arith, h)),
-      none_given 5 bug_of x (omega (arith, h)),
-      none_given 6 hint_of x (omega (arith, h)),
-      none_given 7 unhint_of x (omega (arith, h)),
-      none_given 8 delays_of x h,
-    ) refl
-
 -- one row
-step : (kind n k p : ℕ) (i : Item) (f : FactLists) → Gains (rows_of (restored (row_at kind n k p, i) f)) (rows_of f) (row_at kind n k p)
-step zero n k p i f = unchanged (rows_of f) (row_at 0 n k p)
-step (suc zero) n k p i f =
-    let r = row_at 1 n k p in
+step : (kind : FactKind) (n k p : ℕ) (i : Item) (f : FactLists) → Gains (rows_of (restored (row_at kind n k p, i) f)) (rows_of f) (row_at kind n k p)
+step Source n k p i f =
+    let r = row_at Source n k p in
     front _ _ _ r
-    (given_gains with_upload source_row r (first_gains source_row (λ u. u.source) byte_cmp upload_order) (given_of 1 upload_of (r, i))
-    (given_row upload_of (λ u. u.sender) (λ u. u.number) (λ n k. upload_bears n k) 1 n k p i) f.sources)
-step (suc (suc zero)) n k p i f =
-    let r = row_at 2 n k p in
+    (given_gains with_upload source_row r (first_gains source_row (λ u. u.source) byte_cmp upload_order) (given_of Source upload_of (r, i))
+    (given_row upload_of (λ u. u.sender) (λ u. u.number) (λ n k. upload_bears n k) Source n k p i) f.sources)
+step Upload n k p i f =
+    let r = row_at Upload n k p in
     behind (map source_row f.sources) _ _ r (front _ _ _ r
-    (given_gains with_kept upload_row r (first_gains upload_row (λ u. u) message_order first_stays) (given_of 2 upload_of (r, i))
-    (given_row upload_of (λ u. u.sender) (λ u. u.number) (λ n k. upload_bears n k) 2 n k p i) f.uploads))
-step (suc (suc (suc zero))) n k p i f =
-    let r = row_at 3 n k p in
+    (given_gains with_kept upload_row r (first_gains upload_row (λ u. u) message_order first_stays) (given_of Upload upload_of (r, i))
+    (given_row upload_of (λ u. u.sender) (λ u. u.number) (λ n k. upload_bears n k) Upload n k p i) f.uploads))
+step Build n k p i f =
+    let r = row_at Build n k p in
     behind (map source_row f.sources) _ _ r (behind (map upload_row f.uploads) _ _ r (front _ _ _ r
     (given_gains with_build build_row r (first_gains build_row pair_of pair_order build_order) (build_given (r, i)) (build_row_is n k p i) f.rows)))
-step (suc (suc (suc (suc zero)))) n k p i f =
-    let r = row_at 4 n k p in
+step Drop n k p i f =
+    let r = row_at Drop n k p in
     behind (map source_row f.sources) _ _ r (behind (map upload_row f.uploads) _ _ r (behind (map build_row f.rows) _ _ r (front _ _ _ r
-    (given_gains with_greatest drop_row r (first_gains drop_row drop_pair pair_order drop_order) (given_of 4 drop_of (r, i))
-    (given_row drop_of (λ d. d.sender) (λ d. d.number) (λ n k. drop_bears n k) 4 n k p i) f.drops))))
-step (suc (suc (suc (suc (suc zero))))) n k p i f =
-    let r = row_at 5 n k p in
+    (given_gains with_greatest drop_row r (first_gains drop_row drop_pair pair_order drop_order) (given_of Drop drop_of (r, i))
+    (given_row drop_of (λ d. d.sender) (λ d. d.number) (λ n k. drop_bears n k) Drop n k p i) f.drops))))
+step Bug n k p i f =
+    let r = row_at Bug n k p in
     behind (map source_row f.sources) _ _ r (behind (map upload_row f.uploads) _ _ r (behind (map build_row f.rows) _ _ r (behind (map drop_row f.drops) _ _ r (front _ _ _ r
-    (given_gains with_bug bug_row r (first_gains bug_row (λ b. b.bug) nat_cmp bug_order) (given_of 5 bug_of (r, i))
-    (given_row bug_of (λ b. b.sender) (λ b. b.number) (λ n k. bug_bears n k) 5 n k p i) f.bugs)))))
-step (suc (suc (suc (suc (suc (suc zero)))))) n k p i f =
-    let r = row_at 6 n k p in
+    (given_gains with_bug bug_row r (first_gains bug_row (λ b. b.bug) nat_cmp bug_order) (given_of Bug bug_of (r, i))
+    (given_row bug_of (λ b. b.sender) (λ b. b.number) (λ n k. bug_bears n k) Bug n k p i) f.bugs)))))
+step Hint n k p i f =
+    let r = row_at Hint n k p in
     behind (map source_row f.sources) _ _ r (behind (map upload_row f.uploads) _ _ r (behind (map build_row f.rows) _ _ r (behind (map drop_row f.drops) _ _ r (behind (map bug_row f.bugs) _ _ r (front _ _ _ r
-    (given_gains with_hint hint_row r (over_gains hint_row (λ h. h) hint_order) (given_of 6 hint_of (r, i))
-    (given_row hint_of (λ h. h.sender) (λ h. h.number) (λ n k. hint_bears n k) 6 n k p i) f.hints))))))
-step (suc (suc (suc (suc (suc (suc (suc zero))))))) n k p i f =
-    let r = row_at 7 n k p in
+    (given_gains with_hint hint_row r (over_gains hint_row (λ h. h) hint_order) (given_of Hint hint_of (r, i))
+    (given_row hint_of (λ h. h.sender) (λ h. h.number) (λ n k. hint_bears n k) Hint n k p i) f.hints))))))
+step Unhint n k p i f =
+    let r = row_at Unhint n k p in
     behind (map source_row f.sources) _ _ r (behind (map upload_row f.uploads) _ _ r (behind (map build_row f.rows) _ _ r (behind (map drop_row f.drops) _ _ r (behind (map bug_row f.bugs) _ _ r (behind (map hint_row f.hints) _ _ r (front _ _ _ r
-    (given_gains with_unhint unhint_row r (over_gains unhint_row (λ c. c) unhint_order) (given_of 7 unhint_of (r, i))
-    (given_row unhint_of (λ c. c.sender) (λ c. c.number) (λ n k. unhint_bears n k) 7 n k p i) f.unhints)))))))
-step (suc (suc (suc (suc (suc (suc (suc (suc zero)))))))) n k p i f =
-    let r = row_at 8 n k p in
+    (given_gains with_unhint unhint_row r (over_gains unhint_row (λ c. c) unhint_order) (given_of Unhint unhint_of (r, i))
+    (given_row unhint_of (λ c. c.sender) (λ c. c.number) (λ n k. unhint_bears n k) Unhint n k p i) f.unhints)))))))
+step Delays n k p i f =
+    let r = row_at Delays n k p in
     behind (map source_row f.sources) _ _ r (behind (map upload_row f.uploads) _ _ r (behind (map build_row f.rows) _ _ r (behind (map drop_row f.drops) _ _ r (behind (map bug_row f.bugs) _ _ r (behind (map hint_row f.hints) _ _ r (behind (map unhint_row f.unhints) _ _ r
-    (last_gains r (given_of 8 delays_of (r, i)) f.delays (given_row delays_of (λ d. d.sender) (λ d. d.number) (λ n k. delays_bears n k) 8 n k p i))))))))
-step (suc (suc (suc (suc (suc (suc (suc (suc (suc kind))))))))) n k p i f =
-    let r = row_at (suc (suc (suc (suc (suc (suc (suc (suc (suc kind))))))))) n k p in
-    subst (λ rows. Gains rows (rows_of f) r) (sym (no_kind (r, i) f (omega arith))) (unchanged (rows_of f) r)
+    (last_gains r (given_of Delays delays_of (r, i)) f.delays (given_row delays_of (λ d. d.sender) (λ d. d.number) (λ n k. delays_bears n k) Delays n k p i))))))))
 
 -- all of them
 record AllGains (xs : List Given) (f : FactLists) : Type 0 where

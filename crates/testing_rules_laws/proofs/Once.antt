@@ -16,10 +16,12 @@ use Rattle.testing_rules_model.specs.declared.facts.BugIn.{BugIn}
 use Rattle.testing_rules_model.specs.declared.facts.HintIn.{HintIn}
 use Rattle.testing_rules_model.specs.declared.facts.UnhintIn.{UnhintIn}
 use Rattle.testing_rules_model.specs.declared.facts.DelaysIn.{DelaysIn}
+use Rattle.testing_rules_model.specs.declared.fact_row.FactKind.{FactKind}
+use Rattle.testing_rules_model.specs.declared.fact_row.FactKind.TheVariants.{Source, Upload, Build, Drop, Bug, Hint, Unhint, Delays}
 use Rattle.testing_rules_model.specs.declared.fact_row.FactRow.{FactRow}
 use Rattle.testing_rules_model.specs.Covered.{Covered, upload_of, drop_of, bug_of, hint_of, unhint_of, delays_of, builds_of}
 use Rattle.testing_rules_model.specs.FactLists.{FactLists}
-use Rattle.testing_rules_model.specs.FactRows.{source_row, upload_row, build_row, drop_row, bug_row, hint_row, unhint_row, delays_row, rows_of, is_row, times, IsFactRow}
+use Rattle.testing_rules_model.specs.FactRows.{number_of, source_row, upload_row, build_row, drop_row, bug_row, hint_row, unhint_row, delays_row, rows_of, is_row, times, IsFactRow}
 use Rattle.testing_rules_model.specs.SameMessages.{HasOneOfEach}
 use Rattle.testing_rules_model.specs.Tells.{Tells}
 use Rattle.testing_rules_model.specs.Unstable.{pair_of, drop_pair}
@@ -61,14 +63,14 @@ module _ (r : FactRow) where
       at false e = let own : one_if (is_row r d) ≡ 0 = ap one_if e in omega (arith, counted d [], own)
 
   -- rows of one kind in front of those of greater kinds
-  front : (n : ℕ) (rows others : List FactRow) → ((x : FactRow) → Contains rows x → x.kind ≡ n) → ((x : FactRow) → Contains others x → n + 1 ≤ x.kind)
+  front : (n : ℕ) (rows others : List FactRow) → ((x : FactRow) → Contains rows x → number_of x.kind ≡ n) → ((x : FactRow) → Contains others x → n + 1 ≤ number_of x.kind)
       → times r rows ≤ 1 → times r others ≤ 1 → times r (rows ++ others) ≤ 1
-  front n rows others own above once rest = elim (cases_lt n r.kind) [
+  front n rows others own above once rest = elim (cases_lt n (number_of r.kind)) [
     | inl high ↦
-        let none = none_of rows (λ x c e. let k : x.kind ≡ r.kind = ap (λ (y : FactRow). y.kind) (row_same r x e) in let m = own x c in absurd (omega (arith, high, k, m))) in
+        let none = none_of rows (λ x c e. let k : number_of x.kind ≡ number_of r.kind = ap (λ (y : FactRow). number_of y.kind) (row_same r x e) in let m = own x c in absurd (omega (arith, high, k, m))) in
         omega (arith, joined r rows others, none, rest)
     | inr low ↦
-        let none = none_of others (λ x c e. let k : x.kind ≡ r.kind = ap (λ (y : FactRow). y.kind) (row_same r x e) in let m = above x c in absurd (omega (arith, low, k, m))) in
+        let none = none_of others (λ x c e. let k : number_of x.kind ≡ number_of r.kind = ap (λ (y : FactRow). number_of y.kind) (row_same r x e) in let m = above x c in absurd (omega (arith, low, k, m))) in
         omega (arith, joined r rows others, none, once)
   ]
 
@@ -94,8 +96,8 @@ module _ {B K : Type 0} (key : B → K) {cmp : K → K → Ordering} (o : IsTota
       not_itself key o (key x) (ap (λ w. cmp (key x) (key w)) same ∙ above_has key o (key x) xs y.0 s.0 y.1)))
       (once xs (λ y z c d. tell y z (tail_of x xs y c) (tail_of x xs z d)) s.1)
 
-kind_of : {B : Type 0} (row : B → FactRow) (n : ℕ) → ((b : B) → (row b).kind ≡ n) → (xs : List B) (x : FactRow) → Contains (map row xs) x → x.kind ≡ n
-kind_of row n kind xs x c = let b = mapped_from row xs x c in ap (λ (y : FactRow). y.kind) (sym b.2) ∙ kind b.0
+kind_number : {B : Type 0} (row : B → FactRow) (n : ℕ) → ((b : B) → number_of (row b).kind ≡ n) → (xs : List B) (x : FactRow) → Contains (map row xs) x → number_of x.kind ≡ n
+kind_number row n kind xs x c = let b = mapped_from row xs x c in ap (λ (y : FactRow). number_of y.kind) (sym b.2) ∙ kind b.0
 
 once_last : (r : FactRow) (last : Option DelaysIn) → times r (map delays_row (option_to_list last)) ≤ 1
 once_last r None = omega arith
@@ -105,29 +107,29 @@ pub rows_once : (f : FactLists) (s : Covered) → HasOneOfEach s → Tells f s �
 rows_once f s one h by_message r =
     let said = h.said in
     let order = h.orderly in
-    front r 1 (map source_row f.sources) (from2 f) (kind_of source_row 1 (λ b. refl) f.sources) (low2 f)
+    front r 1 (map source_row f.sources) (from2 f) (kind_number source_row 1 (λ b. refl) f.sources) (low2 f)
     (once (λ u. u.source) text_order source_row r f.sources
     (λ x y c d e. one_given upload_of (λ u. u.sender) (λ u. u.number) (λ m. upload_bears m.sender m.number m.item) s one x y (said.sources x c) (said.sources y d)
     (ap (λ (q : FactRow). q.sender) e) (ap (λ (q : FactRow). q.number) e)) order.by_source)
-    (front r 2 (map upload_row f.uploads) (from3 f) (kind_of upload_row 2 (λ b. refl) f.uploads) (low3 f)
+    (front r 2 (map upload_row f.uploads) (from3 f) (kind_number upload_row 2 (λ b. refl) f.uploads) (low3 f)
     (once (λ u. u) message_total upload_row r f.uploads
     (λ x y c d e. one_given upload_of (λ u. u.sender) (λ u. u.number) (λ m. upload_bears m.sender m.number m.item) s one x y (said.uploads x c) (said.uploads y d)
     (ap (λ (q : FactRow). q.sender) e) (ap (λ (q : FactRow). q.number) e)) (keys_in_order f.uploads by_message))
-    (front r 3 (map build_row f.rows) (from4 f) (kind_of build_row 3 (λ b. refl) f.rows) (low4 f)
+    (front r 3 (map build_row f.rows) (from4 f) (kind_number build_row 3 (λ b. refl) f.rows) (low4 f)
     (once pair_of pair_total build_row r f.rows (λ x y c d e. told_build s one x y (said.rows x c) (said.rows y d) e) order.by_pair)
-    (front r 4 (map drop_row f.drops) (from5 f) (kind_of drop_row 4 (λ b. refl) f.drops) (low5 f)
+    (front r 4 (map drop_row f.drops) (from5 f) (kind_number drop_row 4 (λ b. refl) f.drops) (low5 f)
     (once drop_pair pair_total drop_row r f.drops
     (λ x y c d e. one_given drop_of (λ u. u.sender) (λ u. u.number) (λ m. drop_bears m.sender m.number m.item) s one x y (said.drops x c) (said.drops y d)
     (ap (λ (q : FactRow). q.sender) e) (ap (λ (q : FactRow). q.number) e)) order.drops_by_pair)
-    (front r 5 (map bug_row f.bugs) (from6 f) (kind_of bug_row 5 (λ b. refl) f.bugs) (low6 f)
+    (front r 5 (map bug_row f.bugs) (from6 f) (kind_number bug_row 5 (λ b. refl) f.bugs) (low6 f)
     (once (λ b. b.bug) nat_cmp_total bug_row r f.bugs
     (λ x y c d e. one_given bug_of (λ u. u.sender) (λ u. u.number) (λ m. bug_bears m.sender m.number m.item) s one x y (said.bugs x c) (said.bugs y d)
     (ap (λ (q : FactRow). q.sender) e) (ap (λ (q : FactRow). q.number) e)) order.by_number)
-    (front r 6 (map hint_row f.hints) (from7 f) (kind_of hint_row 6 (λ b. refl) f.hints) (low7 f)
+    (front r 6 (map hint_row f.hints) (from7 f) (kind_number hint_row 6 (λ b. refl) f.hints) (low7 f)
     (once (λ x. x) hint_total hint_row r f.hints
     (λ x y c d e. one_given hint_of (λ u. u.sender) (λ u. u.number) (λ m. hint_bears m.sender m.number m.item) s one x y (said.hints x c) (said.hints y d)
     (ap (λ (q : FactRow). q.sender) e) (ap (λ (q : FactRow). q.number) e)) (in_order_itself hint_total f.hints order.hints))
-    (front r 7 (map unhint_row f.unhints) (from8 f) (kind_of unhint_row 7 (λ b. refl) f.unhints) (low8 f)
+    (front r 7 (map unhint_row f.unhints) (from8 f) (kind_number unhint_row 7 (λ b. refl) f.unhints) (low8 f)
     (once (λ x. x) unhint_total unhint_row r f.unhints
     (λ x y c d e. one_given unhint_of (λ u. u.sender) (λ u. u.number) (λ m. unhint_bears m.sender m.number m.item) s one x y (said.unhints x c) (said.unhints y d)
     (ap (λ (q : FactRow). q.sender) e) (ap (λ (q : FactRow). q.number) e)) (in_order_itself unhint_total f.unhints order.unhints))
@@ -163,17 +165,17 @@ each_row P f p1 p2 p3 p4 p5 p6 p7 p8 =
 are_rows : (f : FactLists) (r : FactRow) → Contains (rows_of f) r → IsFactRow r
 are_rows f =
     each_row IsFactRow f
-    (λ u c. record { low = omega arith; high = omega arith; place = inr refl })
-    (λ u c. record { low = omega arith; high = omega arith; place = inr refl })
-    (λ b c. record { low = omega arith; high = omega arith; place = inl refl })
-    (λ d c. record { low = omega arith; high = omega arith; place = inr refl })
-    (λ b c. record { low = omega arith; high = omega arith; place = inr refl })
-    (λ x c. record { low = omega arith; high = omega arith; place = inr refl })
-    (λ x c. record { low = omega arith; high = omega arith; place = inr refl })
-    (λ d c. record { low = omega arith; high = omega arith; place = inr refl })
+    (λ u c. record { place = inr refl })
+    (λ u c. record { place = inr refl })
+    (λ b c. record { place = inl refl })
+    (λ d c. record { place = inr refl })
+    (λ b c. record { place = inr refl })
+    (λ x c. record { place = inr refl })
+    (λ x c. record { place = inr refl })
+    (λ d c. record { place = inr refl })
 
-apart : {P : Type 0} (n m : ℕ) → n < m → n ≡ m → P
-apart n m h e = absurd (omega (arith, h, e))
+not_delays : {P : Type 0} (k : FactKind) (n : ℕ) → number_of k ≡ n → n < 8 → k ≡ Delays → P
+not_delays k n is low e = let eight : number_of k ≡ 8 = ap number_of e in absurd (omega (arith, is, low, eight))
 
 are_named : (f : FactLists) (s : Covered) → Tells f s → (r : FactRow) → Contains (rows_of f) r → NamesMessage s r
 are_named f s h =
@@ -182,31 +184,31 @@ are_named f s h =
     (λ u c.
     let m = given_by upload_of s u (said.sources u c) in
     let b = upload_bears m.0.sender m.0.number m.0.item u m.2 in
-    record { message = m.0; among = m.1; sender = sym b.0; number = sym b.1; delays = apart 1 8 (omega arith) })
+    record { message = m.0; among = m.1; sender = sym b.0; number = sym b.1; delays = not_delays Source 1 refl (omega arith) })
     (λ u c.
     let m = given_by upload_of s u (said.uploads u c) in
     let b = upload_bears m.0.sender m.0.number m.0.item u m.2 in
-    record { message = m.0; among = m.1; sender = sym b.0; number = sym b.1; delays = apart 2 8 (omega arith) })
+    record { message = m.0; among = m.1; sender = sym b.0; number = sym b.1; delays = not_delays Upload 2 refl (omega arith) })
     (λ u c.
     let m = spread_from builds_of s u (said.rows u c) in
     let b = builds_bear m.0.sender m.0.number m.0.item u m.2 in
-    record { message = m.0; among = m.1; sender = sym b.0; number = sym b.1; delays = apart 3 8 (omega arith) })
+    record { message = m.0; among = m.1; sender = sym b.0; number = sym b.1; delays = not_delays Build 3 refl (omega arith) })
     (λ u c.
     let m = given_by drop_of s u (said.drops u c) in
     let b = drop_bears m.0.sender m.0.number m.0.item u m.2 in
-    record { message = m.0; among = m.1; sender = sym b.0; number = sym b.1; delays = apart 4 8 (omega arith) })
+    record { message = m.0; among = m.1; sender = sym b.0; number = sym b.1; delays = not_delays Drop 4 refl (omega arith) })
     (λ u c.
     let m = given_by bug_of s u (said.bugs u c) in
     let b = bug_bears m.0.sender m.0.number m.0.item u m.2 in
-    record { message = m.0; among = m.1; sender = sym b.0; number = sym b.1; delays = apart 5 8 (omega arith) })
+    record { message = m.0; among = m.1; sender = sym b.0; number = sym b.1; delays = not_delays Bug 5 refl (omega arith) })
     (λ u c.
     let m = given_by hint_of s u (said.hints u c) in
     let b = hint_bears m.0.sender m.0.number m.0.item u m.2 in
-    record { message = m.0; among = m.1; sender = sym b.0; number = sym b.1; delays = apart 6 8 (omega arith) })
+    record { message = m.0; among = m.1; sender = sym b.0; number = sym b.1; delays = not_delays Hint 6 refl (omega arith) })
     (λ u c.
     let m = given_by unhint_of s u (said.unhints u c) in
     let b = unhint_bears m.0.sender m.0.number m.0.item u m.2 in
-    record { message = m.0; among = m.1; sender = sym b.0; number = sym b.1; delays = apart 7 8 (omega arith) })
+    record { message = m.0; among = m.1; sender = sym b.0; number = sym b.1; delays = not_delays Unhint 7 refl (omega arith) })
     (λ u c.
     let m = given_by delays_of s u (said.delays u c) in
     let b = delays_bears m.0.sender m.0.number m.0.item u m.2 in

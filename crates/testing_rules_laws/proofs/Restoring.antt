@@ -30,6 +30,7 @@ use Rattle.testing_rules_model.proofs.Orders.{text_order, upload_total, build_to
 use Rattle.testing_rules_model.proofs.MoreMail.{pair_total, counts_for, chosen_rows, chosen_sources, chosen_drops, chosen_bugs, sources-more, bugs-more, drops-more, rows-more, rows-skip}
 use Rattle.testing_rules_facts.proofs.KeySlots.{by_source-upload, by_pair-build, drops_by_pair-drop, by_number-bug}
 use Rattle.testing_rules_model.proofs.Picks.{rises-put, rises-sorted}
+use Rattle.testing_rules_model.specs.declared.fact_row.FactKind.TheVariants.{Source, Upload, Drop, Bug, Hint, Unhint, Delays}
 use Rattle.testing_rules_model.specs.FactRows.{source_row, upload_row, drop_row, bug_row, hint_row, unhint_row, delays_row, rows_of}
 use Rattle.testing_rules_laws.specs.Restored.{restored_all, no_facts, AreRowsOf, AreSameFacts}
 use Rattle.testing_rules_facts.specs.Restored.{Given, given_of, build_given, put_given, last_given, restored}
@@ -154,9 +155,9 @@ one_last : (v : Option DelaysIn) (ys : List DelaysIn) (last : Option DelaysIn) �
 one_last None ys last = refl
 one_last (Some d) ys last = refl
 
-delays_all : (xs : List Given) (f : FactLists) → (restored_all xs f).delays ≡ last_of_all (filter_map (given_of 8 delays_of) xs) f.delays
+delays_all : (xs : List Given) (f : FactLists) → (restored_all xs f).delays ≡ last_of_all (filter_map (given_of Delays delays_of) xs) f.delays
 delays_all [] f = refl
-delays_all (x ∷ xs) f = delays_all xs (restored x f) ∙ one_last (given_of 8 delays_of x) (filter_map (given_of 8 delays_of) xs) f.delays
+delays_all (x ∷ xs) f = delays_all xs (restored x f) ∙ one_last (given_of Delays delays_of x) (filter_map (given_of Delays delays_of) xs) f.delays
 
 either_way : (b : Bool) (d : DelaysIn) → cond b d d ≡ d
 either_way true d = refl
@@ -185,15 +186,15 @@ delays_from s (Some l) e d c = elim (first_or_rest l [] d c) [
 
 -- All of them.
 module _ (f : FactLists) (s : Covered) (t : Suite) (xs : List Given) (one : HasOneOfEach s) (h : StandsFor f s t) (are : AreRowsOf xs f s) where
-  sources_same : SameElements (filter_map (given_of 1 upload_of) xs) f.sources
+  sources_same : SameElements (filter_map (given_of Source upload_of) xs) f.sources
   sources_same =
-      same_given xs s one are.items upload_of (λ u. u.sender) (λ u. u.number) (λ m. upload_bears m.sender m.number m.item) 1 source_row (λ u. refl) f.sources
+      same_given xs s one are.items upload_of (λ u. u.sender) (λ u. u.number) (λ m. upload_bears m.sender m.number m.item) Source source_row (λ u. refl) f.sources
       (λ u c. chosen_from upload_total (λ name v. bytes_eq v.source name) (uploads_in s) (sorted_by (λ n. n) byte_cmp (map (λ v. v.source) (uploads_in s))) u (subst (λ l. Contains l u) h.sources c))
       (rows_of f) are.rows (of_sources f) (has_source f)
 
-  uploads_same : SameElements (filter_map (given_of 2 upload_of) xs) f.uploads
+  uploads_same : SameElements (filter_map (given_of Upload upload_of) xs) f.uploads
   uploads_same =
-      same_given xs s one are.items upload_of (λ u. u.sender) (λ u. u.number) (λ m. upload_bears m.sender m.number m.item) 2 upload_row (λ u. refl) f.uploads
+      same_given xs s one are.items upload_of (λ u. u.sender) (λ u. u.number) (λ m. upload_bears m.sender m.number m.item) Upload upload_row (λ u. refl) f.uploads
       h.are_uploads (rows_of f) are.rows (of_uploads f) (has_upload f)
 
   rows_same : SameElements (filter_map build_given xs) f.rows
@@ -202,52 +203,52 @@ module _ (f : FactLists) (s : Covered) (t : Suite) (xs : List Given) (one : HasO
       (λ b c. chosen_from build_total (counts_for (is_above_drops s)) (builds_in s) (sorted_by (λ p. p) pair_order (map pair_of (builds_in s))) b (subst (λ l. Contains l b) h.rows c))
       (rows_of f) are.rows (of_rows f) (has_build f)
 
-  drops_same : SameElements (filter_map (given_of 4 drop_of) xs) f.drops
+  drops_same : SameElements (filter_map (given_of Drop drop_of) xs) f.drops
   drops_same =
-      same_given xs s one are.items drop_of (λ d. d.sender) (λ d. d.number) (λ m. drop_bears m.sender m.number m.item) 4 drop_row (λ d. refl) f.drops
+      same_given xs s one are.items drop_of (λ d. d.sender) (λ d. d.number) (λ m. drop_bears m.sender m.number m.item) Drop drop_row (λ d. refl) f.drops
       (λ d c. chosen_from drop_total (λ p. is_drop_of p.0 p.1) (drops_in s) (sorted_by (λ p. p) pair_order (map drop_pair (drops_in s))) d (subst (λ l. Contains l d) h.drops c))
       (rows_of f) are.rows (of_drops f) (has_drop f)
 
-  bugs_same : SameElements (filter_map (given_of 5 bug_of) xs) f.bugs
+  bugs_same : SameElements (filter_map (given_of Bug bug_of) xs) f.bugs
   bugs_same =
-      same_given xs s one are.items bug_of (λ b. b.sender) (λ b. b.number) (λ m. bug_bears m.sender m.number m.item) 5 bug_row (λ b. refl) f.bugs
+      same_given xs s one are.items bug_of (λ b. b.sender) (λ b. b.number) (λ m. bug_bears m.sender m.number m.item) Bug bug_row (λ b. refl) f.bugs
       (λ b c. chosen_from bug_total (λ n b. b.bug == n) (bugs_in s) (sorted_by (λ n. n) nat_cmp (map (λ b. b.bug) (bugs_in s))) b (subst (λ l. Contains l b) h.bugs c))
       (rows_of f) are.rows (of_bugs f) (has_bug f)
 
-  hints_same : SameElements (filter_map (given_of 6 hint_of) xs) f.hints
+  hints_same : SameElements (filter_map (given_of Hint hint_of) xs) f.hints
   hints_same =
-      same_given xs s one are.items hint_of (λ b. b.sender) (λ b. b.number) (λ m. hint_bears m.sender m.number m.item) 6 hint_row (λ b. refl) f.hints
+      same_given xs s one are.items hint_of (λ b. b.sender) (λ b. b.number) (λ m. hint_bears m.sender m.number m.item) Hint hint_row (λ b. refl) f.hints
       (λ x c. from_sorted hint_total (hints_in s) x (subst (λ l. Contains l x) h.hints c)) (rows_of f) are.rows (of_hints f) (has_hint f)
 
-  unhints_same : SameElements (filter_map (given_of 7 unhint_of) xs) f.unhints
+  unhints_same : SameElements (filter_map (given_of Unhint unhint_of) xs) f.unhints
   unhints_same =
-      same_given xs s one are.items unhint_of (λ b. b.sender) (λ b. b.number) (λ m. unhint_bears m.sender m.number m.item) 7 unhint_row (λ b. refl) f.unhints
+      same_given xs s one are.items unhint_of (λ b. b.sender) (λ b. b.number) (λ m. unhint_bears m.sender m.number m.item) Unhint unhint_row (λ b. refl) f.unhints
       (λ x c. from_sorted unhint_total (unhints_in s) x (subst (λ l. Contains l x) h.unhints c)) (rows_of f) are.rows (of_unhints f) (has_unhint f)
 
-  delays_same : SameElements (filter_map (given_of 8 delays_of) xs) (option_to_list f.delays)
+  delays_same : SameElements (filter_map (given_of Delays delays_of) xs) (option_to_list f.delays)
   delays_same =
-      same_given xs s one are.items delays_of (λ b. b.sender) (λ b. b.number) (λ m. delays_bears m.sender m.number m.item) 8 delays_row (λ b. refl) (option_to_list f.delays)
+      same_given xs s one are.items delays_of (λ b. b.sender) (λ b. b.number) (λ m. delays_bears m.sender m.number m.item) Delays delays_row (λ b. refl) (option_to_list f.delays)
       (delays_from s f.delays h.delays) (rows_of f) are.rows (of_delays f) (to8 f)
 
   again : AreSameFacts f (restored_all xs no_facts)
   again = record {
-    sources = field_all with_upload (given_of 1 upload_of) (λ g. g.sources) (λ x g. refl) xs no_facts
-        ∙ put_all_is (λ u. u.source) text_order with_upload puts_upload (filter_map (given_of 1 upload_of) xs) f.sources (subst AreBySource (sym h.sources) (sources_order (uploads_in s))) sources_same;
+    sources = field_all with_upload (given_of Source upload_of) (λ g. g.sources) (λ x g. refl) xs no_facts
+        ∙ put_all_is (λ u. u.source) text_order with_upload puts_upload (filter_map (given_of Source upload_of) xs) f.sources (subst AreBySource (sym h.sources) (sources_order (uploads_in s))) sources_same;
     uploads = subst (λ us. SameElements us f.uploads)
-        (sym (field_all with_kept (given_of 2 upload_of) (λ g. g.uploads) (λ x g. refl) xs no_facts))
-        (put_all_same (λ u. u) message_total with_kept puts_kept (filter_map (given_of 2 upload_of) xs) f.uploads (λ u v c d e. message_tied u v e) uploads_same);
+        (sym (field_all with_kept (given_of Upload upload_of) (λ g. g.uploads) (λ x g. refl) xs no_facts))
+        (put_all_same (λ u. u) message_total with_kept puts_kept (filter_map (given_of Upload upload_of) xs) f.uploads (λ u v c d e. message_tied u v e) uploads_same);
     rows = field_all with_build build_given (λ g. g.rows) (λ x g. refl) xs no_facts
         ∙ put_all_is pair_of pair_total with_build puts_build (filter_map build_given xs) f.rows (subst AreByPair (sym h.rows) (rows_order (is_above_drops s) (builds_in s))) rows_same;
-    drops = field_all with_greatest (given_of 4 drop_of) (λ g. g.drops) (λ x g. refl) xs no_facts
-        ∙ put_all_is drop_pair pair_total with_greatest puts_drop (filter_map (given_of 4 drop_of) xs) f.drops (subst AreDropsByPair (sym h.drops) (drops_order (drops_in s))) drops_same;
-    bugs = field_all with_bug (given_of 5 bug_of) (λ g. g.bugs) (λ x g. refl) xs no_facts
-        ∙ put_all_is (λ b. b.bug) nat_cmp_total with_bug puts_bug (filter_map (given_of 5 bug_of) xs) f.bugs (subst AreByNumber (sym h.bugs) (bugs_order (bugs_in s))) bugs_same;
-    hints = field_all with_hint (given_of 6 hint_of) (λ g. g.hints) (λ x g. refl) xs no_facts
-        ∙ put_all_is (λ x. x) hint_total with_hint (puts_by hint_total) (filter_map (given_of 6 hint_of) xs) f.hints (subst (IsInOrder (λ x. x) hint_total) (sym h.hints) (sorted_order hint_total (hints_in s))) hints_same;
-    unhints = field_all with_unhint (given_of 7 unhint_of) (λ g. g.unhints) (λ x g. refl) xs no_facts
-        ∙ put_all_is (λ x. x) unhint_total with_unhint (puts_by unhint_total) (filter_map (given_of 7 unhint_of) xs) f.unhints
+    drops = field_all with_greatest (given_of Drop drop_of) (λ g. g.drops) (λ x g. refl) xs no_facts
+        ∙ put_all_is drop_pair pair_total with_greatest puts_drop (filter_map (given_of Drop drop_of) xs) f.drops (subst AreDropsByPair (sym h.drops) (drops_order (drops_in s))) drops_same;
+    bugs = field_all with_bug (given_of Bug bug_of) (λ g. g.bugs) (λ x g. refl) xs no_facts
+        ∙ put_all_is (λ b. b.bug) nat_cmp_total with_bug puts_bug (filter_map (given_of Bug bug_of) xs) f.bugs (subst AreByNumber (sym h.bugs) (bugs_order (bugs_in s))) bugs_same;
+    hints = field_all with_hint (given_of Hint hint_of) (λ g. g.hints) (λ x g. refl) xs no_facts
+        ∙ put_all_is (λ x. x) hint_total with_hint (puts_by hint_total) (filter_map (given_of Hint hint_of) xs) f.hints (subst (IsInOrder (λ x. x) hint_total) (sym h.hints) (sorted_order hint_total (hints_in s))) hints_same;
+    unhints = field_all with_unhint (given_of Unhint unhint_of) (λ g. g.unhints) (λ x g. refl) xs no_facts
+        ∙ put_all_is (λ x. x) unhint_total with_unhint (puts_by unhint_total) (filter_map (given_of Unhint unhint_of) xs) f.unhints
         (subst (IsInOrder (λ x. x) unhint_total) (sym h.unhints) (sorted_order unhint_total (unhints_in s))) unhints_same;
-    delays = delays_all xs no_facts ∙ last_is f.delays (filter_map (given_of 8 delays_of) xs) delays_same;
+    delays = delays_all xs no_facts ∙ last_is f.delays (filter_map (given_of Delays delays_of) xs) delays_same;
   }
 
 -- facts that are the same stand for the same

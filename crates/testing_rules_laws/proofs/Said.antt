@@ -5,11 +5,13 @@ use Rattle.std.specs.List.{filter_map}
 use Rattle.testing_rules_items.proofs.Members.{head_of, tail_of}
 use Rattle.testing_rules_model.specs.declared.facts.BuildIn.{BuildIn}
 use Rattle.testing_rules_model.specs.declared.facts.DelaysIn.{DelaysIn}
+use Rattle.testing_rules_model.specs.declared.fact_row.FactKind.{FactKind}
+use Rattle.testing_rules_model.specs.declared.fact_row.FactKind.TheVariants.{Source, Upload, Build, Drop, Bug, Hint, Unhint, Delays}
 use Rattle.testing_rules_model.specs.declared.fact_row.FactRow.{FactRow}
 use Rattle.testing_rules_model.specs.Covered.{Covered, CoveredItem, upload_of, drop_of, bug_of, hint_of, unhint_of, delays_of, builds_of, uploads_in, builds_in, drops_in, bugs_in, hints_in, unhints_in, delays_in}
 use Rattle.testing_rules_model.specs.FactLists.{FactLists}
 use Rattle.testing_rules_model.specs.FactOrder.{AreBySource, AreByPair, AreDropsByPair, AreByNumber}
-use Rattle.testing_rules_model.specs.FactRows.{rows_of}
+use Rattle.testing_rules_model.specs.FactRows.{is_kind, rows_of}
 use Rattle.testing_rules_model.specs.KeptFacts.{counts_beside, trimmed}
 use Rattle.testing_rules_model.specs.SameMessages.{SameElements, HasOneOfEach}
 use Rattle.testing_rules_model.specs.StandsFor.{StandsFor}
@@ -47,33 +49,33 @@ last_said pool (Some d) last own said z c = elim (delays_from d z last c) [ inl 
 
 -- What a row gives, the set says.
 module _ (x : Given) (s : Covered) (there : Contains s (message_of x)) where
-  of_message : {B : Type 0} (kind : ℕ) (says : CoveredItem → Option B) (y : B) → given_of kind says x ≡ Some y → Contains (filter_map says s) y
-  of_message kind says y e = gives says s (message_of x) y there (passed ((x.0.kind == kind) && (x.0.place == 0)) (says (message_of x)) y e).1
+  of_message : {B : Type 0} (kind : FactKind) (says : CoveredItem → Option B) (y : B) → given_of kind says x ≡ Some y → Contains (filter_map says s) y
+  of_message kind says y e = gives says s (message_of x) y there (passed (is_kind x.0.kind kind && (x.0.place == 0)) (says (message_of x)) y e).1
 
   of_build : (b : BuildIn) → build_given x ≡ Some b → Contains (builds_in s) b
   of_build b e =
-      let k = passed (x.0.kind == 3) (find (λ y. y.place == x.0.place) (builds_of (message_of x))) b e in
+      let k = passed (is_kind x.0.kind Build) (find (λ y. y.place == x.0.place) (builds_of (message_of x))) b e in
       spreads builds_of s (message_of x) b there (found x.0.place (builds_of (message_of x)) b k.1).0
 
 pub restored_tell : (x : Given) (f : FactLists) (s : Covered) → Tells f s → Contains s (message_of x) → Tells (restored x f) s
 restored_tell x f s h there = record {
   said = record {
-    sources = given_said with_upload upload_from (uploads_in s) (given_of 1 upload_of x) f.sources (of_message x s there 1 upload_of) h.said.sources;
-    uploads = given_said with_kept kept_from (uploads_in s) (given_of 2 upload_of x) f.uploads (of_message x s there 2 upload_of) h.said.uploads;
+    sources = given_said with_upload upload_from (uploads_in s) (given_of Source upload_of x) f.sources (of_message x s there Source upload_of) h.said.sources;
+    uploads = given_said with_kept kept_from (uploads_in s) (given_of Upload upload_of x) f.uploads (of_message x s there Upload upload_of) h.said.uploads;
     rows = given_said with_build build_from (builds_in s) (build_given x) f.rows (of_build x s there) h.said.rows;
-    drops = given_said with_greatest drop_from (drops_in s) (given_of 4 drop_of x) f.drops (of_message x s there 4 drop_of) h.said.drops;
-    bugs = given_said with_bug bug_from (bugs_in s) (given_of 5 bug_of x) f.bugs (of_message x s there 5 bug_of) h.said.bugs;
-    hints = given_said with_hint hint_from (hints_in s) (given_of 6 hint_of x) f.hints (of_message x s there 6 hint_of) h.said.hints;
-    unhints = given_said with_unhint unhint_from (unhints_in s) (given_of 7 unhint_of x) f.unhints (of_message x s there 7 unhint_of) h.said.unhints;
-    delays = last_said (delays_in s) (given_of 8 delays_of x) f.delays (of_message x s there 8 delays_of) h.said.delays;
+    drops = given_said with_greatest drop_from (drops_in s) (given_of Drop drop_of x) f.drops (of_message x s there Drop drop_of) h.said.drops;
+    bugs = given_said with_bug bug_from (bugs_in s) (given_of Bug bug_of x) f.bugs (of_message x s there Bug bug_of) h.said.bugs;
+    hints = given_said with_hint hint_from (hints_in s) (given_of Hint hint_of x) f.hints (of_message x s there Hint hint_of) h.said.hints;
+    unhints = given_said with_unhint unhint_from (unhints_in s) (given_of Unhint unhint_of x) f.unhints (of_message x s there Unhint unhint_of) h.said.unhints;
+    delays = last_said (delays_in s) (given_of Delays delays_of x) f.delays (of_message x s there Delays delays_of) h.said.delays;
   };
   orderly = record {
-    by_source = given_order with_upload AreBySource by_source-upload (given_of 1 upload_of x) f.sources h.orderly.by_source;
+    by_source = given_order with_upload AreBySource by_source-upload (given_of Source upload_of x) f.sources h.orderly.by_source;
     by_pair = given_order with_build AreByPair by_pair-build (build_given x) f.rows h.orderly.by_pair;
-    drops_by_pair = given_order with_greatest AreDropsByPair drops_by_pair-drop (given_of 4 drop_of x) f.drops h.orderly.drops_by_pair;
-    by_number = given_order with_bug AreByNumber by_number-bug (given_of 5 bug_of x) f.bugs h.orderly.by_number;
-    hints = given_order with_hint (IsStrictlySortedBy hint_order) hints_order (given_of 6 hint_of x) f.hints h.orderly.hints;
-    unhints = given_order with_unhint (IsStrictlySortedBy unhint_order) unhints_order (given_of 7 unhint_of x) f.unhints h.orderly.unhints;
+    drops_by_pair = given_order with_greatest AreDropsByPair drops_by_pair-drop (given_of Drop drop_of x) f.drops h.orderly.drops_by_pair;
+    by_number = given_order with_bug AreByNumber by_number-bug (given_of Bug bug_of x) f.bugs h.orderly.by_number;
+    hints = given_order with_hint (IsStrictlySortedBy hint_order) hints_order (given_of Hint hint_of x) f.hints h.orderly.hints;
+    unhints = given_order with_unhint (IsStrictlySortedBy unhint_order) unhints_order (given_of Unhint unhint_of x) f.unhints h.orderly.unhints;
   };
 }
 

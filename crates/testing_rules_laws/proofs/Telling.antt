@@ -19,6 +19,8 @@ use Rattle.testing_rules_model.proofs.SameFacts.{upload_bears, drop_bears, bug_b
 use Rattle.testing_rules_model.proofs.Sets.{first_or_rest, maps, mapped_from, spread_from, from_sorted}
 use Rattle.testing_rules_model.proofs.Orders.{text_order, upload_total, build_total, drop_total, bug_total, hint_total, unhint_total}
 use Rattle.testing_rules_model.proofs.MoreMail.{pair_total, counts_for}
+use Rattle.testing_rules_model.specs.declared.fact_row.FactKind.{FactKind}
+use Rattle.testing_rules_model.specs.declared.fact_row.FactKind.TheVariants.{Source, Upload, Build, Drop, Bug, Hint, Unhint, Delays}
 use Rattle.testing_rules_model.specs.declared.fact_row.FactRow.{FactRow}
 use Rattle.testing_rules_model.specs.FactRows.{source_row, upload_row, build_row, drop_row, bug_row, hint_row, unhint_row, delays_row, rows_of}
 use Rattle.testing_rules_laws.specs.Restored.{AreSameFacts}
@@ -28,10 +30,10 @@ use Rattle.testing_rules_laws.proofs.Naming.{of_sources, of_uploads, of_rows, of
 use Rattle.testing_rules_laws.proofs.Restoring.{sources_order, drops_order, bugs_order, rows_order, in_order_itself, sorted_strictly, chosen_from, delays_from, same_stand}
 
 -- Lists of one kind whose elements a row tells apart.
-module _ {B : Type 0} (row : B → FactRow) (n : ℕ) (kind : (b : B) → (row b).kind ≡ n) (pool : List B)
+module _ {B : Type 0} (row : B → FactRow) (k : FactKind) (kind : (b : B) → (row b).kind ≡ k) (pool : List B)
     (tell : (x y : B) → Contains pool x → Contains pool y → row x ≡ row y → x ≡ y) where
   half : (xs ys : List B) (rf rg : List FactRow) → ((r : FactRow) → Contains rf r → Contains rg r) → ((x : B) → Contains xs x → Contains pool x) → ((y : B) → Contains ys y → Contains pool y)
-      → ((r : FactRow) → Contains (map row xs) r → Contains rf r) → ((r : FactRow) → Contains rg r → r.kind ≡ n → Contains (map row ys) r) → (x : B) → Contains xs x → Contains ys x
+      → ((r : FactRow) → Contains (map row xs) r → Contains rf r) → ((r : FactRow) → Contains rg r → r.kind ≡ k → Contains (map row ys) r) → (x : B) → Contains xs x → Contains ys x
   half xs ys rf rg same px py has of x c =
       let q = of (row x) (same (row x) (has (row x) (maps row xs x c))) (kind x) in
       let y = mapped_from row ys (row x) q in
@@ -39,7 +41,7 @@ module _ {B : Type 0} (row : B → FactRow) (n : ℕ) (kind : (b : B) → (row b
 
   pub both : (xs ys : List B) (rf rg : List FactRow) → SameElements rf rg → ((x : B) → Contains xs x → Contains pool x) → ((y : B) → Contains ys y → Contains pool y)
       → ((r : FactRow) → Contains (map row xs) r → Contains rf r) → ((r : FactRow) → Contains (map row ys) r → Contains rg r)
-      → ((r : FactRow) → Contains rf r → r.kind ≡ n → Contains (map row xs) r) → ((r : FactRow) → Contains rg r → r.kind ≡ n → Contains (map row ys) r) → SameElements xs ys
+      → ((r : FactRow) → Contains rf r → r.kind ≡ k → Contains (map row xs) r) → ((r : FactRow) → Contains rg r → r.kind ≡ k → Contains (map row ys) r) → SameElements xs ys
   both xs ys rf rg same px py hx hy ox oy = (half xs ys rf rg same.0 px py hx oy, half ys xs rg rf same.1 py px hy ox)
 
 module _ (s : Covered) (one : HasOneOfEach s) where
@@ -69,28 +71,28 @@ module _ (s : Covered) (one : HasOneOfEach s) where
     pub same_facts : AreSameFacts f g
     same_facts = record {
       sources = sym (in_order_once (λ u. u.source) text_order f.sources g.sources of.by_source og.by_source
-          (both source_row 1 (λ u. refl) (uploads_in s) (λ x y c d e. one_given upload_of (λ u. u.sender) (λ u. u.number) (λ m. upload_bears m.sender m.number m.item) s one x y c d (ap (λ (r : FactRow). r.sender) e) (ap (λ (r : FactRow). r.number) e))
+          (both source_row Source (λ u. refl) (uploads_in s) (λ x y c d e. one_given upload_of (λ u. u.sender) (λ u. u.number) (λ m. upload_bears m.sender m.number m.item) s one x y c d (ap (λ (r : FactRow). r.sender) e) (ap (λ (r : FactRow). r.number) e))
           f.sources g.sources rf rg same sf.sources sg.sources (has_source f) (has_source g) (of_sources f) (of_sources g)));
       uploads =
           let p = both upload_row 2 (λ u. refl) (uploads_in s) (λ x y c d e. one_given upload_of (λ u. u.sender) (λ u. u.number) (λ m. upload_bears m.sender m.number m.item) s one x y c d (ap (λ (r : FactRow). r.sender) e) (ap (λ (r : FactRow). r.number) e))
           f.uploads g.uploads rf rg same sf.uploads sg.uploads (has_upload f) (has_upload g) (of_uploads f) (of_uploads g) in
           (p.1, p.0);
       rows = sym (in_order_once pair_of pair_total f.rows g.rows of.by_pair og.by_pair
-          (both build_row 3 (λ u. refl) (builds_in s) told_build f.rows g.rows rf rg same sf.rows sg.rows (has_build f) (has_build g) (of_rows f) (of_rows g)));
+          (both build_row Build (λ u. refl) (builds_in s) told_build f.rows g.rows rf rg same sf.rows sg.rows (has_build f) (has_build g) (of_rows f) (of_rows g)));
       drops = sym (in_order_once drop_pair pair_total f.drops g.drops of.drops_by_pair og.drops_by_pair
-          (both drop_row 4 (λ u. refl) (drops_in s) (λ x y c d e. one_given drop_of (λ u. u.sender) (λ u. u.number) (λ m. drop_bears m.sender m.number m.item) s one x y c d (ap (λ (r : FactRow). r.sender) e) (ap (λ (r : FactRow). r.number) e))
+          (both drop_row Drop (λ u. refl) (drops_in s) (λ x y c d e. one_given drop_of (λ u. u.sender) (λ u. u.number) (λ m. drop_bears m.sender m.number m.item) s one x y c d (ap (λ (r : FactRow). r.sender) e) (ap (λ (r : FactRow). r.number) e))
           f.drops g.drops rf rg same sf.drops sg.drops (has_drop f) (has_drop g) (of_drops f) (of_drops g)));
       bugs = sym (in_order_once (λ b. b.bug) nat_cmp_total f.bugs g.bugs of.by_number og.by_number
-          (both bug_row 5 (λ u. refl) (bugs_in s) (λ x y c d e. one_given bug_of (λ u. u.sender) (λ u. u.number) (λ m. bug_bears m.sender m.number m.item) s one x y c d (ap (λ (r : FactRow). r.sender) e) (ap (λ (r : FactRow). r.number) e))
+          (both bug_row Bug (λ u. refl) (bugs_in s) (λ x y c d e. one_given bug_of (λ u. u.sender) (λ u. u.number) (λ m. bug_bears m.sender m.number m.item) s one x y c d (ap (λ (r : FactRow). r.sender) e) (ap (λ (r : FactRow). r.number) e))
           f.bugs g.bugs rf rg same sf.bugs sg.bugs (has_bug f) (has_bug g) (of_bugs f) (of_bugs g)));
       hints = sym (in_order_once (λ x. x) hint_total f.hints g.hints (in_order_itself hint_total f.hints of.hints) (in_order_itself hint_total g.hints og.hints)
-          (both hint_row 6 (λ u. refl) (hints_in s) (λ x y c d e. one_given hint_of (λ u. u.sender) (λ u. u.number) (λ m. hint_bears m.sender m.number m.item) s one x y c d (ap (λ (r : FactRow). r.sender) e) (ap (λ (r : FactRow). r.number) e))
+          (both hint_row Hint (λ u. refl) (hints_in s) (λ x y c d e. one_given hint_of (λ u. u.sender) (λ u. u.number) (λ m. hint_bears m.sender m.number m.item) s one x y c d (ap (λ (r : FactRow). r.sender) e) (ap (λ (r : FactRow). r.number) e))
           f.hints g.hints rf rg same sf.hints sg.hints (has_hint f) (has_hint g) (of_hints f) (of_hints g)));
       unhints = sym (in_order_once (λ x. x) unhint_total f.unhints g.unhints (in_order_itself unhint_total f.unhints of.unhints) (in_order_itself unhint_total g.unhints og.unhints)
-          (both unhint_row 7 (λ u. refl) (unhints_in s) (λ x y c d e. one_given unhint_of (λ u. u.sender) (λ u. u.number) (λ m. unhint_bears m.sender m.number m.item) s one x y c d (ap (λ (r : FactRow). r.sender) e) (ap (λ (r : FactRow). r.number) e))
+          (both unhint_row Unhint (λ u. refl) (unhints_in s) (λ x y c d e. one_given unhint_of (λ u. u.sender) (λ u. u.number) (λ m. unhint_bears m.sender m.number m.item) s one x y c d (ap (λ (r : FactRow). r.sender) e) (ap (λ (r : FactRow). r.number) e))
           f.unhints g.unhints rf rg same sf.unhints sg.unhints (has_unhint f) (has_unhint g) (of_unhints f) (of_unhints g)));
       delays = one_option f.delays g.delays
-          (both delays_row 8 (λ u. refl) (delays_in s) (λ x y c d e. one_given delays_of (λ u. u.sender) (λ u. u.number) (λ m. delays_bears m.sender m.number m.item) s one x y c d (ap (λ (r : FactRow). r.sender) e) (ap (λ (r : FactRow). r.number) e))
+          (both delays_row Delays (λ u. refl) (delays_in s) (λ x y c d e. one_given delays_of (λ u. u.sender) (λ u. u.number) (λ m. delays_bears m.sender m.number m.item) s one x y c d (ap (λ (r : FactRow). r.sender) e) (ap (λ (r : FactRow). r.number) e))
           (option_to_list f.delays) (option_to_list g.delays) rf rg same sf.delays sg.delays (to8 f) (to8 g) (of_delays f) (of_delays g));
     }
 

@@ -3,6 +3,7 @@ use Rattle.std.specs.Prelude.{◌≡◌, ◌≤◌, List, Contains, IsSome}
 use Rattle.testing_rules_facts.specs.Restored.{Given, message_of, restored}
 use Rattle.testing_rules_facts.specs.Uploads.{AreByMessage}
 use Rattle.testing_rules_laws.specs.Restored.{restored_all}
+use Rattle.testing_rules_model.specs.declared.fact_row.FactKind.TheVariants.{Delays}
 use Rattle.testing_rules_model.specs.declared.fact_row.FactRow.{FactRow}
 use Rattle.testing_rules_model.specs.Covered.{Covered, CoveredItem, delays_of}
 use Rattle.testing_rules_model.specs.FactLists.{FactLists}
@@ -49,13 +50,13 @@ pub record NamesMessage (s : Covered) (r : FactRow) : Type 0 where
   pub among : Contains s message
   pub sender : message.sender ≡ r.sender
   pub number : message.number ≡ r.number
-  pub delays : r.kind ≡ 8 → IsSome (delays_of message)
+  pub delays : r.kind ≡ Delays → IsSome (delays_of message)
 
 -- rows that facts can have, each of a message, and no two of delays
 pub record AreFactRows (s : Covered) (rows : List FactRow) : Type 0 where
   pub each : (r : FactRow) → Contains rows r → IsFactRow r
   pub named : (r : FactRow) → Contains rows r → NamesMessage s r
-  pub one : (q r : FactRow) → Contains rows q → Contains rows r → q.kind ≡ 8 → r.kind ≡ 8 → q ≡ r
+  pub one : (q r : FactRow) → Contains rows q → Contains rows r → q.kind ≡ Delays → r.kind ≡ Delays → q ≡ r
 
 -- The rows of facts that messages say are such rows.
 abbrev pub ToldRowsAreFactRows : Type 0

@@ -1,10 +1,11 @@
 -- Kinds of facts, and their numbers.
-use Rattle.std.proofs.Common.{◌≡◌, refl, sym, ap, ◌∙◌, Option, Some}
+use Rattle.std.proofs.Common.{◌≡◌, refl, sym, ap, ◌∙◌, true, Option, Some, arith}
+use Rattle.std.proofs.lemmas.Bool.Decides.{nat_tests}
 use Rattle.std.specs.Ordering.{nat_cmp, ordering_then}
 use Rattle.testing_rules_model.specs.declared.fact_row.FactKind.{FactKind}
 use Rattle.testing_rules_model.specs.declared.fact_row.FactKind.TheVariants.{Source, Upload, Build, Drop, Bug, Hint, Unhint, Delays}
 use Rattle.testing_rules_model.specs.declared.fact_row.FactRow.{FactRow}
-use Rattle.testing_rules_model.specs.FactRows.{number_of, kind_of, row_order}
+use Rattle.testing_rules_model.specs.FactRows.{number_of, kind_of, is_kind, row_order}
 use Rattle.testing_rules_model.specs.contracts.fact_row.FactKindOrd.TheImpl as kinds
 use Rattle.testing_rules_model.specs.contracts.fact_row.FactRowOrd.TheImpl as rows
 
@@ -24,6 +25,12 @@ kind_again = each_kind (λ k. kind_of (number_of k) ≡ Some k) refl refl refl r
 -- a number tells its kind
 pub same_kind : (k l : FactKind) → number_of k ≡ number_of l → k ≡ l
 same_kind k l e = let is : ◌≡◌ {A = Option FactKind} (Some k) (Some l) = sym (kind_again k) ∙ ap kind_of e ∙ kind_again l in cc
+
+pub kind_is : (k l : FactKind) → is_kind k l ≡ true → k ≡ l
+kind_is k l h = same_kind k l (let e : number_of k ≡ number_of l = grind (arith, nat_tests) in e)
+
+pub kind_itself : (k : FactKind) → is_kind k k ≡ true
+kind_itself = each_kind (λ k. is_kind k k ≡ true) refl refl refl refl refl refl refl refl
 
 -- kinds lie as their numbers
 abbrev LiesSo : FactKind → FactKind → Type 0

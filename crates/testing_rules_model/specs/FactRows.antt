@@ -32,6 +32,10 @@ kind_of n =
     if n == 1 then Some Source else if n == 2 then Some Upload else if n == 3 then Some Build else if n == 4 then Some Drop
     else if n == 5 then Some Bug else if n == 6 then Some Hint else if n == 7 then Some Unhint else if n == 8 then Some Delays else None
 
+-- whether two kinds are the same
+abbrev pub is_kind : FactKind → FactKind → Bool
+is_kind k l = number_of k == number_of l
+
 -- the row of an unstable source, and that of an upload above testing's version
 abbrev pub source_row : UploadIn → FactRow
 source_row u = record { kind = Source; sender = u.sender; number = u.number; place = 0 }
@@ -71,7 +75,7 @@ pub record IsFactRow (r : FactRow) : Type 0 where
 
 -- whether a row is this one
 abbrev pub is_row : FactRow → FactRow → Bool
-is_row r x = (number_of x.kind == number_of r.kind) && ((x.sender == r.sender) && ((x.number == r.number) && (x.place == r.place)))
+is_row r x = is_kind x.kind r.kind && ((x.sender == r.sender) && ((x.number == r.number) && (x.place == r.place)))
 
 -- how often a row stands in a list
 abbrev pub times : FactRow → List FactRow → ℕ
