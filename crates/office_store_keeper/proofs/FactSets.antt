@@ -19,7 +19,8 @@ use Rattle.std.proofs.lemmas.List.Sorted.{searchable_from_sorted}
 use Rattle.std.proofs.lemmas.List.Sums.{sum_by-cons}
 use Rattle.testing_rules_model.specs.declared.fact_row.FactRow.{FactRow}
 use Rattle.testing_rules_model.specs.declared.fact_row.FactChanges.{FactChanges}
-use Rattle.testing_rules_model.specs.FactRows.{is_row, row_order, times}
+use Rattle.testing_rules_model.proofs.FactKinds.{kind_is}
+use Rattle.testing_rules_model.specs.FactRows.{number_of, is_kind, is_row, row_order, times}
 use Rattle.office_store_keeper.specs.FactSet.{FactSet, HasRow, count_in, is_among, rows_in, set_of_rows, without_rows, with_rows, facts_after}
 use Rattle.office_store_keeper.specs.MemoryState.{rows_left}
 
@@ -27,7 +28,7 @@ use Rattle.office_store_keeper.specs.MemoryState.{rows_left}
 
 pub row_total : IsTotalOrder row_order
 row_total =
-    then_total (on_total (λ (r : FactRow). r.kind) nat_cmp_total)
+    then_total (on_total (λ (r : FactRow). number_of r.kind) nat_cmp_total)
     (then_total (on_total (λ (r : FactRow). r.sender) nat_cmp_total) (then_total (on_total (λ (r : FactRow). r.number) nat_cmp_total) (on_total (λ (r : FactRow). r.place) nat_cmp_total)))
 
 both_are : (a b : Bool) → (a && b) ≡ true → (a ≡ true) × (b ≡ true)
@@ -39,11 +40,11 @@ same_nat a b e = grind (arith, nat_tests)
 
 pub row_same : (r x : FactRow) → is_row r x ≡ true → x ≡ r
 row_same r x h =
-    let a = both_are (x.kind == r.kind) _ h in
+    let a = both_are (is_kind x.kind r.kind) _ h in
     let b = both_are (x.sender == r.sender) _ a.1 in
     let c = both_are (x.number == r.number) (x.place == r.place) b.1 in
     let kinds : ◌≡◌ {A = FactRow} x (record { kind = r.kind; sender = x.sender; number = x.number; place = x.place }) =
-    ap (λ k. record { kind = k; sender = x.sender; number = x.number; place = x.place }) (same_nat x.kind r.kind a.0) in
+    ap (λ k. record { kind = k; sender = x.sender; number = x.number; place = x.place }) (kind_is x.kind r.kind a.0) in
     kinds
     ∙ ap (λ k. record { kind = r.kind; sender = k; number = x.number; place = x.place }) (same_nat x.sender r.sender b.0)
     ∙ ap (λ k. record { kind = r.kind; sender = r.sender; number = k; place = x.place }) (same_nat x.number r.number c.0)
@@ -63,9 +64,9 @@ row_is r x =
     let sender = nat_cmp r.sender x.sender in
     let number = nat_cmp r.number x.number in
     let place = nat_cmp r.place x.place in
-    then_tie (nat_cmp r.kind x.kind) (ordering_then sender (ordering_then number place))
-    ∙ ap (λ b. is_eq (nat_cmp r.kind x.kind) && b) (then_tie sender (ordering_then number place) ∙ ap (λ b. is_eq sender && b) (then_tie number place))
-    ∙ rw (nat_tie r.kind x.kind, nat_tie r.sender x.sender, nat_tie r.number x.number, nat_tie r.place x.place) refl
+    then_tie (nat_cmp (number_of r.kind) (number_of x.kind)) (ordering_then sender (ordering_then number place))
+    ∙ ap (λ b. is_eq (nat_cmp (number_of r.kind) (number_of x.kind)) && b) (then_tie sender (ordering_then number place) ∙ ap (λ b. is_eq sender && b) (then_tie number place))
+    ∙ rw (nat_tie (number_of r.kind) (number_of x.kind), nat_tie r.sender x.sender, nat_tie r.number x.number, nat_tie r.place x.place) refl
 
 pub exact_rows : IsAntisymmetric row_order
 exact_rows x y e = sym (row_same x y (sym (row_is x y) ∙ ap is_eq e))

@@ -2,6 +2,7 @@
 use Rattle.std.specs.Prelude.{◌≡◌, ◌≤◌, ◌⊎◌, ℕ, ⊤, Bool, is_some, if◌then◌else◌, List, [], ◌∷◌, map, IsSome}
 use Rattle.std.specs.List.{list_any}
 use Rattle.std.specs.FinMap.{FinMap, get, insert, remove, keys, from_entries}
+use Rattle.testing_rules_model.specs.declared.fact_row.FactKind.TheVariants.{Delays}
 use Rattle.testing_rules_model.specs.declared.fact_row.FactRow.{FactRow}
 use Rattle.testing_rules_model.specs.declared.fact_row.FactChanges.{FactChanges}
 use Rattle.testing_rules_model.specs.FactRows.{is_row, row_order}
@@ -46,8 +47,8 @@ with_rows (r ∷ rs) facts = with_rows rs (insert facts r tt)
 abbrev pub facts_after : FactChanges → FactSet → FactSet
 facts_after changes facts = with_rows changes.put (without_rows changes.gone facts)
 
--- Rows that an office's tables have a place for: of the eight kinds, and at most one on delays, of the release team.
+-- Rows that an office's tables have a place for: rows that facts can have, and at most one on delays, of the release team.
 pub record AreHoldable (setup : Lists) (facts : FactSet) : Type 0 where
   pub each : (r : FactRow) → HasRow facts r → IsFactRow r
-  pub release : (r : FactRow) → HasRow facts r → r.kind ≡ 8 → r.sender ≡ place_of_role Release setup.senders
-  pub one : (r s : FactRow) → HasRow facts r → HasRow facts s → r.kind ≡ 8 → s.kind ≡ 8 → r ≡ s
+  pub release : (r : FactRow) → HasRow facts r → r.kind ≡ Delays → r.sender ≡ place_of_role Release setup.senders
+  pub one : (r s : FactRow) → HasRow facts r → HasRow facts s → r.kind ≡ Delays → s.kind ≡ Delays → r ≡ s

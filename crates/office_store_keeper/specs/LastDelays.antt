@@ -3,6 +3,7 @@ use Rattle.std.specs.Prelude.{◌≡◌, ◌≤◌, ℕ, length, Option, Some, N
 use Rattle.std.specs.FinMap.{insert}
 use Rattle.testing_rules_model.specs.Covered.{CoveredItem, delays_of}
 use Rattle.testing_rules_model.specs.declared.facts.DelaysIn.{DelaysIn}
+use Rattle.testing_rules_model.specs.declared.fact_row.FactKind.TheVariants.{Delays}
 use Rattle.testing_rules_model.specs.declared.fact_row.FactRow.{FactRow}
 use Rattle.office_mail.specs.declared.message.Body.{Body}
 use Rattle.office_mail.specs.declared.message.Body.TheVariants.{Item, Run}
@@ -34,7 +35,7 @@ IsLastTold setup kept cover (Some last) = (1 ≤ last) × (last ≤ cover) × Te
 
 -- the row of the release team's delays under a number
 abbrev pub release_delays : Lists → ℕ → FactRow
-release_delays setup number = record { kind = 8; sender = place_of_role Release setup.senders; number = number; place = 0 }
+release_delays setup number = record { kind = Delays; sender = place_of_role Release setup.senders; number = number; place = 0 }
 
 -- rows of facts with that of the last delays, if there is one
 abbrev pub with_last : Lists → Option ℕ → FactSet → FactSet

@@ -15,6 +15,8 @@ use Rattle.sqlite_rules.specs.Edit.{is_taken}
 use Rattle.sqlite_rules.specs.Lists.{Has}
 use Rattle.sqlite_rules.proofs.ListLemmas.{has_filtered, has_kept}
 use Rattle.sqlite_rules.proofs.TableLemmas.{has_put, put_has, put_all_keeps}
+use Rattle.testing_rules_model.specs.declared.fact_row.FactKind.{FactKind}
+use Rattle.testing_rules_model.specs.declared.fact_row.FactKind.TheVariants.{Source, Upload, Build, Drop, Bug, Hint, Unhint, Delays}
 use Rattle.testing_rules_model.specs.declared.fact_row.FactRow.{FactRow}
 use Rattle.testing_rules_model.specs.declared.fact_row.FactChanges.{FactChanges}
 use Rattle.office_mail.specs.Lists.{Lists}
@@ -26,10 +28,11 @@ use Rattle.office_store_testing_tables.specs.FactTables.{fact_entry, may_stand, 
 use Rattle.office_store_testing_tables.specs.FactSteps.{is_fact, is_delays, id_columns, IsOnlyId, IsFound, TakesOut, TakesFact, TakesDelays, is_no_delays, AddsFact, AddsFacts, AddsDelays, CanStand, CanStandEach, MovesFacts, KeepsOthers, Leaves, DropsFact, DropsDelays, DropsOne, AddsOne, DropsEach, AddsEach, ChangesFacts}
 use Rattle.office_store_testing_tables.proofs.DeleteLemmas.{itself}
 use Rattle.office_store_testing_tables.proofs.MailLemmas.{empty_of, as_many, only_shown}
-use Rattle.office_store_testing_tables.proofs.KeepLemmas.{seven, apart}
+use Rattle.office_store_testing_tables.proofs.KeepLemmas.{seven}
+use Rattle.office_store_testing_tables.proofs.KindReads.{kinds_apart}
 use Rattle.office_store_testing_tables.proofs.WriteLemmas.{not_true}
 use Rattle.office_store_testing_tables.proofs.Eights.{take_on}
-use Rattle.office_store_testing_tables.proofs.FactSets.{same_set, same_entry, has_joined, of_inserted, inserted_has, of_removed, removed_has, said, says, below_eight}
+use Rattle.office_store_testing_tables.proofs.FactSets.{same_set, same_entry, has_joined, of_inserted, inserted_has, of_removed, removed_has, said, says, never_delays}
 use Rattle.office_store_testing_tables.proofs.FactReads.{fact_shape, fact_stands, fact_here, fact_only, delays_shape, delays_here, delays_only}
 
 -- ---- one row is taken out
@@ -157,17 +160,17 @@ others_then a b c first second = record {
 
 -- ---- one fact
 
-pub delays_are : (release : ℕ) (fact : FactRow) → fact.kind ≡ 8 → fact.sender ≡ release → fact.place ≡ 0 → fact ≡ delays_of release fact.number
+pub delays_are : (release : ℕ) (fact : FactRow) → fact.kind ≡ Delays → fact.sender ≡ release → fact.place ≡ 0 → fact ≡ delays_of release fact.number
 delays_are release fact kind sender place = λ i. record { kind = kind i; sender = sender i; number = fact.number; place = place i }
 
-eight : (release : ℕ) (row : Row) (q : FactRow) → delays_in release row ≡ Some (fact_entry q) → q.kind ≡ 8
-eight release row q is = ap (λ (f : FactRow). f.kind) (delays_shape release row q is).3
+of_delays : (release : ℕ) (row : Row) (q : FactRow) → delays_in release row ≡ Some (fact_entry q) → q.kind ≡ Delays
+of_delays release row q is = ap (λ (f : FactRow). f.kind) (delays_shape release row q is).3
 
-not_eight : (row : Row) (q : FactRow) → fact_in row ≡ Some (fact_entry q) → q.kind ≢ 8
-not_eight row q is = below_eight q.kind q.place (fact_shape row q is).stands
+of_others : (row : Row) (q : FactRow) → fact_in row ≡ Some (fact_entry q) → q.kind ≢ Delays
+of_others row q is = never_delays q.kind q.place (fact_shape row q is).stands
 
 module _ (release : ℕ) (db next : Trees) (fact : FactRow) where
-  pub drops_fact_moves : fact.kind ≢ 8 → DropsFact db next fact → DropsOne release db next fact
+  pub drops_fact_moves : fact.kind ≢ Delays → DropsFact db next fact → DropsOne release db next fact
   drops_fact_moves low it =
       let last : next 10 ≡ db 10 = ap (λ (r : Rows). r.delays) it.rest in
       record {
@@ -175,7 +178,7 @@ module _ (release : ℕ) (db next : Trees) (fact : FactRow) where
           has = same_set (facts_in release (next 8) (next 10)) (remove (facts_in release (db 8) (db 10)) fact)
               (λ q h. elim (said release (next 8) (next 10) q h) [
                 | inl a ↦ removed_has (facts_in release (db 8) (db 10)) fact q (λ same. it.leaves.gone a.0 a.1 (a.2 ∙ ap (λ f. Some (fact_entry f)) same)) (says release (db 8) (db 10) q (inl (a.0, it.leaves.had a.0 a.1, a.2)))
-                | inr b ↦ removed_has (facts_in release (db 8) (db 10)) fact q (λ same. low (ap (λ (f : FactRow). f.kind) (sym same) ∙ eight release b.0 q b.2)) (says release (db 8) (db 10) q (inr (b.0, subst (λ l. Has l b.0) last b.1, b.2)))
+                | inr b ↦ removed_has (facts_in release (db 8) (db 10)) fact q (λ same. low (ap (λ (f : FactRow). f.kind) (sym same) ∙ of_delays release b.0 q b.2)) (says release (db 8) (db 10) q (inr (b.0, subst (λ l. Has l b.0) last b.1, b.2)))
               ])
               (λ q h.
               let r = of_removed (facts_in release (db 8) (db 10)) fact q h in
@@ -196,12 +199,12 @@ module _ (release : ℕ) (db next : Trees) (fact : FactRow) where
   drops_delays_moves is it =
       let facts : next 8 ≡ db 8 = ap (λ (r : Rows). r.facts) it.rest in
       let leaves = it.leaves release in
-      let high : fact.kind ≡ 8 = ap (λ (f : FactRow). f.kind) is in
+      let high : fact.kind ≡ Delays = ap (λ (f : FactRow). f.kind) is in
       record {
         moves = record {
           has = same_set (facts_in release (next 8) (next 10)) (remove (facts_in release (db 8) (db 10)) fact)
               (λ q h. elim (said release (next 8) (next 10) q h) [
-                | inl a ↦ removed_has (facts_in release (db 8) (db 10)) fact q (λ same. not_eight a.0 q a.2 (ap (λ (f : FactRow). f.kind) same ∙ high)) (says release (db 8) (db 10) q (inl (a.0, subst (λ l. Has l a.0) facts a.1, a.2)))
+                | inl a ↦ removed_has (facts_in release (db 8) (db 10)) fact q (λ same. of_others a.0 q a.2 (ap (λ (f : FactRow). f.kind) same ∙ high)) (says release (db 8) (db 10) q (inl (a.0, subst (λ l. Has l a.0) facts a.1, a.2)))
                 | inr b ↦ removed_has (facts_in release (db 8) (db 10)) fact q (λ same. leaves.gone b.0 b.1 (b.2 ∙ ap (λ f. Some (fact_entry f)) (same ∙ is))) (says release (db 8) (db 10) q (inr (b.0, leaves.had b.0 b.1, b.2)))
               ])
               (λ q h.
@@ -220,12 +223,12 @@ module _ (release : ℕ) (db next : Trees) (fact : FactRow) where
       }
 
   -- no table says a fact of the delays of another sender, or with a place
-  pub drops_nothing : fact.kind ≡ 8 → (fact ≢ delays_of release fact.number) → next ≡ db → DropsOne release db next fact
+  pub drops_nothing : fact.kind ≡ Delays → (fact ≢ delays_of release fact.number) → next ≡ db → DropsOne release db next fact
   drops_nothing high other same = record {
     moves = record {
       has = ap (λ (t : Trees). facts_in release (t 8) (t 10)) same ∙ same_set (facts_in release (db 8) (db 10)) (remove (facts_in release (db 8) (db 10)) fact)
           (λ q h. removed_has (facts_in release (db 8) (db 10)) fact q (λ is. elim (said release (db 8) (db 10) q h) [
-            | inl a ↦ not_eight a.0 q a.2 (ap (λ (f : FactRow). f.kind) is ∙ high)
+            | inl a ↦ of_others a.0 q a.2 (ap (λ (f : FactRow). f.kind) is ∙ high)
             | inr b ↦ other (sym is ∙ (delays_shape release b.0 q b.2).3 ∙ ap (λ (f : FactRow). delays_of release f.number) is)
           ]) h)
           (λ q h. (of_removed (facts_in release (db 8) (db 10)) fact q h).1);
@@ -237,7 +240,7 @@ module _ (release : ℕ) (db next : Trees) (fact : FactRow) where
   fresh_keeps : (row : Row) (rows : List Row) (x : Row) → is_taken rows row ≡ false → Has rows x → Has (put_row row rows) x
   fresh_keeps row rows x free there = put_all_keeps (row ∷ []) rows x (ap (λ b. not b && true) free) there
 
-  pub adds_fact_moves : fact.kind ≢ 8 → AddsFact db next fact → AddsOne release db next fact
+  pub adds_fact_moves : fact.kind ≢ Delays → AddsFact db next fact → AddsOne release db next fact
   adds_fact_moves low it =
       let last : next 10 ≡ db 10 = ap (λ (r : Rows). r.delays) it.put in
       let facts : next 8 ≡ put_row it.row (db 8) = ap (λ (r : Rows). r.facts) it.put in
@@ -276,7 +279,7 @@ module _ (release : ℕ) (db next : Trees) (fact : FactRow) where
         | inr old ↦ inr (says release (db 8) (db 10) q (inl (row, old, is)))
       ]
 
-  pub adds_delays_moves : fact.kind ≡ 8 → AddsDelays db next fact.number → AddsOne release db next fact
+  pub adds_delays_moves : fact.kind ≡ Delays → AddsDelays db next fact.number → AddsOne release db next fact
   adds_delays_moves high it =
       let facts : next 8 ≡ db 8 = ap (λ (r : Rows). r.facts) it.put in
       let last : next 10 ≡ put_row it.row (db 10) = ap (λ (r : Rows). r.delays) it.put in
@@ -308,7 +311,7 @@ module _ (release : ℕ) (db next : Trees) (fact : FactRow) where
       }
     where
       is_delays_fact : CanStand release fact → fact ≡ delays_of release fact.number
-      is_delays_fact (inl can) = absurd (below_eight fact.kind fact.place can high)
+      is_delays_fact (inl can) = absurd (never_delays fact.kind fact.place can high)
       is_delays_fact (inr is) = is
 
       new_or_old : (it : AddsDelays db next fact.number) (q : FactRow) (row : Row) → Has (put_row it.row (db 10)) row → delays_in release row ≡ Some (fact_entry q) → delays_in release it.row ≡ Some (fact_entry fact) → (q ≡ fact) ⊎ IsSome (get (facts_in release (db 8) (db 10)) q)
@@ -390,7 +393,7 @@ module _ (release : ℕ) where
   adds_facts_each a b [] low same = adds_start a b same
   adds_facts_each a b (fact ∷ facts) low it =
       let parts = not_true _ _ low in
-      adds_then a it.0 b (fact ∷ []) facts (adds_alone a it.0 fact (adds_fact_moves release a it.0 fact (apart fact.kind 8 parts.0) it.1)) (adds_facts_each it.0 b facts parts.1 it.2)
+      adds_then a it.0 b (fact ∷ []) facts (adds_alone a it.0 fact (adds_fact_moves release a it.0 fact (kinds_apart fact.kind Delays parts.0) it.1)) (adds_facts_each it.0 b facts parts.1 it.2)
 
   -- the same of the fact at a place
   pub drops_at : (a b c : Trees) (facts : List FactRow) (i : ℕ) (d : FactRow) → i < length facts → DropsEach release a b (take i facts) → DropsOne release b c (get_or facts i d) → DropsEach release a c (take (i + 1) facts)
@@ -411,27 +414,21 @@ has_put_rows (x ∷ rows) facts q (inl (inl same)) = has_put_rows rows (insert f
 has_put_rows (x ∷ rows) facts q (inl (inr there)) = has_put_rows rows (insert facts x tt) q (inl there)
 has_put_rows (x ∷ rows) facts q (inr there) = has_put_rows rows (insert facts x tt) q (inr (inserted_has facts x q (inr there)))
 
-three_hold : (a b c : Bool) → a ≡ true → b ≡ true → (a && (b && (c || true))) ≡ true
-three_hold a b true p q = rw (p, q) refl
-three_hold a b false p q = rw (p, q) refl
-
-can_stand : (release : ℕ) (q : FactRow) → IsFactRow q → (q.kind ≡ 8 → q.sender ≡ release) → CanStand release q
-can_stand release q is own = go (q.kind == 8) refl is.place
+can_stand : (release : ℕ) (q : FactRow) → IsFactRow q → (q.kind ≡ Delays → q.sender ≡ release) → CanStand release q
+can_stand release q is own = elim is.place [
+  | inl build ↦ inl (ap (λ k. may_stand k q.place) build)
+  | inr none ↦ go q.kind refl none
+]
   where
-    go : (b : Bool) → (q.kind == 8) ≡ b → (q.kind ≡ 3) ⊎ (q.place ≡ 0) → CanStand release q
-    go true e (inl three) = let k : q.kind ≡ 8 = grind (arith, nat_tests) in absurd (omega (arith, k, three))
-    go true e (inr none) =
-        let k : q.kind ≡ 8 = grind (arith, nat_tests) in
-        let s : q.sender ≡ release = own k in
-        inr (λ i. record { kind = k i; sender = s i; number = q.number; place = none i })
-    go false e place = inl (stands q.kind q.place is.low is.high (let k : q.kind ≢ 8 = (λ same. false≢true (sym e ∙ (let t : (q.kind == 8) ≡ true = grind (arith, nat_tests) in t))) in k) place)
-      where
-        stands : (kind place : ℕ) → 1 ≤ kind → kind ≤ 8 → kind ≢ 8 → (kind ≡ 3) ⊎ (place ≡ 0) → may_stand kind place ≡ true
-        stands kind place low high other (inl three) = ap (λ k. may_stand k place) three
-        stands kind place low high other (inr none) =
-            let least : nat_le 1 kind ≡ true = grind (arith, nat_tests) in
-            let most : nat_le kind 7 ≡ true = grind (arith, nat_tests) in
-            ap (may_stand kind) none ∙ three_hold (nat_le 1 kind) (nat_le kind 7) (kind == 3) least most
+    go : (k : FactKind) → q.kind ≡ k → q.place ≡ 0 → CanStand release q
+    go Source e none = inl (ap (λ k. may_stand k q.place) e ∙ ap (λ p. p == 0) none)
+    go Upload e none = inl (ap (λ k. may_stand k q.place) e ∙ ap (λ p. p == 0) none)
+    go Build e none = inl (ap (λ k. may_stand k q.place) e)
+    go Drop e none = inl (ap (λ k. may_stand k q.place) e ∙ ap (λ p. p == 0) none)
+    go Bug e none = inl (ap (λ k. may_stand k q.place) e ∙ ap (λ p. p == 0) none)
+    go Hint e none = inl (ap (λ k. may_stand k q.place) e ∙ ap (λ p. p == 0) none)
+    go Unhint e none = inl (ap (λ k. may_stand k q.place) e ∙ ap (λ p. p == 0) none)
+    go Delays e none = inr (delays_are release q e (own e) none)
 
 -- what is put can stand, where what comes of it is holdable
 pub holdable_stands : (setup : Lists) (changes : FactChanges) (facts : FactSet) → AreHoldable setup (facts_after changes facts) → CanStandEach (release_place setup) changes.put

@@ -11,17 +11,21 @@ use Rattle.sqlite.specs.declared.types.Value.TheVariants.{Int}
 use Rattle.sqlite.specs.Order.{Row, column, value_cmp}
 use Rattle.sqlite_rules.specs.Lists.{Has}
 use Rattle.sqlite_rules.proofs.ListLemmas.{has_contained}
+use Rattle.testing_rules_model.specs.declared.fact_row.FactKind.{FactKind}
 use Rattle.testing_rules_model.specs.declared.fact_row.FactRow.{FactRow}
+use Rattle.testing_rules_model.specs.FactRows.{number_of}
+use Rattle.testing_rules_model.proofs.FactKinds.{same_kind}
 use Rattle.office_store_keeper.specs.FactSet.{set_of_rows}
 use Rattle.office_store_testing_tables.specs.Tables.{number_in, small_of, small_in}
 use Rattle.office_store_testing_tables.specs.TableContent.{ReadsEach}
 use Rattle.office_store_testing_tables.specs.Legible.{AreRead}
 use Rattle.office_store_testing_tables.specs.Entries.{integer_in}
-use Rattle.office_store_testing_tables.specs.FactTables.{fact_entry, may_stand, fact_of, fact_by, fact_in, delays_of, delays_by, delays_in, facts_in}
+use Rattle.office_store_testing_tables.specs.FactTables.{fact_entry, kind_in, may_stand, fact_of, fact_by, fact_in, delays_of, delays_by, delays_in, facts_in}
 use Rattle.office_store_testing_tables.specs.FactSteps.{fact_columns, delays_columns, shown_delays, IsOnlyDelays, is_fact, is_delays}
 use Rattle.office_store_testing_tables.proofs.EntrySays.{Fits32, small_is, integer_is}
 use Rattle.office_store_testing_tables.proofs.EntryReads.{small_value}
 use Rattle.office_store_testing_tables.proofs.EntryValues.{read_has, has_read, has_map, map_has}
+use Rattle.office_store_testing_tables.proofs.KindReads.{kind_value, kind_says}
 use Rattle.office_store_testing_tables.proofs.LetterFacts.{number_is, int_is}
 use Rattle.office_store_testing_tables.proofs.LoadFacts.{both, same_number}
 use Rattle.office_store_testing_tables.proofs.MailLemmas.{has_permuted, only_shown, single_of, empty_of, as_many}
@@ -33,11 +37,10 @@ use Rattle.office_store_testing_tables.proofs.FactSets.{AreSaid, same_entry, joi
 pub record IsFactShape (row : Row) (fact : FactRow) : Type 0 where
   pub id : ℤ
   pub rowid_is : column row 0 ≡ Int id
-  pub kind : column row 1 ≡ Int (pos fact.kind)
+  pub kind : column row 1 ≡ Int (pos (number_of fact.kind))
   pub sender : column row 2 ≡ Int (pos fact.sender)
   pub number : column row 3 ≡ Int (pos fact.number)
   pub place : column row 4 ≡ Int (pos fact.place)
-  pub small_kind : Fits32 fact.kind
   pub small_sender : Fits32 fact.sender
   pub small_number : Fits32 fact.number
   pub small_place : Fits32 fact.place
@@ -50,7 +53,7 @@ stands_of fact q h = go (may_stand fact.kind fact.place) refl h
     go true is e = let same = same_entry fact q e in (same, ap (λ (x : FactRow). may_stand x.kind x.place) (sym same) ∙ is)
     go false is e = absurd (let x = e in cc)
 
-parts_by : (i : Option ℤ) (k s n p : Option ℕ) (q : FactRow) → fact_by i k s n p ≡ Some (fact_entry q)
+parts_by : (i : Option ℤ) (k : Option FactKind) (s n p : Option ℕ) (q : FactRow) → fact_by i k s n p ≡ Some (fact_entry q)
     → (id : ℤ) × (i ≡ Some id) × (k ≡ Some q.kind) × (s ≡ Some q.sender) × (n ≡ Some q.number) × (p ≡ Some q.place) × (may_stand q.kind q.place ≡ true)
 parts_by None k s n p q h = absurd (let x = h in cc)
 parts_by (Some i) None s n p q h = absurd (let x = h in cc)
@@ -64,19 +67,18 @@ parts_by (Some i) (Some k) (Some s) (Some n) (Some p) q h =
 pub fact_shape : (row : Row) (fact : FactRow) → fact_in row ≡ Some (fact_entry fact) → IsFactShape row fact
 unfolding fact_in
 fact_shape row fact h =
-    let p = parts_by (integer_in (column row 0)) (small_in (column row 1)) (small_in (column row 2)) (small_in (column row 3)) (small_in (column row 4)) fact h in
-    let k = small_value (column row 1) fact.kind p.2 in
+    let p = parts_by (integer_in (column row 0)) (kind_in (column row 1)) (small_in (column row 2)) (small_in (column row 3)) (small_in (column row 4)) fact h in
+    let k = kind_value (column row 1) fact.kind p.2 in
     let s = small_value (column row 2) fact.sender p.3 in
     let n = small_value (column row 3) fact.number p.4 in
     let l = small_value (column row 4) fact.place p.5 in
     record {
       id = p.0;
       rowid_is = integer_is (column row 0) p.0 p.1;
-      kind = k.0;
+      kind = k;
       sender = s.0;
       number = n.0;
       place = l.0;
-      small_kind = k.1;
       small_sender = s.1;
       small_number = n.1;
       small_place = l.1;
@@ -84,11 +86,11 @@ fact_shape row fact h =
     }
 
 -- a row of these values says what it may
-pub fact_says : (row : Row) (id : ℤ) (fact : FactRow) → column row 0 ≡ Int id → column row 1 ≡ Int (pos fact.kind) → column row 2 ≡ Int (pos fact.sender) → column row 3 ≡ Int (pos fact.number) → column row 4 ≡ Int (pos fact.place)
-    → Fits32 fact.kind → Fits32 fact.sender → Fits32 fact.number → Fits32 fact.place → fact_in row ≡ fact_of fact
+pub fact_says : (row : Row) (id : ℤ) (fact : FactRow) → column row 0 ≡ Int id → column row 1 ≡ Int (pos (number_of fact.kind)) → column row 2 ≡ Int (pos fact.sender) → column row 3 ≡ Int (pos fact.number) → column row 4 ≡ Int (pos fact.place)
+    → Fits32 fact.sender → Fits32 fact.number → Fits32 fact.place → fact_in row ≡ fact_of fact
 unfolding fact_in
-fact_says row id fact a b c d e w x y z = rw (a, b, c, d, e)
-    (ap (λ v. fact_by (Some id) v (small_of (Some fact.sender)) (small_of (Some fact.number)) (small_of (Some fact.place))) (small_is fact.kind w)
+fact_says row id fact a b c d e x y z = rw (a, b, c, d, e)
+    (ap (λ v. fact_by (Some id) v (small_of (Some fact.sender)) (small_of (Some fact.number)) (small_of (Some fact.place))) (kind_says fact.kind)
     ∙ ap (λ v. fact_by (Some id) (Some fact.kind) v (small_of (Some fact.number)) (small_of (Some fact.place))) (small_is fact.sender x)
     ∙ ap (λ v. fact_by (Some id) (Some fact.kind) (Some fact.sender) v (small_of (Some fact.place))) (small_is fact.number y)
     ∙ ap (fact_by (Some id) (Some fact.kind) (Some fact.sender) (Some fact.number)) (small_is fact.place z))
@@ -105,7 +107,7 @@ five : {X : Type 0} (a b c d e v w x y z : X) → a ≡ v → b ≡ w → c ≡ 
 five a b c d e v w x y z p q r s t = λ i. p i ∷ q i ∷ r i ∷ s i ∷ t i ∷ []
 
 -- a shown row of other values says nothing
-pub fact_none : (row : Row) → ((id : ℤ) (kind sender number place : ℕ) → Fits32 kind → Fits32 sender → Fits32 number → Fits32 place → row ≢ Int id ∷ Int (pos kind) ∷ Int (pos sender) ∷ Int (pos number) ∷ Int (pos place) ∷ [])
+pub fact_none : (row : Row) → ((id : ℤ) (kind : FactKind) (sender number place : ℕ) → Fits32 sender → Fits32 number → Fits32 place → row ≢ Int id ∷ Int (pos (number_of kind)) ∷ Int (pos sender) ∷ Int (pos number) ∷ Int (pos place) ∷ [])
     → row ≡ fact_columns row → fact_in row ≡ None
 fact_none row other shown = go (fact_in row) refl
   where
@@ -113,21 +115,21 @@ fact_none row other shown = go (fact_in row) refl
     go None is = is
     go (Some (fact, u)) is =
         let s = fact_shape row fact is in
-        absurd (other s.id fact.kind fact.sender fact.number fact.place s.small_kind s.small_sender s.small_number s.small_place
-        (shown ∙ five (column row 0) (column row 1) (column row 2) (column row 3) (column row 4) (Int s.id) (Int (pos fact.kind)) (Int (pos fact.sender)) (Int (pos fact.number)) (Int (pos fact.place)) s.rowid_is s.kind s.sender s.number s.place))
+        absurd (other s.id fact.kind fact.sender fact.number fact.place s.small_sender s.small_number s.small_place
+        (shown ∙ five (column row 0) (column row 1) (column row 2) (column row 3) (column row 4) (Int s.id) (Int (pos (number_of fact.kind))) (Int (pos fact.sender)) (Int (pos fact.number)) (Int (pos fact.place)) s.rowid_is s.kind s.sender s.number s.place))
 
 int_same : (a b : ℕ) → Int (pos a) ≡ Int (pos b) → a ≡ b
 int_same a b h = let e = h in cc
 
 -- nor does one of a kind that has no place
-pub fact_misplaced : (row : Row) (kind place : ℕ) → column row 1 ≡ Int (pos kind) → column row 4 ≡ Int (pos place) → may_stand kind place ≡ false → fact_in row ≡ None
+pub fact_misplaced : (row : Row) (kind : FactKind) (place : ℕ) → column row 1 ≡ Int (pos (number_of kind)) → column row 4 ≡ Int (pos place) → may_stand kind place ≡ false → fact_in row ≡ None
 fact_misplaced row kind place k p none = go (fact_in row) refl
   where
     go : (o : Option (FactRow × ⊤)) → fact_in row ≡ o → fact_in row ≡ None
     go None is = is
     go (Some (fact, u)) is =
         let s = fact_shape row fact is in
-        let a : fact.kind ≡ kind = int_same fact.kind kind (sym s.kind ∙ k) in
+        let a : fact.kind ≡ kind = same_kind fact.kind kind (int_same (number_of fact.kind) (number_of kind) (sym s.kind ∙ k)) in
         let b : fact.place ≡ place = int_same fact.place place (sym s.place ∙ p) in
         absurd (false≢true (sym none ∙ ap (λ x. may_stand x place) (sym a) ∙ ap (may_stand fact.kind) (sym b) ∙ s.stands))
 
@@ -144,15 +146,15 @@ all_four a b c d p q r s = rw (p, q, r, s) refl
 pub fact_here : (row : Row) (fact : FactRow) → fact_in row ≡ Some (fact_entry fact) → is_fact fact row ≡ true
 fact_here row fact is =
     let s = fact_shape row fact is in
-    all_four _ _ _ _ (equal (column row 1) fact.kind s.kind) (equal (column row 2) fact.sender s.sender) (equal (column row 3) fact.number s.number) (equal (column row 4) fact.place s.place)
+    all_four _ _ _ _ (equal (column row 1) (number_of fact.kind) s.kind) (equal (column row 2) fact.sender s.sender) (equal (column row 3) fact.number s.number) (equal (column row 4) fact.place s.place)
 
 pub fact_only : (row : Row) (fact other : FactRow) → is_fact fact row ≡ true → fact_in row ≡ Some (fact_entry other) → other ≡ fact
 fact_only row fact other h is =
     let s = fact_shape row other is in
-    let a = both (is_eq (value_cmp (column row 1) (Int (pos fact.kind)))) _ h in
+    let a = both (is_eq (value_cmp (column row 1) (Int (pos (number_of fact.kind))))) _ h in
     let b = both (is_eq (value_cmp (column row 2) (Int (pos fact.sender)))) _ a.1 in
     let c = both (is_eq (value_cmp (column row 3) (Int (pos fact.number)))) (is_eq (value_cmp (column row 4) (Int (pos fact.place)))) b.1 in
-    let k = same_at (column row 1) other.kind fact.kind s.kind a.0 in
+    let k = same_kind other.kind fact.kind (same_at (column row 1) (number_of other.kind) (number_of fact.kind) s.kind a.0) in
     let r = same_at (column row 2) other.sender fact.sender s.sender b.0 in
     let n = same_at (column row 3) other.number fact.number s.number c.0 in
     let p = same_at (column row 4) other.place fact.place s.place c.1 in

@@ -11,8 +11,11 @@ use Rattle.std.specs.Ordering.{nat_cmp, eq_by_cmp, is_eq, ordering_then}
 use Rattle.std.specs.FinMap.{IsAntisymmetric, get, insert, remove, from_entries, get-from_entries, get-insert, get-remove, same_map, nat_cmp-IsAntisymmetric}
 use Rattle.sqlite.specs.Order.{Row}
 use Rattle.sqlite_rules.specs.Lists.{Has}
+use Rattle.testing_rules_model.specs.declared.fact_row.FactKind.{FactKind}
+use Rattle.testing_rules_model.specs.declared.fact_row.FactKind.TheVariants.{Delays}
 use Rattle.testing_rules_model.specs.declared.fact_row.FactRow.{FactRow}
-use Rattle.testing_rules_model.specs.FactRows.{row_order}
+use Rattle.testing_rules_model.proofs.FactKinds.{same_kind}
+use Rattle.testing_rules_model.specs.FactRows.{number_of, row_order}
 use Rattle.office_store_keeper.specs.FactSet.{FactSet, set_of_rows}
 use Rattle.office_store_testing_tables.specs.FactTables.{fact_entry, may_stand, fact_in, delays_in, facts_in}
 use Rattle.office_store_testing_tables.proofs.EntryMaps.{from_first, has_first}
@@ -23,7 +26,7 @@ use Rattle.office_store_testing_tables.proofs.KeyedFacts.{tied}
 
 pub fact_total : IsTotalOrder row_order
 fact_total =
-    then_total (on_total (λ (r : FactRow). r.kind) nat_cmp_total)
+    then_total (on_total (λ (r : FactRow). number_of r.kind) nat_cmp_total)
     (then_total (on_total (λ (r : FactRow). r.sender) nat_cmp_total) (then_total (on_total (λ (r : FactRow). r.number) nat_cmp_total) (on_total (λ (r : FactRow). r.place) nat_cmp_total)))
 
 first_tied : (o p : Ordering) → ordering_then o p ≡ Equal → (o ≡ Equal) × (p ≡ Equal)
@@ -33,10 +36,10 @@ first_tied Greater p h = absurd (let e = h in cc)
 
 pub fact_exact : IsAntisymmetric row_order
 fact_exact x y h =
-    let a = first_tied (nat_cmp x.kind y.kind) _ h in
+    let a = first_tied (nat_cmp (number_of x.kind) (number_of y.kind)) _ h in
     let b = first_tied (nat_cmp x.sender y.sender) _ a.1 in
     let c = first_tied (nat_cmp x.number y.number) (nat_cmp x.place y.place) b.1 in
-    let k : x.kind ≡ y.kind = nat_cmp-IsAntisymmetric x.kind y.kind a.0 in
+    let k : x.kind ≡ y.kind = same_kind x.kind y.kind (nat_cmp-IsAntisymmetric (number_of x.kind) (number_of y.kind) a.0) in
     let s : x.sender ≡ y.sender = nat_cmp-IsAntisymmetric x.sender y.sender b.0 in
     let n : x.number ≡ y.number = nat_cmp-IsAntisymmetric x.number y.number c.0 in
     let p : x.place ≡ y.place = nat_cmp-IsAntisymmetric x.place y.place c.1 in
@@ -145,12 +148,6 @@ set_is release facts delays rows there back = same_set (set_of_rows rows) (facts
 pub same_entry : (a b : FactRow) → ◌≡◌ {A = Option (FactRow × ⊤)} (Some (fact_entry a)) (Some (fact_entry b)) → a ≡ b
 same_entry a b h = let e : ◌≡◌ {A = FactRow × ⊤} (fact_entry a) (fact_entry b) = cc in ap (λ (x : FactRow × ⊤). x.0) e
 
-both : (a b : Bool) → (a && b) ≡ true → (a ≡ true) × (b ≡ true)
-both true b h = (refl, h)
-both false b h = absurd (false≢true h)
-
--- kind 8 has no place in the table of facts
-pub below_eight : (kind place : ℕ) → may_stand kind place ≡ true → kind ≢ 8
-below_eight kind place h is =
-    let low : nat_le kind 7 ≡ true = (both (nat_le kind 7) _ (both (nat_le 1 kind) _ h).1).0 in
-    absurd (let e : kind ≤ 7 = grind (arith, nat_tests) in omega (arith, e, is))
+-- the last delays have no place in the table of facts
+pub never_delays : (kind : FactKind) (place : ℕ) → may_stand kind place ≡ true → kind ≢ Delays
+never_delays kind place h is = false≢true (sym (ap (λ k. may_stand k place) is) ∙ h)

@@ -15,6 +15,7 @@ use Rattle.sqlite.specs.Effect.{Answers}
 use Rattle.sqlite.specs.Listing.{understood, reads_listing}
 use Rattle.sqlite.proofs.Callers.{IsPlain, command_of, reads_as}
 use Rattle.testing_rules_model.specs.declared.fact_row.FactRow.{FactRow}
+use Rattle.testing_rules_model.specs.FactRows.{number_of}
 use Rattle.office_store_testing_tables.specs.Layout.{office_schema}
 use Rattle.office_store_testing_tables.specs.Texts.{facts_text, delays_text, fact_ids_text, delays_ids_text}
 use Rattle.office_store_testing_tables.specs.FactSteps.{fact_columns, delays_columns, id_columns, is_fact, is_delays}
@@ -72,12 +73,12 @@ unfolding understood everything
 fact_ids_plain = ((refl, refl), refl)
 
 abbrev pub fact_params : FactRow → Row
-fact_params fact = Int (pos fact.kind) ∷ Int (pos fact.sender) ∷ Int (pos fact.number) ∷ Int (pos fact.place) ∷ []
+fact_params fact = Int (pos (number_of fact.kind)) ∷ Int (pos fact.sender) ∷ Int (pos fact.number) ∷ Int (pos fact.place) ∷ []
 
 fact_passes : (fact : FactRow) (row : Row) → passes fact_ids_query.filter (fact_params fact) row ≡ is_fact fact row
 fact_passes fact row =
-    rw (equal_is (column row 1) (pos fact.kind), equal_is (column row 2) (pos fact.sender), equal_is (column row 3) (pos fact.number), equal_is (column row 4) (pos fact.place))
-    (ap (λ b. is_eq (value_cmp (column row 1) (Int (pos fact.kind))) && (is_eq (value_cmp (column row 2) (Int (pos fact.sender))) && (is_eq (value_cmp (column row 3) (Int (pos fact.number))) && b))) (and_true _))
+    rw (equal_is (column row 1) (pos (number_of fact.kind)), equal_is (column row 2) (pos fact.sender), equal_is (column row 3) (pos fact.number), equal_is (column row 4) (pos fact.place))
+    (ap (λ b. is_eq (value_cmp (column row 1) (Int (pos (number_of fact.kind)))) && (is_eq (value_cmp (column row 2) (Int (pos fact.sender))) && (is_eq (value_cmp (column row 3) (Int (pos fact.number))) && b))) (and_true _))
 
 pub shows_fact_ids : (fact : FactRow) (old new : State) (rows : List Row) → old.now.schema ≡ office_schema → Shown fact_ids_text (fact_params fact) old new rows → IsPermutation (map id_columns (filter (is_fact fact) (old.now.trees 8))) rows
 shows_fact_ids fact old new rows has h =

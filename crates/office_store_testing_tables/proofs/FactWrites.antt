@@ -18,6 +18,7 @@ use Rattle.sqlite.specs.State.{State, Executes, Writes, mode_of}
 use Rattle.sqlite.proofs.Callers.{IsPlain, command_of, runs_as, statement_of}
 use Rattle.sqlite_tied.specs.Compute.{everything}
 use Rattle.testing_rules_model.specs.declared.fact_row.FactRow.{FactRow}
+use Rattle.testing_rules_model.specs.FactRows.{number_of}
 use Rattle.office_store_testing_tables.specs.Layout.{office_schema, fact, fact_delays}
 use Rattle.office_store_testing_tables.specs.Texts.{add_fact_text, add_eight_facts_text, add_delays_text, take_fact_text, take_delays_text}
 use Rattle.office_store_testing_tables.specs.FactTables.{fact_of, fact_in}
@@ -48,33 +49,33 @@ unfolding understood everything
 add_fact_is = (refl, (refl, refl))
 
 abbrev fact_values : FactRow → Row
-fact_values row = Null ∷ Int (pos row.kind) ∷ Int (pos row.sender) ∷ Int (pos row.number) ∷ Int (pos row.place) ∷ []
+fact_values row = Null ∷ Int (pos (number_of row.kind)) ∷ Int (pos row.sender) ∷ Int (pos row.number) ∷ Int (pos row.place) ∷ []
 
 abbrev new_fact : List Row → FactRow → Row
 new_fact rows row = with_rowid Chosen rows (cast_row fact_table (fact_values row))
 
-new_fact_says : (rows : List Row) (row : FactRow) → Fits32 row.kind → Fits32 row.sender → Fits32 row.number → Fits32 row.place → fact_in (new_fact rows row) ≡ fact_of row
-new_fact_says rows row w x y z =
+new_fact_says : (rows : List Row) (row : FactRow) → Fits32 row.sender → Fits32 row.number → Fits32 row.place → fact_in (new_fact rows row) ≡ fact_of row
+new_fact_says rows row x y z =
     fact_says (new_fact rows row) (next_rowid rows) row
-    (rw cast_null refl) (rw cast_null (cast_int (pos row.kind))) (rw cast_null (cast_int (pos row.sender))) (rw cast_null (cast_int (pos row.number))) (rw cast_null (cast_int (pos row.place))) w x y z
+    (rw cast_null refl) (rw cast_null (cast_int (pos (number_of row.kind)))) (rw cast_null (cast_int (pos row.sender))) (rw cast_null (cast_int (pos row.number))) (rw cast_null (cast_int (pos row.place))) x y z
 
 added_fact : (row : FactRow) → FitsFact row → (db next : Trees) → Inserted office_schema fact_table db next (new_fact (db 8) row) → AddsFact db next row
 added_fact row fits db next it = record {
   row = new_fact (db 8) row;
-  says = new_fact_says (db 8) row fits.0 fits.1 fits.2 fits.3;
+  says = new_fact_says (db 8) row fits.0 fits.1 fits.2;
   free = it.free;
   put = with_facts db next _ it.others it.rows;
 }
 
-pub adds_fact : (row : FactRow) → Fits32 row.kind → Fits32 row.sender → Fits32 row.number → Fits32 row.place → (old new : State) (count : ℕ) → old.now.schema ≡ office_schema → Executes add_fact_text (fact_params row) old new (Ok count)
+pub adds_fact : (row : FactRow) → Fits32 row.sender → Fits32 row.number → Fits32 row.place → (old new : State) (count : ℕ) → old.now.schema ≡ office_schema → Executes add_fact_text (fact_params row) old new (Ok count)
     → (new.now.schema ≡ office_schema) × AddsFact old.now.trees new.now.trees row
-adds_fact row w x y z old new count has h =
+adds_fact row x y z old new count has h =
     let command = Insert 5 (Values fact_terms 5) in
     let text = statement_of add_fact_text (understood office_schema add_fact_text) in
     let went_on : Writes old new None command text (fact_params row) count = runs_as add_fact_text (fact_params row) old new office_schema has command add_fact_is.0 add_fact_is.1 count h in
     let done = subst (λ s. Does old.step_limit (mode_of old) (fact_params row) (record old.now { schema = s }) text None command (Ok (went_on.tally, new.now))) has went_on.changed in
     let made = inserts_one office_schema 5 fact_table old.step_limit (mode_of old) (fact_params row) text old.now.trees fact_terms 5 (fact_values row) went_on.tally new.now refl refl refl done in
-    (made.0, added_fact row (w, x, y, z) old.now.trees new.now.trees made.1)
+    (made.0, added_fact row (x, y, z) old.now.trees new.now.trees made.1)
 
 abbrev eight_fact_terms : List Term
 eight_fact_terms = lit Null ∷ col 0 0 ∷ col 0 1 ∷ col 0 2 ∷ col 0 3 ∷ lit Null ∷ col 0 4 ∷ col 0 5 ∷ col 0 6 ∷ col 0 7 ∷ lit Null ∷ col 0 8 ∷ col 0 9 ∷ col 0 10 ∷ col 0 11 ∷ lit Null ∷ col 0 12 ∷ col 0 13 ∷ col 0 14 ∷ col 0 15 ∷ lit Null ∷ col 0 16 ∷ col 0 17 ∷ col 0 18 ∷ col 0 19 ∷ lit Null ∷ col 0 20 ∷ col 0 21 ∷ col 0 22 ∷ col 0 23 ∷ lit Null ∷ col 0 24 ∷ col 0 25 ∷ col 0 26 ∷ col 0 27 ∷ lit Null ∷ col 0 28 ∷ col 0 29 ∷ col 0 30 ∷ col 0 31 ∷ []

@@ -3,6 +3,7 @@ pub mod StateLemmas
 pub mod ReadingLemmas
 pub mod Answered
 pub mod KeyedFacts
+pub mod KindReads
 pub mod LetterFacts
 pub mod MailLemmas
 pub mod Eights

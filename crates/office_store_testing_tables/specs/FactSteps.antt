@@ -1,6 +1,6 @@
 -- Steps: no contract of a call that users make rests on this file.
 -- What the statements on the tables of facts show and make of them.
-use Rattle.std.specs.Prelude.{◌≡◌, ◌≢◌, ◌≤◌, ◌<◌, ◌⊎◌, ◌&&◌, Bool, true, false, not, nat_eq, ℕ, ℤ, pos, List, [], ◌∷◌, length, map, filter, Option, Some, None, ⊤}
+use Rattle.std.specs.Prelude.{◌≡◌, ◌≢◌, ◌≤◌, ◌<◌, ◌⊎◌, ◌&&◌, Bool, true, false, not, ℕ, ℤ, pos, List, [], ◌∷◌, length, map, filter, Option, Some, None, ⊤}
 use Rattle.std.specs.FinMap.{insert, remove}
 use Rattle.std.specs.Ordering.{is_eq}
 use Rattle.std.specs.List.Sorted.{IsPermutation}
@@ -9,7 +9,9 @@ use Rattle.sqlite_rules.specs.Edit.{is_taken}
 use Rattle.sqlite.specs.Order.{Row, column, value_cmp}
 use Rattle.sqlite.specs.Tree.{Trees, rowid, has_rowid, without_rowid, put_row}
 use Rattle.sqlite.specs.declared.types.Value.TheVariants.{Int}
+use Rattle.testing_rules_model.specs.declared.fact_row.FactKind.TheVariants.{Delays}
 use Rattle.testing_rules_model.specs.declared.fact_row.FactRow.{FactRow}
+use Rattle.testing_rules_model.specs.FactRows.{number_of, is_kind}
 use Rattle.testing_rules_model.specs.declared.fact_row.FactChanges.{FactChanges}
 use Rattle.office_store_keeper.specs.FactSet.{FactSet, without_rows, with_rows, facts_after}
 use Rattle.office_store_testing_tables.specs.Tables.{number_in, small_in}
@@ -37,7 +39,7 @@ IsOnlyDelays release (Some fact) rows = (row : Row) × (rows ≡ row ∷ []) × 
 -- the row compares equal, as SQL's = does, to this fact
 abbrev pub is_fact : FactRow → Row → Bool
 is_fact fact row =
-    is_eq (value_cmp (column row 1) (Int (pos fact.kind)))
+    is_eq (value_cmp (column row 1) (Int (pos (number_of fact.kind))))
     && (is_eq (value_cmp (column row 2) (Int (pos fact.sender))) && (is_eq (value_cmp (column row 3) (Int (pos fact.number))) && is_eq (value_cmp (column row 4) (Int (pos fact.place)))))
 
 -- the row of the last delays compares equal, as SQL's = does, to this number
@@ -83,15 +85,15 @@ pub record AddsFact (db next : Trees) (fact : FactRow) : Type 0 where
 
 -- the values that a statement takes for a fact
 abbrev pub fact_parameters : FactRow → Row
-fact_parameters fact = Int (pos fact.kind) ∷ Int (pos fact.sender) ∷ Int (pos fact.number) ∷ Int (pos fact.place) ∷ []
+fact_parameters fact = Int (pos (number_of fact.kind)) ∷ Int (pos fact.sender) ∷ Int (pos fact.number) ∷ Int (pos fact.place) ∷ []
 
--- the numbers of a fact have 32 bits
+-- the numbers of a fact have 32 bits; that of its kind has always
 abbrev pub FitsFact : FactRow → Type 0
-FitsFact fact = (fact.kind < 4_294_967_296) × (fact.sender < 4_294_967_296) × (fact.number < 4_294_967_296) × (fact.place < 4_294_967_296)
+FitsFact fact = (fact.sender < 4_294_967_296) × (fact.number < 4_294_967_296) × (fact.place < 4_294_967_296)
 
 -- a fact that isn't the last delays
 abbrev pub is_no_delays : FactRow → Bool
-is_no_delays fact = not (nat_eq fact.kind 8)
+is_no_delays fact = not (is_kind fact.kind Delays)
 
 -- rows of these facts were put in one by one, and the other tables stand
 abbrev pub AddsFacts : Trees → Trees → List FactRow → Type 0

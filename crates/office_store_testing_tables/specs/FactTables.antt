@@ -1,8 +1,12 @@
 -- The tables of facts, and what they say.
-use Rattle.std.specs.Prelude.{◌&&◌, ◌||◌, ◌==◌, ◌++◌, nat_le, if◌then◌else◌, Bool, ℕ, ℤ, List, filter_map, Option, Some, None, ⊤}
+use Rattle.std.specs.Prelude.{◌&&◌, ◌||◌, ◌==◌, ◌++◌, not, if◌then◌else◌, Bool, ℕ, ℤ, List, filter_map, Option, Some, None, ⊤}
 use Rattle.std.specs.FinMap.{from_entries}
+use Rattle.sqlite.specs.declared.types.Value.{Value}
 use Rattle.sqlite.specs.Order.{Row, column}
+use Rattle.testing_rules_model.specs.declared.fact_row.FactKind.{FactKind}
+use Rattle.testing_rules_model.specs.declared.fact_row.FactKind.TheVariants.{Build, Delays}
 use Rattle.testing_rules_model.specs.declared.fact_row.FactRow.{FactRow}
+use Rattle.testing_rules_model.specs.FactRows.{kind_of, is_kind}
 use Rattle.office_store_keeper.specs.FactSet.{FactSet}
 use Rattle.office_store_testing_tables.specs.Tables.{number_in, small_in}
 use Rattle.office_store_testing_tables.specs.Entries.{integer_in}
@@ -11,14 +15,22 @@ use Rattle.office_store_testing_tables.specs.Entries.{integer_in}
 abbrev pub fact_entry : FactRow → FactRow × ⊤
 fact_entry fact = (fact, tt)
 
+-- the kind whose number a value is
+abbrev pub kind_by : Option ℕ → Option FactKind
+kind_by None = None
+kind_by (Some number) = kind_of number
+
+abbrev pub kind_in : Value → Option FactKind
+kind_in value = kind_by (small_in value)
+
 -- whether the table of facts may have a row of this kind with this place
-abbrev pub may_stand : ℕ → ℕ → Bool
-may_stand kind place = nat_le 1 kind && (nat_le kind 7 && ((kind == 3) || (place == 0)))
+abbrev pub may_stand : FactKind → ℕ → Bool
+may_stand kind place = not (is_kind kind Delays) && (is_kind kind Build || (place == 0))
 
 abbrev pub fact_of : FactRow → Option (FactRow × ⊤)
 fact_of fact = if may_stand fact.kind fact.place then Some (fact_entry fact) else None
 
-abbrev pub fact_by : Option ℤ → Option ℕ → Option ℕ → Option ℕ → Option ℕ → Option (FactRow × ⊤)
+abbrev pub fact_by : Option ℤ → Option FactKind → Option ℕ → Option ℕ → Option ℕ → Option (FactRow × ⊤)
 fact_by None kind sender number place = None
 fact_by (Some rowid) None sender number place = None
 fact_by (Some rowid) (Some kind) None number place = None
@@ -28,11 +40,11 @@ fact_by (Some rowid) (Some kind) (Some sender) (Some number) (Some place) = fact
 
 -- what a row of the table of facts says
 unfoldable pub fact_in : Row → Option (FactRow × ⊤)
-fact_in row = fact_by (integer_in (column row 0)) (small_in (column row 1)) (small_in (column row 2)) (small_in (column row 3)) (small_in (column row 4))
+fact_in row = fact_by (integer_in (column row 0)) (kind_in (column row 1)) (small_in (column row 2)) (small_in (column row 3)) (small_in (column row 4))
 
 -- the fact of the delays under a number of the release team, which has this place
 abbrev pub delays_of : ℕ → ℕ → FactRow
-delays_of release number = record { kind = 8; sender = release; number = number; place = 0 }
+delays_of release number = record { kind = Delays; sender = release; number = number; place = 0 }
 
 abbrev pub delays_by : ℕ → Option ℕ → Option ℕ → Option (FactRow × ⊤)
 delays_by release None number = None

@@ -10,12 +10,12 @@ use crate::rowids::{alone, only_id};
 use office_store_keeper::{Cause, KeepFault};
 use sqlite::types::{ToSql, ValueRef};
 use sqlite::{Alter, Error, Row, Transaction, params};
-use testing_rules_model::FactRow;
+use testing_rules_model::{FactKind, FactRow};
 
 /// The rowids of a fact, in any order.
 fn fact_ids<S: Alter>(
     tx: &mut Transaction<'_, S>,
-    kind: u32,
+    kind: FactKind,
     sender: u32,
     number: u32,
     place: u32,
@@ -25,6 +25,7 @@ fn fact_ids<S: Alter>(
     ensures same { LeavesAll S.Store tx.old.conn tx.new.conn result }
     ensures rows { Yields S.Store tx.old.conn tx.new.conn result (λ db _ rows. IsPermutation (map id_columns (filter (is_fact (record { kind = kind; sender = sender; number = number; place = place })) (db 8))) rows.items) }
 {
+    let kind = kind.number();
     tx.query_all(
         "SELECT rowid FROM fact WHERE kind = ?1 AND sender = ?2 AND number = ?3 AND place = ?4",
         params![kind, sender, number, place],
@@ -65,7 +66,7 @@ fn take_delays<S: Alter>(tx: &mut Transaction<'_, S>, id: i64) -> Result<usize, 
 /// Adds one fact.
 fn add_fact<S: Alter>(
     tx: &mut Transaction<'_, S>,
-    kind: u32,
+    kind: FactKind,
     sender: u32,
     number: u32,
     place: u32,
@@ -74,6 +75,7 @@ fn add_fact<S: Alter>(
     ensures steps { StepsWithin S.Store tx.old.conn tx.new.conn result }
     ensures added { Yields S.Store tx.old.conn tx.new.conn result (λ db next _. AddsFact db next (record { kind = kind; sender = sender; number = number; place = place })) }
 {
+    let kind = kind.number();
     tx.execute(
         "INSERT INTO fact (kind, sender, number, place) VALUES (?1, ?2, ?3, ?4)",
         params![kind, sender, number, place],
@@ -193,7 +195,7 @@ fn drop_one<S: Alter>(
     ensures dropped { Yields S.Store tx.old.conn tx.new.conn result (λ db next _. DropsOne release db next fact.now) }
     ensures bad { result ≢ Err (KeepFault.Store Cause.BadRow) }
 {
-    if fact.kind != 8 {
+    if fact.kind != FactKind::Delays {
         drop_fact(tx, fact)?;
         return Ok(());
     }
@@ -217,7 +219,7 @@ fn add_one<S: Alter>(
     ensures steps { StepsWithin S.Store tx.old.conn tx.new.conn result }
     ensures added { Yields S.Store tx.old.conn tx.new.conn result (λ db next _. AddsOne release db next fact.now) }
 {
-    if fact.kind != 8 {
+    if fact.kind != FactKind::Delays {
         let added = add_fact(tx, fact.kind, fact.sender, fact.number, fact.place)?;
         return Ok(added);
     }
@@ -243,10 +245,11 @@ pub fn drop_each<S: Alter>(
 }
 
 /// The values of a fact's columns.
-fn fact_values(kind: u32, sender: u32, number: u32, place: u32) -> [ValueRef<'static>; 4]
+fn fact_values(kind: FactKind, sender: u32, number: u32, place: u32) -> [ValueRef<'static>; 4]
     ensures is { bound result ≡ fact_parameters (record { kind = kind; sender = sender; number = number; place = place }) }
     ensures fits { FitsFact (record { kind = kind; sender = sender; number = number; place = place }) }
 {
+    let kind = kind.number();
     [
         kind.to_sql(),
         sender.to_sql(),
@@ -302,7 +305,7 @@ fn add_eight<S: Alter>(tx: &mut Transaction<'_, S>, facts: &[FactRow]) -> Result
 fn are_no_delays(facts: &[FactRow]) -> bool
     ensures { result ≡ list_all is_no_delays facts.now }
 {
-    facts.iter().all(|fact| fact.kind != 8)
+    facts.iter().all(|fact| fact.kind != FactKind::Delays)
 }
 
 /// Puts the first of these facts into their tables, and says how many: eight by one statement where it can, or one.

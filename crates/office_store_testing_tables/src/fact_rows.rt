@@ -1,9 +1,11 @@
 //! The tables of facts, read back.
-ghost use Rattle.std.specs.Prelude.{◌≡◌, ◌≢◌, ◌<◌, ◌∷◌, ◌++◌, [], ℤ, ℕ, true, Err, Some, None, pos, map, option_to_list, IfOk};
+ghost use Rattle.std.specs.Prelude.{◌≡◌, ◌≢◌, ◌<◌, ◌∷◌, ◌++◌, [], ℤ, ℕ, true, Err, Some, None, pos, length, map, option_to_list, IfOk};
 ghost use Rattle.std.specs.List.Sorted.{IsPermutation};
 ghost use Rattle.sqlite.specs.Order.{column};
 ghost use Rattle.sqlite.specs.declared.types.Value.TheVariants.{Int};
 ghost use Rattle.sqlite.specs.Held.{state};
+ghost use Rattle.testing_rules_model.specs.FactRows.{number_of};
+ghost use Rattle.testing_rules_model.specs.declared.fact_row.FactKind.{FactKind as AKind};
 ghost use Rattle.office_store_keeper.specs.FactSet.{rows_in as rows_in_set, set_of_rows};
 ghost use Rattle.office_store_testing_tables.specs.Tables.{IsTrusted};
 ghost use Rattle.office_store_testing_tables.specs.ReadsOnly.{ReadsOnly, BeginsOurs, Finds};
@@ -18,7 +20,7 @@ use office_mail::{Role, Setup};
 use office_store_keeper::{Cause, KeepFault, rows_in_order};
 use sqlite::{Alter, Connection, Error, Row};
 use std::alloc::Global;
-use testing_rules_model::{FactRow, FactRows};
+use testing_rules_model::{FactKind, FactRow, FactRows};
 
 /// The place of the release team.
 pub fn release_place(setup: &Setup) -> u32
@@ -36,20 +38,36 @@ pub fn release_place(setup: &Setup) -> u32
 }
 
 /// Whether the table of facts may have a row of this kind with this place.
-fn may_stand(kind: u32, place: u32) -> bool
+fn may_stand(kind: FactKind, place: u32) -> bool
     ensures { result ≡ may_stand kind place }
 {
-    1 <= kind && (kind <= 7 && (kind == 3 || place == 0))
+    match kind {
+        FactKind::Delays => false,
+        FactKind::Build => true,
+        _ => place == 0,
+    }
 }
 
-/// The four numbers in a shown row of facts.
+/// The kind whose number stands in the second column of a shown row of facts.
+fn kind_in(row: &Row) -> Result<FactKind, KeepFault>
+    ensures ok { IfOk result (λ kind. column row.now 1 ≡ Int (pos (number_of kind))) }
+    ensures bad { result ≡ Err (KeepFault.Store Cause.BadRow) → 1 < length row.now → (kind : AKind) → column row.now 1 ≢ Int (pos (number_of kind)) }
+{
+    let number = number_in(row, 1)?;
+    match FactKind::of_number(number) {
+        Some(kind) => Ok(kind),
+        None => Err(KeepFault::Store(Cause::BadRow)),
+    }
+}
+
+/// The kind and the three numbers in a shown row of facts.
 fn fact_numbers(row: &Row) -> Result<FactRow, KeepFault>
     ensures ok { IfOk result (λ fact. may_stand fact.kind fact.place ≡ true → fact_in row.now ≡ Some (fact_entry fact)) }
-    ensures is { IfOk result (λ fact. (column row.now 1 ≡ Int (pos fact.kind)) × (column row.now 4 ≡ Int (pos fact.place))) }
-    ensures bad { result ≡ Err (KeepFault.Store Cause.BadRow) → (id : ℤ) (kind sender number place : ℕ) → kind < 4_294_967_296 → sender < 4_294_967_296 → number < 4_294_967_296 → place < 4_294_967_296 → row.now ≢ Int id ∷ Int (pos kind) ∷ Int (pos sender) ∷ Int (pos number) ∷ Int (pos place) ∷ [] }
+    ensures is { IfOk result (λ fact. (column row.now 1 ≡ Int (pos (number_of fact.kind))) × (column row.now 4 ≡ Int (pos fact.place))) }
+    ensures bad { result ≡ Err (KeepFault.Store Cause.BadRow) → (id : ℤ) (kind : AKind) (sender number place : ℕ) → sender < 4_294_967_296 → number < 4_294_967_296 → place < 4_294_967_296 → row.now ≢ Int id ∷ Int (pos (number_of kind)) ∷ Int (pos sender) ∷ Int (pos number) ∷ Int (pos place) ∷ [] }
 {
     let _rowid = rowid_in(row)?;
-    let kind = number_in(row, 1)?;
+    let kind = kind_in(row)?;
     let sender = number_in(row, 2)?;
     let number = number_in(row, 3)?;
     let place = number_in(row, 4)?;
@@ -108,7 +126,7 @@ fn delays_said(rows: &[Row], release: u32) -> Result<Option<FactRow>, KeepFault>
     match rows {
         [] => Ok(None),
         [row] => Ok(Some(FactRow {
-            kind: 8,
+            kind: FactKind::Delays,
             sender: release,
             number: delays_number(row)?,
             place: 0,

@@ -1,13 +1,15 @@
 -- Kinds of facts, and their numbers.
-use Rattle.std.proofs.Common.{◌≡◌, refl, sym, ap, ◌∙◌, true, Option, Some, arith}
+use Rattle.std.proofs.Common.{◌≡◌, refl, sym, ap, ◌∙◌, true, ◌==◌, ◌&&◌, Option, Some, arith}
 use Rattle.std.proofs.lemmas.Bool.Decides.{nat_tests}
 use Rattle.std.specs.Ordering.{nat_cmp, ordering_then}
 use Rattle.testing_rules_model.specs.declared.fact_row.FactKind.{FactKind}
 use Rattle.testing_rules_model.specs.declared.fact_row.FactKind.TheVariants.{Source, Upload, Build, Drop, Bug, Hint, Unhint, Delays}
 use Rattle.testing_rules_model.specs.declared.fact_row.FactRow.{FactRow}
-use Rattle.testing_rules_model.specs.FactRows.{number_of, kind_of, is_kind, row_order}
+use Rattle.testing_rules_model.specs.FactRows.{number_of, kind_of, is_kind, is_row, row_order}
 use Rattle.testing_rules_model.specs.contracts.fact_row.FactKindOrd.TheImpl as kinds
+use Rattle.testing_rules_model.specs.contracts.fact_row.FactKindPartialEq.TheImpl as same_kinds
 use Rattle.testing_rules_model.specs.contracts.fact_row.FactRowOrd.TheImpl as rows
+use Rattle.testing_rules_model.specs.contracts.fact_row.FactRowPartialEq.TheImpl as same_rows
 
 each_kind : (P : FactKind → Type 0) → P Source → P Upload → P Build → P Drop → P Bug → P Hint → P Unhint → P Delays → (k : FactKind) → P k
 each_kind P a b c d e f g h Source = a
@@ -32,20 +34,24 @@ kind_is k l h = same_kind k l (let e : number_of k ≡ number_of l = grind (arit
 pub kind_itself : (k : FactKind) → is_kind k k ≡ true
 kind_itself = each_kind (λ k. is_kind k k ≡ true) refl refl refl refl refl refl refl refl
 
--- kinds lie as their numbers
-abbrev LiesSo : FactKind → FactKind → Type 0
-LiesSo k l = kinds.cmp-value.it k l ≡ nat_cmp (number_of k) (number_of l)
+-- what is derived on kinds goes by their numbers: how two lie, and whether they are the same
+abbrev GoByNumber : FactKind → FactKind → Type 0
+GoByNumber k l = (kinds.cmp-value.it k l ≡ nat_cmp (number_of k) (number_of l)) × (same_kinds.eq-value.it k l ≡ is_kind k l)
 
-kinds_lie : (k l : FactKind) → LiesSo k l
-kinds_lie Source = each_kind (LiesSo Source) refl refl refl refl refl refl refl refl
-kinds_lie Upload = each_kind (LiesSo Upload) refl refl refl refl refl refl refl refl
-kinds_lie Build = each_kind (LiesSo Build) refl refl refl refl refl refl refl refl
-kinds_lie Drop = each_kind (LiesSo Drop) refl refl refl refl refl refl refl refl
-kinds_lie Bug = each_kind (LiesSo Bug) refl refl refl refl refl refl refl refl
-kinds_lie Hint = each_kind (LiesSo Hint) refl refl refl refl refl refl refl refl
-kinds_lie Unhint = each_kind (LiesSo Unhint) refl refl refl refl refl refl refl refl
-kinds_lie Delays = each_kind (LiesSo Delays) refl refl refl refl refl refl refl refl
+go_by_number : (k l : FactKind) → GoByNumber k l
+go_by_number Source = each_kind (GoByNumber Source) (refl, refl) (refl, refl) (refl, refl) (refl, refl) (refl, refl) (refl, refl) (refl, refl) (refl, refl)
+go_by_number Upload = each_kind (GoByNumber Upload) (refl, refl) (refl, refl) (refl, refl) (refl, refl) (refl, refl) (refl, refl) (refl, refl) (refl, refl)
+go_by_number Build = each_kind (GoByNumber Build) (refl, refl) (refl, refl) (refl, refl) (refl, refl) (refl, refl) (refl, refl) (refl, refl) (refl, refl)
+go_by_number Drop = each_kind (GoByNumber Drop) (refl, refl) (refl, refl) (refl, refl) (refl, refl) (refl, refl) (refl, refl) (refl, refl) (refl, refl)
+go_by_number Bug = each_kind (GoByNumber Bug) (refl, refl) (refl, refl) (refl, refl) (refl, refl) (refl, refl) (refl, refl) (refl, refl) (refl, refl)
+go_by_number Hint = each_kind (GoByNumber Hint) (refl, refl) (refl, refl) (refl, refl) (refl, refl) (refl, refl) (refl, refl) (refl, refl) (refl, refl)
+go_by_number Unhint = each_kind (GoByNumber Unhint) (refl, refl) (refl, refl) (refl, refl) (refl, refl) (refl, refl) (refl, refl) (refl, refl) (refl, refl)
+go_by_number Delays = each_kind (GoByNumber Delays) (refl, refl) (refl, refl) (refl, refl) (refl, refl) (refl, refl) (refl, refl) (refl, refl) (refl, refl)
 
 -- the order that is derived on rows is theirs
 pub derived_order : rows.cmp-value.it ≡ row_order
-derived_order = λ i r s. ordering_then (kinds_lie r.kind s.kind i) (ordering_then (nat_cmp r.sender s.sender) (ordering_then (nat_cmp r.number s.number) (nat_cmp r.place s.place)))
+derived_order = λ i r s. ordering_then ((go_by_number r.kind s.kind).0 i) (ordering_then (nat_cmp r.sender s.sender) (ordering_then (nat_cmp r.number s.number) (nat_cmp r.place s.place)))
+
+-- and so is the test whether two are the same
+pub derived_test : (r s : FactRow) → same_rows.eq-value.it r s ≡ is_row s r
+derived_test r s = ap (λ same. same && ((r.sender == s.sender) && ((r.number == s.number) && (r.place == s.place)))) (go_by_number r.kind s.kind).1
