@@ -91,14 +91,17 @@ pub fn facts_in<K: Keeper>(keeper: &mut K, came: &mut String) -> Result<(), Allo
     }
 }
 
-/// Adds rows of facts: how many there are, and of each its kind, sender, number and place.
+/// Adds rows of facts: how many there are, and of each its kind's number, sender, number and place.
 fn put_facts(rows: &[FactRow], came: &mut String) -> Result<(), AllocError> {
     write!(came, "facts {}\n", rows.len())?;
     for row in rows {
         write!(
             came,
             "fact {} {} {} {}\n",
-            row.kind, row.sender, row.number, row.place
+            row.kind.number(),
+            row.sender,
+            row.number,
+            row.place
         )?;
     }
     Ok(())

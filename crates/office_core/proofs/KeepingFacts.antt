@@ -2,6 +2,7 @@
 use Rattle.std.proofs.Common.{◌≡◌, ℕ, ◌+◌, ◌<◌, ◌≤◌, List, [], length, slice_index, Option, Some, None, IfSome, IsSome, sym, ap, subst, ◌∙◌, arith}
 use Rattle.std.specs.Prelude.{Contains}
 use Rattle.std.specs.FinMap.{get}
+use Rattle.testing_rules_model.specs.declared.fact_row.FactKind.TheVariants.{Delays}
 use Rattle.testing_rules_model.specs.declared.fact_row.FactRow.{FactRow}
 use Rattle.testing_rules_model.specs.declared.fact_row.FactChanges.{FactChanges}
 use Rattle.testing_rules_model.specs.declared.facts.DelaysIn.{DelaysIn}
@@ -124,7 +125,7 @@ module _ (setup : Lists) (old new : Content) (orders : List RunOrder) (f : FactL
       ap (λ (s : FactSet). count_in s r) is
       ∙ count_is setup old.facts (said_all setup old.kept) f changes (one_of_all setup old.kept) leaves.way.tells leaves.way.by_message leaves.way.rows leaves.difference r
 
-  pub are_held : ((r : FactRow) → Contains (rows_of f) r → r.kind ≡ 8 → r.sender ≡ place_of_role Release setup.senders) → AreHoldable setup (facts_after changes old.facts)
+  pub are_held : ((r : FactRow) → Contains (rows_of f) r → r.kind ≡ Delays → r.sender ≡ place_of_role Release setup.senders) → AreHoldable setup (facts_after changes old.facts)
   are_held told = holdable setup old.facts (said_all setup old.kept) f changes (one_of_all setup old.kept) leaves.way.tells leaves.way.by_message leaves.way.rows leaves.difference told
 
   settled_rows : ((r : FactRow) → count_in new.facts r ≡ times r (rows_of f)) → IsChangedFrom (count_in new.facts) (settled f)

@@ -1,5 +1,5 @@
 -- The migration of what an office of schema 1 left.
-use Rattle.std.proofs.Common.{◌≡◌, ⊎_elim, ◌≢◌, ◌≤◌, ◌<◌, ◌+◌, ◌==◌, ◌&&◌, ◌||◌, inl, inr, ℕ, Bool, true, false, cond, List, [], ◌∷◌, ◌++◌, length, map, Option, Some, None, Ok, IsSome, is_some, option_to_list, sym, ap, subst, ◌∙◌, refl, arith}
+use Rattle.std.proofs.Common.{◌≡◌, ⊎_elim, ◌≢◌, ◌≤◌, ◌+◌, ◌==◌, ◌&&◌, ◌||◌, inl, inr, ℕ, Bool, true, false, cond, List, [], ◌∷◌, ◌++◌, length, map, Option, Some, None, Ok, IsSome, is_some, option_to_list, sym, ap, subst, ◌∙◌, refl, arith}
 use Rattle.std.specs.Prelude.{Contains}
 use Rattle.std.specs.List.{AllByRecursion}
 use Rattle.std.specs.FinMap.{get, insert}
@@ -8,9 +8,10 @@ use Rattle.std.specs.Ordering.{is_lt}
 use Rattle.std.proofs.lemmas.List.Sums.{sum_by-cons}
 use Rattle.testing_rules_model.specs.Covered.{Covered, CoveredItem, delays_of, delays_in}
 use Rattle.testing_rules_model.specs.declared.facts.DelaysIn.{DelaysIn}
+use Rattle.testing_rules_model.specs.declared.fact_row.FactKind.TheVariants as kinds
 use Rattle.testing_rules_model.specs.declared.fact_row.FactRow.{FactRow}
 use Rattle.testing_rules_model.specs.FactLists.{FactLists}
-use Rattle.testing_rules_model.specs.FactRows.{is_row, times, rows_of, source_row, upload_row, build_row, drop_row, bug_row, hint_row, unhint_row, delays_row}
+use Rattle.testing_rules_model.specs.FactRows.{is_kind, is_row, times, rows_of, source_row, upload_row, build_row, drop_row, bug_row, hint_row, unhint_row, delays_row}
 use Rattle.testing_rules_model.specs.Unstable.{delays_order, last_delays}
 use Rattle.testing_rules_items.proofs.Members.{none_among}
 use Rattle.testing_rules_items.specs.Words.{lesser, least}
@@ -33,7 +34,7 @@ use Rattle.office_store_keeper.specs.Content.{Content}
 use Rattle.office_store_keeper.specs.FactSet.{FactSet, count_in}
 use Rattle.office_store_keeper.specs.LastDelays.{delays_in_body, TellsDelays, IsLastTold, GetsLast, release_delays, with_last}
 use Rattle.office_store_keeper.specs.Provenance.{IsKept}
-use Rattle.office_store_keeper.proofs.FactSets.{has-insert}
+use Rattle.office_store_keeper.proofs.FactSets.{has-insert, row_same}
 use Rattle.office_core.specs.Migrated.{without_delays, IsOfficeBefore}
 use Rattle.office_core_facts.specs.Outcome.{item_in_body, item_in_answer, item_at, covered_items}
 use Rattle.office_core_facts.specs.State.{IsOffice}
@@ -71,7 +72,7 @@ all_but r f =
     behind r xs ys zs n more = omega (arith, times-append r xs ys, times-append r xs zs, more)
 
 -- rows of another kind don't count
-none_of : {X : Type 0} (row : X → FactRow) (r : FactRow) → ((x : X) → ((row x).kind == r.kind) ≡ false) → (xs : List X) → times r (map row xs) ≡ 0
+none_of : {X : Type 0} (row : X → FactRow) (r : FactRow) → ((x : X) → is_kind (row x).kind r.kind ≡ false) → (xs : List X) → times r (map row xs) ≡ 0
 none_of row r other [] = refl
 none_of row r other (x ∷ xs) =
     let one = sum_by-cons (λ (y : FactRow). cond (is_row r y) 1 0) (row x) (map row xs) in
@@ -79,21 +80,17 @@ none_of row r other (x ∷ xs) =
     let zero : bit (is_row r (row x)) ≡ 0 = ap bit not in
     omega (arith, one, zero, none_of row r other xs)
 
-no_delays : (r : FactRow) (f : FactLists) → r.kind ≡ 8 → times r (rows_of (without_delays f)) ≡ 0
+no_delays : (r : FactRow) (f : FactLists) → r.kind ≡ kinds.Delays → times r (rows_of (without_delays f)) ≡ 0
 no_delays r f kind =
-    let other = λ (k : ℕ) (below : k < 8). not_eight k below in
-    let a = none_of source_row r (λ x. other 1 (omega arith)) f.sources in
-    let b = none_of upload_row r (λ x. other 2 (omega arith)) f.uploads in
-    let c = none_of build_row r (λ x. other 3 (omega arith)) f.rows in
-    let d = none_of drop_row r (λ x. other 4 (omega arith)) f.drops in
-    let e = none_of bug_row r (λ x. other 5 (omega arith)) f.bugs in
-    let h = none_of hint_row r (λ x. other 6 (omega arith)) f.hints in
-    let u = none_of unhint_row r (λ x. other 7 (omega arith)) f.unhints in
+    let a = none_of source_row r (λ x. ap (is_kind kinds.Source) kind) f.sources in
+    let b = none_of upload_row r (λ x. ap (is_kind kinds.Upload) kind) f.uploads in
+    let c = none_of build_row r (λ x. ap (is_kind kinds.Build) kind) f.rows in
+    let d = none_of drop_row r (λ x. ap (is_kind kinds.Drop) kind) f.drops in
+    let e = none_of bug_row r (λ x. ap (is_kind kinds.Bug) kind) f.bugs in
+    let h = none_of hint_row r (λ x. ap (is_kind kinds.Hint) kind) f.hints in
+    let u = none_of unhint_row r (λ x. ap (is_kind kinds.Unhint) kind) f.unhints in
     joined r (map source_row f.sources) _ a (joined r (map upload_row f.uploads) _ b (joined r (map build_row f.rows) _ c (joined r (map drop_row f.drops) _ d (joined r (map bug_row f.bugs) _ e (joined r (map hint_row f.hints) _ h (joined r (map unhint_row f.unhints) [] u refl))))))
   where
-    not_eight : (k : ℕ) → k < 8 → (k == r.kind) ≡ false
-    not_eight k below = grind (arith, nat_tests)
-
     joined : (r : FactRow) (xs ys : List FactRow) → times r xs ≡ 0 → times r ys ≡ 0 → times r (xs ++ ys) ≡ 0
     joined r xs ys x y = omega (arith, times-append r xs ys, x, y)
 
@@ -113,13 +110,6 @@ one_more r x facts n free same = go (is_row r x) refl (is_some (get facts r)) re
         let now : is_some (get (insert facts x tt) r) ≡ b = has-insert facts x r ∙ ap (λ c. c || is_some (get facts r)) p ∙ q in
         let as_was : count_in (insert facts x tt) r ≡ bit b = ap bit now in
         omega (arith, none, e, as_was)
-
-same_kind : (r x : FactRow) → is_row r x ≡ true → x.kind ≡ r.kind
-same_kind r x h = first (x.kind == r.kind) refl h
-  where
-    first : (a : Bool) → (x.kind == r.kind) ≡ a → (a && ((x.sender == r.sender) && ((x.number == r.number) && (x.place == r.place)))) ≡ true → x.kind ≡ r.kind
-    first true e h = grind (arith, nat_tests)
-    first false e h = absurd (let no = h in cc)
 
 -- ---- which delays are the last
 
@@ -248,8 +238,8 @@ module _ (setup : Lists) (content : Content) (one : count_of Release setup.sende
       let number : d.number ≡ n = omega (arith, up, down, own.1) in
       ap (λ (x : FactRow). x ∷ []) (row_is d.sender d.number (own.0 ∙ t.sender) number)
     where
-      row_is : (s k : ℕ) → s ≡ release → k ≡ n → ◌≡◌ {A = FactRow} (record { kind = 8; sender = s; number = k; place = 0 }) (release_delays setup n)
-      row_is s k a b = λ i. record { kind = 8; sender = a i; number = b i; place = 0 }
+      row_is : (s k : ℕ) → s ≡ release → k ≡ n → ◌≡◌ {A = FactRow} (record { kind = kinds.Delays; sender = s; number = k; place = 0 }) (release_delays setup n)
+      row_is s k a b = λ i. record { kind = kinds.Delays; sender = a i; number = b i; place = 0 }
 
   pub migrated_facts : (last : Option ℕ) → IsLastTold setup content.kept upto last → (r : FactRow) → times r (rows_of office.facts.facts) ≡ count_in (with_last setup last content.facts) r
   migrated_facts last so r =
@@ -260,7 +250,7 @@ module _ (setup : Lists) (content : Content) (one : count_of Release setup.sende
       counted : (o : Option ℕ) → times r (rows_of (without_delays office.facts.facts)) + times r (map (release_delays setup) (option_to_list o)) ≡ count_in (with_last setup o content.facts) r
       counted None = let none : times r [] ≡ 0 = refl in let was = office.facts.rows r in omega (arith, none, was)
       counted (Some n) =
-          one_more r (release_delays setup n) content.facts (times r (rows_of (without_delays office.facts.facts))) (λ same. no_delays r office.facts.facts (sym (same_kind r (release_delays setup n) same))) (office.facts.rows r)
+          one_more r (release_delays setup n) content.facts (times r (rows_of (without_delays office.facts.facts))) (λ same. no_delays r office.facts.facts (ap (λ (x : FactRow). x.kind) (sym (row_same r (release_delays setup n) same)))) (office.facts.rows r)
 
 pub migrated_office : (setup : Lists) (old new : Content) → count_of Release setup.senders ≡ 1 → IsOfficeBefore setup old → GetsLast setup old new → IsOffice setup new
 migrated_office setup old new one before gets = subst (IsOffice setup) (sym gets.same) (record {

@@ -5,6 +5,7 @@ use Rattle.std.specs.FinMap.{get}
 use Rattle.std.proofs.lemmas.List.Sums.{sum_by-cons}
 use Rattle.testing_rules_items.proofs.Members.{tail_of}
 use Rattle.testing_rules_model.proofs.Sets.{at_front, mapped_from}
+use Rattle.testing_rules_model.specs.declared.fact_row.FactKind.TheVariants.{Delays}
 use Rattle.testing_rules_model.specs.declared.fact_row.FactRow.{FactRow}
 use Rattle.testing_rules_model.specs.declared.fact_row.FactChanges.{FactChanges}
 use Rattle.testing_rules_model.specs.declared.facts.DelaysIn.{DelaysIn}
@@ -61,23 +62,23 @@ module _ (setup : Lists) (facts : FactSet) (s : Covered) (f : FactLists) (change
       some_counted r (rows_of f) (omega (arith, n))
 
   -- and a store has a place for them, where the release team tells the delays
-  pub holdable : ((r : FactRow) → Contains (rows_of f) r → r.kind ≡ 8 → r.sender ≡ place_of_role Release setup.senders) → AreHoldable setup (facts_after changes facts)
+  pub holdable : ((r : FactRow) → Contains (rows_of f) r → r.kind ≡ Delays → r.sender ≡ place_of_role Release setup.senders) → AreHoldable setup (facts_after changes facts)
   holdable told =
       let rows = told_rows_are_fact_rows f s tells in
       record {
-        each = λ r h. let row = rows.each r (stands r h) in record { low = row.low; high = row.high; place = row.place };
+        each = λ r h. rows.each r (stands r h);
         release = λ r h kind. told r (stands r h) kind;
         one = λ r q hr hq kr kq. rows.one r q (stands r hr) (stands q hq) kr kq;
       }
 
 -- so it is where each text is kept under its own place
-pub release_by_mail : (setup : Lists) (kept : Kept) (f : FactLists) → count_of Release setup.senders ≡ 1 → AreOwnTexts setup kept → Tells f (said_all setup kept) → (r : FactRow) → Contains (rows_of f) r → r.kind ≡ 8 → r.sender ≡ place_of_role Release setup.senders
+pub release_by_mail : (setup : Lists) (kept : Kept) (f : FactLists) → count_of Release setup.senders ≡ 1 → AreOwnTexts setup kept → Tells f (said_all setup kept) → (r : FactRow) → Contains (rows_of f) r → r.kind ≡ Delays → r.sender ≡ place_of_role Release setup.senders
 release_by_mail setup kept f one own tells r c kind =
     let named = (told_rows_are_fact_rows f (said_all setup kept) tells).named r c in
     sym named.sender ∙ told_by_release setup kept named.message one own named.among (named.delays kind)
 
 -- and where the delays are tested
-pub release_by_test : (f : FactLists) (place : ℕ) → ((d : DelaysIn) → f.delays ≡ Some d → d.sender ≡ place) → (r : FactRow) → Contains (rows_of f) r → r.kind ≡ 8 → r.sender ≡ place
+pub release_by_test : (f : FactLists) (place : ℕ) → ((d : DelaysIn) → f.delays ≡ Some d → d.sender ≡ place) → (r : FactRow) → Contains (rows_of f) r → r.kind ≡ Delays → r.sender ≡ place
 release_by_test f place tested r c kind =
     let d = mapped_from delays_row (option_to_list f.delays) r (of_delays f r c kind) in
     sym (ap (λ (x : FactRow). x.sender) d.2) ∙ tested d.0 (in_option f.delays d.0 d.1)

@@ -12,6 +12,7 @@ use Rattle.std.proofs.lemmas.List.Sums.{sum_by-cons}
 use Rattle.testing_rules_items.proofs.Members.{none_among}
 use Rattle.testing_rules_items.specs.declared.item.Item.{Item}
 use Rattle.testing_rules_items.specs.declared.item.Item.TheVariants.{Nothing}
+use Rattle.testing_rules_model.specs.declared.fact_row.FactKind.TheVariants.{Source, Upload, Build, Drop, Bug, Hint, Unhint, Delays}
 use Rattle.testing_rules_model.specs.declared.fact_row.FactRow.{FactRow}
 use Rattle.testing_rules_model.specs.declared.facts.UploadIn.{UploadIn}
 use Rattle.testing_rules_model.specs.declared.facts.BuildIn.{BuildIn}
@@ -21,7 +22,7 @@ use Rattle.testing_rules_model.specs.declared.facts.HintIn.{HintIn}
 use Rattle.testing_rules_model.specs.declared.facts.UnhintIn.{UnhintIn}
 use Rattle.testing_rules_model.specs.declared.facts.DelaysIn.{DelaysIn}
 use Rattle.testing_rules_model.specs.FactLists.{FactLists, no_facts}
-use Rattle.testing_rules_model.specs.FactRows.{rows_of, is_row, times, row_order}
+use Rattle.testing_rules_model.specs.FactRows.{rows_of, is_kind, is_row, times, row_order}
 use Rattle.testing_rules_model.specs.Tells.{Tells}
 use Rattle.testing_rules_model.specs.Covered.{Covered}
 use Rattle.testing_rules_facts.specs.Restored.{Given, restored, said}
@@ -49,14 +50,14 @@ none_by false = refl
 -- an item that says nothing puts nothing back
 restored_nothing : (r : FactRow) (f : FactLists) → restored (r, Nothing) f ≡ f
 restored_nothing r f = rw (
-  none_by {B = UploadIn} ((r.kind == 1) && (r.place == 0)),
-  none_by {B = UploadIn} ((r.kind == 2) && (r.place == 0)),
-  none_by {B = BuildIn} (r.kind == 3),
-  none_by {B = DropIn} ((r.kind == 4) && (r.place == 0)),
-  none_by {B = BugIn} ((r.kind == 5) && (r.place == 0)),
-  none_by {B = HintIn} ((r.kind == 6) && (r.place == 0)),
-  none_by {B = UnhintIn} ((r.kind == 7) && (r.place == 0)),
-  none_by {B = DelaysIn} ((r.kind == 8) && (r.place == 0)),
+  none_by {B = UploadIn} (is_kind r.kind Source && (r.place == 0)),
+  none_by {B = UploadIn} (is_kind r.kind Upload && (r.place == 0)),
+  none_by {B = BuildIn} (is_kind r.kind Build),
+  none_by {B = DropIn} (is_kind r.kind Drop && (r.place == 0)),
+  none_by {B = BugIn} (is_kind r.kind Bug && (r.place == 0)),
+  none_by {B = HintIn} (is_kind r.kind Hint && (r.place == 0)),
+  none_by {B = UnhintIn} (is_kind r.kind Unhint && (r.place == 0)),
+  none_by {B = DelaysIn} (is_kind r.kind Delays && (r.place == 0)),
 ) refl
 
 restored_more : (xs : List Given) (x : Given) (f : FactLists) → restored_all (xs ++ x ∷ []) f ≡ restored x (restored_all xs f)

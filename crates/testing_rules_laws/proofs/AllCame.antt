@@ -1,11 +1,10 @@
 -- Rows that are put back one after the other: where the facts have as many then, all of them came.
-use Rattle.std.specs.Prelude.{ℕ, zero, suc, ◌+◌, ◌<◌, ◌==◌, ◌&&◌, Bool, true, false, cond, List, [], ◌∷◌, ◌++◌, length, map, find, Option, Some, None, option_to_list}
+use Rattle.std.specs.Prelude.{ℕ, ◌+◌, ◌==◌, ◌&&◌, Bool, true, false, cond, List, [], ◌∷◌, ◌++◌, length, map, find, Option, Some, None, option_to_list}
 use Rattle.std.proofs.Common.{◌≡◌, refl, sym, ap, ◌∙◌, subst, arith, inl, inr, ◌⊎◌}
 use Rattle.std.specs.List.{sum_by}
 use Rattle.std.specs.declared.cmp.Ordering.{Ordering}
 use Rattle.std.specs.declared.cmp.Ordering.TheVariants.{Less, Equal, Greater}
 use Rattle.std.specs.Ordering.{nat_cmp, is_lt}
-use Rattle.std.proofs.lemmas.Bool.Decides.{nat_tests}
 use Rattle.std.proofs.lemmas.List.{length-map}
 use Rattle.std.proofs.lemmas.List.Sums.{sum_by-cons, sum_by-append}
 use Rattle.testing_rules_items.specs.declared.item.Item.{Item}
@@ -21,7 +20,7 @@ use Rattle.testing_rules_model.specs.FactRows.{source_row, upload_row, build_row
 use Rattle.testing_rules_model.specs.Unstable.{upload_order, build_order, pair_order, pair_of, drop_order, drop_pair, bug_order, hint_order, unhint_order, delays_order}
 use Rattle.testing_rules_model.specs.WithMessage.{put_first, with_upload, with_build, with_greatest, with_bug, with_hint, with_unhint}
 use Rattle.testing_rules_model.proofs.SameFacts.{upload_bears, drop_bears, bug_bears, hint_bears, unhint_bears, delays_bears, builds_bear}
-use Rattle.testing_rules_facts.specs.Restored.{Given, said, message_of, given_of, build_given, put_given, last_given, restored}
+use Rattle.testing_rules_facts.specs.Restored.{Given, said, given_of, build_given, put_given, last_given, restored}
 use Rattle.testing_rules_facts.specs.Shifts.{way_given, come_in, put_over}
 use Rattle.testing_rules_facts.specs.Uploads.{message_order, first_stays, with_kept}
 use Rattle.testing_rules_facts.proofs.Shifting.{first_shifts, over_shifts}

@@ -1,5 +1,5 @@
 -- Facts that messages say: with rows put back, with other logs, trimmed, and by more messages.
-use Rattle.std.specs.Prelude.{ℕ, ◌==◌, ◌&&◌, List, [], ◌∷◌, Contains, Option, Some, None, option_to_list, find}
+use Rattle.std.specs.Prelude.{◌==◌, ◌&&◌, List, [], ◌∷◌, Contains, Option, Some, None, option_to_list, find}
 use Rattle.std.proofs.Common.{◌≡◌, refl, subst, inl, inr, ◌⊎◌}
 use Rattle.std.specs.List.{filter_map}
 use Rattle.testing_rules_items.proofs.Members.{head_of, tail_of}

@@ -1,5 +1,5 @@
 -- Facts of the same rows are the same, where the messages of one set say them.
-use Rattle.std.specs.Prelude.{ℕ, List, [], map, Contains, Option, Some, None, option_to_list, ◌==◌}
+use Rattle.std.specs.Prelude.{List, [], map, Contains, Option, Some, None, option_to_list, ◌==◌}
 use Rattle.std.proofs.Common.{◌≡◌, refl, sym, ap, ◌∙◌, subst, inl, inr}
 use Rattle.std.specs.Str.{bytes_eq}
 use Rattle.std.specs.Ordering.{nat_cmp}
@@ -74,7 +74,7 @@ module _ (s : Covered) (one : HasOneOfEach s) where
           (both source_row Source (λ u. refl) (uploads_in s) (λ x y c d e. one_given upload_of (λ u. u.sender) (λ u. u.number) (λ m. upload_bears m.sender m.number m.item) s one x y c d (ap (λ (r : FactRow). r.sender) e) (ap (λ (r : FactRow). r.number) e))
           f.sources g.sources rf rg same sf.sources sg.sources (has_source f) (has_source g) (of_sources f) (of_sources g)));
       uploads =
-          let p = both upload_row 2 (λ u. refl) (uploads_in s) (λ x y c d e. one_given upload_of (λ u. u.sender) (λ u. u.number) (λ m. upload_bears m.sender m.number m.item) s one x y c d (ap (λ (r : FactRow). r.sender) e) (ap (λ (r : FactRow). r.number) e))
+          let p = both upload_row Upload (λ u. refl) (uploads_in s) (λ x y c d e. one_given upload_of (λ u. u.sender) (λ u. u.number) (λ m. upload_bears m.sender m.number m.item) s one x y c d (ap (λ (r : FactRow). r.sender) e) (ap (λ (r : FactRow). r.number) e))
           f.uploads g.uploads rf rg same sf.uploads sg.uploads (has_upload f) (has_upload g) (of_uploads f) (of_uploads g) in
           (p.1, p.0);
       rows = sym (in_order_once pair_of pair_total f.rows g.rows of.by_pair og.by_pair
