@@ -1,10 +1,11 @@
 -- A place that is guessed for a row, and the rows that are left.
-use Rattle.std.proofs.Common.{◌≡◌, ◌≤◌, ◌<◌, ◌+◌, ℕ, zero, suc, Bool, true, false, cond, not, List, [], ◌∷◌, ◌++◌, take, length, refl, sym, ap, subst, ◌∙◌, arith}
+use Rattle.std.proofs.Common.{◌≡◌, ◌≤◌, ◌<◌, ◌+◌, ℕ, zero, suc, Bool, true, false, cond, not, List, [], ◌∷◌, ◌++◌, take, length, inl, inr, refl, sym, ap, subst, ◌∙◌, arith}
 use Rattle.std.specs.Prelude.{Err, get_or}
 use Rattle.std.specs.List.Sorted.{IsBinarySearchResult}
 use Rattle.std.specs.declared.cmp.Ordering.{Ordering}
 use Rattle.std.specs.declared.cmp.Ordering.TheVariants.{Less, Equal, Greater}
 use Rattle.std.specs.Ordering.{ordering_index, ordering_reverse}
+use Rattle.std.proofs.lemmas.Bool.{cases_lt}
 use Rattle.std.proofs.lemmas.List.{append-nil, append_assoc, take_more}
 use Rattle.std.proofs.lemmas.List.Elements.{filter-append}
 use Rattle.testing_rules_model.specs.declared.fact_row.FactRow.{FactRow}
@@ -62,3 +63,13 @@ each_left first left more gone rows i d within so step =
     let r = get_or rows i d in
     step ∙ ap (λ ls. ls ++ rows_left gone (r ∷ [])) so ∙ append_assoc first (rows_left gone (take i rows)) (rows_left gone (r ∷ []))
     ∙ ap (λ ls. first ++ ls) (sym (filter-append (λ x. not (is_among x gone)) (take i rows) (r ∷ []))) ∙ ap (λ rs. first ++ rows_left gone rs) (sym (take_more rows i d within))
+
+-- a row that lies above the one at a place lies above the one before the next place
+pub above_before : (x : FactRow) (rows : List FactRow) (place before : ℕ) (o : Ordering) → before + 1 ≡ place → (before < length rows → (d : FactRow) → o ≡ row_order x (get_or rows before d))
+    → (length rows ≤ before → o ≡ Less) → o ≡ Greater → IsAbove x rows place
+above_before x rows place before o next at past greater k d is =
+    let same : before ≡ k = omega (arith, next, is) in
+    subst (λ i. (i < length rows) × (row_order x (get_or rows i d) ≡ Greater)) same (elim (cases_lt before (length rows)) [
+      | inl within ↦ (within, sym (at within d) ∙ greater)
+      | inr none ↦ absurd (let no : Less ≡ Greater = sym (past none) ∙ greater in let never : ⊥ = cc in never)
+    ])

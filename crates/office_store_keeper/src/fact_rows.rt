@@ -31,13 +31,20 @@ pub fn rows_in_order(alloc: Global, rows: &[FactRow]) -> Result<FactRows, NoMemo
     Ok(FactRows::of(once))
 }
 
+/// How a row lies to another.
+fn order_of(row: &FactRow, other: &FactRow) -> Ordering
+    ensures { result ≡ row_order row.now other.now }
+{
+    row.cmp(other)
+}
+
 /// How a row lies to the one at a place among rows. Where there is none it lies below.
 fn order_at(rows: &[FactRow], row: &FactRow, place: usize) -> Ordering
     ensures at { place < length rows.now → (d : ARow) → result ≡ row_order row.now (slice_index_or rows.now place d) }
     ensures past { length rows.now ≤ place → result ≡ Less }
 {
     match rows.get(place) {
-        Some(other) => row.cmp(other),
+        Some(other) => order_of(row, other),
         None => Ordering::Less,
     }
 }
