@@ -162,11 +162,11 @@ others_then a b c first second = record {
 pub delays_are : (release : ℕ) (fact : FactRow) → fact.kind ≡ Delays → fact.sender ≡ release → fact.place ≡ 0 → fact ≡ delays_of release fact.number
 delays_are release fact kind sender place = λ i. record { kind = kind i; sender = sender i; number = fact.number; place = place i }
 
-of_delays : (release : ℕ) (row : Row) (q : FactRow) → delays_in release row ≡ Some (fact_entry q) → q.kind ≡ Delays
-of_delays release row q is = ap (λ (f : FactRow). f.kind) (delays_shape release row q is).3
+says_delays : (release : ℕ) (row : Row) (q : FactRow) → delays_in release row ≡ Some (fact_entry q) → q.kind ≡ Delays
+says_delays release row q is = ap (λ (f : FactRow). f.kind) (delays_shape release row q is).3
 
-of_others : (row : Row) (q : FactRow) → fact_in row ≡ Some (fact_entry q) → q.kind ≢ Delays
-of_others row q is = never_delays q.kind q.place (fact_shape row q is).stands
+says_others : (row : Row) (q : FactRow) → fact_in row ≡ Some (fact_entry q) → q.kind ≢ Delays
+says_others row q is = never_delays q.kind q.place (fact_shape row q is).stands
 
 module _ (release : ℕ) (db next : Trees) (fact : FactRow) where
   pub drops_fact_moves : fact.kind ≢ Delays → DropsFact db next fact → DropsOne release db next fact
@@ -177,7 +177,7 @@ module _ (release : ℕ) (db next : Trees) (fact : FactRow) where
           has = same_set (facts_in release (next 8) (next 10)) (remove (facts_in release (db 8) (db 10)) fact)
               (λ q h. elim (said release (next 8) (next 10) q h) [
                 | inl a ↦ removed_has (facts_in release (db 8) (db 10)) fact q (λ same. it.leaves.gone a.0 a.1 (a.2 ∙ ap (λ f. Some (fact_entry f)) same)) (says release (db 8) (db 10) q (inl (a.0, it.leaves.had a.0 a.1, a.2)))
-                | inr b ↦ removed_has (facts_in release (db 8) (db 10)) fact q (λ same. low (ap (λ (f : FactRow). f.kind) (sym same) ∙ of_delays release b.0 q b.2)) (says release (db 8) (db 10) q (inr (b.0, subst (λ l. Has l b.0) last b.1, b.2)))
+                | inr b ↦ removed_has (facts_in release (db 8) (db 10)) fact q (λ same. low (ap (λ (f : FactRow). f.kind) (sym same) ∙ says_delays release b.0 q b.2)) (says release (db 8) (db 10) q (inr (b.0, subst (λ l. Has l b.0) last b.1, b.2)))
               ])
               (λ q h.
               let r = of_removed (facts_in release (db 8) (db 10)) fact q h in
@@ -203,7 +203,7 @@ module _ (release : ℕ) (db next : Trees) (fact : FactRow) where
         moves = record {
           has = same_set (facts_in release (next 8) (next 10)) (remove (facts_in release (db 8) (db 10)) fact)
               (λ q h. elim (said release (next 8) (next 10) q h) [
-                | inl a ↦ removed_has (facts_in release (db 8) (db 10)) fact q (λ same. of_others a.0 q a.2 (ap (λ (f : FactRow). f.kind) same ∙ high)) (says release (db 8) (db 10) q (inl (a.0, subst (λ l. Has l a.0) facts a.1, a.2)))
+                | inl a ↦ removed_has (facts_in release (db 8) (db 10)) fact q (λ same. says_others a.0 q a.2 (ap (λ (f : FactRow). f.kind) same ∙ high)) (says release (db 8) (db 10) q (inl (a.0, subst (λ l. Has l a.0) facts a.1, a.2)))
                 | inr b ↦ removed_has (facts_in release (db 8) (db 10)) fact q (λ same. leaves.gone b.0 b.1 (b.2 ∙ ap (λ f. Some (fact_entry f)) (same ∙ is))) (says release (db 8) (db 10) q (inr (b.0, leaves.had b.0 b.1, b.2)))
               ])
               (λ q h.
@@ -227,7 +227,7 @@ module _ (release : ℕ) (db next : Trees) (fact : FactRow) where
     moves = record {
       has = ap (λ (t : Trees). facts_in release (t 8) (t 10)) same ∙ same_set (facts_in release (db 8) (db 10)) (remove (facts_in release (db 8) (db 10)) fact)
           (λ q h. removed_has (facts_in release (db 8) (db 10)) fact q (λ is. elim (said release (db 8) (db 10) q h) [
-            | inl a ↦ of_others a.0 q a.2 (ap (λ (f : FactRow). f.kind) is ∙ high)
+            | inl a ↦ says_others a.0 q a.2 (ap (λ (f : FactRow). f.kind) is ∙ high)
             | inr b ↦ other (sym is ∙ (delays_shape release b.0 q b.2).3 ∙ ap (λ (f : FactRow). delays_of release f.number) is)
           ]) h)
           (λ q h. (of_removed (facts_in release (db 8) (db 10)) fact q h).1);

@@ -1,14 +1,16 @@
 -- Kinds of facts, as a column keeps their numbers.
-use Rattle.std.proofs.Common.{◌≡◌, ◌≢◌, ◌≤◌, ◌==◌, ℕ, pos, Bool, true, false, cond, Option, Some, None, refl, sym, ap, ◌∙◌, arith}
+use Rattle.std.proofs.Common.{◌≡◌, ◌≢◌, ◌≤◌, ◌==◌, ℕ, pos, Bool, true, false, cond, not, Option, Some, None, refl, sym, ap, ◌∙◌, arith}
 use Rattle.std.proofs.lemmas.Bool.{false≢true}
 use Rattle.sqlite.specs.declared.types.Value.{Value}
 use Rattle.sqlite.specs.declared.types.Value.TheVariants.{Int}
 use Rattle.testing_rules_model.specs.declared.fact_row.FactKind.{FactKind}
 use Rattle.testing_rules_model.specs.declared.fact_row.FactKind.TheVariants.{Source, Upload, Build, Drop, Bug, Hint, Unhint, Delays}
+use Rattle.testing_rules_model.specs.declared.fact_row.FactRow.{FactRow}
 use Rattle.testing_rules_model.specs.FactRows.{number_of, kind_of, is_kind}
-use Rattle.testing_rules_model.proofs.FactKinds.{kind_again, kind_itself}
+use Rattle.testing_rules_model.proofs.FactKinds.{kind_again, kind_is, kind_itself}
 use Rattle.office_store_testing_tables.specs.Tables.{small_of, small_in}
 use Rattle.office_store_testing_tables.specs.FactTables.{kind_by, kind_in}
+use Rattle.office_store_testing_tables.specs.FactSteps.{is_no_delays}
 use Rattle.office_store_testing_tables.proofs.EntrySays.{Fits32, small_is}
 use Rattle.office_store_testing_tables.proofs.EntryReads.{small_value}
 use Rattle.office_store_testing_tables.proofs.LoadFacts.{same_number}
@@ -61,3 +63,18 @@ no_kind v n k is none same =
 -- kinds that a test tells apart
 pub kinds_apart : (k l : FactKind) → is_kind k l ≡ false → k ≢ l
 kinds_apart k l h same = false≢true (sym h ∙ ap (λ x. is_kind x l) same ∙ kind_itself l)
+
+-- a fact is the last delays, or of another kind
+pub of_others : (fact : FactRow) → is_no_delays fact ≡ true → fact.kind ≢ Delays
+of_others fact h = kinds_apart fact.kind Delays (untrue (is_kind fact.kind Delays) h)
+  where
+    untrue : (b : Bool) → not b ≡ true → b ≡ false
+    untrue true h = sym h
+    untrue false h = refl
+
+pub of_delays : (fact : FactRow) → is_no_delays fact ≡ false → fact.kind ≡ Delays
+of_delays fact h = kind_is fact.kind Delays (unfalse (is_kind fact.kind Delays) h)
+  where
+    unfalse : (b : Bool) → not b ≡ false → b ≡ true
+    unfalse true h = refl
+    unfalse false h = sym h

@@ -184,6 +184,13 @@ fn drop_delays<S: Alter>(tx: &mut Transaction<'_, S>, number: u32) -> Result<(),
     }
 }
 
+/// Whether a fact isn't the last delays.
+fn is_no_delays(fact: &FactRow) -> bool
+    ensures { result ≡ is_no_delays fact.now }
+{
+    fact.kind != FactKind::Delays
+}
+
 /// Takes a fact out of its table, if it is there.
 fn drop_one<S: Alter>(
     tx: &mut Transaction<'_, S>,
@@ -195,7 +202,7 @@ fn drop_one<S: Alter>(
     ensures dropped { Yields S.Store tx.old.conn tx.new.conn result (λ db next _. DropsOne release db next fact.now) }
     ensures bad { result ≢ Err (KeepFault.Store Cause.BadRow) }
 {
-    if fact.kind != FactKind::Delays {
+    if is_no_delays(fact) {
         drop_fact(tx, fact)?;
         return Ok(());
     }
@@ -219,7 +226,7 @@ fn add_one<S: Alter>(
     ensures steps { StepsWithin S.Store tx.old.conn tx.new.conn result }
     ensures added { Yields S.Store tx.old.conn tx.new.conn result (λ db next _. AddsOne release db next fact.now) }
 {
-    if fact.kind != FactKind::Delays {
+    if is_no_delays(fact) {
         let added = add_fact(tx, fact.kind, fact.sender, fact.number, fact.place)?;
         return Ok(added);
     }

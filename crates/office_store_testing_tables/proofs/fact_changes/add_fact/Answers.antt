@@ -14,7 +14,7 @@ stepped g c = record {
   clean = c.execute.ensures.survives.clean;
   limit = c.execute.ensures.survives.limit;
   ended = λ idle. (_, (c.execute.ensures.ended idle).0);
-  runs = rw (c.params-to_sql.ensures, c.params-to_sql-2.ensures, c.params-to_sql-3.ensures, c.params-to_sql-4.ensures) at c.execute.ensures.runs;
+  runs = rw (c.params-to_sql.ensures, c.params-to_sql-2.ensures, c.params-to_sql-3.ensures, c.params-to_sql-4.ensures, c.number-kind.ensures) at c.execute.ensures.runs;
 }
 
 pub returns-clause-steps : goal.returns-clause-steps
@@ -22,11 +22,11 @@ returns-clause-steps g c =
     let old = state g.S.Store c.args.tx.now.conn.now in
     let new = state g.S.Store c.execute.new.self.conn.now in
     stepped_within _ _ _ _ (λ _. AddsFact old.now.trees new.now.trees (record { kind = c.args.kind; sender = c.args.sender; number = c.args.number; place = c.args.place })) c.execute.result (stepped g c) c.execute.ensures.same_reference (λ idle. (c.execute.ensures.ended idle).1) (lasts_survived _ _ c.execute.ensures.survives) c.requires.inside
-    (λ count inside h. adds_fact (record { kind = c.args.kind; sender = c.args.sender; number = c.args.number; place = c.args.place }) (omega (arith, c.ranges.kind.fits)) (omega (arith, c.ranges.sender.fits)) (omega (arith, c.ranges.number.fits)) (omega (arith, c.ranges.place.fits)) old new count inside.schema h)
+    (λ count inside h. adds_fact (record { kind = c.args.kind; sender = c.args.sender; number = c.args.number; place = c.args.place }) (omega (arith, c.ranges.sender.fits)) (omega (arith, c.ranges.number.fits)) (omega (arith, c.ranges.place.fits)) old new count inside.schema h)
 
 pub returns-clause-added : goal.returns-clause-added
 returns-clause-added g c trusted =
     let old = state g.S.Store c.args.tx.now.conn.now in
     let new = state g.S.Store c.execute.new.self.conn.now in
     step_gives _ _ old new (AddsFact old.now.trees new.now.trees (record { kind = c.args.kind; sender = c.args.sender; number = c.args.number; place = c.args.place })) c.execute.result (stepped g c) trusted c.requires.inside
-    (λ count inside h. adds_fact (record { kind = c.args.kind; sender = c.args.sender; number = c.args.number; place = c.args.place }) (omega (arith, c.ranges.kind.fits)) (omega (arith, c.ranges.sender.fits)) (omega (arith, c.ranges.number.fits)) (omega (arith, c.ranges.place.fits)) old new count inside.schema h)
+    (λ count inside h. adds_fact (record { kind = c.args.kind; sender = c.args.sender; number = c.args.number; place = c.args.place }) (omega (arith, c.ranges.sender.fits)) (omega (arith, c.ranges.number.fits)) (omega (arith, c.ranges.place.fits)) old new count inside.schema h)

@@ -14,8 +14,8 @@ asked : (g : _) (c : goal.After-query_all g) → AskedInside (λ r. r.items) fac
 asked g c = record {
   clean = c.query_all.ensures.survives.clean;
   limit = c.query_all.ensures.survives.limit;
-  ok = rw (c.params-to_sql.ensures, c.params-to_sql-2.ensures, c.params-to_sql-3.ensures, c.params-to_sql-4.ensures) at c.query_all.ensures.ok;
-  err = rw (c.params-to_sql.ensures, c.params-to_sql-2.ensures, c.params-to_sql-3.ensures, c.params-to_sql-4.ensures) at c.query_all.ensures.err;
+  ok = rw (c.params-to_sql.ensures, c.params-to_sql-2.ensures, c.params-to_sql-3.ensures, c.params-to_sql-4.ensures, c.number-kind.ensures) at c.query_all.ensures.ok;
+  err = rw (c.params-to_sql.ensures, c.params-to_sql-2.ensures, c.params-to_sql-3.ensures, c.params-to_sql-4.ensures, c.number-kind.ensures) at c.query_all.ensures.err;
 }
 
 pub returns-clause-steps : goal.returns-clause-steps
