@@ -35,7 +35,8 @@ use testing_rules_fact_order::{
 };
 use testing_rules_items::{Hint, Item};
 use testing_rules_model::{
-    BugIn, BuildIn, DelaysIn, DropIn, FactChanges, FactKind, FactRow, HasSources, HintIn, UnhintIn, UploadIn,
+    BugIn, BuildIn, DelaysIn, DropIn, FactChanges, FactKind, FactRow, HasSources, HintIn, UnhintIn,
+    UploadIn,
 };
 
 /// The facts of a set of messages.

@@ -12,8 +12,8 @@ pub use testing_rules_items::{
     ALL, Archs, Binaries, Hint, HintItem, HintItems, Item, Names, Severity, Urgency,
 };
 pub use testing_rules_model::{
-    BugIn, BuildIn, Decision, Delays, DelaysIn, DropIn, Excuse, Excuses, FactChanges, FactKind, FactRow,
-    FactRows, HasSources, HintIn, Moved, MovedItems, Offender, Reason, Reasons, RowIn,
+    BugIn, BuildIn, Decision, Delays, DelaysIn, DropIn, Excuse, Excuses, FactChanges, FactKind,
+    FactRow, FactRows, HasSources, HintIn, Moved, MovedItems, Offender, Reason, Reasons, RowIn,
     SharedBinary, SourceIn, UnhintIn, Update, UploadIn,
 };
 pub use testing_rules_moves::migrate;
