@@ -1,5 +1,5 @@
 -- The lines of what shows that a row isn't installable. Their form is decided by this office.
-use Rattle.std.specs.Prelude.{ℕ, Bool, if◌then◌else◌, List, [], ◌∷◌, ◌++◌, codes, decimal}
+use Rattle.std.specs.Prelude.{ℕ, Bool, if◌then◌else◌, List, [], ◌∷◌, ◌++◌, codes, decimal, drop, length, take}
 use Rattle.std.specs.List.{flat_map}
 use Rattle.std.specs.Option.{option_map_or}
 use Rattle.deb_control.specs.declared.relation.Alternative.{Alternative}
@@ -40,10 +40,19 @@ clause_text (a ∷ others) = alternative_text a ++ flat_map other_text others
 abbrev pub more_text : ℕ → Text
 more_text n = codes " and " ++ decimal n
 
--- the numbers of lines, or that there is none
+-- numbers one behind the other, or that there is none
+abbrev pub joined_text : List ℕ → Text
+joined_text [] = codes "nothing"
+joined_text (n ∷ ns) = decimal n ++ flat_map more_text ns
+
+-- how many numbers aren't told, if there are any (this office decides it)
+abbrev pub untold_text : List ℕ → Text
+untold_text [] = []
+untold_text (n ∷ ns) = codes " and " ++ decimal (length (n ∷ ns)) ++ codes " more"
+
+-- the numbers of lines, or that there is none: the first twelve are told, and how many more there are (this office decides it)
 abbrev pub numbers_text : List ℕ → Text
-numbers_text [] = codes "nothing"
-numbers_text (n ∷ ns) = decimal n ++ flat_map more_text ns
+numbers_text numbers = joined_text (take 12 numbers) ++ untold_text (drop 12 numbers)
 
 -- a package, its version and its source
 abbrev pub package_text : RowIn → Text

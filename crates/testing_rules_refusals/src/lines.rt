@@ -67,8 +67,9 @@ fn push_more_numbers(text: &mut String, numbers: &[usize]) -> Result<(), AllocEr
     Ok(())
 }
 
-fn push_numbers(text: &mut String, numbers: &[usize]) -> Result<(), AllocError>
-    ensures { OnOk result (string_bytes text.new ≡ string_bytes text.old ++ lines.numbers_text numbers.now) }
+/// Numbers one behind the other, or that there is none.
+fn push_joined(text: &mut String, numbers: &[usize]) -> Result<(), AllocError>
+    ensures { OnOk result (string_bytes text.new ≡ string_bytes text.old ++ lines.joined_text numbers.now) }
 {
     match numbers.split_first() {
         Some((first, others)) => {
@@ -77,6 +78,18 @@ fn push_numbers(text: &mut String, numbers: &[usize]) -> Result<(), AllocError>
         }
         None => text.push_str("nothing"),
     }
+}
+
+/// The first twelve numbers, and how many more there are.
+fn push_numbers(text: &mut String, numbers: &[usize]) -> Result<(), AllocError>
+    ensures { OnOk result (string_bytes text.new ≡ string_bytes text.old ++ lines.numbers_text numbers.now) }
+{
+    if numbers.len() <= 12 {
+        return push_joined(text, numbers);
+    }
+    let (told, untold) = numbers.split_at(12);
+    push_joined(text, told)?;
+    write!(text, " and {} more", untold.len())
 }
 
 /// A package, its version and its source.
