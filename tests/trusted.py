@@ -71,7 +71,8 @@ LATER = [
 ADDED = {
     'office_http_requests': {'added_asked'},
     'office_http': {
-        'added_page', 'added_action', 'IsFoundForAdded', 'IsFoundByAdded', 'kept_by_added', 'settles_by_added'},
+        'added_page', 'added_action', 'short_page', 'IsFoundForAdded', 'IsFoundByAdded', 'kept_by_added',
+        'settles_by_added'},
     'office_cli_words': {'added_asked'},
 }
 STEPS = '-- Steps: no contract of a call that users make rests on this file.'

@@ -1,5 +1,5 @@
 -- One state has one answer to a request.
-use Rattle.std.proofs.Common.{◌≡◌, ◌≢◌, ◌⊎◌, inl, inr, ℕ, ◌+◌, List, ◌++◌, length, flat_map, Option, Some, None, Ok, refl, ap, subst, ◌∙◌, arith}
+use Rattle.std.proofs.Common.{◌≡◌, ◌≢◌, ◌⊎◌, inl, inr, ℕ, ◌+◌, List, ◌++◌, length, flat_map, Option, Some, None, Ok, refl, sym, ap, subst, ◌∙◌, arith}
 use Rattle.std.specs.Option.{option_map}
 use Rattle.office_mail.specs.Kept.{Kept}
 use Rattle.office_mail.specs.Lists.{Lists}
@@ -30,7 +30,10 @@ use Rattle.office_core_why.specs.declared.WhyText.{WhyText}
 use Rattle.testing_rules_model.specs.Covered.{Covered}
 use Rattle.office_core_orders.specs.Waiting.{Awaits, AwaitsBy}
 use Rattle.office_core_orders.proofs.WaitingFacts.{one_list}
-use Rattle.office_http.specs.Serve.{action_answer, body_of, page_answer, post_answer, answer_of, proposal_answer, why_answer, AsksProposal, Found, IsFound, IsFoundBy, IsFoundByPost, IsFoundFor}
+use Rattle.office_http.specs.Serve.{action_answer, body_of, post_answer, answer_of, proposal_answer, why_answer, AsksProposal, Found, IsFound, IsFoundBy, IsFoundByPost, IsFoundFor}
+use Rattle.office_http.specs.ServeSteps.{whole_page}
+use Rattle.office_http.specs.ShortTexts.{short_page}
+use Rattle.office_http.proofs.ServeFacts.{page_is}
 use Rattle.office_http.specs.Trials.{terms_of, tried_answer}
 
 one_count : (setup : Lists) (kept : Kept) (n m : ℕ) → IsReadyCount setup kept n → IsReadyCount setup kept m → n ≡ m
@@ -54,7 +57,7 @@ same_text s n m x y e h g =
     ap (λ (k : ℕ). waits s k x) e
     ∙ ap (λ (l : List ℕ). Told (status_line m s.finished ++ l)) (same_lines s.setup s.kept (m + 1) _ x y (subst (λ (k : ℕ). Awaits s.setup s.kept (k + 1) x) e h) g)
 
-one_page : (s : OfficeState) (p : Page) (x y : Found) → IsFoundFor s x p → IsFoundFor s y p → ((source : List ℕ) → p ≡ page.Why source → x.why ≡ y.why) → ((p ≡ page.Hints) ⊎ (p ≡ page.Unstable) → HasPlaces s.setup s.kept) → (AsksProposal (asks.Tell p) → x.proposal ≡ y.proposal) → page_answer s x p ≡ page_answer s y p
+one_page : (s : OfficeState) (p : Page) (x y : Found) → IsFoundFor s x p → IsFoundFor s y p → ((source : List ℕ) → p ≡ page.Why source → x.why ≡ y.why) → ((p ≡ page.Hints) ⊎ (p ≡ page.Unstable) → HasPlaces s.setup s.kept) → (AsksProposal (asks.Tell p) → x.proposal ≡ y.proposal) → whole_page s x p ≡ whole_page s y p
 one_page s page.Status x y h g told places proposed = ap (λ (k : ℕ). Status (record { ready = k; finished = s.finished })) (one_count s.setup s.kept x.ready y.ready h g)
 one_page s page.Testing x y h g told places proposed = refl
 one_page s (page.Excuses run) x y h g told places proposed = refl
@@ -93,5 +96,8 @@ seen_page p (inr e) = inr (ap (λ (q : Page). asks.Tell q) e)
 pub one_answer : (s : OfficeState) (asked : Asked) (rest : List ℕ) (x y : Found) → IsFound s x asked rest → IsFound s y asked rest → ((source : List ℕ) → asked ≡ asks.Tell (page.Why source) → x.why ≡ y.why)
     → ((p : Posted) → asked ≡ asks.Post p → terms_of p.action ≢ None → x.trial ≡ y.trial) → ((asked ≡ asks.Tell page.Hints) ⊎ (asked ≡ asks.Tell page.Unstable) → HasPlaces s.setup s.kept) → (AsksProposal asked → x.proposal ≡ y.proposal) → answer_of s x asked rest ≡ answer_of s y asked rest
 one_answer s (asks.Refused r) rest x y h g told tried places proposed = refl
-one_answer s (asks.Tell p) rest x y h g told tried places proposed = one_page s p x y h g (λ source e. told source (ap (λ (q : Page). asks.Tell q) e)) (λ seen. places (seen_page p seen)) proposed
+one_answer s (asks.Tell p) rest x y h g told tried places proposed =
+    page_is s x p
+    ∙ ap (λ (a : Answer). short_page p a) (one_page s p x y h g (λ source e. told source (ap (λ (q : Page). asks.Tell q) e)) (λ seen. places (seen_page p seen)) proposed)
+    ∙ sym (page_is s y p)
 one_answer s (asks.Post p) rest x y h g told tried places proposed = one_post s p.action (body_of p.length rest) x y h g (tried p refl)

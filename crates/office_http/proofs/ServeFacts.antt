@@ -1,5 +1,5 @@
 -- What a connection comes to. P, Q and R say that the store refused: in a first part, in what follows, and in both.
-use Rattle.std.proofs.Common.{◌≡◌, inl, inr, ⊎_elim, ℕ, ◌+◌, ◌-◌, ◌≤◌, ◌<◌, Bool, true, false, not, ◌&&◌, cond, nat_le, List, [], ◌∷◌, ◌++◌, length, take, drop, Option, Some, None, Result, Ok, Err, IfOk, IfErr, IfSome, OnOk, is_ok, unwrap_or, refl, sym, ap, subst, ◌∙◌, arith, append_assoc, append-nil, ◌⊎◌}
+use Rattle.std.proofs.Common.{◌≡◌, inl, inr, ⊎_elim, ℕ, ◌+◌, ◌-◌, ◌≤◌, ◌<◌, Bool, true, false, not, ◌&&◌, cond, nat_le, if◌then◌else◌, List, [], ◌∷◌, ◌++◌, length, take, drop, Option, Some, None, Result, Ok, Err, IfOk, IfErr, IfSome, OnOk, is_ok, unwrap_or, refl, sym, ap, subst, ◌∙◌, arith, append_assoc, append-nil, ◌⊎◌}
 use Rattle.std.specs.Option.{option_map}
 use Rattle.std.specs.FinMap.{get}
 use Rattle.std.specs.Str.{is_utf8}
@@ -30,7 +30,7 @@ use Rattle.office_core_orders.specs.declared.waiting_lines.Awaited.TheVariants.{
 use Rattle.office_http_requests.specs.declared.reply.Refusal.{Refusal}
 use Rattle.office_http_requests.specs.declared.reply.Refusal.TheVariants as refusal
 use Rattle.office_http_requests.specs.declared.reply.Answer.{Answer}
-use Rattle.office_http_requests.specs.declared.reply.Answer.TheVariants.{Refused, Delivered, Status, Told, Letter}
+use Rattle.office_http_requests.specs.declared.reply.Answer.TheVariants.{Refused, Delivered, Status, Told, Letter, BadHint}
 use Rattle.office_http_requests.specs.declared.request.Action.{Action}
 use Rattle.office_http_requests.specs.declared.request.Action.TheVariants.{Deliver, DeliverOf, Look, Settle, Try, TryOn}
 use Rattle.office_http_requests.specs.declared.request.Page.{Page}
@@ -64,8 +64,9 @@ use Rattle.office_core_why.specs.Hints.{IsHintsText}
 use Rattle.office_core_why.specs.UnstableText.{IsUnstableText}
 use Rattle.office_core_why.specs.Why.{IsWhy}
 use Rattle.office_core_why.specs.declared.WhyText.{WhyText}
+use Rattle.office_http.specs.ShortTexts.{is_told_whole, short_answer, short_page}
 use Rattle.office_http.specs.Trials.{hints_in, trial_answer, tried_answer, terms_of}
-use Rattle.office_http.specs.ServeSteps.{answer_or, part_answer, status_answer, text_answer, Tells, TellsAwaited, TellsProposal, TellsTrial, Runs, Answers, ServesHead, ServesFront, StopsRequest}
+use Rattle.office_http.specs.ServeSteps.{answer_or, whole_page, part_answer, status_answer, text_answer, Tells, TellsAwaited, TellsProposal, TellsShort, TellsTrial, Runs, Answers, ServesHead, ServesFront, StopsRequest}
 use Rattle.office_core_replay.proofs.ReplayFacts.{Leaves, reply_by-mark, delivery_counted, kept_after}
 use Rattle.office_core_replay.proofs.RiseFacts.{delivery_weaker, text_weaker}
 use Rattle.office_core_replay.specs.DeliverySteps.{Settles}
@@ -107,7 +108,7 @@ told_why rose s source (Err fault.NoMemory) is err = told_missed rose s (page.Wh
 told_why rose s source (Err fault.Store) is err = told_missed rose s (page.Why source) fault.Store (err refl)
 
 -- a page whose text is that of the state alone
-told_page : (rose : Type 0) (s : OfficeState) (p : Page) (due : List ℕ) (r : Result (List ℕ) StoreFault) → IsFoundFor s nothing p → page_answer s nothing p ≡ Told due → IfOk r (λ t. t ≡ due) → (r ≡ Err fault.Store → rose) → Tells s p (text_answer r) rose
+told_page : (rose : Type 0) (s : OfficeState) (p : Page) (due : List ℕ) (r : Result (List ℕ) StoreFault) → IsFoundFor s nothing p → whole_page s nothing p ≡ Told due → IfOk r (λ t. t ≡ due) → (r ≡ Err fault.Store → rose) → Tells s p (text_answer r) rose
 told_page rose s p due (Ok t) found answers is err = record { fault = None; by_store = tt; found = nothing; is = λ e. found; answer_is = ap Told is ∙ sym answers }
 told_page rose s p due (Err fault.NoMemory) found answers is err = told_missed rose s p fault.NoMemory tt
 told_page rose s p due (Err fault.Store) found answers is err = told_missed rose s p fault.Store (err refl)
@@ -147,7 +148,7 @@ told_unstable rose s (Err fault.Store) h err = told_missed rose s page.Unstable 
 
 -- hints that are proposed, for no source or for one
 told_proposed : (rose : Type 0) (s : OfficeState) (p : Page) (sources : List (List ℕ)) (r : Result Answer StoreFault) → ((proposal : Option Proposal) → IsProposedFor s sources proposal → IsFoundFor s (record nothing { proposal = proposal }) p)
-    → ((proposal : Option Proposal) → page_answer s (record nothing { proposal = proposal }) p ≡ proposal_answer proposal) → IfOk r (TellsProposal s sources) → (r ≡ Err fault.Store → rose) → Tells s p (answer_or r) rose
+    → ((proposal : Option Proposal) → whole_page s (record nothing { proposal = proposal }) p ≡ proposal_answer proposal) → IfOk r (TellsProposal s sources) → (r ≡ Err fault.Store → rose) → Tells s p (answer_or r) rose
 told_proposed rose s p sources (Ok answer) found answers h err =
     record { fault = None; by_store = tt; found = record nothing { proposal = h.proposal }; is = λ e. found h.proposal h.proposed; answer_is = h.answer_is ∙ sym (answers h.proposal) }
 told_proposed rose s p sources (Err fault.NoMemory) found answers h err = told_missed rose s p fault.NoMemory tt
@@ -158,6 +159,55 @@ told_propose rose s r h err = told_proposed rose s page.Propose [] r (λ proposa
 
 pub told_propose_for : (rose : Type 0) (s : OfficeState) (source : List ℕ) (r : Result Answer StoreFault) → IfOk r (TellsProposal s (source ∷ [])) → (r ≡ Err fault.Store → rose) → Tells s (page.ProposeFor source) (answer_or r) rose
 told_propose_for rose s source r h err = told_proposed rose s (page.ProposeFor source) (source ∷ []) r (λ proposal is. is) (λ proposal. refl) h err
+
+-- a page's answer, by what the page tells
+pub page_is : (s : OfficeState) (found : Found) (p : Page) → page_answer s found p ≡ short_page p (whole_page s found p)
+page_is s found page.Status = refl
+page_is s found page.Testing = refl
+page_is s found (page.Excuses run) = refl
+page_is s found (page.Update run) = refl
+page_is s found page.Waiting = refl
+page_is s found page.Runs = refl
+page_is s found page.Kept = refl
+page_is s found (page.Letter sender number) = refl
+page_is s found (page.Bag sender from) = refl
+page_is s found (page.Why source) = refl
+page_is s found (page.Order day) = refl
+page_is s found page.Hints = refl
+page_is s found page.Unstable = refl
+page_is s found page.Propose = refl
+page_is s found (page.ProposeFor source) = refl
+
+short_if : (p : Page) (b : Bool) (answer : Answer) → is_told_whole p ≡ b → (if b then answer else short_answer answer) ≡ short_page p answer
+short_if p b answer e = ap (λ (c : Bool). if c then answer else short_answer answer) (sym e)
+
+-- a page that is told whole
+pub told_whole : (rose : Type 0) (s : OfficeState) (p : Page) (answer : Answer) → is_told_whole p ≡ true → Tells s p answer rose → TellsShort s p answer rose
+told_whole rose s p answer e t = record {
+  fault = t.fault;
+  by_store = t.by_store;
+  found = t.found;
+  is = t.is;
+  answer_is = t.answer_is ∙ ap (λ (a : Answer). by_fault t.fault a) (short_if p true (whole_page s t.found p) e ∙ sym (page_is s t.found p));
+}
+
+-- a refusal is short
+short_by_fault : (o : Option StoreFault) (due : Answer) → short_answer (by_fault o due) ≡ by_fault o (short_answer due)
+short_by_fault None due = refl
+short_by_fault (Some f) due = refl
+
+-- a page whose text is cut where it is too long
+pub told_short : (rose : Type 0) (s : OfficeState) (p : Page) (answer : Answer) (r : Result Answer StoreFault) → is_told_whole p ≡ false → Tells s p answer rose → IfOk r (λ within. within ≡ short_answer answer) → IfErr r (λ f. f ≡ fault.NoMemory) → TellsShort s p (answer_or r) rose
+told_short rose s p answer (Ok within) e t is missed = record {
+  fault = t.fault;
+  by_store = t.by_store;
+  found = t.found;
+  is = t.is;
+  answer_is = is ∙ ap short_answer t.answer_is ∙ short_by_fault t.fault (whole_page s t.found p)
+      ∙ ap (λ (a : Answer). by_fault t.fault a) (short_if p false (whole_page s t.found p) e ∙ sym (page_is s t.found p));
+}
+told_short rose s p answer (Err fault.NoMemory) e t is missed = record { fault = Some fault.NoMemory; by_store = tt; found = nothing; is = λ e. absurd (cc (e)); answer_is = refl }
+told_short rose s p answer (Err fault.Store) e t is missed = absurd (cc (missed))
 
 -- an answer that names no sender has a place for its name
 pub place_status : (setup : Lists) (r : Result Progress StoreFault) → HasPlace setup (status_answer r)
@@ -194,6 +244,18 @@ place_part setup (Err f) = tt
 pub place_or : (setup : Lists) (r : Result Answer StoreFault) → IfOk r (λ answer. HasPlace setup answer) → HasPlace setup (answer_or r)
 place_or setup (Ok answer) h = h
 place_or setup (Err f) h = tt
+
+place_of_short : (setup : Lists) (answer : Answer) → HasPlace setup answer → HasPlace setup (short_answer answer)
+place_of_short setup (Delivered reply) h = h
+place_of_short setup (Refused refusal) h = tt
+place_of_short setup (Status progress) h = tt
+place_of_short setup (Told text) h = tt
+place_of_short setup (Letter text) h = tt
+place_of_short setup (BadHint text) h = tt
+
+pub place_short : (setup : Lists) (answer : Answer) (r : Result Answer StoreFault) → HasPlace setup answer → IfOk r (λ within. within ≡ short_answer answer) → HasPlace setup (answer_or r)
+place_short setup answer (Ok within) h is = subst (λ (a : Answer). HasPlace setup a) (sym is) (place_of_short setup answer h)
+place_short setup answer (Err f) h is = tt
 
 -- a delivery
 lost_of : Mark → Option StoreFault
@@ -485,7 +547,7 @@ refused_answers rose s l w front r due e = subst (λ (a : Asked). Answers s s l 
   waited = λ h. absurd (cc (h));
 })
 
-pub told_answers : (rose : Type 0) (s s' : OfficeState) (l w : Option (List ℕ)) (front : List ℕ) (p : Page) (answer : Answer) (due : Asked) → asks.Tell p ≡ due → Tells s p answer rose → s' ≡ s → Answers s s' l l w w front due answer rose
+pub told_answers : (rose : Type 0) (s s' : OfficeState) (l w : Option (List ℕ)) (front : List ℕ) (p : Page) (answer : Answer) (due : Asked) → asks.Tell p ≡ due → TellsShort s p answer rose → s' ≡ s → Answers s s' l l w w front due answer rose
 told_answers rose s s' l w front p answer due e t same = subst (λ (a : Asked). Answers s s' l l w w front a answer rose) e (record {
   more = [];
   took = Consumes-nil l;

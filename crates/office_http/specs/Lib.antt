@@ -1,3 +1,4 @@
+pub mod ShortTexts
 pub mod Serve
 pub mod ServeSteps
 pub mod Trials

@@ -53,6 +53,7 @@ use Rattle.office_core_facts.specs.Seen.{IsSeen}
 use Rattle.office_core_facts.specs.State.{answer_to, reports_at}
 use Rattle.office_core_orders.specs.Waiting.{Awaits}
 use Rattle.office_core_orders.specs.Written.{AppendsFront}
+use Rattle.office_http.specs.ShortTexts.{short_page}
 use Rattle.office_http.specs.Trials.{hints_in, request_terms, terms_on, tried_answer}
 use Rattle.office_core_why.specs.Hints.{hints_text}
 use Rattle.office_core_why.specs.UnstableText.{unstable_text}
@@ -165,7 +166,7 @@ page_answer s found page.Status = Status (record { ready = found.ready; finished
 page_answer s found page.Testing = Told (testing_text s.setup s.finished (testing_after s.setup s.kept s.finished))
 page_answer s found (page.Excuses run) = report_answer (Ok (option_map (λ reports. reports.excuses) (reports_at s run)))
 page_answer s found (page.Update run) = report_answer (Ok (option_map (λ reports. reports.updates) (reports_at s run)))
-page_answer s found added = added_page s found added
+page_answer s found added = short_page added (added_page s found added)
 
 -- The answer to a POST that was added to the first two: what is due to a delivery, or what the hints would change. A text
 -- that is only looked at is answered as if it were delivered.

@@ -11,6 +11,7 @@ use Rattle.office_http_requests.specs.declared.reply.Answer.{Answer}
 use Rattle.office_http_requests.specs.declared.reply.Answer.TheVariants.{Refused, Status, Told, Letter}
 use Rattle.office_http_requests.specs.declared.request.Action.{Action}
 use Rattle.office_http_requests.specs.declared.request.Page.{Page}
+use Rattle.office_http_requests.specs.declared.request.Page.TheVariants as page
 use Rattle.office_http_requests.specs.declared.request.Asked.{Asked}
 use Rattle.office_http.specs.declared.serve.ServeFault.{ServeFault}
 use Rattle.office_http.specs.declared.serve.ServeFault.TheVariants.{Read, Write}
@@ -24,7 +25,7 @@ use Rattle.office_core_outcome.specs.declared.Trial.{Trial}
 use Rattle.office_core_outcome.specs.declared.TrialOptions.{TrialOptions}
 use Rattle.office_core_outcome.specs.Trial.{IsTrial}
 use Rattle.office_core_outcome.specs.declared.proposal.Proposal.{Proposal}
-use Rattle.office_http.specs.Serve.{refusal_for, by_fault, page_answer, action_answer, posted_body, answer_of, proposal_answer, waits_of, continued, Found, IsFound, IsFoundBy, IsFoundFor, IsProposedFor, Moves, Does, IsWhole, IsAwaited, StopsBefore, Exchange}
+use Rattle.office_http.specs.Serve.{refusal_for, by_fault, added_page, page_answer, action_answer, posted_body, answer_of, proposal_answer, waits_of, continued, Found, IsFound, IsFoundBy, IsFoundFor, IsProposedFor, Moves, Does, IsWhole, IsAwaited, StopsBefore, Exchange}
 use Rattle.office_http.specs.Trials.{trial_answer}
 
 -- the answers of the office's calls
@@ -65,9 +66,25 @@ pub record TellsProposal (s : OfficeState) (sources : List (List ℕ)) (answer :
   pub proposed : IsProposedFor s sources proposal
   pub answer_is : answer ≡ proposal_answer proposal
 
--- a page was told
+-- what a page tells, however long it is
+abbrev pub whole_page : OfficeState → Found → Page → Answer
+whole_page s found page.Status = page_answer s found page.Status
+whole_page s found page.Testing = page_answer s found page.Testing
+whole_page s found (page.Excuses run) = page_answer s found (page.Excuses run)
+whole_page s found (page.Update run) = page_answer s found (page.Update run)
+whole_page s found added = added_page s found added
+
+-- it was told
 pub record Tells (s : OfficeState) (page : Page) (answer : Answer) (rose : Type 0) : Type 0 where
   -- what was met
+  pub fault : Option StoreFault
+  pub by_store : TextCounted rose fault
+  pub found : Found
+  pub is : fault ≡ None → IsFoundFor s found page
+  pub answer_is : answer ≡ by_fault fault (whole_page s found page)
+
+-- a page was told
+pub record TellsShort (s : OfficeState) (page : Page) (answer : Answer) (rose : Type 0) : Type 0 where
   pub fault : Option StoreFault
   pub by_store : TextCounted rose fault
   pub found : Found

@@ -18,6 +18,7 @@ use Rattle.office_core_outcome.specs.declared.Trial.{Trial}
 use Rattle.office_core_outcome.specs.declared.Trial.TheVariants as trial
 use Rattle.office_core_outcome.specs.Trial.{trial_text}
 use Rattle.office_core_facts.specs.Seen.{release}
+use Rattle.office_http.specs.ShortTexts.{short_text}
 
 -- a trial that a request asks for covers the mail of the release team alone, and has no day of its own
 abbrev pub request_terms : TrialOptions
@@ -46,7 +47,7 @@ refused_line hints refused = codes "'" ++ slice_index_or hints refused.place [] 
 
 -- the answer to hints by what their trial is told
 abbrev pub trial_answer : Lists → List (List ℕ) → Trial → Answer
-trial_answer setup hints (trial.Told report reasons) = Told (trial_text (name_at setup (release setup)) hints report reasons)
+trial_answer setup hints (trial.Told report reasons) = Told (short_text (trial_text (name_at setup (release setup)) hints report reasons))
 trial_answer setup hints trial.NoDate = Refused refusal.NoRun
 trial_answer setup hints (trial.Refused refused) = BadHint (refused_line hints refused)
 

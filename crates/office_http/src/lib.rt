@@ -5,6 +5,7 @@ pub mod laws;
 mod proposals;
 mod serve;
 pub mod service_laws;
+mod short_texts;
 mod trials;
 
 pub use office_core::Office;

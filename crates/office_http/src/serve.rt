@@ -16,13 +16,14 @@ ghost use Rattle.office_http_requests.specs.Request.{body_room, head_room};
 ghost use Rattle.office_http_requests.specs.RequestSteps.{IsHeadAt};
 ghost use Rattle.office_http.specs.Serve.{if_known, mail_counts, unbroken_of, refusal_for, report_answer, why_answer, letter_answer, delivery_answer, is_of_other, waits_of, Does, StopsBefore, Serves, StopsServe};
 ghost use Rattle.office_core_why.specs.Why.{IsWhy};
-ghost use Rattle.office_http.specs.ServeSteps.{answer_or, part_answer, status_answer, text_answer, Tells, TellsAwaited, Runs, Answers, StopsRequest, ServesHead};
+ghost use Rattle.office_http.specs.ServeSteps.{answer_or, part_answer, status_answer, text_answer, Tells, TellsAwaited, TellsShort, Runs, Answers, StopsRequest, ServesHead};
 ghost use Rattle.office_http.specs.Trials.{terms_of};
 ghost use Rattle.office_core_facts.specs.State.{state_of};
 ghost use Rattle.office_core_orders.specs.Counted.{Counted};
 ghost use Rattle.office_core_orders.specs.Written.{AppendsFront};
 
 use crate::proposals::{propose_for, propose_groups};
+use crate::short_texts::{is_told_whole, short_answer};
 use crate::trials::{request_terms, terms_on, try_body};
 use deb_control::{NoMemory, Text};
 use httparse::spans::{EMPTY_HEADER_SPAN, HeaderSpan, RequestSpans};
@@ -241,8 +242,8 @@ fn source_text<K: Keeper>(
     text
 }
 
-/// Tells a text of the office.
-fn tell<K: Keeper>(office: &mut Office<K>, page: Page) -> Answer
+/// Tells a text of the office, however long it is.
+fn tell_whole<K: Keeper>(office: &mut Office<K>, page: Page) -> Answer
     ensures asks { Asks K.Keeper office.old office.new }
     ensures place { HasPlace (K.setup office.old) result }
     ensures tells { Holds K.Keeper office.old office.new → Tells (state_of K.Keeper office.old) page result (StoreRefused K.Keeper office.old office.new) }
@@ -264,6 +265,20 @@ fn tell<K: Keeper>(office: &mut Office<K>, page: Page) -> Answer
         Page::Propose => answer_or(propose_groups(office)),
         Page::ProposeFor(source) => answer_or(propose_for(office, source)),
     }
+}
+
+/// Tells a text of the office, which is cut where it is too long, but for testing, unstable and the reports of runs.
+fn tell<K: Keeper>(office: &mut Office<K>, page: Page) -> Answer
+    ensures asks { Asks K.Keeper office.old office.new }
+    ensures place { HasPlace (K.setup office.old) result }
+    ensures tells { Holds K.Keeper office.old office.new → TellsShort (state_of K.Keeper office.old) page result (StoreRefused K.Keeper office.old office.new) }
+{
+    let is_whole = is_told_whole(&page);
+    let answer = tell_whole(office, page);
+    if is_whole {
+        return answer;
+    }
+    answer_or(short_answer(office.alloc(), answer))
 }
 
 /// Delivers a text, and settles where it is held. A fault of that settle doesn't change the reply.

@@ -1,6 +1,6 @@
 //! What is true of what the service answers.
 ghost use Rattle.std.specs.FinMap.{get};
-ghost use Rattle.std.specs.Prelude.{◌≡◌, ◌≢◌, ◌⊎◌, ◌-◌, ℕ, List, Option, None, false, length};
+ghost use Rattle.std.specs.Prelude.{◌≡◌, ◌≢◌, ◌⊎◌, ◌≤◌, ◌<◌, ◌-◌, ◌^◌, ℕ, List, Option, None, false, length};
 ghost use Rattle.office_mail.specs.Kept.{Place};
 ghost use Rattle.office_core_orders.specs.Ready.{HasPlaces};
 ghost use Rattle.office_http_requests.specs.declared.request.Action.{Action};
@@ -13,6 +13,7 @@ ghost use Rattle.office_core_facts.specs.State.{IsSound, state_of};
 ghost use Rattle.office_core_orders.specs.declared.faults.StoreFault.{StoreFault};
 ghost use Rattle.office_core.specs.History.{Leads, Looked, coming};
 ghost use Rattle.office_core.specs.Preserves.{StoreRefused};
+ghost use Rattle.office_http.specs.ShortTexts.{short_text};
 ghost use Rattle.office_http.specs.Trials.{terms_of};
 
 use office_store_keeper::Keeper;
@@ -37,6 +38,12 @@ pub fn lint_is_mail()
     ensures same { (s : OfficeState) (body : List ℕ) (x y : Found) → action_answer s x Action.Look body ≡ action_answer s y Action.Deliver body }
     ensures keeps { (s : OfficeState) (body : List ℕ) (fault : Option StoreFault) → kept_by s Action.Look body fault ≡ s.kept }
     ensures still { (s : OfficeState) (body : List ℕ) (fault : Option StoreFault) → settles s Action.Look body fault ≡ false }
+{}
+
+/// The text of an answer to a question has at most 4,000,000 bytes, but for those of testing, unstable and the reports of
+/// runs.
+pub fn texts_are_short()
+    ensures { (text : List ℕ) → length text < 2 ^ 64 → length (short_text text) ≤ 4_000_000 }
 {}
 
 /// What a request does is steps of an office's history: the body that it delivers came, if it does, and runs were finished.

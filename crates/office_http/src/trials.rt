@@ -11,6 +11,7 @@ ghost use Rattle.office_core_facts.specs.Seen.{release};
 ghost use Rattle.testing_rules_reports.specs.LentLines.{lent_lines};
 ghost use Rattle.office_core_outcome.specs.Trial.{trial_text};
 
+use crate::short_texts::short_text;
 use deb_control::{NoMemory, Text};
 use jiff_core::civil::Date;
 use office_core::Office;
@@ -129,7 +130,7 @@ fn trial_answer(
     match trial {
         Trial::Told(report, reasons) => {
             let text = release_text(alloc, setup, hints, report, reasons)?;
-            Ok(Answer::Told(text))
+            Ok(Answer::Told(short_text(alloc, text)?))
         }
         Trial::NoDate => Ok(Answer::Refused(Refusal::NoRun)),
         Trial::Refused(refused) => Ok(Answer::BadHint(refused_line(alloc, hints, *refused)?)),

@@ -2,7 +2,7 @@ use Rattle.office_core.specs.Preserves.{StoreRefused}
 use Rattle.office_core_facts.specs.State.{state_of}
 use Rattle.office_core.proofs.CarryFacts.{risen}
 use Rattle.office_http.proofs.ServeFacts.{told_status, told_testing, told_excuses, told_update, told_waiting, told_runs, told_kept, told_letter, told_bag, told_why, told_order, told_hints, told_unstable, told_propose, told_propose_for, place_or, place_status, place_text, place_report, place_letter, place_part, place_why}
-use Rattle.office_http.proofs.serve.tell.Goals as goal
+use Rattle.office_http.proofs.serve.tell_whole.Goals as goal
 
 pub returns-in-Status-clause-place : goal.returns-in-Status-clause-place
 returns-in-Status-clause-place g c = rw c.status_answer.ensures (place_status (g.K.Keeper.setup c.args.office.now) c.status.result)
