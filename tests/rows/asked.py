@@ -5,7 +5,10 @@ import re
 from model import ARCHS, Office, Refused, SENDERS, satisfies, vcmp
 
 RELEASE, CLOCK = SENDERS.index("rt"), SENDERS.index("clock")
-NEED = re.compile(r"(\d+) (\S+) (\S+) of (\S+) (comes in|in testing), needs (.+): (nothing|\d+(?: and \d+)*)")
+NEED = re.compile(r"(\d+) (\S+) (\S+) of (\S+) (comes in|in testing), needs (.+): "
+                  r"(nothing|\d+(?: and \d+)*?)(?: and (\d+) more)?")
+# How many numbers of lines a line tells.
+TOLD = 12
 
 
 def unbroken(kept, sender):
@@ -163,17 +166,35 @@ def behind_nothing(known, change, clause):
     return lines if offers else lines + ["unstable nothing"]
 
 
+def told_numbers(numbers, more):
+    """The numbers of lines that a line tells, and how many more there are."""
+    return [int(n) for n in numbers.split(" and ")] if numbers != "nothing" else [], int(more or 0)
+
+
+def groundless_fault(needs, rows):
+    """What is wrong with the numbers of lines, each of which tells the first of those whose rows meet its clause, and
+    counts the others; None if nothing is."""
+    for number, (_, clause, numbers, more) in enumerate(needs, 1):
+        bearers = sorted(id(r) for r in rows if meets(r, clause))
+        due = [n for n, need in enumerate(needs, 1) if id(need[0]) in bearers]
+        if any(n <= number for n in due) or (numbers, more) != (due[:TOLD], max(len(due) - TOLD, 0)):
+            return "line %d names another number" % number
+        if sorted(id(needs[n - 1][0]) for n in due) != bearers:
+            return "line %d isn't groundless" % number
+    return None
+
+
 def need_of(line, rows, coming, number):
     """The row and the clause that a line of a refusal names, and which lines meet it; None for another line."""
     found = NEED.fullmatch(line)
     if found is None or int(found.group(1)) != number:
         return None
-    _, package, version, of, place, text, numbers = found.groups()
+    _, package, version, of, place, text, numbers, more = found.groups()
     for row in rows:
         for clause in row["clauses"]:
             if (row["package"], row["version"], row["source"], clause_text(clause)) == (package, version, of, text) \
                     and (place == "comes in") == (of in coming):
-                return row, clause, [int(n) for n in numbers.split(" and ")] if numbers != "nothing" else []
+                return row, clause, *told_numbers(numbers, more)
     return None
 
 
@@ -190,13 +211,9 @@ def shown_fault(known, change, lines):
         if rest[1:1 + len(due)] != due:
             return "behind %r: due %r" % (line, due)
         rest = rest[1 + len(due):]
-    for number, (row, clause, numbers) in enumerate(needs, 1):
-        bearers = [r for r in here if meets(r, clause)]
-        if any(n <= number or n > len(needs) for n in numbers):
-            return "line %d names another number" % number
-        if sorted(id(needs[n - 1][0]) for n in numbers) != sorted(map(id, bearers)):
-            return "line %d isn't groundless" % number
-    return None if needs and needs[0][0]["package"] == package else "another package than %s comes first" % package
+    if not needs or needs[0][0]["package"] != package:
+        return "another package than %s comes first" % package
+    return groundless_fault(needs, here)
 
 
 def refusal_fault(office, source, lines):

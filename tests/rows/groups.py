@@ -6,7 +6,8 @@ for few sources alone.
 """
 import itertools
 import re
-from asked import CLOCK, NEED, RELEASE, clause_text, meets, next_run, on, state, unbroken
+from asked import CLOCK, NEED, RELEASE, clause_text, groundless_fault, meets, next_run, on, state, told_numbers
+from asked import unbroken
 from model import ARCHS, Refused, SENDERS, vcmp, works
 
 STUCK = re.compile(r"stuck (\S+) (\S+) uninstallable (\S+) (\S+)")
@@ -122,14 +123,14 @@ class Behind:
         row = needs[0][0]
         if not (row["arch"] == arch or arch == ARCHS[0]) or not self.is_due(row, name, dead, arch):
             return "%s isn't watched, or may leave" % package
-        return self.groundless_fault(needs, rows)
+        return groundless_fault(needs, rows)
 
     def need_of(self, line, rows, name, dead, number):
         """The row and the clause that a line names, and which lines meet it; None for another line."""
         found = NEED.fullmatch(line)
         if found is None or int(found.group(1)) != number:
             return None
-        _, package, version, of, place, text, numbers = found.groups()
+        _, package, version, of, place, text, numbers, more = found.groups()
         coming = self.coming(self.living(dead))
         for row in rows:
             for clause in row["clauses"]:
@@ -139,17 +140,7 @@ class Behind:
                     of,
                     text,
                 ) and (place == "comes in") == any(row is r for r in coming):
-                    return row, clause, [int(n) for n in numbers.split(" and ")] if numbers != "nothing" else []
-        return None
-
-    @staticmethod
-    def groundless_fault(needs, rows):
-        for number, (_, clause, numbers) in enumerate(needs, 1):
-            bearers = [r for r in rows if meets(r, clause)]
-            if any(n <= number or n > len(needs) for n in numbers):
-                return "line %d names another number" % number
-            if sorted(id(needs[n - 1][0]) for n in numbers) != sorted(map(id, bearers)):
-                return "line %d isn't groundless" % number
+                    return row, clause, *told_numbers(numbers, more)
         return None
 
     def stuck_fault(self, lines):
