@@ -40,8 +40,7 @@ pub fn lint_is_mail()
     ensures still { (s : OfficeState) (body : List ℕ) (fault : Option StoreFault) → settles s Action.Look body fault ≡ false }
 {}
 
-/// The text of an answer to a question has at most 4,000,000 bytes, but for those of testing, unstable and the reports of
-/// runs.
+/// A text that is told to a question has at most 4,000,000 bytes, since one that is longer is cut.
 pub fn texts_are_short()
     ensures { (text : List ℕ) → length text < 2 ^ 64 → length (short_text text) ≤ 4_000_000 }
 {}
