@@ -6,7 +6,7 @@ ghost use Rattle.std.specs.FinMap.{get};
 ghost use Rattle.std.specs.Option.{option_map};
 ghost use Rattle.testing_rules_laws.specs.Watched.{AllWatchedWork};
 ghost use Rattle.office_mail.specs.Kept.{kept_from};
-ghost use Rattle.office_mail.specs.Runs.{IsReady, IsReadyCount, latest_day, orders_to};
+ghost use Rattle.office_mail.specs.Runs.{IsReady, IsReadyCount, latest_day, order_at, orders_to};
 ghost use Rattle.office_store_keeper.specs.Content.{IsNextNumber};
 ghost use Rattle.office_store_keeper.specs.Provenance.{AreOwnTexts};
 ghost use Rattle.office_core_orders.specs.Counted.{Counted, CountedDelivery};
@@ -301,11 +301,13 @@ impl<K: Keeper> Office<K> {
 
     /// What the run behind the finished ones makes of the hint of this number of the release team, over what is kept of all
     /// that the run covers: the lines of its update on the hint, or how the hint stands, and lines that show why it is
-    /// refused. There is none where its order has not come. Nothing is kept, and no run is finished.
+    /// refused. There is none exactly if the run's order hasn't come. Nothing is kept, and no run is finished.
     ///
     /// It fails for want of memory or of the store alone.
     pub fn hint_told(&mut self, number: u32) -> Result<Option<HintText>, StoreFault>
         ensures told { K.is_trusted self.new → IsSound K.Keeper self.old → IfOk result (λ found. IfSome found (IsHintTold (K.setup self.old) (K.content self.old).kept (state_of K.Keeper self.old).finished number)) }
+        ensures ordered { K.is_trusted self.new → IsSound K.Keeper self.old
+            → IfOk result (λ found. is_none found ≡ is_none (order_at (K.setup self.old) (K.content self.old).kept ((state_of K.Keeper self.old).finished + 1))) }
         ensures same { K.is_trusted self.new → K.content self.new ≡ K.content self.old }
         ensures setup { K.setup self.new ≡ K.setup self.old }
         ensures sound { K.is_trusted self.new → IsSound K.Keeper self.old → IsSound K.Keeper self.new }

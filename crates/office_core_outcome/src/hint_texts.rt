@@ -1,14 +1,14 @@
 //! What a run makes of one hint, in lines.
 #![tactic(auto, using(office_core_orders::proofs::LastFacts::lasting))]
 
-ghost use Rattle.std.specs.Prelude.{is_ok, ◌≡◌, ◌+◌, ◌++◌, [], IfOk, IfSome, OnOk, Some, filter, length, option_copied, string_bytes};
+ghost use Rattle.std.specs.Prelude.{is_none, is_ok, ◌≡◌, ◌+◌, ◌++◌, [], IfOk, IfSome, OnOk, Some, filter, length, option_copied, string_bytes};
 ghost use Rattle.std.specs.List.{flat_map};
 ghost use Rattle.testing_rules_laws.specs.Covered.{Covered};
 ghost use Rattle.testing_rules_laws.specs.StandsFor.{StandsFor};
 ghost use Rattle.testing_rules_laws.specs.Suite.{Suite};
 ghost use Rattle.testing_rules_reports.specs.Changes.{behind};
 ghost use Rattle.testing_rules_reports.specs.LentLines.{lent_lines};
-ghost use Rattle.office_mail.specs.Runs.{latest_day};
+ghost use Rattle.office_mail.specs.Runs.{latest_day, order_at};
 ghost use Rattle.office_core_orders.specs.Counted.{Counted};
 ghost use Rattle.office_core_orders.specs.Ready.{FirstOrders};
 ghost use Rattle.office_core_orders.specs.ReadsStore.{ReadsStore};
@@ -27,9 +27,9 @@ use crate::settling::keep_suites;
 use deb_control::{NoMemory, Text};
 use jiff_core::civil::Date;
 use office_core_facts::covered::{KnownFacts, facts};
-use office_core_facts::finished::finished_orders;
 use office_core_facts::message_cache::MessageCache;
 use office_core_facts::release::release_place;
+use office_core_orders::orders::read_orders;
 use office_core_orders::{StoreFault, name_at, stored};
 use office_mail::{RunOrder, Setup, latest_day};
 use office_store_keeper::Keeper;
@@ -233,7 +233,7 @@ fn told_next<K: Keeper>(
 
 /// What the run behind the finished ones of an office with this store makes of the hint of this number, over what is kept of
 /// all that the run covers: the lines of its update on the hint, or how the hint stands, and lines that show why it is
-/// refused. There is none where its order has not come, with those before it. What is known of the mail is used.
+/// refused. There is none exactly if the run's order hasn't come. What is known of the mail is used.
 ///
 /// It fails for want of memory or of the store alone.
 pub fn hint_told<K: Keeper>(
@@ -246,6 +246,8 @@ pub fn hint_told<K: Keeper>(
     requires known { K.is_trusted keeper.old → IfSome before (λ known. AreKnown setup.now (K.content keeper.old) known) }
     ensures told { K.is_trusted keeper.new → K.is_legible keeper.old → IsOffice setup.now (K.content keeper.old)
         → IfOk result (λ found. IfSome found (IsHintTold setup.now (K.content keeper.old).kept (length (K.content keeper.old).reports) number)) }
+    ensures ordered { K.is_trusted keeper.new → IsOffice setup.now (K.content keeper.old)
+        → IfOk result (λ found. is_none found ≡ is_none (order_at setup.now (K.content keeper.old).kept (length (K.content keeper.old).reports + 1))) }
     ensures same { K.is_trusted keeper.new → K.content keeper.new ≡ K.content keeper.old }
     ensures setup { K.setup keeper.new ≡ K.setup keeper.old }
     ensures before { K.is_trusted keeper.new → K.is_trusted keeper.old }
@@ -255,7 +257,8 @@ pub fn hint_told<K: Keeper>(
 {
     let finished = stored::finished(keeper)?;
     let run = finished.saturating_add(1);
-    let orders = finished_orders(alloc, setup, keeper, run)?;
+    let mut orders = Vec::new(alloc);
+    read_orders(alloc, setup, keeper, &mut orders, run)?;
     if orders.len() != run as usize {
         return Ok(None);
     }
