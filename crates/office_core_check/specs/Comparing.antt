@@ -53,6 +53,11 @@ abbrev pub IsMadeAfter : Lists → Content → ℕ → Bounded → Bool → Type
 IsMadeAfter setup content run office true = HoldsAfter setup content.kept run office
 IsMadeAfter setup content run office false = IsOffice setup content → ⊥
 
+-- such an office, if one is made; there is none only if the store isn't what an office leaves
+abbrev pub IsMadeUpTo : Lists → Content → ℕ → Option Bounded → Type 0
+IsMadeUpTo setup content run None = IsOffice setup content → ⊥
+IsMadeUpTo setup content run (Some office) = HoldsAfter setup content.kept run office
+
 -- how the reports of a run differ, if they do
 abbrev pub IsRunDifference : ℕ → Option Reports → Option Reports → Option Difference → Type 0
 IsRunDifference run these those None = these ≡ those

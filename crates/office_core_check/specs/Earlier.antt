@@ -1,5 +1,5 @@
 -- The office in memory that is as an earlier run of a store left it. That there is one is this office's own.
-use Rattle.std.specs.Prelude.{◌≡◌, ℕ, List, length, Option, Some, None}
+use Rattle.std.specs.Prelude.{◌≡◌, ℕ, ◌-◌, List, length, Option, Some, None}
 use Rattle.office_mail.specs.Kept.{Kept}
 use Rattle.office_mail.specs.Lists.{Lists}
 use Rattle.office_store_keeper.specs.Content.{Content}
@@ -22,6 +22,12 @@ pub record HoldsAfter (setup : Lists) (kept : Kept) (k : ℕ) (office : Bounded)
 abbrev pub IsAfter : Lists → Content → ℕ → Option Bounded → Type 0
 IsAfter setup content run None = IsFinished content run → IsOffice setup content → ⊥
 IsAfter setup content run (Some office) = IsFinished content run × HoldsAfter setup content.kept run office
+
+-- The office as it was before a run of a store: it finished the runs up to the one before, over all mail that the store keeps. There is none of
+-- a run that isn't finished. Of a finished one there is none only if the store isn't what an office leaves.
+abbrev pub IsBefore : Lists → Content → ℕ → Option Bounded → Type 0
+IsBefore setup content run None = IsFinished content run → IsOffice setup content → ⊥
+IsBefore setup content run (Some office) = IsFinished content run × HoldsAfter setup content.kept (run - 1) office
 
 -- What an office with so many finished runs tells of a source for a run: why the source stands where that run left it.
 -- Nothing is told of another run than the last finished one, nor where no run is finished.

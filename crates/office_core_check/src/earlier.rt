@@ -11,10 +11,10 @@ ghost use Rattle.office_core_orders.specs.ReadsStore.{ReadsStore};
 ghost use Rattle.office_core_orders.specs.StaysTrusted.{StaysTrusted};
 ghost use Rattle.office_core_facts.specs.State.{IsSound, state_of};
 ghost use Rattle.office_core_why.specs.declared.WhyText.{WhyText};
-ghost use Rattle.office_core_check.specs.Comparing.{IsAnew, IsMadeAfter};
-ghost use Rattle.office_core_check.specs.Earlier.{IsAfter, IsToldAfter, IsToldOfRun};
+ghost use Rattle.office_core_check.specs.Comparing.{IsAnew, IsMadeAfter, IsMadeUpTo};
+ghost use Rattle.office_core_check.specs.Earlier.{IsAfter, IsBefore, IsToldAfter, IsToldOfRun};
 ghost use Rattle.office_core_check.specs.Reading.{IsFront};
-ghost use Rattle.office_core_check.specs.Whole.{AreOfSenders, IsFinished};
+ghost use Rattle.office_core_check.specs.Whole.{AreOfSenders};
 ghost use Rattle.office_core_check.specs.declared.memory.Bounded.{Bounded};
 
 use crate::delivering::{make_anew, new_office};
@@ -53,7 +53,7 @@ fn make_after<K: Keeper>(
     office: &mut Office<Bounded>,
     run: u32,
 ) -> Result<bool, StoreFault>
-    ensures made { K.is_trusted keeper.new → IsAnew office.old → IsFront (K.content keeper.old).kept 0 0 (content_of office.old.plain).kept → IsFinished (K.content keeper.old) run →
+    ensures made { K.is_trusted keeper.new → IsAnew office.old → IsFront (K.content keeper.old).kept 0 0 (content_of office.old.plain).kept → run ≤ length (K.content keeper.old).reports →
         AreOfSenders office.old.plain.setup (K.content keeper.old).kept → IfOk result (IsMadeAfter office.old.plain.setup (K.content keeper.old) run office.new) }
     ensures looks { ReadsStore K.Keeper keeper.old keeper.new result }
 {
@@ -72,8 +72,8 @@ fn made_after<K: Keeper>(
     office: Office<Bounded>,
     run: u32,
 ) -> Result<Option<Office<Bounded>>, StoreFault>
-    ensures after { K.is_trusted keeper.new → IsAnew office → IsFront (K.content keeper.old).kept 0 0 (content_of office.plain).kept → IsFinished (K.content keeper.old) run →
-        AreOfSenders office.plain.setup (K.content keeper.old).kept → IfOk result (IsAfter office.plain.setup (K.content keeper.old) run) }
+    ensures after { K.is_trusted keeper.new → IsAnew office → IsFront (K.content keeper.old).kept 0 0 (content_of office.plain).kept → run ≤ length (K.content keeper.old).reports →
+        AreOfSenders office.plain.setup (K.content keeper.old).kept → IfOk result (IsMadeUpTo office.plain.setup (K.content keeper.old) run) }
     ensures looks { ReadsStore K.Keeper keeper.old keeper.new result }
 {
     let mut office = office;
@@ -82,6 +82,21 @@ fn made_after<K: Keeper>(
     } else {
         Ok(None)
     }
+}
+
+/// An office in memory with this setup, once it took the kept mail of a store and finished its first runs up to this one; none
+/// where no office does that.
+fn made_up_to<K: Keeper>(
+    alloc: Global,
+    setup: &Setup,
+    keeper: &mut K,
+    run: u32,
+) -> Result<Option<Office<Bounded>>, StoreFault>
+    ensures made { K.is_trusted keeper.new → run ≤ length (K.content keeper.old).reports → AreOfSenders setup.now (K.content keeper.old).kept → IfOk result (IsMadeUpTo setup.now (K.content keeper.old) run) }
+    ensures looks { ReadsStore K.Keeper keeper.old keeper.new result }
+{
+    let office = new_office(alloc, setup, run)?;
+    made_after(keeper, office, run)
 }
 
 /// An office in memory as a finished run of a store left it: with the same setup, it took all mail that the store keeps, and
@@ -106,8 +121,7 @@ pub fn office_after<K: Keeper>(
 {
     let finished = keeper.finished()?;
     if is_finished(run, finished) {
-        let office = new_office(alloc, setup, run)?;
-        made_after(keeper, office, run)
+        made_up_to(alloc, setup, keeper, run)
     } else {
         Ok(None)
     }
@@ -115,7 +129,8 @@ pub fn office_after<K: Keeper>(
 
 /// An office in memory as it was before a finished run of a store: with the same setup, it took all mail that the store
 /// keeps, and finished exactly the runs before this one. There is none where the run isn't finished, nor where the store
-/// isn't what an office with its mail leaves. The store stays as it is.
+/// isn't what an office with its mail leaves and no office can take that mail and finish so many runs. The store stays as it
+/// is.
 ///
 /// It fails for want of memory or of the store alone.
 pub fn office_before<K: Keeper>(
@@ -124,6 +139,8 @@ pub fn office_before<K: Keeper>(
     keeper: &mut K,
     run: u32,
 ) -> Result<Option<Office<Bounded>>, StoreFault>
+    // An office keeps mail of senders of its setup alone.
+    ensures earlier { K.is_trusted keeper.new → AreOfSenders setup.now (K.content keeper.old).kept → IfOk result (IsBefore setup.now (K.content keeper.old) run) }
     ensures same { K.is_trusted keeper.new → K.content keeper.new ≡ K.content keeper.old }
     ensures setup { K.setup keeper.new ≡ K.setup keeper.old }
     ensures before { K.is_trusted keeper.new → K.is_trusted keeper.old }
@@ -134,8 +151,7 @@ pub fn office_before<K: Keeper>(
     let finished = keeper.finished()?;
     if is_finished(run, finished) {
         let earlier = run.saturating_sub(1);
-        let office = new_office(alloc, setup, earlier)?;
-        made_after(keeper, office, earlier)
+        made_up_to(alloc, setup, keeper, earlier)
     } else {
         Ok(None)
     }

@@ -12,7 +12,7 @@ use Rattle.office_core_check.proofs.FrontFacts.{front_all}
 use Rattle.office_core_check.proofs.earlier.make_after.Goals as goal
 
 pub returns-then-is_some-clause-made : goal.returns-then-is_some-clause-made
-returns-then-is_some-clause-made g c = λ trusted anew start finished are.
+returns-then-is_some-clause-made g c = λ trusted anew start size are.
     let here = g.K.Keeper.content c.args.keeper.now in
     let run = c.args.run in
     let difference = c.in_ok-difference.difference in
@@ -21,10 +21,10 @@ returns-then-is_some-clause-made g c = λ trusted anew start finished are.
     let front : Kept = (content_of c.make_anew.new.office.plain).kept in
     let made : IsMade old here.kept run front difference =
     subst (λ (s : Lists). IsMade s here.kept run front difference) c.in_ok-difference.ensures.setup (c.in_ok-difference.ensures.made trusted anew start) in
-    λ office. made_of_no_office old here run front difference (sym c.is_some.ensures ∙ c.if-is_some.true) finished made are office
+    λ office. made_of_no_office old here run front difference (sym c.is_some.ensures ∙ c.if-is_some.true) size made are office
 
 pub returns-clause-made : goal.returns-clause-made
-returns-clause-made g c = λ trusted anew start finished are.
+returns-clause-made g c = λ trusted anew start size are.
     let here = g.K.Keeper.content c.args.keeper.now in
     let run = c.args.run in
     let difference = c.in_ok-difference.difference in
