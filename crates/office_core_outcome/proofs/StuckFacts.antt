@@ -20,7 +20,7 @@ use Rattle.testing_rules_model.specs.declared.facts.UploadIn.{UploadIn}
 use Rattle.testing_rules_model.specs.declared.update.Decision.{Decision}
 use Rattle.testing_rules_moves.specs.Turns.{behind_hints}
 use Rattle.testing_rules_refusals.specs.Stuck.{IsStuckText}
-use Rattle.office_core_outcome.specs.Proposal.{AreShownStuck, IsShownStuck, is_moved}
+use Rattle.office_core_outcome.specs.Proposal.{IsShownStuck, is_moved}
 use Rattle.office_core_outcome.specs.Settled.{AreStuckBehind, AreStuckOver, IsStuckBehind}
 
 -- one element more at the end of both lists

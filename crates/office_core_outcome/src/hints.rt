@@ -1,6 +1,6 @@
 //! Hints as messages of the release team.
 
-ghost use Rattle.std.specs.Prelude.{◌≡◌, ◌≤◌, ◌+◌, ◌++◌, ◌∷◌, [], None, Some, IfOk, OnOk, IfErr, length};
+ghost use Rattle.std.specs.Prelude.{◌≡◌, ◌≤◌, ◌+◌, ◌++◌, ◌∷◌, [], None, Some, IfOk, IfErr};
 ghost use Rattle.office_mail.specs.Read.{read};
 ghost use Rattle.office_core_facts.specs.Seen.{release};
 ghost use Rattle.office_core_outcome.specs.Hints.{hint_text, hint_letter, hint_letters, refusal_in, hint_refusal, first_refused};

@@ -1,9 +1,7 @@
 //! The search for hints that the next run does.
 #![tactic(auto, using(office_core_orders::proofs::LastFacts::lasting))]
 
-ghost use Rattle.std.specs.Prelude.{is_ok, ◌≡◌, ◌≤◌, ◌<◌, ℕ, IfErr, IfOk, IfSome, OnOk, is_none, length, slice_index};
-ghost use Rattle.testing_rules_laws.specs.Covered.{Covered};
-ghost use Rattle.testing_rules_laws.specs.StandsFor.{StandsFor};
+ghost use Rattle.std.specs.Prelude.{is_ok, ◌≡◌, ◌≤◌, ◌<◌, ℕ, IfErr, IfOk, IfSome, is_none, length, slice_index};
 ghost use Rattle.office_mail.specs.Runs.{cover_of, latest_day, orders_to};
 ghost use Rattle.office_core_orders.specs.Counted.{Counted};
 ghost use Rattle.office_core_orders.specs.Ready.{FirstOrders};

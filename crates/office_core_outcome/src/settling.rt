@@ -1,6 +1,6 @@
 //! Hints that are tried until the run does the group of each.
 
-ghost use Rattle.std.specs.Prelude.{◌≡◌, ◌==◌, [], length, filter, IfOk, IfErr, IfSome};
+ghost use Rattle.std.specs.Prelude.{◌≡◌, ◌==◌, [], IfOk, IfErr, IfSome};
 ghost use Rattle.std.specs.List.{list_all, list_any};
 ghost use Rattle.std.specs.Str.{bytes_eq};
 ghost use Rattle.testing_rules_laws.specs.Covered.{Covered};
