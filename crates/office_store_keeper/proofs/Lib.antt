@@ -1,5 +1,5 @@
 pub mod FactSets
-pub mod GuessFacts
 pub mod KeyCounts
+pub mod LeftRows
 pub mod MemoryFacts
 pub mod PartFacts

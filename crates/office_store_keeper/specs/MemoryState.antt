@@ -1,13 +1,11 @@
 -- The state of the store in memory.
-use Rattle.std.specs.Prelude.{◌≡◌, ◌≤◌, ◌<◌, ◌+◌, ℕ, not, List, length, slice_index_or}
+use Rattle.std.specs.Prelude.{◌≤◌, ℕ, not, List, length}
 use Rattle.std.specs.List.{filter}
 use Rattle.std.specs.FinMap.{from_entries}
-use Rattle.std.specs.declared.cmp.Ordering.TheVariants.{Greater}
 use Rattle.office_mail.specs.Lists.{Lists}
 use Rattle.office_mail.specs.Kept.{Kept, Place}
 use Rattle.testing_rules_model.specs.Suite.{Suite}
 use Rattle.testing_rules_model.specs.declared.fact_row.FactRow.{FactRow}
-use Rattle.testing_rules_model.specs.FactRows.{row_order}
 use Rattle.office_store_keeper.specs.declared.values.Letter.{Letter}
 use Rattle.office_store_keeper.specs.declared.values.Reports.{Reports}
 use Rattle.office_store_keeper.specs.Content.{Content}
@@ -35,10 +33,6 @@ letter_of e = record { number = e.0.1; text = e.1 }
 -- the rows that aren't among those that are gone
 abbrev pub rows_left : List FactRow → List FactRow → List FactRow
 rows_left gone rows = filter (λ r. not (is_among r gone)) rows
-
--- a row lies above the one before a place among rows, if there is one before
-abbrev pub IsAbove : FactRow → List FactRow → ℕ → Type 0
-IsAbove r rows place = (k : ℕ) (d : FactRow) → k + 1 ≡ place → (k < length rows) × (row_order r (slice_index_or rows k d) ≡ Greater)
 
 -- what the store in memory holds
 abbrev pub content_of : MemoryState → Content

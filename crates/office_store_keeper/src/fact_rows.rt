@@ -1,15 +1,15 @@
 //! The kept facts as a list of rows, in any order.
-ghost use Rattle.std.specs.Prelude.{◌≡◌, ◌≤◌, ◌<◌, ◌++◌, ◌∷◌, [], length, slice_index_or, IfOk, IsTrue, OnOk};
+ghost use Rattle.std.specs.Prelude.{◌≡◌, ◌++◌, ◌∷◌, [], length, IfOk, OnOk};
 ghost use Rattle.std.specs.List.Sorted.{IsBinarySearchResult, IsSearchInRange, IsSorted};
-ghost use Rattle.std.specs.declared.cmp.Ordering.TheVariants.{Less};
 ghost use Rattle.testing_rules_model.specs.FactRows.{row_order};
 ghost use Rattle.testing_rules_model.specs.declared.fact_row.FactRow.{FactRow as ARow};
 ghost use Rattle.office_store_keeper.specs.FactSet.{facts_after, is_among, rows_in, set_of_rows};
-ghost use Rattle.office_store_keeper.specs.MemoryState.{IsAbove, rows_left};
+ghost use Rattle.office_store_keeper.specs.MemoryState.{rows_left};
 
 use deb_control::NoMemory;
 use std::alloc::Global;
 use std::cmp::Ordering;
+use testing_rules_items::search_near;
 use testing_rules_model::{FactChanges, FactRow, FactRows};
 
 /// These rows in order.
@@ -38,37 +38,18 @@ fn order_of(row: &FactRow, other: &FactRow) -> Ordering
     row.cmp(other)
 }
 
-/// How a row lies to the one at a place among rows. Where there is none it lies below.
-fn order_at(rows: &[FactRow], row: &FactRow, place: usize) -> Ordering
-    ensures at { place < length rows.now → (d : ARow) → result ≡ row_order row.now (slice_index_or rows.now place d) }
-    ensures past { length rows.now ≤ place → result ≡ Less }
-{
-    match rows.get(place) {
-        Some(other) => order_of(row, other),
-        None => Ordering::Less,
-    }
-}
-
-/// Whether a row lies above the one before a place among rows. Where there is none it does.
-fn is_above(rows: &[FactRow], row: &FactRow, place: usize) -> bool
-    ensures { IsTrue result → IsAbove row.now rows.now place }
-{
-    match place.checked_sub(1) {
-        Some(before) => order_at(rows, row, before) == Ordering::Greater,
-        None => true,
-    }
-}
-
 /// The place of a row among those that are gone, or where it belongs. The guessed place is tried first.
 fn place_near(gone: &[FactRow], row: &FactRow, guess: usize) -> Result<usize, usize>
     ensures bound { IsSearchInRange result (length gone.now) }
     ensures position { IsBinarySearchResult (λ y. row_order y row.now) gone.now result }
 {
-    match order_at(gone, row, guess) {
-        Ordering::Equal => Ok(guess),
-        Ordering::Less if is_above(gone, row, guess) => Err(guess),
-        _ => gone.binary_search(row),
-    }
+    search_near(
+        gone,
+        guess,
+        |other: &FactRow| -> Ordering
+            ensures { result ≡ row_order other.now row.entry.now }
+        { order_of(other, row) },
+    )
 }
 
 /// Puts a row behind those that are left, if it isn't among those that are gone. It answers the place among those where

@@ -19,6 +19,7 @@ mod telling;
 
 pub use excusing::excuses;
 pub use messages::{Origin, age_hint, origins};
+pub use near::source_near;
 pub use saying::{SourceFacts, said_of};
 pub use states::{State, excuse_of, state_of};
 pub use telling::origin_lines;

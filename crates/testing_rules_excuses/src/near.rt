@@ -1,39 +1,48 @@
-//! Testing's versions, for names that are asked in order.
+//! Sources by name, for names that are asked in order.
 
-ghost use Rattle.std.specs.Prelude.{◌≡◌, IfSome, Some, option_copied, option_map};
+ghost use Rattle.std.specs.Prelude.{◌≡◌, length, option_copied};
+ghost use Rattle.std.specs.List.Sorted.{IsBinarySearchResult, IsSearchInRange};
+ghost use Rattle.testing_rules_items.specs.Words.{byte_cmp};
 ghost use Rattle.testing_rules_model.specs.Excuses as rules;
 ghost use Rattle.testing_rules_model.specs.InOrder.{AreByName};
 
 use deb_version::Version;
+use std::cmp::Ordering;
+use testing_rules_items::search_near;
 use testing_rules_model::SourceIn;
-use testing_rules_suites::{Testing, place_of_name};
+use testing_rules_suites::Testing;
 
-/// The source at the place, where it has the name.
-fn source_at<'a>(sources: &'a [SourceIn], name: &str, place: usize) -> Option<&'a SourceIn>
-    requires { AreByName sources.now }
-    ensures { IfSome result (λ source. rules.entry_of sources.now name.now ≡ Some source.now) }
+/// Where the sources have the name, or else where it belongs. The guessed place is tried first, and then the next one.
+fn place_near(sources: &[SourceIn], name: &str, guess: usize) -> Result<usize, usize>
+    ensures bound { IsSearchInRange result (length sources.now) }
+    ensures found { IsBinarySearchResult (λ s. byte_cmp s.name name.now) sources.now result }
 {
-    let source = sources.get(place)?;
-    if source.name.as_str() == name {
-        Some(source)
-    } else {
-        None
-    }
+    search_near(
+        sources,
+        guess,
+        |source: &SourceIn| -> Ordering
+            ensures { result ≡ byte_cmp source.now.name name.entry.now }
+        { source.name.as_str().cmp(name) },
+    )
 }
 
-/// The version of a name, searched by halves, and where the next name belongs.
-fn version_by_halves<'a>(sources: &'a [SourceIn], name: &str) -> (Option<&'a Version>, usize)
+/// The source of a name, which is looked for at the place first, and where the next name belongs: so names that are
+/// asked in order are found without a search.
+pub fn source_near<'a>(
+    sources: &'a [SourceIn],
+    name: &str,
+    place: usize,
+) -> (Option<&'a SourceIn>, usize)
     requires { AreByName sources.now }
-    ensures { option_copied result.0 ≡ option_map (λ s. s.version) (rules.entry_of sources.now name.now) }
+    ensures { option_copied result.0 ≡ rules.entry_of sources.now name.now }
 {
-    match place_of_name(sources, name) {
-        Ok(place) => (Some(&sources[place].version), place + 1),
+    match place_near(sources, name, place) {
+        Ok(place) => (Some(&sources[place]), place + 1),
         Err(place) => (None, place),
     }
 }
 
-/// The source's version in testing, which is looked for at the place first, and where the next name belongs: so names
-/// that are asked in order are found without a search.
+/// The source's version in testing, which is looked for at the place first, and where the next name belongs.
 pub fn testing_version_near<'a>(
     testing: &'a Testing,
     name: &str,
@@ -41,9 +50,8 @@ pub fn testing_version_near<'a>(
 ) -> (Option<&'a Version>, usize)
     ensures { option_copied result.0 ≡ rules.testing_version testing.now name.now }
 {
-    let sources = testing.sources();
-    match source_at(sources, name, place) {
-        Some(source) => (Some(&source.version), place.saturating_add(1)),
-        None => version_by_halves(sources, name),
+    match source_near(testing.sources(), name, place) {
+        (Some(source), next) => (Some(&source.version), next),
+        (None, next) => (None, next),
     }
 }

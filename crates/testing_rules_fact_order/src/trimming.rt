@@ -1,19 +1,18 @@
 //! The uploads of the facts, without those that don't count beside a testing. It takes no memory.
 
-ghost use Rattle.std.specs.Prelude.{◌≡◌, ◌+◌, ◌<◌, ◌≤◌, ◌++◌, IsTrue, not, filter, length, map, option_copied, option_map, slice_index_or, vec_len, vec_capacity};
+ghost use Rattle.std.specs.Prelude.{◌≡◌, ◌+◌, ◌≤◌, ◌++◌, not, filter, length, map, option_copied, option_map, vec_len, vec_capacity};
 ghost use Rattle.std.specs.List.Sorted.{IsBinarySearchResult, IsSearchInRange};
-ghost use Rattle.std.specs.declared.cmp.Ordering.TheVariants.{Equal};
 ghost use Rattle.testing_rules_items.specs.Words.{byte_cmp};
 ghost use Rattle.testing_rules_model.specs.Excuses.{entry_of, is_news};
 ghost use Rattle.testing_rules_model.specs.FactRows.{upload_row};
 ghost use Rattle.testing_rules_model.specs.InOrder.{AreByName};
 ghost use Rattle.testing_rules_model.specs.KeptFacts.{counts_beside};
-ghost use Rattle.testing_rules_model.specs.declared.suite.SourceIn.{SourceIn as Source};
 ghost use Rattle.testing_rules_fact_order.specs.Trimming.{with_sources};
 
 use crate::rows::upload_row;
 use deb_version::Version;
 use std::cmp::Ordering;
+use testing_rules_items::{next_place, search_near};
 use testing_rules_model::{FactRow, SourceIn, UploadIn};
 
 /// Where the sources have the name, or else where it belongs.
@@ -28,30 +27,18 @@ fn place_of_name(sources: &[SourceIn], name: &str) -> Result<usize, usize>
     )
 }
 
-/// The source at the place has the name.
-fn is_at(sources: &[SourceIn], name: &str, place: usize) -> bool
-    ensures within { IsTrue result → place < length sources.now }
-    ensures named { IsTrue result → (d : Source) → byte_cmp (slice_index_or sources.now place d).name name.now ≡ Equal }
-{
-    match sources.get(place) {
-        Some(source) => source.name.as_str() == name,
-        None => false,
-    }
-}
-
 /// Where the sources have the name, or else where it belongs. The guessed place is tried first, and then the next one.
 fn place_near(sources: &[SourceIn], name: &str, guess: usize) -> Result<usize, usize>
     ensures bound { IsSearchInRange result (length sources.now) }
     ensures found { IsBinarySearchResult (λ s. byte_cmp s.name name.now) sources.now result }
 {
-    if is_at(sources, name, guess) {
-        return Ok(guess);
-    }
-    let next = guess.saturating_add(1);
-    if is_at(sources, name, next) {
-        return Ok(next);
-    }
-    place_of_name(sources, name)
+    search_near(
+        sources,
+        guess,
+        |source: &SourceIn| -> Ordering
+            ensures { result ≡ byte_cmp source.now.name name.entry.now }
+        { source.name.as_str().cmp(name) },
+    )
 }
 
 /// The version of a name, by where the name was found among the sources, or where it belongs.
@@ -68,14 +55,6 @@ fn version_found<'a>(
     match place {
         Ok(place) => Some(&sources[place].version),
         Err(_place) => None,
-    }
-}
-
-/// Where the name next to one that was found, or belongs, at a place may stand.
-fn next_place(place: Result<usize, usize>) -> usize {
-    match place {
-        Ok(place) => place.saturating_add(1),
-        Err(place) => place,
     }
 }
 

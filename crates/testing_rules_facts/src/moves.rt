@@ -1,18 +1,18 @@
 //! Unstable as moves see it.
 
-ghost use Rattle.std.specs.Prelude.{◌≡◌, ◌<◌, IfOk, IsTrue, length, option_copied, slice_index_or};
+ghost use Rattle.std.specs.Prelude.{◌≡◌, IfOk, length, option_copied};
 ghost use Rattle.std.specs.List.Sorted.{IsBinarySearchResult, IsSearchInRange};
-ghost use Rattle.std.specs.declared.cmp.Ordering.TheVariants.{Equal};
 ghost use Rattle.testing_rules_items.specs.Words.{byte_cmp};
 ghost use Rattle.testing_rules_model.specs.Boxed.{unboxed};
 ghost use Rattle.testing_rules_model.specs.FactOrder.{AreBySource};
 ghost use Rattle.testing_rules_model.specs.Moves as rules;
-ghost use Rattle.testing_rules_model.specs.declared.facts.UploadIn.{UploadIn as AnUpload};
 
 use crate::taken::place_of_upload;
 use deb_control::Text;
 use deb_version::NoMemory;
 use std::alloc::Global;
+use std::cmp::Ordering;
+use testing_rules_items::search_near;
 use testing_rules_model::{LentRow, SourceIn, UploadIn};
 
 /// Unstable as moves see it: its sources by name, and its rows by architecture and name, which are lent.
@@ -30,30 +30,18 @@ fn place_in(found: Result<usize, usize>) -> usize {
     }
 }
 
-/// The source at the place has the name.
-fn is_at(sources: &[Box<UploadIn>], name: &str, place: usize) -> bool
-    ensures within { IsTrue result → place < length (unboxed sources.now) }
-    ensures named { IsTrue result → (d : AnUpload) → byte_cmp (slice_index_or (unboxed sources.now) place d).source name.now ≡ Equal }
-{
-    match sources.get(place) {
-        Some(upload) => upload.source.as_str() == name,
-        None => false,
-    }
-}
-
 /// Where the sources have the name, or else where it belongs. The guessed place is tried first, and then the next one.
 fn place_near(sources: &[Box<UploadIn>], name: &str, guess: usize) -> Result<usize, usize>
     ensures bound { IsSearchInRange result (length (unboxed sources.now)) }
     ensures found { IsBinarySearchResult (λ u. byte_cmp u.source name.now) (unboxed sources.now) result }
 {
-    if is_at(sources, name, guess) {
-        return Ok(guess);
-    }
-    let next = guess.saturating_add(1);
-    if is_at(sources, name, next) {
-        return Ok(next);
-    }
-    place_of_upload(sources, name)
+    search_near(
+        sources,
+        guess,
+        |upload: &Box<UploadIn>| -> Ordering
+            ensures { result ≡ byte_cmp upload.now.value.source name.entry.now }
+        { upload.source.as_str().cmp(name) },
+    )
 }
 
 /// The source of a name, by where the name was found among sources in the order of their names, or where it belongs.

@@ -2,6 +2,7 @@ pub mod ArchFacts
 pub mod DistinctFacts
 pub mod Each
 pub mod Grouping
+pub mod Guesses
 pub mod Last
 pub mod Mapped
 pub mod Members

@@ -4,9 +4,11 @@
 mod arch_names;
 mod archs;
 mod distinct;
+mod guessed;
 mod item;
 
 pub use arch_names::are_archs;
 pub use archs::{ALL, Archs, ArchsFault};
 pub use distinct::are_distinct;
+pub use guessed::{next_place, search_near};
 pub use item::{Binaries, Hint, HintItem, HintItems, Item, Names, Severity, Urgency, copy_version};

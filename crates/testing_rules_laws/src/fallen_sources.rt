@@ -1,55 +1,15 @@
 //! The sources that testing lost, or has in a lower version than it had.
 
-ghost use Rattle.std.specs.Prelude.{◌≡◌, IfOk, IfSome, Some, option_copied, option_map};
+ghost use Rattle.std.specs.Prelude.{◌≡◌, IfOk, option_copied, option_map};
 ghost use Rattle.testing_rules_laws.specs.Fallen.{fallen_names};
 ghost use Rattle.testing_rules_model.specs.Excuses as rules;
-ghost use Rattle.testing_rules_model.specs.InOrder.{AreByName};
 
 use deb_control::Text;
 use deb_version::{NoMemory, Version};
 use std::alloc::Global;
+use testing_rules_excuses::source_near;
 use testing_rules_model::SourceIn;
-use testing_rules_suites::{Testing, place_of_name};
-
-/// The source at the place, where it has the name.
-fn source_at<'a>(sources: &'a [SourceIn], name: &str, place: usize) -> Option<&'a SourceIn>
-    requires { AreByName sources.now }
-    ensures { IfSome result (λ source. rules.entry_of sources.now name.now ≡ Some source.now) }
-{
-    let source = sources.get(place)?;
-    if source.name.as_str() == name {
-        Some(source)
-    } else {
-        None
-    }
-}
-
-/// The source of a name, searched by halves, and where the next name belongs.
-fn source_by_halves<'a>(sources: &'a [SourceIn], name: &str) -> (Option<&'a SourceIn>, usize)
-    requires { AreByName sources.now }
-    ensures { option_copied result.0 ≡ rules.entry_of sources.now name.now }
-{
-    match place_of_name(sources, name) {
-        Ok(place) => (Some(&sources[place]), place + 1),
-        Err(place) => (None, place),
-    }
-}
-
-/// The source of a name, which is looked for at the place first, and where the next name belongs: so names that are
-/// asked in order are found without a search.
-fn source_near<'a>(
-    sources: &'a [SourceIn],
-    name: &str,
-    place: usize,
-) -> (Option<&'a SourceIn>, usize)
-    requires { AreByName sources.now }
-    ensures { option_copied result.0 ≡ rules.entry_of sources.now name.now }
-{
-    match source_at(sources, name, place) {
-        Some(source) => (Some(source), place.saturating_add(1)),
-        None => source_by_halves(sources, name),
-    }
-}
+use testing_rules_suites::Testing;
 
 /// Whether the version is above that of the source, or there is no source.
 fn is_above(version: &Version, source: Option<&SourceIn>) -> bool

@@ -17,6 +17,7 @@ use std::alloc::Global;
 use std::cmp::Ordering;
 use std::marker::Model;
 use testing_rules_facts::{as_source, source_near};
+use testing_rules_items::{next_place, search_near};
 use testing_rules_model::{SourceIn, UploadIn};
 
 /// A source during a run: testing lacks it, or it is as it was before, lent, or as a move has put it.
@@ -63,17 +64,18 @@ fn place_of_name(slots: &[Slot], name: &str) -> Result<usize, usize>
     )
 }
 
-/// Where the slots have the name, or else where it belongs. The guessed place is looked at first.
+/// Where the slots have the name, or else where it belongs. The guessed place is tried first, and then the next one.
 fn place_near(slots: &[Slot], name: &str, guess: usize) -> Result<usize, usize>
     ensures bound { IsSearchInRange result (length slots.now) }
     ensures found { IsBinarySearchResult (λ s. byte_cmp (name_of s) name.now) slots.now result }
 {
-    if let Some(slot) = slots.get(guess) {
-        if slot.name() == name {
-            return Ok(guess);
-        }
-    }
-    place_of_name(slots, name)
+    search_near(
+        slots,
+        guess,
+        |slot: &Slot| -> Ordering
+            ensures { result ≡ byte_cmp (name_of slot.now) name.entry.now }
+        { slot.name().cmp(name) },
+    )
 }
 
 /// Puts a slot under its name, and returns its place. The guessed one is tried first.
@@ -186,14 +188,6 @@ fn version_found<'s>(
             Some(&source.version)
         }
         Err(_) => None,
-    }
-}
-
-/// Where the name next to one that was found, or belongs, at a place may stand.
-fn next_place(place: Result<usize, usize>) -> usize {
-    match place {
-        Ok(place) => place.saturating_add(1),
-        Err(place) => place,
     }
 }
 

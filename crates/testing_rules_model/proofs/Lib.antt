@@ -8,7 +8,6 @@ pub mod Falls
 pub mod First
 pub mod Giving
 pub mod GreatestDrops
-pub mod Hinted
 pub mod KeyOrder
 pub mod KeyPlaces
 pub mod Least

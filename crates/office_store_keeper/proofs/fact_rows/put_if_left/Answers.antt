@@ -1,7 +1,7 @@
 use Rattle.std.proofs.Common.{sym, ap, ◌∙◌}
 use Rattle.std.specs.Prelude.{is_ok}
 use Rattle.office_store_keeper.proofs.FactSets.{found_among}
-use Rattle.office_store_keeper.proofs.GuessFacts.{one_gone, one_left}
+use Rattle.office_store_keeper.proofs.LeftRows.{one_gone, one_left}
 use Rattle.office_store_keeper.proofs.fact_rows.put_if_left.Goals as goal
 
 pub returns-in-Ok : goal.returns-in-Ok

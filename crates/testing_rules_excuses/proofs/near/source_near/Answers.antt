@@ -2,7 +2,7 @@ use Rattle.std.proofs.Common.{sym, ap, ◌∙◌, Some}
 use Rattle.testing_rules_model.specs.declared.suite.SourceIn.{SourceIn}
 use Rattle.testing_rules_model.proofs.Orders.{text_order}
 use Rattle.testing_rules_model.proofs.KeyOrder.{searchable, find-at, find-none}
-use Rattle.testing_rules_laws.proofs.fallen_sources.source_by_halves.Goals as goal
+use Rattle.testing_rules_excuses.proofs.near.source_near.Goals as goal
 
 pub returns-in-Ok : goal.returns-in-Ok
 returns-in-Ok c =
