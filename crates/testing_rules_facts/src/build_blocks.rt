@@ -24,19 +24,18 @@ const FULL: usize = 64;
 /// Some of the rows, with room for one more, and the place that the last one was put at. The next one may belong there.
 #[derive(Drop)]
 pub struct BuildBlock {
-    rows: Vec<Box<BuildIn>>,
+    rows: Vec<BuildIn>,
     guess: usize,
 }
 
 impl Model for BuildBlock {
     ghost use Rattle.std.specs.Prelude.{List, vec_len, vec_capacity};
-    ghost use Rattle.testing_rules_model.specs.Boxed.{unboxed};
     ghost use Rattle.testing_rules_model.specs.declared.facts.BuildIn.{BuildIn};
     ghost use Rattle.testing_rules_facts.specs.Blocks.{IsRoomy};
 
     ghost Value = { List BuildIn };
 
-    ghost view = { λ a. unboxed a.rows.items };
+    ghost view = { λ a. a.rows.items };
 
     ghost invariant = { λ a. IsRoomy (vec_len a.rows) (vec_capacity a.rows) };
 }
@@ -44,20 +43,19 @@ impl Model for BuildBlock {
 /// Memory for the rows of a block, of which none has come.
 #[derive(Drop)]
 struct Spare {
-    rows: Vec<Box<BuildIn>>,
+    rows: Vec<BuildIn>,
 }
 
 impl Model for Spare {
     ghost use Rattle.std.specs.Prelude.{List, vec_capacity};
-    ghost use Rattle.testing_rules_model.specs.Boxed.{unboxed};
     ghost use Rattle.testing_rules_model.specs.declared.facts.BuildIn.{BuildIn};
     ghost use Rattle.testing_rules_facts.specs.Blocks.{IsSpare};
 
     ghost Value = { List BuildIn };
 
-    ghost view = { λ a. unboxed a.rows.items };
+    ghost view = { λ a. a.rows.items };
 
-    ghost invariant = { λ a. IsSpare (unboxed a.rows.items) (vec_capacity a.rows) };
+    ghost invariant = { λ a. IsSpare a.rows.items (vec_capacity a.rows) };
 }
 
 impl Spare {
@@ -85,8 +83,8 @@ impl BuildBlock {
     }
 
     /// The rows, in order.
-    pub fn rows(&self) -> &[Box<BuildIn>]
-        ensures { unboxed result.now ≡ self.now }
+    pub fn rows(&self) -> &[BuildIn]
+        ensures { result.now ≡ self.now }
     {
         self.rows.as_slice()
     }
@@ -111,11 +109,11 @@ impl BuildBlock {
     }
 
     /// A build joins the rows. Where it fills the block, one of the spares takes the upper half.
-    fn put(&mut self, build: Box<BuildIn>, spares: &mut Vec<Spare>) -> Entered
+    fn put(&mut self, build: BuildIn, spares: &mut Vec<Spare>) -> Entered
         requires order { AreByPair self.old }
         requires spares { 0 < vec_len spares.old }
-        ensures rows { self.new ++ upper_rows result.upper ≡ taken.with_build build.value self.old }
-        ensures shift { IsShift unstable.pair_of unstable.pair_order unstable.build_order build_row build.value self.old result.shifted }
+        ensures rows { self.new ++ upper_rows result.upper ≡ taken.with_build build self.old }
+        ensures shift { IsShift unstable.pair_of unstable.pair_order unstable.build_order build_row build self.old result.shifted }
         ensures lower { HasRows self.new }
         ensures upper { IfSome result.upper HasRows }
         ensures spares { vec_len spares.old ≤ vec_len spares.new + 1 }
@@ -143,8 +141,8 @@ impl BuildBlock {
 }
 
 /// The first of the rows is above the architecture and the name.
-fn begin_above(rows: &[Box<BuildIn>], arch: &str, name: &str) -> bool
-    ensures { result ≡ begins_above (arch.now, name.now) (unboxed rows.now) }
+fn begin_above(rows: &[BuildIn], arch: &str, name: &str) -> bool
+    ensures { result ≡ begins_above (arch.now, name.now) rows.now }
 {
     match rows.first() {
         Some(build) => order_pair(build, arch, name).is_gt(),
@@ -153,9 +151,9 @@ fn begin_above(rows: &[Box<BuildIn>], arch: &str, name: &str) -> bool
 }
 
 /// The rows of a full block, but for its lower half, which stays.
-fn upper_half(rows: &mut Vec<Box<BuildIn>>, guess: usize, spare: Spare) -> BuildBlock
+fn upper_half(rows: &mut Vec<BuildIn>, guess: usize, spare: Spare) -> BuildBlock
     requires { vec_len rows.old ≡ 64 }
-    ensures rows { unboxed rows.new.items ++ result ≡ unboxed rows.old.items }
+    ensures rows { rows.new.items ++ result ≡ rows.old.items }
     ensures lower { vec_len rows.new ≡ 32 }
     ensures upper { HasRows result }
     ensures capacity { vec_capacity rows.new ≡ vec_capacity rows.old }
@@ -276,27 +274,26 @@ fn count_rows(held: &[BuildBlock]) -> u128
     count
 }
 
-/// A build in a box of its own, which shares the binary.
-fn copy_build(alloc: Global, build: &BuildIn) -> Result<Box<BuildIn>, NoMemory>
-    ensures { IfOk result (λ copy. copy.value ≡ build.now) }
+/// An equal build, which shares the binary.
+fn copy_build(build: &BuildIn) -> Result<BuildIn, NoMemory>
+    ensures { IfOk result (λ copy. copy ≡ build.now) }
 {
-    let copy = BuildIn {
+    Ok(BuildIn {
         binary: build.binary.share()?,
         sender: build.sender,
         number: build.number,
         place: build.place,
-    };
-    Ok(Box::new(alloc, copy)?)
+    })
 }
 
 /// Equal rows, with memory for as many as fill a block.
-fn copy_rows(alloc: Global, rows: &[Box<BuildIn>]) -> Result<Vec<Box<BuildIn>>, NoMemory>
-    ensures rows { IfOk result (λ copies. unboxed copies.items ≡ unboxed rows.now) }
+fn copy_rows(alloc: Global, rows: &[BuildIn]) -> Result<Vec<BuildIn>, NoMemory>
+    ensures rows { IfOk result (λ copies. copies.items ≡ rows.now) }
     ensures room { IfOk result (λ copies. 64 ≤ vec_capacity copies) }
 {
     let mut copies = Vec::with_capacity(alloc, FULL)?;
     for build in rows {
-        copies.push(copy_build(alloc, build)?)?;
+        copies.push(copy_build(build)?)?;
     }
     Ok(copies)
 }
@@ -310,17 +307,6 @@ fn copy_blocks(alloc: Global, blocks: &[BuildBlock]) -> Result<Vec<BuildBlock>, 
         copies.push(block.copy(alloc)?)?;
     }
     Ok(copies)
-}
-
-/// The builds, each in a box of its own.
-fn boxed_builds(alloc: Global, builds: Vec<BuildIn>) -> Result<Vec<Box<BuildIn>>, NoMemory>
-    ensures { IfOk result (λ boxes. unboxed boxes.items ≡ builds.items) }
-{
-    let mut boxes = Vec::with_capacity(alloc, builds.len())?;
-    for build in builds {
-        boxes.push(Box::new(alloc, build)?)?;
-    }
-    Ok(boxes)
 }
 
 /// There are at least so many spares.
@@ -354,15 +340,15 @@ fn put_coming(
     blocks: &mut Vec<BuildBlock>,
     near: &mut Near,
     spares: &mut Vec<Spare>,
-    build: Box<BuildIn>,
+    build: BuildIn,
 ) -> Shifted
     requires order { AreByPair (joined blocks.old.items) }
     requires filled { AreBlocks blocks.old.items }
     requires some { 0 < vec_len blocks.old }
     requires room { vec_len blocks.old < vec_capacity blocks.old }
     requires spares { 0 < vec_len spares.old }
-    ensures rows { joined blocks.new.items ≡ taken.with_build build.value (joined blocks.old.items) }
-    ensures shift { IsShift unstable.pair_of unstable.pair_order unstable.build_order build_row build.value (joined blocks.old.items) result }
+    ensures rows { joined blocks.new.items ≡ taken.with_build build (joined blocks.old.items) }
+    ensures shift { IsShift unstable.pair_of unstable.pair_order unstable.build_order build_row build (joined blocks.old.items) result }
     ensures filled { AreBlocks blocks.new.items }
     ensures len { vec_len blocks.new ≤ vec_len blocks.old + 1 }
     ensures some { 0 < vec_len blocks.new }
@@ -390,7 +376,7 @@ fn put_builds(
     held: &mut Vec<BuildBlock>,
     near: &mut Near,
     drops: &[Box<DropIn>],
-    coming: Vec<Box<BuildIn>>,
+    coming: Vec<BuildIn>,
     spares: &mut Vec<Spare>,
     log: &mut Log,
 )
@@ -402,17 +388,16 @@ fn put_builds(
     requires drops { AreDropsByPair (unboxed drops.now) }
     requires room_came { vec_len log.old.came + vec_len coming ≤ vec_capacity log.old.came }
     requires room_left { vec_len log.old.left + vec_len coming ≤ vec_capacity log.old.left }
-    ensures rows { joined held.new.items ≡ taken.with_builds (taken.stands_beside (unboxed drops.now)) (unboxed coming.items) (joined held.old.items) }
+    ensures rows { joined held.new.items ≡ taken.with_builds (taken.stands_beside (unboxed drops.now)) coming.items (joined held.old.items) }
     ensures filled { AreBlocks held.new.items }
-    ensures came { log.new.came.items ≡ log.old.came.items ++ (shift_builds (taken.stands_beside (unboxed drops.now)) (unboxed coming.items) (joined held.old.items)).came }
-    ensures left { log.new.left.items ≡ log.old.left.items ++ (shift_builds (taken.stands_beside (unboxed drops.now)) (unboxed coming.items) (joined held.old.items)).left }
+    ensures came { log.new.came.items ≡ log.old.came.items ++ (shift_builds (taken.stands_beside (unboxed drops.now)) coming.items (joined held.old.items)).came }
+    ensures left { log.new.left.items ≡ log.old.left.items ++ (shift_builds (taken.stands_beside (unboxed drops.now)) coming.items (joined held.old.items)).left }
     ensures len { vec_len log.new.left ≤ vec_len log.old.left + vec_len coming }
     ensures capacity { vec_capacity log.old.left ≤ vec_capacity log.new.left }
 {
     let mut left = coming;
     'builds: while let Some(next) = left.pop() {
-        let build: &BuildIn = &next;
-        if stands_beside(drops, build) {
+        if stands_beside(drops, &next) {
             let shifted = put_coming(held, near, spares, next);
             log.note(shifted);
         }
@@ -528,14 +513,13 @@ impl BuildBlocks {
         ensures ok { OnOk result (self.new ≡ taken.with_builds (taken.stands_beside (unboxed drops.now)) builds.items self.old) }
         ensures err { OnErr result (self.new ≡ self.old) }
     {
-        let coming = boxed_builds(alloc, builds)?;
-        top_up(alloc, &mut self.spares, coming.len())?;
-        make_room(alloc, &mut self.blocks, coming.len())?;
+        top_up(alloc, &mut self.spares, builds.len())?;
+        make_room(alloc, &mut self.blocks, builds.len())?;
         put_builds(
             &mut self.blocks,
             &mut self.near,
             drops,
-            coming,
+            builds,
             &mut self.spares,
             log,
         );
@@ -548,10 +532,9 @@ impl BuildBlocks {
         ensures ok { OnOk result (self.new ≡ taken.with_build build self.old) }
         ensures err { OnErr result (self.new ≡ self.old) }
     {
-        let coming = Box::new(alloc, build)?;
         top_up(alloc, &mut self.spares, 1)?;
         make_room(alloc, &mut self.blocks, 1)?;
-        let _ = put_coming(&mut self.blocks, &mut self.near, &mut self.spares, coming);
+        let _ = put_coming(&mut self.blocks, &mut self.near, &mut self.spares, build);
         Ok(())
     }
 

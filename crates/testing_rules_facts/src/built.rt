@@ -4,7 +4,6 @@ ghost use Rattle.std.specs.Prelude.{◌≡◌, ◌++◌, ◌&&◌, true, not, ma
 ghost use Rattle.std.specs.List.{list_all};
 ghost use Rattle.std.specs.Str.{bytes_eq};
 ghost use Rattle.testing_rules_facts.specs.Blocks.{joined};
-ghost use Rattle.testing_rules_model.specs.Boxed.{unboxed};
 ghost use Rattle.testing_rules_model.specs.FactOrder.{AreByPair};
 ghost use Rattle.testing_rules_model.specs.InOrder.{AreByKey};
 ghost use Rattle.testing_rules_model.specs.JudgedRows.{row_of, lent};
@@ -42,12 +41,12 @@ fn comes_in(passing: &SourceFilter, build: &BuildIn, arch: &str) -> bool
 /// Those of the builds that are of an architecture, and whose sources are let through, come in as its rows, at its place.
 fn push_built<'a>(
     rows: &mut Vec<LentRow<'a>>,
-    builds: &'a [Box<BuildIn>],
+    builds: &'a [BuildIn],
     passing: &SourceFilter,
     place: u32,
     arch: &str,
 ) -> Result<(), NoMemory>
-    ensures { OnOk result (lent rows.new.items ≡ lent rows.old.items ++ unstable.built_on (passing_builds passing.now (unboxed builds.now)) (place, arch.now)) }
+    ensures { OnOk result (lent rows.new.items ≡ lent rows.old.items ++ unstable.built_on (passing_builds passing.now builds.now) (place, arch.now)) }
 {
     for build in builds {
         if comes_in(passing, build, arch) {
@@ -58,9 +57,9 @@ fn push_built<'a>(
 }
 
 /// The builds, which are in order, are all of one other architecture: the first and the last are.
-fn are_elsewhere(builds: &[Box<BuildIn>], arch: &str) -> bool
-    requires { AreByPair (unboxed builds.now) }
-    ensures { result ≡ true → list_all (λ b. not (bytes_eq b.binary.architecture arch.now)) (unboxed builds.now) ≡ true }
+fn are_elsewhere(builds: &[BuildIn], arch: &str) -> bool
+    requires { AreByPair builds.now }
+    ensures { result ≡ true → list_all (λ b. not (bytes_eq b.binary.architecture arch.now)) builds.now ≡ true }
 {
     match builds.first() {
         Some(first) => match builds.last() {
@@ -80,9 +79,9 @@ fn are_both_on(first: &BuildIn, last: &BuildIn, arch: &str) -> bool
 }
 
 /// The builds, which are in order, are all of the architecture: the first and the last are.
-fn are_there(builds: &[Box<BuildIn>], arch: &str) -> bool
-    requires { AreByPair (unboxed builds.now) }
-    ensures { result ≡ true → list_all (λ b. bytes_eq b.binary.architecture arch.now) (unboxed builds.now) ≡ true }
+fn are_there(builds: &[BuildIn], arch: &str) -> bool
+    requires { AreByPair builds.now }
+    ensures { result ≡ true → list_all (λ b. bytes_eq b.binary.architecture arch.now) builds.now ≡ true }
 {
     match builds.first() {
         Some(first) => match builds.last() {
@@ -96,11 +95,11 @@ fn are_there(builds: &[Box<BuildIn>], arch: &str) -> bool
 /// Those of the builds whose sources are let through come in as rows, at the place.
 fn push_passing<'a>(
     rows: &mut Vec<LentRow<'a>>,
-    builds: &'a [Box<BuildIn>],
+    builds: &'a [BuildIn],
     passing: &SourceFilter,
     place: u32,
 ) -> Result<(), NoMemory>
-    ensures { OnOk result (lent rows.new.items ≡ lent rows.old.items ++ map (unstable.row_at place) (passing_builds passing.now (unboxed builds.now))) }
+    ensures { OnOk result (lent rows.new.items ≡ lent rows.old.items ++ map (unstable.row_at place) (passing_builds passing.now builds.now)) }
 {
     for build in builds {
         if filter_passes(passing, &build.binary) {
@@ -114,13 +113,13 @@ fn push_passing<'a>(
 /// are all of another architecture none is looked at, and of those that are all of this one no architecture is read.
 fn push_ordered<'a>(
     rows: &mut Vec<LentRow<'a>>,
-    builds: &'a [Box<BuildIn>],
+    builds: &'a [BuildIn],
     passing: &SourceFilter,
     place: u32,
     arch: &str,
 ) -> Result<(), NoMemory>
-    requires { AreByPair (unboxed builds.now) }
-    ensures { OnOk result (lent rows.new.items ≡ lent rows.old.items ++ unstable.built_on (passing_builds passing.now (unboxed builds.now)) (place, arch.now)) }
+    requires { AreByPair builds.now }
+    ensures { OnOk result (lent rows.new.items ≡ lent rows.old.items ++ unstable.built_on (passing_builds passing.now builds.now) (place, arch.now)) }
 {
     if are_elsewhere(builds, arch) {
         return Ok(());

@@ -264,24 +264,24 @@ pub fn order_pair(build: &BuildIn, arch: &str, name: &str) -> Ordering
 }
 
 /// Where the rows have the architecture and the name, or else where these belong.
-pub fn place_of_pair(rows: &[Box<BuildIn>], arch: &str, name: &str) -> Result<usize, usize>
-    ensures bound { IsSearchInRange result (length (unboxed rows.now)) }
-    ensures found { IsBinarySearchResult (λ b. pair_order (pair_of b) (arch.now, name.now)) (unboxed rows.now) result }
+pub fn place_of_pair(rows: &[BuildIn], arch: &str, name: &str) -> Result<usize, usize>
+    ensures bound { IsSearchInRange result (length rows.now) }
+    ensures found { IsBinarySearchResult (λ b. pair_order (pair_of b) (arch.now, name.now)) rows.now result }
 {
     rows.binary_search_by(
-        |build: &Box<BuildIn>| -> Ordering
-            ensures { result ≡ pair_order (pair_of build.now.value) (arch.entry.now, name.entry.now) }
+        |build: &BuildIn| -> Ordering
+            ensures { result ≡ pair_order (pair_of build.now) (arch.entry.now, name.entry.now) }
         { order_pair(build, arch, name) },
     )
 }
 
 /// Where the rows have the architecture and the name, or else where these belong, if the row at the place is above
 /// them. The row before it is tried first.
-fn place_below(rows: &[Box<BuildIn>], arch: &str, name: &str, place: usize) -> Result<usize, usize>
+fn place_below(rows: &[BuildIn], arch: &str, name: &str, place: usize) -> Result<usize, usize>
     requires within { place < length rows.now }
-    requires above { HoldsAt (λ b. pair_order (pair_of b) (arch.now, name.now) ≡ Greater) (unboxed rows.now) place }
-    ensures bound { IsSearchInRange result (length (unboxed rows.now)) }
-    ensures found { IsBinarySearchResult (λ b. pair_order (pair_of b) (arch.now, name.now)) (unboxed rows.now) result }
+    requires above { HoldsAt (λ b. pair_order (pair_of b) (arch.now, name.now) ≡ Greater) rows.now place }
+    ensures bound { IsSearchInRange result (length rows.now) }
+    ensures found { IsBinarySearchResult (λ b. pair_order (pair_of b) (arch.now, name.now)) rows.now result }
 {
     if place == 0 {
         return Err(place);
@@ -295,9 +295,9 @@ fn place_below(rows: &[Box<BuildIn>], arch: &str, name: &str, place: usize) -> R
 
 /// Where the rows have the architecture and the name, or else where these belong. Some rows from the guess on are tried
 /// first, and the row before it.
-fn place_from(rows: &[Box<BuildIn>], arch: &str, name: &str, guess: usize) -> Result<usize, usize>
-    ensures bound { IsSearchInRange result (length (unboxed rows.now)) }
-    ensures found { IsBinarySearchResult (λ b. pair_order (pair_of b) (arch.now, name.now)) (unboxed rows.now) result }
+fn place_from(rows: &[BuildIn], arch: &str, name: &str, guess: usize) -> Result<usize, usize>
+    ensures bound { IsSearchInRange result (length rows.now) }
+    ensures found { IsBinarySearchResult (λ b. pair_order (pair_of b) (arch.now, name.now)) rows.now result }
 {
     let mut place = guess;
     'tries: while place < rows.len() && place - guess < TRIES {
@@ -319,9 +319,9 @@ fn place_from(rows: &[Box<BuildIn>], arch: &str, name: &str, guess: usize) -> Re
 }
 
 /// Where the rows take the build, and what that does to the rows of the facts. That place is the next guess.
-fn step_of_build(rows: &[Box<BuildIn>], build: &BuildIn, guess: &mut usize) -> Placement
-    requires { AreByPair (unboxed rows.now) }
-    ensures { IsStep unstable.pair_of unstable.pair_order unstable.build_order fact_rows.build_row build.now (unboxed rows.now) result }
+fn step_of_build(rows: &[BuildIn], build: &BuildIn, guess: &mut usize) -> Placement
+    requires { AreByPair rows.now }
+    ensures { IsStep unstable.pair_of unstable.pair_order unstable.build_order fact_rows.build_row build.now rows.now result }
 {
     let came = Some(build_row(build));
     let binary: &Binary = &build.binary;
@@ -334,7 +334,7 @@ fn step_of_build(rows: &[Box<BuildIn>], build: &BuildIn, guess: &mut usize) -> P
     match found {
         Ok(i) => {
             *guess = i;
-            let other: &BuildIn = &rows[i];
+            let other = &rows[i];
             if build_order(other, build).is_lt() {
                 return no_step();
             }
@@ -356,11 +356,11 @@ fn step_of_build(rows: &[Box<BuildIn>], build: &BuildIn, guess: &mut usize) -> P
 
 /// A build joins the rows, where its own has none before it. Gives what that does to the rows of the facts. There is room
 /// for it. Its place is looked for at the guess first, and is the next guess.
-pub fn put_build(rows: &mut Vec<Box<BuildIn>>, guess: &mut usize, build: Box<BuildIn>) -> Shifted
-    requires order { AreByPair (unboxed rows.old.items) }
+pub fn put_build(rows: &mut Vec<BuildIn>, guess: &mut usize, build: BuildIn) -> Shifted
+    requires order { AreByPair rows.old.items }
     requires room { vec_len rows.old < vec_capacity rows.old }
-    ensures items { unboxed rows.new.items ≡ taken.with_build build.value (unboxed rows.old.items) }
-    ensures shift { IsShift unstable.pair_of unstable.pair_order unstable.build_order fact_rows.build_row build.value (unboxed rows.old.items) result }
+    ensures items { rows.new.items ≡ taken.with_build build rows.old.items }
+    ensures shift { IsShift unstable.pair_of unstable.pair_order unstable.build_order fact_rows.build_row build rows.old.items result }
     ensures len { vec_len rows.new ≤ vec_len rows.old + 1 }
     ensures capacity { vec_capacity rows.old ≤ vec_capacity rows.new }
 {
@@ -382,16 +382,16 @@ pub fn stands_beside(drops: &[Box<DropIn>], build: &BuildIn) -> bool
 }
 
 /// The rows lose the one that the drop takes, if there is one. Gives its row of the facts.
-pub fn remove_dropped(rows: &mut Vec<Box<BuildIn>>, drop: &DropIn) -> Option<FactRow>
-    requires { AreByPair (unboxed rows.old.items) }
-    ensures items { unboxed rows.new.items ≡ taken.with_drop drop.now (unboxed rows.old.items) }
-    ensures gone { option_to_list result ≡ map fact_rows.build_row (filter (λ b. not (taken.outlives drop.now b)) (unboxed rows.old.items)) }
+pub fn remove_dropped(rows: &mut Vec<BuildIn>, drop: &DropIn) -> Option<FactRow>
+    requires { AreByPair rows.old.items }
+    ensures items { rows.new.items ≡ taken.with_drop drop.now rows.old.items }
+    ensures gone { option_to_list result ≡ map fact_rows.build_row (filter (λ b. not (taken.outlives drop.now b)) rows.old.items) }
     ensures len { vec_len rows.new ≤ vec_len rows.old }
     ensures capacity { vec_capacity rows.new ≡ vec_capacity rows.old }
 {
     match place_of_pair(rows, drop.arch.as_str(), drop.name.as_str()) {
         Ok(i) => {
-            let other: &BuildIn = &rows[i];
+            let other = &rows[i];
             if outlives(drop, other) {
                 return None;
             }

@@ -1,13 +1,9 @@
-use Rattle.std.proofs.Common.{sym, ap, subst, ◌∙◌, arith, cond, List, [], ◌∷◌, ◌++◌}
-use Rattle.std.specs.Prelude.{Box}
-use Rattle.std.specs.declared.alloc.Global.{Global}
-use Rattle.std.proofs.lemmas.List.{map-append}
+use Rattle.std.proofs.Common.{sym, ap, subst, ◌∙◌, arith, cond, ◌++◌}
 use Rattle.testing_rules_model.specs.Boxed.{unboxed}
 use Rattle.testing_rules_facts.specs.Blocks.{joined}
 use Rattle.testing_rules_facts.specs.ElementShifts.{shift_builds}
 use Rattle.testing_rules_model.specs.FactOrder.{AreByPair}
 use Rattle.testing_rules_model.specs.WithMessage.{with_build, with_builds, stands_beside}
-use Rattle.testing_rules_model.specs.declared.facts.BuildIn.{BuildIn}
 use Rattle.testing_rules_model.proofs.BuildLists.{builds-last}
 use Rattle.testing_rules_facts.proofs.KeySlots.{by_pair-build}
 use Rattle.testing_rules_facts.proofs.ShiftLists.{came-next, left-next, came-passed, left-passed}
@@ -16,12 +12,11 @@ use Rattle.testing_rules_facts.proofs.build_blocks.put_builds.Goals as goal
 pub builds-preserved-then-stands_beside : goal.builds-preserved-then-stands_beside
 builds-preserved-then-stands_beside c =
     let p = stands_beside (unboxed c.args.drops.now) in
-    let next = c.in-Some.next in
-    let b = next.value in
-    let left = unboxed c.pop.new.self.items in
+    let b = c.in-Some.next in
+    let left = c.pop.new.self.items in
     let rows = joined c.builds.held.items in
-    let stands = ap p (sym c.deref-build.ensures) ∙ sym c.stands_beside.ensures ∙ c.if-stands_beside.true in
-    let items = ap (λ (ns : List (Box BuildIn Global)). unboxed ns) c.in-Some.ensures.items ∙ map-append (λ (n : Box BuildIn Global). n.value) c.pop.new.self.items (next ∷ []) in
+    let stands = sym c.stands_beside.ensures ∙ c.if-stands_beside.true in
+    let items = c.in-Some.ensures.items in
     record {
       rows =
           ap (with_builds p left) c.put_coming-shifted.ensures.rows
@@ -51,12 +46,11 @@ builds-preserved-then-stands_beside c =
 pub builds-preserved : goal.builds-preserved
 builds-preserved c =
     let p = stands_beside (unboxed c.args.drops.now) in
-    let next = c.in-Some.next in
-    let b = next.value in
-    let left = unboxed c.pop.new.self.items in
+    let b = c.in-Some.next in
+    let left = c.pop.new.self.items in
     let rows = joined c.builds.held.items in
-    let stands = ap p (sym c.deref-build.ensures) ∙ sym c.stands_beside.ensures ∙ c.if-stands_beside.false in
-    let items = ap (λ (ns : List (Box BuildIn Global)). unboxed ns) c.in-Some.ensures.items ∙ map-append (λ (n : Box BuildIn Global). n.value) c.pop.new.self.items (next ∷ []) in
+    let stands = sym c.stands_beside.ensures ∙ c.if-stands_beside.false in
+    let items = c.in-Some.ensures.items in
     record {
       rows =
           ap (λ t. with_builds p left (cond t (with_build b rows) rows)) (sym stands)

@@ -11,11 +11,11 @@ use Rattle.testing_rules_facts.proofs.build_blocks.put_builds.Given as goal
 abbrev pub invariant-builds : goal.invariant-builds
 invariant-builds l =
     record {
-      rows : with_builds (stands_beside (unboxed l.drops)) (unboxed l.left.items) (joined l.held.items) ≡ with_builds (stands_beside (unboxed l.drops)) (unboxed l.fn.coming.items) (joined l.fn.held.items);
-      came : l.log.came.items ++ (shift_builds (stands_beside (unboxed l.drops)) (unboxed l.left.items) (joined l.held.items)).came
-          ≡ l.fn.log.came.items ++ (shift_builds (stands_beside (unboxed l.drops)) (unboxed l.fn.coming.items) (joined l.fn.held.items)).came;
-      gone : l.log.left.items ++ (shift_builds (stands_beside (unboxed l.drops)) (unboxed l.left.items) (joined l.held.items)).left
-          ≡ l.fn.log.left.items ++ (shift_builds (stands_beside (unboxed l.drops)) (unboxed l.fn.coming.items) (joined l.fn.held.items)).left;
+      rows : with_builds (stands_beside (unboxed l.drops)) l.left.items (joined l.held.items) ≡ with_builds (stands_beside (unboxed l.drops)) l.fn.coming.items (joined l.fn.held.items);
+      came : l.log.came.items ++ (shift_builds (stands_beside (unboxed l.drops)) l.left.items (joined l.held.items)).came
+          ≡ l.fn.log.came.items ++ (shift_builds (stands_beside (unboxed l.drops)) l.fn.coming.items (joined l.fn.held.items)).came;
+      gone : l.log.left.items ++ (shift_builds (stands_beside (unboxed l.drops)) l.left.items (joined l.held.items)).left
+          ≡ l.fn.log.left.items ++ (shift_builds (stands_beside (unboxed l.drops)) l.fn.coming.items (joined l.fn.held.items)).left;
       room_came : vec_len l.log.came + vec_len l.left ≤ vec_capacity l.log.came;
       room_left : vec_len l.log.left + vec_len l.left ≤ vec_capacity l.log.left;
       len : vec_len l.log.left + vec_len l.left ≤ vec_len l.fn.log.left + vec_len l.fn.coming;

@@ -7,7 +7,6 @@ use Rattle.testing_rules_model.specs.WithMessage.{with_drop, outlives}
 use Rattle.testing_rules_model.specs.Unstable.{drop_pair}
 use Rattle.testing_rules_items.specs.Words.{Text}
 use Rattle.testing_rules_model.specs.declared.facts.BuildIn.{BuildIn}
-use Rattle.testing_rules_model.proofs.Unboxed.{unboxed-length}
 use Rattle.testing_rules_facts.proofs.Blocking.{block-order, blocks-remove, blocks-gone, none-left, drop-some, drop-last}
 use Rattle.testing_rules_facts.proofs.build_blocks.take_from.Goals as goal
 
@@ -29,7 +28,7 @@ returns-then-is_empty-2-clause-rows c =
     let place = subst (λ (p : Text × Text). IsBlockFor p blocks i) pair at in
     let read = c.index_mut-block.ensures.value ∙ get_or_default blocks i c.index_mut-block.result.now [] place.bound in
     let now = c.index.ensures ∙ get_or-set_same blocks i new c.index.result.now place.bound in
-    let read_now = ap (λ (rows : List BuildIn). length rows) (sym now ∙ sym c.rows.ensures) ∙ unboxed-length c.rows.result.now in
+    let read_now = ap (λ (rows : List BuildIn). length rows) (sym now ∙ sym c.rows.ensures) in
     let none = none-left new (ap (λ n. n == 0) read_now ∙ sym c.is_empty-then-place-gt0.ensures ∙ c.if-is_empty-2.true) in
     ap joined c.remove.ensures.items ∙ drop-last d blocks i c.requires.order c.requires.filled place new none (c.take-gone.ensures.rows ∙ ap (with_drop d) read)
 

@@ -1,7 +1,6 @@
 use Rattle.std.proofs.Common.{◌≡◌, ◌<◌, ◌≤◌, ◌-◌, length}
 use Rattle.std.specs.List.{HoldsAt}
 use Rattle.std.specs.declared.cmp.Ordering.TheVariants.{Less}
-use Rattle.testing_rules_model.specs.Boxed.{unboxed}
 use Rattle.testing_rules_model.specs.Unstable.{pair_order, pair_of}
 use Rattle.testing_rules_facts.proofs.taken.place_from.Given as goal
 
@@ -11,7 +10,7 @@ invariant-tries l =
     record {
       from : l.guess ≤ l.place;
       within : l.guess < l.place → l.place ≤ length l.rows;
-      below : l.guess < l.place → HoldsAt (λ b. pair_order (pair_of b) (l.arch, l.name) ≡ Less) (unboxed l.rows) (l.place - 1);
+      below : l.guess < l.place → HoldsAt (λ b. pair_order (pair_of b) (l.arch, l.name) ≡ Less) l.rows (l.place - 1);
     }
 
 abbrev pub decreases-tries : goal.decreases-tries

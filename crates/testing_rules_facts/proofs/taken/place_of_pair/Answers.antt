@@ -1,16 +1,11 @@
-use Rattle.std.proofs.Common.{rules, of_calls, Box, Global}
+use Rattle.std.proofs.Common.{rules, of_calls}
 use Rattle.std.proofs.lemmas.Fn.{always_returns_same}
 use Rattle.testing_rules_model.specs.Unstable.{pair_order, pair_of}
 use Rattle.testing_rules_model.specs.declared.facts.BuildIn.{BuildIn}
-use Rattle.testing_rules_model.proofs.Unboxed.{unboxed-bound, unboxed-found}
 use Rattle.testing_rules_facts.proofs.taken.place_of_pair.Goals as goal
-
-pub returns-clause-bound : goal.returns-clause-bound
-returns-clause-bound c = unboxed-bound c.args.rows.now c.binary_search_by.result c.binary_search_by.ensures.bound
 
 pub returns-clause-found : goal.returns-clause-found
 returns-clause-found c =
     let arch = c.args.arch.now in
     let name = c.args.name.now in
-    unboxed-found (λ (b : BuildIn). pair_order (pair_of b) (arch, name)) c.args.rows.now c.binary_search_by.result c.binary_search_by.ensures.bound
-    (c.binary_search_by.ensures.position (λ (b : Box BuildIn Global). pair_order (pair_of b.value) (arch, name)) (always_returns_same _ _ _ (λ a r f k. search (rules, of_calls))))
+    c.binary_search_by.ensures.position (λ (b : BuildIn). pair_order (pair_of b) (arch, name)) (always_returns_same _ _ _ (λ a r f k. search (rules, of_calls)))
