@@ -12,12 +12,10 @@ ghost use Rattle.office_core.specs.GatherSteps.{ArePlaced, Gathers, TakesText, l
 ghost use Rattle.office_core.specs.Together.{AreHeldHere, answers_to};
 ghost use Rattle.office_core_orders.specs.ReadsStore.{ReadsStore};
 ghost use Rattle.office_core_orders.specs.StaysTrusted.{StaysTrusted};
-ghost use Rattle.office_core_facts.specs.Cached.{AreRead};
 ghost use Rattle.office_core_facts.specs.State.{IsOffice};
 
 use crate::asked::{NextFree, find};
-use crate::posting::{compare, hold};
-use office_core_facts::message_cache::MessageCache;
+use crate::posting::compare;
 use office_core_orders::{DeliverFault, Held, StoreFault};
 use office_mail::{MailFault, Message, Setup, read_message};
 use office_store_keeper::{Keeper, MailText, NewLetter};
@@ -109,17 +107,11 @@ fn is_short(fault: MailFault) -> bool
     }
 }
 
-/// Whether a text is held.
-fn is_held(answer: &Result<Reply, StoreFault>) -> bool {
-    matches!(answer, Ok(Ok(_)))
-}
-
-/// Answers one text more. What was read of it is cached then.
+/// Answers one text more.
 fn gather<K: Keeper>(
     alloc: Global,
     setup: &Setup,
     keeper: &mut K,
-    cache: &mut MessageCache,
     asked: &mut Vec<NextFree>,
     letters: &mut Vec<NewLetter>,
     text: &MailText,
@@ -128,13 +120,12 @@ fn gather<K: Keeper>(
     ensures asked { K.is_trusted keeper.new → AreFreeFrom (K.content keeper.old).kept asked.old.items → OnOk result (AreFreeFrom (K.content keeper.old).kept asked.new.items) }
     ensures placed { ArePlaced setup.now letters.old.items → ArePlaced setup.now letters.new.items }
     ensures place { IfOk result (λ reply. IfOk reply (λ held. held.sender < length setup.now.senders)) }
-    ensures cache { AreRead setup.now cache.old → AreRead setup.now cache.new }
     ensures looks { ReadsStore K.Keeper keeper.old keeper.new result }
 {
     match read_message(alloc, setup, text.as_slice()) {
         Ok(message) => {
             let answer = answer_message(alloc, setup, keeper, asked, letters, &message, text);
-            hold(cache, is_held(&answer), text, message);
+            drop(message);
             answer
         }
         Err(fault) if is_short(fault) => Err(StoreFault::NoMemory),
@@ -147,7 +138,6 @@ fn gather_all<K: Keeper>(
     alloc: Global,
     setup: &Setup,
     keeper: &mut K,
-    cache: &mut MessageCache,
     texts: &[MailText],
     block: &mut Batch,
 ) -> Result<(), StoreFault>
@@ -157,20 +147,11 @@ fn gather_all<K: Keeper>(
     ensures placed { ArePlaced setup.now block.new.letters.items }
     ensures each { OnOk result (length block.new.replies.items ≡ length texts.now) }
     ensures places { AreHeldHere setup.now block.new.replies.items }
-    ensures cache { AreRead setup.now cache.old → AreRead setup.now cache.new }
     ensures looks { ReadsStore K.Keeper keeper.old keeper.new result }
 {
     let mut asked = Vec::new(alloc);
     'texts: for text in texts {
-        let reply = gather(
-            alloc,
-            setup,
-            keeper,
-            cache,
-            &mut asked,
-            &mut block.letters,
-            text,
-        )?;
+        let reply = gather(alloc, setup, keeper, &mut asked, &mut block.letters, text)?;
         block.replies.push(reply)?;
     }
     Ok(())
@@ -201,7 +182,6 @@ pub fn keep_texts<K: Keeper>(
     alloc: Global,
     setup: &Setup,
     keeper: &mut K,
-    cache: &mut MessageCache,
     texts: &[MailText],
 ) -> Result<Option<Vec<Reply>>, StoreFault>
     ensures answers { K.is_trusted keeper.new → IfOk result (λ replies. IfSome replies (λ rs. rs.items ≡ answers_to setup.now (K.content keeper.old).kept texts.now)) }
@@ -215,7 +195,6 @@ pub fn keep_texts<K: Keeper>(
     ensures err { K.is_trusted keeper.new → OnErr result (K.content keeper.new ≡ K.content keeper.old) }
     ensures each { IfOk result (λ replies. IfSome replies (λ rs. length rs.items ≡ length texts.now)) }
     ensures places { IfOk result (λ replies. IfSome replies (λ rs. AreHeldHere setup.now rs.items)) }
-    ensures cache { AreRead setup.now cache.old → AreRead setup.now cache.new }
     ensures setup { K.setup keeper.new ≡ K.setup keeper.old }
     ensures before { K.is_trusted keeper.new → K.is_trusted keeper.old }
     ensures legible { K.is_trusted keeper.new → K.is_legible keeper.old → K.is_legible keeper.new }
@@ -226,7 +205,7 @@ pub fn keep_texts<K: Keeper>(
         letters: Vec::new(alloc),
         replies: Vec::new(alloc),
     };
-    gather_all(alloc, setup, keeper, cache, texts, &mut block)?;
+    gather_all(alloc, setup, keeper, texts, &mut block)?;
     if keep_letters(keeper, &block.letters)? {
         let Batch { letters, replies } = block;
         drop(letters);

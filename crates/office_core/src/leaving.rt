@@ -10,7 +10,6 @@ ghost use Rattle.testing_rules_laws.specs.Watched.{AllWatchedWork};
 ghost use Rattle.office_mail.specs.Runs.{cover_of};
 ghost use Rattle.office_store_keeper.specs.FactSet.{AreHoldable, facts_after};
 ghost use Rattle.office_store_keeper.specs.Provenance.{AreOwnTexts, IsGiven, KnowsArchs};
-ghost use Rattle.office_core_facts.specs.Cached.{AreRead};
 ghost use Rattle.office_core_facts.specs.Known.{AreKnown, AreUnderWay};
 ghost use Rattle.office_core_orders.specs.ReadsStore.{ReadsStore};
 ghost use Rattle.office_core_facts.specs.Outcome.{outcome, outcome_in, outcome_of};
@@ -20,7 +19,6 @@ ghost use Rattle.office_core_facts.specs.Walk.{said_within};
 
 use jiff_core::civil::Date;
 use office_core_facts::covered::{KnownFacts, facts};
-use office_core_facts::message_cache::MessageCache;
 use office_core_facts::retaking::follow_testing;
 use office_core_orders::{StoreFault, stored};
 use office_core_outcome::run_beside;
@@ -33,7 +31,6 @@ pub fn next_outcome<K: Keeper>(
     alloc: Global,
     setup: &Setup,
     keeper: &mut K,
-    cache: &mut MessageCache,
     before: Option<KnownFacts>,
     orders: &[RunOrder],
     run: u32,
@@ -41,7 +38,6 @@ pub fn next_outcome<K: Keeper>(
     requires known { K.is_trusted keeper.old → IfSome before (λ known. AreKnown setup.now (K.content keeper.old) known) }
     requires some { 0 < length orders.now }
     requires lists { K.setup keeper.old ≡ setup.now }
-    requires cache { AreRead setup.now cache.old }
     ensures outcome { K.is_trusted keeper.new → K.is_legible keeper.old → IsOffice setup.now (K.content keeper.old) → FirstOrders setup.now (K.content keeper.old).kept orders.now → length orders.now ≡ length (K.content keeper.old).reports + 1 → run ≡ length (K.content keeper.old).reports + 1
         → IfOk result (λ left. outcome_in left.0 ≡ outcome_of setup.now (K.content keeper.old).kept run) }
     ensures watched { K.is_trusted keeper.new → K.is_legible keeper.old → AllWatchedWork setup.now.archs (K.content keeper.old).testing.rows → IfOk result (λ left. AllWatchedWork setup.now.archs left.0.testing.rows) }
@@ -54,14 +50,12 @@ pub fn next_outcome<K: Keeper>(
     ensures held { K.is_trusted keeper.new → AreOwnTexts setup.now (K.content keeper.old).kept → IfOk result (λ left. AreHoldable setup.now (facts_after left.0.facts (K.content keeper.old).facts)) }
     ensures difference { IfOk result (λ left. IsDifference left.1.facts.came left.1.facts.left left.0.facts.put left.0.facts.gone) }
     ensures taken { IfOk result (λ left. (s : ℕ) → s < length setup.now.senders → slice_index left.1.taken.items s ≡ cover_of orders.now s) }
-    ensures cache { AreRead setup.now cache.new }
     ensures looks { ReadsStore K.Keeper keeper.old keeper.new result }
 {
     let Some(date) = latest_day(orders) else {
         unreachable!()
     };
-    let mut known = facts(alloc, setup, keeper, cache, before, orders)?;
-    cache.make_room();
+    let mut known = facts(alloc, setup, keeper, before, orders)?;
     match leave(alloc, setup, keeper, &mut known, run, date) {
         Ok(done) => Ok((done, known)),
         Err(fault) => {

@@ -34,7 +34,6 @@ use crate::texts::kept_testing_text;
 use crate::unbroken::unbroken_counts;
 use deb_control::Text;
 use office_core_facts::covered::KnownFacts;
-use office_core_facts::message_cache::MessageCache;
 use office_core_orders::ready::ready_count;
 use office_core_orders::waiting::waiting;
 use office_core_orders::{DeliverFault, Held, Progress, StoreFault, Waiting, stored};
@@ -46,7 +45,7 @@ use std::alloc::Global;
 use std::marker::Model;
 
 /// An office over a store, of which its contracts speak. Beside it stand for each sender how many numbers are known to be
-/// kept, the run orders that were read, the facts of the mail that the last run covered, and what was read of mail since.
+/// kept, the run orders that were read, and the facts of the mail that the last run covered.
 #[derive(Drop)]
 pub struct Office<K: Keeper> {
     alloc: Global,
@@ -55,12 +54,10 @@ pub struct Office<K: Keeper> {
     counts: Vec<u32>,
     orders: Vec<RunOrder>,
     known: Option<KnownFacts>,
-    cache: MessageCache,
 }
 
 impl<K: Keeper> Model for Office<K> {
     ghost use Rattle.std.specs.Prelude.{◌≡◌, IfSome};
-    ghost use Rattle.office_core_facts.specs.Cached.{AreRead};
     ghost use Rattle.office_core_facts.specs.Known.{AreKnown};
     ghost use Rattle.office_core_orders.specs.Ready.{IsCounted};
 
@@ -70,8 +67,7 @@ impl<K: Keeper> Model for Office<K> {
 
     ghost invariant = { λ a. (K.setup a.keeper ≡ a.setup)
         × (K.is_trusted a.keeper → IsCounted a.setup (K.content a.keeper) a.counts.items a.orders.items)
-        × (K.is_trusted a.keeper → IfSome a.known (λ known. AreKnown a.setup (K.content a.keeper) known))
-        × (AreRead a.setup a.cache) };
+        × (K.is_trusted a.keeper → IfSome a.known (λ known. AreKnown a.setup (K.content a.keeper) known)) };
 }
 
 impl<K: Keeper> Office<K> {
@@ -87,7 +83,6 @@ impl<K: Keeper> Office<K> {
             counts: Vec::new(alloc),
             orders: Vec::new(alloc),
             known: None,
-            cache: MessageCache::new(alloc),
         }
     }
 
@@ -102,10 +97,8 @@ impl<K: Keeper> Office<K> {
             counts: _,
             orders: _,
             known,
-            cache,
         } = self;
         drop(known);
-        drop(cache);
         keeper
     }
 
@@ -159,13 +152,7 @@ impl<K: Keeper> Office<K> {
         ensures lasts { StaysTrusted K.Keeper self.old self.new (is_ok result) }
         ensures counted { CountedDelivery (K.refusals self.old) (K.refusals self.new) result }
     {
-        let reply = deliver(
-            self.alloc,
-            &self.setup,
-            &mut self.keeper,
-            &mut self.cache,
-            text,
-        );
+        let reply = deliver(self.alloc, &self.setup, &mut self.keeper, text);
         count_reply(&mut self.counts, &reply);
         reply
     }
@@ -209,13 +196,7 @@ impl<K: Keeper> Office<K> {
         ensures lasts { StaysTrusted K.Keeper self.old self.new (is_ok result) }
         ensures counted { Counted (K.refusals self.old) (K.refusals self.new) result }
     {
-        let replies = keep_texts(
-            self.alloc,
-            &self.setup,
-            &mut self.keeper,
-            &mut self.cache,
-            texts,
-        );
+        let replies = keep_texts(self.alloc, &self.setup, &mut self.keeper, texts);
         count_replies(&mut self.counts, &replies);
         replies
     }
@@ -251,7 +232,6 @@ impl<K: Keeper> Office<K> {
             &mut self.counts,
             &mut self.orders,
             &mut self.known,
-            &mut self.cache,
         )?;
         Ok(Progress {
             ready: finished,

@@ -4,14 +4,11 @@
 ghost use Rattle.std.specs.Prelude.{is_ok, ◌≡◌, ◌<◌, ◌∷◌, ◌⊎◌, [], Ok, Err, IfOk, IfErr, OnOk, OnErr, bytes_eq, length, if◌then◌else◌};
 ghost use Rattle.std.specs.FinMap.{get};
 ghost use Rattle.office_mail.specs.Kept.{kept_from, place_of, IsPlace, Within};
-ghost use Rattle.office_mail.specs.Lists.{Lists};
 ghost use Rattle.office_mail.specs.Read.{read};
 ghost use Rattle.office_core_orders.specs.Counted.{CountedDelivery};
 ghost use Rattle.office_core_orders.specs.StaysTrusted.{StaysTrusted};
-ghost use Rattle.office_core_facts.specs.Cached.{AreRead};
 ghost use Rattle.office_core_facts.specs.State.{AnswersDelivery, IsOffice, answer_at, answer_to};
 
-use office_core_facts::message_cache::MessageCache;
 use office_core_orders::{DeliverFault, Held, stored};
 use office_mail::{MailFault, Message, Setup, read_message};
 use office_store_keeper::{Keeper, MailText};
@@ -65,17 +62,6 @@ fn post<K: Keeper>(
     }
 }
 
-/// A message that was read of a text is cached if it is held, for the run that covers it.
-pub fn hold(cache: &mut MessageCache, held: bool, text: &MailText, message: Message)
-    ensures { (setup : Lists) → read setup text.now ≡ Ok message → AreRead setup cache.old → AreRead setup cache.new }
-{
-    if held {
-        cache.put(text, message);
-    } else {
-        drop(message);
-    }
-}
-
 /// The message that a text is, with a copy of the text that others may share from here on.
 fn read_shared(alloc: Global, setup: &Setup, text: &[u8]) -> Result<(Message, MailText), MailFault>
     ensures message { IfOk result (λ it. read setup.now text.now ≡ Ok it.0) }
@@ -93,12 +79,11 @@ fn read_shared(alloc: Global, setup: &Setup, text: &[u8]) -> Result<(Message, Ma
     }
 }
 
-/// Takes a text: keeps it where it is a message whose sender and number are free. What was read of it is cached then.
+/// Takes a text: keeps it where it is a message whose sender and number are free.
 pub fn deliver<K: Keeper>(
     alloc: Global,
     setup: &Setup,
     keeper: &mut K,
-    cache: &mut MessageCache,
     text: &[u8],
 ) -> Result<Held, DeliverFault>
     ensures answer { K.is_trusted keeper.new → AnswersDelivery result (answer_to setup.now (K.content keeper.old).kept text.now) }
@@ -110,7 +95,6 @@ pub fn deliver<K: Keeper>(
     ensures office { K.is_trusted keeper.new → K.is_legible keeper.old → IsOffice setup.now (K.content keeper.old) → IsOffice setup.now (K.content keeper.new) }
     ensures err { K.is_trusted keeper.new → OnErr result (K.content keeper.new ≡ K.content keeper.old) }
     ensures place { IfOk result (λ held. held.sender < length setup.now.senders) }
-    ensures cache { AreRead setup.now cache.old → AreRead setup.now cache.new }
     ensures setup { K.setup keeper.new ≡ K.setup keeper.old }
     ensures before { K.is_trusted keeper.new → K.is_trusted keeper.old }
     ensures legible { K.is_trusted keeper.new → K.is_legible keeper.old → K.is_legible keeper.new }
@@ -120,7 +104,7 @@ pub fn deliver<K: Keeper>(
     match read_shared(alloc, setup, text) {
         Ok((message, text)) => {
             let answer = post(setup, keeper, &message, &text);
-            hold(cache, answer.is_ok(), &text, message);
+            drop(message);
             drop(text);
             answer
         }

@@ -7,7 +7,6 @@ ghost use Rattle.office_mail_setup.specs.declared.setup.Role.TheVariants.{Releas
 ghost use Rattle.office_mail.specs.Runs.{IsReady, IsReadyCount};
 ghost use Rattle.office_mail.specs.Setup.{place_of_role};
 ghost use Rattle.office_core_orders.specs.Counted.{Counted};
-ghost use Rattle.office_core_facts.specs.Cached.{AreRead};
 ghost use Rattle.office_core_facts.specs.Known.{AreKnown};
 ghost use Rattle.office_core_orders.specs.StaysTrusted.{StaysTrusted};
 ghost use Rattle.office_core_orders.specs.Ready.{IsCounted};
@@ -15,7 +14,6 @@ ghost use Rattle.office_core_facts.specs.State.{IsOffice};
 
 use crate::leaving::next_outcome;
 use office_core_facts::covered::KnownFacts;
-use office_core_facts::message_cache::MessageCache;
 use office_core_facts::release::release_place;
 use office_core_orders::ready::next_is_ready;
 use office_core_orders::{StoreFault, stored};
@@ -77,18 +75,15 @@ fn finish_next<K: Keeper>(
     counts: &mut Vec<u32>,
     orders: &mut Vec<RunOrder>,
     known: &mut Option<KnownFacts>,
-    cache: &mut MessageCache,
 ) -> Result<bool, StoreFault>
     requires lists { K.setup keeper.old ≡ next.now.setup.now }
     requires known { K.is_trusted keeper.old → IsCounted next.now.setup.now (K.content keeper.old) counts.old.items orders.old.items }
     requires facts { K.is_trusted keeper.old → IfSome known.old (λ known. AreKnown next.now.setup.now (K.content keeper.old) known) }
     requires finished { K.is_trusted keeper.old → next.now.finished ≡ length (K.content keeper.old).reports }
-    requires cache { AreRead next.now.setup.now cache.old }
     ensures known { K.is_trusted keeper.new → IsCounted next.now.setup.now (K.content keeper.new) counts.new.items orders.new.items }
     ensures facts { K.is_trusted keeper.new → IfSome known.new (λ known. AreKnown next.now.setup.now (K.content keeper.new) known) }
     ensures ready { K.is_trusted keeper.new → IsOffice next.now.setup.now (K.content keeper.old) → IfOk result (λ ready. IsTrue ready ↔ IsReady next.now.setup.now (K.content keeper.old).kept (next.now.finished + 1)) }
     ensures below { IfOk result (λ ready. IsTrue ready → next.now.finished < 999_999_999) }
-    ensures cache { AreRead next.now.setup.now cache.new }
     ensures kept { K.is_trusted keeper.new → (K.content keeper.new).kept ≡ (K.content keeper.old).kept }
     ensures reports { K.is_trusted keeper.new → IfOk result (λ ready. length (K.content keeper.new).reports ≡ (if ready then next.now.finished + 1 else next.now.finished)) }
     ensures err { K.is_trusted keeper.new → OnErr result (K.content keeper.new ≡ K.content keeper.old) }
@@ -104,7 +99,7 @@ fn finish_next<K: Keeper>(
         return Ok(false);
     }
     let before = known.take();
-    let (done, mut left) = next_outcome(alloc, setup, keeper, cache, before, orders, finished + 1)?;
+    let (done, mut left) = next_outcome(alloc, setup, keeper, before, orders, finished + 1)?;
     match stored::finish(keeper, finished + 1, done) {
         Ok(()) => {
             left.facts.keep();
@@ -126,15 +121,12 @@ pub fn settle<K: Keeper>(
     counts: &mut Vec<u32>,
     orders: &mut Vec<RunOrder>,
     known: &mut Option<KnownFacts>,
-    cache: &mut MessageCache,
 ) -> Result<u32, StoreFault>
     requires lists { K.setup keeper.old ≡ setup.now }
     requires known { K.is_trusted keeper.old → IsCounted setup.now (K.content keeper.old) counts.old.items orders.old.items }
     requires facts { K.is_trusted keeper.old → IfSome known.old (λ known. AreKnown setup.now (K.content keeper.old) known) }
-    requires cache { AreRead setup.now cache.old }
     ensures known { K.is_trusted keeper.new → IsCounted setup.now (K.content keeper.new) counts.new.items orders.new.items }
     ensures facts { K.is_trusted keeper.new → IfSome known.new (λ known. AreKnown setup.now (K.content keeper.new) known) }
-    ensures cache { AreRead setup.now cache.new }
     ensures ready { K.is_trusted keeper.new → K.is_legible keeper.old → IsOffice setup.now (K.content keeper.old) → IfOk result (λ n. IsReadyCount setup.now (K.content keeper.old).kept n) }
     ensures finished { K.is_trusted keeper.new → IfOk result (λ n. length (K.content keeper.new).reports ≡ n) }
     ensures grows { K.is_trusted keeper.new → length (K.content keeper.old).reports ≤ length (K.content keeper.new).reports }
@@ -157,7 +149,6 @@ pub fn settle<K: Keeper>(
         counts,
         orders,
         known,
-        cache,
     )? {
         finished += 1;
     }

@@ -4,7 +4,6 @@ pub mod CoverFacts
 pub mod CoveredFacts
 pub mod FinishedFacts
 pub mod GivenFacts
-pub mod CacheFacts
 pub mod KeptRows
 pub mod KnownStand
 pub mod ReportFacts

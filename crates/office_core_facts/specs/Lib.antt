@@ -1,4 +1,3 @@
-pub mod Cached
 pub mod Counting
 pub mod Known
 pub mod OfficeState

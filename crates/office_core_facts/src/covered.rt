@@ -13,7 +13,6 @@ ghost use Rattle.testing_rules_model.specs.Suite.{Suite};
 ghost use Rattle.office_mail.specs.Runs.{cover_of, orders_to};
 ghost use Rattle.office_store_keeper.specs.Content.{Content};
 ghost use Rattle.office_store_keeper.specs.FactSet.{rows_in};
-ghost use Rattle.office_core_facts.specs.Cached.{AreRead};
 ghost use Rattle.office_core_facts.specs.Known.{AreKnown, AreUnderWay, said_all};
 ghost use Rattle.office_core_orders.specs.ReadsStore.{ReadsStore};
 ghost use Rattle.office_core_facts.specs.Outcome.{item_at};
@@ -22,14 +21,13 @@ ghost use Rattle.office_core_facts.specs.State.{IsOffice};
 ghost use Rattle.office_core_facts.specs.Taking.{AreLettersOf, HavePutBack};
 ghost use Rattle.office_core_facts.specs.Walk.{said_by, said_in, said_within};
 
-use crate::message_cache::MessageCache;
 use crate::restoring::put_back;
 use crate::stretch::Stretch;
 use crate::taking::{cover_of, take_body};
 use office_core_orders::orders::make_room;
 use office_core_orders::stored::{BLOCK, block_end};
 use office_core_orders::{StoreFault, stored};
-use office_mail::{MailFault, RunOrder, Setup};
+use office_mail::{MailFault, RunOrder, Setup, read_message};
 use office_store_keeper::{Keeper, Letter};
 use std::alloc::Global;
 use testing_rules_facts::Facts;
@@ -43,36 +41,25 @@ pub struct KnownFacts {
 }
 
 /// The facts of the messages that these orders cover. What was known before is taken over, or else what the store
-/// keeps, so that each message is taken by the facts once and not at each run. What is cached of it is taken out.
+/// keeps, so that each message is taken by the facts once and not at each run.
 pub fn facts<K: Keeper>(
     alloc: Global,
     setup: &Setup,
     keeper: &mut K,
-    cache: &mut MessageCache,
     before: Option<KnownFacts>,
     orders: &[RunOrder],
 ) -> Result<KnownFacts, StoreFault>
     requires known { K.is_trusted keeper.old → IfSome before (λ known. AreKnown setup.now (K.content keeper.old) known) }
-    requires cache { AreRead setup.now cache.old }
     ensures taken { IfOk result (λ known. (s : ℕ) → s < length setup.now.senders → slice_index known.taken.items s ≡ cover_of orders.now s) }
     ensures way { K.is_trusted keeper.new → IfOk result (λ known. AreUnderWay setup.now (K.content keeper.old) known.facts) }
     ensures stand { K.is_trusted keeper.new → IsOffice setup.now (K.content keeper.old) → FirstOrders setup.now (K.content keeper.old).kept orders.now → length orders.now ≡ length (K.content keeper.old).reports + 1
         → IfOk result (λ known. StandsFor known.facts (said_within setup.now (K.content keeper.old).kept (cover_of orders.now) (length setup.now.senders)) (K.content keeper.old).testing) }
-    ensures cache { AreRead setup.now cache.new }
     ensures looks { ReadsStore K.Keeper keeper.old keeper.new result }
 {
     let mut known = known_before(alloc, setup, keeper, before, orders)?;
     'senders: for sender in 0..setup.senders().len() {
         let cover = cover_of(orders, sender);
-        take_on(
-            alloc,
-            setup,
-            keeper,
-            cache,
-            &mut known,
-            sender as u32,
-            cover,
-        )?;
+        take_on(alloc, setup, keeper, &mut known, sender as u32, cover)?;
     }
     Ok(known)
 }
@@ -256,19 +243,16 @@ pub fn take_on<K: Keeper>(
     alloc: Global,
     setup: &Setup,
     keeper: &mut K,
-    cache: &mut MessageCache,
     known: &mut KnownFacts,
     sender: u32,
     cover: u32,
 ) -> Result<(), StoreFault>
     requires within { slice_index known.old.taken.items sender ≤ cover }
-    requires cache { AreRead setup.now cache.old }
     ensures stand { K.is_trusted keeper.new → OnOk result ((t : Suite) → let kept = (K.content keeper.old).kept in let n = length setup.now.senders in
         sender < n → StandsFor known.old.facts (said_within setup.now kept (slice_index known.old.taken.items) n) t → StandsFor known.new.facts (said_within setup.now kept (slice_index known.new.taken.items) n) t) }
     ensures way { K.is_trusted keeper.new → OnOk result (AreUnderWay setup.now (K.content keeper.old) known.old.facts → AreUnderWay setup.now (K.content keeper.old) known.new.facts) }
     ensures taken { OnOk result (slice_index known.new.taken.items sender ≡ cover) }
     ensures others { (s : ℕ) → s ≢ sender → slice_index known.new.taken.items s ≡ slice_index known.old.taken.items s }
-    ensures cache { AreRead setup.now cache.new }
     ensures looks { ReadsStore K.Keeper keeper.old keeper.new result }
 {
     make_room(&mut known.taken, sender)?;
@@ -279,7 +263,7 @@ pub fn take_on<K: Keeper>(
         done: taken,
         end: cover,
     };
-    take_sender(alloc, setup, keeper, cache, &mut known.facts, stretch)?;
+    take_sender(alloc, setup, keeper, &mut known.facts, stretch)?;
     known.taken[place] = cover;
     Ok(())
 }
@@ -289,15 +273,12 @@ fn take_sender<K: Keeper>(
     alloc: Global,
     setup: &Setup,
     keeper: &mut K,
-    cache: &mut MessageCache,
     facts: &mut Facts,
     stretch: Stretch,
 ) -> Result<(), StoreFault>
     requires within { stretch.done ≤ stretch.end }
-    requires cache { AreRead setup.now cache.old }
     ensures taken { K.is_trusted keeper.new → OnOk result ((s : Covered) (t : Suite) → StandsFor facts.old (said_by setup.now (K.content keeper.old).kept stretch.sender stretch.done ++ s) t → StandsFor facts.new (said_by setup.now (K.content keeper.old).kept stretch.sender stretch.end ++ s) t) }
     ensures way { K.is_trusted keeper.new → OnOk result (AreUnderWay setup.now (K.content keeper.old) facts.old → AreUnderWay setup.now (K.content keeper.old) facts.new) }
-    ensures cache { AreRead setup.now cache.new }
     ensures looks { ReadsStore K.Keeper keeper.old keeper.new result }
 {
     let mut done = stretch.done;
@@ -308,7 +289,7 @@ fn take_sender<K: Keeper>(
             done,
             end,
         };
-        take_block(alloc, setup, keeper, cache, facts, block)?;
+        take_block(alloc, setup, keeper, facts, block)?;
         done = end;
     }
     Ok(())
@@ -319,64 +300,54 @@ fn take_block<K: Keeper>(
     alloc: Global,
     setup: &Setup,
     keeper: &mut K,
-    cache: &mut MessageCache,
     facts: &mut Facts,
     stretch: Stretch,
 ) -> Result<(), StoreFault>
     requires on { stretch.done < stretch.end }
     requires block { stretch.end ≤ stretch.done + 256 }
-    requires cache { AreRead setup.now cache.old }
     ensures taken { K.is_trusted keeper.new → OnOk result ((s : Covered) (t : Suite) → StandsFor facts.old (said_by setup.now (K.content keeper.old).kept stretch.sender stretch.done ++ s) t → StandsFor facts.new (said_by setup.now (K.content keeper.old).kept stretch.sender stretch.end ++ s) t) }
     ensures way { K.is_trusted keeper.new → OnOk result (AreUnderWay setup.now (K.content keeper.old) facts.old → AreUnderWay setup.now (K.content keeper.old) facts.new) }
-    ensures cache { AreRead setup.now cache.new }
     ensures looks { ReadsStore K.Keeper keeper.old keeper.new result }
 {
     let letters = stored::load(keeper, stretch.sender, stretch.done + 1, stretch.end)?;
-    take_letters(alloc, setup, cache, facts, stretch.sender, &letters)
+    take_letters(alloc, setup, facts, stretch.sender, &letters)
 }
 
 /// The facts take what letters of a sender say. It fails for want of memory alone.
 pub fn take_letters(
     alloc: Global,
     setup: &Setup,
-    cache: &mut MessageCache,
     facts: &mut Facts,
     sender: u32,
     letters: &[Letter],
 ) -> Result<(), StoreFault>
-    requires cache { AreRead setup.now cache.old }
     ensures taken { OnOk result ((s : Covered) (t : Suite) → StandsFor facts.old s t → StandsFor facts.new (said_in setup.now sender letters.now s) t) }
     ensures way { OnOk result ((content : Content) → AreLettersOf content.kept sender letters.now → AreUnderWay setup.now content facts.old → AreUnderWay setup.now content facts.new) }
-    ensures cache { AreRead setup.now cache.new }
     ensures no_store { IfErr result (λ fault. fault ≡ StoreFault.NoMemory) }
 {
     'letters: for letter in letters {
         let text = letter.text.as_slice();
-        take_text(alloc, setup, cache, facts, sender, letter.number, text)?;
+        take_text(alloc, setup, facts, sender, letter.number, text)?;
     }
     Ok(())
 }
 
-/// The facts take what a text says under its sender and number. It is read if its message isn't cached. It fails for
-/// want of memory alone.
+/// The facts take what a text says under its sender and number. It fails for want of memory alone.
 pub(crate) fn take_text(
     alloc: Global,
     setup: &Setup,
-    cache: &mut MessageCache,
     facts: &mut Facts,
     sender: u32,
     number: u32,
     text: &[u8],
 ) -> Result<(), StoreFault>
-    requires cache { AreRead setup.now cache.old }
     ensures taken { OnOk result ((s : Covered) (t : Suite) → StandsFor facts.old s t → StandsFor facts.new (option_to_list (item_at setup.now ((sender, number), text.now)) ++ s) t) }
     ensures kept { OnOk result ((u : UploadIn) → Contains facts.old.uploads u → Contains facts.new.uploads u) }
     ensures there { OnOk result ((m : CoveredItem) (u : UploadIn) → item_at setup.now ((sender, number), text.now) ≡ Some m → upload_of m ≡ Some u → Contains facts.new.uploads u) }
     ensures way { OnOk result ((content : Content) → get content.kept (sender, number) ≡ Some text.now → AreUnderWay setup.now content facts.old → AreUnderWay setup.now content facts.new) }
-    ensures cache { AreRead setup.now cache.new }
     ensures no_store { IfErr result (λ fault. fault ≡ StoreFault.NoMemory) }
 {
-    match cache.message(alloc, setup, sender, number, text) {
+    match read_message(alloc, setup, text) {
         Ok(message) => take_body(facts, sender, number, message.body),
         Err(fault) => no_message(fault),
     }

@@ -15,7 +15,6 @@ ghost use Rattle.office_core_facts.specs.Taking.{HavePutBack};
 ghost use Rattle.office_core_facts.specs.Walk.{said_within};
 
 use crate::covered::{KnownFacts, finished_facts, has_all, known_at, take_on};
-use crate::message_cache::MessageCache;
 use crate::restoring::put_back;
 use office_core_orders::orders::{count_on, read_orders};
 use office_core_orders::{StoreFault, stored};
@@ -64,18 +63,9 @@ pub(crate) fn take_to<K: Keeper>(
         StandsFor known.old.facts (said_within setup.now kept (slice_index known.old.taken.items) n) t → StandsFor known.new.facts (said_within setup.now kept (slice_index covers.now) n) t) }
     ensures looks { ReadsStore K.Keeper keeper.old keeper.new result }
 {
-    let mut nothing = MessageCache::new(alloc);
     'senders: for sender in 0..setup.senders().len() {
         let cover = cover_at(covers, sender);
-        take_on(
-            alloc,
-            setup,
-            keeper,
-            &mut nothing,
-            known,
-            sender as u32,
-            cover,
-        )?;
+        take_on(alloc, setup, keeper, known, sender as u32, cover)?;
     }
     Ok(())
 }

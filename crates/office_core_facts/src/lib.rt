@@ -6,7 +6,6 @@ mod counting;
 pub mod covered;
 pub mod covers;
 pub mod finished;
-pub mod message_cache;
 pub mod release;
 pub mod restoring;
 pub mod retaking;

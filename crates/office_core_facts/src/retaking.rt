@@ -24,7 +24,6 @@ ghost use Rattle.office_core_facts.specs.Taking.{AreLettersOf, TookAgain};
 ghost use Rattle.office_core_facts.specs.Walk.{said_by, said_in, said_within};
 
 use crate::covered::take_text;
-use crate::message_cache::MessageCache;
 use crate::restoring::item_in;
 use crate::stretch::Stretch;
 use deb_control::Text;
@@ -205,8 +204,7 @@ fn retake_text(
     if !named {
         return Ok(());
     }
-    let mut nothing = MessageCache::new(alloc);
-    take_text(alloc, setup, &mut nothing, facts, sender, number, text)?;
+    take_text(alloc, setup, facts, sender, number, text)?;
     Ok(())
 }
 

@@ -19,7 +19,6 @@ use crate::{RunOutcome, run_beside};
 use deb_control::{NoMemory, Text};
 use jiff_core::civil::Date;
 use office_core_facts::covered::take_letters;
-use office_core_facts::message_cache::MessageCache;
 use office_core_facts::release::release_place;
 use office_core_orders::{StoreFault, name_at};
 use office_mail::Setup;
@@ -127,9 +126,8 @@ pub(crate) fn take_all(
     ensures taken { OnOk result ((s : Covered) (t : Suite) → StandsFor facts.old s t → StandsFor facts.new (with_letters setup.now (release setup.now) letters.now s) t) }
     ensures no_store { IfErr result (λ fault. fault ≡ StoreFault.NoMemory) }
 {
-    let mut nothing = MessageCache::new(alloc);
     let place = release_place(setup);
-    take_letters(alloc, setup, &mut nothing, facts, place, letters)
+    take_letters(alloc, setup, facts, place, letters)
 }
 
 /// Why a run refuses hints: by what it decides, over the facts and the testing before it.

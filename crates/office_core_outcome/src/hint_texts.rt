@@ -27,7 +27,6 @@ use crate::settling::keep_suites;
 use deb_control::{NoMemory, Text};
 use jiff_core::civil::Date;
 use office_core_facts::covered::{KnownFacts, facts};
-use office_core_facts::message_cache::MessageCache;
 use office_core_facts::release::release_place;
 use office_core_orders::orders::read_orders;
 use office_core_orders::{StoreFault, name_at, stored};
@@ -226,8 +225,7 @@ fn told_next<K: Keeper>(
         → asked.run ≡ length orders.now → latest_day orders.now ≡ Some asked.date → IfOk result (IsHintTold setup.now (K.content keeper.old).kept (length (K.content keeper.old).reports) asked.number) }
     ensures looks { ReadsStore K.Keeper keeper.old keeper.new result }
 {
-    let mut nothing = MessageCache::new(alloc);
-    let known = facts(alloc, setup, keeper, &mut nothing, before, orders)?;
+    let known = facts(alloc, setup, keeper, before, orders)?;
     told_kept(alloc, setup, keeper, &known.facts, asked)
 }
 

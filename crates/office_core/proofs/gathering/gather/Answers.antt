@@ -1,4 +1,3 @@
-use Rattle.office_core_facts.proofs.TakenFacts.{ok_read}
 use Rattle.office_core.proofs.GatherFacts.{takes_fault, fault_read}
 use Rattle.office_core.proofs.gathering.gather.Goals as goal
 
@@ -6,6 +5,3 @@ pub returns-in-Err-2-clause-takes : goal.returns-in-Err-2-clause-takes
 returns-in-Err-2-clause-takes g c = λ trusted free.
     takes_fault c.args.setup.now (g.K.Keeper.content c.args.keeper.now).kept c.args.letters.now.items c.args.text.now c.in-Err.fault
     (fault_read c.args.setup.now c.args.text.now c.in-Err.fault (rw c.as_slice.ensures at c.in-Err.ensures.exact) (c.is_short.ensures c.if-is_short.false))
-
-pub returns-in-Ok-clause-cache : goal.returns-in-Ok-clause-cache
-returns-in-Ok-clause-cache g c = c.hold.ensures c.args.setup.now (ok_read c.args.setup.now c.args.text.now c.in-Ok.message (rw c.as_slice.ensures at c.in-Ok.ensures.exact))

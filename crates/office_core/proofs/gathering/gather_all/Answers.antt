@@ -16,7 +16,6 @@ texts-init g c = record {
   each = rw c.requires.replies refl;
   placed = rw c.requires.letters tt;
   places = rw c.requires.replies tt;
-  cache = λ h. h;
   looks = looked_none g.K.Keeper c.args.keeper.now;
 }
 
@@ -44,6 +43,5 @@ texts-preserved g c =
       each = ap length pushed ∙ length-append c.texts.block.replies.items (c.in_ok-reply.reply ∷ []) ∙ ap (λ (n : ℕ). n + 1) so.each;
       placed = next.placed so.placed;
       places = rw pushed (each_push (λ (r : Result Held DeliverFault). IfOk r (λ (held : Held). held.sender < length setup.senders)) c.texts.block.replies.items c.in_ok-reply.reply so.places next.place);
-      cache = λ h. next.cache (so.cache h);
       looks = looked_then g.K.Keeper c.args.keeper.now c.texts.keeper c.gather.new.keeper so.looks next.looks;
     }

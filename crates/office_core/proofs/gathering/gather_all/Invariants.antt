@@ -1,5 +1,4 @@
 use Rattle.std.proofs.Common.{◌≡◌, length, take}
-use Rattle.office_core_facts.specs.Cached.{AreRead}
 use Rattle.office_core.specs.GatherSteps.{ArePlaced, Gathers}
 use Rattle.office_core.specs.Together.{AreHeldHere}
 use Rattle.office_core.specs.Asked.{AreFreeFrom}
@@ -13,6 +12,5 @@ invariant-texts g l = record {
   each : length l.block.replies.items ≡ l.text-index;
   placed : ArePlaced l.setup l.block.letters.items;
   places : AreHeldHere l.setup l.block.replies.items;
-  cache : AreRead l.setup l.fn.cache → AreRead l.setup l.cache;
   looks : Looked g.K.Keeper l.fn.keeper l.keeper;
 }

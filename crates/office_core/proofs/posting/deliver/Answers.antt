@@ -14,6 +14,3 @@ returns-in-Ok-clause-answer g c = λ trusted.
 pub returns-in-Err-clause-answer : goal.returns-in-Err-clause-answer
 returns-in-Err-clause-answer g c = λ trusted.
     answer_fault c.args.setup.now (g.K.Keeper.content c.args.keeper.now).kept c.args.text.now c.in-Err.fault c.in-Err.ensures.fault
-
-pub returns-in-Ok-clause-cache : goal.returns-in-Ok-clause-cache
-returns-in-Ok-clause-cache g c = c.hold.ensures c.args.setup.now (ap (read c.args.setup.now) c.in-Ok.ensures.text ∙ c.in-Ok.ensures.message)

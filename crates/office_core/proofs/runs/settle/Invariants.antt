@@ -1,5 +1,4 @@
 use Rattle.std.proofs.Common.{true, ◌≡◌, ◌-◌, ◌≤◌, IfSome, length}
-use Rattle.office_core_facts.specs.Cached.{AreRead}
 use Rattle.office_core_facts.specs.Known.{AreKnown}
 use Rattle.office_core_orders.specs.Ready.{IsCounted}
 use Rattle.office_core_facts.specs.State.{IsOffice}
@@ -14,7 +13,6 @@ invariant-runs g l =
     record {
       known : trusted l.keeper → IsCounted l.setup (content l.keeper) l.counts.items l.orders.items;
       facts : trusted l.keeper → IfSome l.known (λ known. AreKnown l.setup (content l.keeper) known);
-      cache : AreRead l.setup l.cache;
       finished : trusted l.keeper → l.finished ≡ length (content l.keeper).reports;
       grows : trusted l.keeper → length (content l.fn.keeper).reports ≤ length (content l.keeper).reports;
       kept : trusted l.keeper → (content l.keeper).kept ≡ (content l.fn.keeper).kept;

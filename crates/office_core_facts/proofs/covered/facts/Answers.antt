@@ -19,7 +19,6 @@ senders-init g c =
       stand = known.stand;
       done = λ s low. absurd (omega (arith, low));
       ahead = known.within;
-      cache = c.requires.cache;
       looks = looked_then g.K.Keeper c.args.keeper.now c.args.keeper.now c.known_before.new.keeper (looked_none g.K.Keeper c.args.keeper.now) known.looks;
     }
 
@@ -52,7 +51,6 @@ senders-preserved g c =
           (λ same. subst (λ (k : ℕ). taken k ≤ covers k) (sym same) (omega (arith, own)))
           (λ other. omega (arith, next.others s other, so.ahead s))
           (cases_eq s n);
-      cache = next.cache;
       looks = looked_then g.K.Keeper c.args.keeper.now c.senders.keeper c.take_on.new.keeper so.looks next.looks;
     }
 

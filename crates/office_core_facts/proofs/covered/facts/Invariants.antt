@@ -1,7 +1,6 @@
 use Rattle.std.proofs.Common.{◌≡◌, ◌+◌, ◌<◌, ◌≤◌, ℕ, length, slice_index}
 use Rattle.testing_rules_model.specs.StandsFor.{StandsFor}
 use Rattle.office_mail.specs.Runs.{cover_of}
-use Rattle.office_core_facts.specs.Cached.{AreRead}
 use Rattle.office_core_facts.specs.Known.{AreUnderWay}
 use Rattle.office_core_orders.specs.Ready.{FirstOrders}
 use Rattle.office_core_facts.specs.State.{IsOffice}
@@ -19,6 +18,5 @@ invariant-senders g l =
           → StandsFor l.known.facts (said_within l.setup (content l.fn.keeper).kept (slice_index l.known.taken.items) (length l.setup.senders)) (content l.fn.keeper).testing;
       done : (s : ℕ) → s < l.sender → slice_index l.known.taken.items s ≡ cover_of l.orders s;
       ahead : (s : ℕ) → slice_index l.known.taken.items s ≤ cover_of l.orders s;
-      cache : AreRead l.setup l.cache;
       looks : Looked g.K.Keeper l.fn.keeper l.keeper;
     }

@@ -12,7 +12,6 @@ pub letters-init : goal.letters-init
 letters-init c = record {
   taken = λ s t h. subst (λ (l : Covered). StandsFor c.args.facts.now l t) (sym (said_in-none c.args.setup.now c.args.sender s)) h;
   way = λ content own was. was;
-  cache = c.requires.cache;
 }
 
 pub letters-preserved : goal.letters-preserved
@@ -35,7 +34,6 @@ letters-preserved c =
           c.in_ok-take_text.ensures.way content
           (own_letter content.kept sender letters i letter c.as_slice-text.result.now c.letters-test.true c.letter-item.is c.as_slice-text.ensures own)
           (c.letters.invariant.way content own was);
-      cache = c.in_ok-take_text.ensures.cache;
     }
 
 pub returns-clause-taken : goal.returns-clause-taken

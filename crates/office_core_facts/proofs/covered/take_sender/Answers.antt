@@ -13,7 +13,6 @@ loads-init g c =
       within = c.requires.within;
       taken = λ trusted s t h. h;
       way = λ trusted was. was;
-      cache = c.requires.cache;
       looks = looked_none g.K.Keeper c.args.keeper.now;
     }
 
@@ -32,7 +31,6 @@ loads-preserved g c =
       way = λ trusted was.
           let earlier = next.looks.before trusted in
           subst (λ (m : Content). AreUnderWay setup m c.loads.facts → AreUnderWay setup m c.take_block.new.facts) (so.looks.same earlier) (next.way trusted) (so.way earlier was);
-      cache = next.cache;
       looks = looked_then g.K.Keeper c.args.keeper.now c.loads.keeper c.take_block.new.keeper so.looks next.looks;
     }
 

@@ -2,7 +2,6 @@ use Rattle.std.proofs.Common.{◌≤◌, ◌-◌, ◌++◌}
 use Rattle.testing_rules_model.specs.Covered.{Covered}
 use Rattle.testing_rules_model.specs.Suite.{Suite}
 use Rattle.testing_rules_model.specs.StandsFor.{StandsFor}
-use Rattle.office_core_facts.specs.Cached.{AreRead}
 use Rattle.office_core_facts.specs.Known.{AreUnderWay}
 use Rattle.office_core_facts.specs.Walk.{said_by}
 use Rattle.office_core_orders.proofs.LookFacts.{Looked}
@@ -16,7 +15,6 @@ invariant-loads g l =
       within : l.done ≤ l.stretch.end;
       taken : trusted l.keeper → (s : Covered) (t : Suite) → StandsFor l.fn.facts (said_by l.setup (content l.fn.keeper).kept l.stretch.sender l.stretch.done ++ s) t → StandsFor l.facts (said_by l.setup (content l.fn.keeper).kept l.stretch.sender l.done ++ s) t;
       way : trusted l.keeper → AreUnderWay l.setup (content l.fn.keeper) l.fn.facts → AreUnderWay l.setup (content l.fn.keeper) l.facts;
-      cache : AreRead l.setup l.cache;
       looks : Looked g.K.Keeper l.fn.keeper l.keeper;
     }
 

@@ -13,7 +13,6 @@ senders-init g c = record {
   stand = λ trusted t was. was;
   done = λ s low. absurd (omega (arith, low));
   ahead = c.requires.within;
-  cache = c.new-nothing.ensures c.args.setup.now;
   looks = looked_none g.K.Keeper c.args.keeper.now;
 }
 
@@ -42,7 +41,6 @@ senders-preserved g c =
           (λ same. subst (λ (k : ℕ). taken k ≤ covers k) (sym same) (omega (arith, own)))
           (λ other. omega (arith, next.others s other, so.ahead s within))
           (cases_eq s n);
-      cache = next.cache;
       looks = looked_then g.K.Keeper c.args.keeper.now c.senders.keeper c.take_on.new.keeper so.looks next.looks;
     }
 

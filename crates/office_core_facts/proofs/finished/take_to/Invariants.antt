@@ -1,7 +1,6 @@
 use Rattle.std.proofs.Common.{◌≡◌, ◌<◌, ◌≤◌, ℕ, length, slice_index}
 use Rattle.testing_rules_model.specs.StandsFor.{StandsFor}
 use Rattle.testing_rules_model.specs.Suite.{Suite}
-use Rattle.office_core_facts.specs.Cached.{AreRead}
 use Rattle.office_core_facts.specs.Walk.{said_within}
 use Rattle.office_core_orders.proofs.LookFacts.{Looked}
 use Rattle.office_core_facts.proofs.finished.take_to.Given as goal
@@ -15,6 +14,5 @@ invariant-senders g l =
           → StandsFor l.known.facts (said_within l.setup (content l.fn.keeper).kept (slice_index l.known.taken.items) (length l.setup.senders)) t;
       done : (s : ℕ) → s < l.sender → slice_index l.known.taken.items s ≡ slice_index l.covers s;
       ahead : (s : ℕ) → s < length l.setup.senders → slice_index l.known.taken.items s ≤ slice_index l.covers s;
-      cache : AreRead l.setup l.nothing;
       looks : Looked g.K.Keeper l.fn.keeper l.keeper;
     }

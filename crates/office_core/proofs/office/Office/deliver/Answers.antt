@@ -20,7 +20,6 @@ invariant_of-self g c =
           let held = delivery_kept c.self.inside.setup old.kept new.kept c.args.text.now c.deliver-reply.result (done.answer trusted) (done.kept trusted) in
           record { numbers = c.count_reply.ensures new.kept held later.numbers; first = later.first; next = later.next }),
       λ trusted. if_known-later c.self.inside.setup old new c.self.inside.known (done.within trusted) (done.reports trusted) (done.facts trusted) (c.self.invariant.2 (done.before trusted)),
-      done.cache c.self.invariant.3,
     )
 
 pub returns-clause-step : goal.returns-clause-step

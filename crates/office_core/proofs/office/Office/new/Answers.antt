@@ -6,5 +6,4 @@ invariant_of-result g c = (
   c.requires.lists,
   λ trusted. IsCounted-new c.args.setup (g.K.Keeper.content c.args.keeper) c.new.result.items c.new-2.result.items c.new.ensures.items c.new-2.ensures.items,
   λ trusted. tt,
-  c.new-3.ensures c.args.setup,
 )
