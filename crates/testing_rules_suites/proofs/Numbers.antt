@@ -1,5 +1,5 @@
 -- The numbers of places among some that ascend.
-use Rattle.std.specs.Prelude.{ℕ, ◌-◌, ◌<◌, ◌≤◌, ◌↔◌, Bool, true, false, List, [], ◌∷◌, ◌++◌, length, map, get_or, slice_index, Contains, Some, Result, OnOk, OnErr}
+use Rattle.std.specs.Prelude.{ℕ, ◌<◌, ◌≤◌, ◌↔◌, Bool, true, false, List, [], ◌∷◌, ◌++◌, length, map, get_or, slice_index, Contains, Some, Result, OnOk, OnErr}
 use Rattle.std.specs.Prelude.{Ok, Err}
 use Rattle.std.specs.List.{All, slice_get}
 use Rattle.std.specs.List.Sorted.{IsBinarySearchResult}
@@ -51,18 +51,6 @@ number_is places place (Err i) up found = λ j at.
       | inl below ↦ omega (arith, s.1 j below, is)
       | inr above ↦ omega (arith, s.2 j above (slice_get_within places j place at), is)
     ]
-
--- a place before the first of them, or behind the last, has no number
-pub before_first : (places : List ℕ) (place first : ℕ) → AreAscending places → Some first ≡ slice_get places 0 → place < first → (i : ℕ) → slice_get places i ≡ Some place → ⊥
-before_first places place first up at below i here =
-    let within = slice_get_within places i place here in
-    omega (arith, rising places up 0 i (omega arith) within, get_or_from_slice_get places i place 0 here, get_or_from_slice_get places 0 first 0 (sym at), below)
-
-pub behind_last : (places : List ℕ) (place last : ℕ) → AreAscending places → Some last ≡ slice_get places (length places - 1) → last < place → (i : ℕ) → slice_get places i ≡ Some place → ⊥
-behind_last places place last up at above i here =
-    let within = slice_get_within places i place here in
-    let end = slice_get_within places (length places - 1) last (sym at) in
-    omega (arith, rising places up i (length places - 1) (omega (arith, within)) end, get_or_from_slice_get places i place 0 here, get_or_from_slice_get places (length places - 1) last 0 (sym at), above)
 
 pub numbers_none : (own : List ℕ) → AreNumbers own [] []
 numbers_none own = record {

@@ -1,7 +1,9 @@
 //! The suite of one architecture, over the pool's rows that are on it.
 
-ghost use Rattle.std.specs.Prelude.{◌≡◌, ◌<◌, ◌≤◌, ◌-◌, ◌++◌, [], Bool, List, true, false, length, take, map, filter, replicate, slice_index, Some, None, IfOk, OnOk, OnErr};
-ghost use Rattle.std.specs.List.{All, range_with_len, slice_get};
+ghost use Rattle.std.specs.Prelude.{◌≡◌, ◌<◌, ◌≤◌, ◌-◌, ◌++◌, [], Bool, List, true, false, length, take, map, filter, replicate, slice_index, Some, IfOk, OnOk, OnErr};
+ghost use Rattle.std.specs.List.{All, range_with_len};
+ghost use Rattle.std.specs.Ordering.{nat_cmp};
+ghost use Rattle.std.specs.Result.{result_ok};
 ghost use Rattle.testing_install.specs.Rows.{shared};
 ghost use Rattle.testing_rules_suites.specs.ArchRows.{AreAscending, AreNumbers, IsNumberOf, IsAfter, AreLostFrom, package_at};
 ghost use Rattle.testing_rules_suites.specs.PresentSteps.{IsOver, IsSuiteOn};
@@ -13,9 +15,11 @@ use deb_control::Binary;
 use deb_version::NoMemory;
 use smallvec::SmallVec;
 use std::alloc::Global;
+use std::cmp::Ordering;
 use std::marker::Model;
 use std::rc::Rc;
 use testing_install::Suite;
+use testing_rules_items::{next_place, search_near};
 
 /// The row at the place is on the architecture.
 fn is_place_on(arch: u32, pool: &Pool, place: usize) -> bool
@@ -56,64 +60,23 @@ fn packages_at(alloc: Global, pool: &Pool, places: &[usize]) -> Result<Vec<Rc<Bi
     Ok(packages)
 }
 
-/// The number that the place has if the places from the first one up to it stand side by side.
-fn likely_number(places: &[usize], place: usize) -> usize {
-    match places.first() {
-        Some(first) => place.saturating_sub(*first),
-        None => 0,
-    }
-}
-
-/// The place has the number.
-fn has_number(places: &[usize], place: usize, number: usize) -> bool
-    ensures { result ≡ true → slice_get places.now number ≡ Some place }
-{
-    match places.get(number) {
-        Some(other) => *other == place,
-        None => false,
-    }
-}
-
-/// The place comes before the first of those that ascend.
-fn is_before(places: &[usize], place: usize) -> bool
+/// The number of the place among those that ascend, or else the number that it would have. The guessed number is tried
+/// first, and then the next one.
+fn number_near(places: &[usize], place: usize, guess: usize) -> Result<usize, usize>
     requires { AreAscending places.now }
-    ensures { result ≡ true → IsNumberOf places.now place None }
+    ensures { IsNumberOf places.now place (result_ok result) }
 {
-    match places.first() {
-        Some(first) => place < *first,
-        None => false,
-    }
+    search_near(
+        places,
+        guess,
+        |other: &usize| -> Ordering
+            ensures { result ≡ nat_cmp other.now place }
+        { other.cmp(&place) },
+    )
 }
 
-/// The place comes behind the last of those that ascend.
-fn is_behind(places: &[usize], place: usize) -> bool
-    requires { AreAscending places.now }
-    ensures { result ≡ true → IsNumberOf places.now place None }
-{
-    match places.last() {
-        Some(last) => *last < place,
-        None => false,
-    }
-}
-
-/// The number of the place among those that ascend, where it is one of them. Most rows of an architecture stand side
-/// by side in the pool. So the likely number is tried first, and then whether the place is outside. A search by halves
-/// comes last.
-fn number_of(places: &[usize], place: usize) -> Option<usize>
-    requires { AreAscending places.now }
-    ensures { IsNumberOf places.now place result }
-{
-    let likely = likely_number(places, place);
-    if has_number(places, place, likely) {
-        return Some(likely);
-    }
-    if is_before(places, place) || is_behind(places, place) {
-        return None;
-    }
-    places.binary_search(&place).ok()
-}
-
-/// The numbers of the places among those that ascend. What isn't one of them is left out.
+/// The numbers of the places among those that ascend. What isn't one of them is left out. Rows that come or leave at once
+/// stand side by side, on each architecture, so the number behind the last one is a good guess.
 fn numbers_of(
     alloc: Global,
     own: &[usize],
@@ -123,8 +86,11 @@ fn numbers_of(
     ensures { IfOk result (λ numbers. AreNumbers own.now places.now numbers.items) }
 {
     let mut numbers = SmallVec::new(alloc);
+    let mut guess = 0;
     for place in places {
-        if let Some(number) = number_of(own, *place) {
+        let found = number_near(own, *place, guess);
+        guess = next_place(found);
+        if let Some(number) = found.ok() {
             numbers.push(number)?;
         }
     }

@@ -18,9 +18,9 @@ loop-place-preserved c =
     let place = get_or places i 0 in
     let done = take i places in
     let before = c.loop-place.numbers.items in
-    let told : (r : Option ℕ) → c.number_of.result ≡ r → IsNumberOf own place r = λ r e. subst (IsNumberOf own place) e c.number_of.ensures in
+    let told : (r : Option ℕ) → c.ok.result ≡ r → IsNumberOf own place r = λ r e. subst (IsNumberOf own place) (sym c.ok.ensures.value ∙ e) c.number_near-found.ensures in
     let more : take (i + 1) places ≡ done ++ place ∷ [] = take_more places i 0 c.loop-place-test.true in
-    elim c.match-number_of.branch [
+    elim c.match-ok.branch [
       | in-Some+in_ok-push w ↦
           let items = ap (λ v. v.items) w.numbers-is ∙ w.in_ok-push.ensures.ok in
           subst (AreNumbers own (take (i + 1) places)) (sym items) (subst (λ ks. AreNumbers own ks (before ++ w.in-Some.number ∷ [])) (sym more)
