@@ -60,15 +60,12 @@ graph_all rows bearers needers n to h = record { borne = index_all rows bearers 
 pub graph_none : (bearers needers : PlacesByName) → ((q : List ℕ) → places_at bearers q ≡ []) → ((q : List ℕ) → places_at needers q ≡ []) → IsGraph [] bearers needers
 graph_none bearers needers b n = graph_all [] bearers needers 0 (record { borne = index_none [] bearers b; needed = needers_none [] needers n }) (omega arith)
 
--- a graph with the same places
-pub graph_same : (rows : List Binary) (b0 n0 b1 n1 : PlacesByName) → ((q : List ℕ) → places_at b1 q ≡ places_at b0 q) → ((q : List ℕ) → places_at n1 q ≡ places_at n0 q) → IsGraph rows b0 n0 → IsGraph rows b1 n1
-graph_same rows b0 n0 b1 n1 borne needed g = record {
+-- a graph whose rows are borne at the same places
+pub graph_same : (rows : List Binary) (old new needers : PlacesByName) → ((q : List ℕ) → places_at new q ≡ places_at old q) → IsGraph rows old needers → IsGraph rows new needers
+graph_same rows old new needers same g = record {
   borne = record {
-    within = λ q. subst (All (λ k. k < length rows)) (sym (borne q)) (g.borne.within q);
-    complete = λ q k row at e. subst (λ ks. Contains ks k) (sym (borne q)) (g.borne.complete q k row at e);
+    within = λ q. subst (All (λ k. k < length rows)) (sym (same q)) (g.borne.within q);
+    complete = λ q k row at e. subst (λ ks. Contains ks k) (sym (same q)) (g.borne.complete q k row at e);
   };
-  needed = record {
-    within = λ q. subst (All (λ k. k < length rows)) (sym (needed q)) (g.needed.within q);
-    complete = λ q k row at e. subst (λ ks. Contains ks k) (sym (needed q)) (g.needed.complete q k row at e);
-  };
+  needed = g.needed;
 }

@@ -68,7 +68,6 @@ pub fn with_rows(alloc: Global, graph: Graph, rows: Vec<Rc<Binary>>) -> Result<G
     let mut more = rows;
     let first = all.len();
     bearers.reserve(more.len())?;
-    needers.reserve(more.len())?;
     all.append(&mut more)?;
     note_rows(alloc, &all, first, &mut bearers, &mut needers)?;
     Ok(Graph {

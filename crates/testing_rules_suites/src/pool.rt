@@ -92,8 +92,6 @@ impl Pool {
         } = self;
         let from = rows.len();
         rows.reserve(more.len())?;
-        by_source.reserve(more.len())?;
-        by_name.reserve(more.len())?;
         for row in more {
             add_row(alloc, &mut rows, &mut by_source, &mut by_name, row)?;
         }
