@@ -1,12 +1,10 @@
 //! A bug of a number, searched by halves where the bugs stand in the order of their numbers.
 
-ghost use Rattle.std.specs.Prelude.{◌≡◌, ◌==◌, true, filter, length, ltb, option_copied, option_to_list};
-ghost use Rattle.std.specs.List.Sorted.{IsBinarySearchResult, IsSearchInRange};
-ghost use Rattle.std.specs.Ordering.{nat_cmp};
+ghost use Rattle.std.specs.Prelude.{◌≡◌, ◌==◌, true, filter, ltb, option_copied, option_to_list};
 ghost use Rattle.testing_rules_model.specs.Boxed.{unboxed};
 ghost use Rattle.testing_rules_model.specs.FactOrder.{AreByNumber};
 
-use std::cmp::Ordering;
+use testing_rules_facts::place_of_bug;
 use testing_rules_model::BugIn;
 
 /// Whether the bugs stand in ascending order of their numbers, each number once, so that `bug_at` may search them by
@@ -18,18 +16,6 @@ pub fn are_by_number(bugs: &[Box<BugIn>]) -> bool
         |left: &Box<BugIn>, right: &Box<BugIn>| -> bool
             ensures { result ≡ ltb left.now.value.bug right.now.value.bug }
         { left.bug < right.bug },
-    )
-}
-
-/// Where the bugs have the number, or else where it belongs.
-fn place_of_bug(bugs: &[Box<BugIn>], number: u32) -> Result<usize, usize>
-    ensures bound { IsSearchInRange result (length (unboxed bugs.now)) }
-    ensures found { IsBinarySearchResult (λ b. nat_cmp b.bug number) (unboxed bugs.now) result }
-{
-    bugs.binary_search_by(
-        |bug: &Box<BugIn>| -> Ordering
-            ensures { result ≡ nat_cmp bug.now.value.bug number }
-        { bug.bug.cmp(&number) },
     )
 }
 

@@ -1,30 +1,12 @@
 //! Sources by name, for names that are asked in order.
 
-ghost use Rattle.std.specs.Prelude.{◌≡◌, length, option_copied};
-ghost use Rattle.std.specs.List.Sorted.{IsBinarySearchResult, IsSearchInRange};
-ghost use Rattle.testing_rules_items.specs.Words.{byte_cmp};
+ghost use Rattle.std.specs.Prelude.{◌≡◌, option_copied};
 ghost use Rattle.testing_rules_model.specs.Excuses as rules;
 ghost use Rattle.testing_rules_model.specs.InOrder.{AreByName};
 
 use deb_version::Version;
-use std::cmp::Ordering;
-use testing_rules_items::search_near;
-use testing_rules_model::SourceIn;
+use testing_rules_model::{SourceIn, source_place_near};
 use testing_rules_suites::Testing;
-
-/// Where the sources have the name, or else where it belongs. The guessed place is tried first, and then the next one.
-fn place_near(sources: &[SourceIn], name: &str, guess: usize) -> Result<usize, usize>
-    ensures bound { IsSearchInRange result (length sources.now) }
-    ensures found { IsBinarySearchResult (λ s. byte_cmp s.name name.now) sources.now result }
-{
-    search_near(
-        sources,
-        guess,
-        |source: &SourceIn| -> Ordering
-            ensures { result ≡ byte_cmp source.now.name name.entry.now }
-        { source.name.as_str().cmp(name) },
-    )
-}
 
 /// The source of a name, which is looked for at the place first, and where the next name belongs: so names that are
 /// asked in order are found without a search.
@@ -36,7 +18,7 @@ pub fn source_near<'a>(
     requires { AreByName sources.now }
     ensures { option_copied result.0 ≡ rules.entry_of sources.now name.now }
 {
-    match place_near(sources, name, place) {
+    match source_place_near(sources, name, place) {
         Ok(place) => (Some(&sources[place]), place + 1),
         Err(place) => (None, place),
     }

@@ -12,8 +12,8 @@ ghost use Rattle.testing_rules_fact_order.specs.Trimming.{with_sources};
 use crate::rows::upload_row;
 use deb_version::Version;
 use std::cmp::Ordering;
-use testing_rules_items::{next_place, search_near};
-use testing_rules_model::{FactRow, SourceIn, UploadIn};
+use testing_rules_items::next_place;
+use testing_rules_model::{FactRow, SourceIn, UploadIn, source_place_near};
 
 /// Where the sources have the name, or else where it belongs.
 fn place_of_name(sources: &[SourceIn], name: &str) -> Result<usize, usize>
@@ -21,20 +21,6 @@ fn place_of_name(sources: &[SourceIn], name: &str) -> Result<usize, usize>
     ensures found { IsBinarySearchResult (λ s. byte_cmp s.name name.now) sources.now result }
 {
     sources.binary_search_by(
-        |source: &SourceIn| -> Ordering
-            ensures { result ≡ byte_cmp source.now.name name.entry.now }
-        { source.name.as_str().cmp(name) },
-    )
-}
-
-/// Where the sources have the name, or else where it belongs. The guessed place is tried first, and then the next one.
-fn place_near(sources: &[SourceIn], name: &str, guess: usize) -> Result<usize, usize>
-    ensures bound { IsSearchInRange result (length sources.now) }
-    ensures found { IsBinarySearchResult (λ s. byte_cmp s.name name.now) sources.now result }
-{
-    search_near(
-        sources,
-        guess,
         |source: &SourceIn| -> Ordering
             ensures { result ≡ byte_cmp source.now.name name.entry.now }
         { source.name.as_str().cmp(name) },
@@ -100,7 +86,7 @@ fn note_uncounted(uploads: &[UploadIn], left: &mut Vec<FactRow>, sources: &[Sour
 {
     let mut guess = 0;
     'uploads: for upload in uploads {
-        let place = place_near(sources, upload.source.as_str(), guess);
+        let place = source_place_near(sources, upload.source.as_str(), guess);
         guess = next_place(place);
         if !counts_at(sources, upload, place) {
             let _ = left.push(upload_row(upload));

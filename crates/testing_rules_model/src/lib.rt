@@ -15,6 +15,6 @@ pub use fact_row::{FactChanges, FactKind, FactRow, FactRows};
 pub use facts::{BugIn, BuildIn, Delays, DelaysIn, DropIn, HintIn, UnhintIn, UploadIn};
 pub use has_sources::HasSources;
 pub use shared_binary::SharedBinary;
-pub use suite::{LentRow, RowIn, SourceIn};
+pub use suite::{LentRow, RowIn, SourceIn, source_place_near};
 pub use update::{Decision, Moved, MovedItems, Offender, Update};
 pub use values::{Same, are_same, is_row};

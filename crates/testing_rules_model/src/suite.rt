@@ -1,12 +1,16 @@
 //! The testing suite.
 
-ghost use Rattle.std.specs.Prelude.{◌≡◌, IfOk};
+ghost use Rattle.std.specs.Prelude.{◌≡◌, length, IfOk};
+ghost use Rattle.std.specs.List.Sorted.{IsBinarySearchResult, IsSearchInRange};
+ghost use Rattle.testing_rules_items.specs.Words.{byte_cmp};
 ghost use Rattle.testing_rules_model.specs.JudgedRows.{row_of};
 
 use crate::shared_binary::SharedBinary;
 use deb_control::Text;
 use deb_version::{NoMemory, Version};
 use std::alloc::Global;
+use std::cmp::Ordering;
+use testing_rules_items::search_near;
 
 /// A source in testing, and the message that gave it.
 #[derive(Drop)]
@@ -36,6 +40,20 @@ pub struct LentRow<'a> {
     pub sender: u32,
     pub number: u32,
     pub place: u32,
+}
+
+/// Where the sources have the name, or else where it belongs. The guessed place is tried first, and then the next one.
+pub fn source_place_near(sources: &[SourceIn], name: &str, guess: usize) -> Result<usize, usize>
+    ensures bound { IsSearchInRange result (length sources.now) }
+    ensures found { IsBinarySearchResult (λ s. byte_cmp s.name name.now) sources.now result }
+{
+    search_near(
+        sources,
+        guess,
+        |source: &SourceIn| -> Ordering
+            ensures { result ≡ byte_cmp source.now.name name.entry.now }
+        { source.name.as_str().cmp(name) },
+    )
 }
 
 impl SourceIn {

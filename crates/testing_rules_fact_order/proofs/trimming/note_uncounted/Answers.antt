@@ -6,4 +6,4 @@ use Rattle.testing_rules_fact_order.proofs.trimming.note_uncounted.Goals as goal
 
 pub counts_at-requires-clause-found : goal.counts_at-requires-clause-found
 counts_at-requires-clause-found c =
-    subst (λ n. IsBinarySearchResult (λ (s : SourceIn). byte_cmp s.name n) c.args.sources.now c.place_near-place.result) c.as_str.ensures c.place_near-place.ensures.found
+    subst (λ n. IsBinarySearchResult (λ (s : SourceIn). byte_cmp s.name n) c.args.sources.now c.source_place_near-place.result) c.as_str.ensures c.source_place_near-place.ensures.found

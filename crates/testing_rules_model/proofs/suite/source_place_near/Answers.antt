@@ -2,7 +2,7 @@ use Rattle.std.proofs.Common.{rules, of_calls}
 use Rattle.std.proofs.lemmas.Fn.{always_returns_same}
 use Rattle.testing_rules_items.specs.Words.{byte_cmp}
 use Rattle.testing_rules_model.specs.declared.suite.SourceIn.{SourceIn}
-use Rattle.testing_rules_excuses.proofs.near.place_near.Goals as goal
+use Rattle.testing_rules_model.proofs.suite.source_place_near.Goals as goal
 
 pub returns-clause-found : goal.returns-clause-found
 returns-clause-found c =
