@@ -1,13 +1,15 @@
 -- The steps of a run's loops.
-use Rattle.std.specs.Prelude.{ℕ, ◌+◌, ◌<◌, ◌≤◌, Bool, true, false, List, ◌++◌, None, length, take, drop, get_or, map, filter, find}
+use Rattle.std.specs.Prelude.{ℕ, ◌+◌, ◌<◌, ◌≤◌, Bool, true, false, List, [], ◌∷◌, ◌++◌, Option, Some, None, length, take, drop, get_or, map, filter, find}
 use Rattle.std.specs.List.{flat_map, position_or_len}
-use Rattle.std.proofs.Common.{◌≡◌, ap}
+use Rattle.std.proofs.Common.{◌≡◌, ◌∙◌, sym, ap}
+use Rattle.testing_rules_items.specs.Words.{Text}
 use Rattle.testing_rules_model.specs.declared.excuse.Excuse.{Excuse}
+use Rattle.testing_rules_model.specs.declared.update.Offender.{Offender}
 use Rattle.testing_rules_model.specs.Suite.{Suite}
-use Rattle.testing_rules_moves.specs.Runs.{Basis, Run, go_on}
-use Rattle.testing_rules_model.specs.Updates.{Outcome, in_turn, decide, accepted, offender_alone, moved_alone, is_allowed_alone, move_circle, wait}
+use Rattle.testing_rules_moves.specs.Runs.{Basis, Run, go_on, moment_of, broken_by_move}
+use Rattle.testing_rules_model.specs.Updates.{Outcome, then_do, in_turn, decide, accepted, waiting, offender_alone, moved_alone, is_allowed_alone, move_circle, wait}
 use Rattle.testing_rules_moves.proofs.InTurn.{turn-next, turns-over, hint-next, hint-skipped, hints-over, passing-next, passing-skipped, passing-over}
-use Rattle.testing_rules_moves.proofs.Circle.{circle-next, circle-over, wait-none}
+use Rattle.testing_rules_moves.proofs.Circle.{circle-next, circle-over, wait-for, wait-none}
 
 -- the run with another outcome
 abbrev with_outcome : Run → Outcome → Run
@@ -75,7 +77,18 @@ pub run_circle-next : (es : List Excuse) (i : ℕ) (d : Excuse) → i < length e
     → go_on r (circle_in es) ≡ go_on (go_on r (alone_in (get_or es i d))) (circle_in (drop (i + 1) es ++ take i es))
 run_circle-next es i d below r at = ap (with_outcome r) (circle-next r.basis.archs r.basis.sources r.basis.rows es i d below r.outcome at)
 
--- a candidate whose move would break nothing doesn't wait
+-- what the move of the candidate alone would break, told of the run's testing
+pub told_alone : (q r : Run) (group : List Text) (e : Excuse) (o : Option Offender) → q ≡ r → group ≡ e.source ∷ [] → o ≡ broken_by_move group (moment_of q)
+    → offender_alone r.basis.archs r.basis.sources r.basis.rows r.outcome.suite e ≡ o
+told_alone q r group e o same alone told =
+    sym (told ∙ ap (λ g. broken_by_move g (moment_of q)) alone ∙ ap (λ (p : Run). broken_by_move (e.source ∷ []) (moment_of p)) same)
+
+-- a candidate waits for what its move would break
+pub run_wait-for : (e : Excuse) (o : Offender) (r : Run) → offender_alone r.basis.archs r.basis.sources r.basis.rows r.outcome.suite e ≡ Some o
+    → go_on r (λ b. wait b.archs b.sources b.rows e) ≡ go_on r (λ b. decide (waiting e o))
+run_wait-for e o r h = ap (λ p. with_outcome r (then_do r.outcome (λ t. p))) (wait-for r.basis.archs r.basis.sources r.basis.rows e o r.outcome.suite h)
+
+-- one whose move would break nothing doesn't wait
 pub run_wait-none : (e : Excuse) (r : Run) → offender_alone r.basis.archs r.basis.sources r.basis.rows r.outcome.suite e ≡ None
     → go_on r (λ b. wait b.archs b.sources b.rows e) ≡ r
 run_wait-none e r h = ap (with_outcome r) (wait-none r.basis.archs r.basis.sources r.basis.rows e r.outcome h)

@@ -61,13 +61,6 @@ moment_of r = record { basis = r.basis; suite = r.outcome.suite }
 abbrev pub go_on : Run → (Basis → Suite → Outcome) → Run
 go_on r step = record { basis = r.basis; outcome = then_do r.outcome (step r.basis) }
 
--- a run in which the group has moved, with no decision of it yet
-abbrev pub run_after_move : List Text → Run → Run
-run_after_move group r = record {
-  basis = r.basis;
-  outcome = record { decisions = r.outcome.decisions; suite = move_group r.basis.sources r.basis.rows group r.outcome.suite };
-}
-
 -- a run after all its turns
 abbrev pub after_turns : List Excuse → List HintIn → List UnhintIn → Run → Run
 after_turns excuses hints unhints r =

@@ -180,10 +180,10 @@ impl<'u, 'a> Turns<'u, 'a> {
         ensures { OnOk result (self.new ≡ go_on self.old (λ b. rules.move_as_one b.archs b.sources b.rows hint group.now)) }
     {
         // No candidate was tried alone so far.
-        let mut refusals = self.no_refusals(alloc, 0)?;
-        match self.move_unless_broken(alloc, group, &mut refusals)? {
+        let mut refused = self.testing.no_refusals(alloc, 0)?;
+        match self.testing.move_unless_broken(alloc, group, &mut refused)? {
             None => {
-                let sources = self.testing().unstable_sources();
+                let sources = self.testing.unstable_sources();
                 let items = MovedItems::new(moved_items(alloc, sources, group)?);
                 self.add_decision(Decision::EasyDone { hint, items })
             }
@@ -228,7 +228,7 @@ impl<'u, 'a> Turns<'u, 'a> {
     {
         match &hint.hint {
             Hint::Easy(items) => {
-                let left = items_left(alloc, self.testing(), items.as_slice())?;
+                let left = items_left(alloc, &self.testing, items.as_slice())?;
                 self.move_items(alloc, excuses, hint.number, &left)
             }
             Hint::Block(_)

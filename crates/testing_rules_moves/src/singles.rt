@@ -101,7 +101,7 @@ impl<'u, 'a> Turns<'u, 'a> {
         ensures asleep { result ≡ Ok false → refusals.new ≡ refusals.old }
     {
         let group = slice::from_ref(&excuse.source);
-        let offender = self.move_unless_broken(alloc, group, refusals)?;
+        let offender = self.testing.move_unless_broken(alloc, group, refusals)?;
         if offender.is_some() {
             return Ok(false);
         }
@@ -122,7 +122,7 @@ impl<'u, 'a> Turns<'u, 'a> {
             → AreRefused (moment_of self.now) excuses refusals.new) }
     {
         let group = slice::from_ref(&candidate.excuse.source);
-        match self.lack_by_move(alloc, group)? {
+        match self.testing.lack_by_move(alloc, group)? {
             Some(clause) => {
                 refusals.remember(alloc, candidate.number, clause)?;
                 Ok(true)
@@ -180,7 +180,7 @@ impl<'u, 'a> Turns<'u, 'a> {
         if refusals.has(candidate.number) {
             return Ok(false);
         }
-        self.look_near(candidate.near);
+        self.testing.look_near(candidate.near);
         if refusals.expects_lack {
             return self.look_first(alloc, candidate, refusals);
         }
@@ -211,9 +211,9 @@ impl<'u, 'a> Turns<'u, 'a> {
     fn move_all(&mut self, alloc: Global, candidates: &[&Excuse]) -> Result<(), NoMemory>
         ensures { OnOk result (self.new ≡ go_on self.old (λ b. rules.move_circle b.archs b.sources b.rows (lent_excuses candidates.now))) }
     {
-        let sources = self.testing().unstable_sources();
+        let sources = self.testing.unstable_sources();
         let mut circle = VecDeque::from(with_numbers(alloc, candidates, sources)?);
-        let mut refusals = self.no_refusals(alloc, candidates.len())?;
+        let mut refusals = self.testing.no_refusals(alloc, candidates.len())?;
         'moves: while self.move_next(alloc, &mut circle, &mut refusals)? {}
         Ok(())
     }
@@ -222,7 +222,7 @@ impl<'u, 'a> Turns<'u, 'a> {
     pub fn move_singles(&mut self, alloc: Global, excuses: &[Excuse]) -> Result<(), NoMemory>
         ensures { OnOk result (self.new ≡ go_on self.old (λ b. rules.move_singles b.archs b.sources b.rows excuses.now)) }
     {
-        let candidates = remaining(alloc, self.testing(), excuses)?;
+        let candidates = remaining(alloc, &self.testing, excuses)?;
         self.reserve(candidates.len())?;
         self.move_all(alloc, &candidates)
     }
@@ -231,7 +231,8 @@ impl<'u, 'a> Turns<'u, 'a> {
     fn wait(&mut self, alloc: Global, excuse: &Excuse) -> Result<(), NoMemory>
         ensures { OnOk result (self.new ≡ go_on self.old (λ b. rules.wait b.archs b.sources b.rows excuse.now)) }
     {
-        match self.broken_by_move(alloc, slice::from_ref(&excuse.source))? {
+        let group = slice::from_ref(&excuse.source);
+        match self.testing.broken_by_move(alloc, group)? {
             Some(offender) => self.add_decision(waiting(alloc, excuse, offender)?),
             None => Ok(()),
         }
@@ -241,7 +242,7 @@ impl<'u, 'a> Turns<'u, 'a> {
     pub fn waits(&mut self, alloc: Global, excuses: &[Excuse]) -> Result<(), NoMemory>
         ensures { OnOk result (self.new ≡ go_on self.old (λ b. rules.wait_all b.archs b.sources b.rows excuses.now)) }
     {
-        let candidates = remaining(alloc, self.testing(), excuses)?;
+        let candidates = remaining(alloc, &self.testing, excuses)?;
         for excuse in &candidates {
             self.wait(alloc, excuse)?;
         }

@@ -11,5 +11,5 @@ moves-init c =
     record {
       left = ap (λ es. go_on c.args.self.now (λ b. move_circle b.archs b.sources b.rows es)) (ap excuses_of c.from-circle.ensures.0 ∙ c.in_ok-with_numbers.ensures.excuses);
       numbered = subst (AreNumbered candidates) (sym c.from-circle.ensures.0) c.in_ok-with_numbers.ensures.numbers;
-      known = c.in_ok-refusals.ensures candidates;
+      known = rw (← c.self.view_is) (c.in_ok-refusals.ensures candidates);
     }

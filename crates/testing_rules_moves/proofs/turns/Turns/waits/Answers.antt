@@ -3,7 +3,7 @@ use Rattle.std.specs.Borrow.{Bor}
 use Rattle.testing_rules_model.specs.declared.excuse.Excuse.{Excuse}
 use Rattle.testing_rules_moves.specs.LentItems.{lent_excuses}
 use Rattle.testing_rules_model.specs.Suite.{Suite}
-use Rattle.testing_rules_moves.specs.Runs.{Basis, Moment, Run, go_on}
+use Rattle.testing_rules_moves.specs.Runs.{Basis, Run, go_on}
 use Rattle.testing_rules_model.specs.Updates.{Outcome, in_turn, remaining, wait}
 use Rattle.testing_rules_moves.proofs.Runs.{run-next, run-over}
 use Rattle.testing_rules_moves.proofs.Circle.{in_turn-wait}
@@ -34,7 +34,7 @@ returns c =
     let excuses = c.args.excuses.now in
     let over : length items ≤ i = omega arith in
     let candidates : lent_excuses items ≡ remaining excuses o.suite =
-    ap lent_excuses c.deref-excuse-items.ensures.value ∙ c.in_ok-candidates.ensures ∙ ap (λ (m : Moment). remaining excuses m.suite) c.testing.ensures in
+    ap lent_excuses c.deref-excuse-items.ensures.value ∙ c.in_ok-candidates.ensures ∙ ap (λ (q : Run). remaining excuses q.outcome.suite) c.self.view_is in
     sym (run-over step f items i c.loop-excuse.self over)
     ∙ c.loop-excuse.invariant
     ∙ ap (λ es. go_on r (λ b. in_turn (step b) es)) candidates
