@@ -1,14 +1,13 @@
 //! Which rows of a pool stand in testing during a run, and the suite of each architecture.
 
-ghost use Rattle.std.specs.Prelude.{◌≡◌, ℕ, ◌<◌, ◌++◌, true, false, length, replicate, [], IfOk, IfSome, Some, Option};
-ghost use Rattle.std.specs.List.{list_all, slice_get};
+ghost use Rattle.std.specs.Prelude.{◌≡◌, ℕ, ◌++◌, false, length, replicate, [], IfOk, IfSome, Option};
+ghost use Rattle.std.specs.List.{list_all};
 ghost use Rattle.testing_install.specs.Among.{after_change};
-ghost use Rattle.testing_install.specs.Closed.{marked};
 ghost use Rattle.testing_rules_model.specs.Boxed.{unboxed};
-ghost use Rattle.testing_rules_suites.specs.Changes.{has, IsMoveOf};
+ghost use Rattle.testing_rules_suites.specs.Changes.{IsMoveOf};
 ghost use Rattle.testing_rules_model.specs.FactOrder.{AreBySource};
 ghost use Rattle.testing_rules_live.specs.Lacks.{IsLackOfMove};
-ghost use Rattle.testing_rules_model.specs.JudgedRows.{lent, row_of};
+ghost use Rattle.testing_rules_model.specs.JudgedRows.{lent};
 ghost use Rattle.testing_rules_suites.specs.PresentSteps.{present_rows};
 ghost use Rattle.testing_rules_suites.specs.Tried.{first_told, Tells, IsWithin, IsRemovalOf};
 ghost use Rattle.testing_rules_model.specs.SourceFilter.{hash_passes, passing_rows};
@@ -109,12 +108,11 @@ impl PoolSuites {
         self.kept.copies(alloc)
     }
 
-    /// The row at the place, whether it stands or not.
-    pub fn row(&self, place: usize) -> LentRow<'_>
-        requires { place < length self.now.rows }
-        ensures { slice_get self.now.rows place ≡ Some (row_of result) }
+    /// The suites alone, which are of no one run.
+    pub fn kept(&self) -> &CarriedSuites
+        ensures { result.now ≡ record { rows = self.now.rows; stands = self.now.stands; archs = self.now.archs } }
     {
-        self.kept.pool().row(place)
+        &self.kept
     }
 
     /// The rows of each source of the group may come: each is a candidate.
@@ -173,14 +171,6 @@ impl PoolSuites {
     {
         let coming = coming_of(alloc, self.kept.pool(), self.first, sources, near, group)?;
         Ok(lack_among(&self.kept, &coming))
-    }
-
-    /// None of the rows that come stands already.
-    pub fn is_fresh(&self, change: &Change) -> bool
-        requires { IsWithin self.now.rows change.now.leaving.items change.now.coming.items }
-        ensures { result ≡ true → (k : ℕ) → has change.now.coming.items k ≡ true → marked self.now.stands k ≡ false }
-    {
-        self.kept.is_fresh(change)
     }
 
     /// The first row that the change would lose, by architecture in listed order and then by name.

@@ -26,7 +26,7 @@ use testing_rules_facts::Unstable;
 use testing_rules_items::Archs;
 use testing_rules_live::{LiveRows, PoolSuites, moved_rows, offender_of, rows_without};
 use testing_rules_model::{LentRow, Offender};
-use testing_rules_suites::Change;
+use testing_rules_suites::{Change, Pool};
 
 /// What the move of a group would break, judged anew.
 fn broken_by_move_anew<'a>(
@@ -91,7 +91,7 @@ fn broken_by_change(
     ensures offender { IfOk result (λ o. o ≡ rules.offender_of archs.now (present_rows suites.old)
         (moved_rows (unboxed unstable.entry.sources.now) (lent unstable.entry.rows.now) group.now (present_rows suites.old)) group.now) }
 {
-    if !suites.is_fresh(change) {
+    if !suites.kept().is_fresh(change) {
         return broken_by_move_of_standing(alloc, suites, archs, unstable, group);
     }
     suites.first_lost(alloc, change)
@@ -224,12 +224,12 @@ pub fn lack_by_move<'r>(
 }
 
 /// The rows at the places came in: who was refused for want of one of them is to be tried again.
-fn wake_among(suites: &PoolSuites, coming: &[usize], refusals: &mut Refusals)
-    requires { All (λ k. k < length suites.now.rows) coming.now }
-    ensures { AreWoken (rows_at suites.now.rows coming.now) refusals.old refusals.new }
+fn wake_among(pool: &Pool, coming: &[usize], refusals: &mut Refusals)
+    requires { All (λ k. k < length pool.now) coming.now }
+    ensures { AreWoken (rows_at pool.now coming.now) refusals.old refusals.new }
 {
     for place in coming {
-        refusals.wake(suites.row(*place).binary);
+        refusals.wake(pool.row(*place).binary);
     }
 }
 
@@ -242,7 +242,7 @@ pub fn wake_by_change(rows: &LiveRows, change: &Option<Change>, refusals: &mut R
 {
     if let LiveRows::Pooled(suites) = rows {
         if let Some(change) = change {
-            return wake_among(suites, &change.coming, refusals);
+            return wake_among(suites.kept().pool(), &change.coming, refusals);
         }
     }
     refusals.forget();

@@ -24,6 +24,9 @@ returns-clause-offender c =
     let new = move_group us unstable group t in
     let tells = failing group t.rows new.rows in
     let told = move_told s archs us unstable group leaving coming t c.requires.order c.requires.live change.moves change.offered
-    change.within (c.is_fresh.ensures c.if-not-is_fresh.false) in
+    change.within (rw c.kept.ensures at c.is_fresh.ensures c.if-not-is_fresh.false) in
     if_ok_weaker _ (λ (o : Option Offender). o ≡ offender_of archs t.rows new.rows group) c.first_lost.result
     (λ o first. first tells told ∙ ap (λ n. first_told n tells) c.requires.live.count) c.first_lost.ensures.first
+
+pub is_fresh-requires : goal.is_fresh-requires
+is_fresh-requires c = rw c.kept.ensures c.requires.change.within

@@ -13,7 +13,7 @@ loop-place-init c = woken_none c.args.refusals.now
 
 pub loop-place-preserved : goal.loop-place-preserved
 loop-place-preserved c =
-    let pool = c.args.suites.now.rows in
+    let pool = c.args.pool.now in
     let places = c.args.coming.now in
     let i = c.loop-place.place-index in
     let below : i < length places = omega arith in
@@ -26,4 +26,4 @@ loop-place-preserved c =
 pub returns : goal.returns
 returns c =
     let over : length c.args.coming.now ≤ c.loop-place.place-index = omega arith in
-    subst (λ ks. AreWoken (rows_at c.args.suites.now.rows ks) c.args.refusals.now c.loop-place.refusals) (take_all c.loop-place.place-index c.args.coming.now over) c.loop-place.invariant
+    subst (λ ks. AreWoken (rows_at c.args.pool.now ks) c.args.refusals.now c.loop-place.refusals) (take_all c.loop-place.place-index c.args.coming.now over) c.loop-place.invariant

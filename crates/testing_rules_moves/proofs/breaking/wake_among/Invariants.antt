@@ -5,4 +5,4 @@ use Rattle.testing_rules_moves.proofs.breaking.wake_among.Given as goal
 
 -- those so far
 abbrev pub invariant-loop-place : goal.invariant-loop-place
-invariant-loop-place l = AreWoken (rows_at l.suites.rows (take l.place-index l.coming)) l.fn.refusals l.refusals
+invariant-loop-place l = AreWoken (rows_at l.pool (take l.place-index l.coming)) l.fn.refusals l.refusals

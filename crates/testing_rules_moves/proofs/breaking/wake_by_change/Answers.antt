@@ -1,10 +1,9 @@
-use Rattle.std.proofs.Common.{◌<◌, sym, subst, length, IfSome}
-use Rattle.std.specs.List.{All}
+use Rattle.std.proofs.Common.{subst, IfSome}
 use Rattle.testing_rules_live.specs.Held.{AreLive, IsPoolMove, IsChangeBy}
 use Rattle.testing_rules_suites.specs.AfterMoves.{rows_at}
 use Rattle.testing_rules_suites.specs.PresentSteps.{IsLive, present_rows}
 use Rattle.testing_rules_suites.specs.Tried.{IsWithin}
-use Rattle.testing_rules_moves.specs.Refusals.{AreWoken, IsWithinRows}
+use Rattle.testing_rules_moves.specs.Refusals.{IsWithinRows}
 use Rattle.testing_rules_moves.proofs.Lacking.{rows_came}
 use Rattle.testing_rules_moves.proofs.Remembering.{woken_all, woken_of_part}
 use Rattle.testing_rules_moves.proofs.breaking.wake_by_change.Goals as goal
@@ -15,7 +14,7 @@ wake_among-requires c =
     let change = c.in-Some.change in
     let of_rows = subst (λ o. IfSome o (IsWithinRows c.args.rows.now)) c.in-Some.is c.requires in
     let within : IsWithin s.rows change.leaving.items change.coming.items = subst (λ l. IsWithinRows l change) c.in-Pooled.is of_rows in
-    subst (λ ks. All (λ k. k < length s.rows) ks) (sym c.deref.ensures) within.coming_within
+    rw (c.pool.ensures, c.kept.ensures, c.deref.ensures) within.coming_within
 
 pub returns-in-Some : goal.returns-in-Some
 returns-in-Some c = λ archs sources unstable group live moves.
@@ -26,7 +25,7 @@ returns-in-Some c = λ archs sources unstable group live moves.
     let here : IsLive s archs unstable (present_rows s) = subst (λ l. AreLive l archs unstable) c.in-Pooled.is live in
     let of_rows = subst (λ o. IfSome o (IsChangeBy c.args.rows.now sources group)) c.in-Some.is moves in
     let is : IsPoolMove s sources group change = subst (λ l. IsChangeBy l sources group change) c.in-Pooled.is of_rows in
-    let woken = subst (λ ks. AreWoken (rows_at s.rows ks) old new) c.deref.ensures c.wake_among.ensures in
+    let woken = rw (c.pool.ensures, c.kept.ensures, c.deref.ensures) at c.wake_among.ensures in
     woken_of_part (rows_at s.rows change.coming.items) _ old new
     (rows_came s archs sources unstable group (present_rows s) here is.offered change.leaving.items change.coming.items is.moves) woken
 
