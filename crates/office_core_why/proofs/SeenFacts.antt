@@ -13,7 +13,6 @@ use Rattle.office_mail_setup.specs.Lists.{Lists}
 use Rattle.office_mail.specs.declared.message.RunOrder.{RunOrder}
 use Rattle.office_mail.specs.Runs.{cover, cover_of, orders_to}
 use Rattle.office_store_keeper.specs.Content.{Content}
-use Rattle.office_core_facts.specs.Outcome.{testing_after}
 use Rattle.office_core_facts.specs.Seen.{IsSeen}
 use Rattle.office_core_facts.specs.State.{IsOffice}
 use Rattle.office_core_why.specs.Hints.{hint_lines, hints_text}

@@ -11,7 +11,7 @@ use Rattle.office_mail.specs.Lists.{Lists}
 use Rattle.office_core.specs.Unbroken.{AreUnbroken}
 use Rattle.office_core_orders.specs.Ready.{HasNumbers, HasPlaces}
 use Rattle.office_core_queries.specs.declared.mail.MailCount.{MailCount}
-use Rattle.office_core_queries.specs.Mail.{letters_of, AreMailCounts, IsMailCount}
+use Rattle.office_core_queries.specs.Mail.{AreMailCounts, IsMailCount}
 use Rattle.office_http.specs.Serve.{unbroken_from, unbroken_of, mail_count, mail_counts}
 
 module _ (kept : Kept) (sender : ℕ) where

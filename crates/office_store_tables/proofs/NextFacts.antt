@@ -1,5 +1,5 @@
 -- What the statement on the least number of a sender shows, and what its row says.
-use Rattle.std.proofs.Common.{◌≡◌, ◌⊎◌, ◌≤◌, ◌<◌, inl, inr, ℕ, ℤ, pos, List, [], ◌∷◌, map, filter, filter_map, take, Bool, true, false, ◌&&◌, nat_eq, nat_le, nat_lt, is_some, None, Some, Option, Ok, Err, Result, IfOk, codes, refl, sym, ap, subst, ◌∙◌, arith}
+use Rattle.std.proofs.Common.{◌≡◌, ◌≤◌, ◌<◌, inl, inr, ℕ, ℤ, pos, List, [], ◌∷◌, map, filter, filter_map, take, Bool, true, false, ◌&&◌, nat_eq, nat_le, nat_lt, is_some, None, Some, Option, Ok, Err, Result, IfOk, codes, refl, sym, ap, subst, ◌∙◌, arith}
 use Rattle.std.proofs.lemmas.Bool.Decides.{nat_tests}
 use Rattle.std.proofs.lemmas.Cmp.{tied_itself}
 use Rattle.std.proofs.lemmas.List.Sorted.{searchable_from_sorted, IsPermutation-sym}

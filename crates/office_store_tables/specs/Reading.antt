@@ -1,6 +1,6 @@
 -- Steps: no contract of a call that users make rests on this file.
 -- What is found where the tables are read to see whether they are as an office writes them.
-use Rattle.std.specs.Prelude.{◌≡◌, ℕ, List, length, Option, Some, None, Ok}
+use Rattle.std.specs.Prelude.{◌≡◌, ℕ, List, Option, Some, None, Ok}
 use Rattle.std.specs.FinMap.{get, len}
 use Rattle.std.specs.Str.{IsUtf8}
 use Rattle.sqlite.specs.Order.{Row}

@@ -1,4 +1,4 @@
-use Rattle.std.proofs.Common.{ℕ, List, [], sym, subst}
+use Rattle.std.proofs.Common.{ℕ, List, sym, subst}
 use Rattle.office_core_outcome.specs.Settled.{IsSettled}
 use Rattle.office_core_outcome.proofs.ProposalFacts.{settled_none}
 use Rattle.office_core_outcome.proofs.settling.settle_none.Goals as goal

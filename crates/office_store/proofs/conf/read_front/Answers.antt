@@ -1,4 +1,3 @@
-use Rattle.std.proofs.Common.{rules, ◌≡◌}
 use Rattle.office_store.proofs.Front.{of_limited}
 use Rattle.office_store.proofs.conf.read_front.Goals as goal
 

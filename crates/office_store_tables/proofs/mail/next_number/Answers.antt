@@ -1,4 +1,3 @@
-use Rattle.std.proofs.Common.{◌≡◌, [], ◌∷◌}
 use Rattle.sqlite.specs.Held.{state}
 use Rattle.office_store_tables.proofs.NextFacts.{next_found, next_crowded}
 use Rattle.office_store_tables.proofs.mail.next_number.Goals as goal

@@ -1,11 +1,10 @@
-use Rattle.std.proofs.Common.{◌≡◌, ◌≤◌, length, ℕ, sym, ap, subst, ◌∙◌}
+use Rattle.std.proofs.Common.{◌≡◌, length, sym, ap, ◌∙◌}
 use Rattle.std.specs.Prelude.{◌↔◌, IsTrue}
 use Rattle.std.proofs.lemmas.Result.{IfOk-from_err, IfOk-weaker}
 use Rattle.sqlite.specs.Effect.{Database}
 use Rattle.sqlite.specs.Held.{state}
 use Rattle.office_store_testing_tables.specs.Legible.{AreReported}
 use Rattle.office_store_testing_tables.proofs.ReadingLemmas.{kept_read, then_read}
-use Rattle.office_store_tables.specs.Reading.{IsRecorded}
 use Rattle.office_store_tables.proofs.RunCounts.{reported_from, reported_each}
 use Rattle.office_store_tables.proofs.runs.are_reported.Goals as goal
 
