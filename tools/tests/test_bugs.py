@@ -181,6 +181,11 @@ class Bugs(unittest.TestCase):
         self.assertEqual(words, "office-bugs: bug 8 of chat: serious found in 2-1: left alone: its last message isn't "
                                 "of office-bugs; --take-over sends it\n")
         self.assertEqual(self.bugs("chat 8,5\n", "", "--take-over")[0][0], "bug 8 of chat: serious found in 2-1")
+        # The same of a number that this command made.
+        self.service.post("/mail", messages.bug(Label("bts", 6), 100000005, "chat", Severity.WISHLIST))
+        told, words, status = self.bugs("chat 8,5\n", "")
+        self.assertEqual((told, status), (["bugs 2, new 0, changed 0, closed 0"], 0))
+        self.assertIn("bug 5 of chat as 100000005: serious found in 2-1: left alone", words)
 
     def test_a_short_list(self):
         """A list that closes many bugs is refused, and so is an empty one: nothing is sent."""
