@@ -5,13 +5,12 @@ from typing import Sequence
 
 from office_tools import days, setups
 from office_tools.accounts import service_at
-from office_tools.adopt import command as adoption
 from office_tools.bags import framed
 from office_tools.faults import Fault
 from office_tools.files import write_whole
 from office_tools.from_britney.compare import compared, read_heidi, reason
 from office_tools.from_britney.folder import REFUSED, Folder
-from office_tools.from_britney.mailbag import adopted, news, office_of, read_suite
+from office_tools.from_britney.mailbag import MOST_SPARES, adopted, news, office_of, read_suite, setup_of, spares
 from office_tools.from_britney.told import NAME, take_over, tell
 
 URL = "http://127.0.0.1:8080"
@@ -29,8 +28,9 @@ def parser() -> argparse.ArgumentParser:
     bag.add_argument("--day", type=days.day, default=days.today(),
                      help="the day of the run, as 2025-03-20 (today by the system's clock, in UTC)")
     bag.add_argument("--after", metavar="BAG", help="all mail that the office keeps: only what is new is written")
-    bag.add_argument("--spare", type=adoption.spares, default=2, metavar="N",
-                     help="how many spare senders of builds come before bd in the setup (2)")
+    bag.add_argument("--spare", type=spares, default=MOST_SPARES, metavar="N",
+                     help=f"how many spare senders of builds come before bd in the setup: 0 to {MOST_SPARES} "
+                          f"({MOST_SPARES})")
     bag.add_argument("data", metavar="DATA", help="the data folder, which has testing and unstable")
     bag.add_argument("folder", metavar="FOLDER", help="where both files are written")
     compare = forms.add_parser("compare", help="prints each source on which the office and britney differ, with the "
@@ -49,7 +49,7 @@ def make(asked: argparse.Namespace) -> int:
     if strange:
         raise Fault(f"{asked.data}: unstable has {', '.join(strange)}, and testing hasn't", REFUSED)
     setup, bag = os.path.join(asked.folder, "setup.conf"), os.path.join(asked.folder, "bag")
-    text = setups.written(adoption.setup_of(testing.architectures, asked.spare))
+    text = setups.written(setup_of(testing.architectures, asked.spare))
     write_whole(setup, text)
     first: bytes = b""
     if asked.after is None:

@@ -19,10 +19,27 @@ from office_tools.from_packages import mail
 from office_tools.from_packages.binaries import Binary, fitting, read_binaries
 from office_tools.from_packages.sent import read_sent
 from office_tools.from_packages.sources import Arrival, read_sources
-from office_tools.messages import Kind, Urgency, kind_of
+from office_tools.messages import Kind, Role, Urgency, kind_of
+from office_tools.setups import Setup
 
 BUGS, HINTS = "bts", "rt"
+MOST_SPARES = 8  # of the 16 senders of a setup
 MOST_ARCHITECTURES = 16
+
+
+def spares(word: str) -> int:
+    """How many spare senders of builds there are, as a word of a command."""
+    found = int(word)
+    if not 0 <= found <= MOST_SPARES:
+        raise ValueError(word)
+    return found
+
+
+def setup_of(architectures: Sequence[str], count: int) -> Setup:
+    """The setup of an office for these architectures, with so many spare senders of builds, the last one first."""
+    senders: dict[str, Role] = {"ftp": Role.UPLOAD, "hand": Role.UPLOAD}
+    senders.update({f"again{number}": Role.BUILD for number in range(count, 0, -1)})
+    return Setup(architectures, senders | dict(mail.SENDERS))
 
 
 @dataclass(frozen=True)
