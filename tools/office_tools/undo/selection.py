@@ -90,11 +90,21 @@ def orders(letters: Sequence[Letter]) -> Mapping[int, Order]:
     for letter in sorted(letters, key=lambda letter: letter.label.number):
         if kind_of(letter.first) is Kind.RUN:
             before = dict(cover)
-            for item in filter(None, map(str.split, (letter.first.value("Covers") or "").split(","))):
-                cover[item[0]] = max(cover.get(item[0], 0), int(item[-1]))
-            day = datetime.date.fromisoformat(letter.first.value("Day") or "")
+            try:
+                cover.update(covered(letter.first.value("Covers") or "", before))
+                day = days.day(letter.first.value("Day") or "")
+            except ValueError as fault:
+                raise Fault(f"{letter.label.sender} {letter.label.number}: it is no order", REFUSED) from fault
             found[letter.label.number] = Order(day, before, dict(cover))
     return found
+
+
+def covered(value: str, before: Mapping[str, int]) -> Iterator[tuple[str, int]]:
+    """Up to which number a field `Covers` states each sender's mail, and at least what was covered before."""
+    for item in value.split(","):
+        words = item.split()
+        if words:
+            yield words[0], max(before.get(words[0], 0), int(words[-1]))
 
 
 def is_feeds(letter: Letter) -> bool:
