@@ -1,4 +1,4 @@
-"""office-tests: tells a running office which versions in unstable fail autopkgtests that testing passes."""
+"""office-tests: mails a running office a bug for each autopkgtest that a version in unstable fails."""
 import argparse
 import functools
 import sys
@@ -20,8 +20,8 @@ tell = functools.partial(faults.tell, NAME)
 def parser() -> argparse.ArgumentParser:
     """The command's words."""
     words = argparse.ArgumentParser(
-        prog=NAME, description="Tells a running office which versions in unstable fail autopkgtests that testing "
-                               "passes: each such test is a release-critical bug of the version until it passes.",
+        prog=NAME, description="Mails a running office a release-critical bug for each autopkgtest that testing passes and "
+                               "a version in unstable fails. If the test passes later, the bug is lifted.",
         epilog="Status 0: the office has all of it. 1: with --dry-run something would be sent. 2: the words are wrong. "
                "3: refused: a file can't be read, or the office refused a message. 4: no office answers.")
     words.add_argument("--url", default=URL, help=f"the service ({URL})")

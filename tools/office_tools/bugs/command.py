@@ -1,4 +1,4 @@
-"""office-bugs: tells a running office which release-critical bugs a bug tracker lists."""
+"""office-bugs: mails a running office the release-critical bugs that a bug tracker lists."""
 import argparse
 import functools
 import sys
@@ -24,7 +24,7 @@ tell = functools.partial(faults.tell, NAME)
 def parser() -> argparse.ArgumentParser:
     """The command's words."""
     words = argparse.ArgumentParser(
-        prog=NAME, description="Tells a running office which release-critical bugs are listed for unstable and for "
+        prog=NAME, description="Mails a running office the release-critical bugs that are listed for unstable and for "
                                "testing. A bug that is no longer listed is closed.",
         epilog="Status 0: the office has all of it. 1: with --dry-run something would be sent. 2: the words are wrong. "
                "3: refused: a list can't be read, or closes more bugs than allowed, or the office refused a message. "

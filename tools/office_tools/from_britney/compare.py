@@ -104,26 +104,37 @@ class Comparison:
 def compared(britney: Result, testing: reports.Testing, unstable: reports.Unstable) -> Comparison:
     """How both differ. Packages of architectures that the office hasn't aren't looked at."""
     office = office_result(testing)
-    sources_of = {row.package: row.source for row in (*unstable.rows, *testing.rows)}
-    architectures = {row.architecture for row in (*unstable.rows, *testing.rows)} | {ALL}
-    building = set(sources_of.values())
-    only: Mapping[str, tuple[list[Row], list[Row]]] = defaultdict(lambda: ([], []))
-    strange = []
-    for side, rows in enumerate((britney.rows - office.rows, office.rows - britney.rows)):
-        for row in rows:
-            source = sources_of.get(row.name)
-            if row.architecture in architectures and source is not None and not marks.is_made_up(source):
-                only[source][side].append(row)
-            elif row.architecture in architectures and not side:
-                strange.append(row)
-    idle = sorted(set(britney.sources) - building - set(office.sources))
-    found = []
-    for name in sorted((set(britney.sources) | set(office.sources)) - set(idle)):
-        left, right = britney.sources.get(name), office.sources.get(name)
-        is_same = left is not None and right is not None and versions.compare(left, right) == 0
-        if not is_same or any(only.get(name, ((), ()))):
-            found.append(Differing(name, left, left if is_same else right, *only.get(name, ([], []))))
-    return Comparison(len(set(britney.sources) | set(office.sources)), found, idle, sorted(strange))
+    rows = [*unstable.rows, *testing.rows]
+    sources_of = {row.package: row.source for row in rows}
+    architectures = {row.architecture for row in rows} | {ALL}
+    left, right = ([row for row in found if row.architecture in architectures]
+                   for found in (britney.rows - office.rows, office.rows - britney.rows))
+    strange = sorted(row for row in left if row.name not in sources_of)
+    idle = sorted(set(britney.sources) - set(sources_of.values()) - set(office.sources))
+    only = by_source(left, sources_of), by_source(right, sources_of)
+    names = sorted((set(britney.sources) | set(office.sources)) - set(idle))
+    found = [differing(name, britney.sources.get(name), office.sources.get(name), only) for name in names]
+    return Comparison(len(names) + len(idle), [entry for entry in found if entry is not None], idle, strange)
+
+
+def by_source(rows: Sequence[Row], sources_of: Mapping[str, str]) -> Mapping[str, Sequence[Row]]:
+    """The packages by their sources; those of a made-up source differ from nobody's."""
+    found: dict[str, list[Row]] = defaultdict(list)
+    for row in rows:
+        source = sources_of.get(row.name)
+        if source is not None and not marks.is_made_up(source):
+            found[source].append(row)
+    return found
+
+
+def differing(name: str, britney: Optional[str], office: Optional[str],
+              only: tuple[Mapping[str, Sequence[Row]], Mapping[str, Sequence[Row]]]) -> Optional[Differing]:
+    """How both differ on a source, if they do."""
+    is_same = britney is not None and office is not None and versions.compare(britney, office) == 0
+    left, right = only[0].get(name, ()), only[1].get(name, ())
+    if is_same and not left and not right:
+        return None
+    return Differing(name, britney, britney if is_same else office, left, right)
 
 
 def reason(service: Service, source: str) -> Sequence[str]:
