@@ -1,7 +1,8 @@
 """How a command of this package ends: its messages on standard error, and its exit status."""
 import os
 import sys
-from typing import Callable, NoReturn, Sequence
+from types import TracebackType
+from typing import Callable, NoReturn, Optional, Sequence
 
 Main = Callable[[Sequence[str]], int]
 
@@ -49,6 +50,17 @@ def run(name: str, main: Main) -> NoReturn:
         tell(name, cause_of(fault) if fault.filename is None else f"{fault.filename}: {cause_of(fault)}")
         status = 1
     sys.exit(status)
+
+
+def end_quietly(kind: type[BaseException], fault: BaseException, trace: Optional[TracebackType]) -> None:
+    """Prints a sentence in the place of a traceback if an interrupt comes before `run`, while modules are imported."""
+    if issubclass(kind, KeyboardInterrupt):
+        tell(os.path.basename(sys.argv[0]), "interrupted")
+    else:
+        sys.__excepthook__(kind, fault, trace)
+
+
+sys.excepthook = end_quietly
 
 
 def drop_output() -> None:

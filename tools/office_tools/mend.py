@@ -1,4 +1,4 @@
-"""office-mend: puts another text in the place of a message of a bag, named by its sender and its number."""
+"""office-mend: puts another text in the place of a message of a bag, or takes a slip of a feed back."""
 import argparse
 import sys
 from typing import Iterator, Sequence
@@ -7,8 +7,12 @@ from office_tools import bags
 from office_tools.faults import Fault
 from office_tools.files import read_bytes
 from office_tools.messages import Label, label_of
+from office_tools.undo import command as undo
+from office_tools.undo.selection import slip
 
 ABSENT, REFUSED = 1, 3
+USAGE = """office-mend SENDER NUMBER FILE < BAG > BAG
+       office-mend --undo SLIP [--undo SLIP ..] --conf SETUP --db STORE [--url URL] [--cache PATH ..] [--yes]"""
 
 
 def mended(bag: bytes, label: Label, text: bytes) -> Iterator[bytes]:
@@ -28,25 +32,40 @@ def mended(bag: bytes, label: Label, text: bytes) -> Iterator[bytes]:
 def parser() -> argparse.ArgumentParser:
     """The command's words."""
     words = argparse.ArgumentParser(
-        prog="office-mend",
-        description="Prints the bag on standard input with another text in the place of a message.",
-        epilog="Status 0: the bag was printed. 1: it has no such message. 2: the words are wrong. 3: it is no whole "
-               "bag, or the text is another message's. Where the status isn't 0, nothing is printed.")
-    words.add_argument("sender", metavar="SENDER", help="the sender of the message")
-    words.add_argument("number", metavar="NUMBER", type=int, help="its number")
-    words.add_argument("file", metavar="FILE",
-                       help="the text that takes its place: a message of the same sender and number")
+        prog="office-mend", usage=USAGE,
+        description="Prints the bag on standard input with another text in the place of a message. With --undo it "
+                    "makes an office without the drops and removal hints of a feed, prints how its runs and its "
+                    "testing differ, and puts its store in the place of the old one.",
+        epilog="Status 0: the bag was printed, or the stores were exchanged. 1: there is no such message, or nothing "
+               "was changed since nobody said so. 2: the words are wrong. 3: it is no whole bag, or the text is "
+               "another message's, or the office without it would not finish all runs. 4: the program office failed, "
+               "or the store is open.")
+    words.add_argument("message", metavar="SENDER NUMBER FILE", nargs="*",
+                       help="the sender of the message, its number, and the text that takes its place: a message of "
+                            "the same sender and number")
+    words.add_argument("--undo", metavar="SLIP", action="append", type=slip, default=[],
+                       help="take back the drops and removal hints that the run of this number was the first to see, "
+                            "or the runs of this day; or SENDER/N or SENDER/N-M: these messages; may be repeated")
+    undo.add_words(words)
     return words
 
 
 def main(words: Sequence[str]) -> int:
-    """Prints the mended bag."""
-    asked = parser().parse_args(words)
-    label = Label(asked.sender, asked.number)
-    text = read_bytes(asked.file)
+    """Prints the mended bag, or takes slips back."""
+    known = parser()
+    asked = known.parse_args(words)
+    if asked.undo:
+        if asked.message or not asked.conf or not asked.db:
+            known.error("--undo needs --conf and --db, and no other message")
+        return undo.main(asked)
+    if len(asked.message) != 3 or not asked.message[1].isascii() or not asked.message[1].isdigit():
+        known.error("name a message by SENDER NUMBER, and the FILE of its new text")
+    sender, number, path = asked.message
+    label = Label(sender, int(number))
+    text = read_bytes(path)
     stated = label_of(text)
     if stated != label:
         told = f"{stated.sender} {stated.number}" if stated else "no message"
-        raise Fault(f"{asked.file}: it is {told}, and not {label.sender} {label.number}", REFUSED)
+        raise Fault(f"{path}: it is {told}, and not {label.sender} {label.number}", REFUSED)
     sys.stdout.buffer.write(b"".join(map(bags.framed, mended(sys.stdin.buffer.read(), label, text))))
     return 0

@@ -9,14 +9,15 @@ import sys
 import tempfile
 from dataclasses import dataclass
 from pathlib import Path
-from typing import Optional, Sequence
+from typing import Sequence
 
 from office_tools import bags
 from office_tools.accounts import service_at
 from office_tools.faults import Fault, cause_of
-from office_tools.files import write_whole
+from office_tools.files import read_bytes, write_whole
 from office_tools.mailing import is_held, mailed
-from office_tools.messages import ParagraphFault, paragraphs
+from office_tools.messages import ParagraphFault, label_of, paragraphs
+from office_tools.openpgp import is_one_message
 from office_tools.service import UNANSWERED
 
 UNSIGNED, REFUSED = 1, 3
@@ -25,40 +26,60 @@ LONGEST = 1048576  # bytes of a signed message that are read
 
 @dataclass(frozen=True)
 class Opened:
-    """The sender whose key signed a message, and the text that was signed."""
+    """The senders whose keys signed a message, and the text that was signed."""
 
-    sender: str
+    senders: Sequence[str]
     text: bytes
+
+    @property
+    def sender(self) -> str:
+        """Whose message it is: of the sender that it states if that one signed it, else of the first who did."""
+        label = label_of(self.text)
+        return label.sender if label is not None and label.sender in self.senders else self.senders[0]
 
 
 def opened(signed: bytes, keys: Path) -> Opened:
-    """Who signed a message: a key of `keys` is named SENDER.gpg. If no key fits, a `Fault` tells what gpgv says."""
-    told: list[str] = []
+    """Who signed a message: the keys of a sender are in SENDER.gpg of `keys`. Each of its signatures has to be good.
+
+    If a key is unknown, a `Fault` says what gpgv says.
+    """
+    rings = [key.resolve() for key in sorted(keys.glob("*.gpg"))]
     with tempfile.TemporaryDirectory() as folder:
         letter = Path(folder, "signed")
         letter.write_bytes(signed)
-        for key in sorted(keys.glob("*.gpg")):
-            text = checked(letter, key.resolve(), told)
-            if text is not None:
-                return Opened(key.stem, text)
-    raise Fault("\n".join(["no key fits", *told]), UNSIGNED)
+        text = checked(letter, rings) if rings else None
+        senders = [ring.stem for ring in rings if text is not None and is_signed_by(letter, ring)]
+    if text is None or not senders:
+        raise Fault("no key fits", UNSIGNED)
+    if not is_one_message(signed):
+        raise Fault("it isn't one signed message alone: send each by itself", REFUSED)
+    return Opened(senders, text)
 
 
-def checked(letter: Path, key: Path, told: list[str]) -> Optional[bytes]:
-    """The text that a key signed, or None; then what gpgv says is told. A longer text than a message has is none."""
+def checked(letter: Path, rings: Sequence[Path]) -> bytes:
+    """The text that keys of these keyrings signed. A longer text than a message has is refused."""
     output = letter.with_name("text")
-    words = ["gpgv", "-q", "--keyring", str(key), "--output", str(output), str(letter)]
+    ran = gpgv([*(word for ring in rings for word in ("--keyring", str(ring))), "--output", str(output), str(letter)])
+    if ran.returncode == -signal.SIGXFSZ:
+        raise Fault(f"no key fits\nthe text has more than {bags.LONGEST} bytes", UNSIGNED)
+    if ran.returncode:
+        raise Fault(f"no key fits\n{ran.stderr.decode(errors='backslashreplace').strip()}", UNSIGNED)
+    return read_bytes(str(output))
+
+
+def is_signed_by(letter: Path, ring: Path) -> bool:
+    """Whether a key of a keyring made a good signature."""
+    told = gpgv(["--status-fd", "1", "--keyring", str(ring), str(letter)]).stdout
+    return any(line.startswith(b"[GNUPG:] GOODSIG ") for line in told.splitlines())
+
+
+def gpgv(words: Sequence[str]) -> "subprocess.CompletedProcess[bytes]":
+    """Runs gpgv with these words."""
     try:
-        ran = subprocess.run(words, capture_output=True, check=False, preexec_fn=limited)
-        text = output.read_bytes() if ran.returncode == 0 else None
+        return subprocess.run(["gpgv", "-q", *words], stdin=subprocess.DEVNULL, capture_output=True, check=False,
+                              preexec_fn=limited)
     except OSError as fault:
         raise Fault(f"gpgv: {cause_of(fault)}", UNANSWERED) from fault
-    if ran.returncode == -signal.SIGXFSZ:
-        told.append(f"{key.name}: the text has more than {bags.LONGEST} bytes")
-    elif text is None:
-        told.append(f"{key.name}: {ran.stderr.decode(errors='backslashreplace').strip()}")
-    output.unlink(missing_ok=True)
-    return text
 
 
 def limited() -> None:
@@ -82,9 +103,9 @@ def parser() -> argparse.ArgumentParser:
     words = argparse.ArgumentParser(
         prog="office-signed",
         description="Posts the signed message on standard input as the sender whose key signed it.",
-        epilog="Status 0: it is held. 1: no key fits. 2: the words are wrong. 3: it is for another office, or from "
-               "another sender than the key's, or the office refused it. 4: no office answers, or the signed message "
-               "couldn't be kept.")
+        epilog="Status 0: it is held. 1: no key fits. 2: the words are wrong. 3: it isn't one message alone, or it is "
+               "for another office, or from another sender than the key's, or the office refused it. 4: no office "
+               "answers, or the signed message couldn't be kept.")
     words.add_argument("keys", metavar="KEYS", type=Path,
                        help="the folder of the keyrings: SENDER.gpg has the keys of SENDER")
     words.add_argument("office", metavar="OFFICE",

@@ -29,6 +29,13 @@ class Ends(unittest.TestCase):
             found = ended(body)
             self.assertEqual((found.returncode, found.stderr), (status, told), body)
 
+    def test_early(self):
+        """An interrupt while a command's modules are imported is no traceback."""
+        text = f"import sys\nsys.path.insert(0, {TOOLS!r})\nsys.argv[0] = '/usr/bin/office-x'\n"
+        text += "from office_tools import faults\nraise KeyboardInterrupt"
+        found = subprocess.run([sys.executable, "-c", text], capture_output=True, text=True, check=False)
+        self.assertEqual((found.returncode, found.stderr), (-2, "office-x: interrupted\n"))
+
     def test_a_full_disk(self):
         with open("/dev/full", "wb") as full:
             found = subprocess.run(

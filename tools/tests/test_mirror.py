@@ -8,7 +8,7 @@ from helpers import Serving, example, needs_office, tool
 from office_tools import bags
 from office_tools.mirror import held
 from office_tools.mirror.held import Numbers
-from office_tools.mirror.turn import joined
+from office_tools.mirror.turn import Source, Turn, joined
 from office_tools.service import Service
 
 TEXTS = list(bags.messages_in(example("archive.bag")))
@@ -41,6 +41,22 @@ class Remembered(unittest.TestCase):
             known = {"ftp": numbers(1, 2, 5), "bd": numbers()}
             held.write(path, known)
             self.assertEqual(held.read(path), known)
+
+    def test_damaged_file(self):
+        """A damaged file is refused with a sentence."""
+        with tempfile.NamedTemporaryFile() as file:
+            for text in [b"", b"[", b"[]", b"7", b'{"ftp": 7}', b'{"ftp": [[1, Infinity]]}', b'{"ftp": [[1, 2.5]]}',
+                         b'{"ftp": [[2, 1]]}', b'{"ftp": [[1, 5], [3, 9]]}', b'{"ftp": [[0, 1]]}', b'{"ftp": [[1]]}',
+                         b'{"ftp": [[1, 9999999999]]}', b'{"ftp": [["1", "2"]]}', b'{"ftp": [[true, 2]]}', b"\xff",
+                         b'{"ftp": ' + b"[" * 100000]:
+                file.seek(0)
+                file.truncate()
+                file.write(text)
+                file.flush()
+                with self.assertRaises(held.Fault) as raised:
+                    held.read(file.name)
+                self.assertEqual((raised.exception.cause, raised.exception.status),
+                                 (f"{file.name}: it is damaged: remove it, and all mail is sent once more", 2), text)
 
 
 @needs_office
@@ -100,14 +116,31 @@ class Mirror(unittest.TestCase):
         none = b"From: bd\nNumber: %d\nKind: none\n"
         self.post(0, none % 1, none % 3, none % 9)
         self.assertEqual(self.turn("--state", self.state), ("office-mirror: B: sent 3\n", 0))
+        self.assertEqual(self.turn("--state", self.state), ("office-mirror: B: sent 0\n", 0))
         self.assertEqual(self.services[1].kept(), self.services[0].kept())
         self.post(0, none % 999999999)
-        self.assertEqual(self.turn("--state", self.state)[1], 0)
+        self.assertEqual(self.turn("--state", self.state), ("office-mirror: B: sent 1\n", 0))
         self.assertEqual(self.services[1].kept(), self.services[0].kept())
         self.post(0, none % 999999, none % 2)
         self.post(0, b"From: rt\nNumber: 1\nKind: none\n")
         self.assertEqual(self.turn("--state", self.state)[1], 0)
         self.assertEqual(self.services[1].kept(), self.services[0].kept())
+
+    def test_cut_off(self):
+        """What was held before a turn is ended by force isn't sent again."""
+        self.post(0, *(b"From: bd\nNumber: %d\nKind: none\n" % number for number in range(1, 251)))
+        path = held.place_of(self.state, self.one.url, self.other.url)
+        found = {}
+
+        def save():
+            held.write(path, found)
+            if found["bd"].has(200):
+                raise KeyboardInterrupt
+
+        with self.assertRaises(KeyboardInterrupt):
+            Turn(print, save).to_office(Source(self.services[0]), self.services[1], found)
+        self.assertEqual(held.read(path), {"clock": Numbers(), "ftp": Numbers(), "bd": numbers(*range(1, 201))})
+        self.assertEqual(self.turn("--state", self.state), ("office-mirror: B: sent 50\n", 0))
 
     def test_parts(self):
         """Mail of more than one part of a bag is brought whole."""

@@ -42,6 +42,9 @@ class Signed(unittest.TestCase):
     def sign(self, user, text, how="--sign"):
         return self.gpg("-u", f"{user}@example.org", how, given=text)
 
+    def armoured(self, user, text):
+        return self.gpg("-u", f"{user}@example.org", "--sign", "--armor", given=text)
+
     def post(self, serving, signed, office="trixie"):
         words = [os.path.join(TOOLS, "bin", "office-signed"), self.keys, office, serving.url]
         told = subprocess.run(words, input=signed, capture_output=True, check=False)
@@ -78,6 +81,43 @@ class Signed(unittest.TestCase):
                                   (b"X: y\nOffice: trixie\n\n" + TEXT, "refused MissingField From\n")]:
                 self.assertEqual(self.post(serving, self.sign("ftp", text)), (refusal, "", 3))
             self.assertEqual(Service(serving.url).kept()["ftp"].kept, 0)
+
+    def test_two_messages(self):
+        """Two messages in one input are refused in each form, and nothing is posted; each alone is held."""
+        texts = [TEXT, TEXT.replace(b"Number: 1", b"Number: 2")]
+        plain = [self.sign("ftp", text) for text in texts]
+        bare = [self.gpg("-u", "ftp@example.org", "--sign", "--compress-algo", "none", given=text) for text in texts]
+        zlib = [self.gpg("-u", "ftp@example.org", "--sign", "--compress-algo", "bzip2", given=text) for text in texts]
+        armoured = [self.armoured("ftp", text) for text in texts]
+        clear = [self.sign("ftp", text, "--clearsign") for text in texts]
+        both = self.gpg("--enarmor", given=plain[0] + plain[1]).replace(b"ARMORED FILE", b"MESSAGE")
+        due = ("", "office-signed: it isn't one signed message alone: send each by itself", 3)
+        with Serving() as serving:
+            for signed in [*map(b"".join, (plain, zlib, armoured, reversed(armoured))), both, armoured[0] + plain[1],
+                           plain[0] + armoured[1]]:
+                self.assertEqual(self.post(serving, signed), due, signed)
+            # gpgv refuses these itself, or the second one is no part of what it reads.
+            for signed in [b"".join(bare), bare[0] + plain[1], b"".join(clear), clear[0] + armoured[1]]:
+                self.assertIn(self.post(serving, signed), (due, ("", "office-signed: no key fits", 1)))
+            self.assertEqual(Service(serving.url).kept()["ftp"].kept, 0)
+            for signed in [plain[0], bare[0], zlib[0], armoured[0], b"Hello,\n\n" + armoured[0] + b"\n-- \nftp\n"]:
+                self.assertEqual(self.post(serving, signed), ("held ftp 1\n", "", 0))
+            self.assertEqual(self.post(serving, clear[1])[2], 0)
+
+    def test_two_signers(self):
+        """A text that two of the team signed is taken as the mail of the one who it states, if that one signed it."""
+        two = ("-u", "rt@example.org", "-u", "ftp@example.org")
+        other = TEXT.replace(b"ftp", b"bts")
+        with Serving() as serving:
+            for how in ("--sign", "--clearsign"):
+                signed = self.gpg(*two, how, given=TEXT)
+                self.assertEqual(self.post(serving, signed), ("held ftp 1\n", "", 0))
+            as_rt = self.gpg(*two, "--sign", given=TEXT.replace(b"ftp", b"rt"))
+            self.assertEqual(self.post(serving, as_rt), ("held rt 1\n", "", 0))
+            as_other = self.gpg(*two, "--sign", given=other)
+            self.assertEqual(self.post(serving, as_other), ("refused OtherSender\n", "", 3))
+            unknown = self.gpg(*two[:2], "-u", "other@example.org", "--sign", given=TEXT)
+            self.assertEqual(self.post(serving, unknown), ("", "office-signed: no key fits", 1))
 
 
 if __name__ == "__main__":

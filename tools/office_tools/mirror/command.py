@@ -29,14 +29,15 @@ def parser() -> argparse.ArgumentParser:
 
 def turn(source: Service, target: str, state: Optional[str], is_all: bool) -> Status:
     """Brings all mail to one office, or into the bag, and tells how much was sent."""
-    done = Turn(lambda what: tell(NAME, what))
     if target == BAG:
+        done = Turn(lambda what: tell(NAME, what))
         done.to_bag(Source(source), sys.stdout.buffer)
         tell(NAME, f"{done.sent} messages in the bag")
         return done.status
     other = service_at(target)
     path = memory.place_of(state, source.url, other.url) if state else None
     held = memory.read(path) if path and not is_all else {}
+    done = Turn(lambda what: tell(NAME, what), lambda: memory.write(path, held) if path else None)
     try:
         done.to_office(Source(source), other, held)
     finally:

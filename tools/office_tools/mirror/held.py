@@ -3,9 +3,11 @@ import json
 import os
 import urllib.parse
 from dataclasses import dataclass, field
+from typing import Any
 
 from office_tools.faults import Fault, cause_of
 from office_tools.files import write_whole
+from office_tools.letters import GREATEST
 
 
 @dataclass
@@ -31,6 +33,10 @@ class Numbers:
         """Those up to a number."""
         return Numbers([(first, min(end, last)) for first, end in self.ranges if first <= last])
 
+    def behind(self, number: int) -> int:
+        """How many there are that are greater than a number."""
+        return sum(last - max(first, number + 1) + 1 for first, last in self.ranges if last > number)
+
     def next_missing(self, first: int) -> int:
         """The least number from this one on that isn't there."""
         return next((end + 1 for start, end in self.ranges if start <= first <= end), first)
@@ -50,12 +56,27 @@ def read(path: str) -> Held:
     try:
         with open(path, encoding="utf-8") as file:
             told = json.load(file)
-        return {str(sender): Numbers([(int(first), int(last)) for first, last in ranges])
-                for sender, ranges in told.items()}
+        if not isinstance(told, dict):
+            raise ValueError("it is damaged")
+        return {str(sender): numbers_of(ranges) for sender, ranges in told.items()}
     except FileNotFoundError:
         return {}
-    except (OSError, ValueError, TypeError, AttributeError) as fault:
-        raise Fault(f"{path}: {cause_of(fault)}: remove it, and all mail is sent once more", 2) from fault
+    except (OSError, ValueError, RecursionError) as fault:
+        cause = cause_of(fault) if isinstance(fault, OSError) else "it is damaged"
+        raise Fault(f"{path}: {cause}: remove it, and all mail is sent once more", 2) from fault
+
+
+def numbers_of(ranges: Any) -> Numbers:
+    """The numbers that ranges in a file state. What isn't a list of ranges in order is a `ValueError`."""
+    found = Numbers()
+    last = 0
+    for part in ranges if isinstance(ranges, list) else [None]:
+        is_range = isinstance(part, list) and len(part) == 2 and all(type(number) is int for number in part)
+        if not is_range or not last < part[0] <= part[1] <= GREATEST:
+            raise ValueError(part)
+        found.ranges.append((part[0], part[1]))
+        last = part[1]
+    return found
 
 
 def write(path: str, held: Held) -> None:

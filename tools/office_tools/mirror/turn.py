@@ -10,7 +10,9 @@ from office_tools.mailing import is_held, mailed
 from office_tools.messages import Label
 from office_tools.mirror.held import Held, Numbers
 from office_tools.senders import runs_sender
-from office_tools.service import Service
+from office_tools.service import Kept, Service
+
+SAVED_EACH = 100  # messages after which it is remembered what is held
 
 
 class Status(enum.IntEnum):
@@ -43,6 +45,7 @@ class Turn:
     """What a turn brought: how many messages, and the worst that came of it."""
 
     tell: Callable[[str], None]
+    save: Callable[[], None] = lambda: None
     sent: int = 0
     status: Status = Status.HELD
 
@@ -56,15 +59,21 @@ class Turn:
         if list(theirs) != source.senders:
             raise Fault(f"{target.url}: it has other senders than {source.service.url}", Status.REFUSED)
         for sender in source.in_turn():
-            before = held.get(sender, Numbers()).upto(theirs[sender].unbroken)
-            now = Numbers()
-            held[sender] = before
-            try:
-                for label, text in letters(source.service, sender, done=before):
-                    if self.post(source, target, label, text):
-                        now.add(label.number)
-            finally:
-                held[sender] = joined(before, now)
+            before = still_held(held.get(sender, Numbers()), theirs[sender])
+            self.sender_to_office(source, target, held, sender, before)
+
+    def sender_to_office(self, source: Source, target: Service, held: Held, sender: str, before: Numbers) -> None:
+        """Posts what the other office doesn't hold of a sender. What it holds is saved each few messages."""
+        now = Numbers()
+        try:
+            for label, text in letters(source.service, sender, done=before):
+                if self.post(source, target, label, text):
+                    now.add(label.number)
+                if self.sent % SAVED_EACH == 0:
+                    held[sender] = joined(before, now)
+                    self.save()
+        finally:
+            held[sender] = joined(before, now)
 
     def post(self, source: Source, target: Service, label: Label, text: bytes) -> bool:
         """Posts one message: whether the other office holds it. If it doesn't, that is told."""
@@ -85,6 +94,15 @@ class Turn:
                 output.write(bags.framed(text))
                 self.sent += 1
         output.flush()
+
+
+def still_held(remembered: Numbers, kept: Kept) -> Numbers:
+    """What is remembered of an office that holds this much of a sender: less, if it was set back.
+
+    Behind a gap nothing shows which messages it holds, but how many.
+    """
+    is_set_back = remembered.behind(kept.unbroken) > kept.kept - kept.unbroken
+    return remembered.upto(kept.unbroken) if is_set_back else remembered
 
 
 def joined(before: Numbers, now: Numbers) -> Numbers:

@@ -1,0 +1,81 @@
+"""office-bugs: mails a running office the release-critical bugs that a bug tracker lists."""
+import argparse
+import functools
+import sys
+from typing import Sequence
+
+from office_tools import faults
+from office_tools.accounts import service_at
+from office_tools.bags import framed
+from office_tools.bugs.changes import LISTED, Change, Lists, changes, read_pairs
+from office_tools.bugs.kept import REFUSED, Book, read_book, send
+from office_tools.bugs.lists import names_of, read_list
+from office_tools.faults import Fault
+
+NAME = "office-bugs"
+URL = "http://127.0.0.1:8080"
+MOST_CLOSED, SHARE = 20, 10
+"""More than so many bugs, and more than one in so many of the open ones, aren't closed unasked."""
+SHOWN = 10  # names that are printed
+
+tell = functools.partial(faults.tell, NAME)
+
+
+def parser() -> argparse.ArgumentParser:
+    """The command's words."""
+    words = argparse.ArgumentParser(
+        prog=NAME, description="Mails a running office the release-critical bugs that are listed for unstable and for "
+                               "testing. A bug that is no longer listed is closed.",
+        epilog="Status 0: the office has all of it. 1: with --dry-run something would be sent. 2: the words are wrong. "
+               "3: refused: a list can't be read, or closes more bugs than allowed, or the office refused a message. "
+               "4: no office answers.")
+    words.add_argument("--url", default=URL, help=f"the service ({URL})")
+    words.add_argument("--dry-run", action="store_true", help="print what would be sent, as a bag, and send nothing")
+    words.add_argument("--close", type=int, default=0, metavar="N", help="close up to N bugs, whatever share this is")
+    words.add_argument("--take-over", action="store_true",
+                       help="also change bugs whose last message another sender's tool or a person wrote")
+    words.add_argument("unstable", metavar="UNSTABLE", help="the list of unstable: lines NAME BUG[,BUG..]")
+    words.add_argument("testing", metavar="TESTING", help="the list of testing")
+    return words
+
+
+def check(found: Sequence[Change], book: Book, lists: Lists, allowed: int) -> None:
+    """Refuses to close more bugs than a tracker closes in a day: such a list is most likely not whole."""
+    is_open = sum(bug.is_critical and book.is_own(number) for number, bug in book.bugs.items())
+    closing = sum(change.is_closing for change in found)
+    is_much = closing > MOST_CLOSED and closing * SHARE > is_open or not lists.pairs
+    if closing > allowed and is_much:
+        raise Fault(f"{closing} of {is_open} open bugs are in no list any more: --close {closing} closes them", REFUSED)
+
+
+def main(words: Sequence[str]) -> int:
+    """Sends what changed."""
+    asked = parser().parse_args(words)
+    unstable, testing = read_list(asked.unstable), read_list(asked.testing)
+    service = service_at(asked.url)
+    book = read_book(service, LISTED)
+    names = names_of(service.unstable()), names_of(service.testing())
+    lists = read_pairs(unstable, testing, names)
+    found = list(changes(lists, book, names))
+    others = [change for change in found if change.before is not None and not book.is_own(change.number)
+              and not asked.take_over]
+    for change in others:
+        tell(f"{change.line()}: left alone: its last message isn't of {NAME}; --take-over sends it")
+    found = [change for change in found if change not in others]
+    if lists.unknown:
+        more = f" and {len(lists.unknown) - SHOWN} more" if len(lists.unknown) > SHOWN else ""
+        tell(f"no source or package of the office: {', '.join(lists.unknown[:SHOWN])}{more}")
+    check(found, book, lists, asked.close)
+    texts = [change.text(book.label(place)) for place, change in enumerate(found)]
+    summary = f"bugs {len(lists.pairs)}, new {sum(change.before is None for change in found)}, " \
+              f"changed {sum(change.before is not None and not change.is_closing for change in found)}, " \
+              f"closed {sum(change.is_closing for change in found)}"
+    if asked.dry_run:
+        sys.stdout.buffer.write(b"".join(map(framed, texts)))
+        tell(summary)
+        return int(bool(texts))
+    send(service, texts)
+    for change in found:
+        print(change.line())
+    print(summary)
+    return 0

@@ -1,0 +1,150 @@
+"""Where britney and the office decide otherwise: the sources on which a HeidiResult and the office's testing differ."""
+from collections import defaultdict
+from dataclasses import dataclass, field
+from typing import Iterator, Mapping, NamedTuple, Optional, Sequence
+
+from office_tools import reports, versions
+from office_tools.apply import marks
+from office_tools.faults import Fault
+from office_tools.from_britney.folder import REFUSED, text_of
+from office_tools.service import Service
+
+SOURCE = "source"
+ALL = "all"
+MOST_LINES = 20  # lines of a reason that are printed
+
+
+class Row(NamedTuple):
+    """A binary package in testing."""
+
+    architecture: str
+    name: str
+    version: str
+
+
+@dataclass
+class Result:
+    """What a testing has: each source's version, and the packages."""
+
+    sources: dict[str, str] = field(default_factory=dict)
+    rows: set[Row] = field(default_factory=set)
+
+
+def read_heidi(path: str) -> Result:
+    """What a file HeidiResult has, whose lines are `NAME VERSION ARCHITECTURE`, maybe with the section behind."""
+    found = Result()
+    for number, line in enumerate(text_of(path).split("\n"), 1):
+        words = line.split()
+        if len(words) in (3, 4):
+            name, version, architecture = words[:3]
+            if not versions.is_version(version):
+                raise Fault(f"{path}:{number}: {version[:40]!r} is no version", REFUSED)
+            if architecture == SOURCE:
+                found.sources[name] = version
+            else:
+                found.rows.add(Row(architecture, name, version))
+        elif words:
+            raise Fault(f"{path}:{number}: it isn't NAME VERSION ARCHITECTURE: {line[:60]!r}", REFUSED)
+    if not found.sources:
+        raise Fault(f"{path}: it has no source", REFUSED)
+    return found
+
+
+def office_result(testing: reports.Testing) -> Result:
+    """What the office's testing has, by the names and versions that the archive has."""
+    found = Result()
+    for name, version in testing.sources.items():
+        if not marks.is_made_up(name):
+            found.sources[name] = marks.source_version(version)
+    for row in testing.rows:
+        found.rows.add(Row(row.architecture, row.package, marks.package_version(row.version)))
+    return found
+
+
+@dataclass(frozen=True)
+class Differing:
+    """A source on which both differ: its version in each, if it is there, and the packages that one alone has."""
+
+    source: str
+    britney: Optional[str]
+    office: Optional[str]
+    only_britney: Sequence[Row]
+    only_office: Sequence[Row]
+
+    @property
+    def is_ahead(self) -> bool:
+        """Whether britney has a newer version, or has the source alone."""
+        if self.britney is None or self.office is None:
+            return self.office is None
+        return versions.compare(self.britney, self.office) > 0
+
+    @property
+    def is_rows_alone(self) -> bool:
+        """Whether both have the same version, and other packages of it."""
+        return self.britney == self.office
+
+    def lines(self) -> Iterator[str]:
+        """What is printed of it: packages too where the version is the same."""
+        yield f"{self.source}: britney {self.britney or '-'}, office {self.office or '-'}"
+        if self.is_rows_alone:
+            for word, rows in (("britney", self.only_britney), ("office", self.only_office)):
+                yield from (f" {word} alone: binary {' '.join(row)}" for row in sorted(rows))
+
+
+@dataclass(frozen=True)
+class Comparison:
+    """The sources that differ, those that build nothing on the office's architectures, and britney's other packages."""
+
+    total: int
+    differing: Sequence[Differing]
+    idle: Sequence[str]
+    strange: Sequence[Row]
+
+
+def compared(britney: Result, testing: reports.Testing, unstable: reports.Unstable) -> Comparison:
+    """How both differ. Packages of architectures that the office hasn't aren't looked at."""
+    office = office_result(testing)
+    rows = [*unstable.rows, *testing.rows]
+    sources_of = {row.package: row.source for row in rows}
+    architectures = {row.architecture for row in rows} | {ALL}
+    left, right = ([row for row in found if row.architecture in architectures]
+                   for found in (britney.rows - office.rows, office.rows - britney.rows))
+    strange = sorted(row for row in left if row.name not in sources_of)
+    idle = sorted(set(britney.sources) - set(sources_of.values()) - set(office.sources))
+    only = by_source(left, sources_of), by_source(right, sources_of)
+    names = sorted((set(britney.sources) | set(office.sources)) - set(idle))
+    found = [differing(name, britney.sources.get(name), office.sources.get(name), only) for name in names]
+    return Comparison(len(names) + len(idle), [entry for entry in found if entry is not None], idle, strange)
+
+
+def by_source(rows: Sequence[Row], sources_of: Mapping[str, str]) -> Mapping[str, Sequence[Row]]:
+    """The packages by their sources; those of a made-up source differ from nobody's."""
+    found: dict[str, list[Row]] = defaultdict(list)
+    for row in rows:
+        source = sources_of.get(row.name)
+        if source is not None and not marks.is_made_up(source):
+            found[source].append(row)
+    return found
+
+
+def differing(name: str, britney: Optional[str], office: Optional[str],
+              only: tuple[Mapping[str, Sequence[Row]], Mapping[str, Sequence[Row]]]) -> Optional[Differing]:
+    """How both differ on a source, if they do."""
+    is_same = britney is not None and office is not None and versions.compare(britney, office) == 0
+    left, right = only[0].get(name, ()), only[1].get(name, ())
+    if is_same and not left and not right:
+        return None
+    return Differing(name, britney, britney if is_same else office, left, right)
+
+
+def reason(service: Service, source: str) -> Sequence[str]:
+    """Why the office has a source as it has it: the lines that it answers, each behind a space."""
+    path = f"/why/{source}"
+    reply = service.get(path)
+    if reply.text in ("refused NoSource", "refused NoRoute", "refused NoRun"):
+        return [" the office's last run saw no such source in unstable"]
+    if not reply.is_good:
+        raise service.bad(path, reply)
+    lines = reply.text.split("\n")[1:]
+    more = [f" and {len(lines) - MOST_LINES} more lines"] if len(lines) > MOST_LINES else []
+    return [f" {line.lstrip(' ')}" for line in lines[:MOST_LINES]] + more

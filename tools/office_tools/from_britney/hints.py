@@ -1,0 +1,140 @@
+"""The hints of britney's files, as the office has them."""
+import functools
+import os
+from dataclasses import dataclass
+from typing import Callable, Iterator, Mapping, Sequence
+
+from office_tools import messages, relations, versions
+from office_tools.from_britney.folder import text_of
+from office_tools.from_britney.told import tell
+from office_tools.messages import Kind, Label, Paragraph, kind_of
+
+BRITNEY = "Britney"
+"""A field that the office doesn't read: the file that a hint is in. It marks the hints of this command."""
+GONE = "Gone"
+"""The mark of a hint for a source that is gone from unstable, as office-feed has it."""
+MOST_AGE = 9999
+SENDER = "rt"
+
+ITEMS: Mapping[str, str] = {
+    "unblock": "unblock", "approve": "unblock", "easy": "easy", "hint": "easy", "remove": "remove",
+    "urgent": "age-days 0"}
+"""Hints of items, and what the office has in their place."""
+
+
+Letters = Mapping[Label, Paragraph]
+"""The first paragraph of each message."""
+
+
+class LeftOut(Exception):
+    """A hint that the office has nothing for, and why."""
+
+
+@dataclass(frozen=True)
+class Wish:
+    """A hint in the office's words, and the file that it is in."""
+
+    hint: str
+    file: str
+
+    def text(self, label: Label) -> bytes:
+        """The message."""
+        return messages.hint(label, self.hint) + messages.composed([(BRITNEY, self.file)])
+
+
+def wishes(paths: Sequence[str]) -> Iterator[Wish]:
+    """The hints of these files, each once. What the office hasn't is reported and skipped."""
+    seen: set[str] = set()
+    for path in paths:
+        name = os.path.basename(path).encode("ascii", "backslashreplace").decode()
+        for number, line in enumerate(text_of(path).split("\n"), 1):
+            words = line.split("#", 1)[0].split()
+            if words[:1] == ["finished"]:
+                break
+            try:
+                hint = converted(words) if words else None
+            except LeftOut as cause:
+                tell(f"{path}:{number}: left out: {cause}: {' '.join(words)[:60]!r}")
+                continue
+            if hint is not None and hint not in seen:
+                seen.add(hint)
+                yield Wish(hint, name)
+
+
+def converted(words: Sequence[str]) -> str:
+    """A hint in the office's words."""
+    kind, *others = words
+    if kind == "block-all" and others == ["source"]:
+        return "block-all source"
+    if not others:
+        raise LeftOut("it names nothing")
+    if kind == "block":
+        if not all(relations.NAME.fullmatch(name) for name in others):
+            raise LeftOut("it isn't block NAME ..")
+        return " ".join(words)
+    if kind == "age-days":
+        if not others[0].isascii() or not others[0].isdigit() or int(others[0][:9]) > MOST_AGE or not others[1:]:
+            raise LeftOut("it isn't age-days N NAME/VERSION ..")
+        return " ".join([kind, str(int(others[0])), *checked(others[1:])])
+    if kind not in ITEMS:
+        raise LeftOut("the office has no such hint")
+    items = checked(others)
+    if ITEMS[kind] == "easy" and len({item.split("/")[0] for item in items}) < len(items):
+        raise LeftOut("a source stands twice")
+    return " ".join([ITEMS[kind], *items])
+
+
+def checked(items: Sequence[str]) -> Sequence[str]:
+    """The items, each a source and a version."""
+    for item in items:
+        name, _, version = item.partition("/")
+        if not relations.NAME.fullmatch(name) or not versions.is_version(version):
+            raise LeftOut(f"{item[:40]!r} isn't NAME/VERSION of a source")
+    return items
+
+
+@dataclass(frozen=True)
+class Standing:
+    """A hint of this command that stands: its number, and its words."""
+
+    number: int
+    hint: str
+
+
+def standing(letters: Letters) -> Sequence[Standing]:
+    """The hints of this command that no message takes back."""
+    mine = {label.number: first for label, first in letters.items() if label.sender == SENDER}
+    cancelled = {first.value("Cancels") for first in mine.values() if kind_of(first) is Kind.UNHINT}
+    return [Standing(number, first.value("Hint") or "") for number, first in sorted(mine.items())
+            if kind_of(first) is Kind.HINT and str(number) not in cancelled
+            and (first.value(BRITNEY) is not None or first.value(GONE) is not None)]
+
+
+def removal(label: Label, source: str, version: str) -> bytes:
+    """The hint for a source that is gone from unstable, which britney takes out of testing without one."""
+    return messages.hint(label, f"remove {source}/{version}") + messages.composed([(GONE, f"{source} {version}")])
+
+
+def changes(found: Sequence[Wish], gone: Mapping[str, str], stand: Sequence[Standing], last: int) -> Sequence[bytes]:
+    """The messages by which just these hints stand, those for sources that are gone too; `last` is the last number."""
+    have = {entry.hint for entry in stand}
+    want = {wish.hint for wish in found}
+    new: list[Callable[[Label], bytes]] = [wish.text for wish in found if wish.hint not in have]
+    for name, version in sorted(gone.items()):
+        hint = f"remove {name}/{version}"
+        if hint not in have | want:
+            new.append(functools.partial(removal, source=name, version=version))
+        want.add(hint)
+    new += [functools.partial(messages.unhint, cancels=entry.number) for entry in stand if entry.hint not in want]
+    return [text(Label(SENDER, number)) for number, text in enumerate(new, last + 1)]
+
+
+def firsts(texts: Sequence[bytes]) -> Letters:
+    """The first paragraph of each message."""
+    found: dict[Label, Paragraph] = {}
+    for text in texts:
+        first = next(messages.paragraphs(text), None)
+        label = messages.label_of_first(first) if first else None
+        if first is not None and label is not None:
+            found[label] = first
+    return found
