@@ -7,7 +7,7 @@ import socket
 import subprocess
 import sys
 from dataclasses import dataclass
-from typing import Iterator, Mapping, Optional, Protocol, Sequence
+from typing import Callable, Iterator, Mapping, Optional, Protocol, Sequence
 
 HERE = os.path.dirname(os.path.realpath(__file__))
 TOP = os.path.dirname(os.path.dirname(HERE))
@@ -102,6 +102,7 @@ class Archive(Protocol):
 
     base: str
     has_versions: bool
+    place: str
 
     def incoming(self, upload: Upload, built: str) -> None:
         """Takes an upload into unstable."""
@@ -111,6 +112,21 @@ class Archive(Protocol):
 
     def drop_package(self, package: str, architecture: Optional[str] = None) -> None:
         """Takes a binary package out of unstable."""
+
+    def withdraw(self, source: str, version: str) -> None:
+        """Takes a version of a source out of unstable, which has testing's again."""
+
+    def slip(self, prefix: str) -> None:
+        """Takes all packages out of unstable whose names begin so."""
+
+    def add(self, *paths: str) -> None:
+        """Takes binary packages into unstable without their source."""
+
+    def export(self) -> None:
+        """Publishes once more what the next order sees, as a person does."""
+
+    def ordered(self) -> str:
+        """The published folder of what the next order sees."""
 
     def ready(self) -> str:
         """Publishes unstable, and gives a line of a sources.list for what the next order sees."""
@@ -129,6 +145,7 @@ class Reprepro:
     """An archive of reprepro, with the suite `ordered` between both: unstable as the last order saw it."""
 
     has_versions = False
+    place = "archive"
 
     def __init__(self, folder: str) -> None:
         self.base = os.path.join(folder, "archive")
@@ -166,6 +183,27 @@ class Reprepro:
         where = ["-A", architecture] if architecture else []
         self.reprepro("-T", "deb", *where, "remove", "unstable", package)
 
+    def withdraw(self, source: str, version: str) -> None:
+        """Takes a version of a source out of unstable, which has testing's again."""
+        self.reprepro("removesrc", "unstable", source, version)
+        self.reprepro("copysrc", "unstable", "testing", source)
+
+    def slip(self, prefix: str) -> None:
+        """Takes all packages out of unstable whose names begin so."""
+        self.reprepro("removefilter", "unstable", f"Package (% {prefix}*)")
+
+    def add(self, *paths: str) -> None:
+        """Takes binary packages into unstable without their source."""
+        self.reprepro("includedeb", "unstable", *paths)
+
+    def export(self) -> None:
+        """Publishes once more what the next order sees, as a person does."""
+        self.reprepro("export", "ordered")
+
+    def ordered(self) -> str:
+        """The published folder of what the next order sees."""
+        return self.published("ordered")
+
     def ready(self) -> str:
         """The suite `ordered` becomes what unstable is."""
         self.reprepro("pull", "ordered")
@@ -188,6 +226,7 @@ class Aptly:
     """An archive of aptly: repositories unstable, which keeps all versions, and testing."""
 
     has_versions = True
+    place = "aptly"
 
     def __init__(self, folder: str) -> None:
         self.base = os.path.join(folder, "aptly/public")
@@ -217,6 +256,27 @@ class Aptly:
         """Takes a binary package out of unstable."""
         where = f", $Architecture ({architecture})" if architecture else ", !$PackageType (source)"
         self.aptly("repo", "remove", "unstable", f"Name ({package}){where}")
+
+    def withdraw(self, source: str, version: str) -> None:
+        """Takes a version of a source out of unstable, which still has the one before it."""
+        self.aptly("repo", "remove", "unstable", f"$Source ({source}), $SourceVersion (= {version}) | "
+                                                 f"Name ({source}), $PackageType (source), $Version (= {version})")
+
+    def slip(self, prefix: str) -> None:
+        """Takes all packages out of unstable whose names begin so."""
+        self.aptly("repo", "remove", "unstable", f"Name (% {prefix}*)")
+
+    def add(self, *paths: str) -> None:
+        """Takes binary packages into unstable without their source."""
+        self.aptly("repo", "add", "unstable", *paths)
+
+    def export(self) -> None:
+        """Publishes once more what the next order sees, as a person does."""
+        self.ready()
+
+    def ordered(self) -> str:
+        """The published folder of what the next order sees."""
+        return self.published("unstable")
 
     def ready(self) -> str:
         """Publishes unstable."""
@@ -248,13 +308,14 @@ class Stage:
     built: str
     line: str = ""
     url: str = ""
+    maker: Callable[[Upload, str], str] = build
 
     def takes(self, uploads: Sequence[Upload]) -> None:
         """Uploads come to unstable, and their files .changes are kept."""
         changes = os.path.join(self.folder, "changes")
         os.makedirs(changes, exist_ok=True)
         for upload in uploads:
-            built = build(upload, self.built)
+            built = self.maker(upload, self.built)
             self.archive.incoming(upload, built)
             for name in os.listdir(built):
                 if name.endswith(".changes") and not os.path.lexists(os.path.join(changes, name)):
