@@ -4,7 +4,8 @@
 Usage: month.py OFFICE [--all] [--seed N] [--days N] [--manager reprepro|aptly] [--quiet] [--fault NAME]..
 
 Without further words it lives a short month of eight days. `--all` lives three of thirty days with reprepro, and one
-with aptly. With `--quiet` no fault is made, with `--fault` this one alone, on the second day (troubles.py has all). Each day has a line, and each month in the end
+with aptly. With `--quiet` no fault is made, with `--fault` this one alone (of troubles.py), on the second day, and
+little else happens. Each day has a line, and each month in the end
 `month SEED: N days, M faults, P problems`. The exit status is 1 if there is a problem.
 """
 import argparse
@@ -66,14 +67,14 @@ def is_skipped(running: list[Steps]) -> bool:
     return any(step == SKIP for _, step in found)
 
 
-def month_of(program: str, seed: int, manager: str, days: int, begins: Mapping[int, Sequence[Trouble]]) -> bool:
+def month_of(program: str, world: World, manager: str, days: int, begins: Mapping[int, Sequence[Trouble]]) -> bool:
     """Lives a month in a folder of its own, and says whether there was no problem."""
     folder = tempfile.mkdtemp(prefix="month-")
     is_mounted = os.getuid() == 0 and subprocess.run(["mount", "-t", "tmpfs", "-o", f"size={ROOM}", "tmpfs", folder],
                                                      capture_output=True, check=False).returncode == 0
     month = None
     try:
-        month = begun(program, folder, manager, World(seed, 1 if days <= 2 * SHORT else 2))
+        month = begun(program, folder, manager, world)
         month.has_disk = is_mounted
         live(month, days, begins)
     finally:
@@ -82,7 +83,7 @@ def month_of(program: str, seed: int, manager: str, days: int, begins: Mapping[i
         if is_mounted:
             subprocess.run(["umount", "-l", folder], check=False)
         shutil.rmtree(folder, ignore_errors=True)
-    print(f"month {seed}: {days} days, {month.faults} faults, {len(month.problems)} problems", flush=True)
+    print(f"month {world.seed}: {days} days, {month.faults} faults, {len(month.problems)} problems", flush=True)
     return not month.problems
 
 
@@ -99,9 +100,11 @@ def main(words: Sequence[str]) -> int:
     asked = known.parse_args(words)
     program = os.path.abspath(asked.office)
     if asked.all:
-        return int(not all([month_of(program, seed, manager, LONG, troubles.USUAL) for seed, manager in SEEDS]))
+        return int(not all([month_of(program, World(seed, 2), manager, LONG, troubles.USUAL)
+                            for seed, manager in SEEDS]))
     begins = {} if asked.quiet else plan(asked.days, asked.fault)
-    return int(not month_of(program, asked.seed, asked.manager, asked.days, begins))
+    world = World(asked.seed, 1, (0, 1) if asked.fault else (2, 4))
+    return int(not month_of(program, world, asked.manager, asked.days, begins))
 
 
 if __name__ == "__main__":

@@ -1,21 +1,19 @@
 """The faults of a month: each begins on a morning, and goes on behind each `yield` on the next one.
 
 Behind a `yield` the day's command is run as on any other day, and testing is looked at: so what was done wrong has to be
-right again by that command alone, or by what a person does here, whom a sentence told to. `SKIP` is a day without it.
+right again by that command alone, or by what a person does here, as a sentence says. `SKIP` is a day without it.
 """
 import dataclasses
 import os
-import re
 import signal
 import sqlite3
-import subprocess
 from typing import Callable, Iterator, Mapping, Optional, Sequence
 
 import quick
 from packages import BOTH, Package, Upload
 from simulation import Simulation, put_back, ran_by, save, started_day
 from spy import Spy
-from stage import Failed, run
+from stage import Failed
 from world import Bug, Come, Hint, Kept, Leave, day_text
 
 SKIP, OVER = "skip", "over"

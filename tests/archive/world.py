@@ -130,6 +130,7 @@ class World:
     """Unstable, and what is going to happen there. `busy` is the number of events a day."""
 
     def __init__(self, seed: int, scale: int, busy: tuple[int, int] = (2, 5)) -> None:
+        self.seed = seed
         self.random = random.Random(seed)
         self.busy = busy
         self.today = 0
@@ -155,7 +156,7 @@ class World:
         packages = [dataclasses.replace(package, depends=package.depends.format(binary=binary, source=kept.version))
                     for package in kept.packages]
         return dataclasses.replace(Upload(kept.name, kept.version, day_text(self.today), packages, urgency,
-                                          architectures, rebuild), **more)  # type: ignore[arg-type]
+                                          architectures, rebuild), **more)
 
     def enter(self, upload: Upload) -> None:
         """Notes what an upload brings to unstable."""
