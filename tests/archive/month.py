@@ -11,6 +11,7 @@ little else happens. Each day has a line, and each month in the end
 import argparse
 import os
 import shutil
+import signal
 import subprocess
 import sys
 import tempfile
@@ -99,6 +100,7 @@ def main(words: Sequence[str]) -> int:
     known.add_argument("--fault", action="append", default=[], metavar="NAME")
     asked = known.parse_args(words)
     program = os.path.abspath(asked.office)
+    signal.signal(signal.SIGTERM, lambda number, _: sys.exit(128 + number))  # so that what was begun is cleared away
     if asked.all:
         return int(not all([month_of(program, World(seed, 2), manager, LONG, troubles.USUAL)
                             for seed, manager in SEEDS]))

@@ -15,11 +15,13 @@ from packages import BOTH
 from stage import COMMANDS, Failed, Office, Stage, command, run
 from world import Bug, Come, Cut, Event, Hint, Leave, Unhint, World, day_text
 
-MADE_UP = re.compile(r"\+b[0-9]+$")
+REBUILT = re.compile(r"\+b[0-9]+$")
+BACK = re.compile(r"\+back[0-9]+(?:\.(.*))?$")
 LEAVING = "+gone"
 BESIDE = "smooth-"
 PATIENCE = 3  # days that a source may wait for no known reason: a group may need a run more
-NAMED = re.compile(r"`([^`]+)`|run (?:it|this|first)?:? *(office[- ].*)$", re.MULTILINE)
+NAMED = re.compile(r"['`](office[- ][^'`]+)['`]")
+ALLOWED = re.compile(r"allow (?:it|the gap) by (--[a-z-]+(?: [a-z0-9-]+)?)")
 TROUBLE = re.compile(r"Traceback|Segmentation|core dumped|panicked")
 
 
@@ -47,11 +49,20 @@ def due(lines: set[str]) -> set[str]:
     found = set()
     for line in lines:
         name, version, own = line.split()
-        if own == "source" and name.startswith(BESIDE):
-            continue
-        version = version.removesuffix(LEAVING)
-        found.add(f"{name} {MADE_UP.sub('', version) if own == 'source' else version} {own}")
+        if own != "source" or not name.startswith(BESIDE):
+            found.add(f"{name} {real(version, own == 'source')} {own}")
     return found
+
+
+def real(version: str, is_source: bool) -> str:
+    """The archive's version for one that may have a mark."""
+    version = version.removesuffix(LEAVING)
+    back = BACK.search(version)
+    if back and back[1]:
+        version = back[1].replace("+c", ":").replace("+m", "-").replace("+p", "+")
+    elif back:
+        version = version[:back.start()]
+    return REBUILT.sub("", version) if is_source else version
 
 
 @dataclass
@@ -120,23 +131,28 @@ class Simulation:
 
     # The day's command
 
-    def day(self, may_be: Sequence[int] = (0, 1), clock: str = "") -> Ran:
+    def day(self, may_be: Sequence[int] = (0, 1), clock: str = "", more: Sequence[str] = ()) -> Ran:
         """Runs the day's command, and looks at how it ends. With a `clock` that is the system's date."""
         if clock and not shutil.which("faketime"):
             self.note("(no faketime)")
             clock = ""
-        ran = day_command(self.stage, self.today, clock)
+        ran = day_command(self.stage, self.today, clock, more)
         self.look_at(ran, may_be)
         return ran
 
     def obey(self, ran: Ran) -> None:
-        """A person runs the command that a refusal names."""
-        found = NAMED.search(ran.err)
-        if found is None:
-            self.problem(f"no command is named:\n{ran.err[-1500:]}")
-            return
+        """A person does what a refusal says: runs the command that it names, or the day's with what it allows."""
+        named, allowed = NAMED.search(ran.err), ALLOWED.search(ran.err)
         self.by_hand += 1
-        self.look_at(Ran.of("by hand", run("sh", "-c", found[1] or found[2], may_fail=True)), (0, 1))
+        self.note("(by hand)")
+        if named:
+            folder = os.environ.get("COMMANDS", COMMANDS)
+            self.look_at(Ran.of("by hand", run("sh", "-c", named[1], may_fail=True,
+                                               PATH=f"{folder}:{os.environ['PATH']}")), (0, 1))
+        elif allowed:
+            self.day(more=allowed[1].split())
+        else:
+            self.problem(f"a refusal names no way:\n{ran.err[-1500:]}")
 
     def look_at(self, ran: Ran, may_be: Sequence[int]) -> None:
         """A command ends with one of these statuses; with a sentence where that isn't 0, and never by a traceback."""
@@ -217,7 +233,7 @@ def ran_by(name: str, *words: str, clock: str = "") -> Ran:
     return Ran.of(name, run("faketime", clock + " 06:00:00", path, *words, may_fail=True))
 
 
-def day_command(stage: Stage, day: str, clock: str = "") -> Ran:
+def day_command(stage: Stage, day: str, clock: str = "", more: Sequence[str] = ()) -> Ran:
     """The day of an archive: what was decided is applied, then unstable is told, and what comes of it applied.
 
     With a `clock` that is the system's date, and no day is stated.
@@ -226,7 +242,7 @@ def day_command(stage: Stage, day: str, clock: str = "") -> Ran:
     if first.status not in (0, 1):
         return first
     stage.line = stage.archive.ready()
-    words = list(stage.feed_words(day, "--propose", "--rebuilds"))
+    words = list(stage.feed_words(day, "--propose", "--rebuilds", *more))
     if clock:
         del words[words.index("--day"):][:2]
     fed = ran_by("office-feed", *words, clock=clock).behind(first)
@@ -250,8 +266,10 @@ def begun(program: str, folder: str, manager: str, world: World) -> Simulation:
     stage = Stage(Office(program, folder), MANAGERS[manager](folder), folder, os.path.join(folder, "built"),
                   maker=quick.write)
     found = Simulation(stage, world)
-    for event in world.first():
-        found.do(event)
+    uploads = [event.upload for event in world.first()]
+    for upload in uploads:
+        found.books.come(upload, day_text(0))
+    stage.begins(uploads)
     stage.line = stage.archive.ready()
     stage.archive.copy_all()
     testing = stage.archive.published("testing")

@@ -2,6 +2,7 @@
 import hashlib
 import json
 import os
+import shutil
 import signal
 import socket
 import subprocess
@@ -107,6 +108,9 @@ class Archive(Protocol):
     def incoming(self, upload: Upload, built: str) -> None:
         """Takes an upload into unstable."""
 
+    def all_incoming(self, built: Sequence[str]) -> None:
+        """Takes the files of many uploads into unstable, from these folders."""
+
     def drop_source(self, source: str) -> None:
         """Takes a source with its packages out of unstable."""
 
@@ -173,6 +177,17 @@ class Reprepro:
         for name in sorted(os.listdir(built)):
             if name.endswith(".changes"):
                 self.reprepro(*where, "include", "unstable", os.path.join(built, name))
+
+    def all_incoming(self, built: Sequence[str]) -> None:
+        """Takes the files of many uploads into unstable, from these folders."""
+        queue = os.path.join(self.base, "queue")
+        os.makedirs(queue)
+        for path in (path for folder in built for path in files_below(folder)):
+            shutil.copy(path, queue)
+        self.write("conf/incoming", f"Name: queue\nIncomingDir: {queue}\nTempDir: {self.base}\nAllow: unstable\n"
+                                    "Cleanup: on_deny on_error\n")
+        self.reprepro("processincoming", "queue")
+        shutil.rmtree(queue)
 
     def drop_source(self, source: str) -> None:
         """Takes a source with its packages out of unstable."""
@@ -248,6 +263,11 @@ class Aptly:
         self.aptly("repo", "add", "unstable", *(os.path.join(built, name) for name in sorted(os.listdir(built))
                                                 if name.endswith((".deb", ".dsc"))))
 
+    def all_incoming(self, built: Sequence[str]) -> None:
+        """Takes the files of many uploads into unstable, from these folders."""
+        self.aptly("repo", "add", "unstable", *(path for folder in built for path in sorted(files_below(folder))
+                                                if path.endswith((".deb", ".dsc"))))
+
     def drop_source(self, source: str) -> None:
         """Takes a source with its packages out of unstable."""
         self.aptly("repo", "remove", "unstable", f"$Source ({source}) | Name ({source})")
@@ -286,7 +306,8 @@ class Aptly:
     def copy_all(self, *but: str) -> None:
         """Publishes testing with all that unstable has, but for these packages."""
         self.aptly("repo", "copy", "unstable", "testing", "Name (~ .)")
-        self.aptly("repo", "remove", "testing", *but)
+        if but:
+            self.aptly("repo", "remove", "testing", *but)
         self.aptly("publish", "update", "-skip-signing", "-batch", "testing")
 
     def apply_words(self) -> Sequence[str]:
@@ -312,14 +333,25 @@ class Stage:
 
     def takes(self, uploads: Sequence[Upload]) -> None:
         """Uploads come to unstable, and their files .changes are kept."""
-        changes = os.path.join(self.folder, "changes")
-        os.makedirs(changes, exist_ok=True)
         for upload in uploads:
             built = self.maker(upload, self.built)
             self.archive.incoming(upload, built)
-            for name in os.listdir(built):
-                if name.endswith(".changes") and not os.path.lexists(os.path.join(changes, name)):
-                    os.symlink(os.path.join(built, name), os.path.join(changes, name))
+            self.keep_changes(built)
+
+    def begins(self, uploads: Sequence[Upload]) -> None:
+        """Many uploads come to unstable at once."""
+        built = [self.maker(upload, self.built) for upload in uploads]
+        self.archive.all_incoming(built)
+        for folder in built:
+            self.keep_changes(folder)
+
+    def keep_changes(self, built: str) -> None:
+        """Keeps the files .changes of an upload."""
+        changes = os.path.join(self.folder, "changes")
+        os.makedirs(changes, exist_ok=True)
+        for name in os.listdir(built):
+            if name.endswith(".changes") and not os.path.lexists(os.path.join(changes, name)):
+                os.symlink(os.path.join(built, name), os.path.join(changes, name))
 
     def feed_words(self, day: str, *more: str) -> Sequence[str]:
         """The words of office-feed on a day."""

@@ -1,7 +1,7 @@
 """The faults of a month: each begins on a morning, and goes on behind each `yield` on the next one.
 
-Behind a `yield` the day's command is run as on any other day, and testing is looked at: so what was done wrong has to be
-right again by that command alone, or by what a person does here, as a sentence says. `SKIP` is a day without it.
+Behind a `yield` the day's command is run as on any other day, and testing is looked at. So what was done wrong has to
+be right again by that command alone, or by what a person does here, as a sentence says. `SKIP` is a day without it.
 """
 import dataclasses
 import os
@@ -14,7 +14,7 @@ from packages import BOTH, Package, Upload
 from simulation import Simulation, put_back, ran_by, save, started_day
 from spy import Spy
 from stage import Failed
-from world import Bug, Come, Hint, Kept, Leave, day_text
+from world import Bug, Come, Hint, Kept, Leave, Unhint, day_text
 
 SKIP, OVER = "skip", "over"
 Steps = Iterator[Optional[str]]
@@ -165,8 +165,8 @@ def came_back(month: Simulation) -> Steps:
     yield None
     upload = Upload(kept.name, kept.version, day_text(month.number - 3), kept.packages, "critical")
     month.stage.archive.incoming(upload, os.path.join(files, upload.name))
-    month.books.held[kept.name] = kept.version
     month.books.come(upload, month.today)
+    yield None
     yield None
     counts = told_numbers(month)
     month.day()
@@ -236,7 +236,8 @@ def put_back_old(month: Simulation) -> Steps:
     month.day()
     put_back(month.stage.folder, month.stage.archive.place)
     ran = month.day((0, 1, 3))
-    month.by_hand += ran.status == 3
+    if ran.status == 3:
+        month.obey(ran)
     month.stage.takes([upload])
     month.stage.archive.ready()
     month.stage.archive.export()
@@ -276,7 +277,7 @@ def by_hand(month: Simulation) -> Steps:
 
 def ordered(month: Simulation) -> None:
     """A person orders a run."""
-    month.look_at(ran_by("office-order", "--url", month.stage.office.url, "--day", month.today, "--send"), (0, 1))
+    month.look_at(ran_by("office-order", "--url", month.stage.office.url, "--send", month.today), (0, 1))
 
 
 def two_orders(month: Simulation) -> Steps:
@@ -299,6 +300,19 @@ def third_rebuild(month: Simulation) -> Steps:
         month.problem(f"{name} +b3 of {BOTH[1]} isn't in testing: {version}")
     kept.rebuilds = 3
     month.world.untouched.discard(kept.name)
+
+
+def hasty(month: Simulation) -> Steps:
+    """A rebuild is blocked, and then comes a new version: it has to wait as long as any other."""
+    kept = settled(month)
+    month.do(Hint("hasty", f"block {kept.name}"))
+    kept.rebuilds += 1
+    comes(month, kept, "medium")
+    yield None
+    renewed(month, kept, "medium")
+    month.do(Unhint("hasty"))
+    month.world.untouched.discard(kept.name)
+    yield None
 
 
 def bad_hint(month: Simulation) -> Steps:
@@ -571,8 +585,8 @@ USUAL: Mapping[int, Sequence[Trouble]] = {
     2: [withdrawn, bad_changes], 3: [without_source, twice], 4: [conflict], 5: [third_rebuild], 6: [short_index],
     7: [missed_apply], 8: [killed_feed, chain], 9: [by_hand], 10: [withdrawn_late, two_orders], 11: [restored],
     13: [killed_manager], 14: [own_date, bad_hint], 15: [undecided], 16: [came_back, left_lock], 17: [put_back_old],
-    18: [strange_blank, strange_field], 19: [killed_service, full_disk], 20: [needed_gone, gap], 21: [nothing_run],
-    24: [clock_back, truncated]}
+    18: [strange_blank, strange_field], 19: [killed_service, hasty], 20: [needed_gone, gap], 21: [nothing_run],
+    24: [clock_back, truncated], 25: [full_disk]}
 BRIEF: Mapping[int, Sequence[Trouble]] = {
     1: [withdrawn, bad_changes], 2: [conflict, short_index], 3: [missed_apply], 4: [restored], 5: [killed_feed],
     6: [gap, strange_blank]}
