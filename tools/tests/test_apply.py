@@ -361,7 +361,8 @@ class HeldBack(unittest.TestCase):
 
     def test_groups_of_runs(self):
         """From the last run back, until the move of each source is found."""
-        updates = {3: "easy 1 accept app 2 lib 2\n", 2: "accept mta 2\neasy 4 accept lone 2 other 1\n", 1: "accept app 1\n"}
+        updates = {3: "easy 1 accept app 2 lib 2\n", 2: "accept mta 2\neasy 4 accept lone 2 other 1\n",
+                   1: "accept app 1\n"}
         asked = []
 
         class Service:
