@@ -32,6 +32,9 @@ class Manager(Protocol):
     def remove(self, go: Contents) -> None:
         """Takes these sources and rows out of testing, the sources first."""
 
+    def published_files(self) -> Sequence[str]:
+        """The files Packages by which both suites are published."""
+
     def is_published(self, have: Contents) -> bool:
         """Whether clients see that testing has this, and all files of its indexes fit each other."""
 

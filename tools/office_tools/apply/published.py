@@ -84,6 +84,15 @@ def is_whole(folder: str, stated: Stated) -> bool:
     return True
 
 
+def packages_of(folder: str) -> Sequence[str]:
+    """The files Packages of a suite's folder that Release states; none where there is no such folder."""
+    stated = read_release(folder) or {}
+    paths = [[os.path.join(folder, name) for name in sorted(files)] for stem, files in sorted(stated.items())
+             if os.path.basename(stem) == "Packages"]
+    there = [[path for path in part if os.path.exists(path)] for part in paths]
+    return [part[0] for part in there if part]
+
+
 def read_folder(folder: str, stated: Stated, indexes: Indexes) -> Contents:
     """What the indexes have that Release states."""
     packages: list[tuple[str, str]] = []
