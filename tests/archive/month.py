@@ -3,7 +3,7 @@
 
 Usage: month.py OFFICE [--all] [--seed N] [--days N] [--manager reprepro|aptly] [--quiet] [--fault NAME]..
 
-Without further words it lives a short month of eight days. `--all` lives three of thirty days with reprepro, and one
+Without further words it lives a short month of six days. `--all` lives three of thirty days with reprepro, and one
 with aptly. With `--quiet` no fault is made, with `--fault` this one alone (of troubles.py), on the second day, and
 little else happens. Each day has a line, and each month in the end
 `month SEED: N days, M faults, P problems`. The exit status is 1 if there is a problem.
@@ -23,7 +23,7 @@ from simulation import Simulation, begun
 from troubles import OVER, SKIP, Steps, Trouble
 from world import World
 
-SHORT, LONG = 8, 30
+SHORT, LONG = 6, 30
 SEEDS = ((7, "reprepro"), (11, "reprepro"), (23, "reprepro"), (5, "aptly"))
 QUIET = 8  # the last days of a long month have no new events, and all that can move has to
 ROOM = "400m"

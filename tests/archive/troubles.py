@@ -348,11 +348,11 @@ def undecided(month: Simulation) -> Steps:
     month.day()
     office = month.stage.office
     text = office.service.good_text(f"/order/{month.today}")
-    number = office.service.kept()["clock"].unbroken + 1
+    kept = office.service.kept()
     office.stop(signal.SIGKILL)
     with sqlite3.connect(office.store) as store:
-        place = store.execute("select sender from mail where body like 'From: clock%' limit 1").fetchone()[0]
-        store.execute("insert into mail (sender, number, body) values (?, ?, ?)", (place, number, text.encode()))
+        store.execute("insert into mail (sender, number, body) values (?, ?, ?)",
+                      (list(kept).index("clock"), kept["clock"].unbroken + 1, text.encode()))
     store.close()
     office.start(month.setup)
     yield None
@@ -588,6 +588,6 @@ USUAL: Mapping[int, Sequence[Trouble]] = {
     18: [strange_blank, strange_field], 19: [killed_service, hasty], 20: [needed_gone, gap], 21: [nothing_run],
     24: [clock_back, truncated], 25: [full_disk]}
 BRIEF: Mapping[int, Sequence[Trouble]] = {
-    1: [withdrawn, bad_changes], 2: [conflict, short_index], 3: [missed_apply], 4: [restored], 5: [killed_feed],
-    6: [gap, strange_blank]}
+    1: [withdrawn, bad_changes], 2: [restored, conflict], 3: [short_index], 5: [killed_feed, strange_blank],
+    6: [gap]}
 """On which days which faults begin, in a long month and in a short one."""
