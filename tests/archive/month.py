@@ -20,6 +20,7 @@ from typing import Mapping, Sequence
 
 import troubles
 from simulation import Simulation, begun
+from stage import Failed
 from troubles import OVER, SKIP, Steps, Trouble
 from world import World
 
@@ -53,7 +54,7 @@ def live(month: Simulation, days: int, begins: Mapping[int, Sequence[Trouble]]) 
         month.faults += len(begins.get(number, ()))
         month.told += [trouble.__name__.upper() for trouble in begins.get(number, ())]
         running += [trouble(month) for trouble in begins.get(number, ())]
-        if not is_skipped(running):
+        if not is_skipped(month, running):
             month.day()
             month.evening()
         waiting = list(month.books.behind(month.testing, month.today))
@@ -61,11 +62,19 @@ def live(month: Simulation, days: int, begins: Mapping[int, Sequence[Trouble]]) 
               f"{len(month.books.unstable)} behind; {time.monotonic() - began:.0f} s", flush=True)
 
 
-def is_skipped(running: list[Steps]) -> bool:
+def is_skipped(month: Simulation, running: list[Steps]) -> bool:
     """Lets each fault go on, and says whether one of them wants no command to run today."""
-    found = [(steps, next(steps, OVER)) for steps in running]
-    running[:] = [steps for steps, step in found if step != OVER]
-    return any(step == SKIP for _, step in found)
+    is_asked = False
+    for steps in list(running):
+        try:
+            step = next(steps, OVER)
+        except Failed as failed:
+            month.problem(f"{getattr(steps, '__name__', 'a fault')}: {str(failed)[-1500:]}")
+            step = OVER
+        if step == OVER:
+            running.remove(steps)
+        is_asked = is_asked or step == SKIP
+    return is_asked
 
 
 def month_of(program: str, world: World, manager: str, days: int, begins: Mapping[int, Sequence[Trouble]]) -> bool:

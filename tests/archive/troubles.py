@@ -10,8 +10,9 @@ import sqlite3
 from typing import Callable, Iterator, Mapping, Optional, Sequence
 
 import quick
+from loop import archived
 from packages import BOTH, Package, Upload
-from simulation import Simulation, put_back, ran_by, save, started_day
+from simulation import Ran, Simulation, put_back, ran_by, save, started_day
 from spy import Spy
 from stage import Failed
 from world import Bug, Come, Hint, Kept, Leave, Unhint, day_text
@@ -61,12 +62,14 @@ def renewed(month: Simulation, kept: Kept, urgency: str, **more: object) -> Uplo
     return comes(month, month.world.renewed(kept), urgency, **more)
 
 
-def unchanged(month: Simulation, may_be: Sequence[int]) -> None:
+def refused(month: Simulation, may_be: Sequence[int] = (3,), clock: str = "") -> Ran:
     """The day's command is refused, and what is published stays."""
-    before = month.stage.digest()
-    month.day(may_be)
-    if month.stage.digest() != before:
-        month.problem("a refused day changed what is published")
+    before = archived(month.stage.archive)
+    ran = month.day(may_be, clock)
+    differ = sorted(archived(month.stage.archive) ^ before)
+    if ran.status > 1 and differ:
+        month.problem(f"a refused day changed what is published: {differ[:9]}")
+    return ran
 
 
 def withdraw(month: Simulation, kept: Kept, before: Kept) -> None:
@@ -116,7 +119,7 @@ def short_index(month: Simulation) -> Steps:
     """A slip takes a third of unstable away. The archive is put back from its copy behind a refused day."""
     save(month.stage.folder, month.stage.archive.place)
     month.stage.archive.slip("app")
-    unchanged(month, (3,))
+    refused(month)
     put_back(month.stage.folder, month.stage.archive.place)
     month.stage.archive.export()
     yield None
@@ -126,7 +129,7 @@ def needed_gone(month: Simulation) -> Steps:
     """One package goes by a slip that all of testing needs."""
     save(month.stage.folder, month.stage.archive.place)
     month.stage.archive.slip("libbase")
-    unchanged(month, (3,))
+    refused(month)
     put_back(month.stage.folder, month.stage.archive.place)
     month.stage.archive.export()
     yield None
@@ -336,7 +339,7 @@ def gap(month: Simulation) -> Steps:
     text = (f"From: bts\nNumber: {number + 1}\nKind: bug\nBug: {bug.number}\nSource: {bug.source}\n"
             f"Severity: {bug.severity}\nFound: {bug.found}\n")
     month.stage.office.service.post("/mail", text.encode())
-    unchanged(month, (3,))
+    refused(month)
     month.stage.office.service.post("/mail", f"From: bts\nNumber: {number}\nKind: none\n".encode())
     yield None
     month.do(dataclasses.replace(bug, severity="normal"))
@@ -488,10 +491,7 @@ def full_disk(month: Simulation) -> Steps:
 
 def clock_back(month: Simulation) -> Steps:
     """The system's clock is twenty days back. The day is refused, or dated as the last one."""
-    before = month.stage.digest()
-    ran = month.day((0, 1, 3), clock=day_text(month.number - 20))
-    if ran.status == 3 and month.stage.digest() != before:
-        month.problem("a refused day changed what is published")
+    refused(month, (0, 1, 3), day_text(month.number - 20))
     yield None
 
 
@@ -514,11 +514,7 @@ def restored(month: Simulation) -> Steps:
             os.unlink(os.path.join(month.stage.folder, name))
     put_back(month.stage.folder, "store.db")
     office.start(month.setup)
-    before = month.stage.digest()
-    ran = month.day((3,))
-    if month.stage.digest() != before:
-        month.problem("a refused day changed what is published")
-    month.obey(ran)
+    month.obey(refused(month))
     yield None
     for _ in range(5):
         yield None
