@@ -132,6 +132,9 @@ class Archive(Protocol):
     def ordered(self) -> str:
         """The published folder of what the next order sees."""
 
+    def pull_words(self) -> Sequence[str]:
+        """The command by which the next order sees what unstable is."""
+
     def ready(self) -> str:
         """Publishes unstable, and gives a line of a sources.list for what the next order sees."""
 
@@ -219,9 +222,13 @@ class Reprepro:
         """The published folder of what the next order sees."""
         return self.published("ordered")
 
+    def pull_words(self) -> Sequence[str]:
+        """The command by which the suite `ordered` becomes what unstable is."""
+        return ["reprepro", "--silent", "-b", self.base, "pull", "ordered"]
+
     def ready(self) -> str:
         """The suite `ordered` becomes what unstable is."""
-        self.reprepro("pull", "ordered")
+        run(*self.pull_words())
         return f"file:{self.base} ordered main"
 
     def copy_all(self, *but: str) -> None:
@@ -298,9 +305,13 @@ class Aptly:
         """The published folder of what the next order sees."""
         return self.published("unstable")
 
+    def pull_words(self) -> Sequence[str]:
+        """The command that publishes unstable."""
+        return ["aptly", f"-config={self.config}", "publish", "update", "-skip-signing", "-batch", "unstable"]
+
     def ready(self) -> str:
         """Publishes unstable."""
-        self.aptly("publish", "update", "-skip-signing", "-batch", "unstable")
+        run(*self.pull_words())
         return f"file:{self.base} unstable main"
 
     def copy_all(self, *but: str) -> None:
