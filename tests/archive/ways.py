@@ -16,15 +16,22 @@ LAG = [Package("lag"), Package("lag-doc", is_all=True)]
 UNCLEAN = [Upload("duo", "1-1", "2025-03-01", [Package("duo"), Package("duo-bad", "nosuch, duo")]),
            Upload("lag", "1-1", "2025-03-01", LAG),
            Upload("lag", "1-2", "2025-03-02", LAG, architectures=("amd64",), lags=True)]
-FIRST, NEXT = "2025-03-06", "2025-03-07"
+FIRST, NEXT, LAST = "2025-03-06", "2025-03-07", "2025-03-08"
 NEWER = [Upload("lone", "0.2-1", NEXT, [Package("lone")], "critical"), Upload("lag", "1-3", NEXT, LAG, "critical")]
 CALM = Upload("calm", "1-1", FIRST, [Package("calm")], "critical")
+DUET = [Upload("duet", "1-1", FIRST, [Package("duet", "calm, voice")], "critical"),
+        Upload("voice", "1-1", FIRST, [Package("voice")], "critical")]
 RIVALS = [Upload("rival", "1-1", NEXT, [Package("rival", conflicts="calm")], "critical"),
           Upload("both", "1-1", NEXT, [Package("both-of-them", "calm, rival")], "critical"),
-          Upload("fine", "1-1", NEXT, [Package("fine", "calm")], "critical")]
+          Upload("fine", "1-1", NEXT, [Package("fine", "calm")], "critical"),
+          Upload("voice", "1-2", NEXT, [Package("voice", conflicts="calm")], "critical"),
+          Upload("pair-a", "1-1", NEXT, [Package("pair-a", "pair-b, calm")], "critical"),
+          Upload("pair-b", "1-1", NEXT, [Package("pair-b", "pair-a", conflicts="calm")], "critical")]
+MENDED = [Upload("voice", "1-3", LAST, [Package("voice")], "critical"),
+          Upload("both", "1-2", LAST, [Package("both-of-them", "calm | rival")], "critical")]
 KNOT = [Upload(name, "1-1", FIRST, [Package(name, needed)], "critical")
         for name, needed in (("above", "knota"), ("knota", "knotb"), ("knotb", "knota"))]
-ALL = [*TWELVE, *UNCLEAN, *NEWER, CALM, *RIVALS, *KNOT]
+ALL = [*TWELVE, *UNCLEAN, *NEWER, CALM, *DUET, *RIVALS, *MENDED, *KNOT]
 
 
 def told_of(archive: Archive) -> Sequence[str]:
@@ -90,48 +97,49 @@ def adopted_by_aptly(program: str, folder: str) -> str:
     return adopted(program, folder, "aptly")
 
 
-def recipe() -> str:
-    """The recipe of docs/ARCHIVE.md that looks before an order."""
-    with open(os.path.join(TOP, "docs/ARCHIVE.md"), encoding="utf-8") as file:
-        lines = file.read().split("**Conflicts and Breaks.**")[1].splitlines()
-    start = next(number for number, line in enumerate(lines) if line.startswith("    #"))
-    end = next(number for number, line in enumerate(lines) if number > start and line and not line.startswith("    "))
-    return "\n".join(line[4:] for line in lines[start:end])
+def look_words(stage: Stage, day: str, *more: str) -> Sequence[str]:
+    """The words of office-look on a day: it judges, and orders."""
+    return ["--url", stage.office.url, "--conf", SETUP, "--cache", os.path.join(stage.folder, "look"), "--day", day,
+            "--order", *more, *(stage.archive.published(suite) for suite in ("testing", "ordered"))]
+
+
+def look(stage: Stage, day: str, *more: str) -> Sequence[str]:
+    """Feeds the office, looks before the order, and applies: what is blocked."""
+    stage.feed(day, "--no-order")
+    told = run(os.path.join(COMMANDS, "office-look"), *look_words(stage, day, *more), may_fail=True,
+               OFFICE=stage.office.program)
+    lines = told.stderr.splitlines()
+    expect(f"the status of a look that says {told.stdout}{told.stderr}", int(bool(lines)), told.returncode)
+    stage.apply()
+    clients.look(stage.archive, stage.folder)
+    return sorted(" ".join(line.split(":")[2].split()) for line in lines)
 
 
 def looked(program: str, folder: str) -> str:
-    """A package that can't be installed beside another one is blocked before the order, and all else moves."""
+    """What can't be installed is blocked before the order, in a proposed group, too, until a next version is right.
+
+    So is what breaks a package that stays.
+    """
     office = Office(program, folder)
     archive = Reprepro(folder)
     stage = Stage(office, archive, folder, os.path.join(os.path.dirname(folder), "built"))
     office.start()
     try:
-        stage.takes([CALM])
+        stage.takes([CALM, *DUET])
         stage.line = archive.ready()
-        stage.feed(FIRST)
-        stage.apply()
+        expect("what a first look blocks", [], look(stage, FIRST))
         stage.takes(RIVALS)
         archive.ready()
-        apt = os.path.join(folder, "feed.list")
-        with open(apt, "w", encoding="utf-8") as file:
-            file.write(f"deb [trusted=yes arch={','.join(BOTH)}] {stage.line}\ndeb-src [trusted=yes] {stage.line}\n")
-        words = f"--url {office.url} --cache {folder}/cache --day {NEXT} --changes {folder}/changes --apt {apt}"
-        program_folder = os.path.join(folder, "bin")
-        os.makedirs(program_folder)
-        os.symlink(program, os.path.join(program_folder, "office"))
-        work = os.path.join(folder, "work")
-        os.makedirs(work)
-        told = run("sh", "-euc", f"cd {work}\n" + recipe(), FEED=words, URL=office.url, CONF=SETUP, DAY=NEXT,
-                   INDEXES=archive.base, PATH=f"{program_folder}:{COMMANDS}:{os.environ['PATH']}")
-        expect("the recipe's hint", "held rt 1", next(line for line in told.stdout.splitlines() if "held" in line))
-        expect("update 2", ["accept fine 1-1", "accept rival 1-1"], list(office.update(2)))
-        expect("excuses 2", [" blocked"], [line for line in office.service.good_text("/excuses/2").splitlines()
-                                           if line == " blocked"])
-        stage.apply()
-        clients.look(archive, folder)
+        expect("what a look blocks", ["both 1-1", "pair-a 1-1", "pair-b 1-1", "voice 1-2"],
+               look(stage, NEXT, "--propose"))
+        expect("update 2", ["accept fine 1-1", "accept rival 1-1"], list(office.update(2))[:2])
+        stage.takes(MENDED)
+        archive.ready()
+        expect("what a later look blocks", ["pair-a 1-1", "pair-b 1-1"], look(stage, LAST, "--propose"))
+        expect("update 4", ["accept both 1-2", "accept voice 1-3"], list(office.update(4))[-2:])
     finally:
         office.stop()
-    return "looked before an order: a package that libsolv can't install is blocked, all else moves"
+    return "looked before an order: what libsolv can't install is blocked until a next version is right, all else moves"
 
 
 def proposed(program: str, folder: str) -> str:
