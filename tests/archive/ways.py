@@ -1,5 +1,5 @@
-"""Adopts a testing that isn't clean, looks before an order as docs/ARCHIVE.md says, and moves groups as the office
-proposes them.
+"""Adopts a testing that isn't clean, looks before an order, moves groups as the office proposes them, and runs days of
+an archive in which things go wrong.
 
 Usage: ways.py OFFICE FOLDER
 """
@@ -10,7 +10,7 @@ from typing import Sequence
 import clients
 from loop import MANAGERS, archived, expect
 from packages import BOTH, TWELVE, Package, Upload, build_all
-from stage import COMMANDS, SETUP, TOP, Archive, Failed, Office, Reprepro, Stage, command, run
+from stage import COMMANDS, SETUP, Archive, Failed, Office, Reprepro, Stage, command, run
 
 LAG = [Package("lag"), Package("lag-doc", is_all=True)]
 UNCLEAN = [Upload("duo", "1-1", "2025-03-01", [Package("duo"), Package("duo-bad", "nosuch, duo")]),
@@ -31,7 +31,8 @@ MENDED = [Upload("voice", "1-3", LAST, [Package("voice")], "critical"),
           Upload("both", "1-2", LAST, [Package("both-of-them", "calm | rival")], "critical")]
 KNOT = [Upload(name, "1-1", FIRST, [Package(name, needed)], "critical")
         for name, needed in (("above", "knota"), ("knota", "knotb"), ("knotb", "knota"))]
-ALL = [*TWELVE, *UNCLEAN, *NEWER, CALM, *DUET, *RIVALS, *MENDED, *KNOT]
+LONES = [Upload("lone", f"0.{number}-1", NEXT, [Package("lone")], "critical") for number in (2, 3, 4, 5)]
+ALL = [*TWELVE, *UNCLEAN, *NEWER, CALM, *DUET, *RIVALS, *MENDED, *KNOT, *LONES]
 
 
 def told_of(archive: Archive) -> Sequence[str]:
@@ -168,12 +169,94 @@ def proposed(program: str, folder: str) -> str:
     return "proposed: a knot and what rests on it moved by the feed's hint, which the next feed took back"
 
 
+class Unattended:
+    """An archive of reprepro that office-day runs."""
+
+    def __init__(self, program: str, folder: str) -> None:
+        self.office = Office(program, folder)
+        self.archive = Reprepro(folder)
+        self.stage = Stage(self.office, self.archive, folder, os.path.join(os.path.dirname(folder), "built"))
+        self.folder = folder
+        line = f"[trusted=yes arch={','.join(BOTH)}] file:{self.archive.base} ordered main"
+        with open(os.path.join(folder, "day.conf"), "w", encoding="utf-8") as file:
+            file.write(f"Url: {self.office.url}\nSetup: {SETUP}\nState: {folder}/state\n"
+                       f"Pull: reprepro --silent -b {self.archive.base} pull ordered\n"
+                       f"Feed: --changes {folder}/changes --apt 'deb {line}'\n --apt 'deb-src [trusted=yes] "
+                       f"file:{self.archive.base} ordered main'\nApply: reprepro {self.archive.base} ordered testing\n")
+
+    def day(self, day: str, due: int) -> str:
+        """Runs a day, which has to end with this status, and gives what stands still."""
+        told = run(os.path.join(COMMANDS, "office-day"), "--conf", os.path.join(self.folder, "day.conf"), "--day", day,
+                   may_fail=True, OFFICE=self.office.program)
+        expect(f"{day}: {told.stdout}{told.stderr}", due, told.returncode)
+        clients.look(self.archive, self.folder)
+        return told.stderr
+
+    def ordered(self, day: str) -> None:
+        """A day that nobody applies."""
+        self.stage.line = self.archive.ready()
+        self.stage.feed(day, "--no-order")
+        run(os.path.join(COMMANDS, "office-look"), *look_words(self.stage, day), OFFICE=self.office.program)
+
+    def vendor(self) -> None:
+        """A package comes whose source the archive hasn't."""
+        place = os.path.join(self.folder, "vendor")
+        os.makedirs(os.path.join(place, "DEBIAN"))
+        with open(os.path.join(place, "DEBIAN/control"), "w", encoding="utf-8") as file:
+            file.write("Package: vendor-tool\nVersion: 1.0\nArchitecture: amd64\nMaintainer: A Tester <t@example.org>\n"
+                       "Section: misc\nPriority: optional\nDescription: tiny\n")
+        run("dpkg-deb", "--root-owner-group", "-b", place, place + ".deb")
+        self.archive.reprepro("includedeb", "unstable", place + ".deb")
+
+    def testing(self) -> Sequence[str]:
+        """The sources and packages of the archive's testing, without those of arm64."""
+        return sorted(line for line in archived(self.archive) if not line.endswith("arm64"))
+
+
+def unattended(program: str, folder: str) -> str:
+    """A package without a source, an apply that was missed, and an upload that is withdrawn between order and apply."""
+    days = Unattended(program, folder)
+    days.office.start()
+    try:
+        days.stage.takes([CALM, *DUET])
+        days.vendor()
+        days.day(FIRST, 0)
+        days.stage.takes([LONES[0]])
+        days.ordered("2025-03-11")
+        days.stage.takes([LONES[1]])
+        days.day("2025-03-12", 0)
+        expect("update 4", ["accept lone 0.3-1"], list(days.office.update(3)))
+        expect("testing", ["calm 1-1 amd64", "calm 1-1 source", "duet 1-1 amd64", "duet 1-1 source", "lone 0.3-1 amd64",
+                           "lone 0.3-1 source", "vendor-tool 1.0 amd64", "voice 1-1 amd64", "voice 1-1 source"],
+               days.testing())
+        days.stage.takes([LONES[2], next(upload for upload in RIVALS if upload.source == "fine")])
+        days.ordered("2025-03-13")
+        days.archive.drop_source("lone")
+        days.archive.reprepro("copysrc", "unstable", "testing", "lone")
+        days.archive.ready()
+        told = days.day("2025-03-14", 1)
+        if "held back: lone 0.4-1: there is no source lone 0.4-1 to copy" not in told:
+            raise Failed(told)
+        expect("testing without what was withdrawn", ["fine 1-1 amd64", "fine 1-1 source", "lone 0.3-1 amd64",
+                                                      "lone 0.3-1 source"],
+               [line for line in days.testing() if line.startswith(("fine", "lone"))])
+        days.stage.takes([LONES[3]])
+        days.day("2025-03-15", 0)
+        days.day("2025-03-15", 0)
+        expect("testing at the end", ["lone 0.5-1 amd64", "lone 0.5-1 source"],
+               [line for line in days.testing() if line.startswith("lone")])
+    finally:
+        days.office.stop()
+    return "unattended: a missed apply, a withdrawn upload and a package without a source stop nothing"
+
+
 def main(words: Sequence[str]) -> None:
     """Tries all of them."""
     program, folder = words
     build_all(ALL, os.path.join(folder, "built"))
     told = []
-    for name, way in (("adopted", adopted), ("aptly", adopted_by_aptly), ("looked", looked), ("proposed", proposed)):
+    for name, way in (("adopted", adopted), ("aptly", adopted_by_aptly), ("looked", looked), ("proposed", proposed),
+                      ("unattended", unattended)):
         os.makedirs(os.path.join(folder, name))
         told.append(way(program, os.path.join(folder, name)))
     print("\n".join(told))

@@ -413,8 +413,8 @@ class Brakes(unittest.TestCase):
         def manager():
             return Manager(suite("lone 2 lone", "mta 1 mta"), suite("lone 1 lone"))
         told = ("lone 1 lone", "mta 1 mta")
-        self.assertEqual(self.refusal(manager(), told), "testing would go back to lower versions: lone 2 to 1: nothing "
-                                                        "is changed unless --back allows it")
+        self.assertRegex(self.refusal(manager(), told), "^testing would go back to lower versions: lone 2 to 1: .* "
+                                                        "nothing is changed unless --back allows it$")
         self.assertEqual(self.refusal(manager(), told, back=True), 0)
 
     def test_a_mark_is_no_way_back(self):

@@ -153,6 +153,7 @@ class Day(unittest.TestCase):
         told = subprocess.run([os.path.join(self.folder, "office-day"), "--conf", os.path.join(self.folder, "day.conf"),
                                *words], capture_output=True, text=True, timeout=600, check=False,
                               env={**os.environ, "STEPS": self.steps, "OFFICE": OFFICE})
+        self.called = []
         with contextlib.suppress(FileNotFoundError), open(self.steps, encoding="utf-8") as file:
             self.called = file.read().splitlines()
             os.unlink(self.steps)
@@ -191,6 +192,16 @@ class Day(unittest.TestCase):
                 self.assertIn("the cause" if step != "pull" else "ended with status 1", told.stderr)
                 os.unlink(os.path.join(self.folder, f"steps.{step}.{number}"))
 
+    def test_a_store_that_was_restored(self):
+        """The folder of the feed has mail that the office has no more: nothing is applied, and the way is named."""
+        self.assertEqual(self.day().returncode, 0)
+        self.assertTrue(os.path.exists(os.path.join(self.state, "feed/bag")))
+        self.configure(self.empty.url)
+        told = self.day()
+        self.assertEqual((told.returncode, self.called), (3, []))
+        self.assertIn(f"'office-feed --restore --url {self.empty.url} --cache {self.state}/feed' sends it again",
+                      told.stderr)
+
     def test_a_step_that_is_killed_has_failed(self):
         self.does("office-feed", 1, "kill -9 $$")
         self.assertEqual(self.day().returncode, 4)
@@ -206,6 +217,12 @@ class Day(unittest.TestCase):
             lines = [line for line in told.stderr.splitlines() if "stands still" in line]
             self.assertEqual(lines, ["office-day: stands still: for 9 days: feed: left out",
                                      f"office-day: stands still: {days}apply: {held}"])
+
+    def test_what_the_last_apply_brings_no_longer_stands(self):
+        self.does("office-apply", 1, "echo 'office-apply: held back: lone 2: x' >&2; exit 1")
+        told = self.day()
+        self.assertEqual((told.returncode, self.names()), (0, self.ALL))
+        self.assertNotIn("stands still", told.stderr)
 
     def test_a_summary(self):
         self.does("office-apply", 2, "echo 'came: source lone 2'; echo 'came: binary amd64 lone 2'")

@@ -28,8 +28,9 @@ class Terms:
                         f"unless --gone {len(gone)} allows it", REFUSED)
         back = sorted(set(taken_back(want, have, found, told)))
         if back and not self.back:
-            raise Fault(f"testing would go back to lower versions: {listed(back)}: nothing is changed unless --back "
-                        "allows it", REFUSED)
+            raise Fault(f"testing would go back to lower versions: {listed(back)}: if the office's store was restored, "
+                        "send its mail again (office-feed --restore); nothing is changed unless --back allows it",
+                        REFUSED)
 
 
 def names_gone(want: Contents, found: Difference) -> Iterator[str]:

@@ -97,7 +97,7 @@ def main(words: Sequence[str]) -> int:
     except Fault as raised:
         fault, status = raised, raised.status
     others = [kept.line("day", fault.cause)] if fault else patient(service, settings.patience)
-    lines = [*standing(steps.done, kept), *others]
+    lines = [*standing(steps.last, kept), *others]
     kept.write([*(ran.name for ran in steps.done), "day"])
     status = STANDS if status == WELL and lines else status
     if asked.summary:

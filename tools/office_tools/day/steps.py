@@ -6,8 +6,10 @@ import sys
 from dataclasses import dataclass, field
 from typing import Callable, Optional, Sequence
 
+from office_tools.accounts import service_at
 from office_tools.day.settings import Settings
 from office_tools.faults import Fault, cause_of
+from office_tools.feed import mailbox
 
 WELL, STANDS, WRONG, REFUSED, FAILED = range(5)
 
@@ -34,18 +36,52 @@ class Steps:
     def run(self, has_testing: bool) -> int:
         """The whole day: the status.
 
-        What stands is applied first, so that the next pull can't take away what an order saw.
+        What stands is applied first, so that the next pull can't take away what an order saw. Before that the office
+        has to have all mail that it had.
         """
-        plan: list[Callable[[], Ran]] = [self.apply] if has_testing else []
+        plan: list[Callable[[], Ran]] = [self.check, *([self.apply] if has_testing else [])]
         plan += [self.pull] if self.settings.pull else []
-        plan += [self.feed, self.look, self.apply]
+        plan += [self.feed, self.look, self.apply, self.backup]
         for step in plan:
             ran = step()
             self.done.append(ran)
             self.watch(ran)
             if ran.status > STANDS:
                 return ran.status
-        return max(ran.status for ran in self.done)
+        return max(ran.status for ran in self.last)
+
+    @property
+    def last(self) -> Sequence[Ran]:
+        """The steps that were done. One that was done twice counts as it ended."""
+        return list({ran.name: ran for ran in self.done}.values())
+
+    @property
+    def cache(self) -> str:
+        """The folder of office-feed, which has all mail."""
+        words = self.settings.feed
+        if "--cache" in words[:-1]:
+            return words[list(words).index("--cache") + 1]
+        return os.path.join(self.settings.state, "feed")
+
+    def check(self) -> Ran:
+        """Looks whether the office still has all mail that it had: its store may have been restored."""
+        service = service_at(self.settings.url)
+        try:
+            mailbox.check_office(service, service.kept(), mailbox.Folder(self.cache).read(), self.cache)
+        except Fault as fault:
+            return Ran("mail", max(fault.status, REFUSED), [], [fault.cause])
+        return Ran("mail", WELL, [], [])
+
+    def backup(self) -> Ran:
+        """Brings the mail of this day into that folder, too, so that it is a backup of all mail."""
+        service = service_at(self.settings.url)
+        try:
+            folder = mailbox.folder_for(self.cache, service)
+            mailbox.locked(folder)
+            mailbox.fetch(service, folder)
+        except Fault as fault:
+            return Ran("mail", FAILED, [], [fault.cause])
+        return Ran("mail", WELL, [], [])
 
     def apply(self) -> Ran:
         """Makes the archive's testing what the office's is."""
@@ -59,7 +95,7 @@ class Steps:
 
     def feed(self) -> Ran:
         """Sends what is new, and orders nothing."""
-        cache = [] if "--cache" in self.settings.feed else ["--cache", os.path.join(self.settings.state, "feed")]
+        cache = [] if "--cache" in self.settings.feed else ["--cache", self.cache]
         return self.command("feed", [*self.office(), *self.days(), "--no-order", *cache, *self.more("feed"),
                                      *self.settings.feed])
 
