@@ -189,7 +189,7 @@ class Manager:
         self.asked.append("remove")
         self.there = Contents(self.there.sources - go.sources, self.there.rows - go.rows, self.there.built_of)
 
-    def published_files(self):
+    def published_folders(self):
         return []
 
     def is_published(self, have):
@@ -413,9 +413,14 @@ class Brakes(unittest.TestCase):
         def manager():
             return Manager(suite("lone 2 lone", "mta 1 mta"), suite("lone 1 lone"))
         told = ("lone 1 lone", "mta 1 mta")
-        self.assertEqual(self.refusal(manager(), told), "testing would go back to lower versions: lone 2 to 1: nothing "
-                                                        "is changed unless --back allows it")
+        self.assertRegex(self.refusal(manager(), told), "^testing would go back to lower versions: lone 2 to 1: .* "
+                                                        "nothing is changed unless --back allows it$")
         self.assertEqual(self.refusal(manager(), told, back=True), 0)
+
+    def test_a_mark_is_no_way_back(self):
+        """A rebuilt source has the archive's own version, which is below the told one."""
+        manager = Manager(suite("lone 2 lone", "mta 1 mta"), suite())
+        self.assertEqual(self.refusal(manager, ("lone 2+b1 lone", "mta 1 mta")), 1)
 
 
 class Locks(unittest.TestCase):

@@ -6,7 +6,7 @@ from typing import Sequence
 
 from office_tools.apply.contents import REFUSED, Contents, Indexes, Row, Source
 from office_tools.apply.managers import parts, run
-from office_tools.apply.published import packages_of, shows, source_of
+from office_tools.apply.published import shows, source_of
 from office_tools.faults import Fault
 from office_tools.files import read_bytes
 
@@ -88,10 +88,9 @@ class Aptly:
         for part in parts(references(go)):
             self.aptly("repo", "remove", self.testing_name, *part)
 
-    def published_files(self) -> Sequence[str]:
-        """The files Packages by which both repositories are published, each under its own name."""
-        beside = os.path.join(os.path.dirname(self.folder()), self.origin_name)
-        return [*packages_of(self.folder()), *packages_of(beside)]
+    def published_folders(self) -> Sequence[str]:
+        """The folders by which both repositories are published, each under its own name."""
+        return [self.folder(), os.path.join(os.path.dirname(self.folder()), self.origin_name)]
 
     def is_published(self, have: Contents) -> bool:
         """Whether the indexes of testing are whole and have this."""

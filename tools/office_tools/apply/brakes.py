@@ -1,6 +1,6 @@
 """What office-apply refuses to do unless it is allowed: take much out of a suite, or take a source back."""
 from dataclasses import dataclass
-from typing import Iterator, Optional, Sequence
+from typing import Iterator, Mapping, Optional, Sequence
 
 from office_tools import versions
 from office_tools.apply.contents import ALL, REFUSED, Contents, Difference
@@ -18,18 +18,19 @@ class Terms:
     gone: Optional[int] = None
     back: bool = False
 
-    def check(self, want: Contents, have: Contents, found: Difference) -> None:
-        """Refuses what isn't allowed."""
+    def check(self, want: Contents, have: Contents, found: Difference, told: Mapping[str, str]) -> None:
+        """Refuses what isn't allowed. `told` has the sources' versions in the office's testing, with their marks."""
         gone = sorted(set(names_gone(want, found)))
         total = len({(row.architecture, row.name) for row in have.rows})
         is_much = len(gone) > MOST_GONE and len(gone) * SHARE_GONE > total
         if len(gone) > self.gone if self.gone is not None else is_much:
             raise Fault(f"{len(gone)} of {total} packages would go out of testing: {listed(gone)}: nothing is changed "
                         f"unless --gone {len(gone)} allows it", REFUSED)
-        back = sorted(taken_back(want, have, found))
+        back = sorted(set(taken_back(want, have, found, told)))
         if back and not self.back:
-            raise Fault(f"testing would go back to lower versions: {listed(back)}: nothing is changed unless --back "
-                        "allows it", REFUSED)
+            raise Fault(f"testing would go back to lower versions: {listed(back)}: if the office's store was restored, "
+                        "send its mail again (office-feed --restore); nothing is changed unless --back allows it",
+                        REFUSED)
 
 
 def names_gone(want: Contents, found: Difference) -> Iterator[str]:
@@ -42,12 +43,15 @@ def names_gone(want: Contents, found: Difference) -> Iterator[str]:
             yield f"{row.name} {row.architecture}"
 
 
-def taken_back(want: Contents, have: Contents, found: Difference) -> Iterator[str]:
-    """The sources of which testing has a greater version than the wanted one, and would lose it."""
+def taken_back(want: Contents, have: Contents, found: Difference, told: Mapping[str, str]) -> Iterator[str]:
+    """The sources of which testing has a greater version than the office says, and would lose it.
+
+    A version with a mark stands for another one of the archive. It counts as it is: what is told so was allowed before.
+    """
     wanted = {source.name: source.version for source in want.sources}
     lost = found.excess.sources | {have.built_of[row] for row in found.excess.rows if row in have.built_of}
     for name, version in lost:
-        if name in wanted and versions.compare(version, wanted[name]) > 0:
+        if name in wanted and versions.compare(version, told.get(name, wanted[name])) > 0:
             yield f"{name} {version} to {wanted[name]}"
 
 

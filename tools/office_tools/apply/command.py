@@ -12,7 +12,7 @@ from office_tools.apply.brakes import Terms
 from office_tools.apply.contents import ALL, REFUSED, Contents, Indexes, check_taken, difference, wanted
 from office_tools.apply.holding import Evidence, Groups
 from office_tools.apply.managers import Manager, locked
-from office_tools.apply.published import is_whole, raw_sections, read_folder, read_indexes, read_release
+from office_tools.apply.published import is_whole, packages_of, raw_sections, read_folder, read_indexes, read_release
 from office_tools.apply.reprepro import Reprepro
 from office_tools.apply.turn import Turn, counts, tell_idle
 from office_tools.faults import Fault
@@ -119,7 +119,7 @@ def to_heidi(testing: reports.Testing, path: str, published: Optional[Contents],
     want, have = wanted(testing, architectures, Indexes.ONCE), heidi.read(path)
     check_taken(want, have)
     there = have if published is None else published
-    terms.check(want, there, difference(want, there))
+    terms.check(want, there, difference(want, there), testing.sources)
     if published is not None:
         if not published.sources:
             raise Fault("no file Sources is there: what is left alone would leave the suite", REFUSED)
@@ -201,6 +201,7 @@ def main(words: Sequence[str]) -> int:
     service = service_at(asked.url or URL) if asked.testing is None else None
     architectures = list(dict.fromkeys(row.architecture for row in testing.rows if row.architecture != ALL))
     evidence = Evidence(groups_of(service, testing.finished), judge(), architectures,
-                        lambda: read_known(manager.published_files()))
+                        lambda: read_known(
+                            [path for folder in manager.published_folders() for path in packages_of(folder)]))
     turn = Turn(manager, testing, print, tell, terms, evidence)
     return turn.compare() if asked.dry_run else turn.apply()

@@ -5,7 +5,7 @@ from typing import Iterator, Optional, Sequence
 
 from office_tools.apply.contents import REFUSED, Contents, Indexes, Row, Source
 from office_tools.apply.managers import UNANSWERED, parts, run
-from office_tools.apply.published import packages_of, shows
+from office_tools.apply.published import shows
 from office_tools.faults import Fault
 
 LIST = r"${$architecture} ${$type} ${package} ${version} ${$source} ${$sourceversion} ${architecture}\n"
@@ -87,10 +87,9 @@ class Reprepro:
             for part in parts(formulas):
                 self.reprepro(*PUBLISH_LATER, "-T", kind, "removefilter", self.testing_name, " | ".join(part))
 
-    def published_files(self) -> Sequence[str]:
-        """The files Packages by which both suites are published."""
-        return [path for name in (self.testing_name, self.origin_name)
-                for path in packages_of(os.path.join(self.dists, name))]
+    def published_folders(self) -> Sequence[str]:
+        """The folders by which both suites are published."""
+        return [os.path.join(self.dists, name) for name in (self.testing_name, self.origin_name)]
 
     def is_published(self, have: Contents) -> bool:
         """Whether the indexes of testing are whole and have this."""

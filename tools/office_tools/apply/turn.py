@@ -30,7 +30,7 @@ class Turn:
         for line in (*(f"would come: {line}" for line in found.missing.lines()),
                      *(f"would go: {line}" for line in found.excess.lines())):
             self.show(line)
-        self.terms.check(plan.want, have, found)
+        self.terms.check(plan.want, have, found, self.testing.sources)
         if found.is_empty and not self.manager.is_published(have):
             self.show("would be published: testing as it is")
             return HELD
@@ -42,7 +42,7 @@ class Turn:
         """Makes testing what the office wants: status 0 where it then is, 1 where something is held back."""
         plan, have = self.plan()
         before = self.difference(plan.want, have)
-        self.terms.check(plan.want, have, before)
+        self.terms.check(plan.want, have, before, self.testing.sources)
         if not before.missing.is_empty:
             self.manager.copy(before.missing)
             have = self.manager.testing()
