@@ -94,6 +94,7 @@ def news(unstable: Unstable, box: Mailbox, told: Told, ways: Ways) -> tuple[News
     retold = came_back(archive, ways.back)
     again = rebuilds(archive, box, retold) if ways.with_rebuilds else Rebuilds()
     without_strange(archive, retold)
+    retold.tell()
     found = News()
     found.uploads = list(uploads(archive, box, retold, ways))
     gone = dict(gone_from(archive))
