@@ -7,6 +7,7 @@ COUNT files of each kind are drawn, 100 if nothing is stated. Each is read by a 
 this one, so that ten thousand of each kind are done within two hours of processor. A file that ends a tool wrongly is
 kept, and named with the command. The exit status is 1 if there is one.
 """
+import importlib
 import os
 import random
 import shutil
@@ -22,19 +23,12 @@ from stage import TOP, Office, run
 
 sys.path.insert(0, os.path.join(TOP, "tools"))
 
-from office_tools import faults, mend  # noqa: E402
-from office_tools.adopt import command as adopt  # noqa: E402
-from office_tools.apply import command as apply  # noqa: E402
-from office_tools.feed import command as feed  # noqa: E402
-from office_tools.from_packages import command as from_packages  # noqa: E402
-from office_tools.lint import command as lint  # noqa: E402
-from office_tools.mirror import command as mirror  # noqa: E402
+from office_tools import faults  # noqa: E402
 from office_tools.mirror import held  # noqa: E402
-from office_tools.pages import command as pages  # noqa: E402
 
-MAINS: Mapping[str, faults.Main] = {
-    "adopt": adopt.main, "apply": apply.main, "feed": feed.main, "from-packages": from_packages.main,
-    "lint": lint.main, "mend": mend.main, "mirror": mirror.main, "pages": pages.main}
+MODULES: Mapping[str, str] = {"bugs": "bugs.command", "mend": "mend", "tests": "autopkgtests.command"}
+"""Where a tool's words are read, if it isn't in the module `command` of its own folder."""
+CACHED = {"bag": "bag", "known": "known.json", "memory": "memory.json"}
 STATUSES = range(5)
 SECONDS = 60
 DAY = "2025-03-06"
@@ -89,6 +83,18 @@ Changes:
    * New.
 Files:
  d41d8cd98f00b204e9800998ecf8427e 0 misc optional aa_1.0-1.dsc
+"""
+BUGS = b"aa 1001,1002\nbb 1003\n"
+TESTS = b"""[{"package": "aa", "suite": "unstable", "architecture": "amd64", "version": "1.0-1", "status": "fail",
+  "last_pass_version": "0.9-1"}, {"package": "bb", "suite": "testing", "version": "1:2.0-1", "status": "pass"}]
+"""
+SETTINGS = b"""Url: http://127.0.0.1:9
+Setup: setup
+State: states
+Feed: --rebuilds packages
+Apply: heidi out/heidi dists
+Look: dists
+Patience: 30
 """
 HEIDI = b"aa 1.0-1 source\naa 1.0-1 amd64\ndd 0~rc1 all\n"
 
@@ -225,13 +231,18 @@ class Bench:
                 (*take, "compare", "packages"), (*take, "select", "amd64", "packages"),
                 (*take, "heidi", "out/heidi"), page)],
             "excuses": [Reading(kind, page)], "update": [Reading(kind, page)],
-            "heidi": [Reading(kind, (*take, "heidi", kind))]}
-        return known[kind]
+            "heidi": [Reading(kind, (*take, "heidi", kind))],
+            "known": [Reading("cache/known.json", (*feeds, "packages"))],
+            "memory": [Reading("cache/memory.json", (*feeds, "packages"))],
+            "bugs": [Reading(kind, ("bugs", "--url", self.url, "--dry-run", kind, "tests")),
+                     Reading(kind, ("bugs", "--url", self.url, "--dry-run", "bugs", kind))],
+            "tests": [Reading(kind, ("tests", "--url", self.url, "--dry-run", kind))],
+            "settings": [Reading(kind, ("day", "--conf", kind, "--day", DAY))]}
+        return [reading for reading in known[kind] if main_of(reading.words[0]) is not None]
 
     def kinds(self) -> Sequence[str]:
-        """The kinds of files."""
-        return ["packages", "sources", "release", "changes", "bag", "message", "state", "outgoing", "setup", "testing",
-                "excuses", "update", "heidi"]
+        """The kinds of files that some tool reads."""
+        return [kind for kind in self.good if self.readings(kind)]
 
     def lay_out(self) -> None:
         """Puts a good file of each kind into the working folder."""
@@ -243,6 +254,9 @@ class Bench:
             write(kind, text)
         write("dists/main/binary-amd64/Packages", PACKAGES)
         write("dists/Release", self.good["release"])
+        for kind, name in CACHED.items():
+            if kind in self.good:
+                write(os.path.join("cache", name), self.good[kind])
 
     def try_one(self, kind: str, number: int) -> None:
         """Tries one file."""
@@ -261,6 +275,14 @@ class Bench:
         print(f"{kind} {number}: office-{' '.join(reading.words)}: {fault}\n  in {kept}", flush=True)
 
 
+def main_of(name: str) -> Optional[faults.Main]:
+    """What a tool runs; nothing if there is no such tool."""
+    try:
+        return importlib.import_module("office_tools." + MODULES.get(name, name.replace("-", "_") + ".command")).main
+    except ModuleNotFoundError:
+        return None
+
+
 def write(path: str, text: bytes) -> None:
     """Writes a file."""
     with open(path, "wb") as file:
@@ -269,6 +291,8 @@ def write(path: str, text: bytes) -> None:
 
 def ended(reading: Reading, given: str) -> tuple[int, str, str]:
     """How a tool ends that is run in a process of its own: its status as the system tells it, and both outputs."""
+    called = main_of(reading.words[0])
+    assert called is not None
     child = os.fork()
     if child == 0:
         for number, (path, mode) in enumerate(((given, os.O_RDONLY), ("stdout", os.O_WRONLY | os.O_CREAT),
@@ -279,7 +303,7 @@ def ended(reading: Reading, given: str) -> tuple[int, str, str]:
         sys.argv = ["office-" + name, *words]
         status = 99
         try:
-            faults.run("office-" + name, MAINS[name])
+            faults.run("office-" + name, called)
         except SystemExit as end:
             status = end.code if isinstance(end.code, int) else 0 if end.code is None else 98
         except BaseException:  # noqa: B902  # whatever it is, it is a traceback to the user
@@ -344,7 +368,22 @@ def good_files(program: str, folder: str) -> Mapping[str, bytes]:
     return {"packages": PACKAGES, "sources": SOURCES, "release": release, "changes": CHANGES, "bag": bag,
             "message": message, "state": b'{"bd": [[1, 2]], "ftp": [[1, 3]]}\n', "outgoing": bag, "setup": setup,
             "testing": parts["testing"], "excuses": parts["excuses"][:parts["excuses"].index(b"\nupdate ") + 1],
-            "update": parts["update"][:parts["update"].index(b"\ntesting ") + 1], "heidi": HEIDI}
+            "update": parts["update"][:parts["update"].index(b"\ntesting ") + 1], "heidi": HEIDI, "bugs": BUGS,
+            "tests": TESTS, "settings": SETTINGS}
+
+
+def remembered(url: str, folder: str) -> Mapping[str, bytes]:
+    """What office-feed remembers, by the kinds of its files."""
+    path = os.path.join(TOP, "tools/bin/office-feed")
+    cache = os.path.join(folder, "cache")
+    run(path, "--url", url, "--cache", cache, "--day", DAY, "--no-order", os.path.join(folder, "good/Packages"),
+        may_fail=True)
+    found = {}
+    for kind, name in CACHED.items():
+        if os.path.exists(os.path.join(cache, name)):
+            with open(os.path.join(cache, name), "rb") as file:
+                found[kind] = file.read()
+    return found
 
 
 def main(words: Sequence[str]) -> int:
@@ -358,6 +397,7 @@ def main(words: Sequence[str]) -> int:
     office = Office(program, folder)
     office.start(setup)
     bench.url = office.url
+    bench.good = {**bench.good, **remembered(office.url, folder)}
     os.makedirs(os.path.join(folder, "work"))
     os.chdir(os.path.join(folder, "work"))
     tried = 0

@@ -21,7 +21,8 @@ LEAVING = "+gone"
 BESIDE = "smooth-"
 PATIENCE = 3  # days that a source may wait for no known reason: a group may need a run more
 NAMED = re.compile(r"['`](office[- ][^'`]+)['`]")
-ALLOWED = re.compile(r"allow (?:it|the gap) by (--[a-z-]+(?: [a-z0-9-]+)?)")
+ALLOWED = re.compile(r"^office-day: (feed|look|apply): .*(?:allow (?:it|the gap) by (--[a-z-]+(?: [a-z0-9-]+)?)"
+                     r"|unless (--[a-z-]+(?: [0-9]+)?) allows it)", re.MULTILINE)
 TROUBLE = re.compile(r"Traceback|Segmentation|core dumped|panicked")
 
 
@@ -133,12 +134,17 @@ class Simulation:
 
     def day(self, may_be: Sequence[int] = (0, 1), clock: str = "", more: Sequence[str] = ()) -> Ran:
         """Runs the day's command, and looks at how it ends. With a `clock` that is the system's date."""
-        if clock and not shutil.which("faketime"):
-            self.note("(no faketime)")
-            clock = ""
-        ran = day_command(self.stage, self.today, clock, more)
+        words = ["--conf", settings(self.stage, self.setup), *([] if clock else ["--day", self.today]), *more]
+        ran = ran_by("office-day", *words, clock=clock)
         self.look_at(ran, may_be)
         return ran
+
+    def started(self) -> "subprocess.Popen[bytes]":
+        """Starts the day's command as the head of a group of processes."""
+        path = os.path.join(os.environ.get("COMMANDS", COMMANDS), "office-day")
+        return subprocess.Popen([path, "--conf", settings(self.stage, self.setup), "--day", self.today],
+                                stdin=subprocess.DEVNULL, stdout=subprocess.DEVNULL, stderr=subprocess.DEVNULL,
+                                start_new_session=True)
 
     def obey(self, ran: Ran) -> None:
         """A person does what a refusal says: runs the command that it names, or the day's with what it allows."""
@@ -150,7 +156,8 @@ class Simulation:
             self.look_at(Ran.of("by hand", run("sh", "-c", named[1], may_fail=True,
                                                PATH=f"{folder}:{os.environ['PATH']}")), (0, 1))
         elif allowed:
-            self.day(more=allowed[1].split())
+            step, word = allowed[1], allowed[2] or allowed[3]
+            self.day(more=[f"--{step}={word.replace(' ', '=')}"])
         else:
             self.problem(f"a refusal names no way:\n{ran.err[-1500:]}")
 
@@ -233,36 +240,31 @@ def ran_by(name: str, *words: str, clock: str = "") -> Ran:
     return Ran.of(name, run("faketime", clock + " 06:00:00", path, *words, may_fail=True))
 
 
-def day_command(stage: Stage, day: str, clock: str = "", more: Sequence[str] = ()) -> Ran:
-    """The day of an archive: what was decided is applied, then unstable is told, and what comes of it applied.
-
-    With a `clock` that is the system's date, and no day is stated.
-    """
-    first = ran_by("office-apply", *stage.apply_words())
-    if first.status not in (0, 1):
-        return first
-    stage.line = stage.archive.ready()
-    words = list(stage.feed_words(day, "--propose", "--rebuilds", *more))
-    if clock:
-        del words[words.index("--day"):][:2]
-    fed = ran_by("office-feed", *words, clock=clock).behind(first)
-    if fed.status not in (0, 1):
-        return fed
-    return ran_by("office-apply", *stage.apply_words()).behind(fed)
+def settings(stage: Stage, setup: str) -> str:
+    """Writes the settings of the day's command, and gives their file."""
+    line = stage.archive.line
+    lines = (f"deb [trusted=yes arch={','.join(BOTH)}] {line}", f"deb-src [trusted=yes] {line}")
+    feed = ["--rebuilds", "--changes", os.path.join(stage.folder, "changes"), "--cache",
+            os.path.join(stage.folder, "cache"), *(word for line in lines for word in ("--apt", line))]
+    fields = {"Url": stage.url or stage.office.url, "Setup": setup, "State": os.path.join(stage.folder, "state"),
+              "Pull": shlex.join(stage.archive.pull_words()), "Feed": shlex.join(feed),
+              "Apply": shlex.join(stage.archive.apply_words())}
+    path = os.path.join(stage.folder, "day.conf")
+    with open(path, "w", encoding="utf-8") as file:
+        file.write("".join(f"{name}: {value}\n" for name, value in fields.items()))
+    return path
 
 
-def started_day(stage: Stage, day: str) -> "subprocess.Popen[bytes]":
-    """Starts the day's command as the head of a group of processes."""
-    folder = os.environ.get("COMMANDS", COMMANDS)
-    stage.line = stage.archive.ready()
-    apply = shlex.join([os.path.join(folder, "office-apply"), *stage.apply_words()])
-    feed = shlex.join([os.path.join(folder, "office-feed"), *stage.feed_words(day, "--propose", "--rebuilds")])
-    return subprocess.Popen(["sh", "-c", f"{apply}; {feed} && {apply}"], stdout=subprocess.DEVNULL,
-                            stderr=subprocess.DEVNULL, start_new_session=True)
+def clear(folder: str) -> None:
+    """Takes the copies of a database's log away that a program which was ended left."""
+    for name in os.listdir(folder):
+        if name.startswith("store.db-"):
+            os.unlink(os.path.join(folder, name))
 
 
 def begun(program: str, folder: str, manager: str, world: World) -> Simulation:
     """The first day: testing has all that unstable has, and an office is made of it."""
+    os.environ["OFFICE"] = program
     stage = Stage(Office(program, folder), MANAGERS[manager](folder), folder, os.path.join(folder, "built"),
                   maker=quick.write)
     found = Simulation(stage, world)

@@ -105,6 +105,10 @@ class Archive(Protocol):
     has_versions: bool
     place: str
 
+    @property
+    def line(self) -> str:
+        """A line of a sources.list for what the next order sees, without its kind."""
+
     def incoming(self, upload: Upload, built: str) -> None:
         """Takes an upload into unstable."""
 
@@ -136,7 +140,7 @@ class Archive(Protocol):
         """The command by which the next order sees what unstable is."""
 
     def ready(self) -> str:
-        """Publishes unstable, and gives a line of a sources.list for what the next order sees."""
+        """Publishes unstable, and gives that line."""
 
     def copy_all(self, *but: str) -> None:
         """Publishes testing with all that unstable has, but for these packages as the manager names them."""
@@ -229,6 +233,11 @@ class Reprepro:
     def ready(self) -> str:
         """The suite `ordered` becomes what unstable is."""
         run(*self.pull_words())
+        return self.line
+
+    @property
+    def line(self) -> str:
+        """A line of a sources.list for what the next order sees, without its kind."""
         return f"file:{self.base} ordered main"
 
     def copy_all(self, *but: str) -> None:
@@ -312,6 +321,11 @@ class Aptly:
     def ready(self) -> str:
         """Publishes unstable."""
         run(*self.pull_words())
+        return self.line
+
+    @property
+    def line(self) -> str:
+        """A line of a sources.list for what the next order sees, without its kind."""
         return f"file:{self.base} unstable main"
 
     def copy_all(self, *but: str) -> None:

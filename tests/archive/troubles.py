@@ -5,6 +5,7 @@ be right again by that command alone, or by what a person does here, as a senten
 """
 import dataclasses
 import os
+import shutil
 import signal
 import sqlite3
 from typing import Callable, Iterator, Mapping, Optional, Sequence
@@ -12,7 +13,7 @@ from typing import Callable, Iterator, Mapping, Optional, Sequence
 import quick
 from loop import archived
 from packages import BOTH, Package, Upload
-from simulation import Ran, Simulation, put_back, ran_by, save, started_day
+from simulation import Ran, Simulation, clear, put_back, ran_by, save
 from spy import Spy
 from stage import Failed
 from world import Bug, Come, Hint, Kept, Leave, Unhint, day_text
@@ -386,7 +387,7 @@ def killed_feed(month: Simulation) -> Steps:
     month.stage.url = spy.url
     try:
         for number in range(1, 4):
-            process = started_day(month.stage, month.today)
+            process = month.started()
             spy.arm(-process.pid, number, number % 2 == 0)
             process.wait(120)
             spy.process = None
@@ -444,7 +445,7 @@ def killed_manager(month: Simulation) -> Steps:
             os.unlink(os.path.join(folder, "counted"))
         os.environ["PATH"] = f"{folder}:{path}"
         try:
-            process = started_day(month.stage, month.today)
+            process = month.started()
             process.wait(300)
         finally:
             os.environ["PATH"] = path
@@ -490,8 +491,12 @@ def full_disk(month: Simulation) -> Steps:
 
 
 def clock_back(month: Simulation) -> Steps:
-    """The system's clock is twenty days back. The day is refused, or dated as the last one."""
-    refused(month, (0, 1, 3), day_text(month.number - 20))
+    """The system's clock is twenty days back, and later forty days ahead. Both days are refused."""
+    if shutil.which("faketime"):
+        for days in (-20, 40):
+            refused(month, (3,), day_text(month.number + days))
+    else:
+        month.note("(no faketime)")
     yield None
 
 
@@ -509,9 +514,7 @@ def restored(month: Simulation) -> Steps:
     month.do(bug)
     yield None
     office.stop()
-    for name in os.listdir(month.stage.folder):
-        if name.startswith("store.db-"):
-            os.unlink(os.path.join(month.stage.folder, name))
+    clear(month.stage.folder)
     put_back(month.stage.folder, "store.db")
     office.start(month.setup)
     month.obey(refused(month))
