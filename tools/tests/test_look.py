@@ -7,6 +7,7 @@ import unittest.mock
 
 from helpers import OFFICE, SETUP, Serving, needs_office, tool
 from office_tools import messages, reports
+from office_tools.faults import Fault
 from office_tools.look import judge
 from office_tools.look.blame import Eye, Step
 from office_tools.look.judge import Broken, DoseDebcheck, InstallCheck, Package
@@ -82,6 +83,14 @@ class Judges(unittest.TestCase):
                                                     "dependency: nosuch:amd64 (>= 2) | other:amd64"))
         self.assertLessEqual({"rival", "calm"}, both.named)
         self.assertLessEqual({"nosuch", "other"}, lost.named)
+
+    def test_a_package_that_was_not_given(self):
+        """What a judge says is never passed over."""
+        for found, said in ((InstallCheck(), SAID.replace("both-1-1", "both-1-2")),
+                            (DoseDebcheck(), DOSE.replace("lost", "last"))):
+            with self.assertRaises(Fault) as raised:
+                self.broken(found, said)
+            self.assertEqual(raised.exception.status, 4)
 
     def test_the_judges_that_are_installed(self):
         with unittest.mock.patch("shutil.which", side_effect=lambda name: name if name == judge.DOSE else None):

@@ -36,8 +36,7 @@ def parser() -> argparse.ArgumentParser:
     words.add_argument("--summary", action="store_true", help="print one mail at the end, with a subject")
     for step in ("feed", "look", "apply"):
         words.add_argument(f"--{step}", action="append", default=[], metavar="WORD",
-                           help=f"a further word of office-{step} for this day, such as --{step}=--gone=30"
-                           if step != "look" else "a further word of office-look for this day")
+                           help=f"a further word of office-{step} for this day; may be repeated")
     return words
 
 

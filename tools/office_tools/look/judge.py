@@ -21,6 +21,7 @@ INSTALLCHECK, DOSE = "installcheck", "dose-debcheck"
 
 NAME = re.compile(r"[a-z0-9][a-z0-9+.-]+")
 BROKEN = re.compile(r"can't install (\S+):")
+END = "-"
 OWN_WORDS = frozenset("package requires but none of the providers can be installed conflicts with provided by nothing "
                       "provides needed obsoletes breaks not installable".split())
 """The words of installcheck's own sentences, which are no names of packages."""
@@ -115,7 +116,7 @@ class InstallCheck:
         lines: list[str] = []
         package: Optional[Package] = None
         for line in [*output([INSTALLCHECK, architecture], packages, f"{architecture}.Packages").splitlines(),
-                     "can't install -:"]:
+                     f"can't install {END}:"]:
             head = BROKEN.fullmatch(line)
             if head is None:
                 lines.append(line.strip())
@@ -123,6 +124,8 @@ class InstallCheck:
             if package is not None:
                 found.append(Broken(package, lines[0] if lines else "", frozenset(named(lines))))
             package, lines = labels.get(head[1]), []
+            if package is None and head[1] != END:
+                raise Fault(f"{INSTALLCHECK}: it names a package that it wasn't given: {head[1]}", UNANSWERED)
         return found
 
 
@@ -143,10 +146,11 @@ class DoseDebcheck:
         entries = re.split(r"^ -\n(?=  package: )", text, flags=re.MULTILINE)[1:]
         found = []
         for entry in entries:
-            head = dict(line.strip().split(": ", 1) for line in entry.splitlines()[:3])
+            head = [line.partition(": ")[2] for line in entry.splitlines()[:3]]
             names = re.findall(r"^ +(?:package|unsat-\w+|depends): (.*)$", entry, re.MULTILINE)
             cause = re.search(r"^ +unsat-(dependency|conflict): (.*)$", entry, re.MULTILINE)
-            found.append(Broken(Package(head["package"], head["version"], head["architecture"]),
-                                f"{cause[1]}: {cause[2]}" if cause else "",
+            found.append(Broken(Package(*head), f"{cause[1]}: {cause[2]}" if cause else "",
                                 frozenset(name for part in names for name in NAME.findall(part))))
+            if found[-1].package not in packages:
+                raise Fault(f"{DOSE}: it names a package that it wasn't given: {' '.join(head)}", UNANSWERED)
         return found
