@@ -45,8 +45,9 @@ class Archive:
 class Retold:
     """The versions under which sources and packages are told that came back, and the packages that are dropped.
 
-    `urgent` are the sources that wait no days, `again` those whose age begins once more; `under` has the source's version of packages that are told under another
-    one than they were built of. `lines` and `alone` are what is told of sources and of packages alone.
+    `urgent` are the sources that wait no days, `again` those whose age begins once more; `under` has the source's
+    version of packages that are told under another one than they were built of. `lines` and `alone` are what is told of
+    sources and of packages alone.
     """
 
     sources: dict[str, str] = field(default_factory=dict)
