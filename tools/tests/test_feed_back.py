@@ -79,8 +79,10 @@ class Withdrawn(Feeding):
         self.assertEqual(self.feed(self.lone("1.5"), "2025-03-09")[0][0],
                          "uploads 0, drops 0, builds 0, hints 0, unhints 0, orders 0")
         # The withdrawn version itself may come again, and a newer one.
-        self.feed(self.lone("2"), "2025-03-10", status=0)
-        self.feed(self.lone("2"), "2025-03-16")
+        self.feed(self.lone("2"), "2025-03-10")
+        self.feed(self.lone("2"), "2025-03-14")
+        self.assertNotIn("source lone 2+back2\n", self.service.good_text("/testing"))
+        self.feed(self.lone("2"), "2025-03-15")
         self.assertIn("source lone 2+back2\n", self.service.good_text("/testing"))
         self.feed(self.lone("2.1"), "2025-03-17")
         self.feed(self.lone("2.1"), "2025-03-23")

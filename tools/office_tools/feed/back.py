@@ -45,12 +45,14 @@ class Archive:
 class Retold:
     """The versions under which sources and packages are told that came back, and the packages that are dropped.
 
-    `urgent` are the sources that wait no days; `under` has the source's version of packages that are told under another
-    one than they were built of. `lines` and `alone` are what is told of sources and of packages alone.
+    `urgent` are the sources that wait no days, `again` those whose age begins once more; `under` has the source's
+    version of packages that are told under another one than they were built of. `lines` and `alone` are what is told of
+    sources and of packages alone.
     """
 
     sources: dict[str, str] = field(default_factory=dict)
     urgent: set[str] = field(default_factory=set)
+    again: set[str] = field(default_factory=set)
     packages: dict[Key, str] = field(default_factory=dict)
     under: dict[Key, str] = field(default_factory=dict)
     drops: dict[Key, str] = field(default_factory=dict)
@@ -97,6 +99,7 @@ def came_back(archive: Archive, allowed: Sequence[str]) -> Retold:
             withdrawn(archive, found, Withdrawal(source, version, told, own, live), allowed)
         elif order > 0 and versions.compare(version, archive.known.versions[source]) <= 0:
             found.sources[source] = marks.back(archive.known.versions[source], version)
+            found.again.add(source)
             retell(archive, found, source, own)
     alone(archive, found, live)
     return found

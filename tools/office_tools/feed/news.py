@@ -138,8 +138,8 @@ def uploads(archive: Archive, box: Mailbox, retold: Retold, ways: Ways) -> Itera
         elif name in retold.urgent:
             arrival = Arrival(Urgency.CRITICAL, ways.day)
         else:
-            arrival = first_arrival(box, name, version) or arrival_of(name, version, ways) \
-                if name in retold.sources else None
+            first = None if name in retold.again else first_arrival(box, name, version)
+            arrival = first or arrival_of(name, version, ways) if name in retold.sources else None
         if arrival is not None:
             number += 1
             yield messages.upload(Label(UPLOADS, number), name, retold.sources.get(name, version), arrival.urgency,
