@@ -114,7 +114,8 @@ def main(words: Sequence[str]) -> int:
         return int(not all([month_of(program, World(seed, 2), manager, LONG, troubles.USUAL)
                             for seed, manager in SEEDS]))
     begins = {} if asked.quiet else plan(asked.days, asked.fault)
-    world = World(asked.seed, 1, (0, 1) if asked.fault else (2, 4))
+    busy = (0, 1) if asked.fault else (2, 5)
+    world = World(asked.seed, 2 if asked.days >= LONG else 1, busy)
     return int(not month_of(program, world, asked.manager, asked.days, begins))
 
 

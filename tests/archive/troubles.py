@@ -172,17 +172,15 @@ def came_back(month: Simulation) -> Steps:
     month.books.come(upload, month.today)
     yield None
     yield None
-    counts = told_numbers(month)
     month.day()
-    if told_numbers(month) != counts:
-        month.problem(f"the same is told again: {counts} and {told_numbers(month)}")
+    told = numbers(month)
+    month.day()
+    more = {sender: (told[sender], number) for sender, number in numbers(month).items()
+            if sender in ("ftp", "bd", "again1", "again2") and number != told[sender]}
+    if more:
+        month.problem(f"the same is told again: {more}")
     renewed(month, kept, "critical")
     month.world.untouched.discard(kept.name)
-
-
-def told_numbers(month: Simulation) -> Mapping[str, int]:
-    """How much mail each sender has but that of orders."""
-    return {sender: kept.greatest for sender, kept in month.stage.office.service.kept().items() if sender != "clock"}
 
 
 def without_source(month: Simulation) -> Steps:
@@ -365,13 +363,22 @@ def undecided(month: Simulation) -> Steps:
 # What is wrong with the machine
 
 def twice(month: Simulation) -> Steps:
-    """The day's command is run twice: the second changes nothing."""
+    """The day's command is run again, and publishes nothing else. It takes back hints that are done, and that is all."""
     month.day()
-    before = month.stage.digest(), month.stage.office.service.kept()
+    before = month.stage.digest()
     month.day()
-    if before != (month.stage.digest(), month.stage.office.service.kept()):
-        month.problem("a second day's command changed something")
+    if before != month.stage.digest():
+        month.problem("a second day's command changed what is published")
+    told = numbers(month)
+    month.day()
+    if told != numbers(month):
+        month.problem(f"a third day's command told more: {told}, {numbers(month)}")
     yield None
+
+
+def numbers(month: Simulation) -> Mapping[str, int]:
+    """How much mail each sender has."""
+    return {sender: kept.greatest for sender, kept in month.stage.office.service.kept().items()}
 
 
 def nothing_run(month: Simulation) -> Steps:
