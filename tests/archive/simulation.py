@@ -23,6 +23,7 @@ PATIENCE = 3  # days that a source may wait for no known reason: a group may nee
 NAMED = re.compile(r"['`](office[- ][^'`]+)['`]")
 ALLOWED = re.compile(r"^office-day: (feed|look|apply): .*(?:allow (?:it|the gap) by (--[a-z-]+(?: [a-z0-9-]+)?)"
                      r"|unless (--[a-z-]+(?: [0-9]+)?) allows it)", re.MULTILINE)
+HELD = re.compile(r"held back: ([a-z0-9+.-]+)")
 TROUBLE = re.compile(r"Traceback|Segmentation|core dumped|panicked")
 
 
@@ -77,13 +78,14 @@ class Simulation:
     books: Books = field(default_factory=Books)
     testing: Testing = field(default_factory=Testing)
     hints: dict[str, int] = field(default_factory=dict)  # the numbers of hints, by their titles
-    withdrawn: set[str] = field(default_factory=set)  # sources whose accepted version the archive hasn't any more
+    may_hold: int = 0  # the last day on which the archive may lack what an order saw
     sourceless: set[str] = field(default_factory=set)  # packages whose source the archive never had
     has_disk: bool = False
     problems: list[str] = field(default_factory=list)
     told: list[str] = field(default_factory=list)
     faults: int = 0
     by_hand: int = 0
+    said: str = ""  # by the day's command at last
 
     @property
     def today(self) -> str:
@@ -136,6 +138,7 @@ class Simulation:
         """Runs the day's command, and looks at how it ends. With a `clock` that is the system's date."""
         words = ["--conf", settings(self.stage, self.setup), *([] if clock else ["--day", self.today]), *more]
         ran = ran_by("office-day", *words, clock=clock)
+        self.said = ran.err
         self.look_at(ran, may_be)
         return ran
 
@@ -192,18 +195,19 @@ class Simulation:
         return Testing.of(archived(self.stage.archive))
 
     def same_as_office(self, lines: set[str]) -> None:
-        """What is published is the office's testing, but for what was withdrawn behind an order."""
+        """What is published is the office's testing, but for what is held back since the archive lacks it."""
         want = due(self.stage.office.rows())
-        differ = {line for line in want ^ lines if not self.is_excused(line)}
+        held = set(HELD.findall(self.said)) if self.number <= self.may_hold else set()
+        differ = {line for line in want ^ lines if not self.is_excused(line, held)}
         if differ:
             self.problem(f"published and the office's differ: {sorted(differ)[:6]}, missing "
-                         f"{len(want - lines)}, too much {len(lines - want)}")
+                         f"{len(want - lines)}, too much {len(lines - want)}\n{self.said[-1500:]}")
 
-    def is_excused(self, line: str) -> bool:
-        """Whether a line may differ: a package of a withdrawn source, or a source that the archive never had."""
+    def is_excused(self, line: str, held: set[str]) -> bool:
+        """Whether a line may differ: it is of a source that is held back, or a source that the archive never had."""
         name, _, own = line.split()
         source = self.books.rows.get((name, own), (name,))[0]
-        return source in self.withdrawn or own == "source" and name in self.sourceless
+        return source in held or own == "source" and name in self.sourceless
 
     def is_run(self) -> None:
         """A run of the day is finished, so testing isn't frozen."""

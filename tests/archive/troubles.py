@@ -19,6 +19,7 @@ from stage import Failed
 from world import Bug, Come, Hint, Kept, Leave, Unhint, day_text
 
 SKIP, OVER = "skip", "over"
+HOLDING = 8  # days for which what was pulled away behind an order may be held back
 Steps = Iterator[Optional[str]]
 Trouble = Callable[[Simulation], Steps]
 
@@ -106,13 +107,14 @@ def withdrawn_late(month: Simulation) -> Steps:
     month.look_at(ran_by("office-feed", *month.stage.feed_words(month.today, "--propose")), (0, 1))
     withdraw(month, kept, before)
     month.stage.archive.ready()
-    month.withdrawn.add(kept.name)
+    month.may_hold = month.number + HOLDING
     month.books.held[kept.name] = before.version
     yield None
     yield None
     renewed(month, kept, "critical")
     yield None
-    month.withdrawn.discard(kept.name)
+    if month.published().sources.get(kept.name) != kept.version:
+        month.problem(f"{kept.name} {kept.version} isn't published, which came behind a withdrawn version")
     month.world.untouched.discard(kept.name)
 
 
