@@ -21,10 +21,10 @@ Urgency: high
 """
 
 
-def package(name, version, *, source="", depends="", architecture="amd64"):
+def package(name, version, *, source="", depends="", provides="", architecture="amd64"):
     """A paragraph of Packages."""
     fields = [("Package", name), ("Source", source), ("Version", version), ("Architecture", architecture),
-              ("Depends", depends)]
+              ("Depends", depends), ("Provides", provides)]
     return "".join(f"{field}: {value}\n" for field, value in fields if value) + "\n"
 
 

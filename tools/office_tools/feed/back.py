@@ -45,15 +45,30 @@ class Archive:
 class Retold:
     """The versions under which sources and packages are told that came back, and the packages that are dropped.
 
-    `urgent` are the sources that wait no days; `under` has the source's version of packages that are told under another
-    one than they were built of.
+    `urgent` are the sources that wait no days, `again` those whose age begins once more; `under` has the source's
+    version of packages that are told under another one than they were built of. `lines` and `alone` are what is told of
+    sources and of packages alone. `staying` are the made-up sources of packages that stay, `extra` such packages.
     """
 
     sources: dict[str, str] = field(default_factory=dict)
     urgent: set[str] = field(default_factory=set)
+    again: set[str] = field(default_factory=set)
     packages: dict[Key, str] = field(default_factory=dict)
     under: dict[Key, str] = field(default_factory=dict)
     drops: dict[Key, str] = field(default_factory=dict)
+    staying: dict[str, str] = field(default_factory=dict)
+    extra: list[Binary] = field(default_factory=list)
+    lines: dict[str, str] = field(default_factory=dict)
+    alone: dict[Key, str] = field(default_factory=dict)
+
+    def tell(self) -> None:
+        """Tells what is told again: a line for each source, or for a package alone."""
+        for source, line in self.lines.items():
+            if source in self.sources:
+                tell(line, Weight.ONCE)
+        for key, line in self.alone.items():
+            if key in self.packages:
+                tell(line, Weight.ONCE)
 
     def told(self, binary: Binary, source_version: Optional[str]) -> Binary:
         """A package as it is told: under its own version or a made-up one, of its source at this version."""
@@ -86,6 +101,7 @@ def came_back(archive: Archive, allowed: Sequence[str]) -> Retold:
             withdrawn(archive, found, Withdrawal(source, version, told, own, live), allowed)
         elif order > 0 and versions.compare(version, archive.known.versions[source]) <= 0:
             found.sources[source] = marks.back(archive.known.versions[source], version)
+            found.again.add(source)
             retell(archive, found, source, own)
     alone(archive, found, live)
     return found
@@ -126,7 +142,7 @@ def withdrawn(archive: Archive, found: Retold, gone: Withdrawal, allowed: Sequen
         found.urgent.add(source)
     retell(archive, found, source, gone.own)
     found.drops.update({key: version for key, version in gone.lower.items() if key not in found.packages})
-    tell(f"source {source} {told}: it was withdrawn: {version} is told as {found.sources[source]}", Weight.ONCE)
+    found.lines[source] = f"source {source} {told}: it was withdrawn: {version} is told as {found.sources[source]}"
 
 
 def retell(archive: Archive, found: Retold, source: str, own: Iterable[Binary]) -> None:
@@ -158,8 +174,8 @@ def alone(archive: Archive, found: Retold, live: Mapping[Key, str]) -> None:
             found.drops.update({key: bound} if key in live else {})
             continue
         found.packages[key] = marks.back(bound, binary.version)
-        tell(f"{binary.name} {binary.architecture} {binary.version}: it is back below {bound}, which was "
-             f"{'told' if key in live else 'dropped'}: told as {found.packages[key]}", Weight.ONCE)
+        found.alone[key] = f"{binary.name} {binary.architecture} {binary.version}: it is back below {bound}, which " \
+            f"was {'told' if key in live else 'dropped'}: told as {found.packages[key]}"
 
 
 def without_strange(archive: Archive, found: Retold) -> None:

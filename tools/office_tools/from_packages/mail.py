@@ -15,6 +15,27 @@ SENDERS: Mapping[str, Role] = {
     "ftp": Role.UPLOAD, "bd": Role.BUILD, "bts": Role.BUGS, "rt": Role.RELEASE, "clock": Role.RUNS}
 
 
+MOST_SPARES = 8  # of the 16 senders of a setup, beside those above and `hand`
+
+
+def spares(word: str) -> int:
+    """How many spare senders of builds there are, as a word of a command."""
+    found = int(word)
+    if not 0 <= found <= MOST_SPARES:
+        raise ValueError(word)
+    return found
+
+
+def senders(count: int) -> Mapping[str, Role]:
+    """The senders of a setup: one for uploads that are sent by hand, this many spare senders of builds, the last one
+    first, and the others behind them.
+    """
+    found: dict[str, Role] = {"ftp": Role.UPLOAD, "hand": Role.UPLOAD}
+    found.update({f"again{number}": Role.BUILD for number in range(count, 0, -1)})
+    found.update(SENDERS)
+    return found
+
+
 def is_new(said: str, version: str, sent: Optional[str], dropped: Optional[str] = None) -> bool:
     """Whether a version is above the one that was sent, and not dropped; one below it is told."""
     if dropped is not None and versions.compare(version, dropped) <= 0:
